@@ -15,7 +15,7 @@ use std::env;
 use std::env::Args;
 use std::rt::HostRuntime;
 
-// How many benches are played at most.
+// How many benches are run at most.
 const MOST_BENCHES: u32 = 64;
 
 fn play(rt: &HostRuntime, bench: &str, words: &mut Args) -> Option<usize> {

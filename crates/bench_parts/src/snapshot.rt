@@ -1,4 +1,4 @@
-//! The rows of a number of partitions noted in a snapshot, and one call of the snapshot again and again.
+//! The rows of a number of partitions in the read set of a snapshot, and one call of the snapshot again and again.
 ghost use Rattle.std.specs.Prelude.{◌≡◌, ◌∷◌, [], IfSome};
 ghost use Rattle.sdb_record.specs.Rolls.{IsBaseOf};
 
@@ -47,7 +47,7 @@ fn committed(alloc: Global, key: &Key) -> Option<Record>
     }
 }
 
-// Notes a committed record of a key, where the key was not read.
+// Adds a committed record of a key to the read set, where the key was not read.
 fn note(alloc: Global, seen: &mut Snapshot, key: Key) -> Option<()> {
     let rec = committed(alloc, &key)?;
     if seen.lookup(&key).is_none() {
@@ -102,7 +102,7 @@ fn write(alloc: Global, seen: &mut Snapshot, key: Key) -> Option<usize> {
     Some(seen.writes().len())
 }
 
-// Notes a scan that found no row, where the span was not scanned, and returns how many scans are noted.
+// Adds a scan that found no row to the read set, where the span was not scanned, and returns how many scans are in it.
 fn scan(alloc: Global, seen: &mut Snapshot, span: Span) -> Option<usize> {
     if !seen.scanned(&span) {
         seen.note_scan(span, Records::new(alloc)).ok()?;

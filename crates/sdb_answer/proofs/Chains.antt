@@ -5,16 +5,16 @@ use Rattle.std.proofs.lemmas.List.Sums.{sum_by_push}
 use Rattle.std.specs.Prelude.{is_some, map, not, if◌then◌else◌}
 use Rattle.std.specs.List.{AllByRecursion}
 use Rattle.sdb_types.specs.declared.txid.TxId.{TxId}
-use Rattle.sdb_types.specs.Draws.{Tells}
+use Rattle.sdb_types.specs.Draws.{IsAppended}
 use Rattle.sdb_schema.specs.declared.table.Table.{Table}
 use Rattle.sdb_model.specs.declared.answer.Answer.{Answer}
-use Rattle.sdb_stores.specs.Shelf.{Attached, HaveRisen}
-use Rattle.sdb_board.specs.Board.{AreFit, GoOn, shown}
+use Rattle.sdb_stores.specs.Views.{Attached, HaveRisen}
+use Rattle.sdb_board.specs.Board.{AreUsable, GoOn, contents_of_views}
 use Rattle.sdb_client.specs.Client.{nothing_done}
 use Rattle.sdb_session.specs.Database.{Database}
 use Rattle.sdb_session.specs.Between.{Between}
 use Rattle.sdb_session.specs.Chain.{Chain, IsReached, open_after}
-use Rattle.sdb_session.specs.Session.{AreNewIds, AreTaken, Exchange, IsNewId, IsTaken, Part, Parts, begins, begun_ids, ends, faults_in, is_of_fault, no_parts, part_after, parts_of}
+use Rattle.sdb_session.specs.Session.{AreNewIds, AreAccepted, Exchange, IsNewId, IsAccepted, Part, Parts, begins, begun_ids, ends, faults_in, is_of_fault, no_parts, part_after, parts_of}
 use Rattle.sdb_session.specs.Turns.{IsWellFormed}
 use Rattle.sdb_session.specs.Working.{is_open_after}
 use Rattle.sdb_session.proofs.Betweens.{between_more, parts_more}
@@ -24,20 +24,20 @@ use Rattle.sdb_session.proofs.Sessions.{map_more}
 use Rattle.sdb_session.proofs.Steps.{session_serial}
 use Rattle.sdb_answer.specs.Answering.{IsAlone, database_in, exchange}
 use Rattle.sdb_answer.specs.Drawn.{drawn_id}
-use Rattle.sdb_answer.specs.Sessions.{FaultsWithin, HasAnswered, IsHand, IsSession, IsSessionSoFar, SessionAt, TellAll}
+use Rattle.sdb_answer.specs.Sessions.{FaultsWithin, HasAnswered, IsNextId, IsSession, IsSessionSoFar, SessionAt, AreAppended}
 
 ---- what was given
 
-pub tell_none : {X : Type 0} (old : Option (List X)) → TellAll [] old old
+pub tell_none : {X : Type 0} (old : Option (List X)) → AreAppended [] old old
 tell_none None = tt
 tell_none (Some old) = sym (append-nil old)
 
-pub tell_one : {X : Type 0} (x : X) (old new : Option (List X)) → Tells x old new → TellAll (x ∷ []) old new
+pub tell_one : {X : Type 0} (x : X) (old new : Option (List X)) → IsAppended x old new → AreAppended (x ∷ []) old new
 tell_one x old None h = tt
 tell_one x None (Some new) h = h
 tell_one x (Some old) (Some new) h = h
 
-pub tell_more : {X : Type 0} (xs : List X) (x : X) (a b c : Option (List X)) → TellAll xs a b → Tells x b c → TellAll (xs ++ x ∷ []) a c
+pub tell_more : {X : Type 0} (xs : List X) (x : X) (a b c : Option (List X)) → AreAppended xs a b → IsAppended x b c → AreAppended (xs ++ x ∷ []) a c
 tell_more xs x a b None h k = tt
 tell_more xs x a None (Some c) h k = absurd k
 tell_more xs x None (Some b) (Some c) h k = absurd h
@@ -107,7 +107,7 @@ open_one ts (Some t) e = by (ends e)
 
 ---- the session
 
-pub session_none : (catalog : List Table) (old : Attached) (clock : Option (List ℤ)) (ids ids_then : Option (List ℕ)) (number : ℕ) (draw : ℕ) → Tells draw ids ids_then → IsSessionSoFar catalog old old clock clock ids ids_then [] (record { client = nothing_done number; fresh = drawn_id draw })
+pub session_none : (catalog : List Table) (old : Attached) (clock : Option (List ℤ)) (ids ids_then : Option (List ℕ)) (number : ℕ) (draw : ℕ) → IsAppended draw ids ids_then → IsSessionSoFar catalog old old clock clock ids ids_then [] (record { client = nothing_done number; fresh = drawn_id draw })
 session_none catalog old clock ids ids_then number draw tells = record {
   moments = tell_none clock;
   drawn = [];
@@ -128,20 +128,20 @@ module _ (catalog : List Table) (old mid new : Attached) (clock clock_mid clock_
   abbrev e : Exchange
   e = exchange h.answered.says h.now s.fresh a
 
-  taken_more : AreTaken catalog (es ++ e ∷ [])
+  taken_more : AreAccepted catalog (es ++ e ∷ [])
   taken_more front y back f = by (split_more es e front y back f)
     where
-      by : ((rest : List Exchange) × (es ≡ front ++ y ∷ rest)) ⊎ ((front ≡ es) × (y ≡ e)) → IsTaken catalog (is_some (parts_of front).opened) y
+      by : ((rest : List Exchange) × (es ≡ front ++ y ∷ rest)) ⊎ ((front ≡ es) × (y ≡ e)) → IsAccepted catalog (is_some (parts_of front).opened) y
       by (inl (rest, k)) = so.taken front y rest k
-      by (inr (k, l)) = subst (λ (x : Exchange). IsTaken catalog (is_some (parts_of front).opened) x) (sym l) (subst (λ b. IsTaken catalog b e) (so.opened ∙ ap (λ (xs : List Exchange). is_some (parts_of xs).opened) (sym k)) h.answered.ended.taken)
+      by (inr (k, l)) = subst (λ (x : Exchange). IsAccepted catalog (is_some (parts_of front).opened) x) (sym l) (subst (λ b. IsAccepted catalog b e) (so.opened ∙ ap (λ (xs : List Exchange). is_some (parts_of xs).opened) (sym k)) h.answered.ended.taken)
 
-  faults_more : FaultsWithin (faults_in (es ++ e ∷ [])) old.shelves new.shelves
+  faults_more : FaultsWithin (faults_in (es ++ e ∷ [])) old.views new.views
   faults_more = by (is_of_fault a) refl h.answered.fault
     where
       count : (b : Bool) → is_of_fault a ≡ b → faults_in (es ++ e ∷ []) ≡ faults_in es + cond b 1 0
       count b k = sum_by_push (λ (x : Exchange). cond (is_of_fault x.answer) 1 0) es e ∙ ap (λ b. faults_in es + cond b 1 0) k
 
-      by : (b : Bool) → is_of_fault a ≡ b → (b ≡ true → HaveRisen mid.shelves new.shelves) → FaultsWithin (faults_in (es ++ e ∷ [])) old.shelves new.shelves
+      by : (b : Bool) → is_of_fault a ≡ b → (b ≡ true → HaveRisen mid.views new.views) → FaultsWithin (faults_in (es ++ e ∷ [])) old.views new.views
       by true k rise = elim so.faults [
         | inl few ↦ elim (rise refl) [
           | inl rose ↦ inl (omega (arith, few, rose, count true k))
@@ -161,7 +161,7 @@ module _ (catalog : List Table) (old mid new : Attached) (clock clock_mid clock_
   new_so_far : AreNewIds catalog (database_in old) (map drawn_id (so.drawn ++ so.spare ∷ [])) → AreNewIds catalog (database_in old) (begun_ids es)
   new_so_far n = subst (AreNewIds catalog (database_in old)) (sym so.begun) (new_front catalog (database_in old) (map drawn_id so.drawn) (drawn_id so.spare) (subst (AreNewIds catalog (database_in old)) (map_more drawn_id so.drawn so.spare) n))
 
-  chain_now : AreFit catalog old → (w : IsWellFormed catalog (database_in old)) → AreNewIds catalog (database_in old) (map drawn_id (so.drawn ++ so.spare ∷ [])) → Chain catalog (database_in old) no_parts (es ++ e ∷ []) (database_in new) × Between catalog (database_in new) (open_after (es ++ e ∷ [])) t.client
+  chain_now : AreUsable catalog old → (w : IsWellFormed catalog (database_in old)) → AreNewIds catalog (database_in old) (map drawn_id (so.drawn ++ so.spare ∷ [])) → Chain catalog (database_in old) no_parts (es ++ e ∷ []) (database_in new) × Between catalog (database_in new) (open_after (es ++ e ∷ [])) t.client
   chain_now f w n =
       let before = so.chain f w n in
       let there : IsReached catalog (database_in old) (database_in mid) w.tables es = reached catalog w.apart (database_in old) w.tables w.sound w.are_images w.fit es (database_in mid) (new_so_far n) before.0 in
@@ -176,15 +176,15 @@ module _ (catalog : List Table) (old mid new : Attached) (clock clock_mid clock_
         new = there.unused s.fresh (subst (IsNewId catalog (database_in old)) (sym so.hand) last.0) (subst (λ xs. AllByRecursion (λ x. x ≢ s.fresh) xs) (sym so.begun) (subst (λ y. AllByRecursion (λ x. x ≢ y) (map drawn_id so.drawn)) (sym so.hand) last.1));
       } in
       let x = h.answered.alone alone in
-      (chain_more catalog no_parts (database_in old) (database_in mid) (database_in new) es e t.client before.0 (own_at new.places (shown new.shelves)) x, between_more catalog (database_in mid) (database_in new) es e t.client x)
+      (chain_more catalog no_parts (database_in old) (database_in mid) (database_in new) es e t.client before.0 (own_at new.places (contents_of_views new.views)) x, between_more catalog (database_in mid) (database_in new) es e t.client x)
 
   pub session_more : IsSessionSoFar catalog old new clock clock_then ids ids_then (es ++ e ∷ []) t
   session_more = by (begins e) refl h.hand
     where
-      moments : TellAll (map (λ (x : Exchange). x.moment) (es ++ e ∷ [])) clock clock_then
-      moments = subst (λ xs. TellAll xs clock clock_then) (sym (map_more (λ (x : Exchange). x.moment) es e)) (tell_more (map (λ (x : Exchange). x.moment) es) h.now clock clock_mid clock_then so.moments h.moment)
+      moments : AreAppended (map (λ (x : Exchange). x.moment) (es ++ e ∷ [])) clock clock_then
+      moments = subst (λ xs. AreAppended xs clock clock_then) (sym (map_more (λ (x : Exchange). x.moment) es e)) (tell_more (map (λ (x : Exchange). x.moment) es) h.now clock clock_mid clock_then so.moments h.moment)
 
-      by : (b : Bool) → begins e ≡ b → IsHand b s.fresh t.fresh ids_mid ids_then → IsSessionSoFar catalog old new clock clock_then ids ids_then (es ++ e ∷ []) t
+      by : (b : Bool) → begins e ≡ b → IsNextId b s.fresh t.fresh ids_mid ids_then → IsSessionSoFar catalog old new clock clock_then ids ids_then (es ++ e ∷ []) t
       by true k (draw, tells, is) = record {
         moments = moments;
         drawn = so.drawn ++ so.spare ∷ [];
@@ -204,7 +204,7 @@ module _ (catalog : List Table) (old mid new : Attached) (clock clock_mid clock_
         moments = moments;
         drawn = so.drawn;
         spare = so.spare;
-        draws = subst (TellAll (so.drawn ++ so.spare ∷ []) ids) (sym same) so.draws;
+        draws = subst (AreAppended (so.drawn ++ so.spare ∷ []) ids) (sym same) so.draws;
         begun = begun_more es e ∙ ap (λ b. begun_ids es ++ (if b then s.fresh ∷ [] else [])) k ∙ append-nil (begun_ids es) ∙ so.begun;
         hand = is ∙ so.hand;
         taken = taken_more;

@@ -2,7 +2,7 @@
 use Rattle.std.proofs.Common.{◌≡◌, ℕ, ℤ, Bool, true, false, List, Option, Some, None, Result, Ok, Err, refl, sym, ap, subst, ◌∙◌, ◌⊎◌, inl, inr}
 use Rattle.std.specs.Prelude.{is_some, not, ◌&&◌}
 use Rattle.sdb_types.specs.declared.txid.TxId.{TxId}
-use Rattle.sdb_types.specs.Draws.{Tells}
+use Rattle.sdb_types.specs.Draws.{IsAppended}
 use Rattle.sdb_schema.specs.declared.table.Table.{Table}
 use Rattle.sdb_model.specs.declared.answer.Answer.{Answer}
 use Rattle.sdb_model.specs.declared.answer.Answer.TheVariants as answer
@@ -13,14 +13,14 @@ use Rattle.sdb_model.specs.Causes.{refused}
 use Rattle.sdb_model.specs.Transactions.{is_done}
 use Rattle.sdb_client.specs.Client.{ClientAt}
 use Rattle.sdb_record.specs.Meta.{is_moment}
-use Rattle.sdb_stores.specs.Shelf.{Attached}
+use Rattle.sdb_stores.specs.Views.{Attached}
 use Rattle.sdb_answer.specs.Answering.{IsAnswered, exchange}
-use Rattle.sdb_answer.specs.Sessions.{HasAnswered, IsHand, SessionAt}
-use Rattle.sdb_session.specs.Session.{Exchange, IsTaken, begins, is_begin, turned_away}
+use Rattle.sdb_answer.specs.Sessions.{HasAnswered, IsNextId, SessionAt}
+use Rattle.sdb_session.specs.Session.{Exchange, IsAccepted, begins, is_begin, rejected}
 use Rattle.sdb_session.specs.Working.{IsEnded}
 
 -- a BEGIN inside of a transaction begins none
-inside_begins : (catalog : List Table) (e : Exchange) → IsTaken catalog true e → begins e ≡ false
+inside_begins : (catalog : List Table) (e : Exchange) → IsAccepted catalog true e → begins e ≡ false
 inside_begins catalog e taken = by e.says refl
   where
     undone : (a : Answer) → (a ≡ refused 4) ⊎ (a ≡ answer.NoMemory) → is_done (Some a) ≡ false
@@ -32,7 +32,7 @@ inside_begins catalog e taken = by e.says refl
 
     by : (x : Result Statement Refusal) → e.says ≡ x → begins e ≡ false
     by (Err r) f = other (Err r) f refl
-    by (Ok statement.Begin) f = ap (λ y. is_begin y && is_done (Some e.answer)) f ∙ undone e.answer (taken.away (refused 4) (ap (turned_away catalog true) f))
+    by (Ok statement.Begin) f = ap (λ y. is_begin y && is_done (Some e.answer)) f ∙ undone e.answer (taken.away (refused 4) (ap (rejected catalog true) f))
     by (Ok statement.Commit) f = other (Ok statement.Commit) f refl
     by (Ok statement.Rollback) f = other (Ok statement.Rollback) f refl
     by (Ok statement.Vacuum) f = other (Ok statement.Vacuum) f refl
@@ -47,13 +47,13 @@ pub began_is : (catalog : List Table) (opened : Bool) (e : Exchange) (d : Client
 began_is catalog true e d h = sym (inside_begins catalog e h.taken)
 began_is catalog false e d h = h.has_txn
 
-pub has_answered : (catalog : List Table) (text : List ℕ) (old new : Attached) (clock clock_then : Option (List ℤ)) (ids ids_then : Option (List ℕ)) (u s : SessionAt) → u ≡ s → (now : ℤ) → is_moment now ≡ true → Tells now clock clock_then → (a : Answer) (d : ClientAt) → IsAnswered catalog text u.fresh now old u.client a new d
-    → (fresh : TxId) (began : Bool) → began ≡ (not (is_some u.client.txn) && is_some d.txn) → IsHand began u.fresh fresh ids ids_then → HasAnswered catalog text old new clock clock_then ids ids_then s a (record { client = d; fresh = fresh })
+pub has_answered : (catalog : List Table) (text : List ℕ) (old new : Attached) (clock clock_then : Option (List ℤ)) (ids ids_then : Option (List ℕ)) (u s : SessionAt) → u ≡ s → (now : ℤ) → is_moment now ≡ true → IsAppended now clock clock_then → (a : Answer) (d : ClientAt) → IsAnswered catalog text u.fresh now old u.client a new d
+    → (fresh : TxId) (began : Bool) → began ≡ (not (is_some u.client.txn) && is_some d.txn) → IsNextId began u.fresh fresh ids ids_then → HasAnswered catalog text old new clock clock_then ids ids_then s a (record { client = d; fresh = fresh })
 has_answered catalog text old new clock clock_then ids ids_then u s same now time moment a d x fresh began is hand =
     subst (λ (y : SessionAt). HasAnswered catalog text old new clock clock_then ids ids_then y a (record { client = d; fresh = fresh })) same (record {
       now = now;
       time = time;
       moment = moment;
       answered = x;
-      hand = subst (λ b. IsHand b u.fresh fresh ids ids_then) (is ∙ began_is catalog (is_some u.client.txn) (exchange x.says now u.fresh a) d x.ended) hand;
+      hand = subst (λ b. IsNextId b u.fresh fresh ids ids_then) (is ∙ began_is catalog (is_some u.client.txn) (exchange x.says now u.fresh a) d x.ended) hand;
     })

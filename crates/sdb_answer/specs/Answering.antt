@@ -10,22 +10,22 @@ use Rattle.sdb_model.specs.declared.answer.Answer.{Answer}
 use Rattle.sdb_model.specs.declared.answer.Refusal.{Refusal}
 use Rattle.sdb_model.specs.declared.statement.Statement.{Statement}
 use Rattle.sdb_model.specs.Events.{table_asked}
-use Rattle.sdb_stores.specs.Shelf.{Attached, HaveCause, HaveRisen}
-use Rattle.sdb_board.specs.Board.{AreFit, AreFitFor, IsCalled, shown}
-use Rattle.sdb_client.specs.Client.{ClientAt, ReplyTold, Says, client_pending}
+use Rattle.sdb_stores.specs.Views.{Attached, HaveCause, HaveRisen}
+use Rattle.sdb_board.specs.Board.{AreUsable, AreUsableFor, IsCalled, contents_of_views}
+use Rattle.sdb_client.specs.Client.{ClientAt, ReplyPost, Parses, client_pending}
 use Rattle.sdb_steps.specs.About.{IsOfTables}
 use Rattle.sdb_session.specs.Database.{Database, database_of}
 use Rattle.sdb_session.specs.Between.{Between, OpenTransaction, StatementEnds, Waits}
 use Rattle.sdb_session.specs.Chain.{Exchanged}
 use Rattle.sdb_session.specs.Clients.{IsUnused}
-use Rattle.sdb_session.specs.Session.{Exchange, is_of_fault, turned_away}
+use Rattle.sdb_session.specs.Session.{Exchange, is_of_fault, rejected}
 use Rattle.sdb_session.specs.Faults.{IsAfterFault}
 use Rattle.sdb_session.specs.Turns.{IsWellFormed}
 use Rattle.sdb_session.specs.Working.{IsAtWork, IsEnded}
 
 -- the record at each key of the tables of stores
 abbrev pub database_in : Attached → Database
-database_in stores = database_of stores.places (shown stores.shelves)
+database_in stores = database_of stores.places (contents_of_views stores.views)
 
 -- a statement with its answer
 abbrev pub exchange : Result Statement Refusal → ℤ → TxId → Answer → Exchange
@@ -37,22 +37,22 @@ pub record HasCalled (now : ℤ) (old : Attached) (c : ClientAt) (result : Optio
   pub reply : Reply
   pub pending : client_pending c ≡ Some request
   pub can : CanAnswer request reply
-  pub called : AreFitFor (table_asked request) old → IsCalled request reply old new
-  pub cause : HaveCause reply old.shelves new.shelves
-  pub took : ReplyTold c c.vacuum reply now result d
+  pub called : AreUsableFor (table_asked request) old → IsCalled request reply old new
+  pub cause : HaveCause reply old.views new.views
+  pub took : ReplyPost c c.vacuum reply now result d
 
 -- A client is at work on a statement that wasn't turned away.
 pub record IsWorking (c : ClientAt) : Type 0 where
   pub catalog : List Table
   pub statement : Statement
   pub opened : Bool
-  pub stays : turned_away catalog opened (Ok statement) ≡ None
+  pub stays : rejected catalog opened (Ok statement) ≡ None
   pub works : IsAtWork statement opened c
 
 -- A statement of a client that is alone waits for a reply, over fit stores.
 pub record WaitsOver (now : ℤ) (stores : Attached) (c : ClientAt) : Type 0 where
   pub catalog : List Table
-  pub fit : AreFit catalog stores
+  pub fit : AreUsable catalog stores
   pub about : IsOfTables catalog c
   pub was : Database
   pub well_formed : IsWellFormed catalog was
@@ -67,12 +67,12 @@ pub record WaitsOver (now : ℤ) (stores : Attached) (c : ClientAt) : Type 0 whe
 pub record AreMade (now : ℤ) (old : Attached) (c : ClientAt) (a : Answer) (new : Attached) (d : ClientAt) : Type 0 where
   pub ended : (w : IsWorking c) (moment : ℤ) (id : TxId) → IsEnded w.catalog w.opened (exchange (Ok w.statement) moment id a) d
   pub about : (catalog : List Table) → IsOfTables catalog c → IsOfTables catalog d
-  pub fault : IsWorking c → (IsAfterFault c → ⊥) → is_of_fault a ≡ true → HaveRisen old.shelves new.shelves
+  pub fault : IsWorking c → (IsAfterFault c → ⊥) → is_of_fault a ≡ true → HaveRisen old.views new.views
   pub alone : (w : WaitsOver now old c) → StatementEnds w.catalog w.was w.fresh now (Ok w.statement) (database_in new) w.opened a d
 
 -- A client that is alone is between two statements, over fit stores whose contents are sound, and the id at hand is new.
 pub record IsAlone (catalog : List Table) (fresh : TxId) (now : ℤ) (stores : Attached) (c : ClientAt) : Type 0 where
-  pub fit : AreFit catalog stores
+  pub fit : AreUsable catalog stores
   pub about : IsOfTables catalog c
   pub well_formed : IsWellFormed catalog (database_in stores)
   pub time : is_moment now ≡ true
@@ -84,8 +84,8 @@ pub record IsAlone (catalog : List Table) (fresh : TxId) (now : ℤ) (stores : A
 -- of faults rose, and it has ended as the statement of a client that is alone where it was one.
 pub record IsAnswered (catalog : List Table) (text : List ℕ) (fresh : TxId) (now : ℤ) (old : Attached) (c : ClientAt) (a : Answer) (new : Attached) (d : ClientAt) : Type 0 where
   pub says : Result Statement Refusal
-  pub reads : Says text says
+  pub reads : Parses text says
   pub ended : IsEnded catalog (is_some c.txn) (exchange says now fresh a) d
   pub about : IsOfTables catalog c → IsOfTables catalog d
-  pub fault : is_of_fault a ≡ true → HaveRisen old.shelves new.shelves
+  pub fault : is_of_fault a ≡ true → HaveRisen old.views new.views
   pub alone : (w : IsAlone catalog fresh now old c) → Exchanged catalog (database_in old) w.opened (exchange says now fresh a) (database_in new) d

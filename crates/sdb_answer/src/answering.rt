@@ -19,7 +19,7 @@ const ALONE: Gate = Gate {
 
 // Makes the pending call, and hands its reply to the client.
 fn make_call<S: Registry>(client: &mut Client, stores: &mut S, now: i64) -> Option<Answer>
-    requires some { 0 < length (S.state stores.old).shelves }
+    requires some { 0 < length (S.state stores.old).views }
     requires works { IsWorking client.old }
     ensures called { HasCalled now (S.state stores.old) client.old result (S.state stores.new) client.new }
     ensures goes { GoOn (S.state stores.old) (S.state stores.new) }
@@ -37,7 +37,7 @@ fn make_calls<S: Registry>(
     stores: &mut S,
     now: i64,
 ) -> Result<Answer, NoMemory>
-    requires some { 0 < length (S.state stores.old).shelves }
+    requires some { 0 < length (S.state stores.old).views }
     requires works { IsWorking client.old }
     ensures made { IfOk result (λ a. AreMade now (S.state stores.old) client.old a (S.state stores.new) client.new) }
     ensures goes { GoOn (S.state stores.old) (S.state stores.new) }
@@ -60,7 +60,7 @@ pub fn answer<S: Registry>(
     now: i64,
     stores: &mut S,
 ) -> Result<Answer, NoMemory>
-    requires some { 0 < length (S.state stores.old).shelves }
+    requires some { 0 < length (S.state stores.old).views }
     requires idle { IsIdle client.old }
     requires short { length text.now < 2 ^ 32 }
     ensures answered { IfOk result (λ a. IsAnswered catalog.now text.now fresh now (S.state stores.old) client.old a (S.state stores.new) client.new) }

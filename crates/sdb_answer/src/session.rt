@@ -1,10 +1,10 @@
 //! The statements of one client that is alone, one after the other.
 ghost use Rattle.std.specs.Prelude.{◌≡◌, ◌<◌, ◌^◌, ◌&&◌, not, ℕ, length, is_some, IfOk};
-ghost use Rattle.sdb_types.specs.Draws.{Tells};
+ghost use Rattle.sdb_types.specs.Draws.{IsAppended};
 ghost use Rattle.sdb_board.specs.Board.{GoOn};
 ghost use Rattle.sdb_client.specs.Client.{IsIdle, nothing_done};
 ghost use Rattle.sdb_answer.specs.Drawn.{drawn_id as drawn_id_lem};
-ghost use Rattle.sdb_answer.specs.Sessions.{HasAnswered, IsHand};
+ghost use Rattle.sdb_answer.specs.Sessions.{HasAnswered, IsNextId};
 
 use crate::answering::answer;
 use crate::drawn::drawn_id;
@@ -16,7 +16,7 @@ use sdb_types::{Clock, Ids, NoMemory, TxId, Txt};
 use std::alloc::Global;
 use std::marker::Model;
 
-// It is so now, and wasn't before.
+// It holds now, and didn't before.
 fn is_first(before: bool, now: bool) -> bool
     ensures { result ≡ (not before && now) }
 {
@@ -25,7 +25,7 @@ fn is_first(before: bool, now: bool) -> bool
 
 // The id at hand after a statement, which began a transaction or not.
 fn next_hand<I: Ids>(fresh: TxId, began: bool, ids: &mut I) -> TxId
-    ensures { IsHand began fresh result (I.told ids.old) (I.told ids.new) }
+    ensures { IsNextId began fresh result (I.told ids.old) (I.told ids.new) }
 {
     if began { drawn_id(ids.draw()) } else { fresh }
 }
@@ -58,7 +58,7 @@ impl Session {
     /// A client that has done nothing, and the first id, which is drawn.
     pub fn new<I: Ids>(alloc: Global, ids: &mut I) -> Session
         ensures client { result.client ≡ nothing_done 1 }
-        ensures fresh { (draw : ℕ) × Tells draw (I.told ids.old) (I.told ids.new) × (result.fresh ≡ drawn_id_lem draw) }
+        ensures fresh { (draw : ℕ) × IsAppended draw (I.told ids.old) (I.told ids.new) × (result.fresh ≡ drawn_id_lem draw) }
     {
         Session {
             client: Client::new(alloc, 1),
@@ -83,7 +83,7 @@ impl Session {
         clock: &mut C,
         ids: &mut I,
     ) -> Result<Answer, NoMemory>
-        requires some { 0 < length (S.state stores.old).shelves }
+        requires some { 0 < length (S.state stores.old).views }
         requires idle { IsIdle self.old.client }
         requires short { length text.now < 2 ^ 32 }
         ensures answered { IfOk result (λ a. HasAnswered catalog.now text.now (S.state stores.old) (S.state stores.new) (C.told clock.old) (C.told clock.new) (I.told ids.old) (I.told ids.new) self.old a self.new) }

@@ -13,13 +13,13 @@ use Rattle.sdb_stores.specs.declared.place.Place.{Place}
 use Rattle.sdb_execution.specs.Execution.{IsPlayable}
 use Rattle.sdb_world.specs.Step.{CanFollow, CanMove}
 use Rattle.sdb_bench.specs.Script.{IsOfNine, bench_script_of}
-use Rattle.sdb_stores.specs.Shelf.{Attached, Shelf as Counted, names_of}
+use Rattle.sdb_stores.specs.Views.{Attached, StoreView as Counted, names_of}
 use Rattle.sdb_model.specs.declared.event.Outcome.{Outcome}
-use Rattle.sdb_model.specs.Events.{Shelf}
-use Rattle.sdb_model.specs.Told.{IsRun}
+use Rattle.sdb_model.specs.Events.{StoreContents}
+use Rattle.sdb_model.specs.Serial.{IsRun}
 use Rattle.sdb_bench.specs.Counts.{bench_text_of, uneven_of}
 use Rattle.sdb_app.specs.Bench.{IsBenchedOn, bench_over, name_at}
-use Rattle.sdb_app.specs.Run.{CanBePlaced, IsOutcome}
+use Rattle.sdb_app.specs.Run.{CanBePlaced, IsReportable}
 use Rattle.sdb_bench.proofs.Playable.{bench_apart, bench_catalog_is, bench_moves_are, bench_nine, bench_short}
 
 -- The script of a bench is playable.
@@ -86,8 +86,8 @@ placed_over n shelves some =
     placeable (names_of shelves) n (name_at (names_of shelves) 0) (name_at (names_of shelves) (length (names_of shelves) - 1)) (name_there (names_of shelves) 0 (omega arith)) (name_there (names_of shelves) (length (names_of shelves) - 1) (omega arith))
 
 -- What is counted over its outcome.
-pub benched_on : (n : ℕ) (old : Attached) (left : List Counted) (o : Outcome) (answer : List ℕ) → IsOutcome (bench_over n (names_of old.shelves)) old left o → answer ≡ bench_text_of n o
-    → ((first last : List ℕ) (opening closing : List Shelf) → IsRun (bench_script_of n first last) opening closing o → uneven_of o.tables ≡ 0) → IsBenchedOn n old left answer
+pub benched_on : (n : ℕ) (old : Attached) (left : List Counted) (o : Outcome) (answer : List ℕ) → IsReportable (bench_over n (names_of old.views)) old left o → answer ≡ bench_text_of n o
+    → ((first last : List ℕ) (opening closing : List StoreContents) → IsRun (bench_script_of n first last) opening closing o → uneven_of o.tables ≡ 0) → IsBenchedOn n old left answer
 benched_on n old left o answer made is even = record {
   outcome = o;
   made = made;

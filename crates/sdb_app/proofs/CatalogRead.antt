@@ -23,13 +23,13 @@ use Rattle.sdb_schema.specs.declared.table.Kind.{Kind}
 use Rattle.sdb_schema.specs.declared.table.Table.{Table}
 use Rattle.sdb_schema.specs.declared.make.TableRefused.{TableRefused}
 use Rattle.sdb_schema.specs.Table as table
-use Rattle.sdb_schema.specs.Catalog.{is_catalog, rises, stands_above}
+use Rattle.sdb_schema.specs.Catalog.{is_catalog, rises, is_above_name}
 use Rattle.sdb_schema.proofs.TableLaws.{made}
 use Rattle.sdb_loader.specs.declared.fault.SchemaFault.{SchemaFault}
 use Rattle.sdb_loader.specs.declared.fault.SchemaFault.TheVariants as fault
-use Rattle.sdb_loader.specs.Fields.{columns, columns_among, columns_in, kind_said}
+use Rattle.sdb_loader.specs.Fields.{columns, columns_among, columns_in, kind_given}
 use Rattle.sdb_loader.specs.Words.{table_named}
-use Rattle.sdb_loader.specs.Described.{bad_field, bad_name, bad_table, catalog_in, described, described_members, described_tables, first_said, json_of, named, refusal_in, refuse, table_of, unknown_type, untransactional, within_limit}
+use Rattle.sdb_loader.specs.Described.{bad_field, bad_name, bad_table, catalog_in, described, described_members, described_tables, first_given, json_of, named, refusal_in, refuse, table_of, unknown_type, untransactional, within_limit}
 use Rattle.sdb_loader.proofs.Names.{good_first, in_order_of, named_is}
 use Rattle.sdb_record.proofs.NameLemmas.{name_of_column}
 use Rattle.sdb_loader.proofs.Values.{are_short-columns_in}
@@ -96,18 +96,18 @@ read_rises text d ms h k =
 
 ---- and so do the names of their tables
 
-above_next : (a : List ℕ) (t : TableName) (ms : Members) → table_named a ≡ Some t → IsUnder a ms → bad_name ms ≡ None → stands_above t (map table_of (named ms)) ≡ true
+above_next : (a : List ℕ) (t : TableName) (ms : Members) → table_named a ≡ Some t → IsUnder a ms → bad_name ms ≡ None → is_above_name t (map table_of (named ms)) ≡ true
 above_next a t no_members h l g = refl
 above_next a t (member k d ms) h l g =
     let first = good_first k d ms g in
-    ap (λ ts. stands_above t (map table_of ts)) (named_is k d ms first.name first.is) ∙ in_order_of a k t first.name h first.is l
+    ap (λ ts. is_above_name t (map table_of ts)) (named_is k d ms first.name first.is) ∙ in_order_of a k t first.name h first.is l
 
 tables_rise : (ms : Members) → AreRising ms → bad_name ms ≡ None → rises (map table_of (named ms)) ≡ true
 tables_rise no_members r g = refl
 tables_rise (member k d ms) r g =
     let first = good_first k d ms g in
     ap (λ ts. rises (map table_of ts)) (named_is k d ms first.name first.is)
-    ∙ and_both (stands_above first.name (map table_of (named ms))) _ (above_next k first.name ms first.is r.0 first.rest) (tables_rise ms r.1 first.rest)
+    ∙ and_both (is_above_name first.name (map table_of (named ms))) _ (above_next k first.name ms first.is r.0 first.rest) (tables_rise ms r.1 first.rest)
 
 ---- each is a table
 
@@ -118,8 +118,8 @@ names_kept name (Some k) rest h r = and_both (is_name name) (list_all (λ (c : C
 columns_named : (ms : Members) → list_all (λ (c : Column). is_name c.name) (columns_among ms) ≡ true
 columns_named no_members = refl
 columns_named (member k d ms) =
-    elim (is_column_name k) as (λ b. is_column_name k ≡ b → list_all (λ (c : Column). is_name c.name) (cons_option (if b then option_map (λ (kd : Kind). record { name = k; kind = kd }) (kind_said d) else None) (columns_among ms)) ≡ true) [
-      | true ↦ λ q. names_kept k (kind_said d) (columns_among ms) (name_of_column k q) (columns_named ms)
+    elim (is_column_name k) as (λ b. is_column_name k ≡ b → list_all (λ (c : Column). is_name c.name) (cons_option (if b then option_map (λ (kd : Kind). record { name = k; kind = kd }) (kind_given d) else None) (columns_among ms)) ≡ true) [
+      | true ↦ λ q. names_kept k (kind_given d) (columns_among ms) (name_of_column k q) (columns_named ms)
       | false ↦ λ q. columns_named ms
     ] refl
 
@@ -153,14 +153,14 @@ table_read : (t : TableName × Data) → bad_table t ≡ None → table.is_table
 table_read t h =
     made (table_of t) (columns_in t.1) refl (are_short-columns_in t.1) (some_named (option_and_then as_object (get columns t.1))) (accepted t.0 (table_of t) (table.checked_table (table_of t)) refl h)
 
-none_said : {A B : Type 0} (said : A → Option B) (x : A) (xs : List A) → first_said said (x ∷ xs) ≡ None → (said x ≡ None) × (first_said said xs ≡ None)
+none_said : {A B : Type 0} (said : A → Option B) (x : A) (xs : List A) → first_given said (x ∷ xs) ≡ None → (said x ≡ None) × (first_given said xs ≡ None)
 none_said {A} {B} said x xs h = by (said x) refl
   where
-    by : (o : Option B) → said x ≡ o → (said x ≡ None) × (first_said said xs ≡ None)
+    by : (o : Option B) → said x ≡ o → (said x ≡ None) × (first_given said xs ≡ None)
     by None q = (q, rw q at h)
     by (Some b) q = no_some b (sym (rw q at h))
 
-tables_read : (ts : List (TableName × Data)) → first_said bad_table ts ≡ None → list_all table.is_table (map table_of ts) ≡ true
+tables_read : (ts : List (TableName × Data)) → first_given bad_table ts ≡ None → list_all table.is_table (map table_of ts) ≡ true
 tables_read [] h = refl
 tables_read (t ∷ ts) h =
     let n = none_said bad_table t ts h in
@@ -181,10 +181,10 @@ limited us ts h = by_test (nat_le (length us) 64) (λ t. (oks (rw t at h), t)) (
 tables_are : (tds : List (TableName × Data)) (ts : List Table) → described_tables tds ≡ Ok ts → rises (map table_of tds) ≡ true → is_catalog ts ≡ true
 unfolding described_tables
 tables_are tds ts h r =
-    let a = past_fault (first_said untransactional tds) fault.NonTransactional _ ts h in
-    let b = past_fault (first_said bad_field tds) (λ f. fault.BadField f.0 f.1) _ ts a.1 in
-    let c = past_fault (first_said unknown_type tds) (λ f. fault.UnknownType f.0 f.1) _ ts b.1 in
-    let d = past_fault (first_said bad_table tds) (λ f. fault.BadTable f.0 f.1) _ ts c.1 in
+    let a = past_fault (first_given untransactional tds) fault.NonTransactional _ ts h in
+    let b = past_fault (first_given bad_field tds) (λ f. fault.BadField f.0 f.1) _ ts a.1 in
+    let c = past_fault (first_given unknown_type tds) (λ f. fault.UnknownType f.0 f.1) _ ts b.1 in
+    let d = past_fault (first_given bad_table tds) (λ f. fault.BadTable f.0 f.1) _ ts c.1 in
     let e = limited (map table_of tds) ts d.1 in
     let us = map table_of tds in
     subst (λ (x : List Table). is_catalog x ≡ true) e.0 (and_both (rises us) _ r (and_both (nat_le (length us) 64) (list_all table.is_table us) e.1 (tables_read tds d.0)))

@@ -7,48 +7,48 @@ use Rattle.sdb_types.specs.declared.key.Key.{Key}
 use Rattle.sdb_types.specs.declared.pair.Pair.{Pair}
 use Rattle.sdb_types.proofs.Basics.{clash}
 use Rattle.sdb_record.specs.Coordinator.{coordinator_table}
-use Rattle.sdb_model.specs.Noted.{read_finished}
+use Rattle.sdb_model.specs.ReadSet.{read_finished}
 use Rattle.sdb_model.specs.declared.event.Event.{Event}
-use Rattle.sdb_stores.specs.Shelf.{Attached, Shelf as Counted, AreDistinct, HaveRisen, names_of, total_faults}
+use Rattle.sdb_stores.specs.Views.{Attached, StoreView as Counted, AreDistinct, HaveRisen, names_of, total_faults}
 use Rattle.sdb_model.specs.declared.event.Outcome.{Outcome}
 use Rattle.sdb_stores.specs.declared.place.Place.{Place}
 use Rattle.sdb_model.specs.declared.script.Script.{Script}
 use Rattle.sdb_model.specs.declared.answer.Answer.{Answer}
 use Rattle.sdb_model.specs.declared.answer.Answer.TheVariants as answer
 use Rattle.sdb_model.specs.Counted.{AreResolved}
-use Rattle.sdb_model.specs.Events.{Shelf, store_of}
+use Rattle.sdb_model.specs.Events.{StoreContents, store_of}
 use Rattle.sdb_model.specs.Exec.{find_table}
 use Rattle.sdb_model.specs.Follows.{Follows}
-use Rattle.sdb_model.specs.Told.{IsRun}
-use Rattle.sdb_model.specs.Transactions.{Said}
+use Rattle.sdb_model.specs.Serial.{IsRun}
+use Rattle.sdb_model.specs.Transactions.{Executed}
 use Rattle.sdb_spread.specs.Spread.{HoldAs}
-use Rattle.sdb_board.specs.Board.{AreFit, GoOn, HoldTheSame, known_before, shown}
+use Rattle.sdb_board.specs.Board.{AreUsable, GoOn, HoldTheSame, known_before, contents_of_views}
 use Rattle.sdb_board.specs.Opening.{HoldNothing, IsFirstKey, first_key, opening_in, opening_records, run_tables}
 use Rattle.sdb_board.specs.declared.refused.CallRefused.TheVariants as refused
 use Rattle.sdb_board.proofs.Empty.{no_record}
 use Rattle.sdb_board.proofs.GoesOn.{refused_after}
-use Rattle.sdb_causes.specs.Tied.{AnswersHaveCauses}
+use Rattle.sdb_causes.specs.Invariant.{AnswersHaveCauses}
 use Rattle.sdb_causes.proofs.Faults.{answered_seen}
 use Rattle.sdb_causes.proofs.Rolled.{all_resolved}
-use Rattle.sdb_causes.specs.Shows.{WasRead}
+use Rattle.sdb_causes.specs.Views.{WasRead}
 use Rattle.sdb_causes.proofs.ShowsWhole.{answers_own}
-use Rattle.sdb_endings.specs.Shown.{IsReader, ReadBy}
+use Rattle.sdb_endings.specs.DirtyReads.{IsReader, ReadBy}
 use Rattle.sdb_endings.proofs.Finding.{answers_as, answers_committed}
 use Rattle.sdb_world.specs.Broken.{BreaksWithin}
 use Rattle.sdb_execution.specs.Execution.{IsExecution, IsPlayable}
 use Rattle.sdb_executions.proofs.Steps.{execution_caused}
-use Rattle.sdb_world.specs.Explained.{IsExplained, IsShown}
+use Rattle.sdb_world.specs.Explained.{IsExplained, HasNoDirtyReads}
 use Rattle.sdb_world.proofs.Broken.{breaks_after}
 use Rattle.sdb_world.proofs.Explained.{no_coordinator}
 use Rattle.sdb_app.specs.declared.status.Status.{Status}
 use Rattle.sdb_app.specs.declared.status.Status.TheVariants as status
 use Rattle.sdb_app.specs.Bench.{IsBenched, StopsBench, bench_over}
 use Rattle.sdb_app.specs.Ends.{AreKept, Work}
-use Rattle.sdb_app.specs.Run.{AreReady, CanBePlaced, TellOf, IsBadAfter, IsBadFound, IsFirstFound, IsFoundIn, IsOutcome, IsPlayed, IsReplayed, IsScriptRead, IsUnread, Stops, StopsPlay, StopsReplay, placed_as}
+use Rattle.sdb_app.specs.Run.{AreReady, CanBePlaced, ContentsAreKnown, IsBadAfter, IsBadFound, IsFirstFound, IsFoundIn, IsReportable, IsCorrect, IsReplayed, IsScriptRead, IsUnread, Stops, StopsRun, StopsReplay, placed_as}
 use Rattle.sdb_app.specs.Run.StopsReplay.{Unread, Unplayed}
 use Rattle.sdb_app.proofs.Placing.{fit_for}
 use Rattle.sdb_app.proofs.WhereKnown.{first_as, known_from, nothing_as, odd_as, read_as, shows_less, shows_placed}
-use Rattle.sdb_world.specs.Played.{IsReadWhereKnown}
+use Rattle.sdb_world.specs.Ran.{IsReadWhereKnown}
 use Rattle.sdb_plainness.specs.Facts.{outcome_fits}
 use Rattle.sdb_plainness.proofs.Plain.{run_plain}
 
@@ -78,7 +78,7 @@ stops_as old mid left near far was found s same f g h = by s h
     by (status.NotCommitted a) h = absurd h
 
 -- what stopped a later part stopped the whole
-pub stops_after : (old mid : Attached) (left : List Counted) (near far was found : Key → Type 0) (s : Status) → GoOn old mid → ((key : Key) → near key → far key) → ((key : Key) → was key → found key) → Stops mid.shelves left near was s → Stops old.shelves left far found s
+pub stops_after : (old mid : Attached) (left : List Counted) (near far was found : Key → Type 0) (s : Status) → GoOn old mid → ((key : Key) → near key → far key) → ((key : Key) → was key → found key) → Stops mid.views left near was s → Stops old.views left far found s
 stops_after old mid left near far was found status.StoreFault goes f g h = refused_after old mid left refused.StoreFault goes h
 stops_after old mid left near far was found status.NoMemory goes f g h = tt
 stops_after old mid left near far was found (status.NotEmpty key) goes f g h = g key h
@@ -108,19 +108,19 @@ stops_both old left bad worse both found status.NoTable f g h = absurd g
 stops_both old left bad worse both found (status.NotCommitted a) f g h = absurd g
 
 -- stores that go on from ones that are the same are kept
-pub kept_after : (old mid new : Attached) → mid.shelves ≡ old.shelves → ((at : ℕ) → old.tells at → mid.tells at) → GoOn mid new → AreKept old new
-kept_after old mid new same telling goes = record {
+pub kept_after : (old mid new : Attached) → mid.views ≡ old.views → ((at : ℕ) → old.known at → mid.known at) → GoOn mid new → AreKept old new
+kept_after old mid new same where_known goes = record {
   names = goes.names ∙ ap names_of same;
-  counted = subst (λ (ss : List Counted). total_faults ss ≤ total_faults new.shelves) same goes.counted;
-  telling = λ at told. goes.telling at (telling at told);
+  counted = subst (λ (ss : List Counted). total_faults ss ≤ total_faults new.views) same goes.counted;
+  where_known = λ at told. goes.where_known at (where_known at told);
 }
 
 -- so are stores of which none has changed
-pub kept_same : (old new : Attached) → new.shelves ≡ old.shelves → ((at : ℕ) → old.tells at → new.tells at) → AreKept old new
-kept_same old new same telling = record {
+pub kept_same : (old new : Attached) → new.views ≡ old.views → ((at : ℕ) → old.known at → new.known at) → AreKept old new
+kept_same old new same where_known = record {
   names = ap names_of same;
-  counted = subst (λ (ss : List Counted). total_faults ss ≤ total_faults new.shelves) same (omega arith);
-  telling = telling;
+  counted = subst (λ (ss : List Counted). total_faults ss ≤ total_faults new.views) same (omega arith);
+  where_known = where_known;
 }
 
 -- and stores that are kept once more
@@ -128,75 +128,75 @@ pub kept_more : (old mid new : Attached) → AreKept old mid → AreKept mid new
 kept_more old mid new first second = record {
   names = second.names ∙ first.names;
   counted = let a = first.counted in let b = second.counted in omega arith;
-  telling = λ at told. second.telling at (first.telling at told);
+  where_known = λ at told. second.where_known at (first.where_known at told);
 }
 
 -- stores that are the same go on to tell
-pub tell_on : (script : Script) (before mid : Attached) → mid.shelves ≡ before.shelves → ((i : ℕ) → before.tells i → mid.tells i) → TellOf script before → TellOf script mid
-tell_on script before mid same telling all at store table here about named =
-    telling at (all at store table (ap (λ (ss : List Counted). slice_get ss at) (sym same) ∙ here) about (ap (λ (ss : List Counted). store_of script.places (shown ss) table.ns) (sym same) ∙ named))
+pub tell_on : (script : Script) (before mid : Attached) → mid.views ≡ before.views → ((i : ℕ) → before.known i → mid.known i) → ContentsAreKnown script before → ContentsAreKnown script mid
+tell_on script before mid same where_known all at store table here about named =
+    where_known at (all at store table (ap (λ (ss : List Counted). slice_get ss at) (sym same) ∙ here) about (ap (λ (ss : List Counted). store_of script.places (contents_of_views ss) table.ns) (sym same) ∙ named))
 
 -- The stores of a script's tables tell, and it has its places.
-pub fit_script : (script : Script) (old mid : Attached) → mid.places ≡ script.places → mid.shelves ≡ old.shelves → CanBePlaced (names_of old.shelves) script.places → 0 < length old.shelves → AreDistinct (names_of old.shelves) → ((i : ℕ) → old.tells i → mid.tells i) → TellOf script old → AreFit script.catalog mid
-fit_script script old mid same still f some distinct telling all =
+pub fit_script : (script : Script) (old mid : Attached) → mid.places ≡ script.places → mid.views ≡ old.views → CanBePlaced (names_of old.views) script.places → 0 < length old.views → AreDistinct (names_of old.views) → ((i : ℕ) → old.known i → mid.known i) → ContentsAreKnown script old → AreUsable script.catalog mid
+fit_script script old mid same still f some distinct where_known all =
     fit_for script.catalog script.places mid same (subst (λ (ss : List Counted). CanBePlaced (names_of ss) script.places) (sym still) f) (subst (λ (ss : List Counted). 0 < length ss) (sym still) some) (subst (λ (ss : List Counted). AreDistinct (names_of ss)) (sym still) distinct)
-    (tell_on script old mid still telling all)
+    (tell_on script old mid still where_known all)
 
 -- Stores whose tables hold no record are ready: mid are as after the placing, then as after the look for records.
-pub ready_after : (script : Script) (mid then : Attached) → mid.places ≡ script.places → GoOn mid then → AreFit script.catalog mid → first_key (opening_in script.catalog mid) ≡ None → HoldTheSame mid then → AreReady script then
+pub ready_after : (script : Script) (mid then : Attached) → mid.places ≡ script.places → GoOn mid then → AreUsable script.catalog mid → first_key (opening_in script.catalog mid) ≡ None → HoldTheSame mid then → AreReady script then
 ready_after script mid then same goes fit none quiet = record {
   fit = goes.fit script.catalog fit;
   placed_so = goes.places ∙ same;
-  nothing = subst (λ (ss : List Shelf). HoldAs script.catalog script.places ss empty) (sym quiet) (subst (λ (xs : List Place). HoldAs script.catalog xs (shown mid.shelves) empty) same (no_record script.catalog mid.places (shown mid.shelves) none));
+  nothing = subst (λ (ss : List StoreContents). HoldAs script.catalog script.places ss empty) (sym quiet) (subst (λ (xs : List Place). HoldAs script.catalog xs (contents_of_views mid.views) empty) same (no_record script.catalog mid.places (contents_of_views mid.views) none));
 }
 
 ---- where the stores tell
 
 -- each row that is shown was its transaction's own or committed
-shown_of : (script : Script) (opening : List Shelf) (events : List Event) → find_table script.catalog coordinator_table ≡ None → AnswersHaveCauses script.catalog events → AreResolved events → IsExplained script events opening → IsShown script events opening
+shown_of : (script : Script) (opening : List StoreContents) (events : List Event) → find_table script.catalog coordinator_table ≡ None → AnswersHaveCauses script.catalog events → AreResolved events → IsExplained script events opening → HasNoDirtyReads script events opening
 shown_of script opening events none caused resolved explained moments end traced =
     let at = explained moments end traced in
     answers_committed script.catalog script.places events opening end moments none traced at.explained.standing at.taken resolved
     (answers_as script.catalog (WasRead script.catalog events) (ReadBy script.catalog events) events read (answers_own script.catalog events caused.shown))
   where
-    read : (c : ℕ) (s : Said) (key : Key) (row : Option (List Pair)) → WasRead script.catalog events c s key row → ReadBy script.catalog events c s key row
+    read : (c : ℕ) (s : Executed) (key : Key) (row : Option (List Pair)) → WasRead script.catalog events c s key row → ReadBy script.catalog events c s key row
     read c s key row w = (by s.answer refl w.1.told, w.1.table, w.1.found)
       where
         by : (o : Option Answer) → s.answer ≡ o → option_map_or read_finished o false ≡ true → IsReader events c s
         by None e h = clash (sym h)
         by (Some a) e h = record { among = w.0; a = a; answer = e; finished = h; no_vacuum = w.1.no_vacuum }
 
-played_on : (script : Script) (old mid then : Attached) (new : List Shelf) (o : Outcome) → mid.places ≡ script.places → mid.shelves ≡ old.shelves → GoOn mid then → AreFit script.catalog mid
-    → first_key (opening_in script.catalog mid) ≡ None → HoldTheSame mid then → (AreReady script then → IsRun script (shown then.shelves) new o) → (AreReady script then → IsExplained script o.events (shown then.shelves)) → AnswersHaveCauses script.catalog o.events → find_table script.catalog coordinator_table ≡ None → AreResolved o.events → IsPlayable script → IsExecution script o.events → outcome_fits o → IsPlayed script (shown old.shelves) new o
+played_on : (script : Script) (old mid then : Attached) (new : List StoreContents) (o : Outcome) → mid.places ≡ script.places → mid.views ≡ old.views → GoOn mid then → AreUsable script.catalog mid
+    → first_key (opening_in script.catalog mid) ≡ None → HoldTheSame mid then → (AreReady script then → IsRun script (contents_of_views then.views) new o) → (AreReady script then → IsExplained script o.events (contents_of_views then.views)) → AnswersHaveCauses script.catalog o.events → find_table script.catalog coordinator_table ≡ None → AreResolved o.events → IsPlayable script → IsExecution script o.events → outcome_fits o → IsCorrect script (contents_of_views old.views) new o
 played_on script old mid then new o same still goes fit none quiet run explained caused apart resolved playable executed fits = record {
-  empty = sym (ap (λ (ss : List Shelf). first_key (opening_records script.catalog script.places ss)) (ap shown still)) ∙ sym (ap (λ (xs : List Place). first_key (opening_records script.catalog xs (shown mid.shelves))) same) ∙ none;
+  empty = sym (ap (λ (ss : List StoreContents). first_key (opening_records script.catalog script.places ss)) (ap contents_of_views still)) ∙ sym (ap (λ (xs : List Place). first_key (opening_records script.catalog xs (contents_of_views mid.views))) same) ∙ none;
   run = run_now;
   explained = explained_now;
-  shown = shown_of script (shown old.shelves) o.events apart caused resolved explained_now;
-  plain = λ lines. run_plain (record { script = script; opening = shown old.shelves; closing = new; outcome = o; playable = playable; lines = lines; executed = executed; nothing = nothing_now; run = run_now }) fits;
+  contents_of_views = shown_of script (contents_of_views old.views) o.events apart caused resolved explained_now;
+  plain = λ lines. run_plain (record { script = script; opening = contents_of_views old.views; closing = new; outcome = o; playable = playable; lines = lines; executed = executed; nothing = nothing_now; run = run_now }) fits;
 }
   where
-    nothing_now : HoldAs script.catalog script.places (shown old.shelves) empty
-    nothing_now = subst (λ (ss : List Shelf). HoldAs script.catalog script.places ss empty) (quiet ∙ ap shown still) (ready_after script mid then same goes fit none quiet).nothing
+    nothing_now : HoldAs script.catalog script.places (contents_of_views old.views) empty
+    nothing_now = subst (λ (ss : List StoreContents). HoldAs script.catalog script.places ss empty) (quiet ∙ ap contents_of_views still) (ready_after script mid then same goes fit none quiet).nothing
 
-    run_now : IsRun script (shown old.shelves) new o
-    run_now = subst (λ (ss : List Shelf). IsRun script ss new o) (quiet ∙ ap shown still) (run (ready_after script mid then same goes fit none quiet))
+    run_now : IsRun script (contents_of_views old.views) new o
+    run_now = subst (λ (ss : List StoreContents). IsRun script ss new o) (quiet ∙ ap contents_of_views still) (run (ready_after script mid then same goes fit none quiet))
 
-    explained_now : IsExplained script o.events (shown old.shelves)
-    explained_now = subst (λ (ss : List Shelf). IsExplained script o.events ss) (quiet ∙ ap shown still) (explained (ready_after script mid then same goes fit none quiet))
+    explained_now : IsExplained script o.events (contents_of_views old.views)
+    explained_now = subst (λ (ss : List StoreContents). IsExplained script o.events ss) (quiet ∙ ap contents_of_views still) (explained (ready_after script mid then same goes fit none quiet))
 
-pub outcome_is : (script : Script) (old mid then new : Attached) (o : Outcome) → mid.places ≡ script.places → mid.shelves ≡ old.shelves → ((at : ℕ) → old.tells at → mid.tells at) → GoOn mid then → GoOn then new → (TellOf script old → AreFit script.catalog mid)
-    → (AreFit script.catalog mid → first_key (opening_in script.catalog mid) ≡ None) → HoldNothing (run_tables script.catalog) mid → (AreFit script.catalog mid → HoldTheSame mid then) → Follows script o.events → IsExecution script o.events → BreaksWithin [] o.events then.shelves new.shelves
-    → IsReadWhereKnown script.catalog (known_before then new) o → (AreReady script then → IsRun script (shown then.shelves) (shown new.shelves) o) → (AreReady script then → IsExplained script o.events (shown then.shelves)) → IsPlayable script → outcome_fits o → IsOutcome script old new.shelves o
-outcome_is script old mid then new o same still telling goes more fit none nothing quiet follows executed broken read run explained playable fits = record {
+pub outcome_is : (script : Script) (old mid then new : Attached) (o : Outcome) → mid.places ≡ script.places → mid.views ≡ old.views → ((at : ℕ) → old.known at → mid.known at) → GoOn mid then → GoOn then new → (ContentsAreKnown script old → AreUsable script.catalog mid)
+    → (AreUsable script.catalog mid → first_key (opening_in script.catalog mid) ≡ None) → HoldNothing (run_tables script.catalog) mid → (AreUsable script.catalog mid → HoldTheSame mid then) → Follows script o.events → IsExecution script o.events → BreaksWithin [] o.events then.views new.views
+    → IsReadWhereKnown script.catalog (known_before then new) o → (AreReady script then → IsRun script (contents_of_views then.views) (contents_of_views new.views) o) → (AreReady script then → IsExplained script o.events (contents_of_views then.views)) → IsPlayable script → outcome_fits o → IsReportable script old new.views o
+outcome_is script old mid then new o same still where_known goes more fit none nothing quiet follows executed broken read run explained playable fits = record {
   playable = playable;
   follows = follows;
   executed = executed;
   caused = caused.caused;
-  broken = subst (λ (ss : List Counted). BreaksWithin [] o.events ss new.shelves) still (breaks_after [] o.events mid then new.shelves goes broken);
-  empty = subst (λ (ss : List Counted). HoldNothing (run_tables script.catalog) (placed_as script old ss)) still (nothing_as (placed_as script old mid.shelves) mid (shows_placed script old mid same telling) (run_tables script.catalog) nothing);
-  read = read_as (placed_as script old new.shelves) (known_before then new) (shows_placed script old (known_before then new) ((more.places ∙ goes.places) ∙ same) (λ at tells. goes.telling at (telling at tells))) script.catalog o read;
-  played = λ all. played_on script old mid then (shown new.shelves) o same still goes (fit all) (none (fit all)) (quiet (fit all)) run explained caused (no_coordinator script playable) resolved playable executed fits;
+  broken = subst (λ (ss : List Counted). BreaksWithin [] o.events ss new.views) still (breaks_after [] o.events mid then new.views goes broken);
+  empty = subst (λ (ss : List Counted). HoldNothing (run_tables script.catalog) (placed_as script old ss)) still (nothing_as (placed_as script old mid.views) mid (shows_placed script old mid same where_known) (run_tables script.catalog) nothing);
+  read = read_as (placed_as script old new.views) (known_before then new) (shows_placed script old (known_before then new) ((more.places ∙ goes.places) ∙ same) (λ at tells. goes.where_known at (where_known at tells))) script.catalog o read;
+  played = λ all. played_on script old mid then (contents_of_views new.views) o same still goes (fit all) (none (fit all)) (quiet (fit all)) run explained caused (no_coordinator script playable) resolved playable executed fits;
 }
   where
     caused : AnswersHaveCauses script.catalog o.events
@@ -206,52 +206,52 @@ outcome_is script old mid then new o same still telling goes more fit none nothi
     resolved = all_resolved o.events caused.rolled (answered_seen script o.events follows)
 
 -- the first record is that of the script's tables
-pub found_first : (script : Script) (old mid left : Attached) (key : Key) → mid.places ≡ script.places → mid.shelves ≡ old.shelves → ((at : ℕ) → old.tells at → mid.tells at) → (TellOf script old → AreFit script.catalog mid) → IsFoundIn script.catalog mid left key → IsFirstFound script old left.shelves key
-found_first script old mid left key same still telling fit h = record {
-  found = subst (λ (ss : List Counted). IsFirstKey (run_tables script.catalog) (placed_as script old ss) key) still (first_as (placed_as script old mid.shelves) mid (shows_placed script old mid same telling) (run_tables script.catalog) key h.found);
-  known = known_from script old mid left still telling h.known;
+pub found_first : (script : Script) (old mid left : Attached) (key : Key) → mid.places ≡ script.places → mid.views ≡ old.views → ((at : ℕ) → old.known at → mid.known at) → (ContentsAreKnown script old → AreUsable script.catalog mid) → IsFoundIn script.catalog mid left key → IsFirstFound script old left.views key
+found_first script old mid left key same still where_known fit h = record {
+  found = subst (λ (ss : List Counted). IsFirstKey (run_tables script.catalog) (placed_as script old ss) key) still (first_as (placed_as script old mid.views) mid (shows_placed script old mid same where_known) (run_tables script.catalog) key h.found);
+  known = known_from script old mid left still where_known h.known;
   first = λ all.
-      sym (ap (λ (ss : List Shelf). first_key (opening_records script.catalog script.places ss)) (ap shown still)) ∙ sym (ap (λ (xs : List Place). first_key (opening_records script.catalog xs (shown mid.shelves))) same) ∙ h.first (fit all);
-  still = λ all. h.still (fit all) ∙ ap shown still;
+      sym (ap (λ (ss : List StoreContents). first_key (opening_records script.catalog script.places ss)) (ap contents_of_views still)) ∙ sym (ap (λ (xs : List Place). first_key (opening_records script.catalog xs (contents_of_views mid.views))) same) ∙ h.first (fit all);
+  still = λ all. h.still (fit all) ∙ ap contents_of_views still;
 }
 
 -- the record that is bad in the end is one of the script's tables
-pub found_bad : (script : Script) (old mid then new : Attached) (key : Key) → mid.places ≡ script.places → ((at : ℕ) → old.tells at → mid.tells at) → GoOn mid then → GoOn then new → (TellOf script old → AreReady script then) → IsBadAfter script then new key → IsBadFound script old new.shelves key
-found_bad script old mid then new key same telling goes more ready h = record {
-  odd = odd_as (placed_as script old new.shelves) (known_before then new) (shows_placed script old (known_before then new) ((more.places ∙ goes.places) ∙ same) (λ at tells. goes.telling at (telling at tells))) script.catalog key h.odd;
+pub found_bad : (script : Script) (old mid then new : Attached) (key : Key) → mid.places ≡ script.places → ((at : ℕ) → old.known at → mid.known at) → GoOn mid then → GoOn then new → (ContentsAreKnown script old → AreReady script then) → IsBadAfter script then new key → IsBadFound script old new.views key
+found_bad script old mid then new key same where_known goes more ready h = record {
+  odd = odd_as (placed_as script old new.views) (known_before then new) (shows_placed script old (known_before then new) ((more.places ∙ goes.places) ∙ same) (λ at tells. goes.where_known at (where_known at tells))) script.catalog key h.odd;
   foreign = λ all. h.foreign (ready all);
 }
 
 ---- stores whose places were taken away first
 
-made_of : (script : Script) (before mid : Attached) (new : List Counted) (o : Outcome) → mid.shelves ≡ before.shelves → ((at : ℕ) → before.tells at → mid.tells at) → IsOutcome script mid new o → IsOutcome script before new o
-made_of script before mid new o same telling made = record {
+made_of : (script : Script) (before mid : Attached) (new : List Counted) (o : Outcome) → mid.views ≡ before.views → ((at : ℕ) → before.known at → mid.known at) → IsReportable script mid new o → IsReportable script before new o
+made_of script before mid new o same where_known made = record {
   playable = made.playable;
   follows = made.follows;
   executed = made.executed;
   caused = made.caused;
   broken = subst (λ (ss : List Counted). BreaksWithin [] o.events ss new) same made.broken;
-  empty = nothing_as (placed_as script before before.shelves) (placed_as script mid mid.shelves) (shows_less (placed_as script before before.shelves) (placed_as script mid mid.shelves) refl (sym same) telling) (run_tables script.catalog) made.empty;
-  read = read_as (placed_as script before new) (placed_as script mid new) (shows_less (placed_as script before new) (placed_as script mid new) refl refl telling) script.catalog o made.read;
-  played = λ all. subst (λ (ss : List Counted). IsPlayed script (shown ss) (shown new) o) same (made.played (tell_on script before mid same telling all));
+  empty = nothing_as (placed_as script before before.views) (placed_as script mid mid.views) (shows_less (placed_as script before before.views) (placed_as script mid mid.views) refl (sym same) where_known) (run_tables script.catalog) made.empty;
+  read = read_as (placed_as script before new) (placed_as script mid new) (shows_less (placed_as script before new) (placed_as script mid new) refl refl where_known) script.catalog o made.read;
+  played = λ all. subst (λ (ss : List Counted). IsCorrect script (contents_of_views ss) (contents_of_views new) o) same (made.played (tell_on script before mid same where_known all));
 }
 
 -- what stopped a play
-stops_of : (script : Script) (before mid : Attached) (left : List Counted) (s : Status) → mid.shelves ≡ before.shelves → ((at : ℕ) → before.tells at → mid.tells at) → StopsPlay script mid left s → StopsPlay script before left s
-stops_of script before mid left s same telling h = stops_as before.shelves mid.shelves left _ _ _ _ s same bad found h
+stops_of : (script : Script) (before mid : Attached) (left : List Counted) (s : Status) → mid.views ≡ before.views → ((at : ℕ) → before.known at → mid.known at) → StopsRun script mid left s → StopsRun script before left s
+stops_of script before mid left s same where_known h = stops_as before.views mid.views left _ _ _ _ s same bad found h
   where
     bad : (key : Key) → IsBadFound script mid left key → IsBadFound script before left key
     bad key b = record {
-      odd = odd_as (placed_as script before left) (placed_as script mid left) (shows_less (placed_as script before left) (placed_as script mid left) refl refl telling) script.catalog key b.odd;
-      foreign = λ all. b.foreign (tell_on script before mid same telling all);
+      odd = odd_as (placed_as script before left) (placed_as script mid left) (shows_less (placed_as script before left) (placed_as script mid left) refl refl where_known) script.catalog key b.odd;
+      foreign = λ all. b.foreign (tell_on script before mid same where_known all);
     }
 
     found : (key : Key) → IsFirstFound script mid left key → IsFirstFound script before left key
     found key f = record {
-      found = first_as (placed_as script before before.shelves) (placed_as script mid mid.shelves) (shows_less (placed_as script before before.shelves) (placed_as script mid mid.shelves) refl (sym same) telling) (run_tables script.catalog) key f.found;
-      known = known_from script before mid (placed_as script mid left) same telling f.known;
-      first = λ all. sym (ap (λ (ss : List Counted). first_key (opening_records script.catalog script.places (shown ss))) same) ∙ f.first (tell_on script before mid same telling all);
-      still = λ all. f.still (tell_on script before mid same telling all) ∙ ap shown same;
+      found = first_as (placed_as script before before.views) (placed_as script mid mid.views) (shows_less (placed_as script before before.views) (placed_as script mid mid.views) refl (sym same) where_known) (run_tables script.catalog) key f.found;
+      known = known_from script before mid (placed_as script mid left) same where_known f.known;
+      first = λ all. sym (ap (λ (ss : List Counted). first_key (opening_records script.catalog script.places (contents_of_views ss))) same) ∙ f.first (tell_on script before mid same where_known all);
+      still = λ all. f.still (tell_on script before mid same where_known all) ∙ ap contents_of_views same;
     }
 
 -- The work of a command, begun with the places that there were before.
@@ -259,30 +259,30 @@ abbrev pub begun_with : Attached → Work → Work
 begun_with before work = record { old = before; left = work.left; input = work.input; rest = work.rest }
 
 -- what `replay` answers, and why it answers nothing
-pub replayed_before : (before : Attached) (work : Work) (report : List ℕ) → work.old.shelves ≡ before.shelves → ((at : ℕ) → before.tells at → work.old.tells at) → IsReplayed work report → IsReplayed (begun_with before work) report
-replayed_before before work report same telling h = record {
+pub replayed_before : (before : Attached) (work : Work) (report : List ℕ) → work.old.views ≡ before.views → ((at : ℕ) → before.known at → work.old.known at) → IsReplayed work report → IsReplayed (begun_with before work) report
+replayed_before before work report same where_known h = record {
   script = h.script;
   read = subst (λ (ss : List Counted). IsScriptRead (names_of ss) work.input.bytes work.rest.bytes h.script) same h.read;
   outcome = h.outcome;
-  made = made_of h.script before work.old work.left h.outcome same telling h.made;
+  made = made_of h.script before work.old work.left h.outcome same where_known h.made;
   text = h.text;
-  plain = λ all. h.plain (tell_on h.script before work.old same telling all);
-  only = λ all. h.only (tell_on h.script before work.old same telling all);
+  plain = λ all. h.plain (tell_on h.script before work.old same where_known all);
+  only = λ all. h.only (tell_on h.script before work.old same where_known all);
 }
 
-pub replay_stops_before : (before : Attached) (work : Work) (s : Status) → work.old.shelves ≡ before.shelves → ((at : ℕ) → before.tells at → work.old.tells at) → StopsReplay work s → StopsReplay (begun_with before work) s
-replay_stops_before before work s same telling (Unread unread unchanged) = Unread (subst (λ (ss : List Counted). IsUnread (names_of ss) work.input work.rest s) same unread) (unchanged ∙ same)
-replay_stops_before before work s same telling (Unplayed script read stops) = Unplayed script (subst (λ (ss : List Counted). IsScriptRead (names_of ss) work.input.bytes work.rest.bytes script) same read) (stops_of script before work.old work.left s same telling stops)
+pub replay_stops_before : (before : Attached) (work : Work) (s : Status) → work.old.views ≡ before.views → ((at : ℕ) → before.known at → work.old.known at) → StopsReplay work s → StopsReplay (begun_with before work) s
+replay_stops_before before work s same where_known (Unread unread unchanged) = Unread (subst (λ (ss : List Counted). IsUnread (names_of ss) work.input work.rest s) same unread) (unchanged ∙ same)
+replay_stops_before before work s same where_known (Unplayed script read stops) = Unplayed script (subst (λ (ss : List Counted). IsScriptRead (names_of ss) work.input.bytes work.rest.bytes script) same read) (stops_of script before work.old work.left s same where_known stops)
 
 ---- what `bench` answers, and why it answers nothing
 
-pub benched_before : (before : Attached) (work : Work) (n : ℕ) (answer : List ℕ) → work.old.shelves ≡ before.shelves → ((at : ℕ) → before.tells at → work.old.tells at) → IsBenched n work answer → IsBenched n (begun_with before work) answer
-benched_before before work n answer same telling h = record {
+pub benched_before : (before : Attached) (work : Work) (n : ℕ) (answer : List ℕ) → work.old.views ≡ before.views → ((at : ℕ) → before.known at → work.old.known at) → IsBenched n work answer → IsBenched n (begun_with before work) answer
+benched_before before work n answer same where_known h = record {
   benched = record {
     outcome = h.benched.outcome;
     made = made;
     text = h.benched.text;
-    even = λ all. h.benched.even (subst (λ (s : Script). TellOf s work.old) (sym scripts) (tell_on (script before.shelves) before work.old same telling all));
+    even = λ all. h.benched.even (subst (λ (s : Script). ContentsAreKnown s work.old) (sym scripts) (tell_on (script before.views) before work.old same where_known all));
   };
   unread = h.unread;
 }
@@ -290,15 +290,15 @@ benched_before before work n answer same telling h = record {
     script : List Counted → Script
     script ss = bench_over n (names_of ss)
 
-    scripts : script work.old.shelves ≡ script before.shelves
+    scripts : script work.old.views ≡ script before.views
     scripts = ap script same
 
-    made : IsOutcome (script before.shelves) before work.left h.benched.outcome
-    made = made_of (script before.shelves) before work.old work.left h.benched.outcome same telling (subst (λ (s : Script). IsOutcome s work.old work.left h.benched.outcome) scripts h.benched.made)
+    made : IsReportable (script before.views) before work.left h.benched.outcome
+    made = made_of (script before.views) before work.old work.left h.benched.outcome same where_known (subst (λ (s : Script). IsReportable s work.old work.left h.benched.outcome) scripts h.benched.made)
 
-pub bench_stops_before : (before : Attached) (work : Work) (n : ℕ) (s : Status) → work.old.shelves ≡ before.shelves → ((at : ℕ) → before.tells at → work.old.tells at) → StopsBench n work s → StopsBench n (begun_with before work) s
-bench_stops_before before work n s same telling h = record {
-  cause = stops_of (bench_over n (names_of before.shelves)) before work.old work.left s same telling
-      (subst (λ (ss : List Counted). StopsPlay (bench_over n (names_of ss)) work.old work.left s) same h.cause);
+pub bench_stops_before : (before : Attached) (work : Work) (n : ℕ) (s : Status) → work.old.views ≡ before.views → ((at : ℕ) → before.known at → work.old.known at) → StopsBench n work s → StopsBench n (begun_with before work) s
+bench_stops_before before work n s same where_known h = record {
+  cause = stops_of (bench_over n (names_of before.views)) before work.old work.left s same where_known
+      (subst (λ (ss : List Counted). StopsRun (bench_over n (names_of ss)) work.old work.left s) same h.cause);
   unread = h.unread;
 }

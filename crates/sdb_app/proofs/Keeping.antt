@@ -1,6 +1,6 @@
 -- Stores that are kept, or all but one.
 use Rattle.std.proofs.Common.{◌≡◌, ◌≢◌, ◌∙◌, ℕ, ◌≤◌, ◌+◌, List, refl, sym, ap, subst}
-use Rattle.sdb_stores.specs.Shelf.{Attached, Shelf as Counted, names_of, total_faults}
+use Rattle.sdb_stores.specs.Views.{Attached, StoreView as Counted, names_of, total_faults}
 use Rattle.sdb_words.specs.declared.command.Command.{Command}
 use Rattle.sdb_words.specs.declared.command.Command.TheVariants as command
 use Rattle.sdb_words.specs.Commands.{AreWordsOf}
@@ -29,24 +29,24 @@ pub kept_by : (c : Command) (from to : List ℕ) (old new : Attached) → c ≡ 
 kept_by c from to old new is (Kept h) = Kept h
 kept_by c from to old new is (Dropped name same h) = Dropped name (to, is ∙ ap (λ (n : List ℕ). command.Retire n to) (sym same)) h
 
-but_before : (name : List ℕ) (before mid new : Attached) → mid.shelves ≡ before.shelves → ((at : ℕ) → before.tells at → mid.tells at) → AreKeptBut name mid new → AreKeptBut name before new
-but_before name before mid new same telling h = record {
+but_before : (name : List ℕ) (before mid new : Attached) → mid.views ≡ before.views → ((at : ℕ) → before.known at → mid.known at) → AreKeptBut name mid new → AreKeptBut name before new
+but_before name before mid new same where_known h = record {
   mid = h.mid;
   names = h.names ∙ ap names_of same;
   counted = subst (λ (ss : List Counted). total_faults ss ≤ total_faults h.mid) same h.counted;
   at = h.at;
   found = h.found;
   rest = h.rest;
-  before = λ i inside t. h.before i inside (telling i t);
-  after = λ i most t. h.after i most (telling (i + 1) t);
+  before = λ i inside t. h.before i inside (where_known i t);
+  after = λ i most t. h.after i most (where_known (i + 1) t);
 }
 
 -- words that are those of a command, over stores whose places were taken away first
-pub kept_words : (words : List (List ℕ)) (c : Command) (before mid new : Attached) → mid.shelves ≡ before.shelves → ((at : ℕ) → before.tells at → mid.tells at) → AreWordsOf (names_of mid.shelves) c words → AreKeptOr (Drops c) mid new
-    → AreKeptOr (WordsDrop (names_of before.shelves) words) before new
-kept_words words c before mid new same telling are (Kept h) = Kept (kept_more before mid new (kept_same before mid same telling) h)
-kept_words words c before mid new same telling are (Dropped name drops h) =
-    Dropped name (drops.0, subst (λ (ss : List Counted). AreWordsOf (names_of ss) (command.Retire name drops.0) words) same (subst (λ (x : Command). AreWordsOf (names_of mid.shelves) x words) drops.1 are)) (but_before name before mid new same telling h)
+pub kept_words : (words : List (List ℕ)) (c : Command) (before mid new : Attached) → mid.views ≡ before.views → ((at : ℕ) → before.known at → mid.known at) → AreWordsOf (names_of mid.views) c words → AreKeptOr (Drops c) mid new
+    → AreKeptOr (WordsDrop (names_of before.views) words) before new
+kept_words words c before mid new same where_known are (Kept h) = Kept (kept_more before mid new (kept_same before mid same where_known) h)
+kept_words words c before mid new same where_known are (Dropped name drops h) =
+    Dropped name (drops.0, subst (λ (ss : List Counted). AreWordsOf (names_of ss) (command.Retire name drops.0) words) same (subst (λ (x : Command). AreWordsOf (names_of mid.views) x words) drops.1 are)) (but_before name before mid new same where_known h)
 
 -- Words of a command that answers once.
 pub answers_once : (stores : List (List ℕ)) (c : Command) (words : List (List ℕ)) → AreWordsOf stores c words → c ≢ command.Sql → AnswersOnce stores c

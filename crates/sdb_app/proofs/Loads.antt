@@ -8,10 +8,10 @@ use Rattle.sdb_tables.specs.declared.fault.ExportRefused.{ExportRefused}
 use Rattle.sdb_tables.specs.declared.fault.ExportRefused.TheVariants as refused
 use Rattle.sdb_tables.specs.Ends.{Ends as TableEnds, IsSessionBefore, IsSessionOver}
 use Rattle.sdb_tables.specs.declared.load.Load.{Load}
-use Rattle.sdb_tables.specs.Exports.{IsExport, IsNotExported, IsStarvedExport}
-use Rattle.sdb_tables.specs.Loads.{IsLoad, IsStarvedLoadOf}
+use Rattle.sdb_tables.specs.Exports.{IsExport, IsNotExported, IsExportOutOfMemory}
+use Rattle.sdb_tables.specs.Loads.{IsLoad, IsLoadOfOutOfMemory}
 use Rattle.sdb_stores.specs.declared.place.Place.{Place}
-use Rattle.sdb_stores.specs.Shelf.{Attached, Shelf as Counted, total_faults}
+use Rattle.sdb_stores.specs.Views.{Attached, StoreView as Counted, total_faults}
 use Rattle.sdb_session.specs.Session.{Exchange}
 use Rattle.sdb_app.specs.declared.status.Status.{Status}
 use Rattle.sdb_app.specs.Ends.{Draws, Work}
@@ -24,10 +24,10 @@ use Rattle.sdb_app.proofs.Headline.{begun_with}
 use Rattle.sdb_app.proofs.Sessions.{AreLess, less_before, opened_before, session_less, unopened_before}
 
 -- statements over stores of which less is known
-taken_before : (before : Attached) (work : Work) (d : Draws) (catalog : List Table) (places : List Place) (mid : List Counted) (es : List Exchange) → ((at : ℕ) → before.tells at → work.old.tells at)
+taken_before : (before : Attached) (work : Work) (d : Draws) (catalog : List Table) (places : List Place) (mid : List Counted) (es : List Exchange) → ((at : ℕ) → before.known at → work.old.known at)
     → IsSessionOver catalog (tables_ends work places mid d) es → IsSessionOver catalog (tables_ends (begun_with before work) places mid d) es
-taken_before before work d catalog places mid es telling h =
-    session_less catalog _ _ _ _ d.clock d.clock_then d.ids d.ids_then es (less_before before work places mid telling) (less_before before work places work.left telling) h
+taken_before before work d catalog places mid es where_known h =
+    session_less catalog _ _ _ _ d.clock d.clock_then d.ids d.ids_then es (less_before before work places mid where_known) (less_before before work places work.left where_known) h
 
 -- the same, where memory ran out
 session_before_on : (catalog : List Table) (e : TableEnds) (low high : Attached) (es : List Exchange) → AreLess low e.old → AreLess high e.new → IsSessionBefore catalog e es → IsSessionBefore catalog (record e { old = low; new = high }) es
@@ -35,11 +35,11 @@ session_before_on catalog e low high es o n h = record {
   held = h.held;
   clock_mid = h.clock_mid;
   ids_mid = h.ids_mid;
-  session = session_less catalog e.old (record e.old { shelves = h.held }) low (record low { shelves = h.held }) e.clock h.clock_mid e.ids h.ids_mid es o (record { places = o.places; shelves = refl; telling = o.telling }) h.session;
-  counted = subst (λ (ss : List Counted). total_faults h.held ≤ total_faults ss) n.shelves h.counted;
+  session = session_less catalog e.old (record e.old { views = h.held }) low (record low { views = h.held }) e.clock h.clock_mid e.ids h.ids_mid es o (record { places = o.places; views = refl; where_known = o.where_known }) h.session;
+  counted = subst (λ (ss : List Counted). total_faults h.held ≤ total_faults ss) n.views h.counted;
 }
 
-starved_export : (catalog : List Table) (t : Table) (e : TableEnds) (low high : Attached) → AreLess low e.old → AreLess high e.new → IsStarvedExport catalog t e → IsStarvedExport catalog t (record e { old = low; new = high })
+starved_export : (catalog : List Table) (t : Table) (e : TableEnds) (low high : Attached) → AreLess low e.old → AreLess high e.new → IsExportOutOfMemory catalog t e → IsExportOutOfMemory catalog t (record e { old = low; new = high })
 starved_export catalog t e low high o n h = record {
   front = h.front;
   back = h.back;
@@ -50,8 +50,8 @@ starved_export catalog t e low high o n h = record {
 }
 
 pub starved_on : (catalog : List Table) (t : Table) (m : Mode) (rows : List (List Value)) (size : ℕ) (old new low high : Attached) (clock clock_then : Option (List ℤ)) (ids ids_then : Option (List ℕ)) → AreLess low old → AreLess high new
-    → IsStarvedLoadOf catalog t m rows size (record { old = old; new = new; clock = clock; clock_then = clock_then; ids = ids; ids_then = ids_then }) → IsStarvedLoadOf catalog t m rows size (record { old = low; new = high; clock = clock; clock_then = clock_then; ids = ids; ids_then = ids_then })
-starved_on catalog t m rows size old new low high clock clock_then ids ids_then o n (inl h) = inl (record { stores = sym n.shelves ∙ h.stores ∙ o.shelves; clock = h.clock; ids = h.ids })
+    → IsLoadOfOutOfMemory catalog t m rows size (record { old = old; new = new; clock = clock; clock_then = clock_then; ids = ids; ids_then = ids_then }) → IsLoadOfOutOfMemory catalog t m rows size (record { old = low; new = high; clock = clock; clock_then = clock_then; ids = ids; ids_then = ids_then })
+starved_on catalog t m rows size old new low high clock clock_then ids ids_then o n (inl h) = inl (record { stores = sym n.views ∙ h.stores ∙ o.views; clock = h.clock; ids = h.ids })
 starved_on catalog t m rows size old new low high clock clock_then ids ids_then o n (inr h) = inr (record {
   groups = h.groups;
   rest = h.rest;
@@ -61,24 +61,24 @@ starved_on catalog t m rows size old new low high clock clock_then ids ids_then 
   session = session_before_on catalog (record { old = old; new = new; clock = clock; clock_then = clock_then; ids = ids; ids_then = ids_then }) low high _ o n h.session;
 })
 
-table_before : (before : Attached) (work : Work) (name : TableName) (catalog : List Table) (places : List Place) (mid : List Counted) (t : Table) → work.old.shelves ≡ before.shelves → ((at : ℕ) → before.tells at → work.old.tells at)
+table_before : (before : Attached) (work : Work) (name : TableName) (catalog : List Table) (places : List Place) (mid : List Counted) (t : Table) → work.old.views ≡ before.views → ((at : ℕ) → before.known at → work.old.known at)
     → IsTableOpened name work catalog places mid t → IsTableOpened name (begun_with before work) catalog places mid t
-table_before before work name catalog places mid t same telling h = record { opened = opened_before before work catalog places mid same telling h.opened; found = h.found }
+table_before before work name catalog places mid t same where_known h = record { opened = opened_before before work catalog places mid same where_known h.opened; found = h.found }
 
-untabled_before : (before : Attached) (work : Work) (name : TableName) (s : Status) → work.old.shelves ≡ before.shelves → ((at : ℕ) → before.tells at → work.old.tells at) → IsTableUnopened name work s → IsTableUnopened name (begun_with before work) s
-untabled_before before work name s same telling (Unopened cause h is) = Unopened cause (unopened_before before work cause same telling h) is
-untabled_before before work name s same telling (Unnamed catalog places h none is) = Unnamed catalog places (opened_before before work catalog places work.left same telling h) none is
+untabled_before : (before : Attached) (work : Work) (name : TableName) (s : Status) → work.old.views ≡ before.views → ((at : ℕ) → before.known at → work.old.known at) → IsTableUnopened name work s → IsTableUnopened name (begun_with before work) s
+untabled_before before work name s same where_known (Unopened cause h is) = Unopened cause (unopened_before before work cause same where_known h) is
+untabled_before before work name s same where_known (Unnamed catalog places h none is) = Unnamed catalog places (opened_before before work catalog places work.left same where_known h) none is
 
 ---- `load`
 
-pub loaded_before : (before : Attached) (work : Work) (d : Draws) (name : TableName) (m : Mode) (n : ℕ) (text : List ℕ) → work.old.shelves ≡ before.shelves → ((at : ℕ) → before.tells at → work.old.tells at) → IsLoaded name m n work d text → IsLoaded name m n (begun_with before work) d text
-loaded_before before work d name m n text same telling h = record {
+pub loaded_before : (before : Attached) (work : Work) (d : Draws) (name : TableName) (m : Mode) (n : ℕ) (text : List ℕ) → work.old.views ≡ before.views → ((at : ℕ) → before.known at → work.old.known at) → IsLoaded name m n work d text → IsLoaded name m n (begun_with before work) d text
+loaded_before before work d name m n text same where_known h = record {
   catalog = h.catalog;
   places = h.places;
   mid = h.mid;
   table = h.table;
   rows = h.rows;
-  opened = table_before before work name h.catalog h.places h.mid h.table same telling h.opened;
+  opened = table_before before work name h.catalog h.places h.mid h.table same where_known h.opened;
   read = h.read;
   loaded = record {
     groups = h.loaded.groups;
@@ -86,54 +86,54 @@ loaded_before before work d name m n text same telling h = record {
     sizes = h.loaded.sizes;
     each = h.loaded.each;
     lines = h.loaded.lines;
-    session = taken_before before work d h.catalog h.places h.mid _ telling h.loaded.session;
+    session = taken_before before work d h.catalog h.places h.mid _ where_known h.loaded.session;
   };
 }
 
-pub load_stops_before : (before : Attached) (work : Work) (d : Draws) (name : TableName) (m : Mode) (n : ℕ) (s : Status) → work.old.shelves ≡ before.shelves → ((at : ℕ) → before.tells at → work.old.tells at) → StopsLoad name m n work d s → StopsLoad name m n (begun_with before work) d s
-load_stops_before before work d name m n s same telling (Untabled h unread undrawn) = Untabled (untabled_before before work name s same telling h) unread undrawn
-load_stops_before before work d name m n s same telling (Unread catalog places t h unread undrawn) = Unread catalog places t (table_before before work name catalog places work.left t same telling h) unread undrawn
-load_stops_before before work d name m n s same telling (Starved catalog places mid t rows h read starved is) =
-    Starved catalog places mid t rows (table_before before work name catalog places mid t same telling h) read
-    (starved_on catalog t m rows n _ _ _ _ d.clock d.clock_then d.ids d.ids_then (less_before before work places mid telling) (less_before before work places work.left telling) starved) is
+pub load_stops_before : (before : Attached) (work : Work) (d : Draws) (name : TableName) (m : Mode) (n : ℕ) (s : Status) → work.old.views ≡ before.views → ((at : ℕ) → before.known at → work.old.known at) → StopsLoad name m n work d s → StopsLoad name m n (begun_with before work) d s
+load_stops_before before work d name m n s same where_known (Untabled h unread undrawn) = Untabled (untabled_before before work name s same where_known h) unread undrawn
+load_stops_before before work d name m n s same where_known (Unread catalog places t h unread undrawn) = Unread catalog places t (table_before before work name catalog places work.left t same where_known h) unread undrawn
+load_stops_before before work d name m n s same where_known (Starved catalog places mid t rows h read out_of_memory is) =
+    Starved catalog places mid t rows (table_before before work name catalog places mid t same where_known h) read
+    (starved_on catalog t m rows n _ _ _ _ d.clock d.clock_then d.ids d.ids_then (less_before before work places mid where_known) (less_before before work places work.left where_known) out_of_memory) is
 
 ---- `export`
 
-pub exported_before : (before : Attached) (work : Work) (d : Draws) (name : TableName) (text : List ℕ) → work.old.shelves ≡ before.shelves → ((at : ℕ) → before.tells at → work.old.tells at) → IsExported name work d text → IsExported name (begun_with before work) d text
-exported_before before work d name text same telling h = record {
+pub exported_before : (before : Attached) (work : Work) (d : Draws) (name : TableName) (text : List ℕ) → work.old.views ≡ before.views → ((at : ℕ) → before.known at → work.old.known at) → IsExported name work d text → IsExported name (begun_with before work) d text
+exported_before before work d name text same where_known h = record {
   catalog = h.catalog;
   places = h.places;
   mid = h.mid;
   table = h.table;
-  opened = table_before before work name h.catalog h.places h.mid h.table same telling h.opened;
+  opened = table_before before work name h.catalog h.places h.mid h.table same where_known h.opened;
   exported = record {
     begin = h.exported.begin;
     select = h.exported.select;
     commit = h.exported.commit;
     taken = h.exported.taken;
     shown = h.exported.shown;
-    session = taken_before before work d h.catalog h.places h.mid _ telling h.exported.session;
+    session = taken_before before work d h.catalog h.places h.mid _ where_known h.exported.session;
   };
   unread = h.unread;
 }
 
-not_before : (before : Attached) (work : Work) (d : Draws) (catalog : List Table) (places : List Place) (mid : List Counted) (t : Table) (cause : ExportRefused) → ((at : ℕ) → before.tells at → work.old.tells at)
+not_before : (before : Attached) (work : Work) (d : Draws) (catalog : List Table) (places : List Place) (mid : List Counted) (t : Table) (cause : ExportRefused) → ((at : ℕ) → before.known at → work.old.known at)
     → IsNotExported catalog t (tables_ends work places mid d) cause → IsNotExported catalog t (tables_ends (begun_with before work) places mid d) cause
-not_before before work d catalog places mid t refused.NoMemory telling h = starved_export catalog t _ _ _ (less_before before work places mid telling) (less_before before work places work.left telling) h
-not_before before work d catalog places mid t (refused.NotCommitted a) telling h = (
+not_before before work d catalog places mid t refused.NoMemory where_known h = starved_export catalog t _ _ _ (less_before before work places mid where_known) (less_before before work places work.left where_known) h
+not_before before work d catalog places mid t (refused.NotCommitted a) where_known h = (
   h.0,
   record {
     es = h.1.es;
     last = h.1.last;
     cut = h.1.cut;
-    session = taken_before before work d catalog places mid _ telling h.1.session;
+    session = taken_before before work d catalog places mid _ where_known h.1.session;
   },
 )
 
-pub export_stops_before : (before : Attached) (work : Work) (d : Draws) (name : TableName) (s : Status) → work.old.shelves ≡ before.shelves → ((at : ℕ) → before.tells at → work.old.tells at) → StopsExport name work d s → StopsExport name (begun_with before work) d s
-export_stops_before before work d name s same telling (NoTable h undrawn unread) = NoTable (untabled_before before work name s same telling h) undrawn unread
-export_stops_before before work d name s same telling (Unexported catalog places mid t cause h not is unread) =
-    Unexported catalog places mid t cause (table_before before work name catalog places mid t same telling h) (not_before before work d catalog places mid t cause telling not) is unread
+pub export_stops_before : (before : Attached) (work : Work) (d : Draws) (name : TableName) (s : Status) → work.old.views ≡ before.views → ((at : ℕ) → before.known at → work.old.known at) → StopsExport name work d s → StopsExport name (begun_with before work) d s
+export_stops_before before work d name s same where_known (NoTable h undrawn unread) = NoTable (untabled_before before work name s same where_known h) undrawn unread
+export_stops_before before work d name s same where_known (Unexported catalog places mid t cause h not is unread) =
+    Unexported catalog places mid t cause (table_before before work name catalog places mid t same where_known h) (not_before before work d catalog places mid t cause where_known not) is unread
 
 ---- what was made over stores of which more is known
 

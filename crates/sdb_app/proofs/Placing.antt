@@ -9,17 +9,17 @@ use Rattle.std.proofs.lemmas.Option.{slice_get_within, get_or_from_slice_get}
 use Rattle.std.proofs.lemmas.Slice.Eq.{bytes_eq-Decides}
 use Rattle.sdb_types.specs.declared.key.TableName.{TableName}
 use Rattle.sdb_schema.specs.declared.table.Table.{Table}
-use Rattle.sdb_stores.specs.Shelf.{Attached, Shelf as Counted, AreDistinct, home, names_of, place_of, placed_on}
+use Rattle.sdb_stores.specs.Views.{Attached, StoreView as Counted, AreDistinct, home, names_of, place_of, route_of}
 use Rattle.sdb_stores.specs.declared.place.Place.{Place}
 use Rattle.sdb_stores.proofs.Distinct.{apart}
 use Rattle.sdb_model.specs.Rows.{Name}
 use Rattle.sdb_model.specs.Events.{store_of}
-use Rattle.sdb_board.specs.Board.{AreFit, shown}
+use Rattle.sdb_board.specs.Board.{AreUsable, contents_of_views}
 use Rattle.sdb_board.proofs.Shelves.{named_home}
 use Rattle.sdb_app.specs.Run.{CanBePlaced}
 use Rattle.sdb_types.proofs.Basics.{by_test, none_some, some_is}
 use Rattle.sdb_board.proofs.Lists.{take_suc}
-use Rattle.sdb_model.specs.Tables.{is_played}
+use Rattle.sdb_model.specs.Tables.{is_table_of_run}
 
 ---- the stores of places
 
@@ -36,7 +36,7 @@ attached_at names places i p h e =
     let here : get_or places i p ≡ p = get_or_from_slice_get places i p p e in
     contained p.store names (subst (λ (x : Place). Contains names x.store) here (h.attached i p (slice_get_within places i p e)))
 
-homed_by : (ps : List Place) (names : List Name) → ((k : ℕ) (p : Place) → slice_get ps k ≡ Some p → IsSome (place_of p.store names)) → (ns : Name) → IfSome (placed_on ns ps) (λ store. IsSome (place_of store names))
+homed_by : (ps : List Place) (names : List Name) → ((k : ℕ) (p : Place) → slice_get ps k ≡ Some p → IsSome (place_of p.store names)) → (ns : Name) → IfSome (route_of ns ps) (λ store. IsSome (place_of store names))
 homed_by [] names h ns = tt
 homed_by (p ∷ ps) names h ns =
     by_test (bytes_eq p.ns ns)
@@ -50,26 +50,26 @@ named_there (s ∷ ss) (suc at) name e = named_there ss at name e
 
 -- what a script's stores are to tell, at the places that it has
 abbrev pub Tell : List Table → List Place → Attached → Type 0
-Tell catalog places stores = (at : ℕ) (store : Counted) (table : TableName) → slice_get stores.shelves at ≡ Some store → is_played catalog table ≡ true → store_of places (shown stores.shelves) table.ns ≡ store.name → stores.tells at
+Tell catalog places stores = (at : ℕ) (store : Counted) (table : TableName) → slice_get stores.views at ≡ Some store → is_table_of_run catalog table ≡ true → store_of places (contents_of_views stores.views) table.ns ≡ store.name → stores.known at
 
 -- stores whose tables tell are fit for a run with the places of a script
-pub fit_for : (catalog : List Table) (places : List Place) (stores : Attached) → stores.places ≡ places → CanBePlaced (names_of stores.shelves) places → 0 < length stores.shelves → AreDistinct (names_of stores.shelves) → Tell catalog places stores → AreFit catalog stores
-fit_for catalog places stores same h some distinct telling =
+pub fit_for : (catalog : List Table) (places : List Place) (stores : Attached) → stores.places ≡ places → CanBePlaced (names_of stores.views) places → 0 < length stores.views → AreDistinct (names_of stores.views) → Tell catalog places stores → AreUsable catalog stores
+fit_for catalog places stores same h some distinct where_known =
     let ps = stores.places in
-    let shelves = stores.shelves in
+    let shelves = stores.views in
     let homed = homed_by ps (names_of shelves) (λ k p e. attached_at (names_of shelves) places k p h (ap (λ (xs : List Place). slice_get xs k) (sym same) ∙ e)) in
     record {
       some = some;
       distinct = distinct;
       homed = homed;
-      telling = λ table about.
-          let there = named_there shelves (home table.ns ps (names_of shelves)) (store_of ps (shown shelves) table.ns) (named_home ps shelves table.ns some (homed table.ns)) in
-          telling (home table.ns ps (names_of shelves)) there.0 table there.1 about (sym (ap (λ (xs : List Place). store_of xs (shown shelves) table.ns) same) ∙ sym there.2);
+      where_known = λ table about.
+          let there = named_there shelves (home table.ns ps (names_of shelves)) (store_of ps (contents_of_views shelves) table.ns) (named_home ps shelves table.ns some (homed table.ns)) in
+          where_known (home table.ns ps (names_of shelves)) there.0 table there.1 about (sym (ap (λ (xs : List Place). store_of xs (contents_of_views shelves) table.ns) same) ∙ sym there.2);
     }
 
 ---- one place more
 
-free_by : (ps : List Place) (ns : Name) → ((k : ℕ) (p : Place) → slice_get ps k ≡ Some p → p.ns ≢ ns) → placed_on ns ps ≡ None
+free_by : (ps : List Place) (ns : Name) → ((k : ℕ) (p : Place) → slice_get ps k ≡ Some p → p.ns ≢ ns) → route_of ns ps ≡ None
 free_by [] ns h = refl
 free_by (p ∷ ps) ns h =
     by_test (bytes_eq p.ns ns)
@@ -95,7 +95,7 @@ name_within (q ∷ qs) zero p e = omega arith
 name_within (q ∷ qs) (suc k) p e = let h = name_within qs k p e in omega arith
 
 -- the next namespace has no place yet
-pub free_at : (ps : List Place) (names : List Name) (places : List Place) (i : ℕ) (p : Place) → CanBePlaced names places → ps ≡ take i places → slice_get places i ≡ Some p → placed_on p.ns ps ≡ None
+pub free_at : (ps : List Place) (names : List Name) (places : List Place) (i : ℕ) (p : Place) → CanBePlaced names places → ps ≡ take i places → slice_get places i ≡ Some p → route_of p.ns ps ≡ None
 free_at ps names places i p h same here =
     free_by ps p.ns (λ k q e.
     let t = taken_at places i k q (ap (λ (xs : List Place). slice_get xs k) (sym same) ∙ e) in

@@ -2,16 +2,16 @@
 use Rattle.std.proofs.Common.{◌≡◌, ◌∙◌, List, [], ◌++◌, Result, Ok, Err, IfErr, IfOk, refl, sym, ap, subst}
 use Rattle.std.specs.FinMap.{empty}
 use Rattle.sdb_types.specs.declared.key.Key.{Key}
-use Rattle.sdb_stores.specs.Shelf.{Attached}
+use Rattle.sdb_stores.specs.Views.{Attached}
 use Rattle.sdb_model.specs.declared.event.Event.{Event}
 use Rattle.sdb_model.specs.declared.event.Outcome.{Outcome}
 use Rattle.sdb_stores.specs.declared.place.Place.{Place}
 use Rattle.sdb_model.specs.declared.script.Script.{Script}
-use Rattle.sdb_model.specs.Events.{IsTrace, Shelf}
-use Rattle.sdb_model.specs.Follows.{AreMoved, Follows}
-use Rattle.sdb_model.specs.Told.{IsRun}
+use Rattle.sdb_model.specs.Events.{IsTrace, StoreContents}
+use Rattle.sdb_model.specs.Follows.{AreOfMoves, Follows}
+use Rattle.sdb_model.specs.Serial.{IsRun}
 use Rattle.sdb_spread.specs.Spread.{HoldAs}
-use Rattle.sdb_board.specs.Board.{AreFit, GoOn, Refuses, known_before, shown}
+use Rattle.sdb_board.specs.Board.{AreUsable, GoOn, Refuses, known_before, contents_of_views}
 use Rattle.sdb_board.specs.declared.refused.CallRefused.{CallRefused}
 use Rattle.sdb_board.specs.declared.refused.CallRefused.TheVariants as call
 use Rattle.sdb_dump.specs.Refused.{Refuses as ClosingRefuses}
@@ -21,19 +21,19 @@ use Rattle.sdb_world.specs.Broken.{BreaksWithin}
 use Rattle.sdb_world.specs.Explained.{IsExplained}
 use Rattle.sdb_executions.specs.World.{WorldAt, state_of}
 use Rattle.sdb_execution.specs.Execution.{IsExecution, IsInitial}
-use Rattle.sdb_world.specs.Played.{HasNotPlayed, HasPlayed, HasPlayedOn, IsOutcomeOf, IsPlayExplained, IsReadWhereKnown}
+use Rattle.sdb_world.specs.Ran.{HasNotRun, HasRun, HasRunOn, IsOutcomeOf, IsRunExplained, IsReadWhereKnown}
 use Rattle.sdb_dump.specs.Held.{IsOddIn}
 use Rattle.sdb_app.proofs.WhereKnown.{ShowsAs, odd_as, read_as, shows_less}
 use Rattle.sdb_world.specs.Step.{HasFollowed}
 use Rattle.sdb_world.proofs.Broken.{breaks_more, breaks_still}
 use Rattle.sdb_app.specs.Run.{AreReady, Stops, status_of_call, status_of_closing}
-use Rattle.sdb_stores.specs.Shelf.{HaveRisen}
+use Rattle.sdb_stores.specs.Views.{HaveRisen}
 
 pub has_followed : (old new : Attached) (script : Script) (w v : WorldAt) → w.script ≡ script → w.events ≡ [] → HasFollowed old new w v → Follows script v.events
 has_followed old new script w v same none came =
     let all : v.events ≡ came.es = came.gone.events ∙ ap (λ (xs : List Event). xs ++ came.es) none in
     subst (λ (xs : List Event). Follows script xs) (sym all)
-    (subst (λ (s : Script). AreMoved s.clients s.moves [] came.es) same (subst (λ (xs : List Event). AreMoved w.script.clients w.script.moves xs came.es) none came.so))
+    (subst (λ (s : Script). AreOfMoves s.clients s.moves [] came.es) same (subst (λ (xs : List Event). AreOfMoves w.script.clients w.script.moves xs came.es) none came.so))
 
 -- they are an execution of its clients
 pub executed_played : (old new : Attached) (script : Script) (w v : WorldAt) → w.script ≡ script → w.events ≡ [] → IsInitial w.script (state_of w) → HasFollowed old new w v → (events : List Event) → events ≡ v.events → IsExecution script events
@@ -42,13 +42,13 @@ executed_played old new script w v same none initial came events is =
     subst (λ (xs : List Event). IsExecution script xs) (sym (is ∙ all))
     (subst (λ (s : Script). IsExecution s came.es) same (record { first = state_of w; last = state_of v; initial = initial; path = came.gone.executed }))
 
-has_played : (old new : Attached) (script : Script) (w v : WorldAt) → w.script ≡ script → w.events ≡ [] → IsInitial w.script (state_of w) → HasFollowed old new w v → AreReady script old → HasPlayed v (shown old.shelves) (shown new.shelves)
+has_played : (old new : Attached) (script : Script) (w v : WorldAt) → w.script ≡ script → w.events ≡ [] → IsInitial w.script (state_of w) → HasFollowed old new w v → AreReady script old → HasRun v (contents_of_views old.views) (contents_of_views new.views)
 has_played old new script w v same none initial came ready =
-    let before : List Shelf = shown old.shelves in
-    let now : List Shelf = shown new.shelves in
+    let before : List StoreContents = contents_of_views old.views in
+    let now : List StoreContents = contents_of_views new.views in
     let vs : v.script ≡ script = came.gone.script ∙ same in
     let all : v.events ≡ came.es = came.gone.events ∙ ap (λ (xs : List Event). xs ++ came.es) none in
-    let made = came.gone.traced (subst (λ (s : Script). AreFit s.catalog old) (sym same) ready.fit) in
+    let made = came.gone.traced (subst (λ (s : Script). AreUsable s.catalog old) (sym same) ready.fit) in
     record {
       executed = subst (λ (s : Script). IsExecution s v.events) (sym vs) (executed_played old new script w v same none initial came v.events refl);
       follows = subst (λ (s : Script). Follows s v.events) (sym vs) (has_followed old new script w v same none came);
@@ -62,24 +62,24 @@ module _ (script : Script) (w v : WorldAt) (old mid : Attached) (same : w.script
   vs = came.gone.script ∙ same
 
   -- it has played its script
-  played : AreReady script old → HasPlayedOn v (shown old.shelves) mid
+  played : AreReady script old → HasRunOn v (contents_of_views old.views) mid
   played ready = record {
-    fit = goes.fit v.script.catalog (subst (λ (s : Script). AreFit s.catalog old) (sym vs) ready.fit);
+    fit = goes.fit v.script.catalog (subst (λ (s : Script). AreUsable s.catalog old) (sym vs) ready.fit);
     as_placed = goes.places ∙ ready.placed_so ∙ ap (λ (s : Script). s.places) (sym vs);
     played = has_played old mid script w v same none initial came ready;
   }
 
   -- its outcome is that of a run
-  pub run_played : (new : Attached) (o : Outcome) → IsOutcomeOf v mid new o → AreReady script old → IsRun script (shown old.shelves) (shown new.shelves) o
-  run_played new o out ready = subst (λ (s : Script). IsRun s (shown old.shelves) (shown new.shelves) o) vs (out (shown old.shelves) (played ready))
+  pub run_played : (new : Attached) (o : Outcome) → IsOutcomeOf v mid new o → AreReady script old → IsRun script (contents_of_views old.views) (contents_of_views new.views) o
+  run_played new o out ready = subst (λ (s : Script). IsRun s (contents_of_views old.views) (contents_of_views new.views) o) vs (out (contents_of_views old.views) (played ready))
 
   -- what was there at each moment is explained by its events
-  pub explained_played : (events : List Event) → IsPlayExplained v mid events → AreReady script old → IsExplained script events (shown old.shelves)
-  explained_played events out ready = subst (λ (s : Script). IsExplained s events (shown old.shelves)) vs (out (shown old.shelves) (played ready).played)
+  pub explained_played : (events : List Event) → IsRunExplained v mid events → AreReady script old → IsExplained script events (contents_of_views old.views)
+  explained_played events out ready = subst (λ (s : Script). IsExplained s events (contents_of_views old.views)) vs (out (contents_of_views old.views) (played ready).played)
 
   -- and there is one
-  pub none_played : HasNotPlayed v mid → AreReady script old → ⊥
-  none_played never ready = never (shown old.shelves) (played ready)
+  pub none_played : HasNotRun v mid → AreReady script old → ⊥
+  none_played never ready = never (contents_of_views old.views) (played ready)
 
 -- What it has read in the end, and a record that was bad then, seen from its beginning.
 module _ (script : Script) (w v : WorldAt) (old mid : Attached) (same : w.script ≡ script) (came : HasFollowed old mid w v) (goes : GoOn old mid) (new : Attached) where
@@ -87,7 +87,7 @@ module _ (script : Script) (w v : WorldAt) (old mid : Attached) (same : w.script
   script_is = came.gone.script ∙ same
 
   seen : ShowsAs (known_before old new) (known_before mid new)
-  seen = shows_less (known_before old new) (known_before mid new) refl refl goes.telling
+  seen = shows_less (known_before old new) (known_before mid new) refl refl goes.where_known
 
   pub read_played : (o : Outcome) → IsReadWhereKnown v.script.catalog (known_before mid new) o → IsReadWhereKnown script.catalog (known_before old new) o
   read_played o h = read_as (known_before old new) (known_before mid new) seen script.catalog o (subst (λ (s : Script). IsReadWhereKnown s.catalog (known_before mid new) o) script_is h)
@@ -96,10 +96,10 @@ module _ (script : Script) (w v : WorldAt) (old mid : Attached) (same : w.script
   odd_played key h = odd_as (known_before old new) (known_before mid new) seen script.catalog key (subst (λ (s : Script). IsOddIn s.catalog (known_before mid new) key) script_is h)
 
 -- no more of its calls are Broken than the stores failed
-pub broken_played : (w v : WorldAt) (old mid new : Attached) (events : List Event) → w.events ≡ [] → BreaksWithin w.events v.events old.shelves mid.shelves → GoOn mid new → events ≡ v.events → BreaksWithin [] events old.shelves new.shelves
+pub broken_played : (w v : WorldAt) (old mid new : Attached) (events : List Event) → w.events ≡ [] → BreaksWithin w.events v.events old.views mid.views → GoOn mid new → events ≡ v.events → BreaksWithin [] events old.views new.views
 broken_played w v old mid new events none h goes is =
-    subst (λ (xs : List Event). BreaksWithin [] xs old.shelves new.shelves) (sym is)
-    (subst (λ (xs : List Event). BreaksWithin xs v.events old.shelves new.shelves) none (breaks_more w.events v.events v.events old mid new h goes (breaks_still v.events mid new goes)))
+    subst (λ (xs : List Event). BreaksWithin [] xs old.views new.views) (sym is)
+    (subst (λ (xs : List Event). BreaksWithin xs v.events old.views new.views) none (breaks_more w.events v.events v.events old mid new h goes (breaks_still v.events mid new goes)))
 
 ---- what is so of a result
 
@@ -123,11 +123,11 @@ ok_seven A B C D F H K Q (Err e) a b c d f h k g = tt
 
 ---- why it stopped
 
-pub call_stops : (old new : Attached) (foreign found : Key → Type 0) (e : CallRefused) → Refuses old.shelves new.shelves e → Stops old.shelves new.shelves foreign found (status_of_call e)
+pub call_stops : (old new : Attached) (foreign found : Key → Type 0) (e : CallRefused) → Refuses old.views new.views e → Stops old.views new.views foreign found (status_of_call e)
 call_stops old new foreign found call.StoreFault h = h
 call_stops old new foreign found call.NoMemory h = tt
 
-pub closing_stops : (old new : Attached) (bad found foreign : Key → Type 0) (e : ClosingRefused) → ((key : Key) → bad key → foreign key) → ClosingRefuses bad (HaveRisen old.shelves new.shelves) e → Stops old.shelves new.shelves foreign found (status_of_closing e)
+pub closing_stops : (old new : Attached) (bad found foreign : Key → Type 0) (e : ClosingRefused) → ((key : Key) → bad key → foreign key) → ClosingRefuses bad (HaveRisen old.views new.views) e → Stops old.views new.views foreign found (status_of_closing e)
 closing_stops old new bad found foreign closing.StoreFault f h = h
 closing_stops old new bad found foreign (closing.BadRecord key) f h = f key h
 closing_stops old new bad found foreign closing.NoMemory f h = tt

@@ -1,6 +1,6 @@
 -- What a command promises of its work, begun with the places that there were before.
 use Rattle.std.proofs.Common.{◌≡◌, ◌∙◌, ℕ, List, refl, subst}
-use Rattle.sdb_stores.specs.Shelf.{Attached, Shelf as Counted, names_of}
+use Rattle.sdb_stores.specs.Views.{Attached, StoreView as Counted, names_of}
 use Rattle.sdb_words.specs.declared.command.Command.{Command}
 use Rattle.sdb_words.specs.declared.command.Command.TheVariants as command
 use Rattle.sdb_words.specs.Commands.{AreWordsOf}
@@ -18,17 +18,17 @@ use Rattle.sdb_app.proofs.Loads.{export_stops_before, exported_before, load_stop
 
 -- The work of a command began with the same stores, of which no fewer had known contents.
 pub record BeginsAs (before : Attached) (work : Work) : Type 0 where
-  pub same : work.old.shelves ≡ before.shelves
-  pub telling : (at : ℕ) → before.tells at → work.old.tells at
+  pub same : work.old.views ≡ before.views
+  pub where_known : (at : ℕ) → before.known at → work.old.known at
 
 pub answers_before : (before : Attached) (work : Work) (d : Draws) → BeginsAs before work → (c : Command) (text : List ℕ) → (promise_of c work d).answers text → (promise_of c (begun_with before work) d).answers text
-answers_before before work d b command.Replay text h = (replayed_before before work text b.same b.telling h.0, h.1)
-answers_before before work d b (command.Bench n) text h = (benched_before before work n text b.same b.telling h.0, h.1)
-answers_before before work d b (command.Schema places) text h = (schema_kept_before before work places text b.same b.telling h.0, h.1)
+answers_before before work d b command.Replay text h = (replayed_before before work text b.same b.where_known h.0, h.1)
+answers_before before work d b (command.Bench n) text h = (benched_before before work n text b.same b.where_known h.0, h.1)
+answers_before before work d b (command.Schema places) text h = (schema_kept_before before work places text b.same b.where_known h.0, h.1)
 answers_before before work d b command.Sql text h = absurd h
-answers_before before work d b (command.Load table mode n) text h = loaded_before before work d table mode n text b.same b.telling h
-answers_before before work d b (command.Export table) text h = exported_before before work d table text b.same b.telling h
-answers_before before work d b (command.Retire from to) text h = (retired_before before work (record { from = from; to = to }) text b.same b.telling h.0, h.1)
+answers_before before work d b (command.Load table mode n) text h = loaded_before before work d table mode n text b.same b.where_known h
+answers_before before work d b (command.Export table) text h = exported_before before work d table text b.same b.where_known h
+answers_before before work d b (command.Retire from to) text h = (retired_before before work (record { from = from; to = to }) text b.same b.where_known h.0, h.1)
 answers_before before work d b (command.Alter table column kind) text h = absurd h.0
 answers_before before work d b command.Audit text h = absurd h.0
 
@@ -36,13 +36,13 @@ not_there_before : (before : Attached) (work : Work) → BeginsAs before work �
 not_there_before before work b s h = (h.0, h.1 ∙ b.same, h.2)
 
 pub stops_before : (before : Attached) (work : Work) (d : Draws) → BeginsAs before work → (c : Command) (s : Status) → (promise_of c work d).stops s → (promise_of c (begun_with before work) d).stops s
-stops_before before work d b command.Replay s h = (replay_stops_before before work s b.same b.telling h.0, h.1)
-stops_before before work d b (command.Bench n) s h = (bench_stops_before before work n s b.same b.telling h.0, h.1)
-stops_before before work d b (command.Schema places) s h = (schema_stops_before before work places s b.same b.telling h.0, h.1)
+stops_before before work d b command.Replay s h = (replay_stops_before before work s b.same b.where_known h.0, h.1)
+stops_before before work d b (command.Bench n) s h = (bench_stops_before before work n s b.same b.where_known h.0, h.1)
+stops_before before work d b (command.Schema places) s h = (schema_stops_before before work places s b.same b.where_known h.0, h.1)
 stops_before before work d b command.Sql s h = absurd h
-stops_before before work d b (command.Load table mode n) s h = load_stops_before before work d table mode n s b.same b.telling h
-stops_before before work d b (command.Export table) s h = export_stops_before before work d table s b.same b.telling h
-stops_before before work d b (command.Retire from to) s h = (retire_stops_before before work (record { from = from; to = to }) s b.same b.telling h.0, h.1)
+stops_before before work d b (command.Load table mode n) s h = load_stops_before before work d table mode n s b.same b.where_known h
+stops_before before work d b (command.Export table) s h = export_stops_before before work d table s b.same b.where_known h
+stops_before before work d b (command.Retire from to) s h = (retire_stops_before before work (record { from = from; to = to }) s b.same b.where_known h.0, h.1)
 stops_before before work d b (command.Alter table column kind) s h = (not_there_before before work b s h.0, h.1)
 stops_before before work d b command.Audit s h = (not_there_before before work b s h.0, h.1)
 
@@ -56,7 +56,7 @@ ends_with before run = record run { work = begun_with before run.work }
 
 as_before : (before : Attached) (run : Ends) → BeginsAs before run.work → (c : Command) (s : Status) → EndsAs c run s → EndsAs c (ends_with before run) s
 as_before before run b c s (Once h) = Once (once_before before run.work (draws_of run) b c run.output run.written s h)
-as_before before run b c s (Session is h) = Session is (session_before before run (ends_with before run) s b.same b.telling refl h)
+as_before before run b c s (Session is h) = Session is (session_before before run (ends_with before run) s b.same b.where_known refl h)
 
 pub ended_before : (words : List (List ℕ)) (before : Attached) (run : Ends) → BeginsAs before run.work → (s : Status) → HasEnded words run s → HasEnded words (ends_with before run) s
 ended_before words before run b s (OfCommand c are h) =

@@ -1,6 +1,6 @@
 -- What a call of the program begins with and ends with.
 use Rattle.std.specs.Prelude.{◌≡◌, ℕ, ℤ, ◌<◌, ◌≤◌, ◌+◌, List, Option, Some, remove}
-use Rattle.sdb_stores.specs.Shelf.{Attached, Shelf as Counted, names_of, place_of, total_faults}
+use Rattle.sdb_stores.specs.Views.{Attached, StoreView as Counted, names_of, place_of, total_faults}
 
 -- Bytes, where they are known, and how often a call for them has failed.
 pub record Stream : Type 0 where
@@ -18,11 +18,11 @@ pub record Work : Type 1 where
   pub rest : Stream
 
 abbrev pub work_of : {S R : Type 0} → (S → Attached) → (R → Stream) → S → S → R → R → Work
-work_of state input s0 s1 r0 r1 = record { old = state s0; left = (state s1).shelves; input = input r0; rest = input r1 }
+work_of state input s0 s1 r0 r1 = record { old = state s0; left = (state s1).views; input = input r0; rest = input r1 }
 
 -- work on stores that showed this before it and show that after it, of whose input nothing was read
 abbrev pub work_on : Attached → Attached → Stream → Work
-work_on old new input = record { old = old; left = new.shelves; input = input; rest = input }
+work_on old new input = record { old = old; left = new.views; input = input; rest = input }
 
 -- The answers that a clock and ids gave before a call and after it, where they are known.
 pub record Draws : Type 0 where
@@ -71,20 +71,20 @@ ends v s0 s1 r0 r1 w0 w1 c0 c1 i0 i1 =
 
 -- The stores are those that were attached, in their order, no count of failures falls, and known contents stay known.
 pub record AreKept (old new : Attached) : Type 0 where
-  pub names : names_of new.shelves ≡ names_of old.shelves
-  pub counted : total_faults old.shelves ≤ total_faults new.shelves
-  pub telling : (at : ℕ) → old.tells at → new.tells at
+  pub names : names_of new.views ≡ names_of old.views
+  pub counted : total_faults old.views ≤ total_faults new.views
+  pub where_known : (at : ℕ) → old.known at → new.known at
 
 -- The stores were kept, and then the one of that name was dropped. The others stay in their order, and known contents stay known.
 pub record AreKeptBut (name : List ℕ) (old new : Attached) : Type 0 where
   pub mid : List Counted
-  pub names : names_of mid ≡ names_of old.shelves
-  pub counted : total_faults old.shelves ≤ total_faults mid
+  pub names : names_of mid ≡ names_of old.views
+  pub counted : total_faults old.views ≤ total_faults mid
   pub at : ℕ
   pub found : place_of name (names_of mid) ≡ Some at
-  pub rest : new.shelves ≡ remove mid at
-  pub before : (i : ℕ) → i < at → old.tells i → new.tells i
-  pub after : (i : ℕ) → at ≤ i → old.tells (i + 1) → new.tells i
+  pub rest : new.views ≡ remove mid at
+  pub before : (i : ℕ) → i < at → old.known i → new.known i
+  pub after : (i : ℕ) → at ≤ i → old.known (i + 1) → new.known i
 
 -- The stores are kept, or all but one that may be dropped.
 pub data AreKeptOr (may_drop : List ℕ → Type 0) (old new : Attached) : Type 0 where
@@ -93,4 +93,4 @@ pub data AreKeptOr (may_drop : List ℕ → Type 0) (old new : Attached) : Type 
 
 -- No command has changed what the stores hold.
 abbrev pub AreUnchanged : Work → Type 0
-AreUnchanged work = work.left ≡ work.old.shelves
+AreUnchanged work = work.left ≡ work.old.views

@@ -9,10 +9,10 @@ use Rattle.sdb_data.specs.declared.fault.CsvFault.{CsvFault}
 use Rattle.sdb_data.specs.declared.fault.Mode.{Mode}
 use Rattle.sdb_data.specs.Tables.{table_in}
 use Rattle.sdb_tables.specs.Ends.{Ends as TableEnds}
-use Rattle.sdb_tables.specs.Loads.{IsLoad, IsStarvedLoadOf}
+use Rattle.sdb_tables.specs.Loads.{IsLoad, IsLoadOfOutOfMemory}
 use Rattle.sdb_tables.specs.Statements.{load_of, rows_after}
 use Rattle.sdb_stores.specs.declared.place.Place.{Place}
-use Rattle.sdb_stores.specs.Shelf.{Shelf as Counted}
+use Rattle.sdb_stores.specs.Views.{StoreView as Counted}
 use Rattle.sdb_catalog.specs.declared.refused.CatalogRefused.{CatalogRefused}
 use Rattle.sdb_app.specs.declared.status.InputFault.{InputFault}
 use Rattle.sdb_app.specs.declared.status.InputFault.TheVariants.{Csv}
@@ -84,4 +84,4 @@ pub record IsLoaded (name : TableName) (m : Mode) (size : ℕ) (work : Work) (d 
 pub data StopsLoad (name : TableName) (m : Mode) (size : ℕ) (work : Work) (d : Draws) (s : Status) : Type 0 where
   Untabled : IsTableUnopened name work s → work.rest ≡ work.input → IsUndrawn d → StopsLoad name m size work d s
   Unread : (catalog : List Table) (places : List Place) (t : Table) → IsTableOpened name work catalog places work.left t → AreRowsUnread work.input work.rest t m s → IsUndrawn d → StopsLoad name m size work d s
-  Starved : (catalog : List Table) (places : List Place) (mid : List Counted) (t : Table) (rows : List (List Value)) → IsTableOpened name work catalog places mid t → AreRowsRead work.input work.rest t m rows → IsStarvedLoadOf catalog t m rows size (tables_ends work places mid d) → s ≡ status.NoMemory → StopsLoad name m size work d s
+  OutOfMemory : (catalog : List Table) (places : List Place) (mid : List Counted) (t : Table) (rows : List (List Value)) → IsTableOpened name work catalog places mid t → AreRowsRead work.input work.rest t m rows → IsLoadOfOutOfMemory catalog t m rows size (tables_ends work places mid d) → s ≡ status.NoMemory → StopsLoad name m size work d s

@@ -1,7 +1,7 @@
 -- What each command promises, and how a call of the program may end.
 use Rattle.std.specs.Prelude.{◌≡◌, ℕ, ◌≤◌, List, length, take, Option}
 use Rattle.sdb_types.specs.Bytes.{Appends, HasRisen}
-use Rattle.sdb_stores.specs.Shelf.{names_of}
+use Rattle.sdb_stores.specs.Views.{names_of}
 use Rattle.sdb_model.specs.Rows.{Name}
 use Rattle.sdb_words.specs.declared.command.Command.{Command}
 use Rattle.sdb_words.specs.declared.command.Command.TheVariants as command
@@ -123,5 +123,5 @@ pub data EndsAs (c : Command) (run : Ends) (s : Status) : Type 0 where
 
 -- A call of the program on these words ends so: as the command of these words may end, or as words of no command do.
 pub data HasEnded (words : List (List ℕ)) (run : Ends) (s : Status) : Type 0 where
-  OfCommand : (c : Command) → AreWordsOf (names_of run.work.old.shelves) c words → EndsAs c run s → HasEnded words run s
-  NoCommand : IsNoCommand (names_of run.work.old.shelves) words s → IsUntouched run → HasEnded words run s
+  OfCommand : (c : Command) → AreWordsOf (names_of run.work.old.views) c words → EndsAs c run s → HasEnded words run s
+  NoCommand : IsNoCommand (names_of run.work.old.views) words s → IsUntouched run → HasEnded words run s

@@ -1,11 +1,11 @@
 -- What the program promises of a store that is retired.
 use Rattle.std.specs.Prelude.{◌≡◌, ℕ, List, ◌++◌, ◌∷◌, [], codes, decimal, remove, Some}
-use Rattle.sdb_stores.specs.Shelf.{Shelf as Counted, names_of, place_of}
-use Rattle.sdb_catalog.specs.Calls.{with_shelves}
+use Rattle.sdb_stores.specs.Views.{StoreView as Counted, names_of, place_of}
+use Rattle.sdb_catalog.specs.Calls.{with_states}
 use Rattle.sdb_retire.specs.declared.refused.RetireRefused.{RetireRefused}
 use Rattle.sdb_retire.specs.declared.refused.RetireRefused.TheVariants as refused
 use Rattle.sdb_retire.specs.Dropped.{HoldsStill, OpensTheSame}
-use Rattle.sdb_retire.specs.Retired.{AreKnown, AreMoved, IsLeft, IsUnmoved, IsUnmovedKnown, KeepOthers, Sides}
+use Rattle.sdb_retire.specs.Retired.{AreKnown, AreAllMoved, IsLeft, IsUnmoved, IsUnmovedKnown, OthersArePreserved, Sides}
 use Rattle.sdb_retire.specs.Writes.{GoOn}
 use Rattle.sdb_app.specs.declared.status.Status.{Status}
 use Rattle.sdb_app.specs.declared.status.Status.TheVariants as status
@@ -21,13 +21,13 @@ moved_text n = codes "moved " ++ (decimal n ++ 10 ∷ [])
 pub record IsStoreRetired (s : Sides) (work : Work) (answer : List ℕ) : Type 0 where
   pub count : ℕ
   pub mid : List Counted
-  pub moved : AreMoved s count work.old (with_shelves work.old mid)
-  pub others : KeepOthers s work.old (with_shelves work.old mid)
-  pub goes : GoOn work.old (with_shelves work.old mid)
+  pub moved : AreAllMoved s count work.old (with_states work.old mid)
+  pub others : OthersArePreserved s work.old (with_states work.old mid)
+  pub goes : GoOn work.old (with_states work.old mid)
   pub at : ℕ
   pub found : place_of s.from (names_of mid) ≡ Some at
   pub left : work.left ≡ remove mid at
-  pub opens : AreKnown s work.old → OpensTheSame s work.old (with_shelves work.old work.left)
+  pub opens : AreKnown s work.old → OpensTheSame s work.old (with_states work.old work.left)
   pub text : answer ≡ moved_text count
   pub unread : work.rest ≡ work.input
 
@@ -40,12 +40,12 @@ status_of_retire refused.NoMemory = status.NoMemory
 -- The store was not retired, for this cause. All stores are attached still, and it holds what it held. The others hold what they held, or
 -- what the first writes left.
 pub record IsUnretired (s : Sides) (work : Work) (cause : RetireRefused) : Type 0 where
-  pub refused : IsUnmoved s work.old (with_shelves work.old work.left) cause
-  pub known : IsUnmovedKnown s work.old (with_shelves work.old work.left) cause
-  pub written : IsLeft s work.old (with_shelves work.old work.left)
-  pub others : KeepOthers s work.old (with_shelves work.old work.left)
-  pub kept : HoldsStill s.from work.old (with_shelves work.old work.left)
-  pub goes : GoOn work.old (with_shelves work.old work.left)
+  pub refused : IsUnmoved s work.old (with_states work.old work.left) cause
+  pub known : IsUnmovedKnown s work.old (with_states work.old work.left) cause
+  pub written : IsLeft s work.old (with_states work.old work.left)
+  pub others : OthersArePreserved s work.old (with_states work.old work.left)
+  pub kept : HoldsStill s.from work.old (with_states work.old work.left)
+  pub goes : GoOn work.old (with_states work.old work.left)
   pub unread : work.rest ≡ work.input
 
 -- Why `retire` has no answer: the store was not retired; or it was, and memory ran out for the line.

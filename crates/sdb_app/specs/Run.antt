@@ -6,23 +6,23 @@ use Rattle.sdb_types.specs.declared.key.Key.{Key}
 use Rattle.sdb_types.specs.declared.key.TableName.{TableName}
 use Rattle.sdb_types.specs.Bytes.{HasRisen, Takes, IsAtEnd}
 use Rattle.sdb_schema.specs.declared.table.Table.{Table}
-use Rattle.sdb_stores.specs.Shelf.{Attached, Shelf as Counted, HaveRisen, names_of}
+use Rattle.sdb_stores.specs.Views.{Attached, StoreView as Counted, HaveRisen, names_of}
 use Rattle.sdb_model.specs.declared.event.Outcome.{Outcome}
 use Rattle.sdb_stores.specs.declared.place.Place.{Place}
 use Rattle.sdb_model.specs.declared.script.Script.{Script}
 use Rattle.sdb_model.specs.Causes.{AreCaused}
-use Rattle.sdb_model.specs.Events.{Shelf, store_of}
+use Rattle.sdb_model.specs.Events.{StoreContents, store_of}
 use Rattle.sdb_model.specs.Follows.{Follows}
 use Rattle.sdb_model.specs.Plain.{IsPlain, HasLines}
 use Rattle.sdb_model.specs.Report.{report_text_of}
 use Rattle.sdb_model.specs.Rows.{Name}
-use Rattle.sdb_model.specs.Told.{IsRun}
+use Rattle.sdb_model.specs.Serial.{IsRun}
 use Rattle.sdb_script.specs.declared.fault.ScriptRefused.{ScriptRefused}
 use Rattle.sdb_script.specs.declared.fault.ScriptRefused.TheVariants.{BadLine, Limit as Limited, NoMemory as OutOfMemory}
 use Rattle.sdb_script.specs.Lines.{most_bytes}
 use Rattle.sdb_script.specs.Whole.{IsScript, IsRefused as IsRefusedText}
 use Rattle.sdb_spread.specs.Spread.{HoldAs}
-use Rattle.sdb_board.specs.Board.{AreFit, HoldTheSame, KnownStay, known_before, shown}
+use Rattle.sdb_board.specs.Board.{AreUsable, HoldTheSame, KnownAreUnchanged, known_before, contents_of_views}
 use Rattle.sdb_board.specs.Opening.{HoldNothing, IsFirstKey, first_key, opening_in, opening_records, run_tables}
 use Rattle.sdb_board.specs.declared.refused.CallRefused.{CallRefused}
 use Rattle.sdb_board.specs.declared.refused.CallRefused.TheVariants as call
@@ -31,13 +31,13 @@ use Rattle.sdb_dump.specs.declared.refused.ClosingRefused.{ClosingRefused}
 use Rattle.sdb_dump.specs.declared.refused.ClosingRefused.TheVariants as closing
 use Rattle.sdb_world.specs.Broken.{BreaksWithin}
 use Rattle.sdb_execution.specs.Execution.{IsExecution, IsPlayable}
-use Rattle.sdb_world.specs.Explained.{IsExplained, IsShown}
-use Rattle.sdb_world.specs.Played.{IsReadWhereKnown}
+use Rattle.sdb_world.specs.Explained.{IsExplained, HasNoDirtyReads}
+use Rattle.sdb_world.specs.Ran.{IsReadWhereKnown}
 use Rattle.sdb_app.specs.declared.status.InputFault.TheVariants.{Line}
 use Rattle.sdb_app.specs.declared.status.Status.{Status}
 use Rattle.sdb_app.specs.declared.status.Status.TheVariants as status
 use Rattle.sdb_app.specs.Ends.{AreUnchanged, Stream, Work}
-use Rattle.sdb_model.specs.Tables.{is_played}
+use Rattle.sdb_model.specs.Tables.{is_table_of_run}
 
 -- The input was read to its end and is the text of a script over these stores.
 pub record IsScriptRead (stores : List Name) (old_input new_input : Option (List ℕ)) (script : Script) : Type 0 where
@@ -47,64 +47,64 @@ pub record IsScriptRead (stores : List Name) (old_input new_input : Option (List
   pub form : IsScript stores text script
 
 -- Each store that keeps a table of a script, or the coordinator's rows, has known contents.
-abbrev pub TellOf : Script → Attached → Type 0
-TellOf script stores =
-    (at : ℕ) (store : Counted) (table : TableName) → slice_get stores.shelves at ≡ Some store → is_played script.catalog table ≡ true → store_of script.places (shown stores.shelves) table.ns ≡ store.name → stores.tells at
+abbrev pub ContentsAreKnown : Script → Attached → Type 0
+ContentsAreKnown script stores =
+    (at : ℕ) (store : Counted) (table : TableName) → slice_get stores.views at ≡ Some store → is_table_of_run script.catalog table ≡ true → store_of script.places (contents_of_views stores.views) table.ns ≡ store.name → stores.known at
 
 -- The tables of a script were empty, and one outcome is that of a run that follows it, from what the stores held at the entry
 -- to what they hold at the exit; what was in the stores at each moment is explained by its events, and what each recorded
 -- transaction noted is current at its point; no transaction, recorded or not, was shown a row that was neither its own nor
 -- committed when it was read; and where no statement has an LF the outcome is plain.
-pub record IsPlayed (script : Script) (opening closing : List Shelf) (outcome : Outcome) : Type 0 where
+pub record IsCorrect (script : Script) (opening closing : List StoreContents) (outcome : Outcome) : Type 0 where
   pub empty : first_key (opening_records script.catalog script.places opening) ≡ None
   pub run : IsRun script opening closing outcome
   pub explained : IsExplained script outcome.events opening
-  pub shown : IsShown script outcome.events opening
+  pub shown : HasNoDirtyReads script outcome.events opening
   pub plain : HasLines script → IsPlain outcome
 
 -- The stores of a call with the places of a script, when they showed this. Those are known that were known at the entry.
 abbrev pub placed_as : Script → Attached → List Counted → Attached
-placed_as script stores shelves = record { places = script.places; shelves = shelves; tells = stores.tells }
+placed_as script stores shelves = record { places = script.places; views = shelves; known = stores.known }
 
 -- One outcome of a script on any stores: its events follow the script's moves, and are an execution of its clients: each takes, asks and
 -- answers as the protocol says, whatever the stores reply. So the laws of executions are laws of outcomes. Each answer has its cause among
 -- the events. No more calls are Broken than the
 -- stores failed. Of each table whose store has known contents it is known that it held nothing at the entry, and that its dump is that of what
 -- is there in the end. Where all of them are known, it is the outcome of a run of the script.
-pub record IsOutcome (script : Script) (old : Attached) (new : List Counted) (outcome : Outcome) : Type 0 where
+pub record IsReportable (script : Script) (old : Attached) (new : List Counted) (outcome : Outcome) : Type 0 where
   pub playable : IsPlayable script
   pub follows : Follows script outcome.events
   pub executed : IsExecution script outcome.events
   pub caused : AreCaused script.catalog outcome.events
-  pub broken : BreaksWithin [] outcome.events old.shelves new
-  pub empty : HoldNothing (run_tables script.catalog) (placed_as script old old.shelves)
+  pub broken : BreaksWithin [] outcome.events old.views new
+  pub empty : HoldNothing (run_tables script.catalog) (placed_as script old old.views)
   pub read : IsReadWhereKnown script.catalog (placed_as script old new) outcome
-  pub played : TellOf script old → IsPlayed script (shown old.shelves) (shown new) outcome
+  pub played : ContentsAreKnown script old → IsCorrect script (contents_of_views old.views) (contents_of_views new) outcome
 
 -- A script was read, and this is the report of one outcome of it. Where the stores of its tables have known contents, the outcome is plain, and
 -- no other plain outcome has this report.
 pub record IsReplayed (work : Work) (report : List ℕ) : Type 0 where
   pub script : Script
-  pub read : IsScriptRead (names_of work.old.shelves) work.input.bytes work.rest.bytes script
+  pub read : IsScriptRead (names_of work.old.views) work.input.bytes work.rest.bytes script
   pub outcome : Outcome
-  pub made : IsOutcome script work.old work.left outcome
+  pub made : IsReportable script work.old work.left outcome
   pub text : report ≡ report_text_of outcome
-  pub plain : TellOf script work.old → IsPlain outcome
-  pub only : TellOf script work.old → (other : Outcome) → IsPlain other → report ≡ report_text_of other → other ≡ outcome
+  pub plain : ContentsAreKnown script work.old → IsPlain outcome
+  pub only : ContentsAreKnown script work.old → (other : Outcome) → IsPlain other → report ≡ report_text_of other → other ≡ outcome
 
 -- The key is that of the first record in the tables of the script, as far as contents are known. Each store of known contents holds what it
 -- held, and all hold what they held, where those of the script's tables are known.
 pub record IsFirstFound (script : Script) (old : Attached) (left : List Counted) (key : Key) : Type 0 where
-  pub found : IsFirstKey (run_tables script.catalog) (placed_as script old old.shelves) key
-  pub known : KnownStay old (placed_as script old left)
-  pub first : TellOf script old → first_key (opening_records script.catalog script.places (shown old.shelves)) ≡ Some key
-  pub still : TellOf script old → shown left ≡ shown old.shelves
+  pub found : IsFirstKey (run_tables script.catalog) (placed_as script old old.views) key
+  pub known : KnownAreUnchanged old (placed_as script old left)
+  pub first : ContentsAreKnown script old → first_key (opening_records script.catalog script.places (contents_of_views old.views)) ≡ Some key
+  pub still : ContentsAreKnown script old → contents_of_views left ≡ contents_of_views old.views
 
 -- The record at the key breaks the rules of its table, as far as contents are known; which comes only where some store of the script's tables
 -- is not known.
 pub record IsBadFound (script : Script) (old : Attached) (left : List Counted) (key : Key) : Type 0 where
   pub odd : IsOddIn script.catalog (placed_as script old left) key
-  pub foreign : TellOf script old → ⊥
+  pub foreign : ContentsAreKnown script old → ⊥
 
 -- Bytes that were read of the input are no script over these stores, for that cause: they are all of it, or more than are read of a
 -- script, and the rest is left.
@@ -151,19 +151,19 @@ pub record CanBePlaced (stores : List Name) (places : List Place) : Type 0 where
 
 -- The stores of a script's tables are fit for a run of it, as it places them, and hold nothing of them.
 pub record AreReady (script : Script) (stores : Attached) : Type 0 where
-  pub fit : AreFit script.catalog stores
+  pub fit : AreUsable script.catalog stores
   pub placed_so : stores.places ≡ script.places
-  pub nothing : HoldAs script.catalog script.places (shown stores.shelves) empty
+  pub nothing : HoldAs script.catalog script.places (contents_of_views stores.views) empty
 
 -- The key is that of the first record of a catalog's tables, as far as contents are known, and where the stores are fit for a run, of all;
 -- and the stores hold what they held.
 pub record IsFoundIn (catalog : List Table) (old new : Attached) (key : Key) : Type 0 where
   pub found : IsFirstKey (run_tables catalog) old key
-  pub known : KnownStay old new
-  pub first : AreFit catalog old → first_key (opening_in catalog old) ≡ Some key
-  pub still : AreFit catalog old → HoldTheSame old new
+  pub known : KnownAreUnchanged old new
+  pub first : AreUsable catalog old → first_key (opening_in catalog old) ≡ Some key
+  pub still : AreUsable catalog old → HoldTheSame old new
 
--- Why a script was not played to its end, where such records are bad, and such are found.
+-- Why a script was not run to its end, where such records are bad, and such are found.
 abbrev pub Stops : List Counted → List Counted → (Key → Type 0) → (Key → Type 0) → Status → Type 0
 Stops old left bad found status.StoreFault = HaveRisen old left
 Stops old left bad found status.NoMemory = Unit {0}
@@ -173,26 +173,26 @@ Stops old left bad found _ = ⊥
 
 -- Why the look for records stopped.
 abbrev pub StopsLook : List Table → Attached → Attached → Status → Type 0
-StopsLook catalog old new = Stops old.shelves new.shelves (λ key. ⊥) (IsFoundIn catalog old new)
+StopsLook catalog old new = Stops old.views new.views (λ key. ⊥) (IsFoundIn catalog old new)
 
 -- The record at the key breaks the rules of its table, as far as contents are known, and the stores were not ready for the script.
 pub record IsBadAfter (script : Script) (old new : Attached) (key : Key) : Type 0 where
   pub odd : IsOddIn script.catalog (known_before old new) key
   pub foreign : AreReady script old → ⊥
 
--- Why a script that was placed was not played to its end.
+-- Why a script that was placed was not run to its end.
 abbrev pub StopsWorld : Script → Attached → Attached → Status → Type 0
-StopsWorld script old new = Stops old.shelves new.shelves (IsBadAfter script old new) (λ key. ⊥)
+StopsWorld script old new = Stops old.views new.views (IsBadAfter script old new) (λ key. ⊥)
 
--- Why a script was not played to its end: a fault raised the count of the stores, or memory ran out; or a table was not empty, or a record
+-- Why a script was not run to its end: a fault raised the count of the stores, or memory ran out; or a table was not empty, or a record
 -- was bad in the end.
-abbrev pub StopsPlay : Script → Attached → List Counted → Status → Type 0
-StopsPlay script old left = Stops old.shelves left (IsBadFound script old left) (IsFirstFound script old left)
+abbrev pub StopsRun : Script → Attached → List Counted → Status → Type 0
+StopsRun script old left = Stops old.views left (IsBadFound script old left) (IsFirstFound script old left)
 
--- Why `replay` has no report: no script was read, and the stores are as they were; or one was, and it was not played to its end.
+-- Why `replay` has no report: no script was read, and the stores are as they were; or one was, and it was not run to its end.
 pub data StopsReplay (work : Work) (s : Status) : Type 0 where
-  Unread : IsUnread (names_of work.old.shelves) work.input work.rest s → AreUnchanged work → StopsReplay work s
-  Unplayed : (script : Script) → IsScriptRead (names_of work.old.shelves) work.input.bytes work.rest.bytes script → StopsPlay script work.old work.left s → StopsReplay work s
+  Unread : IsUnread (names_of work.old.views) work.input work.rest s → AreUnchanged work → StopsReplay work s
+  Unplayed : (script : Script) → IsScriptRead (names_of work.old.views) work.input.bytes work.rest.bytes script → StopsRun script work.old work.left s → StopsReplay work s
 
 ---- what stopped a scan, and the closing dump
 

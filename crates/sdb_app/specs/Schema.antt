@@ -5,7 +5,7 @@ use Rattle.sdb_schema.specs.declared.table.Table.{Table}
 use Rattle.sdb_loader.specs.declared.fault.SchemaFault.{SchemaFault}
 use Rattle.sdb_loader.specs.Described.{catalog_in}
 use Rattle.sdb_stores.specs.declared.place.Place.{Place}
-use Rattle.sdb_stores.specs.Shelf.{names_of}
+use Rattle.sdb_stores.specs.Views.{names_of}
 use Rattle.sdb_catalog.specs.declared.refused.CatalogRefused.{CatalogRefused}
 use Rattle.sdb_catalog.specs.declared.refused.CatalogRefused.TheVariants as refused
 use Rattle.sdb_catalog.specs.Calls.{IsUnread, first_contents}
@@ -54,15 +54,15 @@ pub record IsSchemaKept (places : List Place) (work : Work) (answer : List ℕ) 
   pub catalog : List Table
   pub read : IsSchemaRead work.input work.rest catalog
   pub stored : IsStored places catalog answer work.old work.left
-  pub known : work.old.tells 0 → IsStoredIn (names_of work.old.shelves) places catalog answer (first_contents work.old.shelves) (first_contents work.left)
-  pub others : drop 1 work.left ≡ drop 1 work.old.shelves
+  pub known : work.old.known 0 → IsStoredIn (names_of work.old.views) places catalog answer (first_contents work.old.views) (first_contents work.left)
+  pub others : drop 1 work.left ≡ drop 1 work.old.views
 
 -- A catalog was not written, for this cause. Where the first store had known contents, it holds what it held, and maybe the rows of the
 -- catalog's first tables. The other stores are as they were.
 pub record IsSchemaUnkept (places : List Place) (catalog : List Table) (work : Work) (cause : CatalogRefused) : Type 0 where
   pub refused : IsUnread work.old work.left cause
-  pub known : work.old.tells 0 → IsLeftBy cause (names_of work.old.shelves) places catalog (first_contents work.old.shelves) (first_contents work.left)
-  pub others : drop 1 work.left ≡ drop 1 work.old.shelves
+  pub known : work.old.known 0 → IsLeftBy cause (names_of work.old.views) places catalog (first_contents work.old.views) (first_contents work.left)
+  pub others : drop 1 work.left ≡ drop 1 work.old.views
 
 -- how the program ends where a catalog was not written or opened
 abbrev pub status_of_catalog : CatalogRefused → Status

@@ -3,9 +3,9 @@ use Rattle.std.specs.Prelude.{◌≡◌, List, [], drop}
 use Rattle.sdb_types.specs.Bytes.{HasRisen}
 use Rattle.sdb_schema.specs.declared.table.Table.{Table}
 use Rattle.sdb_stores.specs.declared.place.Place.{Place}
-use Rattle.sdb_stores.specs.Shelf.{Attached, Shelf as Counted}
+use Rattle.sdb_stores.specs.Views.{Attached, StoreView as Counted}
 use Rattle.sdb_catalog.specs.declared.refused.CatalogRefused.{CatalogRefused}
-use Rattle.sdb_catalog.specs.Calls.{IsOpened, IsUnread, KeepContents}
+use Rattle.sdb_catalog.specs.Calls.{IsOpened, IsUnread, ContentsAreUnchanged}
 use Rattle.sdb_catalog.specs.Known.{IsKnownBad, IsKnownCatalog}
 use Rattle.sdb_script.specs.declared.fault.LineFault.TheVariants.{Text}
 use Rattle.sdb_shell.specs.declared.refused.SessionRefused.{SessionRefused}
@@ -21,21 +21,21 @@ use Rattle.sdb_app.specs.Schema.{status_of_catalog}
 
 -- The stores of a call with these places, when they showed this.
 abbrev pub stores_with : Work → List Place → List Counted → Attached
-stores_with work places shelves = record { places = places; shelves = shelves; tells = work.old.tells }
+stores_with work places shelves = record { places = places; views = shelves; known = work.old.known }
 
 -- The catalog of the first store was opened, and its namespaces are placed so. The stores hold what they held.
 pub record IsCatalogOpened (work : Work) (catalog : List Table) (places : List Place) (mid : List Counted) : Type 0 where
   pub opened : IsOpened work.old (stores_with work places mid) catalog
   pub known : IsKnownCatalog work.old (stores_with work places mid) catalog
-  pub unchanged : KeepContents work.old (stores_with work places mid)
-  pub others : drop 1 mid ≡ drop 1 work.old.shelves
+  pub unchanged : ContentsAreUnchanged work.old (stores_with work places mid)
+  pub others : drop 1 mid ≡ drop 1 work.old.views
 
 -- It was not opened, for this cause. The stores hold what they held.
 pub record IsCatalogUnopened (work : Work) (cause : CatalogRefused) : Type 0 where
   pub refused : IsUnread work.old work.left cause
   pub bad : IsKnownBad work.old cause
-  pub unchanged : KeepContents work.old (stores_with work [] work.left)
-  pub others : drop 1 work.left ≡ drop 1 work.old.shelves
+  pub unchanged : ContentsAreUnchanged work.old (stores_with work [] work.left)
+  pub others : drop 1 work.left ≡ drop 1 work.old.views
 
 ---- the session
 

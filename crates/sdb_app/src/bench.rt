@@ -1,10 +1,10 @@
 //! The command `bench`: a script that the program makes, and what is counted over its run.
 ghost use Rattle.std.specs.Prelude.{◌≡◌, ◌<◌, ◌≤◌, [], length, IfOk, IfErr};
-ghost use Rattle.sdb_stores.specs.Shelf.{AreDistinct, names_of};
+ghost use Rattle.sdb_stores.specs.Views.{AreDistinct, names_of};
 ghost use Rattle.sdb_bench.specs.Counts.{bench_text_of};
 ghost use Rattle.sdb_app.specs.Bench.{IsBenchedOn, bench_over};
 ghost use Rattle.sdb_app.specs.Ends.{AreKept};
-ghost use Rattle.sdb_app.specs.Run.{StopsPlay};
+ghost use Rattle.sdb_app.specs.Run.{StopsRun};
 
 use crate::play::play;
 use crate::status::Status;
@@ -45,13 +45,13 @@ pub fn bench<S: Registry>(
     n: u32,
     names: &Names,
 ) -> Result<Octets, Status>
-    requires some { 0 < length (S.state stores.old).shelves }
+    requires some { 0 < length (S.state stores.old).views }
     requires unplaced { (S.state stores.old).places ≡ [] }
-    requires distinct { AreDistinct (names_of (S.state stores.old).shelves) }
-    requires names { names.now ≡ names_of (S.state stores.old).shelves }
+    requires distinct { AreDistinct (names_of (S.state stores.old).views) }
+    requires names { names.now ≡ names_of (S.state stores.old).views }
     requires within { n ≤ 20000 }
-    ensures answered { IfOk result (λ text. IsBenchedOn n (S.state stores.old) (S.state stores.new).shelves text) }
-    ensures err { IfErr result (StopsPlay (bench_over n (names_of (S.state stores.old).shelves)) (S.state stores.old) (S.state stores.new).shelves) }
+    ensures answered { IfOk result (λ text. IsBenchedOn n (S.state stores.old) (S.state stores.new).views text) }
+    ensures err { IfErr result (StopsRun (bench_over n (names_of (S.state stores.old).views)) (S.state stores.old) (S.state stores.new).views) }
     ensures kept { AreKept (S.state stores.old) (S.state stores.new) }
 {
     runs_are_even();

@@ -30,7 +30,7 @@ pub fn export<S: Registry, C: Clock, I: Ids>(
     ids: &mut I,
     name: &TableName,
 ) -> Result<Octets, Status>
-    requires some { 0 < length (S.state stores.old).shelves }
+    requires some { 0 < length (S.state stores.old).views }
     requires unplaced { (S.state stores.old).places ≡ [] }
     ensures answered { IfOk result (λ text. (input : Stream) → IsExported name.now (work_on (S.state stores.old) (S.state stores.new) input)
         (draws C.told I.told clock.old clock.new ids.old ids.new) text) }

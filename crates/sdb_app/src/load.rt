@@ -54,7 +54,7 @@ pub fn load<S: Registry, R: Source, C: Clock, I: Ids>(
     mode: Mode,
     size: u32,
 ) -> Result<Octets, Status>
-    requires some { 0 < length (S.state stores.old).shelves }
+    requires some { 0 < length (S.state stores.old).views }
     requires unplaced { (S.state stores.old).places ≡ [] }
     requires size { IsWithin most_rows size }
     ensures answered { IfOk result (λ text. IsLoaded name.now mode size (work_of S.state (stream R.remaining R.faults) stores.old stores.new input.old input.new)

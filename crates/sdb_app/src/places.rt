@@ -1,6 +1,6 @@
 //! Placing the namespaces of a script.
 ghost use Rattle.std.specs.Prelude.{◌≡◌, ◌<◌, ◌++◌, ◌∷◌, [], ℕ, length, Some, None, IsSome, OnOk, slice_get};
-ghost use Rattle.sdb_stores.specs.Shelf.{names_of, place_of, placed_on};
+ghost use Rattle.sdb_stores.specs.Views.{names_of, place_of, route_of};
 ghost use Rattle.sdb_app.specs.Run.{CanBePlaced};
 
 use sdb_model::{Place, Places};
@@ -20,11 +20,11 @@ fn place_at(places: &Places, i: usize) -> &Place
 
 // Places one namespace, which has none yet, on a store that is attached.
 fn place<R: Registry>(stores: &mut R, place: &Place) -> Result<(), NoMemory>
-    requires attached { IsSome (place_of place.now.store (names_of (R.state stores.old).shelves)) }
-    requires free { placed_on place.now.ns (R.state stores.old).places ≡ None }
+    requires attached { IsSome (place_of place.now.store (names_of (R.state stores.old).views)) }
+    requires free { route_of place.now.ns (R.state stores.old).places ≡ None }
     ensures places { OnOk result ((R.state stores.new).places ≡ (R.state stores.old).places ++ place.now ∷ []) }
-    ensures stores { (R.state stores.new).shelves ≡ (R.state stores.old).shelves }
-    ensures telling { (i : ℕ) → (R.state stores.old).tells i → (R.state stores.new).tells i }
+    ensures stores { (R.state stores.new).views ≡ (R.state stores.old).views }
+    ensures where_known { (i : ℕ) → (R.state stores.old).known i → (R.state stores.new).known i }
 {
     match stores.place(place.ns.copy()?, &place.store) {
         Ok(()) => Ok(()),
@@ -35,12 +35,12 @@ fn place<R: Registry>(stores: &mut R, place: &Place) -> Result<(), NoMemory>
 }
 
 /// Places the namespaces of a script, where none has a place yet.
-pub fn place_all<R: Registry>(stores: &mut R, places: &Places) -> Result<(), NoMemory>
+pub fn route_all<R: Registry>(stores: &mut R, places: &Places) -> Result<(), NoMemory>
     requires none { (R.state stores.old).places ≡ [] }
-    requires fit { CanBePlaced (names_of (R.state stores.old).shelves) places.now }
+    requires fit { CanBePlaced (names_of (R.state stores.old).views) places.now }
     ensures places { OnOk result ((R.state stores.new).places ≡ places.now) }
-    ensures stores { (R.state stores.new).shelves ≡ (R.state stores.old).shelves }
-    ensures telling { (i : ℕ) → (R.state stores.old).tells i → (R.state stores.new).tells i }
+    ensures stores { (R.state stores.new).views ≡ (R.state stores.old).views }
+    ensures where_known { (i : ℕ) → (R.state stores.old).known i → (R.state stores.new).known i }
 {
     for i in 0..places.len() {
         place(stores, place_at(places, i))?;

@@ -1,22 +1,22 @@
 //! Playing a script on stores.
 ghost use Rattle.std.specs.Prelude.{◌≡◌, ◌<◌, [], length, Some, None, IfOk, IfErr, OnOk};
-ghost use Rattle.sdb_stores.specs.Shelf.{AreDistinct, names_of};
+ghost use Rattle.sdb_stores.specs.Views.{AreDistinct, names_of};
 ghost use Rattle.sdb_model.specs.Follows.{Follows};
-ghost use Rattle.sdb_model.specs.Told.{IsRun};
-ghost use Rattle.sdb_board.specs.Board.{AreFit, GoOn, HoldTheSame, known_before, shown};
+ghost use Rattle.sdb_model.specs.Serial.{IsRun};
+ghost use Rattle.sdb_board.specs.Board.{AreUsable, GoOn, HoldTheSame, known_before, contents_of_views};
 ghost use Rattle.sdb_board.specs.Opening.{HoldNothing, first_key, opening_in, run_tables};
 ghost use Rattle.sdb_dump.specs.Held.{IsOddIn};
 ghost use Rattle.sdb_world.specs.Broken.{BreaksWithin};
 ghost use Rattle.sdb_execution.specs.Execution.{IsExecution, IsPlayable};
 ghost use Rattle.sdb_world.specs.Explained.{IsExplained};
-ghost use Rattle.sdb_world.specs.Played.{HasNotPlayed, IsOutcomeOf, IsPlayExplained, IsReadWhereKnown};
+ghost use Rattle.sdb_world.specs.Ran.{HasNotRun, IsOutcomeOf, IsRunExplained, IsReadWhereKnown};
 ghost use Rattle.sdb_executions.specs.World.{IsWorld};
 ghost use Rattle.sdb_plainness.specs.Facts.{outcome_fits};
 ghost use Rattle.sdb_world.specs.Step.{CanFollow};
 ghost use Rattle.sdb_app.specs.Ends.{AreKept};
-ghost use Rattle.sdb_app.specs.Run.{AreReady, CanBePlaced, IsOutcome, Stops, StopsLook, StopsPlay, StopsWorld, status_of_call, status_of_closing};
+ghost use Rattle.sdb_app.specs.Run.{AreReady, CanBePlaced, IsReportable, Stops, StopsLook, StopsRun, StopsWorld, status_of_call, status_of_closing};
 
-use crate::places::place_all;
+use crate::places::route_all;
 use crate::status::Status;
 use sdb_board::{CallRefused, first_record};
 use sdb_dump::ClosingRefused;
@@ -62,10 +62,10 @@ fn closing_status(refused: ClosingRefused) -> Status
 
 // Sees to it that the tables of a script are empty.
 fn be_empty<R: Registry>(alloc: Global, stores: &mut R, catalog: &Catalog) -> Result<(), Status>
-    requires some { 0 < length (R.state stores.old).shelves }
-    ensures empty { OnOk result (AreFit catalog.now (R.state stores.old) → first_key (opening_in catalog.now (R.state stores.old)) ≡ None) }
+    requires some { 0 < length (R.state stores.old).views }
+    ensures empty { OnOk result (AreUsable catalog.now (R.state stores.old) → first_key (opening_in catalog.now (R.state stores.old)) ≡ None) }
     ensures none { OnOk result (HoldNothing (run_tables catalog.now) (R.state stores.old)) }
-    ensures still { AreFit catalog.now (R.state stores.old) → HoldTheSame (R.state stores.old) (R.state stores.new) }
+    ensures still { AreUsable catalog.now (R.state stores.old) → HoldTheSame (R.state stores.old) (R.state stores.new) }
     ensures goes { GoOn (R.state stores.old) (R.state stores.new) }
     ensures err { IfErr result (StopsLook catalog.now (R.state stores.old) (R.state stores.new)) }
 {
@@ -76,18 +76,18 @@ fn be_empty<R: Registry>(alloc: Global, stores: &mut R, catalog: &Catalog) -> Re
     }
 }
 
-// The outcome of a world that has played its script.
+// The outcome of a world that has run its script.
 fn ended<R: Registry>(alloc: Global, stores: &mut R, world: World) -> Result<Outcome, Status>
-    requires some { 0 < length (R.state stores.old).shelves }
+    requires some { 0 < length (R.state stores.old).views }
     requires world { IsWorld world }
     ensures events { IfOk result (λ o. o.events ≡ world.events) }
     ensures fits { IfOk result outcome_fits }
-    ensures explained { IfOk result (λ o. IsPlayExplained world (R.state stores.old) o.events) }
+    ensures explained { IfOk result (λ o. IsRunExplained world (R.state stores.old) o.events) }
     ensures run { IfOk result (IsOutcomeOf world (R.state stores.old) (R.state stores.new)) }
     ensures read { IfOk result (IsReadWhereKnown world.script.catalog (known_before (R.state stores.old) (R.state stores.new))) }
     ensures goes { GoOn (R.state stores.old) (R.state stores.new) }
-    ensures err { IfErr result (Stops (R.state stores.old).shelves (R.state stores.new).shelves (λ key. HasNotPlayed world (R.state stores.old)) (λ key. ⊥)) }
-    ensures bad { IfErr result (Stops (R.state stores.old).shelves (R.state stores.new).shelves (IsOddIn world.script.catalog (known_before (R.state stores.old) (R.state stores.new))) (λ key. ⊥)) }
+    ensures err { IfErr result (Stops (R.state stores.old).views (R.state stores.new).views (λ key. HasNotRun world (R.state stores.old)) (λ key. ⊥)) }
+    ensures bad { IfErr result (Stops (R.state stores.old).views (R.state stores.new).views (IsOddIn world.script.catalog (known_before (R.state stores.old) (R.state stores.new))) (λ key. ⊥)) }
 {
     match world.outcome(alloc, stores) {
         Ok(outcome) => {
@@ -100,16 +100,16 @@ fn ended<R: Registry>(alloc: Global, stores: &mut R, world: World) -> Result<Out
 
 // Plays a script on stores where its namespaces are placed.
 fn run_world<R: Registry>(alloc: Global, stores: &mut R, script: Script) -> Result<Outcome, Status>
-    requires some { 0 < length (R.state stores.old).shelves }
+    requires some { 0 < length (R.state stores.old).views }
     requires playable { IsPlayable script }
     requires can { CanFollow script }
     ensures follows { IfOk result (λ o. Follows script o.events) }
     ensures executed { IfOk result (λ o. IsExecution script o.events) }
     ensures fits { IfOk result outcome_fits }
-    ensures broken { IfOk result (λ o. BreaksWithin [] o.events (R.state stores.old).shelves (R.state stores.new).shelves) }
-    ensures explained { IfOk result (λ o. AreReady script (R.state stores.old) → IsExplained script o.events (shown (R.state stores.old).shelves)) }
+    ensures broken { IfOk result (λ o. BreaksWithin [] o.events (R.state stores.old).views (R.state stores.new).views) }
+    ensures explained { IfOk result (λ o. AreReady script (R.state stores.old) → IsExplained script o.events (contents_of_views (R.state stores.old).views)) }
     ensures read { IfOk result (IsReadWhereKnown script.catalog (known_before (R.state stores.old) (R.state stores.new))) }
-    ensures run { IfOk result (λ o. AreReady script (R.state stores.old) → IsRun script (shown (R.state stores.old).shelves) (shown (R.state stores.new).shelves) o) }
+    ensures run { IfOk result (λ o. AreReady script (R.state stores.old) → IsRun script (contents_of_views (R.state stores.old).views) (contents_of_views (R.state stores.new).views) o) }
     ensures goes { GoOn (R.state stores.old) (R.state stores.new) }
     ensures err { IfErr result (StopsWorld script (R.state stores.old) (R.state stores.new)) }
 {
@@ -121,17 +121,17 @@ fn run_world<R: Registry>(alloc: Global, stores: &mut R, script: Script) -> Resu
 /// Plays a script on stores of which none has a place yet: places its namespaces, sees to it that its tables are empty, and makes its
 /// moves.
 pub fn play<R: Registry>(alloc: Global, stores: &mut R, script: Script) -> Result<Outcome, Status>
-    requires some { 0 < length (R.state stores.old).shelves }
+    requires some { 0 < length (R.state stores.old).views }
     requires unplaced { (R.state stores.old).places ≡ [] }
-    requires distinct { AreDistinct (names_of (R.state stores.old).shelves) }
+    requires distinct { AreDistinct (names_of (R.state stores.old).views) }
     requires playable { IsPlayable script }
     requires can { CanFollow script }
-    requires places { CanBePlaced (names_of (R.state stores.old).shelves) script.places }
-    ensures made { IfOk result (IsOutcome script (R.state stores.old) (R.state stores.new).shelves) }
-    ensures err { IfErr result (StopsPlay script (R.state stores.old) (R.state stores.new).shelves) }
+    requires places { CanBePlaced (names_of (R.state stores.old).views) script.places }
+    ensures made { IfOk result (IsReportable script (R.state stores.old) (R.state stores.new).views) }
+    ensures err { IfErr result (StopsRun script (R.state stores.old) (R.state stores.new).views) }
     ensures kept { AreKept (R.state stores.old) (R.state stores.new) }
 {
-    let Ok(()) = place_all(stores, &script.places) else {
+    let Ok(()) = route_all(stores, &script.places) else {
         return Err(Status::NoMemory);
     };
     match be_empty(alloc, stores, &script.catalog) {

@@ -1,6 +1,6 @@
 //! The top call.
 ghost use Rattle.std.specs.Prelude.{◌≡◌, ◌≢◌, ◌↔◌, ◌<◌, ◌≤◌, [], length, map, string_bytes, IfOk, IfErr, IsTrue};
-ghost use Rattle.sdb_stores.specs.Shelf.{AreDistinct, names_of};
+ghost use Rattle.sdb_stores.specs.Views.{AreDistinct, names_of};
 ghost use Rattle.sdb_words.specs.Commands.{AreWordsOf};
 ghost use Rattle.sdb_app.specs.Ends.{AreKeptOr, draws, ends, stream, views, work_of};
 ghost use Rattle.sdb_app.specs.Promise.{AnswersOnce, Drops, EndsAs, EndsOnce, HasEnded, IsNoCommand, IsWritten, WordsDrop, promise_of};
@@ -41,11 +41,11 @@ fn answer<S: Registry, R: Source, C: Clock, I: Ids>(
     ids: &mut I,
     names: &Names,
 ) -> Result<Octets, Status>
-    requires some { 0 < length (S.state stores.old).shelves }
+    requires some { 0 < length (S.state stores.old).views }
     requires unplaced { (S.state stores.old).places ≡ [] }
-    requires distinct { AreDistinct (names_of (S.state stores.old).shelves) }
-    requires names { names.now ≡ names_of (S.state stores.old).shelves }
-    requires once { AnswersOnce (names_of (S.state stores.old).shelves) command.now }
+    requires distinct { AreDistinct (names_of (S.state stores.old).views) }
+    requires names { names.now ≡ names_of (S.state stores.old).views }
+    requires once { AnswersOnce (names_of (S.state stores.old).views) command.now }
     ensures answered { IfOk result (λ text. (promise_of command.now (work_of S.state (stream R.remaining R.faults) stores.old stores.new input.old input.new)
         (draws C.told I.told clock.old clock.new ids.old ids.new)).answers text) }
     ensures err { IfErr result (promise_of command.now (work_of S.state (stream R.remaining R.faults) stores.old stores.new input.old input.new)
@@ -95,11 +95,11 @@ fn answer_once<S: Registry, R: Source, W: Sink, C: Clock, I: Ids>(
     ids: &mut I,
     names: &Names,
 ) -> Status
-    requires some { 0 < length (S.state stores.old).shelves }
+    requires some { 0 < length (S.state stores.old).views }
     requires unplaced { (S.state stores.old).places ≡ [] }
-    requires distinct { AreDistinct (names_of (S.state stores.old).shelves) }
-    requires names { names.now ≡ names_of (S.state stores.old).shelves }
-    requires once { AnswersOnce (names_of (S.state stores.old).shelves) command.now }
+    requires distinct { AreDistinct (names_of (S.state stores.old).views) }
+    requires names { names.now ≡ names_of (S.state stores.old).views }
+    requires once { AnswersOnce (names_of (S.state stores.old).views) command.now }
     ensures ended { EndsOnce command.now (work_of S.state (stream R.remaining R.faults) stores.old stores.new input.old input.new)
         (draws C.told I.told clock.old clock.new ids.old ids.new) (stream W.written W.faults output.old) (stream W.written W.faults output.new) result }
     ensures kept { AreKeptOr (Drops command.now) (S.state stores.old) (S.state stores.new) }
@@ -123,11 +123,11 @@ fn perform<S: Registry, R: Source, W: Sink, C: Clock, I: Ids>(
     ids: &mut I,
     names: &Names,
 ) -> Status
-    requires some { 0 < length (S.state stores.old).shelves }
+    requires some { 0 < length (S.state stores.old).views }
     requires unplaced { (S.state stores.old).places ≡ [] }
-    requires distinct { AreDistinct (names_of (S.state stores.old).shelves) }
-    requires names { names.now ≡ names_of (S.state stores.old).shelves }
-    requires once { command.now ≢ Command.Sql → AnswersOnce (names_of (S.state stores.old).shelves) command.now }
+    requires distinct { AreDistinct (names_of (S.state stores.old).views) }
+    requires names { names.now ≡ names_of (S.state stores.old).views }
+    requires once { command.now ≢ Command.Sql → AnswersOnce (names_of (S.state stores.old).views) command.now }
     ensures ended { EndsAs command.now (ends (views S.state (stream R.remaining R.faults) (stream W.written W.faults) C.told I.told)
         stores.old stores.new input.old input.new output.old output.new clock.old clock.new ids.old ids.new) result }
     ensures kept { AreKeptOr (Drops command.now) (S.state stores.old) (S.state stores.new) }
@@ -155,11 +155,11 @@ pub fn run<S: Registry, R: Source, W: Sink, C: Clock, I: Ids>(
     clock: &mut C,
     ids: &mut I,
 ) -> Status
-    requires { 0 < length (S.state stores.old).shelves }
+    requires { 0 < length (S.state stores.old).views }
     // It ends as the command of these words may end, or as words of no command do.
     ensures ended { HasEnded (map string_bytes words.now) (ends (views S.state (stream R.remaining R.faults) (stream W.written W.faults) C.told I.told)
         stores.old stores.new input.old input.new output.old output.new clock.old clock.new ids.old ids.new) result }
-    ensures kept { AreKeptOr (WordsDrop (names_of (S.state stores.old).shelves) (map string_bytes words.now)) (S.state stores.old) (S.state stores.new) }
+    ensures kept { AreKeptOr (WordsDrop (names_of (S.state stores.old).views) (map string_bytes words.now)) (S.state stores.old) (S.state stores.new) }
     ensures counted { R.faults input.old ≤ R.faults input.new }
     ensures counted_output { W.faults output.old ≤ W.faults output.new }
 {

@@ -1,6 +1,6 @@
 //! The command `replay`: a script that is read, and the report of its run.
 ghost use Rattle.std.specs.Prelude.{◌≡◌, ◌<◌, ◌≤◌, [], length, IfOk, IfErr};
-ghost use Rattle.sdb_stores.specs.Shelf.{AreDistinct, names_of};
+ghost use Rattle.sdb_stores.specs.Views.{AreDistinct, names_of};
 ghost use Rattle.sdb_model.specs.Report.{report_text_of};
 ghost use Rattle.sdb_app.specs.Ends.{AreKept, stream, work_of};
 ghost use Rattle.sdb_app.specs.Run.{IsReplayed, IsScriptRead, IsUnread, StopsReplay, status_of_text};
@@ -65,10 +65,10 @@ pub fn replay<S: Registry, R: Source>(
     input: &mut R,
     names: &Names,
 ) -> Result<Octets, Status>
-    requires some { 0 < length (S.state stores.old).shelves }
+    requires some { 0 < length (S.state stores.old).views }
     requires unplaced { (S.state stores.old).places ≡ [] }
-    requires distinct { AreDistinct (names_of (S.state stores.old).shelves) }
-    requires names { names.now ≡ names_of (S.state stores.old).shelves }
+    requires distinct { AreDistinct (names_of (S.state stores.old).views) }
+    requires names { names.now ≡ names_of (S.state stores.old).views }
     ensures answered { IfOk result (λ text. IsReplayed (work_of S.state (stream R.remaining R.faults) stores.old stores.new input.old input.new) text) }
     ensures err { IfErr result (StopsReplay (work_of S.state (stream R.remaining R.faults) stores.old stores.new input.old input.new)) }
     ensures kept { AreKept (S.state stores.old) (S.state stores.new) }

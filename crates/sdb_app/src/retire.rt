@@ -1,6 +1,6 @@
 //! The command `retire`: everything in a store moves to another, and the store is dropped.
 ghost use Rattle.std.specs.Prelude.{◌≡◌, IfOk, IfErr};
-ghost use Rattle.sdb_stores.specs.Shelf.{names_of};
+ghost use Rattle.sdb_stores.specs.Views.{names_of};
 ghost use Rattle.sdb_retire.specs.Dropped.{MayRetire};
 ghost use Rattle.sdb_retire.specs.Retired.{sides};
 ghost use Rattle.sdb_app.specs.Ends.{AreKeptOr, Stream, work_on};
@@ -53,7 +53,7 @@ pub fn retire<S: Registry>(
     from: &Name,
     to: &Name,
 ) -> Result<Octets, Status>
-    requires may { MayRetire (names_of (S.state stores.old).shelves) (sides from.now to.now) }
+    requires may { MayRetire (names_of (S.state stores.old).views) (sides from.now to.now) }
     ensures answered { IfOk result (λ text. (input : Stream) → IsStoreRetired (sides from.now to.now) (work_on (S.state stores.old) (S.state stores.new) input) text) }
     ensures err { IfErr result (λ s. (input : Stream) → StopsRetire (sides from.now to.now) (work_on (S.state stores.old) (S.state stores.new) input) s) }
     ensures kept { AreKeptOr (λ name. name ≡ from.now) (S.state stores.old) (S.state stores.new) }

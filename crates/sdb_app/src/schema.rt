@@ -64,7 +64,7 @@ pub fn schema<S: Registry, R: Source>(
     input: &mut R,
     places: &[Place],
 ) -> Result<Octets, Status>
-    requires some { 0 < length (S.state stores.old).shelves }
+    requires some { 0 < length (S.state stores.old).views }
     requires unplaced { (S.state stores.old).places ≡ [] }
     ensures answered { IfOk result (λ text. IsSchemaKept places.now (work_of S.state (stream R.remaining R.faults) stores.old stores.new input.old input.new) text) }
     ensures err { IfErr result (StopsSchema places.now (work_of S.state (stream R.remaining R.faults) stores.old stores.new input.old input.new)) }

@@ -35,7 +35,7 @@ pub fn sql<S: Registry, R: Source, W: Sink, C: Clock, I: Ids>(
     clock: &mut C,
     ids: &mut I,
 ) -> Status
-    requires some { 0 < length (S.state stores.old).shelves }
+    requires some { 0 < length (S.state stores.old).views }
     requires unplaced { (S.state stores.old).places ≡ [] }
     ensures ended { HasEndedSession (ends (views S.state (stream R.remaining R.faults) (stream W.written W.faults) C.told I.told)
         stores.old stores.new input.old input.new output.old output.new clock.old clock.new ids.old ids.new) result }

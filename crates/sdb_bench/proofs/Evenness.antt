@@ -19,8 +19,8 @@ use Rattle.sdb_types.proofs.KeyOrder.{table_exact}
 use Rattle.sdb_schema.specs.declared.table.Table.{Table}
 use Rattle.sdb_schema.specs.Order.{row_key_cmp}
 use Rattle.sdb_record.specs.declared.access.Image.{Image}
-use Rattle.sdb_model.specs.Exec.{Tables, all_rows, is_row_of, placed, row_of_entry, shown, sorted}
-use Rattle.sdb_model.specs.Told.{dump_of, dumps_of}
+use Rattle.sdb_model.specs.Exec.{Tables, all_rows, is_row_of, placed, row_of_entry, projected, sorted}
+use Rattle.sdb_model.specs.Serial.{dump_of, dumps_of}
 use Rattle.sdb_bench.specs.declared.side.Side.{Side}
 use Rattle.sdb_bench.specs.declared.side.Side.TheVariants.{Left, Right}
 use Rattle.sdb_bench.specs.Counts.{differ, is_at, is_uneven, same_found, uneven_in, uneven_of}
@@ -73,7 +73,7 @@ own_table side table own = table_exact table (bench_table side).name (equal_of (
 
 printed_row : (side : Side) (f : Chosen) (table : TableName) (ps cs : List Value) (columns : List Pair) → is_row_of (bench_table side) (record { key = record { table = table; partition = ps; clustering = cs }; columns = columns }) ≡ true
     → IsOne ps → column columns v_name ≡ Some (f table ps)
-    → IsPrinted (λ x. f (bench_table side).name (x ∷ [])) (shown (bench_table side) None (record { key = record { table = table; partition = ps; clustering = cs }; columns = columns }))
+    → IsPrinted (λ x. f (bench_table side).name (x ∷ [])) (projected (bench_table side) None (record { key = record { table = table; partition = ps; clustering = cs }; columns = columns }))
 printed_row side f table [] cs columns own one h = absurd one
 printed_row side f table (x ∷ y ∷ xs) cs columns own one h = absurd one
 printed_row side f table (x ∷ []) [] columns own one h =
@@ -93,7 +93,7 @@ rows_printed side f d h =
     let images : AllByRecursion (IsCellRow f) (all_rows d) = all_map (IsCell f) (IsCellRow f) row_of_entry (λ e c. c) (entries d) h in
     let own = all_filter (IsCellRow f) (is_row_of t) (all_rows d) images in
     let Own : Image → Type 0 = λ r. IsCellRow f r × (is_row_of t r ≡ true) in
-    all_map Own (IsPrinted (chosen_in side f)) (shown t None)
+    all_map Own (IsPrinted (chosen_in side f)) (projected t None)
     (λ r c. printed_row side f r.key.table r.key.partition r.key.clustering r.columns c.1 c.0.0 c.0.1)
     (sorted t (filter (is_row_of t) (all_rows d)))
     (all_sorted Own t [] (filter (is_row_of t) (all_rows d)) tt own)

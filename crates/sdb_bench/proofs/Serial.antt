@@ -12,9 +12,9 @@ use Rattle.sdb_model.specs.declared.event.Event.{Event}
 use Rattle.sdb_model.specs.declared.event.Outcome.{Outcome}
 use Rattle.sdb_model.specs.declared.event.Point.{Point}
 use Rattle.sdb_model.specs.declared.statement.Statement.{Statement}
-use Rattle.sdb_model.specs.Events.{Shelf}
+use Rattle.sdb_model.specs.Events.{StoreContents}
 use Rattle.sdb_model.specs.Exec.{Tables, exec}
-use Rattle.sdb_model.specs.Told.{AreBodies, AreRead, IsRun, run_body, serial}
+use Rattle.sdb_model.specs.Serial.{AreBodies, AreRead, IsRun, run_body, serial}
 use Rattle.sdb_model.specs.Transactions.{body, point}
 use Rattle.sdb_bench.specs.Counts.{uneven_of}
 use Rattle.sdb_bench.specs.Script.{bench_clients, bench_script_of}
@@ -139,7 +139,7 @@ are_once f (p ∷ ps) points r =
 
 ---- a run
 
-pub run_is_even : (n : ℕ) (first last : List ℕ) (opening closing : List Shelf) (outcome : Outcome) → IsRun (bench_script_of n first last) opening closing outcome → uneven_of outcome.tables ≡ 0
+pub run_is_even : (n : ℕ) (first last : List ℕ) (opening closing : List StoreContents) (outcome : Outcome) → IsRun (bench_script_of n first last) opening closing outcome → uneven_of outcome.tables ≡ 0
 unfolding bench_script_of
 run_is_even n first last opening closing outcome run =
     let taken = all_taken (bench_script_of n first last) outcome.events run.follows in

@@ -13,21 +13,21 @@ use Rattle.sdb_model.specs.declared.script.Move.{Move}
 use Rattle.sdb_model.specs.declared.script.Move.TheVariants as move
 use Rattle.sdb_model.specs.declared.script.Script.{Script}
 use Rattle.sdb_model.specs.declared.script.ScriptClient.{ScriptClient}
-use Rattle.sdb_model.specs.Follows.{AreMoved, AreStepsOf, Follows, IsActed, IsCallOf, IsHowOfDiscard, IsHowOfLose, IsHowOfStep, IsMoved, IsRest, IsStep, IsTakeOf, has_work, is_pending, taken_by, takes_by, texts_of}
-use Rattle.sdb_model.specs.Transactions.{Said, said, said_after, with_answer}
+use Rattle.sdb_model.specs.Follows.{AreOfMoves, AreStepsOf, Follows, IsActed, IsCallOf, IsHowOfDiscard, IsHowOfLose, IsHowOfStep, IsOfMove, IsRest, IsStep, IsTakeOf, has_work, is_pending, takes_of, is_take_of, texts_of}
+use Rattle.sdb_model.specs.Transactions.{Executed, statements_by, statements_after, with_answer}
 use Rattle.sdb_types.proofs.Basics.{assoc, by_test, eq_of, map_last, none_some, some_is}
 use Rattle.sdb_story.proofs.Tellings.{said_more}
 
-abbrev pub taken_texts : List Said → List (List ℕ)
+abbrev pub taken_texts : List Executed → List (List ℕ)
 taken_texts = map (λ s. s.text)
 
 -- the texts that each client has taken are the first of its script
 abbrev pub AreTaken : List ScriptClient → List Event → Type 0
-AreTaken clients past = (c : ℕ) → taken_texts (said c past) ≡ take (taken_by c past) (texts_of clients c)
+AreTaken clients past = (c : ℕ) → taken_texts (statements_by c past) ≡ take (takes_of c past) (texts_of clients c)
 
 -- a text that is taken is its client's next one
 abbrev pub MayCome : List ScriptClient → List Event → Event → Type 0
-MayCome clients past (event.Take c text answer) = slice_get (texts_of clients c) (taken_by c past) ≡ Some text
+MayCome clients past (event.Take c text answer) = slice_get (texts_of clients c) (takes_of c past) ≡ Some text
 MayCome clients past _ = Unit {0}
 
 ---- one event
@@ -49,10 +49,10 @@ counted_more p es e =
     let none : count_by p [] ≡ 0 = refl in
     both ∙ ap (λ (n : ℕ). count_by p es + n) (last ∙ ap (λ (n : ℕ). one_if (p e) + n) none ∙ omega arith)
 
-taken_more : (c : ℕ) (es : List Event) (e : Event) → taken_by c (es ++ e ∷ []) ≡ taken_by c es + one_if (takes_by c e)
-taken_more c es e = counted_more (takes_by c) es e
+taken_more : (c : ℕ) (es : List Event) (e : Event) → takes_of c (es ++ e ∷ []) ≡ takes_of c es + one_if (is_take_of c e)
+taken_more c es e = counted_more (is_take_of c) es e
 
-same_texts : (ss : List Said) (n : ℕ) (a : Answer) → taken_texts (with_answer ss n a) ≡ taken_texts ss
+same_texts : (ss : List Executed) (n : ℕ) (a : Answer) → taken_texts (with_answer ss n a) ≡ taken_texts ss
 same_texts [] n a = refl
 same_texts (s ∷ []) n a = refl
 same_texts (s ∷ t ∷ ss) n a = ap (λ (xs : List (List ℕ)). s.text ∷ xs) (same_texts (t ∷ ss) n a)
@@ -62,23 +62,23 @@ plain n = omega arith
 
 -- the texts of a client after one event
 event_more : (clients : List ScriptClient) (c : ℕ) (past : List Event) (n : ℕ) (e : Event) → MayCome clients past e
-    → taken_texts (said c past) ≡ take (taken_by c past) (texts_of clients c)
-    → taken_texts (said_after c (said c past) (n, e)) ≡ take (taken_by c past + one_if (takes_by c e)) (texts_of clients c)
+    → taken_texts (statements_by c past) ≡ take (takes_of c past) (texts_of clients c)
+    → taken_texts (statements_after c (statements_by c past) (n, e)) ≡ take (takes_of c past + one_if (is_take_of c e)) (texts_of clients c)
 event_more clients c past n (event.Take d text answer) may h =
-    let s : Said = record { taken = n; text = text; answer = answer; reached = n } in
+    let s : Executed = record { taken = n; text = text; answer = answer; reached = n } in
     by_test (d == c)
     (λ t.
-    let here : slice_get (texts_of clients c) (taken_by c past) ≡ Some text = subst (λ (x : ℕ). slice_get (texts_of clients x) (taken_by x past) ≡ Some text) (eq_of d c t) may in
-    rw t (map_last (λ (x : Said). x.text) (said c past) s ∙ ap (λ (ts : List (List ℕ)). ts ++ text ∷ []) h ∙ sym (take_next (texts_of clients c) (taken_by c past) text here)))
-    (λ t. rw t (h ∙ ap (λ (m : ℕ). take m (texts_of clients c)) (plain (taken_by c past))))
+    let here : slice_get (texts_of clients c) (takes_of c past) ≡ Some text = subst (λ (x : ℕ). slice_get (texts_of clients x) (takes_of x past) ≡ Some text) (eq_of d c t) may in
+    rw t (map_last (λ (x : Executed). x.text) (statements_by c past) s ∙ ap (λ (ts : List (List ℕ)). ts ++ text ∷ []) h ∙ sym (take_next (texts_of clients c) (takes_of c past) text here)))
+    (λ t. rw t (h ∙ ap (λ (m : ℕ). take m (texts_of clients c)) (plain (takes_of c past))))
 event_more clients c past n (event.Call d store q how r (Some a)) may h =
     by_test (d == c)
-    (λ t. rw t (same_texts (said c past) n a ∙ h ∙ ap (λ (m : ℕ). take m (texts_of clients c)) (plain (taken_by c past))))
-    (λ t. rw t (h ∙ ap (λ (m : ℕ). take m (texts_of clients c)) (plain (taken_by c past))))
-event_more clients c past n (event.Call d store q how r None) may h = h ∙ ap (λ (m : ℕ). take m (texts_of clients c)) (plain (taken_by c past))
-event_more clients c past n (event.Stop d) may h = h ∙ ap (λ (m : ℕ). take m (texts_of clients c)) (plain (taken_by c past))
-event_more clients c past n (event.Clock d) may h = h ∙ ap (λ (m : ℕ). take m (texts_of clients c)) (plain (taken_by c past))
-event_more clients c past n (event.Idle d) may h = h ∙ ap (λ (m : ℕ). take m (texts_of clients c)) (plain (taken_by c past))
+    (λ t. rw t (same_texts (statements_by c past) n a ∙ h ∙ ap (λ (m : ℕ). take m (texts_of clients c)) (plain (takes_of c past))))
+    (λ t. rw t (h ∙ ap (λ (m : ℕ). take m (texts_of clients c)) (plain (takes_of c past))))
+event_more clients c past n (event.Call d store q how r None) may h = h ∙ ap (λ (m : ℕ). take m (texts_of clients c)) (plain (takes_of c past))
+event_more clients c past n (event.Stop d) may h = h ∙ ap (λ (m : ℕ). take m (texts_of clients c)) (plain (takes_of c past))
+event_more clients c past n (event.Clock d) may h = h ∙ ap (λ (m : ℕ). take m (texts_of clients c)) (plain (takes_of c past))
+event_more clients c past n (event.Idle d) may h = h ∙ ap (λ (m : ℕ). take m (texts_of clients c)) (plain (takes_of c past))
 
 one_more : (clients : List ScriptClient) (past : List Event) (e : Event) → MayCome clients past e → AreTaken clients past → AreTaken clients (past ++ e ∷ [])
 one_more clients past e may h c =
@@ -95,7 +95,7 @@ step_may clients c allowed past (event.Take d text a) true true h = absurd h
 step_may clients c allowed past (event.Stop d) true true h = absurd h
 step_may clients c allowed past (event.Clock d) true true h = absurd h
 step_may clients c allowed past (event.Idle d) true true h = absurd h
-step_may clients c allowed past (event.Take d text a) true false h = subst (λ (x : ℕ). slice_get (texts_of clients x) (taken_by x past) ≡ Some text) (sym h.0) h.1
+step_may clients c allowed past (event.Take d text a) true false h = subst (λ (x : ℕ). slice_get (texts_of clients x) (takes_of x past) ≡ Some text) (sym h.0) h.1
 step_may clients c allowed past (event.Call d store q how r a) true false h = tt
 step_may clients c allowed past (event.Stop d) true false h = tt
 step_may clients c allowed past (event.Clock d) true false h = tt
@@ -121,12 +121,12 @@ rest_taken clients c past [] h t = subst (AreTaken clients) (sym (append-nil pas
 rest_taken clients c past (e ∷ es) (d, turn, step, rest) t =
     subst (AreTaken clients) (assoc past (e ∷ []) es) (rest_taken clients (d + 1) (past ++ e ∷ []) es rest (stepped clients d IsHowOfStep past e step t))
 
-move_taken : (clients : List ScriptClient) (m : Move) (past es : List Event) → IsMoved clients m past es → AreTaken clients past → AreTaken clients (past ++ es)
+move_taken : (clients : List ScriptClient) (m : Move) (past es : List Event) → IsOfMove clients m past es → AreTaken clients past → AreTaken clients (past ++ es)
 move_taken clients (move.Act a) past es (e, one, h) t = subst (λ (xs : List Event). AreTaken clients (past ++ xs)) (sym one) (acted clients a past e h t)
 move_taken clients (move.Repeat c times) past es h t = steps_taken clients c past es h.1 t
 move_taken clients move.Rest past es h t = rest_taken clients 1 past es h t
 
-moves_taken : (clients : List ScriptClient) (ms : List Move) (past es : List Event) → AreMoved clients ms past es → AreTaken clients past → AreTaken clients (past ++ es)
+moves_taken : (clients : List ScriptClient) (ms : List Move) (past es : List Event) → AreOfMoves clients ms past es → AreTaken clients past → AreTaken clients (past ++ es)
 moves_taken clients [] past es h t = subst (AreTaken clients) (sym (ap (λ (xs : List Event). past ++ xs) h ∙ append-nil past)) t
 moves_taken clients (m ∷ ms) past es (front, back, whole, moved, rest) t =
     subst (AreTaken clients) (assoc past front back ∙ ap (λ (xs : List Event). past ++ xs) (sym whole)) (moves_taken clients ms (past ++ front) back rest (move_taken clients m past front moved t))

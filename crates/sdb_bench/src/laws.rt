@@ -5,16 +5,16 @@ ghost use Rattle.sdb_types.specs.declared.key.TableName.{TableName};
 ghost use Rattle.sdb_record.specs.Coordinator.{is_coordinator_table};
 ghost use Rattle.sdb_schema.specs.Catalog.{is_catalog};
 ghost use Rattle.sdb_model.specs.declared.event.Outcome.{Outcome};
-ghost use Rattle.sdb_model.specs.Events.{Shelf};
+ghost use Rattle.sdb_model.specs.Events.{StoreContents};
 ghost use Rattle.sdb_model.specs.Exec.{find_table};
 ghost use Rattle.sdb_model.specs.Follows.{texts_of};
-ghost use Rattle.sdb_model.specs.Told.{IsRun};
+ghost use Rattle.sdb_model.specs.Serial.{IsRun};
 ghost use Rattle.sdb_bench.specs.Counts.{uneven_of};
 ghost use Rattle.sdb_bench.specs.Script.{IsOfNine, bench_script_of};
 
 /// A run of a bench has no uneven pair, whichever of its transactions are committed.
 pub fn runs_are_even()
-    ensures { (n : ℕ) (first last : List ℕ) (opening closing : List Shelf) (outcome : Outcome) → IsRun (bench_script_of n first last) opening closing outcome → uneven_of outcome.tables ≡ 0 }
+    ensures { (n : ℕ) (first last : List ℕ) (opening closing : List StoreContents) (outcome : Outcome) → IsRun (bench_script_of n first last) opening closing outcome → uneven_of outcome.tables ≡ 0 }
 {}
 
 /// The script of a bench is playable: its catalog is well formed and has no table of the coordinator, it has nine clients with short

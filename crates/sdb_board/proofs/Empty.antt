@@ -23,19 +23,19 @@ use Rattle.sdb_types.proofs.Bools.{and_first, and_second}
 use Rattle.sdb_types.specs.Exact.{equal_of}
 use Rattle.sdb_laws.proofs.Shown.{row_there}
 use Rattle.sdb_schema.specs.declared.table.Table.{Table}
-use Rattle.sdb_stores.specs.Shelf.{Attached, Shelf as Counted, home, home_in, names_of}
+use Rattle.sdb_stores.specs.Views.{Attached, StoreView as Counted, home, home_in, names_of}
 use Rattle.sdb_stores.specs.declared.place.Place.{Place}
 use Rattle.sdb_model.specs.Rows.{Name}
-use Rattle.sdb_model.specs.Events.{Shelf, held_by, store_of}
+use Rattle.sdb_model.specs.Events.{StoreContents, contents_under, store_of}
 use Rattle.sdb_spread.specs.Spread.{HoldAs}
-use Rattle.sdb_board.specs.Board.{AreFit, AreFitFor, GoOn, HoldTheSame, IsCalled, KnownStay, shown}
+use Rattle.sdb_board.specs.Board.{AreUsable, AreUsableFor, GoOn, HoldTheSame, IsCalled, KnownAreUnchanged, contents_of_views}
 use Rattle.sdb_board.specs.Opening.{HoldNothing, IsFirstKey, records_of, records_in, run_tables, opening_records, opening_in, first_key, whole}
 use Rattle.sdb_board.proofs.GoesOn.{fit_for, fit_for_on}
 use Rattle.sdb_board.proofs.Lists.{all_at}
 use Rattle.sdb_board.proofs.Shelves.{held_at, named_home}
 use Rattle.sdb_board.proofs.RunTables.{names_played, of_played}
 use Rattle.sdb_types.proofs.Basics.{none_some, some_is, take_all as taken_up}
-use Rattle.sdb_model.specs.Tables.{is_played}
+use Rattle.sdb_model.specs.Tables.{is_table_of_run}
 
 pub nothing_at : (key : Key) → record_at empty key ≡ None
 nothing_at key = ap (option_map (λ columns. record_of (key, columns))) (get-empty key_cmp key)
@@ -65,12 +65,12 @@ none_each f [] e = tt
 none_each f (t ∷ ts) e = let both = no_append (f t) (flat_map f ts) e in (both.0, none_each f ts both.1)
 
 -- where there is no first record, there is none
-pub no_record : (catalog : List Table) (places : List Place) (shelves : List Shelf) → first_key (opening_records catalog places shelves) ≡ None → HoldAs catalog places shelves empty
+pub no_record : (catalog : List Table) (places : List Place) (shelves : List StoreContents) → first_key (opening_records catalog places shelves) ≡ None → HoldAs catalog places shelves empty
 no_record catalog places shelves e =
     let each = none_each (records_of places shelves) (run_tables catalog) (none_first (opening_records catalog places shelves) e) in
     record {
       at = λ key about.
-          none_there (held_by shelves (store_of places shelves key.table.ns)) key (of_played (λ (t : TableName). records_of places shelves t ≡ []) catalog key.table each about) ∙ sym (nothing_at key);
+          none_there (contents_under shelves (store_of places shelves key.table.ns)) key (of_played (λ (t : TableName). records_of places shelves t ≡ []) catalog key.table each about) ∙ sym (nothing_at key);
     }
 
 -- the rows that a scan found are those of its table
@@ -115,77 +115,77 @@ looked_at ts i t within is = slice_get-get_or ts i t within ∙ ap Some (sym is)
 ---- table by table
 
 -- a table that is scanned after others holds what it held at first
-pub scanned_behind : (catalog : List Table) (old mid : Attached) (table : TableName) (rows : List Record) → GoOn old mid → (AreFit catalog old → HoldTheSame old mid)
-    → (AreFitFor table mid → rows ≡ records_in mid table) → is_played catalog table ≡ true → AreFit catalog old → rows ≡ records_in old table
+pub scanned_behind : (catalog : List Table) (old mid : Attached) (table : TableName) (rows : List Record) → GoOn old mid → (AreUsable catalog old → HoldTheSame old mid)
+    → (AreUsableFor table mid → rows ≡ records_in mid table) → is_table_of_run catalog table ≡ true → AreUsable catalog old → rows ≡ records_in old table
 scanned_behind catalog old mid table rows goes still found about fit =
-    found (fit_for catalog mid table about (goes.fit catalog fit)) ∙ ap (λ (ps : List Place). records_of ps (shown mid.shelves) table) goes.places
-    ∙ ap (λ (ss : List Shelf). records_of old.places ss table) (still fit)
+    found (fit_for catalog mid table about (goes.fit catalog fit)) ∙ ap (λ (ps : List Place). records_of ps (contents_of_views mid.views) table) goes.places
+    ∙ ap (λ (ss : List StoreContents). records_of old.places ss table) (still fit)
 
 -- nothing became of the stores by a scan more
-pub still_behind : (catalog : List Table) (old mid new : Attached) (table : TableName) → GoOn old mid → (AreFit catalog old → HoldTheSame old mid) → (AreFitFor table mid → HoldTheSame mid new) → is_played catalog table ≡ true → AreFit catalog old → HoldTheSame old new
+pub still_behind : (catalog : List Table) (old mid new : Attached) (table : TableName) → GoOn old mid → (AreUsable catalog old → HoldTheSame old mid) → (AreUsableFor table mid → HoldTheSame mid new) → is_table_of_run catalog table ≡ true → AreUsable catalog old → HoldTheSame old new
 still_behind catalog old mid new table goes before after about fit = after (fit_for catalog mid table about (goes.fit catalog fit)) ∙ before fit
 
 -- each table that is looked at is one of the run's
-pub looked_about : (catalog : List Table) (ts : List TableName) (i : ℕ) (table : TableName) → ts ≡ run_tables catalog → slice_get ts i ≡ Some table → is_played catalog table ≡ true
+pub looked_about : (catalog : List Table) (ts : List TableName) (i : ℕ) (table : TableName) → ts ≡ run_tables catalog → slice_get ts i ≡ Some table → is_table_of_run catalog table ≡ true
 looked_about catalog ts i table all here =
-    all_at (λ (n : TableName). is_played catalog n ≡ true) ts i table (subst (AllByRecursion (λ (n : TableName). is_played catalog n ≡ true)) (sym all) (names_played catalog)) here
+    all_at (λ (n : TableName). is_table_of_run catalog n ≡ true) ts i table (subst (AllByRecursion (λ (n : TableName). is_table_of_run catalog n ≡ true)) (sym all) (names_played catalog)) here
 
 -- what the tables so far hold
 abbrev pub looked : Attached → List TableName → ℕ → List Record
 looked stores ts i = flat_map (records_in stores) (take i ts)
 
 -- a table that holds no record
-pub look_on : (catalog : List Table) (old mid : Attached) (ts : List TableName) (i : ℕ) (table : TableName) (rows : List Record) (first : Option Key) → ts ≡ run_tables catalog → slice_get ts i ≡ Some table → GoOn old mid → (AreFit catalog old → HoldTheSame old mid)
-    → (AreFit catalog old → looked old ts i ≡ []) → (AreFitFor table mid → rows ≡ records_in mid table) → first ≡ first_key rows → first ≡ None
-    → AreFit catalog old → looked old ts (i + 1) ≡ []
+pub look_on : (catalog : List Table) (old mid : Attached) (ts : List TableName) (i : ℕ) (table : TableName) (rows : List Record) (first : Option Key) → ts ≡ run_tables catalog → slice_get ts i ≡ Some table → GoOn old mid → (AreUsable catalog old → HoldTheSame old mid)
+    → (AreUsable catalog old → looked old ts i ≡ []) → (AreUsableFor table mid → rows ≡ records_in mid table) → first ≡ first_key rows → first ≡ None
+    → AreUsable catalog old → looked old ts (i + 1) ≡ []
 look_on catalog old mid ts i table rows first all here goes still before found is none fit =
     let rows_are = scanned_behind catalog old mid table rows goes still found (looked_about catalog ts i table all here) fit in
     ap (looked old ts) (add-one i) ∙ none_behind (records_in old) ts i table here (before fit) (sym rows_are ∙ none_first rows (sym is ∙ none))
 
 -- a table that holds one
-pub look_found : (catalog : List Table) (old mid : Attached) (ts : List TableName) (i : ℕ) (table : TableName) (rows : List Record) (first : Option Key) (key : Key) → ts ≡ run_tables catalog → slice_get ts i ≡ Some table → GoOn old mid → (AreFit catalog old → HoldTheSame old mid)
-    → (AreFit catalog old → looked old ts i ≡ []) → (AreFitFor table mid → rows ≡ records_in mid table) → first ≡ first_key rows → first ≡ Some key
-    → AreFit catalog old → Some key ≡ first_key (opening_in catalog old)
+pub look_found : (catalog : List Table) (old mid : Attached) (ts : List TableName) (i : ℕ) (table : TableName) (rows : List Record) (first : Option Key) (key : Key) → ts ≡ run_tables catalog → slice_get ts i ≡ Some table → GoOn old mid → (AreUsable catalog old → HoldTheSame old mid)
+    → (AreUsable catalog old → looked old ts i ≡ []) → (AreUsableFor table mid → rows ≡ records_in mid table) → first ≡ first_key rows → first ≡ Some key
+    → AreUsable catalog old → Some key ≡ first_key (opening_in catalog old)
 look_found catalog old mid ts i table rows first key all here goes still before found is some fit =
     let rows_are = scanned_behind catalog old mid table rows goes still found (looked_about catalog ts i table all here) fit in
     sym (ap (λ (xs : List TableName). first_key (flat_map (records_in old) xs)) (sym all) ∙ first_behind (records_in old) ts i table key here (before fit) (ap first_key (sym rows_are) ∙ sym is ∙ some))
 
 -- all hold none
-pub look_done : (catalog : List Table) (old : Attached) (ts : List TableName) (i : ℕ) → ts ≡ run_tables catalog → length ts ≤ i → (AreFit catalog old → looked old ts i ≡ []) → AreFit catalog old → None ≡ first_key (opening_in catalog old)
+pub look_done : (catalog : List Table) (old : Attached) (ts : List TableName) (i : ℕ) → ts ≡ run_tables catalog → length ts ≤ i → (AreUsable catalog old → looked old ts i ≡ []) → AreUsable catalog old → None ≡ first_key (opening_in catalog old)
 look_done catalog old ts i all up before fit =
     sym (ap first_key (ap (flat_map (records_in old)) (sym all ∙ sym (taken_up ts i up)) ∙ before fit))
 
 ---- table by table, as far as contents are known
 
 -- the records of a table are those of the store where it is kept
-records_home : (stores : Attached) (table : TableName) (s : Counted) → AreFitFor table stores → slice_get stores.shelves (home_in stores table.ns) ≡ Some s → records_in stores table ≡ rows_in (whole table) s.contents
+records_home : (stores : Attached) (table : TableName) (s : Counted) → AreUsableFor table stores → slice_get stores.views (home_in stores table.ns) ≡ Some s → records_in stores table ≡ rows_in (whole table) s.contents
 records_home stores table s fit here =
     let at = home_in stores table.ns in
-    let name : slice_get (names_of stores.shelves) at ≡ Some s.name = slice_get-map (λ (x : Counted). x.name) stores.shelves at ∙ ap (option_map (λ (x : Counted). x.name)) here in
-    let store : store_of stores.places (shown stores.shelves) table.ns ≡ s.name = some_is _ _ (sym (named_home stores.places stores.shelves table.ns fit.some (fit.homed table.ns)) ∙ name) in
-    ap (λ (n : Name). option_map_or (rows_in (whole table)) (held_by (shown stores.shelves) n) []) store
-    ∙ ap (λ (o : Option Contents). option_map_or (rows_in (whole table)) o []) (held_at stores.shelves at s fit.distinct here)
+    let name : slice_get (names_of stores.views) at ≡ Some s.name = slice_get-map (λ (x : Counted). x.name) stores.views at ∙ ap (option_map (λ (x : Counted). x.name)) here in
+    let store : store_of stores.places (contents_of_views stores.views) table.ns ≡ s.name = some_is _ _ (sym (named_home stores.places stores.views table.ns fit.some (fit.homed table.ns)) ∙ name) in
+    ap (λ (n : Name). option_map_or (rows_in (whole table)) (contents_under (contents_of_views stores.views) n) []) store
+    ∙ ap (λ (o : Option Contents). option_map_or (rows_in (whole table)) o []) (held_at stores.views at s fit.distinct here)
 
 -- a table whose store has known contents holds what it held
-pub records_stay : (old mid : Attached) (table : TableName) → GoOn old mid → KnownStay old mid → AreFitFor table old → records_in mid table ≡ records_in old table
-records_stay old mid table goes stay fit = by (slice_get old.shelves at) refl
+pub records_stay : (old mid : Attached) (table : TableName) → GoOn old mid → KnownAreUnchanged old mid → AreUsableFor table old → records_in mid table ≡ records_in old table
+records_stay old mid table goes stay fit = by (slice_get old.views at) refl
   where
     at : ℕ
     at = home_in old table.ns
 
     same : home_in mid table.ns ≡ at
-    same = ap (λ (ps : List Place). home table.ns ps (names_of mid.shelves)) goes.places ∙ ap (home table.ns old.places) goes.names
+    same = ap (λ (ps : List Place). home table.ns ps (names_of mid.views)) goes.places ∙ ap (home table.ns old.places) goes.names
 
-    then : (s : Counted) → slice_get old.shelves at ≡ Some s → (o : Option Counted) → slice_get mid.shelves at ≡ o → IsSomeAnd o (λ now. now.contents ≡ s.contents) → records_in mid table ≡ records_in old table
+    then : (s : Counted) → slice_get old.views at ≡ Some s → (o : Option Counted) → slice_get mid.views at ≡ o → IsSomeAnd o (λ now. now.contents ≡ s.contents) → records_in mid table ≡ records_in old table
     then s here None e h = absurd h
     then s here (Some now) e h =
-        records_home mid table now (fit_for_on old mid table goes fit) (ap (slice_get mid.shelves) same ∙ e) ∙ ap (rows_in (whole table)) h ∙ sym (records_home old table s fit here)
+        records_home mid table now (fit_for_on old mid table goes fit) (ap (slice_get mid.views) same ∙ e) ∙ ap (rows_in (whole table)) h ∙ sym (records_home old table s fit here)
 
-    by : (o : Option Counted) → slice_get old.shelves at ≡ o → records_in mid table ≡ records_in old table
+    by : (o : Option Counted) → slice_get old.views at ≡ o → records_in mid table ≡ records_in old table
     by None e =
-        let name = slice_get-map (λ (x : Counted). x.name) old.shelves at ∙ ap (option_map (λ (x : Counted). x.name)) e in
-        absurd (none_some _ (sym name ∙ named_home old.places old.shelves table.ns fit.some (fit.homed table.ns)))
-    by (Some s) e = then s e (slice_get mid.shelves at) refl (stay at s fit.telling e)
+        let name = slice_get-map (λ (x : Counted). x.name) old.views at ∙ ap (option_map (λ (x : Counted). x.name)) e in
+        absurd (none_some _ (sym name ∙ named_home old.places old.views table.ns fit.some (fit.homed table.ns)))
+    by (Some s) e = then s e (slice_get mid.views at) refl (stay at s fit.where_known e)
 
 -- a record that a scan found is of its table
 first_of : (table : TableName) (rows : List Record) (key : Key) → are_rows_of (whole table) rows ≡ true → first_key rows ≡ Some key → key.table ≡ table
@@ -195,22 +195,22 @@ first_of table (r ∷ rs) key of e =
     ap (λ (k : Key). k.table) (sym (some_is r.key key e)) ∙ sym (table_exact table r.key.table (equal_of (table_cmp table r.key.table) (and_first _ _ inside)))
 
 abbrev pub NoneUntil : List TableName → Attached → ℕ → Type 0
-NoneUntil tables stores at = (i : ℕ) (t : TableName) → i < at → slice_get tables i ≡ Some t → AreFitFor t stores → records_in stores t ≡ []
+NoneUntil tables stores at = (i : ℕ) (t : TableName) → i < at → slice_get tables i ≡ Some t → AreUsableFor t stores → records_in stores t ≡ []
 
 -- one table more that holds none
-pub none_more : (old mid : Attached) (ts : List TableName) (i : ℕ) (table : TableName) (rows : List Record) (first : Option Key) → slice_get ts i ≡ Some table → GoOn old mid → KnownStay old mid → NoneUntil ts old i → (AreFitFor table mid → rows ≡ records_in mid table)
+pub none_more : (old mid : Attached) (ts : List TableName) (i : ℕ) (table : TableName) (rows : List Record) (first : Option Key) → slice_get ts i ≡ Some table → GoOn old mid → KnownAreUnchanged old mid → NoneUntil ts old i → (AreUsableFor table mid → rows ≡ records_in mid table)
     → first ≡ first_key rows → first ≡ None → NoneUntil ts old (i + 1)
 none_more old mid ts i table rows first here goes stay before found is none j t low there fit = by (j == i) refl
   where
     by : (b : Bool) → (j == i) ≡ b → records_in old t ≡ []
     by true e =
         let same : table ≡ t = some_is table t (sym here ∙ sym (ap (slice_get ts) (eqb-true j i e)) ∙ there) in
-        let fit_table : AreFitFor table old = subst (λ (x : TableName). AreFitFor x old) (sym same) fit in
+        let fit_table : AreUsableFor table old = subst (λ (x : TableName). AreUsableFor x old) (sym same) fit in
         ap (records_in old) (sym same) ∙ sym (records_stay old mid table goes stay fit_table) ∙ sym (found (fit_for_on old mid table goes fit_table)) ∙ none_first rows (sym is ∙ none)
     by false e = let apart = eqb-false j i e in before j t (omega (arith, low, apart)) there fit
 
 -- the first table that holds one
-pub first_found : (old mid : Attached) (ts : List TableName) (i : ℕ) (table : TableName) (rows : List Record) (first : Option Key) (key : Key) → slice_get ts i ≡ Some table → GoOn old mid → KnownStay old mid → NoneUntil ts old i → (AreFitFor table mid → rows ≡ records_in mid table)
+pub first_found : (old mid : Attached) (ts : List TableName) (i : ℕ) (table : TableName) (rows : List Record) (first : Option Key) (key : Key) → slice_get ts i ≡ Some table → GoOn old mid → KnownAreUnchanged old mid → NoneUntil ts old i → (AreUsableFor table mid → rows ≡ records_in mid table)
     → are_rows_of (whole table) rows ≡ true → first ≡ first_key rows → first ≡ Some key → IsFirstKey ts old key
 first_found old mid ts i table rows first key here goes stay before found of is some =
     let named : key.table ≡ table = first_of table rows key of (sym is ∙ some) in
@@ -218,7 +218,7 @@ first_found old mid ts i table rows first key here goes stay before found of is 
       at = i;
       table = here ∙ ap Some (sym named);
       first = λ fit.
-          let fit_table : AreFitFor table old = subst (λ (x : TableName). AreFitFor x old) named fit in
+          let fit_table : AreUsableFor table old = subst (λ (x : TableName). AreUsableFor x old) named fit in
           ap (λ (x : TableName). first_key (records_in old x)) named ∙ ap first_key (sym (records_stay old mid table goes stay fit_table) ∙ sym (found (fit_for_on old mid table goes fit_table))) ∙ sym is ∙ some;
       none = before;
     }

@@ -12,11 +12,11 @@ use Rattle.sdb_types.specs.declared.record.Reply.{Reply}
 use Rattle.sdb_types.specs.declared.record.Reply.TheVariants as reply
 use Rattle.sdb_types.specs.Contents.{Contents, after}
 use Rattle.sdb_store.specs.Store.{Performs}
-use Rattle.sdb_stores.specs.Shelf.{Attached, Shelf as Counted, IsCallAt, names_of, home_in, table_of}
+use Rattle.sdb_stores.specs.Views.{Attached, StoreView as Counted, IsCallAt, names_of, home_in, table_of}
 use Rattle.sdb_model.specs.declared.event.How.TheVariants.{Seen, Lost, Discarded}
 use Rattle.sdb_model.specs.Rows.{Name}
-use Rattle.sdb_model.specs.Events.{IsPerformed, held_by, with_contents, store_of, table_asked}
-use Rattle.sdb_board.specs.Board.{AreFitFor, HoldTheSame, IsCalled, IsMade, KnownStay, how_lost, how_seen, reply_lost, shown}
+use Rattle.sdb_model.specs.Events.{IsPerformed, contents_under, with_contents, store_of, table_asked}
+use Rattle.sdb_board.specs.Board.{AreUsableFor, HoldTheSame, IsCalled, IsMade, KnownAreUnchanged, how_lost, how_seen, reply_lost, contents_of_views}
 use Rattle.sdb_board.proofs.Shelves.{held_at, set_there, set_still, named_home}
 use Rattle.sdb_types.proofs.Basics.{some_is}
 use Rattle.sdb_model.specs.Calls.{is_read}
@@ -55,38 +55,38 @@ kept q reply.Applied old new e p = p.1 ∙ stays q old e
 kept q (reply.NotMet found) old new e p = p.1 ∙ stays q old e
 
 -- a read leaves each store of known contents as it was
-pub known_stay : (at : ℕ) (q : Request) (r : Reply) (old new : Attached) → IsCallAt at q r old new → is_read q ≡ true → KnownStay old new
+pub known_stay : (at : ℕ) (q : Request) (r : Reply) (old new : Attached) → IsCallAt at q r old new → is_read q ≡ true → KnownAreUnchanged old new
 known_stay at q r old new call read i store tells here =
     subst (λ (ss : List Counted). IsSomeAnd (slice_get ss i) (λ now. now.contents ≡ store.contents)) (sym call.rest) (by (i == at) refl)
   where
-    by : (b : Bool) → (i == at) ≡ b → IsSomeAnd (slice_get (slice_set old.shelves at call.now) i) (λ now. now.contents ≡ store.contents)
+    by : (b : Bool) → (i == at) ≡ b → IsSomeAnd (slice_get (slice_set old.views at call.now) i) (λ now. now.contents ≡ store.contents)
     by true e =
         let same : i ≡ at = eqb-true i at e in
-        let before : call.before ≡ store = some_is call.before store (sym call.stood ∙ sym (ap (slice_get old.shelves) same) ∙ here) in
-        let within : at < length old.shelves = slice_get_within old.shelves at call.before call.stood in
-        let there : slice_get (slice_set old.shelves at call.now) i ≡ Some call.now =
-        ap (slice_get (slice_set old.shelves at call.now)) same
-        ∙ slice_get-get_or (slice_set old.shelves at call.now) at call.now (subst (λ (n : ℕ). at < n) (sym (length-set old.shelves at call.now)) within)
-        ∙ ap Some (get_or-set_same old.shelves at call.now call.now within) in
-        let held : call.now.contents ≡ store.contents = kept q r call.before.contents call.now.contents read (call.performed (subst old.tells same tells)) ∙ ap (λ (x : Counted). x.contents) before in
+        let before : call.before ≡ store = some_is call.before store (sym call.stood ∙ sym (ap (slice_get old.views) same) ∙ here) in
+        let within : at < length old.views = slice_get_within old.views at call.before call.stood in
+        let there : slice_get (slice_set old.views at call.now) i ≡ Some call.now =
+        ap (slice_get (slice_set old.views at call.now)) same
+        ∙ slice_get-get_or (slice_set old.views at call.now) at call.now (subst (λ (n : ℕ). at < n) (sym (length-set old.views at call.now)) within)
+        ∙ ap Some (get_or-set_same old.views at call.now call.now within) in
+        let held : call.now.contents ≡ store.contents = kept q r call.before.contents call.now.contents read (call.performed (subst old.known same tells)) ∙ ap (λ (x : Counted). x.contents) before in
         subst (λ (o : Option Counted). IsSomeAnd o (λ now. now.contents ≡ store.contents)) (sym there) held
     by false e =
-        let within : i < length old.shelves = slice_get_within old.shelves i store here in
-        let there : slice_get (slice_set old.shelves at call.now) i ≡ Some store =
-        slice_get-get_or (slice_set old.shelves at call.now) i store (subst (λ (n : ℕ). i < n) (sym (length-set old.shelves at call.now)) within)
-        ∙ ap Some (get_or-set_other old.shelves at i call.now store (λ k. eqb-false i at e k) ∙ get_or_from_slice_get old.shelves i store store here) in
+        let within : i < length old.views = slice_get_within old.views i store here in
+        let there : slice_get (slice_set old.views at call.now) i ≡ Some store =
+        slice_get-get_or (slice_set old.views at call.now) i store (subst (λ (n : ℕ). i < n) (sym (length-set old.views at call.now)) within)
+        ∙ ap Some (get_or-set_other old.views at i call.now store (λ k. eqb-false i at e k) ∙ get_or_from_slice_get old.views i store store here) in
         subst (λ (o : Option Counted). IsSomeAnd o (λ now. now.contents ≡ store.contents)) (sym there) refl
 
-module _ (old : Attached) (q : Request) (fit : AreFitFor (table_asked q) old) where
+module _ (old : Attached) (q : Request) (fit : AreUsableFor (table_asked q) old) where
   -- the store at the home of a table is the one of its namespace
-  there_is : (s : Counted) → slice_get old.shelves (home_in old (table_of q).ns) ≡ Some s → store_of old.places (shown old.shelves) (table_asked q).ns ≡ s.name
+  there_is : (s : Counted) → slice_get old.views (home_in old (table_of q).ns) ≡ Some s → store_of old.places (contents_of_views old.views) (table_asked q).ns ≡ s.name
   there_is s at =
-      let name : slice_get (names_of old.shelves) (home_in old (table_of q).ns) ≡ Some s.name = slice_get-map (λ (s : Counted). s.name) old.shelves (home_in old (table_of q).ns) ∙ ap (option_map (λ (s : Counted). s.name)) at in
-      let store : s.name ≡ store_of old.places (shown old.shelves) (table_of q).ns = some_is _ _ (sym name ∙ named_home old.places old.shelves (table_of q).ns fit.some (fit.homed (table_of q).ns)) in
-      ap (λ (t : TableName). store_of old.places (shown old.shelves) t.ns) (sym (asked q)) ∙ sym store
+      let name : slice_get (names_of old.views) (home_in old (table_of q).ns) ≡ Some s.name = slice_get-map (λ (s : Counted). s.name) old.views (home_in old (table_of q).ns) ∙ ap (option_map (λ (s : Counted). s.name)) at in
+      let store : s.name ≡ store_of old.places (contents_of_views old.views) (table_of q).ns = some_is _ _ (sym name ∙ named_home old.places old.views (table_of q).ns fit.some (fit.homed (table_of q).ns)) in
+      ap (λ (t : TableName). store_of old.places (contents_of_views old.views) t.ns) (sym (asked q)) ∙ sym store
 
-  told_there : old.tells (home_in old (table_of q).ns)
-  told_there = subst (λ (t : TableName). old.tells (home_in old t.ns)) (sym (asked q)) fit.telling
+  told_there : old.known (home_in old (table_of q).ns)
+  told_there = subst (λ (t : TableName). old.known (home_in old t.ns)) (sym (asked q)) fit.where_known
 
   -- A call on the store at the home of its table is one on the store of its table's namespace.
   pub called : (new : Attached) (r : Reply) → IsCallAt (home_in old (table_of q).ns) q r old new → IsCalled q r old new
@@ -96,22 +96,22 @@ module _ (old : Attached) (q : Request) (fit : AreFitFor (table_asked q) old) wh
         held = call.before.contents;
         left = call.now.contents;
         placed = refl;
-        found = ap (λ (n : Name). held_by (shown old.shelves) n) there ∙ held_at old.shelves _ call.before fit.distinct call.stood;
+        found = ap (λ (n : Name). contents_under (contents_of_views old.views) n) there ∙ held_at old.views _ call.before fit.distinct call.stood;
         performed = performed q r call.before.contents call.now.contents (call.performed told_there);
-        others = ap shown call.rest ∙ set_there old.shelves _ call.before call.now fit.distinct call.stood call.name ∙ ap (λ (n : Name). with_contents (shown old.shelves) n call.now.contents) (sym there);
+        others = ap contents_of_views call.rest ∙ set_there old.views _ call.before call.now fit.distinct call.stood call.name ∙ ap (λ (n : Name). with_contents (contents_of_views old.views) n call.now.contents) (sym there);
       }
 
   pub still : (new : Attached) (r : Reply) → IsCallAt (home_in old (table_of q).ns) q r old new → is_read q ≡ true → HoldTheSame old new
-  still new r call e = ap shown call.rest ∙ set_still old.shelves _ call.before call.now call.stood call.name (kept q r call.before.contents call.now.contents e (call.performed told_there))
+  still new r call e = ap contents_of_views call.rest ∙ set_still old.views _ call.before call.now call.stood call.name (kept q r call.before.contents call.now.contents e (call.performed told_there))
 
   -- A call that is discarded is made on no store.
   pub discarded : IsMade q Discarded reply.Fault old old
-  discarded = by (slice_get old.shelves (home_in old (table_of q).ns)) refl
+  discarded = by (slice_get old.views (home_in old (table_of q).ns)) refl
     where
-      by : (o : Option Counted) → slice_get old.shelves (home_in old (table_of q).ns) ≡ o → IsMade q Discarded reply.Fault old old
+      by : (o : Option Counted) → slice_get old.views (home_in old (table_of q).ns) ≡ o → IsMade q Discarded reply.Fault old old
       by None at =
-          let name = slice_get-map (λ (s : Counted). s.name) old.shelves (home_in old (table_of q).ns) ∙ ap (option_map (λ (s : Counted). s.name)) at in
-          absurd (none_some _ (sym name ∙ named_home old.places old.shelves (table_of q).ns fit.some (fit.homed (table_of q).ns)))
+          let name = slice_get-map (λ (s : Counted). s.name) old.views (home_in old (table_of q).ns) ∙ ap (option_map (λ (s : Counted). s.name)) at in
+          absurd (none_some _ (sym name ∙ named_home old.places old.views (table_of q).ns fit.some (fit.homed (table_of q).ns)))
         where
           none_some : {A : Type 0} (x : A) → ◌≡◌ {A = Option A} None (Some x) → ⊥
           none_some x e = cc
@@ -121,9 +121,9 @@ module _ (old : Attached) (q : Request) (fit : AreFitFor (table_asked q) old) wh
             held = s.contents;
             left = s.contents;
             placed = refl;
-            found = ap (λ (n : Name). held_by (shown old.shelves) n) there ∙ held_at old.shelves _ s fit.distinct at;
+            found = ap (λ (n : Name). contents_under (contents_of_views old.views) n) there ∙ held_at old.views _ s fit.distinct at;
             performed = (refl, refl);
-            others = sym (set_still old.shelves _ s s at refl refl) ∙ set_there old.shelves _ s s fit.distinct at refl ∙ ap (λ (n : Name). with_contents (shown old.shelves) n s.contents) (sym there);
+            others = sym (set_still old.views _ s s at refl refl) ∙ set_there old.views _ s s fit.distinct at refl ∙ ap (λ (n : Name). with_contents (contents_of_views old.views) n s.contents) (sym there);
           }
 
 -- a call that answered, and whose reply is lost

@@ -18,7 +18,7 @@ use Rattle.sdb_model.specs.Exec.{find_table}
 use Rattle.sdb_board.specs.Opening.{run_tables, table_names}
 use Rattle.sdb_board.proofs.Lists.{take_suc}
 use Rattle.sdb_types.proofs.Basics.{by_test, or_second, all_each, either as or_cases}
-use Rattle.sdb_model.specs.Tables.{is_played}
+use Rattle.sdb_model.specs.Tables.{is_table_of_run}
 
 or_first : (a b : Bool) → a ≡ true → (a || b) ≡ true
 or_first a b e = ap (λ (x : Bool). x || b) e
@@ -70,17 +70,17 @@ each_found (t ∷ ts) = (
 )
 
 -- each table of a catalog is one of the run's
-pub each_played : (catalog : List Table) → AllByRecursion (λ (t : Table). is_played catalog t.name ≡ true) catalog
+pub each_played : (catalog : List Table) → AllByRecursion (λ (t : Table). is_table_of_run catalog t.name ≡ true) catalog
 each_played catalog =
-    all_each (λ (t : Table). is_some (find_table catalog t.name) ≡ true) (λ (t : Table). is_played catalog t.name ≡ true) catalog
+    all_each (λ (t : Table). is_some (find_table catalog t.name) ≡ true) (λ (t : Table). is_table_of_run catalog t.name ≡ true) catalog
     (λ t h. or_first (is_some (find_table catalog t.name)) (is_coordinator_table t.name) h) (each_found catalog)
 
 -- so is each that is looked at
-pub names_played : (catalog : List Table) → AllByRecursion (λ (n : TableName). is_played catalog n ≡ true) (run_tables catalog)
+pub names_played : (catalog : List Table) → AllByRecursion (λ (n : TableName). is_table_of_run catalog n ≡ true) (run_tables catalog)
 names_played catalog =
-    with_one (λ (n : TableName). is_played catalog n ≡ true) (table_names catalog) (length (take_while (λ (n : TableName). is_lt (table_cmp n coordinator_table)) (table_names catalog))) coordinator_table
+    with_one (λ (n : TableName). is_table_of_run catalog n ≡ true) (table_names catalog) (length (take_while (λ (n : TableName). is_lt (table_cmp n coordinator_table)) (table_names catalog))) coordinator_table
     (or_second (is_some (find_table catalog coordinator_table)) (is_coordinator_table coordinator_table) refl)
-    (all_names (λ (n : TableName). is_played catalog n ≡ true) catalog (each_played catalog))
+    (all_names (λ (n : TableName). is_table_of_run catalog n ≡ true) catalog (each_played catalog))
 
 -- the coordinator's table is the one of its name
 pub coordinator_is : (table : TableName) → is_coordinator_table table ≡ true → table ≡ coordinator_table
@@ -95,7 +95,7 @@ of_found P (t ∷ ts) table all h =
     (λ e. of_found P ts table all.1 (sym (ap (λ (b : Bool). is_some (cond b (Some t) (find_table ts table))) e) ∙ h))
 
 -- what is so of each that is looked at is so of each of the run's
-pub of_played : (P : TableName → Type 0) (catalog : List Table) (table : TableName) → AllByRecursion P (run_tables catalog) → is_played catalog table ≡ true → P table
+pub of_played : (P : TableName → Type 0) (catalog : List Table) (table : TableName) → AllByRecursion P (run_tables catalog) → is_table_of_run catalog table ≡ true → P table
 of_played P catalog table all played =
     let both = without_one P (table_names catalog) (length (take_while (λ (n : TableName). is_lt (table_cmp n coordinator_table)) (table_names catalog))) coordinator_table all in
     elim (or_cases (is_some (find_table catalog table)) (is_coordinator_table table) played) [

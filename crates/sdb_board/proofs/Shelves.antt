@@ -9,11 +9,11 @@ use Rattle.std.proofs.lemmas.Option.{slice_get-map, slice_get_within, slice_get-
 use Rattle.std.proofs.lemmas.Slice.Eq.{bytes_eq-Decides}
 use Rattle.sdb_types.specs.Contents.{Contents}
 use Rattle.sdb_record.proofs.NameLemmas.{same_name-itself, same_name-true}
-use Rattle.sdb_stores.specs.Shelf.{Shelf as Counted, AreDistinct, names_of, place_of, placed_on, home, home_of}
+use Rattle.sdb_stores.specs.Views.{StoreView as Counted, AreDistinct, names_of, place_of, route_of, home, home_of}
 use Rattle.sdb_stores.specs.declared.place.Place.{Place}
 use Rattle.sdb_model.specs.Rows.{Name, same_name}
-use Rattle.sdb_model.specs.Events.{held_by, with_contents, first_name, store_of}
-use Rattle.sdb_board.specs.Board.{shown}
+use Rattle.sdb_model.specs.Events.{contents_under, with_contents, first_name, store_of}
+use Rattle.sdb_board.specs.Board.{contents_of_views}
 use Rattle.sdb_types.proofs.Basics.{by_test, some_is, clash as true_false}
 
 ---- names
@@ -44,32 +44,32 @@ later_names s ss d i j e less inside = d (suc i) (suc j) e (omega arith) (omega 
 ---- the store of a name
 
 -- the store that is somewhere is the one of its name
-pub held_at : (shelves : List Counted) (at : ℕ) (s : Counted) → AreDistinct (names_of shelves) → slice_get shelves at ≡ Some s → held_by (shown shelves) s.name ≡ Some s.contents
+pub held_at : (shelves : List Counted) (at : ℕ) (s : Counted) → AreDistinct (names_of shelves) → slice_get shelves at ≡ Some s → contents_under (contents_of_views shelves) s.name ≡ Some s.contents
 held_at [] at s d e = absurd (cc (e))
 held_at (x ∷ xs) zero s d e = let same : x ≡ s = some_is x s e in rw (same, same_name-itself s.name) refl
 held_at (x ∷ xs) (suc at) s d e = rw (other_name x.name s.name (apart_first x xs d at s e)) (held_at xs at s (later_names x xs d) e)
 
 -- where a name isn't among them, nothing becomes of them
-unchanged : (shelves : List Counted) (name : Name) (c : Contents) → ((k : ℕ) (x : Counted) → slice_get shelves k ≡ Some x → x.name ≢ name) → with_contents (shown shelves) name c ≡ shown shelves
+unchanged : (shelves : List Counted) (name : Name) (c : Contents) → ((k : ℕ) (x : Counted) → slice_get shelves k ≡ Some x → x.name ≢ name) → with_contents (contents_of_views shelves) name c ≡ contents_of_views shelves
 unchanged [] name c n = refl
 unchanged (x ∷ xs) name c n = rw (other_name x.name name (n 0 x refl)) (ap (λ ss. record { name = x.name; contents = x.contents } ∷ ss) (unchanged xs name c (λ k y e. n (suc k) y e)))
 
 -- one store set is the contents of its name set
-pub set_there : (shelves : List Counted) (at : ℕ) (s now : Counted) → AreDistinct (names_of shelves) → slice_get shelves at ≡ Some s → now.name ≡ s.name → shown (slice_set shelves at now) ≡ with_contents (shown shelves) s.name now.contents
+pub set_there : (shelves : List Counted) (at : ℕ) (s now : Counted) → AreDistinct (names_of shelves) → slice_get shelves at ≡ Some s → now.name ≡ s.name → contents_of_views (slice_set shelves at now) ≡ with_contents (contents_of_views shelves) s.name now.contents
 set_there [] at s now d e name = absurd (cc (e))
 set_there (x ∷ xs) zero s now d e name =
     let same : x ≡ s = some_is x s e in
-    let others : with_contents (shown xs) s.name now.contents ≡ shown xs = unchanged xs s.name now.contents (λ k y f g. apart_first x xs d k y f (ap (λ (z : Counted). z.name) same ∙ sym g)) in
+    let others : with_contents (contents_of_views xs) s.name now.contents ≡ contents_of_views xs = unchanged xs s.name now.contents (λ k y f g. apart_first x xs d k y f (ap (λ (z : Counted). z.name) same ∙ sym g)) in
     rw (same, same_name-itself s.name, others, name) refl
 set_there (x ∷ xs) (suc at) s now d e name =
     rw (other_name x.name s.name (apart_first x xs d at s e)) (ap (λ ss. record { name = x.name; contents = x.contents } ∷ ss) (set_there xs at s now (later_names x xs d) e name))
 
 -- a store with the contents that it had
-pub set_still : (shelves : List Counted) (at : ℕ) (s now : Counted) → slice_get shelves at ≡ Some s → now.name ≡ s.name → now.contents ≡ s.contents → shown (slice_set shelves at now) ≡ shown shelves
+pub set_still : (shelves : List Counted) (at : ℕ) (s now : Counted) → slice_get shelves at ≡ Some s → now.name ≡ s.name → now.contents ≡ s.contents → contents_of_views (slice_set shelves at now) ≡ contents_of_views shelves
 set_still [] at s now e name held = absurd (cc (e))
 set_still (x ∷ xs) zero s now e name held =
     let same : x ≡ s = some_is x s e in
-    λ i. record { name = (name ∙ ap (λ (z : Counted). z.name) (sym same)) i; contents = (held ∙ ap (λ (z : Counted). z.contents) (sym same)) i } ∷ shown xs
+    λ i. record { name = (name ∙ ap (λ (z : Counted). z.name) (sym same)) i; contents = (held ∙ ap (λ (z : Counted). z.contents) (sym same)) i } ∷ contents_of_views xs
 set_still (x ∷ xs) (suc at) s now e name held = ap (λ ss. record { name = x.name; contents = x.contents } ∷ ss) (set_still xs at s now e name held)
 
 ---- the store of a namespace
@@ -83,7 +83,7 @@ find_named (p ∷ ps) ns = by (find_named ps ns) (bytes_eq p.ns ns) refl
     by rest true e = rw (same_bytes p.ns ns ∙ e, e) refl
     by rest false e = rw (same_bytes p.ns ns ∙ e, e) rest
 
-first_shown : (shelves : List Counted) → 0 < length shelves → slice_get (names_of shelves) 0 ≡ Some (first_name (shown shelves))
+first_shown : (shelves : List Counted) → 0 < length shelves → slice_get (names_of shelves) 0 ≡ Some (first_name (contents_of_views shelves))
 first_shown [] some = absurd (omega arith)
 first_shown (s ∷ ss) some = refl
 
@@ -95,7 +95,7 @@ stands_there names store at e =
     slice_get-get_or names at [] found.0 ∙ ap Some here
 
 named : (o : Option Place) (shelves : List Counted) → 0 < length shelves → IfSome (option_map (λ (p : Place). p.store) o) (λ store. IsSome (place_of store (names_of shelves)))
-    → slice_get (names_of shelves) (home_of (option_map (λ (p : Place). p.store) o) (names_of shelves)) ≡ Some (option_map_or (λ (p : Place). p.store) o (first_name (shown shelves)))
+    → slice_get (names_of shelves) (home_of (option_map (λ (p : Place). p.store) o) (names_of shelves)) ≡ Some (option_map_or (λ (p : Place). p.store) o (first_name (contents_of_views shelves)))
 named None shelves some homed = first_shown shelves some
 named (Some p) shelves some homed = by (place_of p.store (names_of shelves)) refl homed
   where
@@ -104,7 +104,7 @@ named (Some p) shelves some homed = by (place_of p.store (names_of shelves)) ref
     by (Some at) e h = rw e (stands_there (names_of shelves) p.store at e)
 
 -- the store of a namespace, by its place among the stores, is the one of its name
-pub named_home : (places : List Place) (shelves : List Counted) (ns : Name) → 0 < length shelves → IfSome (placed_on ns places) (λ store. IsSome (place_of store (names_of shelves))) → slice_get (names_of shelves) (home ns places (names_of shelves)) ≡ Some (store_of places (shown shelves) ns)
+pub named_home : (places : List Place) (shelves : List Counted) (ns : Name) → 0 < length shelves → IfSome (route_of ns places) (λ store. IsSome (place_of store (names_of shelves))) → slice_get (names_of shelves) (home ns places (names_of shelves)) ≡ Some (store_of places (contents_of_views shelves) ns)
 named_home places shelves ns some homed =
     named (find (λ (p : Place). bytes_eq p.ns ns) places) shelves some homed
-    ∙ ap (λ o. Some (option_map_or (λ (p : Place). p.store) o (first_name (shown shelves)))) (sym (find_named places ns))
+    ∙ ap (λ o. Some (option_map_or (λ (p : Place). p.store) o (first_name (contents_of_views shelves)))) (sym (find_named places ns))

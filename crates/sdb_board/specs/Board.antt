@@ -1,54 +1,54 @@
--- The stores that a run is played on, and what its calls do to them.
+-- The stores that a run uses, and what its calls do to them.
 use Rattle.std.specs.Prelude.{◌≡◌, ℕ, ◌<◌, ◌≤◌, ◌-◌, ◌^◌, true, List, length, map, slice_get, Any, Some, IfSome, IsSome, IsSomeAnd}
 use Rattle.sdb_types.specs.declared.key.TableName.{TableName}
 use Rattle.sdb_types.specs.declared.record.Request.{Request}
 use Rattle.sdb_types.specs.declared.record.Reply.{Reply}
 use Rattle.sdb_types.specs.declared.record.Reply.TheVariants as reply
 use Rattle.sdb_schema.specs.declared.table.Table.{Table}
-use Rattle.sdb_stores.specs.Shelf.{Attached, Shelf as Counted, AreDistinct, HaveRisen, home_in, names_of, place_of, placed_on, total_faults}
+use Rattle.sdb_stores.specs.Views.{Attached, StoreView as Counted, AreDistinct, HaveRisen, home_in, names_of, place_of, route_of, total_faults}
 use Rattle.sdb_model.specs.declared.event.How.{How}
 use Rattle.sdb_model.specs.declared.event.How.TheVariants.{Seen, Lost, Broken}
-use Rattle.sdb_model.specs.Events.{Shelf, IsCall, store_of, table_asked}
+use Rattle.sdb_model.specs.Events.{StoreContents, IsCall, store_of, table_asked}
 use Rattle.sdb_board.specs.declared.refused.CallRefused.{CallRefused}
 use Rattle.sdb_board.specs.declared.refused.CallRefused.TheVariants as refused
-use Rattle.sdb_model.specs.Tables.{is_played}
+use Rattle.sdb_model.specs.Tables.{is_table_of_run}
 
 -- the stores as events see them: without their counts of faults
-abbrev pub shown : List Counted → List Shelf
-shown shelves = map (λ s. record { name = s.name; contents = s.contents }) shelves
+abbrev pub contents_of_views : List Counted → List StoreContents
+contents_of_views shelves = map (λ s. record { name = s.name; contents = s.contents }) shelves
 
 -- The store of each table of a run over a catalog has known contents.
-abbrev pub AreTold : List Table → Attached → Type 0
-AreTold catalog stores = (table : TableName) → is_played catalog table ≡ true → stores.tells (home_in stores table.ns)
+abbrev pub AreKnown : List Table → Attached → Type 0
+AreKnown catalog stores = (table : TableName) → is_table_of_run catalog table ≡ true → stores.known (home_in stores table.ns)
 
 -- Stores are fit for a run over a catalog: there is one, no two have one name, each place names one of them, and those of the
 -- run's tables have known contents.
-pub record AreFit (catalog : List Table) (stores : Attached) : Type 0 where
-  pub some : 0 < length stores.shelves
-  pub distinct : AreDistinct (names_of stores.shelves)
-  pub homed : (ns : List ℕ) → IfSome (placed_on ns stores.places) (λ store. IsSome (place_of store (names_of stores.shelves)))
-  pub telling : AreTold catalog stores
+pub record AreUsable (catalog : List Table) (stores : Attached) : Type 0 where
+  pub some : 0 < length stores.views
+  pub distinct : AreDistinct (names_of stores.views)
+  pub homed : (ns : List ℕ) → IfSome (route_of ns stores.places) (λ store. IsSome (place_of store (names_of stores.views)))
+  pub where_known : AreKnown catalog stores
 
 -- Stores are fit for calls on a table: there is one, no two have one name, each place names one of them, and that of the table has known
 -- contents.
-pub record AreFitFor (table : TableName) (stores : Attached) : Type 0 where
-  pub some : 0 < length stores.shelves
-  pub distinct : AreDistinct (names_of stores.shelves)
-  pub homed : (ns : List ℕ) → IfSome (placed_on ns stores.places) (λ store. IsSome (place_of store (names_of stores.shelves)))
-  pub telling : stores.tells (home_in stores table.ns)
+pub record AreUsableFor (table : TableName) (stores : Attached) : Type 0 where
+  pub some : 0 < length stores.views
+  pub distinct : AreDistinct (names_of stores.views)
+  pub homed : (ns : List ℕ) → IfSome (route_of ns stores.places) (λ store. IsSome (place_of store (names_of stores.views)))
+  pub where_known : stores.known (home_in stores table.ns)
 
 -- Stores hold what they held.
 abbrev pub HoldTheSame : Attached → Attached → Type 0
-HoldTheSame old new = shown new.shelves ≡ shown old.shelves
+HoldTheSame old new = contents_of_views new.views ≡ contents_of_views old.views
 
 -- Each store of known contents holds what it held.
-abbrev pub KnownStay : Attached → Attached → Type 0
-KnownStay old new =
-    (at : ℕ) (store : Counted) → old.tells at → slice_get old.shelves at ≡ Some store → IsSomeAnd (slice_get new.shelves at) (λ now. now.contents ≡ store.contents)
+abbrev pub KnownAreUnchanged : Attached → Attached → Type 0
+KnownAreUnchanged old new =
+    (at : ℕ) (store : Counted) → old.known at → slice_get old.views at ≡ Some store → IsSomeAnd (slice_get new.views at) (λ now. now.contents ≡ store.contents)
 
 -- What stores show later, where those are known that were known before.
 abbrev pub known_before : Attached → Attached → Attached
-known_before old new = record { places = new.places; shelves = new.shelves; tells = old.tells }
+known_before old new = record { places = new.places; views = new.views; known = old.known }
 
 -- The count of some store is the greatest value of its type.
 abbrev pub IsFull : List Counted → Type 0
@@ -58,11 +58,11 @@ IsFull shelves = Any (λ s. 2 ^ 64 - 1 ≤ s.faults) shelves
 -- known contents stay known.
 pub record GoOn (old new : Attached) : Type 0 where
   pub places : new.places ≡ old.places
-  pub names : names_of new.shelves ≡ names_of old.shelves
-  pub counted : total_faults old.shelves ≤ total_faults new.shelves
-  pub full : IsFull old.shelves → IsFull new.shelves
-  pub fit : (catalog : List Table) → AreFit catalog old → AreFit catalog new
-  pub telling : (at : ℕ) → old.tells at → new.tells at
+  pub names : names_of new.views ≡ names_of old.views
+  pub counted : total_faults old.views ≤ total_faults new.views
+  pub full : IsFull old.views → IsFull new.views
+  pub fit : (catalog : List Table) → AreUsable catalog old → AreUsable catalog new
+  pub where_known : (at : ℕ) → old.known at → new.known at
 
 -- Why a call stopped a scan: a fault raised the count of the stores.
 abbrev pub Refuses : List Counted → List Counted → CallRefused → Type 0
@@ -89,7 +89,7 @@ reply_lost r = reply.Fault
 
 -- a request is made on the store of its table, and so it comes out
 abbrev pub IsMade : Request → How → Reply → Attached → Attached → Type 0
-IsMade q how r old new = IsCall old.places (store_of old.places (shown old.shelves) (table_asked q).ns) q how r (shown old.shelves) (shown new.shelves)
+IsMade q how r old new = IsCall old.places (store_of old.places (contents_of_views old.views) (table_asked q).ns) q how r (contents_of_views old.views) (contents_of_views new.views)
 
 -- A request that was made on the store of its table.
 abbrev pub IsCalled : Request → Reply → Attached → Attached → Type 0

@@ -1,7 +1,7 @@
 //! Scans of whole tables, and whether the tables of a run are empty.
 ghost use Rattle.std.specs.Prelude.{◌≡◌, ◌<◌, true, None, length, IfOk, IfErr, IfSome};
 ghost use Rattle.sdb_types.specs.Contents.{are_rows_of};
-ghost use Rattle.sdb_board.specs.Board.{AreFit, AreFitFor, GoOn, HoldTheSame, KnownStay, Refuses};
+ghost use Rattle.sdb_board.specs.Board.{AreUsable, AreUsableFor, GoOn, HoldTheSame, KnownAreUnchanged, Refuses};
 ghost use Rattle.sdb_board.specs.Opening.{HoldNothing, IsFirstKey, first_key as first_key_lem, opening_in, records_in, run_tables as run_tables_lem, whole};
 
 use crate::calls::call;
@@ -14,13 +14,13 @@ use std::alloc::Global;
 
 /// The records of a table, by one scan.
 pub fn scan<R: Registry>(stores: &mut R, table: &TableName) -> Result<Records, CallRefused>
-    requires some { 0 < length (R.state stores.old).shelves }
-    ensures rows { IfOk result (λ rows. AreFitFor table.now (R.state stores.old) → rows ≡ records_in (R.state stores.old) table.now) }
+    requires some { 0 < length (R.state stores.old).views }
+    ensures rows { IfOk result (λ rows. AreUsableFor table.now (R.state stores.old) → rows ≡ records_in (R.state stores.old) table.now) }
     ensures of { IfOk result (λ rows. are_rows_of (whole table.now) rows ≡ true) }
-    ensures still { AreFitFor table.now (R.state stores.old) → HoldTheSame (R.state stores.old) (R.state stores.new) }
-    ensures known { KnownStay (R.state stores.old) (R.state stores.new) }
+    ensures still { AreUsableFor table.now (R.state stores.old) → HoldTheSame (R.state stores.old) (R.state stores.new) }
+    ensures known { KnownAreUnchanged (R.state stores.old) (R.state stores.new) }
     ensures goes { GoOn (R.state stores.old) (R.state stores.new) }
-    ensures err { IfErr result (Refuses (R.state stores.old).shelves (R.state stores.new).shelves) }
+    ensures err { IfErr result (Refuses (R.state stores.old).views (R.state stores.new).views) }
 {
     let name = table.copy()?;
     let request = Request::Scan(Span {
@@ -52,14 +52,14 @@ pub fn first_record<R: Registry>(
     stores: &mut R,
     catalog: &Catalog,
 ) -> Result<Option<Key>, CallRefused>
-    requires some { 0 < length (R.state stores.old).shelves }
-    ensures first { IfOk result (λ first. AreFit catalog.now (R.state stores.old) → first ≡ first_key_lem (opening_in catalog.now (R.state stores.old))) }
+    requires some { 0 < length (R.state stores.old).views }
+    ensures first { IfOk result (λ first. AreUsable catalog.now (R.state stores.old) → first ≡ first_key_lem (opening_in catalog.now (R.state stores.old))) }
     ensures found { IfOk result (λ first. IfSome first (IsFirstKey (run_tables_lem catalog.now) (R.state stores.old))) }
     ensures none { IfOk result (λ first. first ≡ None → HoldNothing (run_tables_lem catalog.now) (R.state stores.old)) }
-    ensures still { AreFit catalog.now (R.state stores.old) → HoldTheSame (R.state stores.old) (R.state stores.new) }
-    ensures known { KnownStay (R.state stores.old) (R.state stores.new) }
+    ensures still { AreUsable catalog.now (R.state stores.old) → HoldTheSame (R.state stores.old) (R.state stores.new) }
+    ensures known { KnownAreUnchanged (R.state stores.old) (R.state stores.new) }
     ensures goes { GoOn (R.state stores.old) (R.state stores.new) }
-    ensures err { IfErr result (Refuses (R.state stores.old).shelves (R.state stores.new).shelves) }
+    ensures err { IfErr result (Refuses (R.state stores.old).views (R.state stores.new).views) }
 {
     let tables = run_tables(alloc, catalog)?;
     for table in tables.as_slice() {

@@ -15,7 +15,7 @@ use Rattle.sdb_stores.specs.declared.place.Place.{Place}
 use Rattle.sdb_catalog.specs.declared.entry.Entry.{Entry}
 use Rattle.sdb_catalog.specs.declared.outcome.Outcome.{Outcome}
 use Rattle.sdb_catalog.specs.declared.outcome.Outcome.TheVariants as outcome
-use Rattle.sdb_catalog.specs.Known.{CatalogState, IsWith, KeepsRecords, after_entry, after_outcome, after_table, created_in, has_definition, lines_of, outcome_at, outcome_in, state_after}
+use Rattle.sdb_catalog.specs.Known.{CatalogState, IsWith, IncludesRecords, after_entry, after_outcome, after_table, created_in, has_definition, lines_of, outcome_at, outcome_in, state_after}
 use Rattle.sdb_catalog.specs.Rows.{row_of}
 use Rattle.sdb_catalog.specs.Written.{entry_for, is_full}
 
@@ -38,16 +38,16 @@ created_none s e h =
 
 ---- records stay
 
-put_beside : (m : Contents) (k : Key) (v : List Pair) → record_at m k ≡ None → KeepsRecords m (insert m k v)
+put_beside : (m : Contents) (k : Key) (v : List Pair) → record_at m k ≡ None → IncludesRecords m (insert m k v)
 put_beside m k v none q found h =
     elim (eq_by_cmp key_cmp q k) as (λ b. eq_by_cmp key_cmp q k ≡ b → record_at (insert m k v) q ≡ Some found) [
       | true ↦ λ e. none_some found (sym none ∙ ap (record_at m) (sym (key_exact q k (equal_of (key_cmp q k) e))) ∙ h)
       | false ↦ λ e. rw (get-insert key_total m k v q, e) h
     ] refl
 
-entry_keeps : (s : CatalogState) (e : Entry) → KeepsRecords s.contents (after_entry s e).contents
+entry_keeps : (s : CatalogState) (e : Entry) → IncludesRecords s.contents (after_entry s e).contents
 entry_keeps s e =
-    elim (outcome_in s e) as (λ o. outcome_in s e ≡ o → KeepsRecords s.contents (after_outcome s e o).contents) [
+    elim (outcome_in s e) as (λ o. outcome_in s e ≡ o → IncludesRecords s.contents (after_outcome s e o).contents) [
       | outcome.Created ↦ λ q. put_beside s.contents (row_of e).key (row_of e).columns (created_none s e q)
       | outcome.Exists ↦ λ q key found h. h
       | outcome.Differs ↦ λ q key found h. h
@@ -57,7 +57,7 @@ entry_keeps s e =
 ---- tables
 
 -- each record that was there is there still
-pub keeps : (places : List Place) (first : List ℕ) (s : CatalogState) (ts : List Table) → KeepsRecords s.contents (state_after places first s ts).contents
+pub keeps : (places : List Place) (first : List ℕ) (s : CatalogState) (ts : List Table) → IncludesRecords s.contents (state_after places first s ts).contents
 keeps places first s [] key found h = h
 keeps places first s (t ∷ ts) key found h = keeps places first (after_table places first s t) ts key found (entry_keeps s (entry_for s.entries places first t) key found h)
 

@@ -21,7 +21,7 @@ use Rattle.sdb_schema.specs.declared.make.TableRefused.{TableRefused}
 use Rattle.sdb_schema.specs.Table.{refuse, none_of, first_unknown, key_names, order_names, has_column, checked_table, in_order, rises, is_table}
 use Rattle.sdb_schema.proofs.ColumnOrder.{in_order-rising}
 use Rattle.sdb_loader.specs.Words.{direction_named, kind_named, order_named}
-use Rattle.sdb_loader.specs.Fields.{bad_member, each_item, each_named, list_of, name_said, order_said, columns_among, unknown_among, unknown_column}
+use Rattle.sdb_loader.specs.Fields.{bad_member, each_item, each_named, list_of, name_given, order_given, columns_among, unknown_among, unknown_column}
 use Rattle.sdb_loader.specs.declared.fault.SchemaFault.TheVariants as fault
 use Rattle.sdb_loader.specs.Described.{described_table, described_tables, refusal_in, table_of}
 use Rattle.sdb_loader.proofs.WordLaws.{order_named-behind}
@@ -50,12 +50,12 @@ order_again o h =
 
 ---- names
 
-names_again : (ns : List (List ℕ)) → list_all is_column_name ns ≡ true → filter_map name_said (list_of (items_of (map string ns))) ≡ ns
+names_again : (ns : List (List ℕ)) → list_all is_column_name ns ≡ true → filter_map name_given (list_of (items_of (map string ns))) ≡ ns
 names_again [] h = refl
 names_again (n ∷ ns) h =
     simp (and_first (is_column_name n) (list_all is_column_name ns) h) (ap (λ (l : List (List ℕ)). n ∷ l) (names_again ns (and_second (is_column_name n) (list_all is_column_name ns) h)))
 
-each_name : (ns : List (List ℕ)) → list_all is_column_name ns ≡ true → each_item (λ e. is_some (name_said e)) (items_of (map string ns)) ≡ true
+each_name : (ns : List (List ℕ)) → list_all is_column_name ns ≡ true → each_item (λ e. is_some (name_given e)) (items_of (map string ns)) ≡ true
 each_name [] h = refl
 each_name (n ∷ ns) h =
     simp (and_first (is_column_name n) (list_all is_column_name ns) h) (each_name ns (and_second (is_column_name n) (list_all is_column_name ns) h))
@@ -65,12 +65,12 @@ each_name (n ∷ ns) h =
 abbrev are_orders : List Order → Bool
 are_orders os = list_all (λ (o : Order). is_column_name o.name) os
 
-orders_again : (os : List Order) → are_orders os ≡ true → filter_map order_said (list_of (items_of (map (λ (o : Order). string (order_text o)) os))) ≡ os
+orders_again : (os : List Order) → are_orders os ≡ true → filter_map order_given (list_of (items_of (map (λ (o : Order). string (order_text o)) os))) ≡ os
 orders_again [] h = refl
 orders_again (o ∷ os) h =
     simp (order_again o (and_first (is_column_name o.name) (are_orders os) h)) (ap (λ (l : List Order). o ∷ l) (orders_again os (and_second (is_column_name o.name) (are_orders os) h)))
 
-each_order : (os : List Order) → are_orders os ≡ true → each_item (λ e. is_some (order_said e)) (items_of (map (λ (o : Order). string (order_text o)) os)) ≡ true
+each_order : (os : List Order) → are_orders os ≡ true → each_item (λ e. is_some (order_given e)) (items_of (map (λ (o : Order). string (order_text o)) os)) ≡ true
 each_order [] h = refl
 each_order (o ∷ os) h =
     simp (order_again o (and_first (is_column_name o.name) (are_orders os) h)) (each_order os (and_second (is_column_name o.name) (are_orders os) h))
@@ -152,8 +152,8 @@ pub sound : (t : Table) → is_table t ≡ true → IsSound t
 sound t h =
     let rest = and_second (rises t.columns) (are_columns t.columns && is_ok (checked_table t)) h in
     let cols = and_first (are_columns t.columns) (is_ok (checked_table t)) rest in
-    let fine = and_second (are_columns t.columns) (is_ok (checked_table t)) rest in
-    let known = known_keys t fine in
+    let valid = and_second (are_columns t.columns) (is_ok (checked_table t)) rest in
+    let known = known_keys t valid in
     let keys = all_known t.columns (key_names t) cols known.0 in
     record {
       rising = and_first (rises t.columns) (are_columns t.columns && is_ok (checked_table t)) h;
@@ -161,7 +161,7 @@ sound t h =
       partition = front_names t.partition (order_names t.clustering) keys;
       clustering = named_orders t.clustering (back_names t.partition (order_names t.clustering) keys);
       indexed = all_known t.columns t.indexed cols known.1;
-      checked = fine;
+      checked = valid;
     }
 
 ---- the whole
@@ -176,9 +176,9 @@ pub table_again : (t : Table) → is_table t ≡ true → table_of (defined t) �
 table_again t h =
     let s = sound t h in
     let read = columns_among (columns_data t.columns) in
-    let partition = filter_map name_said (list_of (items_of (map string t.partition))) in
-    let clustering = filter_map order_said (list_of (items_of (map (λ (o : Order). string (order_text o)) t.clustering))) in
-    let indexed = filter_map name_said (list_of (items_of (map string t.indexed))) in
+    let partition = filter_map name_given (list_of (items_of (map string t.partition))) in
+    let clustering = filter_map order_given (list_of (items_of (map (λ (o : Order). string (order_text o)) t.clustering))) in
+    let indexed = filter_map name_given (list_of (items_of (map string t.indexed))) in
     ap (λ (cs : List Column). made t.name (in_order cs) partition clustering indexed) (columns_again t.columns s.columns)
     ∙ ap (λ (cs : List Column). made t.name cs partition clustering indexed) (in_order-rising t.columns s.rising)
     ∙ ap (λ (ns : List (List ℕ)). made t.name t.columns ns clustering indexed) (names_again t.partition s.partition)

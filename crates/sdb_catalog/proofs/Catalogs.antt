@@ -19,11 +19,11 @@ use Rattle.sdb_types.proofs.Bools.{and_first, and_second, and_both}
 use Rattle.sdb_types.proofs.KeyOrder.{by_text, table_total}
 use Rattle.sdb_record.specs.Parts.{is_column_name}
 use Rattle.sdb_schema.specs.declared.table.Table.{Table}
-use Rattle.sdb_schema.specs.Catalog.{rises, stands_above}
+use Rattle.sdb_schema.specs.Catalog.{rises, is_above_name}
 use Rattle.sdb_schema.specs.Table.{is_table}
 use Rattle.sdb_loader.specs.Words.{is_open}
 use Rattle.sdb_record.proofs.NameLemmas.{name_of_column}
-use Rattle.sdb_stores.specs.Shelf.{Attached, Shelf, names_of}
+use Rattle.sdb_stores.specs.Views.{Attached, StoreView, names_of}
 use Rattle.sdb_catalog.specs.declared.entry.Entry.{Entry}
 use Rattle.sdb_catalog.specs.Calls.{IsRead, metadata_span}
 use Rattle.sdb_catalog.specs.Opened.{Follow, agrees, are_attached, is_attached, is_coordinators, open_count, open_entries, tables_of}
@@ -144,7 +144,7 @@ later_lower names passed e (f ∷ fs) h r =
       | false ↦ and_both (is_lt (table_cmp e.table.name f.table.name)) (lower_than e.table.name (tables_of fs)) next later
     ]
 
-above_first : (name : TableName) (ts : List Table) → lower_than name ts ≡ true → stands_above name ts ≡ true
+above_first : (name : TableName) (ts : List Table) → lower_than name ts ≡ true → is_above_name name ts ≡ true
 above_first name [] h = refl
 above_first name (t ∷ ts) h = and_first (is_lt (table_cmp name t.name)) (lower_than name ts) h
 
@@ -154,9 +154,9 @@ tables_rise names passed (e ∷ es) h r =
     let later = tables_rise names (passed ++ e ∷ []) es h.1 (and_second (starts_after (row_of e).key (map row_of es)) (rise (map row_of es)) r) in
     elim (is_coordinators e) as (λ b. rises (one_more e b es) ≡ true) [
       | true ↦ later
-      | false ↦ and_both (stands_above e.table.name (tables_of es)) (rises (tables_of es)) (above_first e.table.name (tables_of es) (later_lower names passed e es h r)) later
+      | false ↦ and_both (is_above_name e.table.name (tables_of es)) (rises (tables_of es)) (above_first e.table.name (tables_of es) (later_lower names passed e es h r)) later
     ]
 
-pub read_rises : (old : Attached) (new : List Shelf) (es : List Entry) → IsRead old new es → rises (tables_of es) ≡ true
+pub read_rises : (old : Attached) (new : List StoreView) (es : List Entry) → IsRead old new es → rises (tables_of es) ≡ true
 read_rises old new es read =
-    tables_rise (names_of old.shelves) [] es read.opens.follow (ap rise (sym read.opens.rows) ∙ and_first (rise read.rows) (list_all (λ (r : Record). in_span metadata_span r.key) read.rows) read.scanned.lawful)
+    tables_rise (names_of old.views) [] es read.opens.follow (ap rise (sym read.opens.rows) ∙ and_first (rise read.rows) (list_all (λ (r : Record). in_span metadata_span r.key) read.rows) read.scanned.lawful)

@@ -19,7 +19,7 @@ use Rattle.sdb_types.proofs.Bools.{and_first, and_second, and_both}
 use Rattle.sdb_types.proofs.KeyOrder.{table_exact, table_total}
 use Rattle.sdb_record.specs.Parts.{is_column_name}
 use Rattle.sdb_schema.specs.declared.table.Table.{Table}
-use Rattle.sdb_schema.specs.Catalog.{rises, stands_above, with_table}
+use Rattle.sdb_schema.specs.Catalog.{rises, is_above_name, with_table}
 use Rattle.sdb_schema.specs.Table.{is_table}
 use Rattle.sdb_loader.specs.Words.{is_open, names_table}
 use Rattle.sdb_stores.specs.declared.place.Place.{Place}
@@ -57,10 +57,10 @@ above_own Less s e h k = cc
 above_own Equal s e h k = cc
 above_own Greater s e h k = ap is_lt e
 
-above_with : (name : TableName) (us : List Table) → is_lt (table_cmp name coordinators.name) ≡ true → stands_above name us ≡ true → stands_above name (with_table coordinators us) ≡ true
+above_with : (name : TableName) (us : List Table) → is_lt (table_cmp name coordinators.name) ≡ true → is_above_name name us ≡ true → is_above_name name (with_table coordinators us) ≡ true
 above_with name [] h k = h
 above_with name (u ∷ us) h k =
-    elim (is_lt (table_cmp u.name coordinators.name)) as (λ b. stands_above name (cond b (u ∷ with_table coordinators us) (coordinators ∷ u ∷ us)) ≡ true) [
+    elim (is_lt (table_cmp u.name coordinators.name)) as (λ b. is_above_name name (cond b (u ∷ with_table coordinators us) (coordinators ∷ u ∷ us)) ≡ true) [
       | true ↦ k
       | false ↦ h
     ]
@@ -69,9 +69,9 @@ pub written_rise : (us : List Table) → rises us ≡ true → names_all us ≡ 
 written_rise [] h k = refl
 written_rise (u ∷ us) h k =
     let other = other_name u (other_ns u (and_first (names_table u.name.ns u.name.table) (names_all us) k)) in
-    let later = written_rise us (and_second (stands_above u.name us) (rises us) h) (and_second (names_table u.name.ns u.name.table) (names_all us) k) in
+    let later = written_rise us (and_second (is_above_name u.name us) (rises us) h) (and_second (names_table u.name.ns u.name.table) (names_all us) k) in
     elim (is_lt (table_cmp u.name coordinators.name)) as (λ b. is_lt (table_cmp u.name coordinators.name) ≡ b → rises (cond b (u ∷ with_table coordinators us) (coordinators ∷ u ∷ us)) ≡ true) [
-      | true ↦ λ q. and_both (stands_above u.name (with_table coordinators us)) (rises (with_table coordinators us)) (above_with u.name us q (and_first (stands_above u.name us) (rises us) h)) later
+      | true ↦ λ q. and_both (is_above_name u.name (with_table coordinators us)) (rises (with_table coordinators us)) (above_with u.name us q (and_first (is_above_name u.name us) (rises us) h)) later
       | false ↦ λ q. and_both (is_lt (table_cmp coordinators.name u.name)) (rises (u ∷ us)) (above_own (table_cmp u.name coordinators.name) (table_cmp coordinators.name u.name) (table_total.antisymm coordinators.name u.name) q other) h
     ] refl
 

@@ -19,11 +19,11 @@ use Rattle.sdb_types.proofs.KeyOrder.{table_total}
 use Rattle.sdb_schema.specs.declared.table.Table.{Table}
 use Rattle.sdb_schema.specs.Catalog.{rises}
 use Rattle.sdb_stores.specs.declared.place.Place.{Place}
-use Rattle.sdb_stores.specs.Shelf.{Attached, Shelf, placed_on}
+use Rattle.sdb_stores.specs.Views.{Attached, StoreView, route_of}
 use Rattle.sdb_catalog.specs.declared.entry.Entry.{Entry}
 use Rattle.sdb_catalog.specs.declared.outcome.Outcome.{Outcome}
 use Rattle.sdb_catalog.specs.declared.outcome.Outcome.TheVariants as outcome
-use Rattle.sdb_catalog.specs.Calls.{Called, first_contents, metadata_span, with_shelves}
+use Rattle.sdb_catalog.specs.Calls.{Called, first_contents, metadata_span, with_states}
 use Rattle.sdb_catalog.specs.Rows.{metadata_key_of, row_of}
 use Rattle.sdb_catalog.specs.Opened.{Follow, agrees, is_coordinators, open_count, store_in}
 use Rattle.sdb_catalog.specs.Written.{AreWritten, IsWritten, Line, entry_for, grown, has_entry, is_full, put_of}
@@ -39,7 +39,7 @@ module _ (places : List Place) (first : List ℕ) where
   entry t = entry_for [] places first t
 
   abbrev pub store_of : List ℕ → List ℕ
-  store_of ns = unwrap_or (placed_on ns places) first
+  store_of ns = unwrap_or (route_of ns places) first
 
   store_same : (ts : List Table) (ns : List ℕ) → unwrap_or (store_in (map entry ts) ns) (store_of ns) ≡ store_of ns
   store_same [] ns = refl
@@ -67,24 +67,24 @@ put_unmet : {X : Type 0} (o : Option Record) (found : Record) → NotMet (Some f
 put_unmet None found h q = absurd (let e : NotMet (Some found) ≡ Applied = h in cc)
 put_unmet (Some x) found h q = absurd (let e : Some x ≡ None = q in cc)
 
-abbrev rows_of : List Shelf → List Record
+abbrev rows_of : List StoreView → List Record
 rows_of stores = rows_in metadata_span (first_contents stores)
 
-row_added : (e : Entry) (old : Attached) (new : List Shelf) → old.tells 0 → Called (put_of e) Applied old new → are_below (row_of e).key (rows_of old.shelves) ≡ true → rows_of new ≡ rows_of old.shelves ++ row_of e ∷ []
+row_added : (e : Entry) (old : Attached) (new : List StoreView) → old.known 0 → Called (put_of e) Applied old new → are_below (row_of e).key (rows_of old.views) ≡ true → rows_of new ≡ rows_of old.views ++ row_of e ∷ []
 row_added e old new t call low =
     let p = call.performed t in
-    let before = first_before old.shelves call.before call.stood in
-    let now = first_now old.shelves new call.before call.now call.stood call.rest in
+    let before = first_before old.views call.before call.stood in
+    let now = first_now old.views new call.before call.now call.stood call.rest in
     let none = put_applied (record_at call.before.contents (row_of e).key) p.0 in
     let left : call.now.contents ≡ insert call.before.contents (row_of e).key (row_of e).columns = p.1 ∙ ap (λ (o : Option Record). cond (holds Absent o) (insert call.before.contents (row_of e).key (row_of e).columns) call.before.contents) none in
     ap (rows_in metadata_span) (now ∙ left ∙ ap (λ (m : Contents). insert m (row_of e).key (row_of e).columns) (sym before))
-    ∙ rows_pushed metadata_span (first_contents old.shelves) (row_of e).key (row_of e).columns (in_metadata e) low
+    ∙ rows_pushed metadata_span (first_contents old.views) (row_of e).key (row_of e).columns (in_metadata e) low
 
-not_unmet : {X : Type 0} (e : Entry) (found : Record) (old : Attached) (new : List Shelf) → old.tells 0 → Called (put_of e) (NotMet (Some found)) old new → are_below (row_of e).key (rows_of old.shelves) ≡ true → X
+not_unmet : {X : Type 0} (e : Entry) (found : Record) (old : Attached) (new : List StoreView) → old.known 0 → Called (put_of e) (NotMet (Some found)) old new → are_below (row_of e).key (rows_of old.views) ≡ true → X
 not_unmet e found old new t call low =
-    let before = first_before old.shelves call.before call.stood in
+    let before = first_before old.views call.before call.stood in
     put_unmet (record_at call.before.contents (row_of e).key) found (call.performed t).0
-    (ap (λ (m : Contents). record_at m (row_of e).key) (sym before) ∙ none_at metadata_span (first_contents old.shelves) (row_of e).key (in_metadata e) low)
+    (ap (λ (m : Contents). record_at m (row_of e).key) (sym before) ∙ none_at metadata_span (first_contents old.views) (row_of e).key (in_metadata e) low)
 
 ---- the order of rows
 
@@ -135,10 +135,10 @@ module _ (names : List (List ℕ)) (places : List Place) (first : List ℕ) wher
   entries ts = map (entry places first) ts
 
   -- what one line leaves
-  one_line : (ds : List Table) (t : Table) (ts : List Table) (o : Outcome) (old : Attached) (new : List Shelf) → old.tells 0 → IsWritten (entries ds) (entry places first t) o old new → rows_of old.shelves ≡ map row_of (entries ds) → rises (ds ++ t ∷ ts) ≡ true → named (ds ++ t ∷ ts) ≡ true
+  one_line : (ds : List Table) (t : Table) (ts : List Table) (o : Outcome) (old : Attached) (new : List StoreView) → old.known 0 → IsWritten (entries ds) (entry places first t) o old new → rows_of old.views ≡ map row_of (entries ds) → rises (ds ++ t ∷ ts) ≡ true → named (ds ++ t ∷ ts) ≡ true
       → (is_coordinators (entry places first t) || nat_lt (open_count (entries ds)) 64) ≡ true → (rows_of new ≡ map row_of (entries (ds ++ t ∷ []))) × (grown (entries ds) (entry places first t) o ≡ entries (ds ++ t ∷ []))
   one_line ds t ts o old new told0 h is up good room =
-      let low : are_below (row_of (entry places first t)).key (rows_of old.shelves) ≡ true =
+      let low : are_below (row_of (entry places first t)).key (rows_of old.views) ≡ true =
       ap (are_below (row_of (entry places first t)).key) is ∙ rows_below places first ds t ts (earlier_lower ds t ts up) good in
       elim o as (λ (o : Outcome). IsWritten (entries ds) (entry places first t) o old new → (rows_of new ≡ map row_of (entries (ds ++ t ∷ []))) × (grown (entries ds) (entry places first t) o ≡ entries (ds ++ t ∷ []))) [
         | outcome.Created ↦ λ k.
@@ -149,7 +149,7 @@ module _ (names : List (List ℕ)) (places : List Place) (first : List ℕ) wher
         | outcome.Full ↦ λ k. not_full (entries ds) (entry places first t) k.0 room
       ] h
 
-  pub lines_kept : (ds : List Table) (ls : List Line) (old : Attached) (new : List Shelf) → old.tells 0 → AreWritten places first (entries ds) ls old new → rows_of old.shelves ≡ map row_of (entries ds) → rises (ds ++ tables ls) ≡ true → named (ds ++ tables ls) ≡ true → Follow names (entries ds) (entries (tables ls))
+  pub lines_kept : (ds : List Table) (ls : List Line) (old : Attached) (new : List StoreView) → old.known 0 → AreWritten places first (entries ds) ls old new → rows_of old.views ≡ map row_of (entries ds) → rises (ds ++ tables ls) ≡ true → named (ds ++ tables ls) ≡ true → Follow names (entries ds) (entries (tables ls))
       → rows_of new ≡ map row_of (entries (ds ++ tables ls))
   lines_kept ds [] old new told0 h is up good follow = ap rows_of h ∙ is ∙ ap (λ (ts : List Table). map row_of (entries ts)) (sym (append-nil ds))
   lines_kept ds (l ∷ ls) old new told0 h is up good follow =
@@ -159,7 +159,7 @@ module _ (names : List (List ℕ)) (places : List Place) (first : List ℕ) wher
       let now : IsWritten (entries ds) (entry places first t) l.outcome old h.0 = subst (λ (e : Entry). IsWritten (entries ds) e l.outcome old h.0) same h.1 in
       let room = and_second (list_all (agrees (entry places first t)) (entries ds)) (is_coordinators (entry places first t) || nat_lt (open_count (entries ds)) 64) follow.0.1 in
       let one = one_line ds t ts l.outcome old h.0 told0 now is up good room in
-      let rest : AreWritten places first (entries (ds ++ t ∷ [])) ls (with_shelves old h.0) new = subst (λ (es : List Entry). AreWritten places first es ls (with_shelves old h.0) new) (ap (λ (e : Entry). grown (entries ds) e l.outcome) same ∙ one.1) h.2 in
+      let rest : AreWritten places first (entries (ds ++ t ∷ [])) ls (with_states old h.0) new = subst (λ (es : List Entry). AreWritten places first es ls (with_states old h.0) new) (ap (λ (e : Entry). grown (entries ds) e l.outcome) same ∙ one.1) h.2 in
       let further : Follow names (entries (ds ++ t ∷ [])) (entries ts) = subst (λ (es : List Entry). Follow names es (entries ts)) (sym (map-append (entry places first) ds (t ∷ []))) follow.1 in
-      lines_kept (ds ++ t ∷ []) ls (with_shelves old h.0) new told0 rest one.0 (ap rises (append_assoc ds (t ∷ []) ts) ∙ up) (ap named (append_assoc ds (t ∷ []) ts) ∙ good) further
+      lines_kept (ds ++ t ∷ []) ls (with_states old h.0) new told0 rest one.0 (ap rises (append_assoc ds (t ∷ []) ts) ∙ up) (ap named (append_assoc ds (t ∷ []) ts) ∙ good) further
       ∙ ap (λ (us : List Table). map row_of (entries us)) (append_assoc ds (t ∷ []) ts)

@@ -12,7 +12,7 @@ use Rattle.sdb_types.specs.declared.key.Key.{Key}
 use Rattle.sdb_types.specs.declared.record.Record.{Record}
 use Rattle.sdb_types.proofs.Bools.{and_first, and_second}
 use Rattle.sdb_stores.specs.declared.place.Place.{Place}
-use Rattle.sdb_stores.specs.Shelf.{place_of, placed_on}
+use Rattle.sdb_stores.specs.Views.{place_of, route_of}
 use Rattle.sdb_catalog.specs.declared.entry.Entry.{Entry}
 use Rattle.sdb_catalog.specs.Rows.{row_of}
 use Rattle.sdb_catalog.specs.Opened.{Follow, Follows, IsFirstBad, are_attached, is_attached, is_coordinators, open_entries, store_in, tables_of}
@@ -43,11 +43,11 @@ abbrev pub with_place : List ℕ → List ℕ → Place
 with_place ns store = record { ns = ns; store = store }
 
 -- one place more
-pub placed_one : (places : List Place) (e : Entry) (ns : List ℕ) → placed_on ns (places ++ record { ns = e.table.name.ns; store = e.store } ∷ []) ≡ option_or (placed_on ns places) (store_in (e ∷ []) ns)
+pub placed_one : (places : List Place) (e : Entry) (ns : List ℕ) → route_of ns (places ++ record { ns = e.table.name.ns; store = e.store } ∷ []) ≡ option_or (route_of ns places) (store_in (e ∷ []) ns)
 placed_one places e ns =
     ap (option_map (λ (p : Place). p.store)) (find-append (λ (p : Place). bytes_eq p.ns ns) places (record { ns = e.table.name.ns; store = e.store } ∷ []))
     ∙ or_map (λ (p : Place). p.store) (find (λ (p : Place). bytes_eq p.ns ns) places) (find (λ (p : Place). bytes_eq p.ns ns) (record { ns = e.table.name.ns; store = e.store } ∷ []))
-    ∙ ap (option_or (placed_on ns places)) (same (bytes_eq e.table.name.ns ns))
+    ∙ ap (option_or (route_of ns places)) (same (bytes_eq e.table.name.ns ns))
   where
     same : (b : Bool) → option_map (λ (p : Place). p.store) (cond b (Some (record { ns = e.table.name.ns; store = e.store })) None) ≡ option_map (λ (a : Entry). a.store) (cond b (Some e) None)
     same true = refl
@@ -58,11 +58,11 @@ known_first (Some x) b h = refl
 known_first None b h = absurd (let e : false ≡ true = h in cc)
 
 -- a namespace that has a place
-pub placed_known : (places : List Place) (e : Entry) (ns : List ℕ) → IsSome (placed_on e.table.name.ns places) → placed_on ns places ≡ option_or (placed_on ns places) (store_in (e ∷ []) ns)
+pub placed_known : (places : List Place) (e : Entry) (ns : List ℕ) → IsSome (route_of e.table.name.ns places) → route_of ns places ≡ option_or (route_of ns places) (store_in (e ∷ []) ns)
 placed_known places e ns known =
-    elim (bytes_eq e.table.name.ns ns) as (λ b. bytes_eq e.table.name.ns ns ≡ b → placed_on ns places ≡ option_or (placed_on ns places) (option_map (λ (a : Entry). a.store) (cond b (Some e) None))) [
-      | true ↦ λ q. sym (known_first (placed_on ns places) (Some e.store) (subst (λ (n : List ℕ). IsSome (placed_on n places)) ((bytes_eq-Decides e.table.name.ns ns).0 q) known))
-      | false ↦ λ q. sym (or_none (placed_on ns places))
+    elim (bytes_eq e.table.name.ns ns) as (λ b. bytes_eq e.table.name.ns ns ≡ b → route_of ns places ≡ option_or (route_of ns places) (option_map (λ (a : Entry). a.store) (cond b (Some e) None))) [
+      | true ↦ λ q. sym (known_first (route_of ns places) (Some e.store) (subst (λ (n : List ℕ). IsSome (route_of n places)) ((bytes_eq-Decides e.table.name.ns ns).0 q) known))
+      | false ↦ λ q. sym (or_none (route_of ns places))
     ] refl
 
 store_more : (es : List Entry) (e : Entry) (ns : List ℕ) → store_in (es ++ e ∷ []) ns ≡ option_or (store_in es ns) (store_in (e ∷ []) ns)
@@ -70,7 +70,7 @@ store_more es e ns =
     ap (option_map (λ (a : Entry). a.store)) (find-append (λ (a : Entry). bytes_eq a.table.name.ns ns) es (e ∷ []))
     ∙ or_map (λ (a : Entry). a.store) (find (λ (a : Entry). bytes_eq a.table.name.ns ns) es) (find (λ (a : Entry). bytes_eq a.table.name.ns ns) (e ∷ []))
 
-pub placed_more : (before after : List Place) (es rest : List Entry) (e : Entry) → rest ≡ es ++ e ∷ [] → ((ns : List ℕ) → placed_on ns before ≡ store_in es ns) → ((ns : List ℕ) → placed_on ns after ≡ option_or (placed_on ns before) (store_in (e ∷ []) ns)) → (ns : List ℕ) → placed_on ns after ≡ store_in rest ns
+pub placed_more : (before after : List Place) (es rest : List Entry) (e : Entry) → rest ≡ es ++ e ∷ [] → ((ns : List ℕ) → route_of ns before ≡ store_in es ns) → ((ns : List ℕ) → route_of ns after ≡ option_or (route_of ns before) (store_in (e ∷ []) ns)) → (ns : List ℕ) → route_of ns after ≡ store_in rest ns
 placed_more before after es rest e is h k = λ ns.
     k ns ∙ ap (λ (o : Option (List ℕ)). option_or o (store_in (e ∷ []) ns)) (h ns) ∙ sym (store_more es e ns) ∙ ap (λ (l : List Entry). store_in l ns) (sym is)
 

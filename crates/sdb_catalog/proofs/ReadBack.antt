@@ -12,11 +12,11 @@ use Rattle.sdb_schema.specs.declared.table.Table.{Table}
 use Rattle.sdb_schema.specs.Catalog.{is_catalog, rises}
 use Rattle.sdb_schema.specs.Table.{is_table}
 use Rattle.sdb_stores.specs.declared.place.Place.{Place}
-use Rattle.sdb_stores.specs.Shelf.{Attached, Shelf, names_of}
+use Rattle.sdb_stores.specs.Views.{Attached, StoreView, names_of}
 use Rattle.sdb_catalog.specs.declared.entry.Entry.{Entry}
-use Rattle.sdb_catalog.specs.Calls.{first_contents, metadata_span, with_shelves}
+use Rattle.sdb_catalog.specs.Calls.{first_contents, metadata_span, with_states}
 use Rattle.sdb_catalog.specs.Known.{IsCatalogIn}
-use Rattle.sdb_catalog.specs.Kept.{IsAsKept, IsFresh, IsKept, first_entries}
+use Rattle.sdb_catalog.specs.Stored.{IsAsStored, IsFresh, IsStoredCatalog, first_entries}
 use Rattle.sdb_catalog.specs.Opened.{Follow, store_in, tables_of}
 use Rattle.sdb_catalog.specs.Rows.{row_of}
 use Rattle.sdb_catalog.specs.Written.{AreWritten, IsStored, Line, store_for, written_tables}
@@ -31,10 +31,10 @@ no_entries : (es : List Entry) → [] ≡ map row_of es → es ≡ []
 no_entries [] h = refl
 no_entries (e ∷ es) h = absurd (let f : [] ≡ row_of e ∷ map row_of es = h in cc)
 
-pub kept : (places : List Place) (catalog : List Table) (text : List ℕ) (old : Attached) (new : List Shelf) → is_catalog catalog ≡ true → names_of new ≡ names_of old.shelves → IsStored places catalog text old new → old.tells 0 → IsFresh old.shelves places catalog
-    → IsKept new places catalog
+pub kept : (places : List Place) (catalog : List Table) (text : List ℕ) (old : Attached) (new : List StoreView) → is_catalog catalog ≡ true → names_of new ≡ names_of old.views → IsStored places catalog text old new → old.known 0 → IsFresh old.views places catalog
+    → IsStoredCatalog new places catalog
 kept places catalog text old new sound same stored told0 fresh =
-    let names = names_of old.shelves in
+    let names = names_of old.views in
     let first = stored.first in
     let all = written_tables catalog in
     let few = and_second (rises catalog) (nat_le (length catalog) 64 && list_all is_table catalog) sound in
@@ -42,10 +42,10 @@ kept places catalog text old new sound same stored told0 fresh =
     let follow : Follow names [] (map (entry places first) all) = first_follow names places first catalog each (and_first (nat_le (length catalog) 64) (list_all is_table catalog) few) fresh.named in
     let none : stored.entries ≡ [] = no_entries stored.entries (sym (rows_shown stored.read.rows old stored.mid told0 stored.read.scanned ∙ fresh.none) ∙ stored.read.opens.rows) in
     let lines : List Line = stored.written.lines in
-    let done : AreWritten places first [] lines (with_shelves old stored.mid) new = subst (λ (es : List Entry). AreWritten places first es lines (with_shelves old stored.mid) new) none stored.written.written in
+    let done : AreWritten places first [] lines (with_states old stored.mid) new = subst (λ (es : List Entry). AreWritten places first es lines (with_states old stored.mid) new) none stored.written.written in
     let tables : map (λ (l : Line). l.table) lines ≡ all = stored.written.tables in
     let rows : rows_in metadata_span (first_contents new) ≡ map row_of (map (entry places first) all) =
-    lines_kept names places first [] lines (with_shelves old stored.mid) new told0 done (ap (rows_in metadata_span) (contents_read stored.read.rows old stored.mid told0 stored.read.scanned) ∙ fresh.none)
+    lines_kept names places first [] lines (with_states old stored.mid) new told0 done (ap (rows_in metadata_span) (contents_read stored.read.rows old stored.mid told0 stored.read.scanned) ∙ fresh.none)
     (ap rises tables ∙ written_rise catalog (and_first (rises catalog) (nat_le (length catalog) 64 && list_all is_table catalog) sound) fresh.named)
     (ap (list_all (λ (t : Table). is_name t.name.ns)) tables ∙ each_named names places first all each)
     (subst (λ (ts : List Table). Follow names [] (map (entry places first) ts)) (sym tables) follow)
@@ -74,7 +74,7 @@ module _ (places : List Place) (first : List ℕ) where
         | false ↦ λ q. store_at us i t (omega arith) is
       ] refl
 
-pub read_back : (opened : List Table) (now : List Place) (shelves : List Shelf) → IsCatalogIn (names_of shelves) (first_contents shelves) opened now → IsAsKept shelves opened now
+pub read_back : (opened : List Table) (now : List Place) (shelves : List StoreView) → IsCatalogIn (names_of shelves) (first_contents shelves) opened now → IsAsStored shelves opened now
 read_back opened now shelves found = λ places catalog kept.
     let same : found.entries ≡ first_entries places kept.first catalog = one_reading (names_of shelves) (rows_in metadata_span (first_contents shelves)) found.entries (first_entries places kept.first catalog) found.opens kept.rows in
     record {

@@ -23,7 +23,7 @@ use Rattle.sdb_catalog.specs.declared.read.Texts.{Texts as Borrowed}
 use Rattle.sdb_catalog.specs.Definition.{definition_text}
 use Rattle.sdb_catalog.specs.Rows.{MayHaveRow, Texts, coordinators, metadata_key_of, row_of, texts_of}
 use Rattle.sdb_catalog.specs.Opened.{is_attached}
-use Rattle.sdb_catalog.specs.Shown.{shown}
+use Rattle.sdb_catalog.specs.Borrowed.{names_of_borrowed}
 use Rattle.sdb_catalog.proofs.Again.{definition_again, rising_columns}
 use Rattle.sdb_types.proofs.Basics.{some_is, none_some}
 
@@ -130,11 +130,11 @@ pub row_texts : (e : Entry) → texts_of (row_of e) ≡ Some (said_by e)
 unfolding row_of metadata_key_of texts_of
 row_texts e = refl
 
-pub texts_said : (e : Entry) (r : Record) (o : Option Borrowed) (b : Borrowed) → option_map shown o ≡ texts_of r → o ≡ Some b → row_of e ≡ r → shown b ≡ said_by e
-texts_said e r o b h is row = some_is (shown b) (said_by e) (ap (option_map shown) (sym is) ∙ h ∙ ap texts_of (sym row) ∙ row_texts e)
+pub texts_said : (e : Entry) (r : Record) (o : Option Borrowed) (b : Borrowed) → option_map names_of_borrowed o ≡ texts_of r → o ≡ Some b → row_of e ≡ r → names_of_borrowed b ≡ said_by e
+texts_said e r o b h is row = some_is (names_of_borrowed b) (said_by e) (ap (option_map names_of_borrowed) (sym is) ∙ h ∙ ap texts_of (sym row) ∙ row_texts e)
 
-pub no_texts : {X : Type 0} (e : Entry) (r : Record) (o : Option Borrowed) → option_map shown o ≡ texts_of r → o ≡ None → row_of e ≡ r → X
-no_texts e r o h is row = none_some (said_by e) (ap (option_map shown) (sym is) ∙ h ∙ ap texts_of (sym row) ∙ row_texts e)
+pub no_texts : {X : Type 0} (e : Entry) (r : Record) (o : Option Borrowed) → option_map names_of_borrowed o ≡ texts_of r → o ≡ None → row_of e ≡ r → X
+no_texts e r o h is row = none_some (said_by e) (ap (option_map names_of_borrowed) (sym is) ∙ h ∙ ap texts_of (sym row) ∙ row_texts e)
 
 ---- stores
 

@@ -16,11 +16,11 @@ use Rattle.sdb_schema.specs.Catalog.{is_catalog, rises as names_rise, with_table
 use Rattle.sdb_schema.specs.Table.{is_table, rises}
 use Rattle.sdb_schema.proofs.CatalogLaws.{with_table-is}
 use Rattle.sdb_stores.specs.declared.place.Place.{Place}
-use Rattle.sdb_stores.specs.Shelf.{Attached, Shelf, names_of}
+use Rattle.sdb_stores.specs.Views.{Attached, StoreView, names_of}
 use Rattle.sdb_catalog.specs.declared.entry.Entry.{Entry}
 use Rattle.sdb_catalog.specs.declared.outcome.Outcome.{Outcome}
 use Rattle.sdb_catalog.specs.declared.outcome.Outcome.TheVariants as outcome
-use Rattle.sdb_catalog.specs.Calls.{Called, IsRead, with_shelves}
+use Rattle.sdb_catalog.specs.Calls.{Called, IsRead, with_states}
 use Rattle.sdb_catalog.specs.Rows.{coordinators}
 use Rattle.sdb_catalog.specs.Written.{AreWritten, HasWritten, IsStored, IsWritten, Line, entry_for, grown, line_text, written_tables}
 use Rattle.sdb_catalog.proofs.Again.{rising_columns}
@@ -28,7 +28,7 @@ use Rattle.sdb_catalog.proofs.Reading.{own_rises}
 
 ---- what was told at first goes on being told
 
-called_from : (q : Request) (r : Reply) (old mid : Attached) (new : List Shelf) → ((i : ℕ) → old.tells i → mid.tells i) → Called q r mid new → Called q r (with_shelves old mid.shelves) new
+called_from : (q : Request) (r : Reply) (old mid : Attached) (new : List StoreView) → ((i : ℕ) → old.known i → mid.known i) → Called q r mid new → Called q r (with_states old mid.views) new
 called_from q r old mid new goes call = record {
   before = call.before;
   now = call.now;
@@ -39,10 +39,10 @@ called_from q r old mid new goes call = record {
   lawful = call.lawful;
   counted = call.counted;
   cause = call.cause;
-  telling = λ i h. h;
+  where_known = λ i h. h;
 }
 
-written_from : (known : List Entry) (e : Entry) (o : Outcome) (old mid : Attached) (new : List Shelf) → ((i : ℕ) → old.tells i → mid.tells i) → IsWritten known e o mid new → IsWritten known e o (with_shelves old mid.shelves) new
+written_from : (known : List Entry) (e : Entry) (o : Outcome) (old mid : Attached) (new : List StoreView) → ((i : ℕ) → old.known i → mid.known i) → IsWritten known e o mid new → IsWritten known e o (with_states old mid.views) new
 written_from known e outcome.Created old mid new goes h = (h.0, called_from _ _ old mid new goes h.1)
 written_from known e outcome.Exists old mid new goes h = (h.0, (h.1.0, called_from _ _ old mid new goes h.1.1, h.1.2))
 written_from known e outcome.Differs old mid new goes h = (h.0, (h.1.0, called_from _ _ old mid new goes h.1.1, h.1.2))
@@ -59,43 +59,43 @@ lines_known : (places : List Place) (first : List ℕ) (known : List Entry) (ls 
 lines_known places first known [] l = refl
 lines_known places first known (x ∷ xs) l = lines_known places first (grown known (entry_for known places first x.table) x.outcome) xs l
 
-are_written_more : (places : List Place) (first : List ℕ) (known : List Entry) (ls : List Line) (l : Line) (old : Attached) (mid new : List Shelf) → AreWritten places first known ls old mid
-    → IsWritten (known_after places first known ls) (entry_for (known_after places first known ls) places first l.table) l.outcome (with_shelves old mid) new → AreWritten places first known (ls ++ l ∷ []) old new
+are_written_more : (places : List Place) (first : List ℕ) (known : List Entry) (ls : List Line) (l : Line) (old : Attached) (mid new : List StoreView) → AreWritten places first known ls old mid
+    → IsWritten (known_after places first known ls) (entry_for (known_after places first known ls) places first l.table) l.outcome (with_states old mid) new → AreWritten places first known (ls ++ l ∷ []) old new
 are_written_more places first known [] l old mid new h k =
-    (new, subst (λ (s : List Shelf). IsWritten known (entry_for known places first l.table) l.outcome (with_shelves old s) new) h k, refl)
+    (new, subst (λ (s : List StoreView). IsWritten known (entry_for known places first l.table) l.outcome (with_states old s) new) h k, refl)
 are_written_more places first known (x ∷ xs) l old mid new h k =
-    (h.0, h.1, are_written_more places first (grown known (entry_for known places first x.table) x.outcome) xs l (with_shelves old h.0) mid new h.2 k)
+    (h.0, h.1, are_written_more places first (grown known (entry_for known places first x.table) x.outcome) xs l (with_states old h.0) mid new h.2 k)
 
 -- what the loop keeps
-pub record WrittenSo (places : List Place) (first : List ℕ) (known now : List Entry) (ts : List Table) (answer : List ℕ) (old : Attached) (new : List Shelf) : Type 0 where
+pub record WrittenSo (places : List Place) (first : List ℕ) (known now : List Entry) (ts : List Table) (answer : List ℕ) (old : Attached) (new : List StoreView) : Type 0 where
   pub lines : List Line
   pub tables : map (λ (l : Line). l.table) lines ≡ ts
   pub written : AreWritten places first known lines old new
   pub known_now : now ≡ known_after places first known lines
   pub text : answer ≡ flat_map line_text lines
 
-pub written_none : (places : List Place) (first : List ℕ) (known : List Entry) (old : Attached) → WrittenSo places first known known [] [] old old.shelves
+pub written_none : (places : List Place) (first : List ℕ) (known : List Entry) (old : Attached) → WrittenSo places first known known [] [] old old.views
 written_none places first known old = record { lines = []; tables = refl; written = refl; known_now = refl; text = refl }
 
 abbrev pub line_of : Table → Outcome → Line
 line_of t o = record { table = t; outcome = o }
 
-pub written_one : (places : List Place) (first : List ℕ) (known now next : List Entry) (ts more : List Table) (t : Table) (o : Outcome) (e : Entry) (answer longer : List ℕ) (old mid : Attached) (new : List Shelf)
-    → WrittenSo places first known now ts answer old mid.shelves → ((i : ℕ) → old.tells i → mid.tells i) → e ≡ entry_for now places first t → IsWritten now e o mid new → next ≡ grown now e o
+pub written_one : (places : List Place) (first : List ℕ) (known now next : List Entry) (ts more : List Table) (t : Table) (o : Outcome) (e : Entry) (answer longer : List ℕ) (old mid : Attached) (new : List StoreView)
+    → WrittenSo places first known now ts answer old mid.views → ((i : ℕ) → old.known i → mid.known i) → e ≡ entry_for now places first t → IsWritten now e o mid new → next ≡ grown now e o
     → longer ≡ answer ++ line_text (line_of t o) → more ≡ ts ++ t ∷ [] → WrittenSo places first known next more longer old new
 written_one places first known now next ts more t o e answer longer old mid new so goes is step known_is text_is more_is =
     let l = line_of t o in
-    let here : IsWritten (known_after places first known so.lines) (entry_for (known_after places first known so.lines) places first t) o (with_shelves old mid.shelves) new =
-    subst (λ (k : List Entry). IsWritten k (entry_for k places first t) o (with_shelves old mid.shelves) new) so.known_now (subst (λ (x : Entry). IsWritten now x o (with_shelves old mid.shelves) new) is (written_from now e o old mid new goes step)) in
+    let here : IsWritten (known_after places first known so.lines) (entry_for (known_after places first known so.lines) places first t) o (with_states old mid.views) new =
+    subst (λ (k : List Entry). IsWritten k (entry_for k places first t) o (with_states old mid.views) new) so.known_now (subst (λ (x : Entry). IsWritten now x o (with_states old mid.views) new) is (written_from now e o old mid new goes step)) in
     record {
       lines = so.lines ++ l ∷ [];
       tables = map-append (λ (x : Line). x.table) so.lines (l ∷ []) ∙ ap (λ (xs : List Table). xs ++ t ∷ []) so.tables ∙ sym more_is;
-      written = are_written_more places first known so.lines l old mid.shelves new so.written here;
+      written = are_written_more places first known so.lines l old mid.views new so.written here;
       known_now = known_is ∙ ap (λ (x : Entry). grown now x o) is ∙ ap (λ (k : List Entry). grown k (entry_for k places first t) o) so.known_now ∙ sym (lines_known places first known so.lines l);
       text = text_is ∙ ap (λ (s : List ℕ). s ++ line_text l) so.text ∙ ap (λ (s : List ℕ). flat_map line_text so.lines ++ s) (sym (append-nil (line_text l))) ∙ sym (flat_map-append line_text so.lines (l ∷ []));
     }
 
-pub has_written : (places : List Place) (first : List ℕ) (known now : List Entry) (ts all : List Table) (answer : List ℕ) (old : Attached) (new : List Shelf) → WrittenSo places first known now ts answer old new → ts ≡ all → HasWritten places first known all answer old new
+pub has_written : (places : List Place) (first : List ℕ) (known now : List Entry) (ts all : List Table) (answer : List ℕ) (old : Attached) (new : List StoreView) → WrittenSo places first known now ts answer old new → ts ≡ all → HasWritten places first known all answer old new
 has_written places first known now ts all answer old new so is = record { lines = so.lines; tables = so.tables ∙ is; written = so.written; text = so.text }
 
 ---- the tables
@@ -134,16 +134,16 @@ rises_at (x ∷ xs) (suc i) t h inside is = rises_at xs i t (and_second (rises x
 
 ---- the whole
 
-are_written_from : (places : List Place) (first : List ℕ) (known : List Entry) (ls : List Line) (old mid : Attached) (new : List Shelf) → ((i : ℕ) → old.tells i → mid.tells i) → AreWritten places first known ls mid new → AreWritten places first known ls (with_shelves old mid.shelves) new
+are_written_from : (places : List Place) (first : List ℕ) (known : List Entry) (ls : List Line) (old mid : Attached) (new : List StoreView) → ((i : ℕ) → old.known i → mid.known i) → AreWritten places first known ls mid new → AreWritten places first known ls (with_states old mid.views) new
 are_written_from places first known [] old mid new goes h = h
 are_written_from places first known (l ∷ ls) old mid new goes h =
-    (h.0, written_from known (entry_for known places first l.table) l.outcome old mid h.0 goes h.1, are_written_from places first (grown known (entry_for known places first l.table) l.outcome) ls old (with_shelves mid h.0) new goes h.2)
+    (h.0, written_from known (entry_for known places first l.table) l.outcome old mid h.0 goes h.1, are_written_from places first (grown known (entry_for known places first l.table) l.outcome) ls old (with_states mid h.0) new goes h.2)
 
-pub stored : (places : List Place) (catalog ts : List Table) (first text answer : List ℕ) (es : List Entry) (old mid : Attached) (new : List Shelf) → IsRead old mid.shelves es → slice_get (names_of old.shelves) 0 ≡ Some first → ((i : ℕ) → old.tells i → mid.tells i)
+pub stored : (places : List Place) (catalog ts : List Table) (first text answer : List ℕ) (es : List Entry) (old mid : Attached) (new : List StoreView) → IsRead old mid.views es → slice_get (names_of old.views) 0 ≡ Some first → ((i : ℕ) → old.known i → mid.known i)
     → HasWritten places first es ts text mid new → ts ≡ written_tables catalog → answer ≡ text → IsStored places catalog answer old new
 stored places catalog ts first text answer es old mid new read named goes written is same = record {
   entries = es;
-  mid = mid.shelves;
+  mid = mid.views;
   read = read;
   first = first;
   named = named;

@@ -8,7 +8,7 @@ use Rattle.sdb_types.specs.declared.record.Record.{Record}
 use Rattle.sdb_types.specs.Contents.{Contents, record_at, rows_in}
 use Rattle.sdb_schema.specs.declared.table.Table.{Table}
 use Rattle.sdb_stores.specs.declared.place.Place.{Place}
-use Rattle.sdb_stores.specs.Shelf.{Attached, names_of, placed_on}
+use Rattle.sdb_stores.specs.Views.{Attached, names_of, route_of}
 use Rattle.sdb_catalog.specs.declared.entry.Entry.{Entry}
 use Rattle.sdb_catalog.specs.declared.outcome.Outcome.{Outcome}
 use Rattle.sdb_catalog.specs.declared.outcome.Outcome.TheVariants as outcome
@@ -28,7 +28,7 @@ pub record IsCatalogIn (names : List (List ℕ)) (contents : Contents) (catalog 
   pub entries : List Entry
   pub opens : Opens names (rows_in metadata_span contents) entries
   pub tables : catalog ≡ tables_of entries
-  pub placed : (ns : List ℕ) → placed_on ns places ≡ store_in entries ns
+  pub placed : (ns : List ℕ) → route_of ns places ≡ store_in entries ns
 
 -- A refused row is the first bad one of those in these contents.
 abbrev pub IsBadIn : List (List ℕ) → Contents → CatalogRefused → Type 0
@@ -116,8 +116,8 @@ pub record IsWith (created : List Table) (old new : CatalogState) : Type 0 where
   pub contents : new.contents ≡ with_rows old.contents added
 
 -- each record is there still
-abbrev pub KeepsRecords : Contents → Contents → Type 0
-KeepsRecords old new = (key : Key) (found : Record) → record_at old key ≡ Some found → record_at new key ≡ Some found
+abbrev pub IncludesRecords : Contents → Contents → Type 0
+IncludesRecords old new = (key : Key) (found : Record) → record_at old key ≡ Some found → record_at new key ≡ Some found
 
 ---- a catalog is written
 
@@ -152,24 +152,24 @@ IsLeftBy refused.NoMemory names places catalog old new = (new ≡ old) ⊎ IsPar
 
 -- the catalog is that of its rows
 abbrev pub IsKnownCatalog : Attached → Attached → List Table → Type 0
-IsKnownCatalog old new catalog = old.tells 0 → IsCatalogIn (names_of old.shelves) (first_contents old.shelves) catalog new.places
+IsKnownCatalog old new catalog = old.known 0 → IsCatalogIn (names_of old.views) (first_contents old.views) catalog new.places
 
 -- a row that was refused is the first bad one
 abbrev pub IsKnownBad : Attached → CatalogRefused → Type 0
-IsKnownBad old e = old.tells 0 → IsBadIn (names_of old.shelves) (first_contents old.shelves) e
+IsKnownBad old e = old.known 0 → IsBadIn (names_of old.views) (first_contents old.views) e
 
 -- the answer and what the first store then holds are those of the catalog
 abbrev pub IsKnownStored : Attached → Attached → List Place → List Table → List ℕ → Type 0
-IsKnownStored old new places catalog text = old.tells 0 → IsStoredIn (names_of old.shelves) places catalog text (first_contents old.shelves) (first_contents new.shelves)
+IsKnownStored old new places catalog text = old.known 0 → IsStoredIn (names_of old.views) places catalog text (first_contents old.views) (first_contents new.views)
 
 -- the first store then holds what such a refusal leaves
 abbrev pub IsKnownLeft : Attached → Attached → List Place → List Table → CatalogRefused → Type 0
-IsKnownLeft old new places catalog e = old.tells 0 → IsLeftBy e (names_of old.shelves) places catalog (first_contents old.shelves) (first_contents new.shelves)
+IsKnownLeft old new places catalog e = old.known 0 → IsLeftBy e (names_of old.views) places catalog (first_contents old.views) (first_contents new.views)
 
 -- the first store holds what it held, or what it holds once an entry is written beside these
 abbrev pub MayWrite : List Entry → Entry → Attached → Attached → Type 0
-MayWrite known e old new = old.tells 0 → (first_contents new.shelves ≡ first_contents old.shelves) ⊎ (first_contents new.shelves ≡ (after_entry (state_of known (first_contents old.shelves)) e).contents)
+MayWrite known e old new = old.known 0 → (first_contents new.views ≡ first_contents old.views) ⊎ (first_contents new.views ≡ (after_entry (state_of known (first_contents old.views)) e).contents)
 
 -- the first store holds what it holds once the first of these tables, as many as some number, are written beside these entries
 abbrev pub MayWriteFirst : List Place → List ℕ → List Entry → List Table → Attached → Attached → Type 0
-MayWriteFirst places first known ts old new = old.tells 0 → (count : ℕ) × (first_contents new.shelves ≡ (state_after places first (state_of known (first_contents old.shelves)) (take count ts)).contents)
+MayWriteFirst places first known ts old new = old.known 0 → (count : ℕ) × (first_contents new.views ≡ (state_after places first (state_of known (first_contents old.views)) (take count ts)).contents)

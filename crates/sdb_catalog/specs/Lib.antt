@@ -1,8 +1,8 @@
 pub mod Definition
 pub mod Rows
-pub mod Shown
+pub mod Borrowed
 pub mod Opened
 pub mod Calls
 pub mod Written
 pub mod Known
-pub mod Kept
+pub mod Stored

@@ -12,16 +12,16 @@ use Rattle.sdb_types.specs.Order.{table_cmp, table_text}
 use Rattle.sdb_schema.specs.declared.table.Table.{Table}
 use Rattle.sdb_schema.specs.Catalog.{with_table}
 use Rattle.sdb_stores.specs.declared.place.Place.{Place}
-use Rattle.sdb_stores.specs.Shelf.{Attached, Shelf, names_of, placed_on}
+use Rattle.sdb_stores.specs.Views.{Attached, StoreView, names_of, route_of}
 use Rattle.sdb_catalog.specs.declared.entry.Entry.{Entry}
 use Rattle.sdb_catalog.specs.declared.outcome.Outcome.{Outcome}
 use Rattle.sdb_catalog.specs.declared.outcome.Outcome.TheVariants as outcome
 use Rattle.sdb_catalog.specs.Definition.{definition_text}
 use Rattle.sdb_catalog.specs.Rows.{coordinators, definition_column, row_of, text_at}
 use Rattle.sdb_catalog.specs.Opened.{is_coordinators, open_count, store_in}
-use Rattle.sdb_catalog.specs.Calls.{Called, IsRead, with_shelves}
+use Rattle.sdb_catalog.specs.Calls.{Called, IsRead, with_states}
 
----- the tables, and what is said of each
+---- the tables, and the row of each
 
 -- the tables that are given a row: those of the catalog and the coordinator's, in the order of their names
 abbrev pub written_tables : List Table → List Table
@@ -29,7 +29,7 @@ written_tables catalog = with_table coordinators catalog
 
 -- the store of a namespace: the one that keeps it, else the one that it is placed on, else the first
 abbrev pub store_for : List Entry → List Place → List ℕ → List ℕ → List ℕ
-store_for known places first ns = unwrap_or (store_in known ns) (unwrap_or (placed_on ns places) first)
+store_for known places first ns = unwrap_or (store_in known ns) (unwrap_or (route_of ns places) first)
 
 -- what the new row of a table says
 abbrev pub entry_for : List Entry → List Place → List ℕ → Table → Entry
@@ -53,18 +53,18 @@ abbrev pub HasDefinition : Entry → Record → Type 0
 HasDefinition e found = text_at definition_column found ≡ Some (definition_text e.table)
 
 -- The row of an entry was put, and this came of it: it was created, or one that was there has the same definition or another.
-abbrev pub IsPut : Entry → Outcome → Attached → List Shelf → Type 0
+abbrev pub IsPut : Entry → Outcome → Attached → List StoreView → Type 0
 IsPut e outcome.Created old new = Called (put_of e) Applied old new
 IsPut e outcome.Exists old new = (found : Record) × Called (put_of e) (NotMet (Some found)) old new × HasDefinition e found
 IsPut e outcome.Differs old new = (found : Record) × Called (put_of e) (NotMet (Some found)) old new × (HasDefinition e found → ⊥)
 IsPut e outcome.Full old new = ⊥
 
 -- What came of an entry. Where the catalog is full without it there is no call.
-abbrev pub IsWritten : List Entry → Entry → Outcome → Attached → List Shelf → Type 0
+abbrev pub IsWritten : List Entry → Entry → Outcome → Attached → List StoreView → Type 0
 IsWritten known e outcome.Created old new = (is_full known e ≡ false) × IsPut e outcome.Created old new
 IsWritten known e outcome.Exists old new = (is_full known e ≡ false) × IsPut e outcome.Exists old new
 IsWritten known e outcome.Differs old new = (is_full known e ≡ false) × IsPut e outcome.Differs old new
-IsWritten known e outcome.Full old new = (is_full known e ≡ true) × (new ≡ old.shelves)
+IsWritten known e outcome.Full old new = (is_full known e ≡ true) × (new ≡ old.views)
 
 -- the entries that are known after it
 abbrev pub grown : List Entry → Entry → Outcome → List Entry
@@ -80,34 +80,34 @@ pub record Line : Type 0 where
   pub table : Table
   pub outcome : Outcome
 
-abbrev pub word_of : Outcome → List ℕ
-word_of outcome.Created = codes "created "
-word_of outcome.Exists = codes "exists "
-word_of outcome.Differs = codes "differs "
-word_of outcome.Full = codes "full "
+abbrev pub word_of_outcome : Outcome → List ℕ
+word_of_outcome outcome.Created = codes "created "
+word_of_outcome outcome.Exists = codes "exists "
+word_of_outcome outcome.Differs = codes "differs "
+word_of_outcome outcome.Full = codes "full "
 
 abbrev pub line_text : Line → List ℕ
-line_text l = word_of l.outcome ++ (table_text l.table.name ++ 10 ∷ [])
+line_text l = word_of_outcome l.outcome ++ (table_text l.table.name ++ 10 ∷ [])
 
 -- The tables of the lines were written one after the other, with what each line says.
-abbrev pub AreWritten : List Place → List ℕ → List Entry → List Line → Attached → List Shelf → Type 0
-AreWritten places first known [] old new = new ≡ old.shelves
+abbrev pub AreWritten : List Place → List ℕ → List Entry → List Line → Attached → List StoreView → Type 0
+AreWritten places first known [] old new = new ≡ old.views
 AreWritten places first known (l ∷ ls) old new =
-    (mid : List Shelf) × IsWritten known (entry_for known places first l.table) l.outcome old mid
-    × AreWritten places first (grown known (entry_for known places first l.table) l.outcome) ls (with_shelves old mid) new
+    (mid : List StoreView) × IsWritten known (entry_for known places first l.table) l.outcome old mid
+    × AreWritten places first (grown known (entry_for known places first l.table) l.outcome) ls (with_states old mid) new
 
 -- Tables were written one after the other, with a line for each.
-pub record HasWritten (places : List Place) (first : List ℕ) (known : List Entry) (ts : List Table) (answer : List ℕ) (old : Attached) (new : List Shelf) : Type 0 where
+pub record HasWritten (places : List Place) (first : List ℕ) (known : List Entry) (ts : List Table) (answer : List ℕ) (old : Attached) (new : List StoreView) : Type 0 where
   pub lines : List Line
   pub tables : map (λ l. l.table) lines ≡ ts
   pub written : AreWritten places first known lines old new
   pub text : answer ≡ flat_map line_text lines
 
 -- A catalog was written, with this answer: its rows were read, and then the tables were written.
-pub record IsStored (places : List Place) (catalog : List Table) (text : List ℕ) (old : Attached) (new : List Shelf) : Type 0 where
+pub record IsStored (places : List Place) (catalog : List Table) (text : List ℕ) (old : Attached) (new : List StoreView) : Type 0 where
   pub entries : List Entry
-  pub mid : List Shelf
+  pub mid : List StoreView
   pub read : IsRead old mid entries
   pub first : List ℕ
-  pub named : slice_get (names_of old.shelves) 0 ≡ Some first
-  pub written : HasWritten places first entries (written_tables catalog) text (with_shelves old mid) new
+  pub named : slice_get (names_of old.views) 0 ≡ Some first
+  pub written : HasWritten places first entries (written_tables catalog) text (with_states old mid) new

@@ -8,7 +8,7 @@ ghost use Rattle.sdb_stores.specs.declared.place.Place.{Place};
 ghost use Rattle.sdb_loader.specs.Described.{described_table};
 ghost use Rattle.sdb_catalog.specs.declared.entry.Entry.{Entry};
 ghost use Rattle.sdb_catalog.specs.Definition.{definition_text};
-ghost use Rattle.sdb_catalog.specs.Known.{CatalogState, IsWith, KeepsRecords, created_in, lines_of, state_after};
+ghost use Rattle.sdb_catalog.specs.Known.{CatalogState, IsWith, IncludesRecords, created_in, lines_of, state_after};
 ghost use Rattle.sdb_catalog.specs.Opened.{Follow, IsFirstBad, Opens};
 ghost use Rattle.sdb_catalog.specs.Rows.{row_of};
 
@@ -34,5 +34,5 @@ pub fn bad_rows_are_exact()
 /// store. Nothing else changes, and no record that is there is put over.
 pub fn tables_are_added()
     ensures added { (ps : List Place) (first : List ℕ) (s : CatalogState) (ts : List Table) → IsWith (created_in (lines_of ps first s ts)) s (state_after ps first s ts) }
-    ensures kept { (ps : List Place) (first : List ℕ) (s : CatalogState) (ts : List Table) → KeepsRecords s.contents (state_after ps first s ts).contents }
+    ensures kept { (ps : List Place) (first : List ℕ) (s : CatalogState) (ts : List Table) → IncludesRecords s.contents (state_after ps first s ts).contents }
 {}

@@ -4,10 +4,10 @@ ghost use Rattle.std.specs.List.{list_all};
 ghost use Rattle.sdb_types.specs.declared.record.Record.{Record};
 ghost use Rattle.sdb_schema.specs.Catalog.{rises};
 ghost use Rattle.sdb_schema.specs.Table.{is_table};
-ghost use Rattle.sdb_stores.specs.Shelf.{names_of, placed_on};
+ghost use Rattle.sdb_stores.specs.Views.{names_of, route_of};
 ghost use Rattle.sdb_catalog.specs.declared.entry.Entry.{Entry};
-ghost use Rattle.sdb_catalog.specs.Calls.{ArePlacedBy, GoOn, IsOpened, IsRead, IsUnread, KeepContents};
-ghost use Rattle.sdb_catalog.specs.Kept.{IsAsKept};
+ghost use Rattle.sdb_catalog.specs.Calls.{AreRoutedBy, GoOn, IsOpened, IsRead, IsUnread, ContentsAreUnchanged};
+ghost use Rattle.sdb_catalog.specs.Stored.{IsAsStored};
 ghost use Rattle.sdb_catalog.specs.Known.{IsKnownBad, IsKnownCatalog};
 ghost use Rattle.sdb_catalog.specs.Opened.{are_attached, is_attached, Follows, IsBadAmong, Opens, agrees as agrees_lem, fits as fits_lem, is_coordinators as is_coordinators_lem, open_count, store_in, tables_of};
 ghost use Rattle.sdb_catalog.specs.Rows.{row_of};
@@ -101,13 +101,13 @@ pub fn read_entries<R: Registry>(
     alloc: Global,
     stores: &mut R,
 ) -> Result<Seq<Entry>, CatalogRefused>
-    requires some { 0 < length (R.state stores.old).shelves }
+    requires some { 0 < length (R.state stores.old).views }
     requires bare { (R.state stores.old).places ≡ [] }
-    ensures read { IfOk result (IsRead (R.state stores.old) (R.state stores.new).shelves) }
-    ensures unchanged { KeepContents (R.state stores.old) (R.state stores.new) }
+    ensures read { IfOk result (IsRead (R.state stores.old) (R.state stores.new).views) }
+    ensures unchanged { ContentsAreUnchanged (R.state stores.old) (R.state stores.new) }
     ensures places { (R.state stores.new).places ≡ (R.state stores.old).places }
     ensures goes { GoOn (R.state stores.old) (R.state stores.new) }
-    ensures err { IfErr result (IsUnread (R.state stores.old) (R.state stores.new).shelves) }
+    ensures err { IfErr result (IsUnread (R.state stores.old) (R.state stores.new).views) }
 {
     let rows = scan(alloc, stores)?;
     let names = stores.names()?;
@@ -116,10 +116,10 @@ pub fn read_entries<R: Registry>(
 
 // Places a namespace on the store that keeps a table of it, where it has no place.
 fn place_one<R: Registry>(stores: &mut R, entry: &Entry) -> Result<(), NoMemory>
-    requires attached { is_attached (names_of (R.state stores.old).shelves) entry.now.store ≡ true }
-    ensures ok { OnOk result (ArePlacedBy (entry.now ∷ []) (R.state stores.old) (R.state stores.new)) }
-    ensures stores { (R.state stores.new).shelves ≡ (R.state stores.old).shelves }
-    ensures telling { (i : ℕ) → (R.state stores.old).tells i → (R.state stores.new).tells i }
+    requires attached { is_attached (names_of (R.state stores.old).views) entry.now.store ≡ true }
+    ensures ok { OnOk result (AreRoutedBy (entry.now ∷ []) (R.state stores.old) (R.state stores.new)) }
+    ensures stores { (R.state stores.new).views ≡ (R.state stores.old).views }
+    ensures where_known { (i : ℕ) → (R.state stores.old).known i → (R.state stores.new).known i }
 {
     match stores.place(entry.table.name.ns.copy()?, &entry.store) {
         Ok(()) => Ok(()),
@@ -131,11 +131,11 @@ fn place_one<R: Registry>(stores: &mut R, entry: &Entry) -> Result<(), NoMemory>
 
 // Places each namespace on the store that keeps it.
 fn place_all<R: Registry>(stores: &mut R, entries: &[Entry]) -> Result<(), NoMemory>
-    requires attached { are_attached (names_of (R.state stores.old).shelves) entries.now ≡ true }
+    requires attached { are_attached (names_of (R.state stores.old).views) entries.now ≡ true }
     requires bare { (R.state stores.old).places ≡ [] }
-    ensures ok { OnOk result ((ns : List ℕ) → placed_on ns (R.state stores.new).places ≡ store_in entries.now ns) }
-    ensures stores { (R.state stores.new).shelves ≡ (R.state stores.old).shelves }
-    ensures telling { (i : ℕ) → (R.state stores.old).tells i → (R.state stores.new).tells i }
+    ensures ok { OnOk result ((ns : List ℕ) → route_of ns (R.state stores.new).places ≡ store_in entries.now ns) }
+    ensures stores { (R.state stores.new).views ≡ (R.state stores.old).views }
+    ensures where_known { (i : ℕ) → (R.state stores.old).known i → (R.state stores.new).known i }
 {
     for entry in entries {
         place_one(stores, entry)?;
@@ -177,15 +177,15 @@ fn catalog_among(alloc: Global, entries: &[Entry]) -> Result<Catalog, NoMemory>
 /// (`known`), and a refused row is their first bad one (`bad`). So it returns the catalog that `store_catalog` wrote, where there was no
 /// row before it (`kept`).
 pub fn open_catalog<R: Registry>(alloc: Global, stores: &mut R) -> Result<Catalog, CatalogRefused>
-    requires some { 0 < length (R.state stores.old).shelves }
+    requires some { 0 < length (R.state stores.old).views }
     requires bare { (R.state stores.old).places ≡ [] }
     ensures opened { IfOk result (λ c. IsOpened (R.state stores.old) (R.state stores.new) c) }
     ensures known { IfOk result (λ c. IsKnownCatalog (R.state stores.old) (R.state stores.new) c) }
-    ensures kept { IfOk result (λ c. (R.state stores.old).tells 0 → IsAsKept (R.state stores.old).shelves c (R.state stores.new).places) }
-    ensures unchanged { KeepContents (R.state stores.old) (R.state stores.new) }
+    ensures kept { IfOk result (λ c. (R.state stores.old).known 0 → IsAsStored (R.state stores.old).views c (R.state stores.new).places) }
+    ensures unchanged { ContentsAreUnchanged (R.state stores.old) (R.state stores.new) }
     ensures unplaced { OnErr result ((R.state stores.new).places ≡ []) }
     ensures goes { GoOn (R.state stores.old) (R.state stores.new) }
-    ensures err { IfErr result (IsUnread (R.state stores.old) (R.state stores.new).shelves) }
+    ensures err { IfErr result (IsUnread (R.state stores.old) (R.state stores.new).views) }
     ensures bad { IfErr result (IsKnownBad (R.state stores.old)) }
 {
     let entries = read_entries(alloc, stores)?;
@@ -204,15 +204,15 @@ fn placed<R: Registry>(
     stores: &mut R,
     entries: &[Entry],
 ) -> Result<Catalog, NoMemory>
-    requires attached { are_attached (names_of (R.state stores.old).shelves) entries.now ≡ true }
+    requires attached { are_attached (names_of (R.state stores.old).views) entries.now ≡ true }
     requires bare { (R.state stores.old).places ≡ [] }
     requires tables { list_all is_table (tables_of entries.now) ≡ true }
     requires rise { rises (tables_of entries.now) ≡ true }
     requires few { length (tables_of entries.now) ≤ 64 }
     ensures catalog { IfOk result (λ c. c ≡ tables_of entries.now) }
-    ensures placed { OnOk result ((ns : List ℕ) → placed_on ns (R.state stores.new).places ≡ store_in entries.now ns) }
-    ensures stores { (R.state stores.new).shelves ≡ (R.state stores.old).shelves }
-    ensures telling { (i : ℕ) → (R.state stores.old).tells i → (R.state stores.new).tells i }
+    ensures placed { OnOk result ((ns : List ℕ) → route_of ns (R.state stores.new).places ≡ store_in entries.now ns) }
+    ensures stores { (R.state stores.new).views ≡ (R.state stores.old).views }
+    ensures where_known { (i : ℕ) → (R.state stores.old).known i → (R.state stores.new).known i }
 {
     place_all(stores, entries)?;
     catalog_among(alloc, entries)

@@ -11,7 +11,7 @@ ghost use Rattle.sdb_catalog.specs.declared.entry.Entry.{Entry};
 ghost use Rattle.sdb_catalog.specs.Definition.{definition_text};
 ghost use Rattle.sdb_catalog.specs.Opened.{IsEntry};
 ghost use Rattle.sdb_catalog.specs.Rows.{MayHaveRow, only_text as only_text_lem, row_of as row_of_lem, text_at as text_at_lem, texts_of as texts_of_lem};
-ghost use Rattle.sdb_catalog.specs.Shown.{shown};
+ghost use Rattle.sdb_catalog.specs.Borrowed.{names_of_borrowed};
 
 use crate::entry::Entry;
 use crate::rows::{coordinators, row_of};
@@ -68,7 +68,7 @@ pub fn text_at<'a>(row: &'a Record, name: &str) -> Option<&'a Txt>
 // The texts of a record that has one text as its partition, and texts in the three columns.
 #[tactic(auto, unfolding(crate::specs::Rows::texts_of))]
 fn texts_of(row: &Record) -> Option<Texts<'_>>
-    ensures { option_map shown result ≡ texts_of_lem row.now }
+    ensures { option_map names_of_borrowed result ≡ texts_of_lem row.now }
 {
     Some(Texts {
         name: only_text(row.key.partition.as_slice())?,

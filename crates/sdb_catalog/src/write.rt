@@ -8,14 +8,14 @@ ghost use Rattle.sdb_schema.specs.Catalog.{is_catalog};
 ghost use Rattle.sdb_schema.specs.Table.{rises};
 ghost use Rattle.sdb_schema.specs.declared.table.Table.{Table};
 ghost use Rattle.sdb_loader.specs.Described.{catalog_in};
-ghost use Rattle.sdb_stores.specs.Shelf.{names_of, placed_on};
+ghost use Rattle.sdb_stores.specs.Views.{names_of, route_of};
 ghost use Rattle.sdb_catalog.specs.declared.entry.Entry.{Entry};
 ghost use Rattle.sdb_catalog.specs.Calls.{GoOn, IsStopped, IsUnread, MayChange};
-ghost use Rattle.sdb_catalog.specs.Kept.{IsNowKept};
+ghost use Rattle.sdb_catalog.specs.Stored.{IsNowStored};
 ghost use Rattle.sdb_catalog.specs.Known.{IsKnownLeft, IsKnownStored, MayWrite, MayWriteFirst};
 ghost use Rattle.sdb_catalog.specs.Opened.{store_in as store_in_lem};
 ghost use Rattle.sdb_catalog.specs.Rows.{definition_column, text_at as text_at_lem};
-ghost use Rattle.sdb_catalog.specs.Written.{HasWritten, IsPut, IsStored, IsWritten, entry_for as entry_for_lem, grown, has_entry as has_entry_lem, is_full as is_full_lem, line_text, put_of, store_for as store_for_lem, word_of as word_of_lem, written_tables as written_tables_lem, HasDefinition};
+ghost use Rattle.sdb_catalog.specs.Written.{HasWritten, IsPut, IsStored, IsWritten, entry_for as entry_for_lem, grown, has_entry as has_entry_lem, is_full as is_full_lem, line_text, put_of, store_for as store_for_lem, word_of_outcome as word_of_outcome_lem, written_tables as written_tables_lem, HasDefinition};
 
 use crate::call::call;
 use crate::definition::definition_text;
@@ -44,7 +44,7 @@ fn store_in<'a>(entries: &'a [Entry], ns: &Name) -> Option<&'a Name>
 
 // The store that a namespace is to be placed on.
 fn store_at<'a>(places: &'a [Place], ns: &Name) -> Option<&'a Name>
-    ensures { option_copied result ≡ placed_on ns.now places.now }
+    ensures { option_copied result ≡ route_of ns.now places.now }
 {
     places
         .iter()
@@ -101,14 +101,14 @@ fn has_definition(found: &Record, definition: &Txt) -> bool
 
 // Puts the row of an entry where there is none.
 fn put<R: Registry>(alloc: Global, stores: &mut R, entry: &Entry) -> Result<Outcome, CatalogRefused>
-    requires some { 0 < length (R.state stores.old).shelves }
+    requires some { 0 < length (R.state stores.old).views }
     requires bare { (R.state stores.old).places ≡ [] }
     requires columns { rises entry.now.table.columns ≡ true }
-    ensures put { IfOk result (λ o. IsPut entry.now o (R.state stores.old) (R.state stores.new).shelves) }
+    ensures put { IfOk result (λ o. IsPut entry.now o (R.state stores.old) (R.state stores.new).views) }
     ensures left { MayChange (put_of entry.now) (R.state stores.old) (R.state stores.new) }
     ensures places { (R.state stores.new).places ≡ (R.state stores.old).places }
     ensures goes { GoOn (R.state stores.old) (R.state stores.new) }
-    ensures err { IfErr result (IsStopped (R.state stores.old).shelves (R.state stores.new).shelves) }
+    ensures err { IfErr result (IsStopped (R.state stores.old).views (R.state stores.new).views) }
 {
     let definition = definition_text(alloc, &entry.table)?;
     let request = Request::PutIf(row_of(alloc, entry)?, Condition::Absent);
@@ -125,22 +125,22 @@ fn put<R: Registry>(alloc: Global, stores: &mut R, entry: &Entry) -> Result<Outc
     }
 }
 
-// Writes a table, and notes it where its row was created.
+// Writes a table, and adds it to the list where its row was created.
 fn write_table<R: Registry>(
     alloc: Global,
     stores: &mut R,
     known: &mut Seq<Entry>,
     entry: Entry,
 ) -> Result<Outcome, CatalogRefused>
-    requires some { 0 < length (R.state stores.old).shelves }
+    requires some { 0 < length (R.state stores.old).views }
     requires bare { (R.state stores.old).places ≡ [] }
     requires columns { rises entry.table.columns ≡ true }
-    ensures written { IfOk result (λ o. IsWritten known.old entry o (R.state stores.old) (R.state stores.new).shelves) }
+    ensures written { IfOk result (λ o. IsWritten known.old entry o (R.state stores.old) (R.state stores.new).views) }
     ensures known { IfOk result (λ o. known.new ≡ grown known.old entry o) }
     ensures left { OnErr result (MayWrite known.old entry (R.state stores.old) (R.state stores.new)) }
     ensures places { (R.state stores.new).places ≡ (R.state stores.old).places }
     ensures goes { GoOn (R.state stores.old) (R.state stores.new) }
-    ensures err { IfErr result (IsStopped (R.state stores.old).shelves (R.state stores.new).shelves) }
+    ensures err { IfErr result (IsStopped (R.state stores.old).views (R.state stores.new).views) }
 {
     if is_full(known.as_slice(), &entry) {
         return Ok(Outcome::Full);
@@ -153,7 +153,7 @@ fn write_table<R: Registry>(
 }
 
 fn word_of(outcome: Outcome) -> &'static str
-    ensures { result.now ≡ word_of_lem outcome }
+    ensures { result.now ≡ word_of_outcome_lem outcome }
 {
     match outcome {
         Outcome::Created => "created ",
@@ -188,14 +188,14 @@ fn write_all<R: Registry>(
     first: &Name,
     tables: &[Table],
 ) -> Result<String, CatalogRefused>
-    requires some { 0 < length (R.state stores.old).shelves }
+    requires some { 0 < length (R.state stores.old).views }
     requires bare { (R.state stores.old).places ≡ [] }
     requires columns { list_all (λ t. rises t.columns) tables.now ≡ true }
     ensures left { MayWriteFirst places.now first.now known.old tables.now (R.state stores.old) (R.state stores.new) }
-    ensures written { IfOk result (λ text. HasWritten places.now first.now known.old tables.now (string_bytes text) (R.state stores.old) (R.state stores.new).shelves) }
+    ensures written { IfOk result (λ text. HasWritten places.now first.now known.old tables.now (string_bytes text) (R.state stores.old) (R.state stores.new).views) }
     ensures places { (R.state stores.new).places ≡ (R.state stores.old).places }
     ensures goes { GoOn (R.state stores.old) (R.state stores.new) }
-    ensures err { IfErr result (IsStopped (R.state stores.old).shelves (R.state stores.new).shelves) }
+    ensures err { IfErr result (IsStopped (R.state stores.old).views (R.state stores.new).views) }
 {
     let mut text = String::new(alloc);
     for table in tables {
@@ -253,8 +253,8 @@ fn written_tables(alloc: Global, catalog: &Catalog) -> Result<Seq<Table>, NoMemo
 
 // The name of the first store.
 fn first_store<R: Registry>(stores: &R) -> Result<Name, NoMemory>
-    requires { 0 < length (R.state stores.now).shelves }
-    ensures { IfOk result (λ name. slice_get (names_of (R.state stores.now).shelves) 0 ≡ Some name) }
+    requires { 0 < length (R.state stores.now).views }
+    ensures { IfOk result (λ name. slice_get (names_of (R.state stores.now).views) 0 ≡ Some name) }
 {
     let names = stores.names()?;
     match names.first() {
@@ -280,15 +280,15 @@ pub fn store_catalog<R: Registry>(
     catalog: &Catalog,
     places: &[Place],
 ) -> Result<Txt, CatalogRefused>
-    requires some { 0 < length (R.state stores.old).shelves }
+    requires some { 0 < length (R.state stores.old).views }
     requires bare { (R.state stores.old).places ≡ [] }
-    ensures stored { IfOk result (λ text. IsStored places.now catalog.now text (R.state stores.old) (R.state stores.new).shelves) }
+    ensures stored { IfOk result (λ text. IsStored places.now catalog.now text (R.state stores.old) (R.state stores.new).views) }
     ensures known { IfOk result (λ text. IsKnownStored (R.state stores.old) (R.state stores.new) places.now catalog.now text) }
-    ensures kept { OnOk result (IsNowKept (R.state stores.old) (R.state stores.new) places.now catalog.now) }
+    ensures kept { OnOk result (IsNowStored (R.state stores.old) (R.state stores.new) places.now catalog.now) }
     ensures left { IfErr result (IsKnownLeft (R.state stores.old) (R.state stores.new) places.now catalog.now) }
     ensures places { (R.state stores.new).places ≡ (R.state stores.old).places }
     ensures goes { GoOn (R.state stores.old) (R.state stores.new) }
-    ensures err { IfErr result (IsUnread (R.state stores.old) (R.state stores.new).shelves) }
+    ensures err { IfErr result (IsUnread (R.state stores.old) (R.state stores.new).views) }
 {
     let tables = written_tables(alloc, catalog)?;
     let first = first_store(stores)?;

@@ -16,7 +16,7 @@ use Rattle.sdb_model.specs.declared.event.Event.{Event}
 use Rattle.sdb_model.specs.Calls as calls
 use Rattle.sdb_model.specs.Calls.{calls_of, clock_at, is_read, records_read}
 use Rattle.sdb_model.specs.Causes.{IsBusy, IsEarly}
-use Rattle.sdb_model.specs.Transactions.{Said}
+use Rattle.sdb_model.specs.Transactions.{Executed}
 use Rattle.sdb_said.proofs.Lists.{right, not_true, true_not, any_some, some_any}
 use Rattle.sdb_said.proofs.ShownLaws.{number_is, is_number}
 use Rattle.sdb_plain.specs.declared.made.Made.{Made}
@@ -86,7 +86,7 @@ module _ (events : List Event) (ms : List Made) (id : TxId) (at : ℤ) where
       record {
         asked = made_of m;
         unresolved = (left u (i && (a && l)) h, id_is (id_in r.columns) id (left i (a && l) rest), at_is (prepared_moment r) at (left a l last));
-        asks = (in_contains (filter (λ (x : calls.Made). nat_lt read.at x.at) (all_made ms)) (made_of m) (kept_in (λ (x : calls.Made). nat_lt read.at x.at) (all_made ms) (made_of m) (made_in ms m found.1) (left after (gets_none events row at m.at m.request m.reply) found.2)), got.0, got.1);
+        asks = (in_contains (filter (λ (x : calls.StoreCall). nat_lt read.at x.at) (all_made ms)) (made_of m) (kept_in (λ (x : calls.StoreCall). nat_lt read.at x.at) (all_made ms) (made_of m) (made_in ms m found.1) (left after (gets_none events row at m.at m.request m.reply) found.2)), got.0, got.1);
         early = got.2;
       }
 
@@ -96,17 +96,17 @@ module _ (events : List Event) (ms : List Made) (id : TxId) (at : ℤ) where
       let i = is_id (id_in r.columns) id in
       let a = is_at (prepared_moment r) at in
       let l = list_any (looks read.at) ms in
-      let kept = in_kept (λ (x : calls.Made). nat_lt read.at x.at) (all_made ms) s.asked (contains_in (filter (λ (x : calls.Made). nat_lt read.at x.at) (all_made ms)) s.asked s.asks.0) in
+      let kept = in_kept (λ (x : calls.StoreCall). nat_lt read.at x.at) (all_made ms) s.asked (contains_in (filter (λ (x : calls.StoreCall). nat_lt read.at x.at) (all_made ms)) s.asked s.asks.0) in
       let m = in_made ms s.asked kept.0 in
       both u (i && (a && l)) s.unresolved.0
       (both i (a && l) (is_id_of (id_in r.columns) id s.unresolved.1)
       (both a l (is_at_of (prepared_moment r) at s.unresolved.2)
       (some_any (looks read.at) ms m.0 m.1
-      (both (nat_lt read.at m.0.at) (gets_none events row at m.0.at m.0.request m.0.reply) (sym (ap (λ (x : calls.Made). nat_lt read.at x.at) m.2) ∙ kept.1)
-      (none_got events row at m.0.at m.0.request m.0.reply (sym (ap (λ (x : calls.Made). x.request) m.2) ∙ s.asks.1) (sym (ap (λ (x : calls.Made). x.reply) m.2) ∙ s.asks.2)
-      (sym (ap (λ (x : calls.Made). is_expired at (clock_at events x.at)) m.2) ∙ s.early))))))
+      (both (nat_lt read.at m.0.at) (gets_none events row at m.0.at m.0.request m.0.reply) (sym (ap (λ (x : calls.StoreCall). nat_lt read.at x.at) m.2) ∙ kept.1)
+      (none_got events row at m.0.at m.0.request m.0.reply (sym (ap (λ (x : calls.StoreCall). x.request) m.2) ∙ s.asks.1) (sym (ap (λ (x : calls.StoreCall). x.reply) m.2) ∙ s.asks.2)
+      (sym (ap (λ (x : calls.StoreCall). is_expired at (clock_at events x.at)) m.2) ∙ s.early))))))
 
-  pub busy_is : (client : ℕ) (s : Said) (key : Key) → all_made ms ≡ calls_of events client s → busy_among events ms key id row at ≡ true → IsBusy events client s key id at
+  pub busy_is : (client : ℕ) (s : Executed) (key : Key) → all_made ms ≡ calls_of events client s → busy_among events ms key id row at ≡ true → IsBusy events client s key id at
   busy_is client s key e h =
       let f = λ (m : Made) (r : Record). same_key r.key key && is_early events ms m r id row at in
       let found = any_some (λ (m : Made). is_read m.request && list_any (f m) (records_read m.reply)) ms h in
@@ -120,13 +120,13 @@ module _ (events : List Event) (ms : List Made) (id : TxId) (at : ℤ) where
         early = subst (λ cs. IsEarly events cs (made_of m) r id at) e (early_is m r (right (same_key r.key key) (is_early events ms m r id row at) rec.2));
       }
 
-  pub is_busy_of : (client : ℕ) (s : Said) (key : Key) → all_made ms ≡ calls_of events client s → IsBusy events client s key id at → busy_among events ms key id row at ≡ true
+  pub is_busy_of : (client : ℕ) (s : Executed) (key : Key) → all_made ms ≡ calls_of events client s → IsBusy events client s key id at → busy_among events ms key id row at ≡ true
   is_busy_of client s key e b =
       let f = λ (m : Made) (r : Record). same_key r.key key && is_early events ms m r id row at in
       let c = contained_made ms b.read (subst (λ cs. Contains cs b.read) (sym e) b.reads.0) in
       let m = c.0 in
-      let early = subst (λ (x : calls.Made). IsEarly events (all_made ms) x b.found id at) c.2 (subst (λ cs. IsEarly events cs b.read b.found id at) (sym e) b.early) in
+      let early = subst (λ (x : calls.StoreCall). IsEarly events (all_made ms) x b.found id at) c.2 (subst (λ cs. IsEarly events cs b.read b.found id at) (sym e) b.early) in
       some_any (λ (m : Made). is_read m.request && list_any (f m) (records_read m.reply)) ms m c.1
-      (both (is_read m.request) (list_any (f m) (records_read m.reply)) (sym (ap (λ (x : calls.Made). is_read x.request) c.2) ∙ b.reads.1)
-      (some_any (f m) (records_read m.reply) b.found (contains_in (records_read m.reply) b.found (subst (λ (x : calls.Made). Contains (records_read x.reply) b.found) c.2 b.reads.2))
+      (both (is_read m.request) (list_any (f m) (records_read m.reply)) (sym (ap (λ (x : calls.StoreCall). is_read x.request) c.2) ∙ b.reads.1)
+      (some_any (f m) (records_read m.reply) b.found (contains_in (records_read m.reply) b.found (subst (λ (x : calls.StoreCall). Contains (records_read x.reply) b.found) c.2 b.reads.2))
       (both (same_key b.found.key key) (is_early events ms m b.found id row at) (same_key_of b.found.key key b.reads.3) (is_early_of m b.found early))))

@@ -17,7 +17,7 @@ use Rattle.sdb_model.specs.declared.event.Event.{Event}
 use Rattle.sdb_model.specs.Calls as calls
 use Rattle.sdb_model.specs.Calls.{calls_of, decision_learned, is_of_row, put_by}
 use Rattle.sdb_model.specs.Causes.{IsCommitOf, IsDecided, IsExpired, IsOfCommit, IsUnknown, PutsRow}
-use Rattle.sdb_model.specs.Transactions.{Said}
+use Rattle.sdb_model.specs.Transactions.{Executed}
 use Rattle.sdb_said.proofs.Lists.{right, not_true, true_not, not_both, In, any_some, some_any}
 use Rattle.sdb_plain.specs.declared.made.Made.{Made}
 use Rattle.sdb_plain.specs.Values.{all_made, asks_row, decision_found_at, made_of}
@@ -80,13 +80,13 @@ module _ (events : List Event) (ms : List Made) (id : TxId) where
   is_puts : (wanted : Decision) (m : Made) → PutsRow id wanted (made_of m) → puts_row row wanted m ≡ true
   is_puts wanted m (a, d) = both (asks_row row m.request) (is_decided wanted (put m)) a (is_decided_of wanted (put m) d)
 
-  abbrev earlier : ℕ → calls.Made → Bool
+  abbrev earlier : ℕ → calls.StoreCall → Bool
   earlier n x = nat_lt x.at n
 
   none_put : (n : ℕ) → list_any (put_before row n) ms ≡ false → All (λ m. PutsRow id decision.Aborted m → ⊥) (filter (earlier n) (all_made ms))
   none_put n h = all_of (λ m. PutsRow id decision.Aborted m → ⊥) (filter (earlier n) (all_made ms)) by
     where
-      by : (x : calls.Made) → In (filter (earlier n) (all_made ms)) x → PutsRow id decision.Aborted x → ⊥
+      by : (x : calls.StoreCall) → In (filter (earlier n) (all_made ms)) x → PutsRow id decision.Aborted x → ⊥
       by x i p =
           let k = in_kept (earlier n) (all_made ms) x i in
           let m = in_made ms x k.0 in
@@ -102,7 +102,7 @@ module _ (events : List Event) (ms : List Made) (id : TxId) where
         absurd (All-contains (λ m. PutsRow id decision.Aborted m → ⊥) (filter (earlier n) (all_made ms)) (made_of r.0) all (in_contains (filter (earlier n) (all_made ms)) (made_of r.0) (kept_in (earlier n) (all_made ms) (made_of r.0) (made_in ms r.0 r.1) before)) (puts_is decision.Aborted r.0 (right (nat_lt r.0.at n) (puts_row row decision.Aborted r.0) r.2)))
   ]
 
-  pub expired_is : (client : ℕ) (s : Said) → all_made ms ≡ calls_of events client s → IsCommitOf events client s id → expired_among ms row ≡ true → IsExpired events client s id
+  pub expired_is : (client : ℕ) (s : Executed) → all_made ms ≡ calls_of events client s → IsCommitOf events client s id → expired_among ms row ≡ true → IsExpired events client s id
   expired_is client s e c h =
       let r = any_some (found_aborted ms row) ms h in
       let m = r.0 in
@@ -116,16 +116,16 @@ module _ (events : List Event) (ms : List Made) (id : TxId) where
         not_own = subst (λ cs. All (λ x. PutsRow id decision.Aborted x → ⊥) (filter (earlier m.at) cs)) e (none_put m.at (not_true b (right a (not b) r.2)));
       }
 
-  pub is_expired_of : (client : ℕ) (s : Said) → all_made ms ≡ calls_of events client s → IsExpired events client s id → expired_among ms row ≡ true
+  pub is_expired_of : (client : ℕ) (s : Executed) → all_made ms ≡ calls_of events client s → IsExpired events client s id → expired_among ms row ≡ true
   is_expired_of client s e x =
       let r = contained_made ms x.call (subst (λ cs. Contains cs x.call) (sym e) x.among) in
       let m = r.0 in
       let own : All (λ y. PutsRow id decision.Aborted y → ⊥) (filter (earlier m.at) (all_made ms)) =
-      subst (λ (y : calls.Made). All (λ z. PutsRow id decision.Aborted z → ⊥) (filter (earlier y.at) (all_made ms))) r.2 (subst (λ cs. All (λ z. PutsRow id decision.Aborted z → ⊥) (filter (earlier x.call.at) cs)) (sym e) x.not_own) in
+      subst (λ (y : calls.StoreCall). All (λ z. PutsRow id decision.Aborted z → ⊥) (filter (earlier y.at) (all_made ms))) r.2 (subst (λ cs. All (λ z. PutsRow id decision.Aborted z → ⊥) (filter (earlier x.call.at) cs)) (sym e) x.not_own) in
       some_any (found_aborted ms row) ms m r.1
-      (both (is_decided decision.Aborted (decision_found_at row m)) (not (list_any (put_before row m.at) ms)) (is_decided_of decision.Aborted (decision_found_at row m) (subst (λ (y : calls.Made). IsDecided decision.Aborted (calls.decision_found id y)) r.2 x.aborted)) (true_not (list_any (put_before row m.at) ms) (put_none m.at own)))
+      (both (is_decided decision.Aborted (decision_found_at row m)) (not (list_any (put_before row m.at) ms)) (is_decided_of decision.Aborted (decision_found_at row m) (subst (λ (y : calls.StoreCall). IsDecided decision.Aborted (calls.decision_found id y)) r.2 x.aborted)) (true_not (list_any (put_before row m.at) ms) (put_none m.at own)))
 
-  pub unknown_is : (client : ℕ) (s : Said) → all_made ms ≡ calls_of events client s → IsCommitOf events client s id → unknown_among ms row ≡ true → IsUnknown events client s id
+  pub unknown_is : (client : ℕ) (s : Executed) → all_made ms ≡ calls_of events client s → IsCommitOf events client s id → unknown_among ms row ≡ true → IsUnknown events client s id
   unknown_is client s e c h =
       let r = any_some (is_lost_put ms row) ms h in
       let p = r.0 in
@@ -140,27 +140,27 @@ module _ (events : List Event) (ms : List Made) (id : TxId) where
         put = made_of p;
         later = made_of m;
         deciding = (subst (λ cs. Contains cs (made_of p)) e (made_contained ms p r.1), puts_is decision.Committed p (left (puts_row row decision.Committed p) (f && l) r.2), fault_is p.reply (left f l rest));
-        failed = (subst (λ cs. Contains (filter (λ (x : calls.Made). nat_lt p.at x.at) cs) (made_of m)) e (in_contains (filter (λ (x : calls.Made). nat_lt p.at x.at) (all_made ms)) (made_of m) (kept_in (λ (x : calls.Made). nat_lt p.at x.at) (all_made ms) (made_of m) (made_in ms m t.1) (left (nat_lt p.at m.at) (asks_row row m.request && has_failed m.reply) t.2))), left (asks_row row m.request) (has_failed m.reply) more, failed_is m.reply (right (asks_row row m.request) (has_failed m.reply) more));
+        failed = (subst (λ cs. Contains (filter (λ (x : calls.StoreCall). nat_lt p.at x.at) cs) (made_of m)) e (in_contains (filter (λ (x : calls.StoreCall). nat_lt p.at x.at) (all_made ms)) (made_of m) (kept_in (λ (x : calls.StoreCall). nat_lt p.at x.at) (all_made ms) (made_of m) (made_in ms m t.1) (left (nat_lt p.at m.at) (asks_row row m.request && has_failed m.reply) t.2))), left (asks_row row m.request) (has_failed m.reply) more, failed_is m.reply (right (asks_row row m.request) (has_failed m.reply) more));
       }
 
-  pub is_unknown_of : (client : ℕ) (s : Said) → all_made ms ≡ calls_of events client s → IsUnknown events client s id → unknown_among ms row ≡ true
+  pub is_unknown_of : (client : ℕ) (s : Executed) → all_made ms ≡ calls_of events client s → IsUnknown events client s id → unknown_among ms row ≡ true
   is_unknown_of client s e u =
       let r = contained_made ms u.put (subst (λ cs. Contains cs u.put) (sym e) u.deciding.0) in
       let p = r.0 in
-      let after : calls.Made → Bool = λ x. nat_lt u.put.at x.at in
+      let after : calls.StoreCall → Bool = λ x. nat_lt u.put.at x.at in
       let k = in_kept after (all_made ms) u.later (contains_in (filter after (all_made ms)) u.later (subst (λ cs. Contains (filter after cs) u.later) (sym e) u.failed.0)) in
       let t = in_made ms u.later k.0 in
       let m = t.0 in
       some_any (is_lost_put ms row) ms p r.1
       (both (puts_row row decision.Committed p) (is_fault p.reply && list_any (fails_later row p.at) ms) (is_puts decision.Committed p (subst (λ y. PutsRow id decision.Committed y) r.2 u.deciding.1))
-      (both (is_fault p.reply) (list_any (fails_later row p.at) ms) (ap is_fault (sym (ap (λ (y : calls.Made). y.reply) r.2) ∙ u.deciding.2))
+      (both (is_fault p.reply) (list_any (fails_later row p.at) ms) (ap is_fault (sym (ap (λ (y : calls.StoreCall). y.reply) r.2) ∙ u.deciding.2))
       (some_any (fails_later row p.at) ms m t.1
-      (both (nat_lt p.at m.at) (asks_row row m.request && has_failed m.reply) (sym (ap (λ (y : calls.Made). nat_lt y.at m.at) r.2) ∙ sym (ap (λ (y : calls.Made). nat_lt u.put.at y.at) t.2) ∙ k.1)
-      (both (asks_row row m.request) (has_failed m.reply) (sym (ap (λ (y : calls.Made). is_of_row id y.request) t.2) ∙ u.failed.1) (is_failed m.reply (subst (λ (y : calls.Made). (y.reply ≡ reply.Fault) ⊎ (y.reply ≡ reply.NoMemory)) t.2 u.failed.2)))))))
+      (both (nat_lt p.at m.at) (asks_row row m.request && has_failed m.reply) (sym (ap (λ (y : calls.StoreCall). nat_lt y.at m.at) r.2) ∙ sym (ap (λ (y : calls.StoreCall). nat_lt u.put.at y.at) t.2) ∙ k.1)
+      (both (asks_row row m.request) (has_failed m.reply) (sym (ap (λ (y : calls.StoreCall). is_of_row id y.request) t.2) ∙ u.failed.1) (is_failed m.reply (subst (λ (y : calls.StoreCall). (y.reply ≡ reply.Fault) ⊎ (y.reply ≡ reply.NoMemory)) t.2 u.failed.2)))))))
 
 ---- Committed
 
-module _ (events : List Event) (ms : List Made) (client : ℕ) (s : Said) (e : all_made ms ≡ calls_of events client s) where
+module _ (events : List Event) (ms : List Made) (client : ℕ) (s : Executed) (e : all_made ms ≡ calls_of events client s) where
   abbrev learned : TxId → Bool
   learned id = is_decided decision.Committed (decision_learned (all_made ms) id)
 

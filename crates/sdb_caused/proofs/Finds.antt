@@ -3,15 +3,15 @@ use Rattle.std.proofs.Common.{◌≡◌, zero, suc, Bool, true, false, List, [],
 use Rattle.std.specs.Prelude.{filter, Contains, ◌||◌, if◌then◌else◌}
 use Rattle.std.specs.List.{list_any}
 use Rattle.sdb_types.specs.declared.record.Record.{Record}
-use Rattle.sdb_model.specs.Noted as noted
-use Rattle.sdb_said.specs.declared.plan.Note.{Note}
-use Rattle.sdb_said.specs.Values.{note_of}
+use Rattle.sdb_model.specs.ReadSet as noted
+use Rattle.sdb_said.specs.declared.plan.ReadItem.{ReadItem}
+use Rattle.sdb_said.specs.Values.{item_of}
 use Rattle.sdb_said.proofs.ShownLaws.{record_is, is_record}
 use Rattle.sdb_caused.specs.Tests.{same_found}
 use Rattle.sdb_model.specs.Calls as calls
 use Rattle.sdb_said.proofs.Lists.{In}
 use Rattle.sdb_plain.specs.declared.made.Made.{Made}
-use Rattle.sdb_plain.specs.Values.{all_made, all_notes, made_of}
+use Rattle.sdb_plain.specs.Values.{all_made, all_items, made_of}
 use Rattle.sdb_types.proofs.Basics.{clash}
 
 pub in_contains : {X : Type 0} (xs : List X) (x : X) → In xs x → Contains xs x
@@ -52,7 +52,7 @@ made_in [] m i = absurd i
 made_in (x ∷ ms) m (inl e) = inl (ap made_of e)
 made_in (x ∷ ms) m (inr i) = inr (made_in ms m i)
 
-pub in_made : (ms : List Made) (c : calls.Made) → In (all_made ms) c → (m : Made) × In ms m × (c ≡ made_of m)
+pub in_made : (ms : List Made) (c : calls.StoreCall) → In (all_made ms) c → (m : Made) × In ms m × (c ≡ made_of m)
 in_made [] c i = absurd i
 in_made (x ∷ ms) c (inl e) = (x, inl refl, e)
 in_made (x ∷ ms) c (inr i) = let r = in_made ms c i in (r.0, inr r.1, r.2)
@@ -60,18 +60,18 @@ in_made (x ∷ ms) c (inr i) = let r = in_made ms c i in (r.0, inr r.1, r.2)
 pub made_contained : (ms : List Made) (m : Made) → In ms m → Contains (all_made ms) (made_of m)
 made_contained ms m i = in_contains (all_made ms) (made_of m) (made_in ms m i)
 
-pub contained_made : (ms : List Made) (c : calls.Made) → Contains (all_made ms) c → (m : Made) × In ms m × (c ≡ made_of m)
+pub contained_made : (ms : List Made) (c : calls.StoreCall) → Contains (all_made ms) c → (m : Made) × In ms m × (c ≡ made_of m)
 contained_made ms c k = in_made ms c (contains_in (all_made ms) c k)
 
 pub one_found : (b : Bool) → b ≡ (b || false)
 one_found true = refl
 one_found false = refl
 
----- notes
+---- read items
 
-pub any_noted : (f : noted.Note → Bool) (ns : List Note) → list_any f (all_notes ns) ≡ list_any (λ n. f (note_of n)) ns
+pub any_noted : (f : as_read.ReadItem → Bool) (ns : List ReadItem) → list_any f (all_items ns) ≡ list_any (λ n. f (item_of n)) ns
 any_noted f [] = refl
-any_noted f (n ∷ ns) = ap (λ b. f (note_of n) || b) (any_noted f ns)
+any_noted f (n ∷ ns) = ap (λ b. f (item_of n) || b) (any_noted f ns)
 
 ---- what is found
 

@@ -10,9 +10,9 @@ use Rattle.sdb_model.specs.declared.statement.Statement.{Statement}
 use Rattle.sdb_model.specs.declared.statement.Statement.TheVariants as statement
 use Rattle.sdb_model.specs.Calls as calls
 use Rattle.sdb_model.specs.Calls.{records_read}
-use Rattle.sdb_model.specs.Noted.{has_finished, reads_rows}
+use Rattle.sdb_model.specs.ReadSet.{has_finished, reads_rows}
 use Rattle.sdb_model.specs.Causes.{MayPassMost, body_before, finished_before, may_pass, records_found, counted_by}
-use Rattle.sdb_model.specs.Transactions.{Said, client_of, id_of, is_effective, ordinal_of, said}
+use Rattle.sdb_model.specs.Transactions.{Executed, client_of, id_of, is_effective, ordinal_of, statements_by}
 use Rattle.sdb_said.proofs.Lists.{right}
 use Rattle.sdb_plain.specs.declared.made.Made.{Made}
 use Rattle.sdb_plain.specs.Values.{all_made, inside_among, made_of}
@@ -28,18 +28,18 @@ pub found_is : (ms : List Made) → found_among ms ≡ records_found (all_made m
 found_is [] = refl
 found_is (m ∷ ms) = by (reads_rows (made_of m)) (found_is ms)
   where
-    size : calls.Made → ℕ
+    size : calls.StoreCall → ℕ
     size x = length (records_read x.reply)
 
     by : (b : Bool) → found_among ms ≡ records_found (all_made ms) → (if b then length (records_read m.reply) else 0) + found_among ms ≡ sum_by size (if b then made_of m ∷ filter reads_rows (all_made ms) else filter reads_rows (all_made ms))
     by true more = ap (λ n. length (records_read m.reply) + n) more ∙ sym (sum_by-cons size (made_of m) (filter reads_rows (all_made ms)))
     by false more = zero-add (found_among ms) ∙ more
 
-sum_before : (t : Said → Bool) (f : Said → ℕ) (taken : ℕ) (ss : List Said) → sum_by f (filter (λ b. nat_lt b.taken taken) (filter t ss)) ≡ total_before t f taken ss
+sum_before : (t : Executed → Bool) (f : Executed → ℕ) (taken : ℕ) (ss : List Executed) → sum_by f (filter (λ b. nat_lt b.taken taken) (filter t ss)) ≡ total_before t f taken ss
 sum_before t f taken [] = refl
 sum_before t f taken (s ∷ ss) = by (t s) (nat_lt s.taken taken) refl (sum_before t f taken ss)
   where
-    early : List Said → List Said
+    early : List Executed → List Executed
     early = filter (λ b. nat_lt b.taken taken)
 
     by : (a c : Bool) → nat_lt s.taken taken ≡ c → sum_by f (early (filter t ss)) ≡ total_before t f taken ss → sum_by f (early (if a then s ∷ filter t ss else filter t ss)) ≡ (if a && c then f s else 0) + total_before t f taken ss
@@ -66,14 +66,14 @@ passes_is w f g statement.Commit = refl
 passes_is w f g statement.Rollback = refl
 passes_is w f g statement.Vacuum = refl
 
-module _ (events : List Event) (client : ℕ) (s : Said) (o : Option Statement) (reading : IsReading s.text o) where
-  abbrev inside : TxId → List Said
-  inside id = inside_among (said (client_of id) events) (ordinal_of id)
+module _ (events : List Event) (client : ℕ) (s : Executed) (o : Option Statement) (reading : IsReading s.text o) where
+  abbrev inside : TxId → List Executed
+  inside id = inside_among (statements_by (client_of id) events) (ordinal_of id)
 
-  abbrev before : TxId → List Said
+  abbrev before : TxId → List Executed
   before id = body_before events id s
 
-  abbrev finished : TxId → List Said
+  abbrev finished : TxId → List Executed
   finished id = finished_before events id s
 
   abbrev here : TxId → Statement → Bool
@@ -102,5 +102,5 @@ module _ (events : List Event) (client : ℕ) (s : Said) (o : Option Statement) 
       (both (is_in events client s x.id) (option_map_or (passes x.id) o false) (is_in_of events client s x.id x.within)
       (ap (λ y. option_map_or (passes x.id) y false) (read s o reading x.statement x.read) ∙ same x.id x.statement ∙ x.past))
 
-  pub most : (b : Bool) (n : ℕ) → n ≡ length (said client events) → b ≡ any_upto (λ k. passes_most events client s o (id_of client k)) n → IsTrue b ↔ MayPassMost events client s
-  most b n l f = decide_by b (any_upto (λ k. passes_most events client s o (id_of client k)) (length (said client events))) (f ∙ ap (any_upto (λ k. passes_most events client s o (id_of client k))) l) most_is is_most
+  pub most : (b : Bool) (n : ℕ) → n ≡ length (statements_by client events) → b ≡ any_upto (λ k. passes_most events client s o (id_of client k)) n → IsTrue b ↔ MayPassMost events client s
+  most b n l f = decide_by b (any_upto (λ k. passes_most events client s o (id_of client k)) (length (statements_by client events))) (f ∙ ap (any_upto (λ k. passes_most events client s o (id_of client k))) l) most_is is_most

@@ -7,10 +7,10 @@ use Rattle.sdb_model.specs.Sql.{reads_commit}
 use Rattle.sdb_types.specs.declared.txid.TxId.{TxId}
 use Rattle.sdb_model.specs.declared.event.Event.{Event}
 use Rattle.sdb_model.specs.Causes.{IsCommitOf, IsIn}
-use Rattle.sdb_model.specs.Transactions.{Said, begins, ends, rest_of, through_end, client_of, commit_of, from_begin, id_of, ordinal_of, said, statements_of}
+use Rattle.sdb_model.specs.Transactions.{Executed, begins, ends, rest_of, through_end, client_of, commit_of, from_begin, id_of, ordinal_of, statements_by, statements_of}
 use Rattle.sdb_said.proofs.Lists.{none_some, right, or_left, In, any_some, some_any}
 use Rattle.sdb_said.proofs.ShownLaws.{number_is, is_number}
-use Rattle.sdb_caused.specs.Tests.{any_id, any_upto, is_commit_of, is_in, is_said, same_said}
+use Rattle.sdb_caused.specs.Tests.{any_id, any_upto, is_commit_of, is_in, is_executed, same_executed}
 use Rattle.sdb_caused.proofs.Finds.{in_contains, contains_in}
 use Rattle.sdb_caused.proofs.SameLaws.{said_is, said_itself, some_said, is_said_of}
 use Rattle.sdb_types.proofs.Basics.{clash, or_second as or_right, decides as decide, either}
@@ -40,7 +40,7 @@ some_upto f (suc n) k lt h = by (some_upto f n k) (split k n lt)
 ---- a client's transactions
 
 -- there are no more transactions than statements
-none_from : (k : ℕ) (ss : List Said) → length ss < k → from_begin k ss ≡ []
+none_from : (k : ℕ) (ss : List Executed) → length ss < k → from_begin k ss ≡ []
 none_from zero ss lt = absurd (omega (arith, lt))
 none_from (suc k) [] lt = refl
 none_from (suc k) (s ∷ ss) lt = by (begins s) k (omega (arith, lt)) (none_from (suc k) ss (omega (arith, lt))) (λ j more. none_from j ss more)
@@ -54,7 +54,7 @@ none_from (suc k) (s ∷ ss) lt = by (begins s) k (omega (arith, lt)) (none_from
     by false j l rest more = rest
 
 -- where a transaction has begun, its number is among those of the statements
-pub some_from : (k : ℕ) (ss : List Said) → (from_begin k ss ≡ [] → ⊥) → (j : ℕ) × (k ≡ suc j) × (j < length ss)
+pub some_from : (k : ℕ) (ss : List Executed) → (from_begin k ss ≡ [] → ⊥) → (j : ℕ) × (k ≡ suc j) × (j < length ss)
 some_from zero ss some = absurd (some refl)
 some_from (suc j) ss some = (j, refl, by (split j (length ss)))
   where
@@ -69,45 +69,45 @@ some_from (suc j) ss some = (j, refl, by (split j (length ss)))
     by (inr l) = absurd (some (none_from (suc j) ss l))
 
 pub id_some : (events : List Event) (client : ℕ) (f : TxId → Bool) → any_id events client f ≡ true → (id : TxId) × (f id ≡ true)
-id_some events client f h = let r = upto_some (λ k. f (id_of client k)) (length (said client events)) h in (id_of client r.0, r.1)
+id_some events client f h = let r = upto_some (λ k. f (id_of client k)) (length (statements_by client events)) h in (id_of client r.0, r.1)
 
-pub some_id : (events : List Event) (client : ℕ) (f : TxId → Bool) (id : TxId) → client_of id ≡ client → (from_begin (ordinal_of id) (said client events) ≡ [] → ⊥) → f id ≡ true → any_id events client f ≡ true
+pub some_id : (events : List Event) (client : ℕ) (f : TxId → Bool) (id : TxId) → client_of id ≡ client → (from_begin (ordinal_of id) (statements_by client events) ≡ [] → ⊥) → f id ≡ true → any_id events client f ≡ true
 some_id events client f id c some h =
-    let r = some_from (ordinal_of id) (said client events) some in
+    let r = some_from (ordinal_of id) (statements_by client events) some in
     let same : id_of client (suc r.0) ≡ id = ap (λ k. id_of client k) (sym r.1) ∙ ap (λ n. id_of n (ordinal_of id)) (sym c) ∙ id_again id in
-    some_upto (λ k. f (id_of client k)) (length (said client events)) r.0 r.2 (ap f same ∙ h)
+    some_upto (λ k. f (id_of client k)) (length (statements_by client events)) r.0 r.2 (ap f same ∙ h)
 
 ---- a statement's transaction
 
-pub commit_is : (events : List Event) (client : ℕ) (s : Said) (id : TxId) → is_commit_of events client s id ≡ true → IsCommitOf events client s id
-commit_is events client s id h = (number_is (client_of id) client (left (client_of id == client) (is_said (commit_of events id) s) h), some_said (commit_of events id) s (right (client_of id == client) (is_said (commit_of events id) s) h))
+pub commit_is : (events : List Event) (client : ℕ) (s : Executed) (id : TxId) → is_commit_of events client s id ≡ true → IsCommitOf events client s id
+commit_is events client s id h = (number_is (client_of id) client (left (client_of id == client) (is_executed (commit_of events id) s) h), some_said (commit_of events id) s (right (client_of id == client) (is_executed (commit_of events id) s) h))
 
-pub is_commit : (events : List Event) (client : ℕ) (s : Said) (id : TxId) → IsCommitOf events client s id → is_commit_of events client s id ≡ true
-is_commit events client s id (c, e) = both (client_of id == client) (is_said (commit_of events id) s) (is_number (client_of id) client c) (is_said_of (commit_of events id) s e)
+pub is_commit : (events : List Event) (client : ℕ) (s : Executed) (id : TxId) → IsCommitOf events client s id → is_commit_of events client s id ≡ true
+is_commit events client s id (c, e) = both (client_of id == client) (is_executed (commit_of events id) s) (is_number (client_of id) client c) (is_said_of (commit_of events id) s e)
 
-pub in_is : (events : List Event) (client : ℕ) (s : Said) (id : TxId) → is_in events client s id ≡ true → IsIn events client s id
+pub in_is : (events : List Event) (client : ℕ) (s : Executed) (id : TxId) → is_in events client s id ≡ true → IsIn events client s id
 in_is events client s id h =
-    let r = any_some (same_said s) (statements_of events id) (right (client_of id == client) (list_any (same_said s) (statements_of events id)) h) in
-    (number_is (client_of id) client (left (client_of id == client) (list_any (same_said s) (statements_of events id)) h), in_contains (statements_of events id) s (subst (λ x. In (statements_of events id) x) (sym (said_is s r.0 r.2)) r.1))
+    let r = any_some (same_executed s) (statements_of events id) (right (client_of id == client) (list_any (same_executed s) (statements_of events id)) h) in
+    (number_is (client_of id) client (left (client_of id == client) (list_any (same_executed s) (statements_of events id)) h), in_contains (statements_of events id) s (subst (λ x. In (statements_of events id) x) (sym (said_is s r.0 r.2)) r.1))
 
-pub is_in_of : (events : List Event) (client : ℕ) (s : Said) (id : TxId) → IsIn events client s id → is_in events client s id ≡ true
+pub is_in_of : (events : List Event) (client : ℕ) (s : Executed) (id : TxId) → IsIn events client s id → is_in events client s id ≡ true
 is_in_of events client s id (c, k) =
-    both (client_of id == client) (list_any (same_said s) (statements_of events id)) (is_number (client_of id) client c)
-    (some_any (same_said s) (statements_of events id) s (contains_in (statements_of events id) s k) (said_itself s))
+    both (client_of id == client) (list_any (same_executed s) (statements_of events id)) (is_number (client_of id) client c)
+    (some_any (same_executed s) (statements_of events id) s (contains_in (statements_of events id) s k) (said_itself s))
 
 -- a transaction with a COMMIT, or a statement, has begun
-begun_by : (events : List Event) (client : ℕ) (s : Said) (id : TxId) → IsCommitOf events client s id → from_begin (ordinal_of id) (said client events) ≡ [] → ⊥
+begun_by : (events : List Event) (client : ℕ) (s : Executed) (id : TxId) → IsCommitOf events client s id → from_begin (ordinal_of id) (statements_by client events) ≡ [] → ⊥
 begun_by events client s id (c, e) none =
-    none_some (sym (ap (λ ss. option_and_then (λ (x : Said). if reads_commit x.text then Some x else None) (find ends (rest_of ss))) (subst (λ n. from_begin (ordinal_of id) (said n events) ≡ []) (sym c) none)) ∙ e)
+    none_some (sym (ap (λ ss. option_and_then (λ (x : Executed). if reads_commit x.text then Some x else None) (find ends (rest_of ss))) (subst (λ n. from_begin (ordinal_of id) (statements_by n events) ≡ []) (sym c) none)) ∙ e)
 
-begun_in : (events : List Event) (client : ℕ) (s : Said) (id : TxId) → IsIn events client s id → from_begin (ordinal_of id) (said client events) ≡ [] → ⊥
+begun_in : (events : List Event) (client : ℕ) (s : Executed) (id : TxId) → IsIn events client s id → from_begin (ordinal_of id) (statements_by client events) ≡ [] → ⊥
 begun_in events client s id (c, k) none =
-    contains_in [] s (subst (λ xs. Contains xs s) (ap (λ ss. through_end (rest_of ss)) (subst (λ n. from_begin (ordinal_of id) (said n events) ≡ []) (sym c) none)) k)
+    contains_in [] s (subst (λ xs. Contains xs s) (ap (λ ss. through_end (rest_of ss)) (subst (λ n. from_begin (ordinal_of id) (statements_by n events) ≡ []) (sym c) none)) k)
 
-pub commit_found : (events : List Event) (client : ℕ) (s : Said) (f : TxId → Bool) (id : TxId) → IsCommitOf events client s id → f id ≡ true → any_id events client f ≡ true
+pub commit_found : (events : List Event) (client : ℕ) (s : Executed) (f : TxId → Bool) (id : TxId) → IsCommitOf events client s id → f id ≡ true → any_id events client f ≡ true
 commit_found events client s f id c h = some_id events client f id c.0 (begun_by events client s id c) h
 
-pub in_found : (events : List Event) (client : ℕ) (s : Said) (f : TxId → Bool) (id : TxId) → IsIn events client s id → f id ≡ true → any_id events client f ≡ true
+pub in_found : (events : List Event) (client : ℕ) (s : Executed) (f : TxId → Bool) (id : TxId) → IsIn events client s id → f id ≡ true → any_id events client f ≡ true
 in_found events client s f id c h = some_id events client f id c.0 (begun_in events client s id c) h
 
 -- the last number first

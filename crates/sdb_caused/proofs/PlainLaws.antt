@@ -11,15 +11,15 @@ use Rattle.sdb_record.specs.Coordinator.{decision_in, is_coordinator_table}
 use Rattle.sdb_record.specs.Meta.{checked}
 use Rattle.sdb_model.specs.declared.event.Event.{Event}
 use Rattle.sdb_model.specs.Calls as calls
-use Rattle.sdb_model.specs.Calls.{calls_of, records_shown}
+use Rattle.sdb_model.specs.Calls.{calls_of, records_observed}
 use Rattle.sdb_model.specs.Causes.{HasReply, IsBad, IsBadRecord, IsMisfit, is_misfit}
-use Rattle.sdb_model.specs.Noted.{reads_rows}
+use Rattle.sdb_model.specs.ReadSet.{reads_rows}
 use Rattle.sdb_model.specs.Sql.{reads_commit, reads_vacuum}
-use Rattle.sdb_model.specs.Transactions.{Said}
+use Rattle.sdb_model.specs.Transactions.{Executed}
 use Rattle.sdb_said.proofs.Lists.{right, or_left, not_true, true_not, any_some, some_any}
 use Rattle.sdb_plain.specs.declared.made.Made.{Made}
 use Rattle.sdb_plain.specs.Values.{all_made, made_of}
-use Rattle.sdb_caused.specs.Tests.{is_bad, is_refused_there, shows_bad}
+use Rattle.sdb_caused.specs.Tests.{is_bad, is_refused_there, observes_bad}
 use Rattle.sdb_caused.proofs.Finds.{in_contains, contains_in, made_contained, contained_made}
 use Rattle.sdb_types.proofs.Basics.{clash, or_second as or_right, either}
 use Rattle.sdb_types.proofs.Bools.{and_first as left, and_both as both}
@@ -47,7 +47,7 @@ is_bad_of r (name, m) = by (is_coordinator_table r.key.table) m
     by true e = is_err (decision_in r) name e
     by false e = is_err (checked r.columns) name e
 
-module _ (catalog : List Table) (events : List Event) (ms : List Made) (client : ℕ) (s : Said) (e : all_made ms ≡ calls_of events client s) where
+module _ (catalog : List Table) (events : List Event) (ms : List Made) (client : ℕ) (s : Executed) (e : all_made ms ≡ calls_of events client s) where
   abbrev reads : Bool
   reads = not (reads_commit s.text) && not (reads_vacuum s.text)
 
@@ -78,27 +78,27 @@ module _ (catalog : List Table) (events : List Event) (ms : List Made) (client :
       (both reads (reads_rows (made_of m)) (both (not (reads_commit s.text)) (not (reads_vacuum s.text)) (true_not (reads_commit s.text) c) (true_not (reads_vacuum s.text) v)) q)
       (subst (λ cs. is_misfit catalog cs r ≡ true) (sym e) k))
 
-  pub bad_record_is : (key : Key) → list_any (shows_bad catalog ms reads key) ms ≡ true → IsBadRecord catalog events client s key
+  pub bad_record_is : (key : Key) → list_any (observes_bad catalog ms reads key) ms ≡ true → IsBadRecord catalog events client s key
   bad_record_is key h =
-      let m = any_some (shows_bad catalog ms reads key) ms h in
+      let m = any_some (observes_bad catalog ms reads key) ms h in
       let f : Record → Bool = λ x. same_key x.key key && is_refused_there catalog ms (rows m.0) x in
-      let r = any_some f (records_shown m.0.reply) m.2 in (
+      let r = any_some f (records_observed m.0.reply) m.2 in (
         made_of m.0,
         r.0,
         subst (λ cs. Contains cs (made_of m.0)) e (made_contained ms m.0 m.1),
-        in_contains (records_shown m.0.reply) r.0 r.1,
+        in_contains (records_observed m.0.reply) r.0 r.1,
         same_key_exact r.0.key key (left (same_key r.0.key key) (is_refused_there catalog ms (rows m.0) r.0) r.2),
         refused_is m.0 r.0 (right (same_key r.0.key key) (is_refused_there catalog ms (rows m.0) r.0) r.2),
       )
 
-  pub is_bad_record : (key : Key) → IsBadRecord catalog events client s key → list_any (shows_bad catalog ms reads key) ms ≡ true
+  pub is_bad_record : (key : Key) → IsBadRecord catalog events client s key → list_any (observes_bad catalog ms reads key) ms ≡ true
   is_bad_record key (c, r, k, shown, at, bad) =
       let m = contained_made ms c (subst (λ cs. Contains cs c) (sym e) k) in
-      some_any (shows_bad catalog ms reads key) ms m.0 m.1
-      (some_any (λ x. same_key x.key key && is_refused_there catalog ms (rows m.0) x) (records_shown m.0.reply) r (contains_in (records_shown m.0.reply) r (subst (λ (x : calls.Made). Contains (records_shown x.reply) r) m.2 shown))
-      (both (same_key r.key key) (is_refused_there catalog ms (rows m.0) r) (same_key_of r.key key at) (is_refused_of m.0 r (subst (λ (x : calls.Made). IsBad r ⊎ IsMisfit catalog events client s x r) m.2 bad))))
+      some_any (observes_bad catalog ms reads key) ms m.0 m.1
+      (some_any (λ x. same_key x.key key && is_refused_there catalog ms (rows m.0) x) (records_observed m.0.reply) r (contains_in (records_observed m.0.reply) r (subst (λ (x : calls.StoreCall). Contains (records_observed x.reply) r) m.2 shown))
+      (both (same_key r.key key) (is_refused_there catalog ms (rows m.0) r) (same_key_of r.key key at) (is_refused_of m.0 r (subst (λ (x : calls.StoreCall). IsBad r ⊎ IsMisfit catalog events client s x r) m.2 bad))))
 
-module _ (events : List Event) (ms : List Made) (client : ℕ) (s : Said) (e : all_made ms ≡ calls_of events client s) where
+module _ (events : List Event) (ms : List Made) (client : ℕ) (s : Executed) (e : all_made ms ≡ calls_of events client s) where
   pub reply_is : (is : Reply → Bool) → list_any (λ (m : Made). is m.reply) ms ≡ true → HasReply is (calls_of events client s)
   reply_is is h =
       let m = any_some (λ (x : Made). is x.reply) ms h in
@@ -107,4 +107,4 @@ module _ (events : List Event) (ms : List Made) (client : ℕ) (s : Said) (e : a
   pub is_reply : (is : Reply → Bool) → HasReply is (calls_of events client s) → list_any (λ (m : Made). is m.reply) ms ≡ true
   is_reply is (c, k, h) =
       let m = contained_made ms c (subst (λ cs. Contains cs c) (sym e) k) in
-      some_any (λ (x : Made). is x.reply) ms m.0 m.1 (sym (ap (λ (x : calls.Made). is x.reply) m.2) ∙ h)
+      some_any (λ (x : Made). is x.reply) ms m.0 m.1 (sym (ap (λ (x : calls.StoreCall). is x.reply) m.2) ∙ h)

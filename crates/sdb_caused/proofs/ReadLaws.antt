@@ -12,7 +12,7 @@ use Rattle.sdb_model.specs.declared.statement.Statement.{Statement}
 use Rattle.sdb_model.specs.declared.statement.Statement.TheVariants as statement
 use Rattle.sdb_model.specs.Sql.{Reads}
 use Rattle.sdb_model.specs.Causes.{IsCounted, before, is_open, is_select, removes}
-use Rattle.sdb_model.specs.Transactions.{Said}
+use Rattle.sdb_model.specs.Transactions.{Executed}
 use Rattle.sdb_types.specs.declared.key.Key.{Key}
 use Rattle.sdb_model.specs.Calls.{calls_of}
 use Rattle.sdb_plain.specs.declared.made.Made.{Made}
@@ -24,7 +24,7 @@ use Rattle.sdb_types.proofs.Basics.{clash, some_is}
 use Rattle.sdb_types.specs.Order.{same_key}
 use Rattle.sdb_types.proofs.Keys.{same_key_exact, same_key_of}
 
-module _ (s : Said) (o : Option Statement) (reading : IsReading s.text o) where
+module _ (s : Executed) (o : Option Statement) (reading : IsReading s.text o) where
   pub read : (st : Statement) → Reads s.text st → o ≡ Some st
   read st r = (reading st).0 r
 
@@ -62,7 +62,7 @@ module _ (s : Said) (o : Option Statement) (reading : IsReading s.text o) where
     λ (t, i, r, f, k). e.1 (t, i, read (statement.Insert i) r, f, k),
   )
 
-module _ (events : List Event) (client : ℕ) (s : Said) (o : Option Statement) (reading : IsReading s.text o) where
+module _ (events : List Event) (client : ℕ) (s : Executed) (o : Option Statement) (reading : IsReading s.text o) where
   pub of_rows : (b : Bool) → option_map_or is_select o false ≡ true → b ≡ is_open (before s events) client → IsTrue b ↔ IsOfRows events client s
   of_rows b p e = (λ h. let r = passed s o reading is_select p in (r.0, r.1, r.2, sym e ∙ h), λ (st, r, f, k). e ∙ k)
 
@@ -80,7 +80,7 @@ removed_each (m ∷ ms) = by (removes (made_of m)) (removed_each ms)
 removed_are : (ms : List Made) → removed_by ms ≡ count_by removes (all_made ms)
 removed_are ms = removed_each ms ∙ length-filter removes (all_made ms)
 
-module _ (events : List Event) (client : ℕ) (s : Said) (ms : List Made) (e : all_made ms ≡ calls_of events client s) (n : ℕ) where
+module _ (events : List Event) (client : ℕ) (s : Executed) (ms : List Made) (e : all_made ms ≡ calls_of events client s) (n : ℕ) where
   counts_is : (st : Statement) → counts_so (removed_by ms) n st ≡ true → IsCounted events client s st n
   counts_is (statement.Insert i) h = number_is n 1 h
   counts_is (statement.Upsert i) h = number_is n 1 h

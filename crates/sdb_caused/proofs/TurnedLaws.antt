@@ -15,8 +15,8 @@ use Rattle.sdb_model.specs.Sql.{Reads, Refuses, reads_vacuum}
 use Rattle.sdb_model.specs.Exec.{table_of}
 use Rattle.sdb_model.specs.Refused.{refusal_of}
 use Rattle.sdb_model.specs.Follows.{has_stopped}
-use Rattle.sdb_model.specs.Transactions.{Said, said, said_after}
-use Rattle.sdb_model.specs.Causes.{IsTurnedAway, NeedsTransaction, is_open, is_open_after, refused, runs_vacuum}
+use Rattle.sdb_model.specs.Transactions.{Executed, statements_by, statements_after}
+use Rattle.sdb_model.specs.Causes.{IsRejected, NeedsTransaction, is_open, is_open_after, refused, runs_vacuum}
 use Rattle.sdb_said.proofs.Lists.{none_some, right, not_true, true_not, In, any_some, some_any}
 use Rattle.sdb_said.proofs.ShownLaws.{number_is}
 use Rattle.sdb_plain.specs.declared.open.Work.{Work}
@@ -31,22 +31,22 @@ use Rattle.sdb_types.proofs.Bools.{and_first as left, and_both as both}
 abbrev takes : ℕ → Event → Bool
 takes client e = option_map_or (λ c. c == client) (taker e) false
 
-untaken : (client : ℕ) (n : ℕ) (e : Event) → takes client e ≡ false → said_after client [] (n, e) ≡ []
+untaken : (client : ℕ) (n : ℕ) (e : Event) → takes client e ≡ false → statements_after client [] (n, e) ≡ []
 untaken client n (event.Take c text a) h = ap (λ b. if b then record { taken = n; text = text; answer = a; reached = n } ∷ [] else []) h
 untaken client n (event.Call c store q how r None) h = refl
 untaken client n (event.Call c store q how r (Some a)) h = by (c == client)
   where
-    by : (b : Bool) → ◌≡◌ {A = List Said} (if b then [] else []) []
+    by : (b : Bool) → ◌≡◌ {A = List Executed} (if b then [] else []) []
     by true = refl
     by false = refl
 untaken client n (event.Stop c) h = refl
 untaken client n (event.Clock moment) h = refl
 untaken client n (event.Idle c) h = refl
 
-none_said : (client : ℕ) (n : ℕ) (events : List Event) → list_any (takes client) events ≡ false → fold (said_after client) [] (enumerate_from n events) ≡ []
+none_said : (client : ℕ) (n : ℕ) (events : List Event) → list_any (takes client) events ≡ false → fold (statements_after client) [] (enumerate_from n events) ≡ []
 none_said client n [] h = refl
 none_said client n (e ∷ es) h =
-    ap (λ ss. fold (said_after client) ss (enumerate_from (n + 1) es)) (untaken client n e (no_left (takes client e) (list_any (takes client) es) h))
+    ap (λ ss. fold (statements_after client) ss (enumerate_from (n + 1) es)) (untaken client n e (no_left (takes client e) (list_any (takes client) es) h))
     ∙ none_said client (n + 1) es (no_right (takes client e) (list_any (takes client) es) h)
   where
     no_left : (a b : Bool) → (a || b) ≡ false → a ≡ false
@@ -65,7 +65,7 @@ taker_is client e h = by (taker e) h
     by (Some c) h = ap Some (number_is c client h)
 
 -- who said something has taken a statement
-pub taken_by : (client : ℕ) (events : List Event) → (said client events ≡ [] → ⊥) → (e : Event) × In events e × (taker e ≡ Some client)
+pub taken_by : (client : ℕ) (events : List Event) → (statements_by client events ≡ [] → ⊥) → (e : Event) × In events e × (taker e ≡ Some client)
 taken_by client events some = elim (decide (list_any (takes client) events)) [
   | inl h ↦ let r = any_some (takes client) events h in (r.0, r.1, taker_is client r.0 r.2)
   | inr h ↦ absurd (some (none_said client 1 events h))
@@ -74,13 +74,13 @@ taken_by client events some = elim (decide (list_any (takes client) events)) [
 apart : {A : Type 0} → true ≡ false → A
 apart e = clash e
 
-open_said : (events : List Event) (client : ℕ) → is_open events client ≡ true → said client events ≡ [] → ⊥
+open_said : (events : List Event) (client : ℕ) → is_open events client ≡ true → statements_by client events ≡ [] → ⊥
 open_said events client h e = clash (sym h ∙ ap (fold is_open_after false) e)
 
-vacuum_said : (events : List Event) (client : ℕ) → runs_vacuum events client ≡ true → said client events ≡ [] → ⊥
-vacuum_said events client h e = clash (sym h ∙ ap (fold (λ (was : Bool) (s : Said). reads_vacuum s.text && is_none s.answer) false) e)
+vacuum_said : (events : List Event) (client : ℕ) → runs_vacuum events client ≡ true → statements_by client events ≡ [] → ⊥
+vacuum_said events client h e = clash (sym h ∙ ap (fold (λ (was : Bool) (s : Executed). reads_vacuum s.text && is_none s.answer) false) e)
 
-doing_said : (w : Work) (events : List Event) (client : ℕ) → is_doing w events client ≡ true → said client events ≡ [] → ⊥
+doing_said : (w : Work) (events : List Event) (client : ℕ) → is_doing w events client ≡ true → statements_by client events ≡ [] → ⊥
 doing_said work.Transaction events client h = open_said events client h
 doing_said work.Vacuum events client h = vacuum_said events client h
 
@@ -130,7 +130,7 @@ module _ (catalog : List Table) (past : List Event) (client : ℕ) where
   unfit (statement.Delete d) r a o t f e = ap (λ b. if b then option_map answer.Refused (refusal_of catalog (statement.Delete d)) else Some (refused 5)) o ∙ ap (option_map answer.Refused) f ∙ ap Some (sym e)
   unfit (statement.Select s) r a o t f e = ap (λ b. if b then option_map answer.Refused (refusal_of catalog (statement.Select s)) else Some (refused 5)) o ∙ ap (option_map answer.Refused) f ∙ ap Some (sym e)
 
-  pub turned_of : (text : List ℕ) (st : Statement) (a : Answer) → ((x y : Statement) → Reads text x → Reads text y → x ≡ y) → ((x : Statement) (r : Refusal) → Reads text x → Refuses text r → ⊥) → Reads text st → IsTurnedAway catalog past client text a → turned_by catalog past client st ≡ Some a
+  pub turned_of : (text : List ℕ) (st : Statement) (a : Answer) → ((x y : Statement) → Reads text x → Reads text y → x ≡ y) → ((x : Statement) (r : Refusal) → Reads text x → Refuses text r → ⊥) → Reads text st → IsRejected catalog past client text a → turned_by catalog past client st ≡ Some a
   turned_of text st a one either reads (inl (r, f, e)) = absurd (either st r reads f)
   turned_of text st a one either reads (inr (inl (b, o, e))) =
       ap (turned_by catalog past client) (one st statement.Begin reads b) ∙ ap (λ x. if x then Some (refused 4) else if someone_does work.Vacuum past then Some answer.Vacuuming else None) o ∙ ap Some (sym e)
@@ -142,25 +142,25 @@ module _ (catalog : List Table) (past : List Event) (client : ℕ) where
   turned_of text st a one either reads (inr (inr (inr (inr (inr (b, c, e)))))) =
       ap (turned_by catalog past client) (one st statement.Vacuum reads b) ∙ ap (λ x. if x then Some answer.OpenTransactions else None) (is_someone work.Transaction past c.0 c.1 c.2) ∙ ap Some (sym e)
 
-  by_begin : (text : List ℕ) (a : Answer) (b c : Bool) → is_open past client ≡ b → someone_does work.Vacuum past ≡ c → Reads text statement.Begin → (if b then Some (refused 4) else if c then Some answer.Vacuuming else None) ≡ Some a → IsTurnedAway catalog past client text a
+  by_begin : (text : List ℕ) (a : Answer) (b c : Bool) → is_open past client ≡ b → someone_does work.Vacuum past ≡ c → Reads text statement.Begin → (if b then Some (refused 4) else if c then Some answer.Vacuuming else None) ≡ Some a → IsRejected catalog past client text a
   by_begin text a true c o s reads h = inr (inl (reads, o, sym (some_is (refused 4) a h)))
   by_begin text a false true o s reads h = inr (inr (inr (inr (inl (reads, o, someone_is work.Vacuum past s, sym (some_is answer.Vacuuming a h))))))
   by_begin text a false false o s reads h = none_some h
 
-  by_vacuum : (text : List ℕ) (a : Answer) (c : Bool) → someone_does work.Transaction past ≡ c → Reads text statement.Vacuum → (if c then Some answer.OpenTransactions else None) ≡ Some a → IsTurnedAway catalog past client text a
+  by_vacuum : (text : List ℕ) (a : Answer) (c : Bool) → someone_does work.Transaction past ≡ c → Reads text statement.Vacuum → (if c then Some answer.OpenTransactions else None) ≡ Some a → IsRejected catalog past client text a
   by_vacuum text a true s reads h = inr (inr (inr (inr (inr (reads, someone_is work.Transaction past s, sym (some_is answer.OpenTransactions a h))))))
   by_vacuum text a false s reads h = none_some h
 
-  by_word : (text : List ℕ) (st : Statement) (a : Answer) (b : Bool) → is_open past client ≡ b → NeedsTransaction st → Reads text st → (if b then option_map answer.Refused None else Some (refused 5)) ≡ Some a → IsTurnedAway catalog past client text a
+  by_word : (text : List ℕ) (st : Statement) (a : Answer) (b : Bool) → is_open past client ≡ b → NeedsTransaction st → Reads text st → (if b then option_map answer.Refused None else Some (refused 5)) ≡ Some a → IsRejected catalog past client text a
   by_word text st a true o n reads h = none_some h
   by_word text st a false o n reads h = inr (inr (inl (st, reads, n, o, sym (some_is (refused 5) a h))))
 
-  by_table : (text : List ℕ) (st : Statement) (a : Answer) (b : Bool) (r : Option Refusal) → is_open past client ≡ b → refusal_of catalog st ≡ r → NeedsTransaction st → is_some (table_of st) ≡ true → Reads text st → (if b then option_map answer.Refused r else Some (refused 5)) ≡ Some a → IsTurnedAway catalog past client text a
+  by_table : (text : List ℕ) (st : Statement) (a : Answer) (b : Bool) (r : Option Refusal) → is_open past client ≡ b → refusal_of catalog st ≡ r → NeedsTransaction st → is_some (table_of st) ≡ true → Reads text st → (if b then option_map answer.Refused r else Some (refused 5)) ≡ Some a → IsRejected catalog past client text a
   by_table text st a true None o f n t reads h = none_some h
   by_table text st a true (Some r) o f n t reads h = inr (inr (inr (inl (st, r, reads, o, t, f, sym (some_is (answer.Refused r) a h)))))
   by_table text st a false r o f n t reads h = inr (inr (inl (st, reads, n, o, sym (some_is (refused 5) a h))))
 
-  pub is_turned : (text : List ℕ) (st : Statement) (a : Answer) → Reads text st → turned_by catalog past client st ≡ Some a → IsTurnedAway catalog past client text a
+  pub is_turned : (text : List ℕ) (st : Statement) (a : Answer) → Reads text st → turned_by catalog past client st ≡ Some a → IsRejected catalog past client text a
   is_turned text statement.Begin a reads h = by_begin text a (is_open past client) (someone_does work.Vacuum past) refl refl reads h
   is_turned text statement.Vacuum a reads h = by_vacuum text a (someone_does work.Transaction past) refl reads h
   is_turned text statement.Commit a reads h = by_word text statement.Commit a (is_open past client) refl (λ e. cc, λ e. cc) reads h
@@ -171,7 +171,7 @@ module _ (catalog : List Table) (past : List Event) (client : ℕ) where
   is_turned text (statement.Delete d) a reads h = by_table text (statement.Delete d) a (is_open past client) (refusal_of catalog (statement.Delete d)) refl refl (λ e. cc, λ e. cc) refl reads h
   is_turned text (statement.Select s) a reads h = by_table text (statement.Select s) a (is_open past client) (refusal_of catalog (statement.Select s)) refl refl (λ e. cc, λ e. cc) refl reads h
 
-  pub unread_is : (text : List ℕ) (r : Refusal) (a : Answer) → ((x y : Refusal) → Refuses text x → Refuses text y → x ≡ y) → ((x : Statement) (y : Refusal) → Reads text x → Refuses text y → ⊥) → Refuses text r → IsTurnedAway catalog past client text a → Some (answer.Refused r) ≡ Some a
+  pub unread_is : (text : List ℕ) (r : Refusal) (a : Answer) → ((x y : Refusal) → Refuses text x → Refuses text y → x ≡ y) → ((x : Statement) (y : Refusal) → Reads text x → Refuses text y → ⊥) → Refuses text r → IsRejected catalog past client text a → Some (answer.Refused r) ≡ Some a
   unread_is text r a one either f (inl (x, g, e)) = ap Some (ap answer.Refused (one r x f g) ∙ sym e)
   unread_is text r a one either f (inr (inl (b, o, e))) = absurd (either statement.Begin r b f)
   unread_is text r a one either f (inr (inr (inl (x, b, n, o, e)))) = absurd (either x r b f)
@@ -179,10 +179,10 @@ module _ (catalog : List Table) (past : List Event) (client : ℕ) where
   unread_is text r a one either f (inr (inr (inr (inr (inl (b, o, c, e)))))) = absurd (either statement.Begin r b f)
   unread_is text r a one either f (inr (inr (inr (inr (inr (b, c, e)))))) = absurd (either statement.Vacuum r b f)
 
-  pub is_unread : (text : List ℕ) (r : Refusal) (a : Answer) → Refuses text r → Some (answer.Refused r) ≡ Some a → IsTurnedAway catalog past client text a
+  pub is_unread : (text : List ℕ) (r : Refusal) (a : Answer) → Refuses text r → Some (answer.Refused r) ≡ Some a → IsRejected catalog past client text a
   is_unread text r a f e = inl (r, f, sym (some_is (answer.Refused r) a e))
 
-  pub neither : (text : List ℕ) (a : Answer) → ((r : Refusal) → Refuses text r → ⊥) → ((st : Statement) → Reads text st → ⊥) → IsTurnedAway catalog past client text a → ⊥
+  pub neither : (text : List ℕ) (a : Answer) → ((r : Refusal) → Refuses text r → ⊥) → ((st : Statement) → Reads text st → ⊥) → IsRejected catalog past client text a → ⊥
   neither text a f g (inl (x, h, e)) = f x h
   neither text a f g (inr (inl (b, o, e))) = g statement.Begin b
   neither text a f g (inr (inr (inl (x, b, n, o, e)))) = g x b

@@ -33,10 +33,10 @@ use Rattle.sdb_model.specs.Sql.{Reads, Refuses, reads_commit}
 use Rattle.sdb_model.specs.Exec.{find_table, key_of}
 use Rattle.sdb_model.specs.Refused.{refusal_of}
 use Rattle.sdb_model.specs.Rows.{same_name}
-use Rattle.sdb_model.specs.Transactions.{Said, client_of, commit_of, id_of, is_effective, ordinal_of, said, statements_of}
-use Rattle.sdb_model.specs.Calls.{clock_at, calls_of, decision_learned, is_read, put_by, records_read, records_shown}
-use Rattle.sdb_model.specs.Noted.{Note, Got, Scanned, noted_in, reads_rows, version_noted, meaning_of, has_finished}
-use Rattle.sdb_model.specs.Causes.{IsCaused, IsCounted, IsTurnedAway, before, is_misfit, is_open, is_select, prepares_key, records_found, refused, removes, counted_by}
+use Rattle.sdb_model.specs.Transactions.{Executed, client_of, commit_of, id_of, is_effective, ordinal_of, statements_by, statements_of}
+use Rattle.sdb_model.specs.Calls.{clock_at, calls_of, decision_learned, is_read, put_by, records_read, records_observed}
+use Rattle.sdb_model.specs.ReadSet.{ReadItem, KeyRead, SpanRead, read_set_of, reads_rows, version_read, meaning_of, has_finished}
+use Rattle.sdb_model.specs.Causes.{IsCaused, IsCounted, IsRejected, before, is_misfit, is_open, is_select, prepares_key, records_found, refused, removes, counted_by}
 use Rattle.sdb_said.specs.Values.{same_record}
 use Rattle.sdb_plain.specs.declared.made.Made.{Made}
 use Rattle.sdb_caused.specs.declared.sign.Sign.{Sign}
@@ -57,8 +57,8 @@ answered_alike None (Some b) = false
 answered_alike (Some a) None = false
 answered_alike (Some a) (Some b) = same_answer a b
 
-abbrev pub same_said : Said → Said → Bool
-same_said a b = (a.taken == b.taken) && ((a.reached == b.reached) && (same_name a.text b.text && answered_alike a.answer b.answer))
+abbrev pub same_executed : Executed → Executed → Bool
+same_executed a b = (a.taken == b.taken) && ((a.reached == b.reached) && (same_name a.text b.text && answered_alike a.answer b.answer))
 
 abbrev pub same_found : Option Record → Option Record → Bool
 same_found None None = true
@@ -72,9 +72,9 @@ abbrev pub any_upto : (ℕ → Bool) → ℕ → Bool
 any_upto f zero = false
 any_upto f (suc n) = f (suc n) || any_upto f n
 
--- some transaction of a client, by what its client said
+-- some transaction of a client, by its client's statements
 abbrev pub any_id : List Event → ℕ → (TxId → Bool) → Bool
-any_id events client f = any_upto (λ k. f (id_of client k)) (length (said client events))
+any_id events client f = any_upto (λ k. f (id_of client k)) (length (statements_by client events))
 
 ---- Busy
 
@@ -107,20 +107,20 @@ busy_among events ms key id row at = list_any (reads_busy events ms key id row a
 
 ---- the calls of a COMMIT
 
-abbrev pub is_said : Option Said → Said → Bool
-is_said found s = option_map_or (λ x. same_said x s) found false
+abbrev pub is_executed : Option Executed → Executed → Bool
+is_executed found s = option_map_or (λ x. same_executed x s) found false
 
-abbrev pub is_commit_of : List Event → ℕ → Said → TxId → Bool
-is_commit_of events client s id = (client_of id == client) && is_said (commit_of events id) s
+abbrev pub is_commit_of : List Event → ℕ → Executed → TxId → Bool
+is_commit_of events client s id = (client_of id == client) && is_executed (commit_of events id) s
 
-abbrev pub is_in : List Event → ℕ → Said → TxId → Bool
-is_in events client s id = (client_of id == client) && list_any (same_said s) (statements_of events id)
+abbrev pub is_in : List Event → ℕ → Executed → TxId → Bool
+is_in events client s id = (client_of id == client) && list_any (same_executed s) (statements_of events id)
 
 abbrev pub is_decided : Decision → Option Decided → Bool
 is_decided wanted found = option_map_or (λ d. same_decision d.decision wanted) found false
 
 -- it is the COMMIT of this transaction, and these calls showed first that this is committed
-abbrev pub commits_as : List Event → ℕ → Said → List Made → TxId → Bool
+abbrev pub commits_as : List Event → ℕ → Executed → List Made → TxId → Bool
 commits_as events client s ms id = is_commit_of events client s id && is_decided decision.Committed (decision_learned (all_made ms) id)
 
 abbrev pub puts_row : Key → Decision → Made → Bool
@@ -151,11 +151,11 @@ unknown_among ms row = list_any (is_lost_put ms row) ms
 
 ---- Conflict
 
-abbrev pub is_moved : Key → Option Record → Note → Bool
-is_moved key found n = option_map_or (λ version. not (is_unchanged found version)) (version_noted n key) false
+abbrev pub is_changed : Key → Option Record → ReadItem → Bool
+is_changed key found n = option_map_or (λ version. not (is_unchanged found version)) (version_read n key) false
 
-abbrev pub has_moved : List Note → Key → Option Record → Bool
-has_moved notes key found = list_any (is_moved key found) notes
+abbrev pub has_changed_from : List ReadItem → Key → Option Record → Bool
+has_changed_from read_set key found = list_any (is_changed key found) read_set
 
 abbrev pub not_met_as : Reply → Option Record → Bool
 not_met_as (reply.NotMet standing) found = same_found standing found
@@ -164,40 +164,40 @@ not_met_as r found = false
 abbrev pub is_unmet : TxId → Key → Option Record → Made → Bool
 is_unmet id key found m = prepares_key id key (made_of m) && not_met_as m.reply found
 
-abbrev pub get_shows : Request → Reply → Key → Option Record → Bool
-get_shows (ask.Get k) (reply.Found standing) key found = same_key k key && same_found standing found
-get_shows q r key found = false
+abbrev pub get_observes : Request → Reply → Key → Option Record → Bool
+get_observes (ask.Get k) (reply.Found standing) key found = same_key k key && same_found standing found
+get_observes q r key found = false
 
-abbrev pub scan_shows_by : Request → Reply → Key → Option Record → Bool
-scan_shows_by (ask.Scan span) (reply.Rows rows) key found = in_span span key && same_found (record_among rows key) found
-scan_shows_by q r key found = false
+abbrev pub scan_observes_by : Request → Reply → Key → Option Record → Bool
+scan_observes_by (ask.Scan span) (reply.Rows rows) key found = in_span span key && same_found (record_among rows key) found
+scan_observes_by q r key found = false
 
-abbrev pub scan_shows : Made → Key → Option Record → Bool
-scan_shows m key found = scan_shows_by m.request m.reply key found
+abbrev pub scan_observes : Made → Key → Option Record → Bool
+scan_observes m key found = scan_observes_by m.request m.reply key found
 
-abbrev pub read_shows : Made → Key → Option Record → Bool
-read_shows m key found = get_shows m.request m.reply key found || scan_shows m key found
+abbrev pub read_observes : Made → Key → Option Record → Bool
+read_observes m key found = get_observes m.request m.reply key found || scan_observes m key found
 
 abbrev pub has_prepared : List Made → TxId → Key → Bool
 has_prepared ms id key = list_any (λ m. prepares_key id key (made_of m)) ms
 
 -- what a call found at a key was found by a prepare that was not met, or by a check of a key that was not prepared
 abbrev pub is_found_by : List Made → TxId → Key → Option Record → Bool
-is_found_by ms id key found = list_any (is_unmet id key found) ms || (not (has_prepared ms id key) && list_any (λ m. read_shows m key found) ms)
+is_found_by ms id key found = list_any (is_unmet id key found) ms || (not (has_prepared ms id key) && list_any (λ m. read_observes m key found) ms)
 
 -- the version of the base of a record that is put
 abbrev pub base_put : Made → Option TxId
 base_put m = option_and_then (λ r. id_in (before_part r.columns)) (put_by m.request)
 
-abbrev pub scan_differs : Key → Option TxId → Note → Bool
-scan_differs key base (Got read) = false
-scan_differs key base (Scanned scan) = in_span scan.span key && not (same_version base (version_among scan.found key))
+abbrev pub scan_differs : Key → Option TxId → ReadItem → Bool
+scan_differs key base (KeyRead read) = false
+scan_differs key base (SpanRead scan) = in_span scan.span key && not (same_version base (version_among scan.found key))
 
-abbrev pub is_rebased : List Made → List Note → TxId → Key → Bool
-is_rebased ms notes id key = list_any (λ p. prepares_key id key (made_of p) && list_any (scan_differs key (base_put p)) notes) ms
+abbrev pub is_rebased : List Made → List ReadItem → TxId → Key → Bool
+is_rebased ms read_set id key = list_any (λ p. prepares_key id key (made_of p) && list_any (scan_differs key (base_put p)) read_set) ms
 
-abbrev pub conflict_at_commit : List Made → List Note → TxId → Key → Option Record → Bool
-conflict_at_commit ms notes id key found = (has_moved notes key found && is_found_by ms id key found) || (list_any (λ m. scan_shows m key found) ms && is_rebased ms notes id key)
+abbrev pub conflict_at_commit : List Made → List ReadItem → TxId → Key → Option Record → Bool
+conflict_at_commit ms read_set id key found = (has_changed_from read_set key found && is_found_by ms id key found) || (list_any (λ m. scan_observes m key found) ms && is_rebased ms read_set id key)
 
 abbrev pub means_by : List Made → Key → Option Record → Request → Reply → Bool
 means_by ms key found (ask.Scan span) (reply.Rows rows) = in_span span key && same_found (option_and_then (meaning_of (all_made ms)) (record_among rows key)) found
@@ -206,14 +206,14 @@ means_by ms key found q r = false
 abbrev pub means : List Made → Key → Option Record → Made → Bool
 means ms key found m = means_by ms key found m.request m.reply
 
-abbrev pub conflict_at_scan : List Made → List Note → Key → Option Record → Bool
-conflict_at_scan ms notes key found = has_moved notes key found && list_any (means ms key found) ms
+abbrev pub conflict_at_scan : List Made → List ReadItem → Key → Option Record → Bool
+conflict_at_scan ms read_set key found = has_changed_from read_set key found && list_any (means ms key found) ms
 
 -- a statement ends this transaction, or is one of it, and has its conflict
-abbrev pub conflict_of : List Event → ℕ → Said → List Made → Key → Option Record → TxId → Bool
+abbrev pub conflict_of : List Event → ℕ → Executed → List Made → Key → Option Record → TxId → Bool
 conflict_of events client s ms key found id =
-    (is_commit_of events client s id && conflict_at_commit ms (noted_in events id) id key found)
-    || (not (reads_commit s.text) && (is_in events client s id && conflict_at_scan ms (noted_in events id) key found))
+    (is_commit_of events client s id && conflict_at_commit ms (read_set_of events id) id key found)
+    || (not (reads_commit s.text) && (is_in events client s id && conflict_at_scan ms (read_set_of events id) key found))
 
 -- a call is one that is looked for
 abbrev pub has_sign : Sign → Made → Bool
@@ -222,25 +222,25 @@ has_sign (sign.Abort row n) m = put_before row.now n m
 has_sign (sign.Failure row n) m = fails_later row.now n m
 has_sign (sign.Prepare id key) m = prepares_key id key.now (made_of m)
 has_sign (sign.Unmet id key found) m = is_unmet id key.now found.now m
-has_sign (sign.Read key found) m = read_shows m key.now found.now
-has_sign (sign.Scan key found) m = scan_shows m key.now found.now
+has_sign (sign.Read key found) m = read_observes m key.now found.now
+has_sign (sign.Scan key found) m = scan_observes m key.now found.now
 has_sign sign.Fault m = is_fault m.reply
 
 ---- too many keys
 
 -- a statement that a test takes, and that was taken before
-abbrev pub is_before : (Said → Bool) → ℕ → Said → Bool
+abbrev pub is_before : (Executed → Bool) → ℕ → Executed → Bool
 is_before t taken b = t b && nat_lt b.taken taken
 
-abbrev pub before_only : (Said → Bool) → (Said → ℕ) → ℕ → Said → ℕ
+abbrev pub before_only : (Executed → Bool) → (Executed → ℕ) → ℕ → Executed → ℕ
 before_only t f taken b = if is_before t taken b then f b else 0
 
--- a sum over the statements that are so
-abbrev pub total_before : (Said → Bool) → (Said → ℕ) → ℕ → List Said → ℕ
+-- a sum over the statements that pass a test
+abbrev pub total_before : (Executed → Bool) → (Executed → ℕ) → ℕ → List Executed → ℕ
 total_before t f taken [] = 0
 total_before t f taken (b ∷ bs) = before_only t f taken b + total_before t f taken bs
 
-abbrev pub found_by : List Event → ℕ → Said → ℕ
+abbrev pub found_by : List Event → ℕ → Executed → ℕ
 found_by events client b = records_found (calls_of events client b)
 
 abbrev pub read_by : Made → ℕ
@@ -264,13 +264,13 @@ passes_left written found statement.Vacuum = false
 
 -- what the transaction's statements, up to its end, leave of so many keys before one
 abbrev pub written_left : List Event → TxId → ℕ → ℕ
-written_left events id taken = 4097 - total_before is_effective counted_by taken (inside_among (said (client_of id) events) (ordinal_of id))
+written_left events id taken = 4097 - total_before is_effective counted_by taken (inside_among (statements_by (client_of id) events) (ordinal_of id))
 
-abbrev pub found_left : List Event → ℕ → TxId → Said → ℕ
+abbrev pub found_left : List Event → ℕ → TxId → Executed → ℕ
 found_left events client id s =
-    (written_left events id s.taken - total_before has_finished (found_by events client) s.taken (inside_among (said (client_of id) events) (ordinal_of id))) - found_by events client s
+    (written_left events id s.taken - total_before has_finished (found_by events client) s.taken (inside_among (statements_by (client_of id) events) (ordinal_of id))) - found_by events client s
 
-abbrev pub passes_most : List Event → ℕ → Said → Option Statement → TxId → Bool
+abbrev pub passes_most : List Event → ℕ → Executed → Option Statement → TxId → Bool
 passes_most events client s read id = is_in events client s id && option_map_or (passes_left (written_left events id s.taken) (found_left events client id s)) read false
 
 ---- BadRecord
@@ -283,8 +283,8 @@ abbrev pub is_refused_there : List Table → List Made → Bool → Record → B
 is_refused_there catalog ms reads r = is_bad r || (reads && is_misfit catalog (all_made ms) r)
 
 -- a call of a statement, which is one of those that read rows to answer from, or not, shows such a record at the key
-abbrev pub shows_bad : List Table → List Made → Bool → Key → Made → Bool
-shows_bad catalog ms reads key m = list_any (λ x. same_key x.key key && is_refused_there catalog ms (reads && reads_rows (made_of m)) x) (records_shown m.reply)
+abbrev pub observes_bad : List Table → List Made → Bool → Key → Made → Bool
+observes_bad catalog ms reads key m = list_any (λ x. same_key x.key key && is_refused_there catalog ms (reads && reads_rows (made_of m)) x) (records_observed m.reply)
 
 ---- texts
 
@@ -296,7 +296,7 @@ IsReading text found = (st : Statement) → Reads text st ↔ (found ≡ Some st
 abbrev pub IsRefusal : List ℕ → Option Refusal → Type 0
 IsRefusal text found = (r : Refusal) → Refuses text r ↔ (found ≡ Some r)
 
----- what is said of single answers
+---- the causes of single answers
 
 -- a statement that is answered Done
 abbrev pub is_done : Statement → Bool
@@ -308,7 +308,7 @@ is_done st = false
 abbrev pub Inserts : List Table → Option Statement → Key → Type 0
 Inserts catalog found key = (t : Table) × (i : Insert) × (found ≡ Some (statement.Insert i)) × (find_table catalog i.table ≡ Some t) × (key_of t i ≡ key)
 
-abbrev pub IsOfRows : List Event → ℕ → Said → Type 0
+abbrev pub IsOfRows : List Event → ℕ → Executed → Type 0
 IsOfRows events client s = (st : Statement) × Reads s.text st × (is_select st ≡ true) × (is_open (before s events) client ≡ true)
 
 -- how many calls of VACUUM removed a tombstone
@@ -327,13 +327,13 @@ counts_so removed n statement.Commit = false
 counts_so removed n statement.Rollback = false
 counts_so removed n statement.Vacuum = n == removed
 
-abbrev pub IsOfCount : List Event → ℕ → Said → ℕ → Type 0
+abbrev pub IsOfCount : List Event → ℕ → Executed → ℕ → Type 0
 IsOfCount events client s n = (st : Statement) × Reads s.text st × IsCounted events client s st n
 
-abbrev pub IsOfDone : Said → Type 0
+abbrev pub IsOfDone : Executed → Type 0
 IsOfDone s = Reads s.text statement.Begin ⊎ Reads s.text statement.Rollback
 
-abbrev pub IsOfDuplicate : List Table → Said → Key → Type 0
+abbrev pub IsOfDuplicate : List Table → Executed → Key → Type 0
 IsOfDuplicate catalog s key = (t : Table) × (i : Insert) × Reads s.text (statement.Insert i) × (find_table catalog i.table ≡ Some t) × (key_of t i ≡ key)
 
 ---- statements that are turned away
@@ -360,31 +360,31 @@ turned_by catalog past client statement.Vacuum = vacuum_turned past
 turned_by catalog past client st = inside_turned catalog past client st
 
 abbrev pub IsTurned : List Table → List Event → ℕ → List ℕ → Option Answer → Type 0
-IsTurned catalog past client text found = (a : Answer) → IsTurnedAway catalog past client text a ↔ (found ≡ Some a)
+IsTurned catalog past client text found = (a : Answer) → IsRejected catalog past client text a ↔ (found ≡ Some a)
 
 ---- all answers
 
-abbrev pub IsAnswerCaused : List Table → List Event → ℕ → Said → Type 0
+abbrev pub IsAnswerCaused : List Table → List Event → ℕ → Executed → Type 0
 IsAnswerCaused catalog events client s = (a : Answer) → s.answer ≡ Some a → IsCaused catalog events client s a
 
-abbrev pub IsAnsweredWith : Said → Answer → Type 0
+abbrev pub IsAnsweredWith : Executed → Answer → Type 0
 IsAnsweredWith s a = (s.reached ≡ s.taken) × ((s.answer ≡ Some a) ⊎ (s.answer ≡ Some answer.NoMemory))
 
 abbrev pub is_no_memory : Answer → Bool
 is_no_memory answer.NoMemory = true
 is_no_memory a = false
 
-abbrev pub answered_with : Said → Answer → Bool
+abbrev pub answered_with : Executed → Answer → Bool
 answered_with s a = (s.reached == s.taken) && option_map_or (λ x. is_no_memory x || same_answer x a) s.answer false
 
-abbrev pub IsTurnedIfDue : List Table → List Event → ℕ → Said → Type 0
-IsTurnedIfDue catalog events client s = (a : Answer) → IsTurnedAway catalog (before s events) client s.text a → IsAnsweredWith s a
+abbrev pub IsTurnedIfDue : List Table → List Event → ℕ → Executed → Type 0
+IsTurnedIfDue catalog events client s = (a : Answer) → IsRejected catalog (before s events) client s.text a → IsAnsweredWith s a
 
-abbrev pub IsWellAnswered : List Table → List Event → ℕ → Said → Type 0
+abbrev pub IsWellAnswered : List Table → List Event → ℕ → Executed → Type 0
 IsWellAnswered catalog events client s = IsAnswerCaused catalog events client s × IsTurnedIfDue catalog events client s
 
 abbrev pub IsClientWell : List Table → List Event → ℕ → Type 0
-IsClientWell catalog events client = AllByRecursion (IsWellAnswered catalog events client) (said client events)
+IsClientWell catalog events client = AllByRecursion (IsWellAnswered catalog events client) (statements_by client events)
 
 -- the statements of each client that takes one by these events are answered well
 abbrev pub AreTakersWell : List Table → List Event → List Event → Type 0

@@ -3,15 +3,15 @@ ghost use Rattle.std.specs.Prelude.{◌≡◌, ◌&&◌, not, false, IfOk, IsTru
 ghost use Rattle.std.specs.Option.{option_and_then, option_map_or};
 ghost use Rattle.std.specs.List.{list_any};
 ghost use Rattle.sdb_record.specs.Rolls.{row_of_image};
-ghost use Rattle.sdb_model.specs.Noted.{meaning_of as meaning_of_lem};
-ghost use Rattle.sdb_model.specs.Causes.{IsBadRecord, is_fit as is_fit_lem};
-ghost use Rattle.sdb_order.specs.Commits.{said_of};
+ghost use Rattle.sdb_model.specs.ReadSet.{meaning_of as meaning_of_lem};
+ghost use Rattle.sdb_model.specs.Causes.{IsBadRecord, is_well_typed as is_well_typed_lem};
+ghost use Rattle.sdb_order.specs.Commits.{executed_of};
 ghost use Rattle.sdb_plain.specs.Values.{all_made};
-ghost use Rattle.sdb_caused.specs.Tests.{is_refused_there, shows_bad as shows_bad_lem};
+ghost use Rattle.sdb_caused.specs.Tests.{is_refused_there, observes_bad as observes_bad_lem};
 ghost use Rattle.sdb_types.specs.Order.{same_key};
 
 use sdb_model::{Event, Keyword};
-use sdb_order::{Said, is_word};
+use sdb_order::{Executed, is_word};
 use sdb_plain::{Made, calls_of, meaning_of, reads_rows};
 use sdb_record::{is_coordinator, meta_of};
 use sdb_said::{decided, is_same_key};
@@ -31,7 +31,7 @@ fn row_meant(alloc: Global, calls: &[Made], rec: &Record) -> Result<Option<Colum
 }
 
 fn is_fit(catalog: &Catalog, key: &Key, columns: &Columns) -> bool
-    ensures { result ≡ is_fit_lem catalog.now key.now columns.now }
+    ensures { result ≡ is_well_typed_lem catalog.now key.now columns.now }
 {
     match catalog.find(&key.table) {
         Some(table) => table.fits(key, columns),
@@ -46,7 +46,7 @@ fn is_unfit(
     calls: &[Made],
     rec: &Record,
 ) -> Result<bool, NoMemory>
-    ensures { IfOk result (λ is. is ≡ option_map_or (λ columns. not (is_fit_lem catalog.now rec.now.key columns)) (option_and_then row_of_image (meaning_of_lem (all_made calls.now) rec.now)) false) }
+    ensures { IfOk result (λ is. is ≡ option_map_or (λ columns. not (is_well_typed_lem catalog.now rec.now.key columns)) (option_and_then row_of_image (meaning_of_lem (all_made calls.now) rec.now)) false) }
 {
     match row_meant(alloc, calls, rec)? {
         Some(columns) => Ok(!is_fit(catalog, &rec.key, &columns)),
@@ -124,7 +124,7 @@ fn shows_bad(
     key: &Key,
     made: &Made,
 ) -> Result<bool, NoMemory>
-    ensures { IfOk result (λ is. is ≡ shows_bad_lem catalog.now calls.now reads key.now made.now) }
+    ensures { IfOk result (λ is. is ≡ observes_bad_lem catalog.now calls.now reads key.now made.now) }
 {
     let reads = reads && reads_rows(made);
     match &made.reply {
@@ -142,7 +142,7 @@ fn any_bad(
     reads: bool,
     key: &Key,
 ) -> Result<bool, NoMemory>
-    ensures { IfOk result (λ is. is ≡ list_any (shows_bad_lem catalog.now calls.now reads key.now) calls.now) }
+    ensures { IfOk result (λ is. is ≡ list_any (observes_bad_lem catalog.now calls.now reads key.now) calls.now) }
 {
     for made in calls {
         if shows_bad(alloc, catalog, calls, reads, key, made)? {
@@ -165,14 +165,14 @@ pub fn is_bad_record(
     catalog: &Catalog,
     events: &[Event],
     client: u64,
-    said: &Said,
+    executed: &Executed,
     key: &Key,
 ) -> Result<bool, NoMemory>
-    ensures { IfOk result (λ is. IsTrue is ↔ IsBadRecord catalog.now events.now client (said_of said.now) key.now) }
+    ensures { IfOk result (λ is. IsTrue is ↔ IsBadRecord catalog.now events.now client (executed_of executed.now) key.now) }
 {
-    let commits = is_word(alloc, said, Keyword::Commit)?;
-    let vacuums = is_word(alloc, said, Keyword::Vacuum)?;
-    let calls = calls_of(alloc, events, client, said)?;
+    let commits = is_word(alloc, executed, Keyword::Commit)?;
+    let vacuums = is_word(alloc, executed, Keyword::Vacuum)?;
+    let calls = calls_of(alloc, events, client, executed)?;
     let reads = is_neither(commits, vacuums);
     any_bad(alloc, catalog, calls.as_slice(), reads, key)
 }

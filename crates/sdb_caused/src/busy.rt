@@ -5,12 +5,12 @@ ghost use Rattle.sdb_record.specs.Meta.{is_unresolved as is_unresolved_lem};
 ghost use Rattle.sdb_model.specs.Causes.{IsBusy};
 ghost use Rattle.sdb_model.specs.Calls.{records_read};
 ghost use Rattle.sdb_types.specs.Order.{same_key};
-ghost use Rattle.sdb_order.specs.Commits.{said_of};
+ghost use Rattle.sdb_order.specs.Commits.{executed_of};
 ghost use Rattle.sdb_caused.specs.Tests.{is_id as is_id_lem, is_at as is_at_lem, prepared_moment as prepared_moment_lem, looks_early as looks_early_lem, is_early as is_early_lem, reads_busy as reads_busy_lem, busy_among as busy_among_lem};
 
 use crate::sign::{Sign, any};
 use sdb_model::Event;
-use sdb_order::Said;
+use sdb_order::Executed;
 use sdb_plain::{Made, calls_of, clock_at, is_read};
 use sdb_record::{coordinator_key, expired, meta_of};
 use sdb_said::{is_committed, is_same_key, writer};
@@ -173,14 +173,14 @@ pub fn is_busy(
     alloc: Global,
     events: &[Event],
     client: u64,
-    said: &Said,
+    executed: &Executed,
     key: &Key,
     id: TxId,
     at: i64,
 ) -> Result<bool, NoMemory>
-    ensures { IfOk result (λ busy. IsTrue busy ↔ IsBusy events.now client (said_of said.now) key.now id at) }
+    ensures { IfOk result (λ busy. IsTrue busy ↔ IsBusy events.now client (executed_of executed.now) key.now id at) }
 {
-    let calls = calls_of(alloc, events, client, said)?;
+    let calls = calls_of(alloc, events, client, executed)?;
     let row = coordinator_key(alloc, id)?;
     Ok(busy_among(alloc, events, calls.as_slice(), key, id, &row, at))
 }

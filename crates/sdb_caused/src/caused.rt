@@ -2,8 +2,8 @@
 ghost use Rattle.std.specs.Prelude.{◌≡◌, ◌||◌, IfOk, IfSome, IsTrue, ◌↔◌};
 ghost use Rattle.std.specs.List.{AllByRecursion};
 ghost use Rattle.sdb_model.specs.declared.answer.Answer.TheVariants as answer;
-ghost use Rattle.sdb_model.specs.Causes.{AreCaused, IsCaused, IsTurnedAway, MayPassMost, before as before_lem};
-ghost use Rattle.sdb_order.specs.Commits.{all_said, said_of};
+ghost use Rattle.sdb_model.specs.Causes.{AreCaused, IsCaused, IsRejected, MayPassMost, before as before_lem};
+ghost use Rattle.sdb_order.specs.Commits.{all_executed, executed_of};
 ghost use Rattle.sdb_plain.specs.Values.{taker as taker_lem};
 ghost use Rattle.sdb_caused.specs.Tests.{answered_with, is_no_memory, same_answer, AreTakersWell, IsAnswerCaused, IsClientWell, IsTurnedIfDue, IsWellAnswered};
 
@@ -16,7 +16,7 @@ use crate::plain::{before, has_fault, is_of_count, is_of_done, is_of_duplicate, 
 use crate::same::is_same_answer;
 use crate::turned::turned_away;
 use sdb_model::{Answer, Event, Refusal};
-use sdb_order::{Said, statements_said};
+use sdb_order::{Executed, statements_by};
 use sdb_plain::taker;
 use sdb_schema::Catalog;
 use sdb_types::NoMemory;
@@ -28,12 +28,18 @@ fn is_turned_with(
     catalog: &Catalog,
     events: &[Event],
     client: u64,
-    said: &Said,
+    executed: &Executed,
     answer: &Answer,
 ) -> Result<bool, NoMemory>
-    ensures { IfOk result (λ is. IsTrue is ↔ IsTurnedAway catalog.now (before_lem (said_of said.now) events.now) client said.now.text answer.now) }
+    ensures { IfOk result (λ is. IsTrue is ↔ IsRejected catalog.now (before_lem (executed_of executed.now) events.now) client executed.now.text answer.now) }
 {
-    match turned_away(alloc, catalog, before(said, events), client, &said.text)? {
+    match turned_away(
+        alloc,
+        catalog,
+        before(executed, events),
+        client,
+        &executed.text,
+    )? {
         Some(turned) => Ok(is_same_answer(&turned, answer)),
         None => Ok(false),
     }
@@ -44,13 +50,13 @@ fn is_past_most(
     alloc: Global,
     events: &[Event],
     client: u64,
-    said: &Said,
+    executed: &Executed,
     refusal: Refusal,
 ) -> Result<bool, NoMemory>
-    ensures { IfOk result (λ is. IsTrue is ↔ ((refusal.kind ≡ 15) × (refusal.place ≡ 0) × MayPassMost events.now client (said_of said.now))) }
+    ensures { IfOk result (λ is. IsTrue is ↔ ((refusal.kind ≡ 15) × (refusal.place ≡ 0) × MayPassMost events.now client (executed_of executed.now))) }
 {
     if refusal.kind == 15 && refusal.place == 0 {
-        return may_pass_most(alloc, events, client, said);
+        return may_pass_most(alloc, events, client, executed);
     }
     Ok(false)
 }
@@ -61,17 +67,17 @@ fn is_refused(
     catalog: &Catalog,
     events: &[Event],
     client: u64,
-    said: &Said,
+    executed: &Executed,
     refusal: Refusal,
 ) -> Result<bool, NoMemory>
-    ensures { IfOk result (λ is. IsTrue is ↔ IsCaused catalog.now events.now client (said_of said.now) (answer.Refused refusal)) }
+    ensures { IfOk result (λ is. IsTrue is ↔ IsCaused catalog.now events.now client (executed_of executed.now) (answer.Refused refusal)) }
 {
     let answer = Answer::Refused(refusal);
-    let turned = is_turned_with(alloc, catalog, events, client, said, &answer)?;
+    let turned = is_turned_with(alloc, catalog, events, client, executed, &answer)?;
     if turned {
         return Ok(true);
     }
-    is_past_most(alloc, events, client, said, refusal)
+    is_past_most(alloc, events, client, executed, refusal)
 }
 
 /// Whether an answer to a statement of a client has its cause.
@@ -80,26 +86,28 @@ pub fn has_cause(
     catalog: &Catalog,
     events: &[Event],
     client: u64,
-    said: &Said,
+    executed: &Executed,
     answer: &Answer,
 ) -> Result<bool, NoMemory>
-    ensures { IfOk result (λ has. IsTrue has ↔ IsCaused catalog.now events.now client (said_of said.now) answer.now) }
+    ensures { IfOk result (λ has. IsTrue has ↔ IsCaused catalog.now events.now client (executed_of executed.now) answer.now) }
 {
     match answer {
-        Answer::Rows(_) => is_of_rows(alloc, events, client, said),
-        Answer::Count(count) => is_of_count(alloc, events, client, said, *count),
-        Answer::Done => is_of_done(alloc, said),
-        Answer::Committed => is_of_commit(alloc, events, client, said),
-        Answer::Duplicate(key) => is_of_duplicate(alloc, catalog, said, key),
-        Answer::Busy(key, id, at) => is_busy(alloc, events, client, said, key, *id, *at),
-        Answer::Conflict(key, found) => is_conflict(alloc, events, client, said, key, found),
-        Answer::Expired(id) => is_expired(alloc, events, client, said, *id),
-        Answer::Faulted => has_fault(alloc, events, client, said),
-        Answer::Unknown(id) => is_unknown(alloc, events, client, said, *id),
-        Answer::BadRecord(key) => is_bad_record(alloc, catalog, events, client, said, key),
-        Answer::Refused(refusal) => is_refused(alloc, catalog, events, client, said, *refusal),
-        Answer::Vacuuming => is_turned_with(alloc, catalog, events, client, said, answer),
-        Answer::OpenTransactions => is_turned_with(alloc, catalog, events, client, said, answer),
+        Answer::Rows(_) => is_of_rows(alloc, events, client, executed),
+        Answer::Count(count) => is_of_count(alloc, events, client, executed, *count),
+        Answer::Done => is_of_done(alloc, executed),
+        Answer::Committed => is_of_commit(alloc, events, client, executed),
+        Answer::Duplicate(key) => is_of_duplicate(alloc, catalog, executed, key),
+        Answer::Busy(key, id, at) => is_busy(alloc, events, client, executed, key, *id, *at),
+        Answer::Conflict(key, found) => is_conflict(alloc, events, client, executed, key, found),
+        Answer::Expired(id) => is_expired(alloc, events, client, executed, *id),
+        Answer::Faulted => has_fault(alloc, events, client, executed),
+        Answer::Unknown(id) => is_unknown(alloc, events, client, executed, *id),
+        Answer::BadRecord(key) => is_bad_record(alloc, catalog, events, client, executed, key),
+        Answer::Refused(refusal) => is_refused(alloc, catalog, events, client, executed, *refusal),
+        Answer::Vacuuming => is_turned_with(alloc, catalog, events, client, executed, answer),
+        Answer::OpenTransactions => is_turned_with(
+            alloc, catalog, events, client, executed, answer,
+        ),
         Answer::NoMemory => Ok(true),
     }
 }
@@ -109,12 +117,12 @@ fn is_answer_caused(
     catalog: &Catalog,
     events: &[Event],
     client: u64,
-    said: &Said,
+    executed: &Executed,
 ) -> Result<bool, NoMemory>
-    ensures { IfOk result (λ is. IsTrue is ↔ IsAnswerCaused catalog.now events.now client (said_of said.now)) }
+    ensures { IfOk result (λ is. IsTrue is ↔ IsAnswerCaused catalog.now events.now client (executed_of executed.now)) }
 {
-    match &said.answer {
-        Some(answer) => has_cause(alloc, catalog, events, client, said, answer),
+    match &executed.answer {
+        Some(answer) => has_cause(alloc, catalog, events, client, executed, answer),
         None => Ok(true),
     }
 }
@@ -128,13 +136,13 @@ fn is_answer(answer: &Answer, turned: &Answer) -> bool
     }
 }
 
-fn is_answered_with(said: &Said, turned: &Answer) -> bool
-    ensures { result ≡ answered_with (said_of said.now) turned.now }
+fn is_answered_with(executed: &Executed, turned: &Answer) -> bool
+    ensures { result ≡ answered_with (executed_of executed.now) turned.now }
 {
-    if said.reached != said.taken {
+    if executed.reached != executed.taken {
         return false;
     }
-    match &said.answer {
+    match &executed.answer {
         Some(answer) => is_answer(answer, turned),
         None => false,
     }
@@ -146,12 +154,18 @@ fn is_turned_if_due(
     catalog: &Catalog,
     events: &[Event],
     client: u64,
-    said: &Said,
+    executed: &Executed,
 ) -> Result<bool, NoMemory>
-    ensures { IfOk result (λ is. IsTrue is ↔ IsTurnedIfDue catalog.now events.now client (said_of said.now)) }
+    ensures { IfOk result (λ is. IsTrue is ↔ IsTurnedIfDue catalog.now events.now client (executed_of executed.now)) }
 {
-    match turned_away(alloc, catalog, before(said, events), client, &said.text)? {
-        Some(turned) => Ok(is_answered_with(said, &turned)),
+    match turned_away(
+        alloc,
+        catalog,
+        before(executed, events),
+        client,
+        &executed.text,
+    )? {
+        Some(turned) => Ok(is_answered_with(executed, &turned)),
         None => Ok(true),
     }
 }
@@ -161,13 +175,13 @@ fn is_well_answered(
     catalog: &Catalog,
     events: &[Event],
     client: u64,
-    said: &Said,
+    executed: &Executed,
 ) -> Result<bool, NoMemory>
-    ensures { IfOk result (λ is. IsTrue is ↔ IsWellAnswered catalog.now events.now client (said_of said.now)) }
+    ensures { IfOk result (λ is. IsTrue is ↔ IsWellAnswered catalog.now events.now client (executed_of executed.now)) }
 {
-    let caused = is_answer_caused(alloc, catalog, events, client, said)?;
+    let caused = is_answer_caused(alloc, catalog, events, client, executed)?;
     if caused {
-        let turned = is_turned_if_due(alloc, catalog, events, client, said)?;
+        let turned = is_turned_if_due(alloc, catalog, events, client, executed)?;
         return Ok(turned);
     }
     Ok(false)
@@ -178,11 +192,11 @@ fn are_well_answered(
     catalog: &Catalog,
     events: &[Event],
     client: u64,
-    said: &[Said],
+    executed: &[Executed],
 ) -> Result<bool, NoMemory>
-    ensures { IfOk result (λ are. IsTrue are ↔ AllByRecursion (IsWellAnswered catalog.now events.now client) (all_said said.now)) }
+    ensures { IfOk result (λ are. IsTrue are ↔ AllByRecursion (IsWellAnswered catalog.now events.now client) (all_executed executed.now)) }
 {
-    let Some((first, rest)) = said.split_first() else {
+    let Some((first, rest)) = executed.split_first() else {
         return Ok(true);
     };
     if !is_well_answered(alloc, catalog, events, client, first)? {
@@ -199,8 +213,8 @@ fn is_client_well(
 ) -> Result<bool, NoMemory>
     ensures { IfOk result (λ is. IsTrue is ↔ IsClientWell catalog.now events.now client) }
 {
-    let said = statements_said(alloc, client, events)?;
-    are_well_answered(alloc, catalog, events, client, said.as_slice())
+    let executed = statements_by(alloc, client, events)?;
+    are_well_answered(alloc, catalog, events, client, executed.as_slice())
 }
 
 fn is_taker_well(

@@ -5,14 +5,14 @@ ghost use Rattle.sdb_record.specs.declared.coordinator.Decision.TheVariants as d
 ghost use Rattle.sdb_model.specs.Calls.{decision_learned};
 ghost use Rattle.sdb_model.specs.Causes.{IsExpired, IsOfCommit, IsUnknown};
 ghost use Rattle.sdb_model.specs.Transactions.{id_of as id_of_lem, through_end};
-ghost use Rattle.sdb_order.specs.Commits.{said_of, all_said};
+ghost use Rattle.sdb_order.specs.Commits.{executed_of, all_executed};
 ghost use Rattle.sdb_plain.specs.Values.{all_made};
-ghost use Rattle.sdb_caused.specs.Tests.{any_upto, commits_as as commits_as_lem, is_commit_of as is_commit_of_lem, is_in as is_in_lem, same_said, is_decided as is_decided_lem, puts_row as puts_row_lem, found_aborted as found_aborted_lem, expired_among as expired_among_lem, fails_later as fails_later_lem, is_lost_put as is_lost_put_lem, unknown_among as unknown_among_lem};
+ghost use Rattle.sdb_caused.specs.Tests.{any_upto, commits_as as commits_as_lem, is_commit_of as is_commit_of_lem, is_in as is_in_lem, same_executed, is_decided as is_decided_lem, puts_row as puts_row_lem, found_aborted as found_aborted_lem, expired_among as expired_among_lem, fails_later as fails_later_lem, is_lost_put as is_lost_put_lem, unknown_among as unknown_among_lem};
 
-use crate::same::is_same_said;
+use crate::same::is_same_executed;
 use crate::sign::{Sign, any};
 use sdb_model::Event;
-use sdb_order::{Said, ends, statements_said};
+use sdb_order::{Executed, ends, statements_by};
 use sdb_plain::{
     Made, asks_row, calls_of, client_of, commit_of, decision_found_at, decision_learned_at,
     from_begin, id_of, ordinal_of, put_by, rest_of,
@@ -27,36 +27,36 @@ pub fn is_commit_of(
     alloc: Global,
     events: &[Event],
     client: u64,
-    said: &Said,
+    executed: &Executed,
     id: TxId,
 ) -> Result<bool, NoMemory>
-    ensures { IfOk result (λ is. is ≡ is_commit_of_lem events.now client (said_of said.now) id) }
+    ensures { IfOk result (λ is. is ≡ is_commit_of_lem events.now client (executed_of executed.now) id) }
 {
     if client_of(id) != client {
         return Ok(false);
     }
-    let all = statements_said(alloc, client_of(id), events)?;
+    let all = statements_by(alloc, client_of(id), events)?;
     match commit_of(alloc, all.as_slice(), ordinal_of(id))? {
-        Some(commit) => Ok(is_same_said(commit, said)),
+        Some(commit) => Ok(is_same_executed(commit, executed)),
         None => Ok(false),
     }
 }
 
 // Whether a statement is one of these, up to the one that ends the transaction.
 #[tactic(auto, using(crate::proofs::Finds::one_found))]
-fn is_through_end(alloc: Global, all: &[Said], said: &Said) -> Result<bool, NoMemory>
-    ensures { IfOk result (λ is. is ≡ list_any (same_said (said_of said.now)) (through_end (all_said all.now))) }
+fn is_through_end(alloc: Global, all: &[Executed], executed: &Executed) -> Result<bool, NoMemory>
+    ensures { IfOk result (λ is. is ≡ list_any (same_executed (executed_of executed.now)) (through_end (all_executed all.now))) }
 {
     let Some((first, rest)) = all.split_first() else {
         return Ok(false);
     };
     if ends(alloc, first)? {
-        return Ok(is_same_said(said, first));
+        return Ok(is_same_executed(executed, first));
     }
-    if is_same_said(said, first) {
+    if is_same_executed(executed, first) {
         return Ok(true);
     }
-    is_through_end(alloc, rest, said)
+    is_through_end(alloc, rest, executed)
 }
 
 /// Whether a statement of a client is one of this transaction, after its BEGIN.
@@ -64,17 +64,17 @@ pub fn is_in(
     alloc: Global,
     events: &[Event],
     client: u64,
-    said: &Said,
+    executed: &Executed,
     id: TxId,
 ) -> Result<bool, NoMemory>
-    ensures { IfOk result (λ is. is ≡ is_in_lem events.now client (said_of said.now) id) }
+    ensures { IfOk result (λ is. is ≡ is_in_lem events.now client (executed_of executed.now) id) }
 {
     if client_of(id) != client {
         return Ok(false);
     }
-    let all = statements_said(alloc, client_of(id), events)?;
+    let all = statements_by(alloc, client_of(id), events)?;
     let since = from_begin(alloc, ordinal_of(id), all.as_slice())?;
-    is_through_end(alloc, rest_of(since), said)
+    is_through_end(alloc, rest_of(since), executed)
 }
 
 fn is_decided(found: Option<Decided>, wanted: Decision) -> bool
@@ -100,39 +100,39 @@ fn commits_as(
     alloc: Global,
     events: &[Event],
     client: u64,
-    said: &Said,
+    executed: &Executed,
     calls: &[Made],
     id: TxId,
 ) -> Result<bool, NoMemory>
-    ensures { IfOk result (λ is. is ≡ commits_as_lem events.now client (said_of said.now) calls.now id) }
+    ensures { IfOk result (λ is. is ≡ commits_as_lem events.now client (executed_of executed.now) calls.now id) }
 {
-    let commits = is_commit_of(alloc, events, client, said, id)?;
+    let commits = is_commit_of(alloc, events, client, executed, id)?;
     if commits {
         return is_learned(alloc, calls, id);
     }
     Ok(false)
 }
 
-// Whether it is so of one of a client's first transactions.
+// Whether it holds of one of a client's first transactions.
 #[tactic(auto, using(crate::proofs::IdLaws::upto_step))]
 fn is_among_commits(
     alloc: Global,
     events: &[Event],
     client: u64,
-    said: &Said,
+    executed: &Executed,
     calls: &[Made],
     count: u64,
 ) -> Result<bool, NoMemory>
-    ensures { IfOk result (λ is. is ≡ any_upto (λ k. commits_as_lem events.now client (said_of said.now) calls.now (id_of_lem client k)) count) }
+    ensures { IfOk result (λ is. is ≡ any_upto (λ k. commits_as_lem events.now client (executed_of executed.now) calls.now (id_of_lem client k)) count) }
 {
     if count == 0 {
         return Ok(false);
     }
-    let commits = commits_as(alloc, events, client, said, calls, id_of(client, count))?;
+    let commits = commits_as(alloc, events, client, executed, calls, id_of(client, count))?;
     if commits {
         return Ok(true);
     }
-    is_among_commits(alloc, events, client, said, calls, count - 1)
+    is_among_commits(alloc, events, client, executed, calls, count - 1)
 }
 
 /// Whether a statement is the COMMIT of some transaction of its client, and its calls showed first that this is committed.
@@ -140,14 +140,14 @@ pub fn is_of_commit(
     alloc: Global,
     events: &[Event],
     client: u64,
-    said: &Said,
+    executed: &Executed,
 ) -> Result<bool, NoMemory>
-    ensures { IfOk result (λ is. IsTrue is ↔ IsOfCommit events.now client (said_of said.now)) }
+    ensures { IfOk result (λ is. IsTrue is ↔ IsOfCommit events.now client (executed_of executed.now)) }
 {
-    let calls = calls_of(alloc, events, client, said)?;
-    let all = statements_said(alloc, client, events)?;
+    let calls = calls_of(alloc, events, client, executed)?;
+    let all = statements_by(alloc, client, events)?;
     let count = all.len() as u64;
-    is_among_commits(alloc, events, client, said, calls.as_slice(), count)
+    is_among_commits(alloc, events, client, executed, calls.as_slice(), count)
 }
 
 /// Whether a call puts a transaction's row with this decision.
@@ -173,14 +173,14 @@ pub fn is_expired(
     alloc: Global,
     events: &[Event],
     client: u64,
-    said: &Said,
+    executed: &Executed,
     id: TxId,
 ) -> Result<bool, NoMemory>
-    ensures { IfOk result (λ is. IsTrue is ↔ IsExpired events.now client (said_of said.now) id) }
+    ensures { IfOk result (λ is. IsTrue is ↔ IsExpired events.now client (executed_of executed.now) id) }
 {
-    let commits = is_commit_of(alloc, events, client, said, id)?;
+    let commits = is_commit_of(alloc, events, client, executed, id)?;
     if commits {
-        let calls = calls_of(alloc, events, client, said)?;
+        let calls = calls_of(alloc, events, client, executed)?;
         let row = coordinator_key(alloc, id)?;
         return Ok(expired_among(alloc, calls.as_slice(), &row));
     }
@@ -229,14 +229,14 @@ pub fn is_unknown(
     alloc: Global,
     events: &[Event],
     client: u64,
-    said: &Said,
+    executed: &Executed,
     id: TxId,
 ) -> Result<bool, NoMemory>
-    ensures { IfOk result (λ is. IsTrue is ↔ IsUnknown events.now client (said_of said.now) id) }
+    ensures { IfOk result (λ is. IsTrue is ↔ IsUnknown events.now client (executed_of executed.now) id) }
 {
-    let commits = is_commit_of(alloc, events, client, said, id)?;
+    let commits = is_commit_of(alloc, events, client, executed, id)?;
     if commits {
-        let calls = calls_of(alloc, events, client, said)?;
+        let calls = calls_of(alloc, events, client, executed)?;
         let row = coordinator_key(alloc, id)?;
         return Ok(unknown_among(alloc, calls.as_slice(), &row));
     }

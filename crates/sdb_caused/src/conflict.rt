@@ -1,56 +1,56 @@
-//! The cause of Conflict: what is found at a key is no longer what was noted there.
+//! The cause of Conflict: what is found at a key is no longer what was read there.
 ghost use Rattle.std.specs.Prelude.{◌≡◌, ◌&&◌, IfOk, IsTrue, ◌↔◌};
 ghost use Rattle.std.specs.Option.{option_and_then, option_copied};
 ghost use Rattle.std.specs.List.{list_any};
 ghost use Rattle.sdb_model.specs.Causes.{IsConflict, prepares_key as prepares_key_lem};
-ghost use Rattle.sdb_model.specs.Noted.{meaning_of as meaning_of_lem, noted_in as noted_in_lem};
+ghost use Rattle.sdb_model.specs.ReadSet.{meaning_of as meaning_of_lem, read_set_of as read_set_of_lem};
 ghost use Rattle.sdb_model.specs.Transactions.{id_of as id_of_lem};
-ghost use Rattle.sdb_order.specs.Commits.{said_of};
+ghost use Rattle.sdb_order.specs.Commits.{executed_of};
 ghost use Rattle.sdb_record.specs.Moved.{is_unchanged as is_unchanged_lem};
-ghost use Rattle.sdb_said.specs.Values.{note_of};
-ghost use Rattle.sdb_plain.specs.Values.{all_made, all_notes, made_of};
-ghost use Rattle.sdb_caused.specs.Tests.{conflict_at_scan, is_moved as is_moved_lem, has_moved as has_moved_lem, get_shows as get_shows_lem, is_found_by as is_found_by_lem, is_unmet as is_unmet_lem, not_met_as as not_met_as_lem, read_shows as read_shows_lem, scan_shows as scan_shows_lem, base_put as base_put_lem, scan_differs as scan_differs_lem, is_rebased as is_rebased_lem, conflict_at_commit as conflict_at_commit_lem, same_found, any_upto, conflict_of as conflict_of_lem, means as means_lem};
+ghost use Rattle.sdb_said.specs.Values.{item_of};
+ghost use Rattle.sdb_plain.specs.Values.{all_made, all_items, made_of};
+ghost use Rattle.sdb_caused.specs.Tests.{conflict_at_scan, is_changed as is_changed_lem, has_changed_from as has_changed_from_lem, get_observes as get_observes_lem, is_found_by as is_found_by_lem, is_unmet as is_unmet_lem, not_met_as as not_met_as_lem, read_observes as read_observes_lem, scan_observes as scan_observes_lem, base_put as base_put_lem, scan_differs as scan_differs_lem, is_rebased as is_rebased_lem, conflict_at_commit as conflict_at_commit_lem, same_found, any_upto, conflict_of as conflict_of_lem, means as means_lem};
 
 use crate::commit::{is_commit_of, is_in};
 use crate::same::is_same_found;
 use crate::sign::{Sign, any};
 use sdb_model::{Event, Keyword};
-use sdb_order::{Said, is_word, statements_said};
-use sdb_plain::{Made, calls_of, id_of, is_prepared_record, meaning_of, noted_in, put_by};
+use sdb_order::{Executed, is_word, statements_by};
+use sdb_plain::{Made, calls_of, id_of, is_prepared_record, meaning_of, put_by, read_set_of};
 use sdb_record::{Scan, is_same_version, is_unchanged};
-use sdb_said::{Note, is_same_key, kept_writer, record_among, version_among, version_noted};
+use sdb_said::{ReadItem, before_writer, is_same_key, record_among, version_among, version_read};
 use sdb_types::{Key, NoMemory, Record, Reply, Request, TxId};
 use std::alloc::Global;
 
-fn is_moved(note: &Note, key: &Key, found: &Option<Record>) -> bool
-    ensures { result ≡ is_moved_lem key.now found.now (note_of note.now) }
+fn is_moved(item: &ReadItem, key: &Key, found: &Option<Record>) -> bool
+    ensures { result ≡ is_changed_lem key.now found.now (item_of item.now) }
 {
-    match version_noted(note, key) {
+    match version_read(item, key) {
         Some(version) => !is_unchanged(found, version),
         None => false,
     }
 }
 
-fn any_moved(notes: &[Note], key: &Key, found: &Option<Record>) -> bool
-    ensures { result ≡ list_any (λ n. is_moved_lem key.now found.now (note_of n)) notes.now }
+fn any_moved(read_set: &[ReadItem], key: &Key, found: &Option<Record>) -> bool
+    ensures { result ≡ list_any (λ n. is_changed_lem key.now found.now (item_of n)) read_set.now }
 {
-    for note in notes {
-        if is_moved(note, key, found) {
+    for item in read_set {
+        if is_moved(item, key, found) {
             return true;
         }
     }
     false
 }
 
-fn has_moved(notes: &[Note], key: &Key, found: &Option<Record>) -> bool
-    ensures { result ≡ has_moved_lem (all_notes notes.now) key.now found.now }
+fn has_moved(read_set: &[ReadItem], key: &Key, found: &Option<Record>) -> bool
+    ensures { result ≡ has_changed_from_lem (all_items read_set.now) key.now found.now }
 {
-    any_moved(notes, key, found)
+    any_moved(read_set, key, found)
 }
 
 /// Whether a scan shows this at a key.
-pub fn scan_shows(made: &Made, key: &Key, found: &Option<Record>) -> bool
-    ensures { result ≡ scan_shows_lem made.now key.now found.now }
+pub fn scan_observes(made: &Made, key: &Key, found: &Option<Record>) -> bool
+    ensures { result ≡ scan_observes_lem made.now key.now found.now }
 {
     match (&made.request, &made.reply) {
         (Request::Scan(span), Reply::Rows(rows)) => {
@@ -87,7 +87,7 @@ pub fn is_unmet(id: TxId, key: &Key, found: &Option<Record>, made: &Made) -> boo
 }
 
 fn get_shows(made: &Made, key: &Key, found: &Option<Record>) -> bool
-    ensures { result ≡ get_shows_lem made.now.request made.now.reply key.now found.now }
+    ensures { result ≡ get_observes_lem made.now.request made.now.reply key.now found.now }
 {
     match (&made.request, &made.reply) {
         (Request::Get(asked), Reply::Found(standing)) => {
@@ -98,10 +98,10 @@ fn get_shows(made: &Made, key: &Key, found: &Option<Record>) -> bool
 }
 
 /// Whether a get or a scan shows this at a key.
-pub fn read_shows(made: &Made, key: &Key, found: &Option<Record>) -> bool
-    ensures { result ≡ read_shows_lem made.now key.now found.now }
+pub fn read_observes(made: &Made, key: &Key, found: &Option<Record>) -> bool
+    ensures { result ≡ read_observes_lem made.now key.now found.now }
 {
-    get_shows(made, key, found) || scan_shows(made, key, found)
+    get_shows(made, key, found) || scan_observes(made, key, found)
 }
 
 // Whether this was found by a prepare that was not met, or by a check of a key that was not prepared.
@@ -118,52 +118,52 @@ fn base_put(made: &Made) -> Option<TxId>
     ensures { result ≡ base_put_lem made.now }
 {
     match put_by(&made.request) {
-        Some(rec) => kept_writer(&rec.columns),
+        Some(rec) => before_writer(&rec.columns),
         None => None,
     }
 }
 
-fn scan_differs(note: &Note, key: &Key, base: Option<TxId>) -> bool
-    ensures { result ≡ scan_differs_lem key.now base (note_of note.now) }
+fn scan_differs(item: &ReadItem, key: &Key, base: Option<TxId>) -> bool
+    ensures { result ≡ scan_differs_lem key.now base (item_of item.now) }
 {
-    match note {
-        Note::Got(_) => false,
-        Note::Scanned(scan) => {
+    match item {
+        ReadItem::Got(_) => false,
+        ReadItem::Scanned(scan) => {
             scan.span.contains(key)
                 && !is_same_version(base, version_among(scan.found.as_slice(), key))
         }
     }
 }
 
-fn any_scan_differs(notes: &[Note], key: &Key, base: Option<TxId>) -> bool
-    ensures { result ≡ list_any (λ n. scan_differs_lem key.now base (note_of n)) notes.now }
+fn any_scan_differs(read_set: &[ReadItem], key: &Key, base: Option<TxId>) -> bool
+    ensures { result ≡ list_any (λ n. scan_differs_lem key.now base (item_of n)) read_set.now }
 {
-    for note in notes {
-        if scan_differs(note, key, base) {
+    for item in read_set {
+        if scan_differs(item, key, base) {
             return true;
         }
     }
     false
 }
 
-fn any_differs(notes: &[Note], key: &Key, base: Option<TxId>) -> bool
-    ensures { result ≡ list_any (scan_differs_lem key.now base) (all_notes notes.now) }
+fn any_differs(read_set: &[ReadItem], key: &Key, base: Option<TxId>) -> bool
+    ensures { result ≡ list_any (scan_differs_lem key.now base) (all_items read_set.now) }
 {
-    any_scan_differs(notes, key, base)
+    any_scan_differs(read_set, key, base)
 }
 
-fn differs_from(notes: &[Note], id: TxId, key: &Key, prepare: &Made) -> bool
-    ensures { result ≡ (prepares_key_lem id key.now (made_of prepare.now) && list_any (scan_differs_lem key.now (base_put_lem prepare.now)) (all_notes notes.now)) }
+fn differs_from(read_set: &[ReadItem], id: TxId, key: &Key, prepare: &Made) -> bool
+    ensures { result ≡ (prepares_key_lem id key.now (made_of prepare.now) && list_any (scan_differs_lem key.now (base_put_lem prepare.now)) (all_items read_set.now)) }
 {
-    prepares_key(id, key, prepare) && any_differs(notes, key, base_put(prepare))
+    prepares_key(id, key, prepare) && any_differs(read_set, key, base_put(prepare))
 }
 
-// Whether a scan was noted with another version of a key than the prepare's base has.
-fn is_rebased(calls: &[Made], notes: &[Note], id: TxId, key: &Key) -> bool
-    ensures { result ≡ is_rebased_lem calls.now (all_notes notes.now) id key.now }
+// Whether a scan was recorded with another version of a key than the prepare's base has.
+fn is_rebased(calls: &[Made], read_set: &[ReadItem], id: TxId, key: &Key) -> bool
+    ensures { result ≡ is_rebased_lem calls.now (all_items read_set.now) id key.now }
 {
     for prepare in calls {
-        if differs_from(notes, id, key, prepare) {
+        if differs_from(read_set, id, key, prepare) {
             return true;
         }
     }
@@ -173,15 +173,15 @@ fn is_rebased(calls: &[Made], notes: &[Note], id: TxId, key: &Key) -> bool
 fn conflicts_at_commit(
     alloc: Global,
     calls: &[Made],
-    notes: &[Note],
+    read_set: &[ReadItem],
     id: TxId,
     key: &Key,
     found: &Option<Record>,
 ) -> bool
-    ensures { result ≡ conflict_at_commit_lem calls.now (all_notes notes.now) id key.now found.now }
+    ensures { result ≡ conflict_at_commit_lem calls.now (all_items read_set.now) id key.now found.now }
 {
-    (has_moved(notes, key, found) && is_found_by(alloc, calls, id, key, found))
-        || (any(alloc, calls, Sign::Scan(key, found)) && is_rebased(calls, notes, id, key))
+    (has_moved(read_set, key, found) && is_found_by(alloc, calls, id, key, found))
+        || (any(alloc, calls, Sign::Scan(key, found)) && is_rebased(calls, read_set, id, key))
 }
 
 // Whether this is what a found record means to the statement with these calls, or none where none was found.
@@ -225,10 +225,10 @@ fn commit_conflicts(
     key: &Key,
     found: &Option<Record>,
 ) -> Result<bool, NoMemory>
-    ensures { IfOk result (λ is. is ≡ conflict_at_commit_lem calls.now (noted_in_lem events.now id) id key.now found.now) }
+    ensures { IfOk result (λ is. is ≡ conflict_at_commit_lem calls.now (read_set_of_lem events.now id) id key.now found.now) }
 {
-    let notes = noted_in(alloc, events, id)?;
-    Ok(conflicts_at_commit(alloc, calls, notes.as_slice(), id, key, found))
+    let read_set = read_set_of(alloc, events, id)?;
+    Ok(conflicts_at_commit(alloc, calls, read_set.as_slice(), id, key, found))
 }
 
 fn scan_conflicts(
@@ -239,10 +239,10 @@ fn scan_conflicts(
     key: &Key,
     found: &Option<Record>,
 ) -> Result<bool, NoMemory>
-    ensures { IfOk result (λ is. is ≡ conflict_at_scan calls.now (noted_in_lem events.now id) key.now found.now) }
+    ensures { IfOk result (λ is. is ≡ conflict_at_scan calls.now (read_set_of_lem events.now id) key.now found.now) }
 {
-    let notes = noted_in(alloc, events, id)?;
-    Ok(has_moved(notes.as_slice(), key, found) && any_means(calls, key, found))
+    let read_set = read_set_of(alloc, events, id)?;
+    Ok(has_moved(read_set.as_slice(), key, found) && any_means(calls, key, found))
 }
 
 // Whether a statement ends this transaction by a conflict.
@@ -250,20 +250,20 @@ fn conflicts_in(
     alloc: Global,
     events: &[Event],
     client: u64,
-    said: &Said,
+    executed: &Executed,
     calls: &[Made],
     id: TxId,
     key: &Key,
     found: &Option<Record>,
 ) -> Result<bool, NoMemory>
-    ensures { IfOk result (λ is. is ≡ conflict_of_lem events.now client (said_of said.now) calls.now key.now found.now id) }
+    ensures { IfOk result (λ is. is ≡ conflict_of_lem events.now client (executed_of executed.now) calls.now key.now found.now id) }
 {
-    if is_commit_of(alloc, events, client, said, id)?
+    if is_commit_of(alloc, events, client, executed, id)?
         && commit_conflicts(alloc, events, calls, id, key, found)?
     {
         return Ok(true);
     }
-    if is_word(alloc, said, Keyword::Commit)? || !is_in(alloc, events, client, said, id)? {
+    if is_word(alloc, executed, Keyword::Commit)? || !is_in(alloc, events, client, executed, id)? {
         return Ok(false);
     }
     scan_conflicts(alloc, events, calls, id, key, found)
@@ -275,44 +275,53 @@ fn conflicts_among(
     alloc: Global,
     events: &[Event],
     client: u64,
-    said: &Said,
+    executed: &Executed,
     calls: &[Made],
     key: &Key,
     found: &Option<Record>,
     count: u64,
 ) -> Result<bool, NoMemory>
-    ensures { IfOk result (λ is. is ≡ any_upto (λ k. conflict_of_lem events.now client (said_of said.now) calls.now key.now found.now (id_of_lem client k)) count) }
+    ensures { IfOk result (λ is. is ≡ any_upto (λ k. conflict_of_lem events.now client (executed_of executed.now) calls.now key.now found.now (id_of_lem client k)) count) }
 {
     if count == 0 {
         return Ok(false);
     }
     let id = id_of(client, count);
-    let conflicts = conflicts_in(alloc, events, client, said, calls, id, key, found)?;
+    let conflicts = conflicts_in(alloc, events, client, executed, calls, id, key, found)?;
     if conflicts {
         return Ok(true);
     }
-    conflicts_among(alloc, events, client, said, calls, key, found, count - 1)
+    conflicts_among(
+        alloc,
+        events,
+        client,
+        executed,
+        calls,
+        key,
+        found,
+        count - 1,
+    )
 }
 
-/// Whether a call of the statement found something else at the key than was noted there.
+/// Whether a call of the statement found something else at the key than was read there.
 pub fn is_conflict(
     alloc: Global,
     events: &[Event],
     client: u64,
-    said: &Said,
+    executed: &Executed,
     key: &Key,
     found: &Option<Record>,
 ) -> Result<bool, NoMemory>
-    ensures { IfOk result (λ is. IsTrue is ↔ IsConflict events.now client (said_of said.now) key.now found.now) }
+    ensures { IfOk result (λ is. IsTrue is ↔ IsConflict events.now client (executed_of executed.now) key.now found.now) }
 {
-    let calls = calls_of(alloc, events, client, said)?;
-    let all = statements_said(alloc, client, events)?;
+    let calls = calls_of(alloc, events, client, executed)?;
+    let all = statements_by(alloc, client, events)?;
     let count = all.len() as u64;
     conflicts_among(
         alloc,
         events,
         client,
-        said,
+        executed,
         calls.as_slice(),
         key,
         found,

@@ -18,5 +18,5 @@ pub use busy::{is_early, is_unresolved, prepared_moment};
 pub use caused::{answers_have_causes, has_cause};
 pub use commit::is_commit_of;
 pub use reading::statement_in;
-pub use same::{is_answered_alike, is_same_said};
+pub use same::{is_answered_alike, is_same_executed};
 pub use turned::turned_away;

@@ -4,14 +4,14 @@ ghost use Rattle.std.specs.Prelude.{◌≡◌, IfOk, IsTrue, ◌↔◌, ◌≤�
 ghost use Rattle.std.specs.Option.{option_map_or};
 ghost use Rattle.sdb_model.specs.Calls.{calls_of as calls_of_lem};
 ghost use Rattle.sdb_model.specs.Causes.{HasReply, before as before_lem, is_select as is_select_lem, removes as removes_lem};
-ghost use Rattle.sdb_order.specs.Commits.{said_of};
+ghost use Rattle.sdb_order.specs.Commits.{executed_of};
 ghost use Rattle.sdb_plain.specs.Values.{made_of};
 ghost use Rattle.sdb_caused.specs.Tests.{Inserts, counts_so as counts_so_lem, is_done as is_done_lem, IsOfRows, IsOfCount, IsOfDone, IsOfDuplicate, removed_by};
 
 use crate::reading::statement_in;
 use crate::sign::{Sign, any};
 use sdb_model::{Event, Statement};
-use sdb_order::Said;
+use sdb_order::Executed;
 use sdb_plain::{Made, calls_of, is_open, is_removal, prefix};
 use sdb_rows::inserted_key;
 use sdb_said::is_same_key;
@@ -20,13 +20,13 @@ use sdb_types::{Key, NoMemory, Reply};
 use std::alloc::Global;
 
 /// The events before a statement was taken.
-pub fn before<'a>(said: &Said, events: &'a [Event]) -> &'a [Event]
-    ensures { result.now ≡ before_lem (said_of said.now) events.now }
+pub fn before<'a>(executed: &Executed, events: &'a [Event]) -> &'a [Event]
+    ensures { result.now ≡ before_lem (executed_of executed.now) events.now }
 {
-    if said.taken == 0 {
+    if executed.taken == 0 {
         prefix(events, 0)
     } else {
-        prefix(events, said.taken - 1)
+        prefix(events, executed.taken - 1)
     }
 }
 
@@ -41,13 +41,13 @@ pub fn is_of_rows(
     alloc: Global,
     events: &[Event],
     client: u64,
-    said: &Said,
+    executed: &Executed,
 ) -> Result<bool, NoMemory>
-    ensures { IfOk result (λ is. IsTrue is ↔ IsOfRows events.now client (said_of said.now)) }
+    ensures { IfOk result (λ is. IsTrue is ↔ IsOfRows events.now client (executed_of executed.now)) }
 {
-    let statement = statement_in(alloc, &said.text)?;
+    let statement = statement_in(alloc, &executed.text)?;
     if is_select(&statement) {
-        let inside = is_open(alloc, before(said, events), client)?;
+        let inside = is_open(alloc, before(executed, events), client)?;
         return Ok(inside);
     }
     Ok(false)
@@ -88,13 +88,13 @@ pub fn is_of_count(
     alloc: Global,
     events: &[Event],
     client: u64,
-    said: &Said,
+    executed: &Executed,
     count: u64,
 ) -> Result<bool, NoMemory>
-    ensures { IfOk result (λ is. IsTrue is ↔ IsOfCount events.now client (said_of said.now) count) }
+    ensures { IfOk result (λ is. IsTrue is ↔ IsOfCount events.now client (executed_of executed.now) count) }
 {
-    let statement = statement_in(alloc, &said.text)?;
-    let calls = calls_of(alloc, events, client, said)?;
+    let statement = statement_in(alloc, &executed.text)?;
+    let calls = calls_of(alloc, events, client, executed)?;
     let removed = removed(calls.as_slice());
     Ok(counts_so(removed, count, &statement))
 }
@@ -106,10 +106,10 @@ fn is_done(statement: &Option<Statement>) -> bool
 }
 
 /// The cause of Done: it is BEGIN or ROLLBACK.
-pub fn is_of_done(alloc: Global, said: &Said) -> Result<bool, NoMemory>
-    ensures { IfOk result (λ is. IsTrue is ↔ IsOfDone (said_of said.now)) }
+pub fn is_of_done(alloc: Global, executed: &Executed) -> Result<bool, NoMemory>
+    ensures { IfOk result (λ is. IsTrue is ↔ IsOfDone (executed_of executed.now)) }
 {
-    let statement = statement_in(alloc, &said.text)?;
+    let statement = statement_in(alloc, &executed.text)?;
     Ok(is_done(&statement))
 }
 
@@ -137,12 +137,12 @@ fn inserts(
 pub fn is_of_duplicate(
     alloc: Global,
     catalog: &Catalog,
-    said: &Said,
+    executed: &Executed,
     key: &Key,
 ) -> Result<bool, NoMemory>
-    ensures { IfOk result (λ is. IsTrue is ↔ IsOfDuplicate catalog.now (said_of said.now) key.now) }
+    ensures { IfOk result (λ is. IsTrue is ↔ IsOfDuplicate catalog.now (executed_of executed.now) key.now) }
 {
-    let statement = statement_in(alloc, &said.text)?;
+    let statement = statement_in(alloc, &executed.text)?;
     inserts(alloc, catalog, &statement, key)
 }
 
@@ -151,10 +151,10 @@ pub fn has_fault(
     alloc: Global,
     events: &[Event],
     client: u64,
-    said: &Said,
+    executed: &Executed,
 ) -> Result<bool, NoMemory>
-    ensures { IfOk result (λ is. IsTrue is ↔ HasReply is_fault_lem (calls_of_lem events.now client (said_of said.now))) }
+    ensures { IfOk result (λ is. IsTrue is ↔ HasReply is_fault_lem (calls_of_lem events.now client (executed_of executed.now))) }
 {
-    let calls = calls_of(alloc, events, client, said)?;
+    let calls = calls_of(alloc, events, client, executed)?;
     Ok(any(alloc, calls.as_slice(), Sign::Fault))
 }

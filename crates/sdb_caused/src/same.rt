@@ -1,12 +1,12 @@
-//! Equality of answers, of statements that were said, and of what is found.
+//! Equality of answers, of executed statements, and of what is found.
 ghost use Rattle.std.specs.Prelude.{◌≡◌, ◌↔◌, IsTrue};
 ghost use Rattle.std.specs.Option.{option_copied};
 ghost use Rattle.sdb_model.specs.Rows.{same_name};
-ghost use Rattle.sdb_order.specs.Commits.{said_of};
-ghost use Rattle.sdb_caused.specs.Tests.{answered_alike, same_answer, same_found, same_said};
+ghost use Rattle.sdb_order.specs.Commits.{executed_of};
+ghost use Rattle.sdb_caused.specs.Tests.{answered_alike, same_answer, same_found, same_executed};
 
 use sdb_model::Answer;
-use sdb_order::Said;
+use sdb_order::Executed;
 use sdb_said::is_same_record;
 use sdb_types::{Record, Txt};
 
@@ -42,9 +42,9 @@ fn is_same_text(a: &Txt, b: &Txt) -> bool
     a.as_str().cmp(b.as_str()).is_eq()
 }
 
-/// Whether two statements that were said are equal.
-pub fn is_same_said(a: &Said, b: &Said) -> bool
-    ensures { result ≡ same_said (said_of a.now) (said_of b.now) }
+/// Whether two executed statements are equal.
+pub fn is_same_executed(a: &Executed, b: &Executed) -> bool
+    ensures { result ≡ same_executed (executed_of a.now) (executed_of b.now) }
 {
     a.taken == b.taken
         && (a.reached == b.reached

@@ -5,7 +5,7 @@ ghost use Rattle.sdb_caused.specs.Tests.{has_sign as has_sign_lem};
 
 use crate::busy::looks_early;
 use crate::commit::{fails_later, puts_row};
-use crate::conflict::{is_unmet, prepares_key, read_shows, scan_shows};
+use crate::conflict::{is_unmet, prepares_key, read_observes, scan_observes};
 use sdb_model::Event;
 use sdb_plain::Made;
 use sdb_record::Decision;
@@ -39,8 +39,8 @@ fn has_sign(alloc: Global, made: &Made, sign: Sign) -> bool
         Sign::Failure(row, at) => fails_later(row, at, made),
         Sign::Prepare(id, key) => prepares_key(id, key, made),
         Sign::Unmet(id, key, found) => is_unmet(id, key, found, made),
-        Sign::Read(key, found) => read_shows(made, key, found),
-        Sign::Scan(key, found) => scan_shows(made, key, found),
+        Sign::Read(key, found) => read_observes(made, key, found),
+        Sign::Scan(key, found) => scan_observes(made, key, found),
         Sign::Fault => matches!(made.reply, Reply::Fault),
     }
 }

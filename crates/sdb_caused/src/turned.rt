@@ -93,7 +93,7 @@ fn turned_by(
 }
 
 /// The answer with which a statement that a client takes after these events is turned away, if it is. A text of 2^32 bytes
-/// counts as one that wants memory.
+/// counts as out of memory.
 pub fn turned_away(
     alloc: Global,
     catalog: &Catalog,

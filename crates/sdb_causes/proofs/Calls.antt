@@ -13,10 +13,10 @@ use Rattle.sdb_model.specs.declared.event.Event.{Event}
 use Rattle.sdb_model.specs.declared.event.Event.TheVariants as event
 use Rattle.sdb_model.specs.declared.event.How.{How}
 use Rattle.sdb_model.specs.Rows.{Name}
-use Rattle.sdb_model.specs.Calls.{Made, calls_by, calls_of, clock_after, clock_at, end_of, made_by}
+use Rattle.sdb_model.specs.Calls.{StoreCall, calls_by, calls_of, clock_after, clock_at, end_of, made_by}
 use Rattle.sdb_model.specs.Causes.{before}
-use Rattle.sdb_model.specs.Transactions.{Said, numbered, said, with_answer}
-use Rattle.sdb_story.specs.Telling.{answered_said, taken_said}
+use Rattle.sdb_model.specs.Transactions.{Executed, numbered, statements_by, with_answer}
+use Rattle.sdb_story.specs.History.{executed_with_answer, executed_of_take}
 use Rattle.sdb_story.proofs.Tellings.{numbers_more, said_more}
 use Rattle.sdb_causes.proofs.Lists.{each_in, each_kept, filter_same, kept_in}
 use Rattle.sdb_types.proofs.Basics.{itself, length_more}
@@ -27,23 +27,23 @@ within_more n xs x l = let e : length (xs ++ x ∷ []) ≡ length xs + 1 = lengt
 
 ---- statements
 
-pub call_said : (c : ℕ) (events : List Event) (store : Name) (q : Request) (how : How) (r : Reply) (a : Answer) (front : List Said) (w : Said) → said c events ≡ front ++ w ∷ [] → said c (events ++ event.Call c store q how r (Some a) ∷ []) ≡ front ++ answered_said events w a ∷ []
+pub call_said : (c : ℕ) (events : List Event) (store : Name) (q : Request) (how : How) (r : Reply) (a : Answer) (front : List Executed) (w : Executed) → statements_by c events ≡ front ++ w ∷ [] → statements_by c (events ++ event.Call c store q how r (Some a) ∷ []) ≡ front ++ executed_with_answer events w a ∷ []
 call_said c events store q how r a front w e =
     said_more c events (event.Call c store q how r (Some a))
-    ∙ ap (λ t. if t then with_answer (said c events) (1 + length events) a else said c events) (itself c)
+    ∙ ap (λ t. if t then with_answer (statements_by c events) (1 + length events) a else statements_by c events) (itself c)
     ∙ ap (λ ss. with_answer ss (1 + length events) a) e
     ∙ answer_last front w (1 + length events) a
 
-pub silent_said : (c : ℕ) (events : List Event) (store : Name) (q : Request) (how : How) (r : Reply) → said c (events ++ event.Call c store q how r None ∷ []) ≡ said c events
+pub silent_said : (c : ℕ) (events : List Event) (store : Name) (q : Request) (how : How) (r : Reply) → statements_by c (events ++ event.Call c store q how r None ∷ []) ≡ statements_by c events
 silent_said c events store q how r = said_more c events (event.Call c store q how r None)
 
 ---- the events before a statement, and the clock
 
-pub before_same : (s : Said) (events : List Event) (e : Event) → s.taken ≤ length events → before s (events ++ e ∷ []) ≡ before s events
+pub before_same : (s : Executed) (events : List Event) (e : Event) → s.taken ≤ length events → before s (events ++ e ∷ []) ≡ before s events
 before_same s events e l = take-append-le (s.taken - 1) events (e ∷ []) (omega arith)
 
 -- of one that is taken they are all
-pub before_taken : (events : List Event) (e : Event) (text : List ℕ) (a : Option Answer) → before (taken_said events text a) (events ++ e ∷ []) ≡ events
+pub before_taken : (events : List Event) (e : Event) (text : List ℕ) (a : Option Answer) → before (executed_of_take events text a) (events ++ e ∷ []) ≡ events
 before_taken events e text a = take-append-le (1 + length events - 1) events (e ∷ []) (omega arith) ∙ take_all (1 + length events - 1) events (omega arith)
 
 pub clock_same : (events : List Event) (e : Event) (n : ℕ) → n ≤ length events → clock_at (events ++ e ∷ []) n ≡ clock_at events n
@@ -58,7 +58,7 @@ clock_more events e =
 ---- calls
 
 -- the calls of a client after an event
-abbrev pub later_calls : List Event → ℕ → ℕ → List Made
+abbrev pub later_calls : List Event → ℕ → ℕ → List StoreCall
 later_calls events c taken = filter (λ m. nat_lt taken m.at) (calls_by events c)
 
 pub made_more : (c : ℕ) (events : List Event) (e : Event) → calls_by (events ++ e ∷ []) c ≡ calls_by events c ++ cons_option (made_by c (1 + length events, e)) []
@@ -67,23 +67,23 @@ made_more c events e = ap (filter_map (made_by c)) (numbers_more 1 events e) ∙
 pub none_made : (c : ℕ) (events : List Event) (e : Event) → made_by c (1 + length events, e) ≡ None → calls_by (events ++ e ∷ []) c ≡ calls_by events c
 none_made c events e none = made_more c events e ∙ ap (λ o. calls_by events c ++ cons_option o []) none ∙ append-nil (calls_by events c)
 
-pub one_made : (c : ℕ) (events : List Event) (e : Event) (m : Made) → made_by c (1 + length events, e) ≡ Some m → calls_by (events ++ e ∷ []) c ≡ calls_by events c ++ m ∷ []
+pub one_made : (c : ℕ) (events : List Event) (e : Event) (m : StoreCall) → made_by c (1 + length events, e) ≡ Some m → calls_by (events ++ e ∷ []) c ≡ calls_by events c ++ m ∷ []
 one_made c events e m some = made_more c events e ∙ ap (λ o. calls_by events c ++ cons_option o []) some
 
 -- the call of an event
-abbrev pub made_at : List Event → Name → Request → How → Reply → Made
+abbrev pub made_at : List Event → Name → Request → How → Reply → StoreCall
 made_at events store q how r = record { at = 1 + length events; store = store; request = q; how = how; reply = r }
 
 pub own_made : (c : ℕ) (events : List Event) (store : Name) (q : Request) (how : How) (r : Reply) (a : Option Answer) → made_by c (1 + length events, event.Call c store q how r a) ≡ Some (made_at events store q how r)
 own_made c events store q how r a = ap (λ t. if t then Some (made_at events store q how r) else None) (itself c)
 
 -- a call that an event makes has its number
-numbered_made : (c n : ℕ) (e : Event) (m : Made) → made_by c (n, e) ≡ Some m → m.at ≡ n
+numbered_made : (c n : ℕ) (e : Event) (m : StoreCall) → made_by c (n, e) ≡ Some m → m.at ≡ n
 numbered_made c n (event.Take d text a) m h = absurd (cc)
 numbered_made c n (event.Call d store q how r a) m h = by (d == c) h
   where
     by : (t : Bool) → (if t then Some (record { at = n; store = store; request = q; how = how; reply = r }) else None) ≡ Some m → m.at ≡ n
-    by true k = let same : record { at = n; store = store; request = q; how = how; reply = r } ≡ m = cc in ap (λ (x : Made). x.at) (sym same)
+    by true k = let same : record { at = n; store = store; request = q; how = how; reply = r } ≡ m = cc in ap (λ (x : StoreCall). x.at) (sym same)
     by false k = absurd (cc)
 numbered_made c n (event.Stop d) m h = absurd (cc)
 numbered_made c n (event.Clock moment) m h = absurd (cc)
@@ -99,11 +99,11 @@ numbers_below c n (e ∷ es) = by (made_by c (n, e)) refl (shifted (numbers_belo
     shifted : AllByRecursion (λ m. m.at < n + 1 + length es) (filter_map (made_by c) (enumerate_from (n + 1) es)) → AllByRecursion (λ m. m.at < n + suc (length es)) (filter_map (made_by c) (enumerate_from (n + 1) es))
     shifted all = each (filter_map (made_by c) (enumerate_from (n + 1) es)) all
       where
-        each : (xs : List Made) → AllByRecursion (λ m. m.at < n + 1 + length es) xs → AllByRecursion (λ m. m.at < n + suc (length es)) xs
+        each : (xs : List StoreCall) → AllByRecursion (λ m. m.at < n + 1 + length es) xs → AllByRecursion (λ m. m.at < n + suc (length es)) xs
         each [] a = tt
         each (x ∷ xs) a = (shift n (length es) x.at a.0, each xs a.1)
 
-    by : (o : Option Made) → made_by c (n, e) ≡ o → AllByRecursion (λ m. m.at < n + suc (length es)) (filter_map (made_by c) (enumerate_from (n + 1) es)) → AllByRecursion (λ m. m.at < n + suc (length es)) (cons_option o (filter_map (made_by c) (enumerate_from (n + 1) es)))
+    by : (o : Option StoreCall) → made_by c (n, e) ≡ o → AllByRecursion (λ m. m.at < n + suc (length es)) (filter_map (made_by c) (enumerate_from (n + 1) es)) → AllByRecursion (λ m. m.at < n + suc (length es)) (cons_option o (filter_map (made_by c) (enumerate_from (n + 1) es)))
     by None k all = all
     by (Some m) k all = (first (numbered_made c n e m k), all)
       where
@@ -115,10 +115,10 @@ pub calls_within : (c : ℕ) (events : List Event) → AllByRecursion (λ m. m.a
 calls_within c events = numbers_below c 1 events
 
 pub later_within : (c : ℕ) (events : List Event) (taken : ℕ) → AllByRecursion (λ m. m.at < 1 + length events) (later_calls events c taken)
-later_within c events taken = each_kept (λ (m : Made). m.at < 1 + length events) (λ m. nat_lt taken m.at) (calls_by events c) (calls_within c events)
+later_within c events taken = each_kept (λ (m : StoreCall). m.at < 1 + length events) (λ m. nat_lt taken m.at) (calls_by events c) (calls_within c events)
 
 -- the calls of a statement that ends where the events end
-pub calls_open : (c : ℕ) (events : List Event) (s : Said) → end_of events s ≡ length events → calls_of events c s ≡ later_calls events c s.taken
+pub calls_open : (c : ℕ) (events : List Event) (s : Executed) → end_of events s ≡ length events → calls_of events c s ≡ later_calls events c s.taken
 calls_open c events s e =
     ap (λ n. filter (λ m. nat_lt s.taken m.at && nat_le m.at n) (calls_by events c)) e
     ∙ filter_same (λ m. nat_lt s.taken m.at && nat_le m.at (length events)) (λ m. nat_lt s.taken m.at) (calls_by events c) (each (calls_by events c) (calls_within c events))
@@ -126,18 +126,18 @@ calls_open c events s e =
     same : (t k n : ℕ) → k < 1 + n → (nat_lt t k && nat_le k n) ≡ nat_lt t k
     same t k n l = grind (arith, nat_tests)
 
-    each : (xs : List Made) → AllByRecursion (λ m. m.at < 1 + length events) xs → AllByRecursion (λ m. (nat_lt s.taken m.at && nat_le m.at (length events)) ≡ nat_lt s.taken m.at) xs
+    each : (xs : List StoreCall) → AllByRecursion (λ m. m.at < 1 + length events) xs → AllByRecursion (λ m. (nat_lt s.taken m.at && nat_le m.at (length events)) ≡ nat_lt s.taken m.at) xs
     each [] a = tt
     each (x ∷ xs) a = (same s.taken x.at (length events) a.0, each xs a.1)
 
-pub end_waiting : (events : List Event) (s : Said) → s.answer ≡ None → end_of events s ≡ length events
+pub end_waiting : (events : List Event) (s : Executed) → s.answer ≡ None → end_of events s ≡ length events
 end_waiting events s e = ap (λ o. if is_some o then s.reached else length events) e
 
-pub end_answered : (events : List Event) (s : Said) (a : Answer) → s.answer ≡ Some a → end_of events s ≡ s.reached
+pub end_answered : (events : List Event) (s : Executed) (a : Answer) → s.answer ≡ Some a → end_of events s ≡ s.reached
 end_answered events s a e = ap (λ o. if is_some o then s.reached else length events) e
 
 -- a call more of its client
-pub later_more : (c : ℕ) (events : List Event) (e : Event) (taken : ℕ) (m : Made) → taken ≤ length events → m.at ≡ 1 + length events → made_by c (1 + length events, e) ≡ Some m → later_calls (events ++ e ∷ []) c taken ≡ later_calls events c taken ++ m ∷ []
+pub later_more : (c : ℕ) (events : List Event) (e : Event) (taken : ℕ) (m : StoreCall) → taken ≤ length events → m.at ≡ 1 + length events → made_by c (1 + length events, e) ≡ Some m → later_calls (events ++ e ∷ []) c taken ≡ later_calls events c taken ++ m ∷ []
 later_more c events e taken m l n some =
     ap (filter (λ m. nat_lt taken m.at)) (one_made c events e m some)
     ∙ filter-append (λ m. nat_lt taken m.at) (calls_by events c) (m ∷ [])
@@ -149,11 +149,11 @@ later_more c events e taken m l n some =
 pub later_same : (c : ℕ) (events : List Event) (e : Event) (taken : ℕ) → made_by c (1 + length events, e) ≡ None → later_calls (events ++ e ∷ []) c taken ≡ later_calls events c taken
 later_same c events e taken none = ap (filter (λ m. nat_lt taken m.at)) (none_made c events e none)
 
-abbrev within_said : Said → Made → Bool
+abbrev within_said : Executed → StoreCall → Bool
 within_said s m = nat_lt s.taken m.at && nat_le m.at s.reached
 
 -- The calls of a statement that was answered stay.
-pub calls_stay : (c : ℕ) (events : List Event) (e : Event) (s : Said) (a : Answer) → s.answer ≡ Some a → s.reached ≤ length events → calls_of (events ++ e ∷ []) c s ≡ calls_of events c s
+pub calls_stay : (c : ℕ) (events : List Event) (e : Event) (s : Executed) (a : Answer) → s.answer ≡ Some a → s.reached ≤ length events → calls_of (events ++ e ∷ []) c s ≡ calls_of events c s
 calls_stay c events e s a is l =
     ap (λ n. filter (λ m. nat_lt s.taken m.at && nat_le m.at n) (calls_by (events ++ e ∷ []) c)) (end_answered (events ++ e ∷ []) s a is)
     ∙ by (made_by c (1 + length events, e)) refl
@@ -162,7 +162,7 @@ calls_stay c events e s a is l =
     past : (t k n a : ℕ) → a ≤ n → k ≡ 1 + n → (nat_lt t k && nat_le k a) ≡ false
     past t k n a l e = grind (arith, nat_tests)
 
-    by : (o : Option Made) → made_by c (1 + length events, e) ≡ o → filter (within_said s) (calls_by (events ++ e ∷ []) c) ≡ filter (within_said s) (calls_by events c)
+    by : (o : Option StoreCall) → made_by c (1 + length events, e) ≡ o → filter (within_said s) (calls_by (events ++ e ∷ []) c) ≡ filter (within_said s) (calls_by events c)
     by None k = ap (filter (within_said s)) (none_made c events e k)
     by (Some m) k =
         ap (filter (within_said s)) (one_made c events e m k)
@@ -171,8 +171,8 @@ calls_stay c events e s a is l =
         ∙ append-nil (filter (within_said s) (calls_by events c))
 
 -- each of them is within the events
-pub of_within : (c : ℕ) (events : List Event) (s : Said) (m : Made) → Contains (calls_of events c s) m → m.at ≤ length events
-of_within c events s m has = bound (each_in (λ (x : Made). x.at < 1 + length events) (calls_by events c) m (calls_within c events) (kept_in (λ (x : Made). nat_lt s.taken x.at && nat_le x.at (end_of events s)) (calls_by events c) m has))
+pub of_within : (c : ℕ) (events : List Event) (s : Executed) (m : StoreCall) → Contains (calls_of events c s) m → m.at ≤ length events
+of_within c events s m has = bound (each_in (λ (x : StoreCall). x.at < 1 + length events) (calls_by events c) m (calls_within c events) (kept_in (λ (x : StoreCall). nat_lt s.taken x.at && nat_le x.at (end_of events s)) (calls_by events c) m has))
   where
     bound : m.at < 1 + length events → m.at ≤ length events
     bound h = omega arith

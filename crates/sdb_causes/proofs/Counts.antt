@@ -26,9 +26,9 @@ use Rattle.sdb_record.specs.Coordinator.{decision_in, is_expired}
 use Rattle.sdb_record.specs.Meta.{is_unresolved}
 use Rattle.sdb_record.specs.Rolls.{is_tombstone}
 use Rattle.sdb_schema.specs.declared.table.Table.{Table}
-use Rattle.sdb_model.specs.Calls.{Made, is_removal, records_read}
+use Rattle.sdb_model.specs.Calls.{StoreCall, is_removal, records_read}
 use Rattle.sdb_model.specs.Counted.{IsReadCounted, IsVacuumCounted, removals_in, unresolved_in}
-use Rattle.sdb_model.specs.Noted.{reads_rows}
+use Rattle.sdb_model.specs.ReadSet.{reads_rows}
 use Rattle.sdb_phases.specs.declared.step.RecoverPhase.{RecoverPhase}
 use Rattle.sdb_phases.specs.declared.step.RecoverPhase.TheVariants as phase
 use Rattle.sdb_phases.specs.declared.step.RecoverStep.{RecoverStep}
@@ -37,40 +37,40 @@ use Rattle.sdb_phases.specs.Recover.{recover_next, recover_request_at, roll_to, 
 use Rattle.sdb_read.specs.Read.{Asking, Bad, Ended, Firm, Kind, Open, ReadStage, Resolving, answered, kind_of, read_pending_at, read_step, request_of, resolved, settle, settle_one}
 use Rattle.sdb_steps.proofs.InTables.{access_table}
 use Rattle.sdb_vacuum.specs.Vacuum as vacuum
-use Rattle.sdb_vacuum.specs.Vacuum.{First, Malformed, Nothing, Tombstone, Unresolved, VacuumAt, VacuumStage, first_of, first_one, going, goes_on, next_table, pending_at, removal_answered, spans_of, step_at, tombstone_or, whole}
-use Rattle.sdb_causes.specs.Counts.{ReadCounted, SweepCounted, opens, rest_at, rest_of_table}
+use Rattle.sdb_vacuum.specs.Vacuum.{First, Malformed, Nothing, Tombstone, Unresolved, VacuumAt, VacuumStage, first_of, first_one, next_of_row, with_call, next_table, pending_at, removal_answered, spans_of, step_at, tombstone_or, whole}
+use Rattle.sdb_causes.specs.Counts.{ReadCounted, VacuumIsCounted, opens, rest_at, rest_of_table}
 use Rattle.sdb_causes.proofs.ReadSteps.{IsDataTable, open_is}
 use Rattle.sdb_causes.proofs.Settling.{data_read}
 use Rattle.sdb_causes.proofs.SweepSteps.{SweepsData}
 
 ---- one call more
 
-pub calls_more : (calls : List Made) (m : Made) → length (calls ++ m ∷ []) ≡ length calls + 1
+pub calls_more : (calls : List StoreCall) (m : StoreCall) → length (calls ++ m ∷ []) ≡ length calls + 1
 calls_more calls m = length-append calls (m ∷ [])
 
 -- what its rows count for
-abbrev shown_by : Made → ℕ
+abbrev shown_by : StoreCall → ℕ
 shown_by m = if reads_rows m then opens (records_read m.reply) else 0
 
-pub opens_more : (calls : List Made) (m : Made) → length (unresolved_in (calls ++ m ∷ [])) ≡ length (unresolved_in calls) + shown_by m
+pub opens_more : (calls : List StoreCall) (m : StoreCall) → length (unresolved_in (calls ++ m ∷ [])) ≡ length (unresolved_in calls) + shown_by m
 opens_more calls m =
     ap (λ ms. length (filter is_unresolved (flat_map (λ x. records_read x.reply) ms))) (filter-append reads_rows calls (m ∷ []))
-    ∙ ap (λ rs. length (filter is_unresolved rs)) (flat_map-append (λ (x : Made). records_read x.reply) (filter reads_rows calls) (filter reads_rows (m ∷ [])))
+    ∙ ap (λ rs. length (filter is_unresolved rs)) (flat_map-append (λ (x : StoreCall). records_read x.reply) (filter reads_rows calls) (filter reads_rows (m ∷ [])))
     ∙ ap length (filter-append is_unresolved (flat_map (λ x. records_read x.reply) (filter reads_rows calls)) (flat_map (λ x. records_read x.reply) (filter reads_rows (m ∷ []))))
     ∙ length-append (unresolved_in calls) (filter is_unresolved (flat_map (λ x. records_read x.reply) (filter reads_rows (m ∷ []))))
     ∙ ap (λ n. length (unresolved_in calls) + n) (last (reads_rows m))
   where
-    last : (b : Bool) → length (filter is_unresolved (flat_map (λ (x : Made). records_read x.reply) (if b then m ∷ [] else []))) ≡ (if b then opens (records_read m.reply) else 0)
+    last : (b : Bool) → length (filter is_unresolved (flat_map (λ (x : StoreCall). records_read x.reply) (if b then m ∷ [] else []))) ≡ (if b then opens (records_read m.reply) else 0)
     last true = ap opens (append-nil (records_read m.reply))
     last false = refl
 
-found_fewer : (calls : List Made) (m : Made) → length (unresolved_in calls) ≤ length (unresolved_in (calls ++ m ∷ []))
+found_fewer : (calls : List StoreCall) (m : StoreCall) → length (unresolved_in calls) ≤ length (unresolved_in (calls ++ m ∷ []))
 found_fewer calls m = let e : length (unresolved_in (calls ++ m ∷ [])) ≡ length (unresolved_in calls) + shown_by m = opens_more calls m in omega arith
 
-removals_more : (calls : List Made) (m : Made) → removals_in (calls ++ m ∷ []) ≡ removals_in calls + cond (is_removal m.request) 1 0
-removals_more calls m = fold-append (λ a (x : Made). a + cond (is_removal x.request) 1 0) 0 calls (m ∷ [])
+removals_more : (calls : List StoreCall) (m : StoreCall) → removals_in (calls ++ m ∷ []) ≡ removals_in calls + cond (is_removal m.request) 1 0
+removals_more calls m = fold-append (λ a (x : StoreCall). a + cond (is_removal x.request) 1 0) 0 calls (m ∷ [])
 
-removed_fewer : (calls : List Made) (m : Made) → removals_in calls ≤ removals_in (calls ++ m ∷ [])
+removed_fewer : (calls : List StoreCall) (m : StoreCall) → removals_in calls ≤ removals_in (calls ++ m ∷ [])
 removed_fewer calls m = let e : removals_in (calls ++ m ∷ []) ≡ removals_in calls + cond (is_removal m.request) 1 0 = removals_more calls m in omega arith
 
 pub opens_first : (r : Record) (left : List Record) → opens left ≤ opens (r ∷ left)
@@ -147,7 +147,7 @@ pends_one rec meta phase.Ended q e = none_some q e
 
 ---- a read
 
-module _ (calls : List Made) (m : Made) where
+module _ (calls : List StoreCall) (m : StoreCall) where
   -- what is left fits the calls
   abbrev Fits : ℕ → List Record → Type 0
   Fits n left = length (calls ++ m ∷ []) + (n + 4 * opens left) ≤ 1 + 4 * length (unresolved_in (calls ++ m ∷ []))
@@ -236,7 +236,7 @@ module _ (calls : List Made) (m : Made) where
   read_enough q (Ended s) h e = none_some m.request e
 
 -- of one that waits they are
-pub read_so_far : (calls : List Made) (s : ReadStage) → ReadCounted calls s → IsReadCounted calls
+pub read_so_far : (calls : List StoreCall) (s : ReadStage) → ReadCounted calls s → IsReadCounted calls
 read_so_far calls Asking h = subst IsReadCounted (sym h) (omega arith)
 read_so_far calls (Resolving images rec meta p left) h = by (length calls) (rest_at p + 4 * opens left) (length (unresolved_in calls)) h
   where
@@ -283,13 +283,13 @@ next_light : (ss : List Span) (n : ℕ) → rest_of (next_table ss n).0 ≤ leng
 next_light [] n = omega arith
 next_light (s ∷ ss) n = omega arith
 
-going_light : (ss : List Span) (n : ℕ) (f : First) → rest_of (going ss n f).0 ≤ first_rest f + length ss
+going_light : (ss : List Span) (n : ℕ) (f : First) → rest_of (next_of_row ss n f).0 ≤ first_rest f + length ss
 going_light ss n Nothing = let h = next_light ss n in omega arith
 going_light ss n (Tombstone b left) = omega arith
 going_light ss n (Unresolved r meta left) = omega arith
 going_light ss n (Malformed key) = omega arith
 
-on_light : (ss : List Span) (n : ℕ) (left : List Record) → rest_of (going ss n (first_of left)).0 ≤ 5 * opens left + length ss
+on_light : (ss : List Span) (n : ℕ) (left : List Record) → rest_of (next_of_row ss n (first_of left)).0 ≤ 5 * opens left + length ss
 on_light ss n left = let h = going_light ss n (first_of left) in let k = first_light left in omega arith
 
 answered_light : (ss : List Span) (n : ℕ) (r : Reply) → rest_of (vacuum.answered ss n r).0 ≤ 5 * opens (records_read r) + length ss
@@ -303,7 +303,7 @@ answered_light ss n reply.NoMemory = omega arith
 image_light : (ss : List Span) (n : ℕ) (left : List Record) (b : Record) → rest_of (tombstone_or ss n left b).0 ≤ 5 * opens left + length ss
 image_light ss n left b = by (is_tombstone b)
   where
-    by : (t : Bool) → rest_of (if t then goes_on ss n (vacuum.Removing b left) else going ss n (first_of left)).0 ≤ 5 * opens left + length ss
+    by : (t : Bool) → rest_of (if t then with_call ss n (vacuum.Removing b left) else next_of_row ss n (first_of left)).0 ≤ 5 * opens left + length ss
     by true = omega arith
     by false = on_light ss n left
 
@@ -329,7 +329,7 @@ removes_it : (b : Record) (o : Option TxId) (q : Request) → option_map (λ id.
 removes_it b None q e = none_some q e
 removes_it b (Some id) q e = ap is_removal (sym (some_is (ask.DeleteIf b.key (condition.Version id state.Committed)) q e))
 
-module _ (catalog : List Table) (calls : List Made) (m : Made) where
+module _ (catalog : List Table) (calls : List StoreCall) (m : StoreCall) where
   abbrev Before : ℕ → Type 0
   Before left = LeavesAt (length calls) left (length catalog) (removals_in calls) (length (unresolved_in calls))
 
@@ -379,7 +379,7 @@ module _ (catalog : List Table) (calls : List Made) (m : Made) where
   step_counted ss n vacuum.Over now own h e = none_some m.request e
 
   -- whatever a reply leads to, the calls are counted
-  pub sweep_enough : (v : VacuumAt) → SweepCounted catalog calls v → pending_at v.stage ≡ Some m.request → IsVacuumCounted catalog (calls ++ m ∷ [])
+  pub sweep_enough : (v : VacuumAt) → VacuumIsCounted catalog calls v → pending_at v.stage ≡ Some m.request → IsVacuumCounted catalog (calls ++ m ∷ [])
   sweep_enough v h e = fits (by v.stage h e)
     where
       none_left : (n : ℕ) → 1 ≤ n → (t : ℕ) → 1 ≤ t + n
@@ -400,18 +400,18 @@ module _ (catalog : List Table) (calls : List Made) (m : Made) where
       by (vacuum.Removing b left) k f = one_delete (length v.spans + 5 * opens left) 0 (removes_it b _ m.request f) (omega arith) k
       by vacuum.Over k f = none_some m.request f
 
-  pub sweep_more : (v : VacuumAt) (now : ℤ) → SweepsData v.stage → SweepCounted catalog calls v → pending_at v.stage ≡ Some m.request → SweepCounted catalog (calls ++ m ∷ []) (step_at v.spans v.removed v.stage now m.reply).0
+  pub sweep_more : (v : VacuumAt) (now : ℤ) → SweepsData v.stage → VacuumIsCounted catalog calls v → pending_at v.stage ≡ Some m.request → VacuumIsCounted catalog (calls ++ m ∷ []) (step_at v.spans v.removed v.stage now m.reply).0
   sweep_more v now own h e = step_counted v.spans v.removed v.stage now own h e
 
 -- of one that waits they are
-pub sweep_so_far : (catalog : List Table) (calls : List Made) (v : VacuumAt) → SweepCounted catalog calls v → IsVacuumCounted catalog calls
+pub sweep_so_far : (catalog : List Table) (calls : List StoreCall) (v : VacuumAt) → VacuumIsCounted catalog calls v → IsVacuumCounted catalog calls
 sweep_so_far catalog calls v h = by (length calls) (length v.spans + rest_of_table v.stage) (length catalog + (removals_in calls + 5 * length (unresolved_in calls))) h
   where
     by : (a n b : ℕ) → a + n ≤ b → a ≤ b
     by a n b g = omega arith
 
 -- one that begins
-pub sweep_begins : (t : Table) (ts : List Table) → SweepCounted (t ∷ ts) [] (vacuum.begun (t ∷ ts))
+pub sweep_begins : (t : Table) (ts : List Table) → VacuumIsCounted (t ∷ ts) [] (vacuum.begun (t ∷ ts))
 sweep_begins t ts = by (length (spans_of ts)) (length ts) (length-map ts whole)
   where
     by : (a b : ℕ) → a ≡ b → 0 + (a + 1) ≤ suc b + (0 + 5 * 0)

@@ -16,10 +16,10 @@ use Rattle.sdb_model.specs.declared.script.Move.{Move}
 use Rattle.sdb_model.specs.declared.script.Move.TheVariants as move
 use Rattle.sdb_model.specs.declared.script.Script.{Script}
 use Rattle.sdb_model.specs.declared.script.ScriptClient.{ScriptClient}
-use Rattle.sdb_model.specs.Calls.{Made, calls_by, calls_of, end_of, made_by}
+use Rattle.sdb_model.specs.Calls.{StoreCall, calls_by, calls_of, end_of, made_by}
 use Rattle.sdb_model.specs.Counted.{is_seen}
-use Rattle.sdb_model.specs.Follows.{AreMoved, AreStepsOf, Follows, IsActed, IsCallOf, IsHowOfDiscard, IsHowOfLose, IsHowOfStep, IsMoved, IsRest, IsStep, IsTakeOf, has_work, is_pending}
-use Rattle.sdb_model.specs.Transactions.{Said}
+use Rattle.sdb_model.specs.Follows.{AreOfMoves, AreStepsOf, Follows, IsActed, IsCallOf, IsHowOfDiscard, IsHowOfLose, IsHowOfStep, IsOfMove, IsRest, IsStep, IsTakeOf, has_work, is_pending}
+use Rattle.sdb_model.specs.Transactions.{Executed}
 use Rattle.sdb_causes.specs.Counts.{SeenAreNoFaults}
 use Rattle.sdb_causes.specs.Rolled.{AnsweredWereSeen}
 use Rattle.sdb_causes.proofs.Lists.{kept_in}
@@ -92,33 +92,33 @@ rest_fits : (clients : List ScriptClient) (from : ℕ) (past es : List Event) �
 rest_fits clients from past [] h = tt
 rest_fits clients from past (e ∷ es) h = (step_fits clients h.0 IsHowOfStep fits_step past e h.2, rest_fits clients (h.0 + 1) (past ++ e ∷ []) es h.3)
 
-move_fits : (clients : List ScriptClient) (m : Move) (past es : List Event) → IsMoved clients m past es → AllByRecursion EventFits es
+move_fits : (clients : List ScriptClient) (m : Move) (past es : List Event) → IsOfMove clients m past es → AllByRecursion EventFits es
 move_fits clients (move.Act a) past es h = subst (AllByRecursion EventFits) (sym h.1) (acted_fits clients a past h.0 h.2, tt)
 move_fits clients (move.Repeat c times) past es h = steps_fit clients c past es h.1
 move_fits clients move.Rest past es h = rest_fits clients 1 past es h
 
-moves_fit : (clients : List ScriptClient) (ms : List Move) (past es : List Event) → AreMoved clients ms past es → AllByRecursion EventFits es
+moves_fit : (clients : List ScriptClient) (ms : List Move) (past es : List Event) → AreOfMoves clients ms past es → AllByRecursion EventFits es
 moves_fit clients [] past es h = subst (AllByRecursion EventFits) (sym h) tt
 moves_fit clients (m ∷ ms) past es h = subst (AllByRecursion EventFits) (sym h.2) (append_all EventFits h.0 h.1 (move_fits clients m past h.0 h.3) (moves_fit clients ms (past ++ h.0) h.1 h.4))
 
 ---- the calls among them
 
-event_made : (c n : ℕ) (e : Event) (m : Made) → EventFits e → made_by c (n, e) ≡ Some m → HowFits m.how m.reply
+event_made : (c n : ℕ) (e : Event) (m : StoreCall) → EventFits e → made_by c (n, e) ≡ Some m → HowFits m.how m.reply
 event_made c n (event.Take x text a) m fits made = none_some m made
 event_made c n (event.Call x store q how r a) m fits made = by (x == c) made
   where
     by : (t : Bool) → (if t then Some (record { at = n; store = store; request = q; how = how; reply = r }) else None) ≡ Some m → HowFits m.how m.reply
-    by true k = subst (λ (y : Made). HowFits y.how y.reply) (some_is _ m k) fits
+    by true k = subst (λ (y : StoreCall). HowFits y.how y.reply) (some_is _ m k) fits
     by false k = none_some m k
 event_made c n (event.Stop x) m fits made = none_some m made
 event_made c n (event.Clock moment) m fits made = none_some m made
 event_made c n (event.Idle x) m fits made = none_some m made
 
-calls_fit : (c n : ℕ) (es : List Event) (m : Made) → AllByRecursion EventFits es → Contains (filter_map (made_by c) (enumerate_from n es)) m → HowFits m.how m.reply
+calls_fit : (c n : ℕ) (es : List Event) (m : StoreCall) → AllByRecursion EventFits es → Contains (filter_map (made_by c) (enumerate_from n es)) m → HowFits m.how m.reply
 calls_fit c n [] m fits has = absurd (omega (arith, has.1))
 calls_fit c n (e ∷ es) m fits has = by (made_by c (n, e)) refl has (λ among. calls_fit c (n + 1) es m fits.1 among)
   where
-    by : (o : Option Made) → made_by c (n, e) ≡ o → Contains (cons_option o (filter_map (made_by c) (enumerate_from (n + 1) es))) m → (Contains (filter_map (made_by c) (enumerate_from (n + 1) es)) m → HowFits m.how m.reply) → HowFits m.how m.reply
+    by : (o : Option StoreCall) → made_by c (n, e) ≡ o → Contains (cons_option o (filter_map (made_by c) (enumerate_from (n + 1) es))) m → (Contains (filter_map (made_by c) (enumerate_from (n + 1) es)) m → HowFits m.how m.reply) → HowFits m.how m.reply
     by None k h later = later h
     by (Some x) k h later = first (one_of x m (filter_map (made_by c) (enumerate_from (n + 1) es)) h)
       where
@@ -126,8 +126,8 @@ calls_fit c n (e ∷ es) m fits has = by (made_by c (n, e)) refl has (λ among. 
         first (inl same) = event_made c n e m fits.0 (k ∙ ap Some same)
         first (inr among) = later among
 
-said_fit : (script : Script) (events : List Event) → Follows script events → (c : ℕ) (s : Said) (m : Made) → Contains (calls_of events c s) m → HowFits m.how m.reply
-said_fit script events follows c s m among = calls_fit c 1 events m (moves_fit script.clients script.moves [] events follows) (kept_in (λ (x : Made). nat_lt s.taken x.at && nat_le x.at (end_of events s)) (calls_by events c) m among)
+said_fit : (script : Script) (events : List Event) → Follows script events → (c : ℕ) (s : Executed) (m : StoreCall) → Contains (calls_of events c s) m → HowFits m.how m.reply
+said_fit script events follows c s m among = calls_fit c 1 events m (moves_fit script.clients script.moves [] events follows) (kept_in (λ (x : StoreCall). nat_lt s.taken x.at && nat_le x.at (end_of events s)) (calls_by events c) m among)
 
 pub seen_no_faults : (script : Script) (events : List Event) → Follows script events → SeenAreNoFaults events
 seen_no_faults script events follows c s m has among = (said_fit script events follows c s m among).0

@@ -23,12 +23,12 @@ use Rattle.sdb_record.specs.Among.{is_written, write_among}
 use Rattle.sdb_exec.proofs.Laid.{by_key}
 use Rattle.sdb_model.specs.Access.{in_access}
 use Rattle.sdb_model.specs.Exec.{row_of_entry}
-use Rattle.sdb_snapshot.specs.Noted.{Note, base_at, note_at}
+use Rattle.sdb_snapshot.specs.Reads.{ReadRecord, base_at, record_read_at}
 use Rattle.sdb_snapshot.specs.Rows.{row_found}
 use Rattle.sdb_snapshot.specs.Seen.{Seen, overlay, row_with, tables_seen}
 use Rattle.sdb_snapshot.specs.Written.{with_change_of, with_write, with_writes, write_of}
 use Rattle.sdb_snapshot.proofs.Shown.{get_seen}
-use Rattle.sdb_causes.specs.Filled.{records_noted}
+use Rattle.sdb_causes.specs.Filled.{records_read_in}
 use Rattle.sdb_causes.proofs.Lists.{each_kept}
 use Rattle.sdb_client.proofs.SeenRows.{none_below}
 
@@ -52,12 +52,12 @@ length_one (x ∷ xs) w = by (same_key w.key x.key) (length_one xs w)
     by false ih = one_up (length (with_write xs w)) (length xs) ih
 
 -- at most one key for each change
-pub length_all : (notes : List Note) (ws : List Write) (ks : List Keyed) → length (with_writes notes ws ks) ≤ length ws + length ks
-length_all notes ws [] = none (length ws)
+pub length_all : (read_set : List ReadRecord) (ws : List Write) (ks : List Keyed) → length (with_writes read_set ws ks) ≤ length ws + length ks
+length_all read_set ws [] = none (length ws)
   where
     none : (n : ℕ) → n ≤ n + 0
     none n = omega arith
-length_all notes ws (k ∷ ks) = both (length (with_writes notes (with_write ws (write_of notes k)) ks)) (length (with_write ws (write_of notes k))) (length ws) (length ks) (length_all notes (with_write ws (write_of notes k)) ks) (length_one ws (write_of notes k))
+length_all read_set ws (k ∷ ks) = both (length (with_writes read_set (with_write ws (write_of read_set k)) ks)) (length (with_write ws (write_of read_set k))) (length ws) (length ks) (length_all read_set (with_write ws (write_of read_set k)) ks) (length_one ws (write_of read_set k))
   where
     both : (a b c d : ℕ) → a ≤ b + d → b ≤ c + 1 → a ≤ c + suc d
     both a b c d l m = omega arith
@@ -99,11 +99,11 @@ written_now (x ∷ xs) w q = by_test (same_key w.key x.key) there (later (writte
 
 ---- the records noted whose keys aren't written
 
-abbrev is_left : List Write → Note → Bool
+abbrev is_left : List Write → ReadRecord → Bool
 is_left ws n = is_some n.1 && not (is_written ws n.0)
 
-abbrev left : List Note → List Write → ℕ
-left notes ws = count_by (is_left ws) notes
+abbrev left : List ReadRecord → List Write → ℕ
+left read_set ws = count_by (is_left ws) read_set
 
 abbrev one_if : Bool → ℕ
 one_if b = cond b 1 0
@@ -114,15 +114,15 @@ fewer true false true = omega arith
 fewer true false false = omega arith
 fewer false w s = omega arith
 
-left_one : (ws : List Write) (w : Write) (n : Note) → one_if (is_left (with_write ws w) n) ≤ one_if (is_left ws n)
+left_one : (ws : List Write) (w : Write) (n : ReadRecord) → one_if (is_left (with_write ws w) n) ≤ one_if (is_left ws n)
 left_one ws w n = subst (λ z. one_if (is_some n.1 && not z) ≤ one_if (is_left ws n)) (sym (written_now ws w n.0)) (fewer (is_some n.1) (is_written ws n.0) (same_key n.0 w.key))
 
 -- they only become fewer
-left_fewer : (notes : List Note) (ws : List Write) (w : Write) → left notes (with_write ws w) ≤ left notes ws
-left_fewer notes ws w = sum_by-le-sum_by (λ n. one_if (is_left (with_write ws w) n)) (λ n. one_if (is_left ws n)) notes (left_one ws w)
+left_fewer : (read_set : List ReadRecord) (ws : List Write) (w : Write) → left read_set (with_write ws w) ≤ left read_set ws
+left_fewer read_set ws w = sum_by-le-sum_by (λ n. one_if (is_left (with_write ws w) n)) (λ n. one_if (is_left ws n)) read_set (left_one ws w)
 
-left_all : (notes : List Note) (ws : List Write) → left notes ws ≤ records_noted notes
-left_all notes ws = sum_by-le-sum_by (λ n. one_if (is_left ws n)) (λ n. one_if (is_some n.1)) notes (λ n. by (is_some n.1) (is_written ws n.0))
+left_all : (read_set : List ReadRecord) (ws : List Write) → left read_set ws ≤ records_read_in read_set
+left_all read_set ws = sum_by-le-sum_by (λ n. one_if (is_left ws n)) (λ n. one_if (is_some n.1)) read_set (λ n. by (is_some n.1) (is_written ws n.0))
   where
     by : (b w : Bool) → one_if (b && not w) ≤ one_if b
     by true true = omega arith
@@ -130,12 +130,12 @@ left_all notes ws = sum_by-le-sum_by (λ n. one_if (is_left ws n)) (λ n. one_if
     by false w = omega arith
 
 -- and by one where a record was noted at the key
-left_less : (notes : List Note) (ws : List Write) (w : Write) → is_written ws w.key ≡ false → is_some (base_at notes w.key) ≡ true → left notes (with_write ws w) + 1 ≤ left notes ws
+left_less : (read_set : List ReadRecord) (ws : List Write) (w : Write) → is_written ws w.key ≡ false → is_some (base_at read_set w.key) ≡ true → left read_set (with_write ws w) + 1 ≤ left read_set ws
 left_less [] ws w f t = clash (sym t)
 left_less (e ∷ es) ws w f t = subst (λ n. n + 1 ≤ left (e ∷ es) ws) (sym (sum_by-cons (λ n. one_if (is_left (with_write ws w) n)) e es)) (subst (λ m. one_if (is_left (with_write ws w) e) + left es (with_write ws w) + 1 ≤ m) (sym (sum_by-cons (λ n. one_if (is_left ws n)) e es)) (by_test (same_key w.key e.0) here (there (λ n. left_less es ws w f n))))
   where
-    noted : (b : Bool) → same_key w.key e.0 ≡ b → is_some (option_and_then (λ (x : Option Record). x) (if b then Some e.1 else note_at es w.key)) ≡ true
-    noted b h = subst (λ z. is_some (option_and_then (λ (x : Option Record). x) (if z then Some e.1 else note_at es w.key)) ≡ true) h t
+    as_read : (b : Bool) → same_key w.key e.0 ≡ b → is_some (option_and_then (λ (x : Option Record). x) (if b then Some e.1 else record_read_at es w.key)) ≡ true
+    as_read b h = subst (λ z. is_some (option_and_then (λ (x : Option Record). x) (if z then Some e.1 else record_read_at es w.key)) ≡ true) h t
 
     at_first : (a b m n : ℕ) → a ≡ 0 → b ≡ 1 → m ≤ n → a + m + 1 ≤ b + n
     at_first a b m n x y l = omega arith
@@ -156,24 +156,24 @@ left_less (e ∷ es) ws w f t = subst (λ n. n + 1 ≤ left (e ∷ es) ws) (sym 
         let key : w.key ≡ e.0 = same_key_exact w.key e.0 s in
         at_first (one_if (is_left (with_write ws w) e)) (one_if (is_left ws e)) (left es (with_write ws w)) (left es ws)
         (ap (λ z. one_if (is_some e.1 && not z)) (written_now ws w e.0 ∙ ap (λ z. is_written ws e.0 || z) (subst (λ (z : Key). same_key z w.key ≡ true) key (subst (λ (z : Key). same_key w.key z ≡ true) (sym key) s)) ∙ or_true (is_written ws e.0)) ∙ ap one_if (and_none (is_some e.1)))
-        (ap (λ z. one_if (z && not (is_written ws e.0))) (noted true s) ∙ ap (λ z. one_if (not z)) (ap (is_written ws) (sym key) ∙ f))
+        (ap (λ z. one_if (z && not (is_written ws e.0))) (as_read true s) ∙ ap (λ z. one_if (not z)) (ap (is_written ws) (sym key) ∙ f))
         (left_fewer es ws w)
 
     there : (is_some (base_at es w.key) ≡ true → left es (with_write ws w) + 1 ≤ left es ws) → same_key w.key e.0 ≡ false → one_if (is_left (with_write ws w) e) + left es (with_write ws w) + 1 ≤ one_if (is_left ws e) + left es ws
-    there rest s = at_later (one_if (is_left (with_write ws w) e)) (one_if (is_left ws e)) (left es (with_write ws w)) (left es ws) (left_one ws w e) (rest (noted false s))
+    there rest s = at_later (one_if (is_left (with_write ws w) e)) (one_if (is_left ws e)) (left es (with_write ws w)) (left es ws) (left_one ws w e) (rest (as_read false s))
 
 ---- changes of keys that are written or were read with a record
 
-abbrev pub IsKnown : List Note → List Write → Key → Type 0
-IsKnown notes ws key = (is_written ws key ≡ true) ⊎ (is_some (base_at notes key) ≡ true)
+abbrev pub IsKnown : List ReadRecord → List Write → Key → Type 0
+IsKnown read_set ws key = (is_written ws key ≡ true) ⊎ (is_some (base_at read_set key) ≡ true)
 
-known_then : (notes : List Note) (ws : List Write) (w : Write) (key : Key) → IsKnown notes ws key → IsKnown notes (with_write ws w) key
-known_then notes ws w key (inl t) = inl (written_now ws w key ∙ ap (λ b. b || same_key key w.key) t)
-known_then notes ws w key (inr t) = inr t
+known_then : (read_set : List ReadRecord) (ws : List Write) (w : Write) (key : Key) → IsKnown read_set ws key → IsKnown read_set (with_write ws w) key
+known_then read_set ws w key (inl t) = inl (written_now ws w key ∙ ap (λ b. b || same_key key w.key) t)
+known_then read_set ws w key (inr t) = inr t
 
 -- for each key more one record less is left
-none_gained : (notes : List Note) (ws : List Write) (w : Write) → IsKnown notes ws w.key → length (with_write ws w) + left notes (with_write ws w) ≤ length ws + left notes ws
-none_gained notes ws w known = by_test (is_written ws w.key) there new
+none_gained : (read_set : List ReadRecord) (ws : List Write) (w : Write) → IsKnown read_set ws w.key → length (with_write ws w) + left read_set (with_write ws w) ≤ length ws + left read_set ws
+none_gained read_set ws w known = by_test (is_written ws w.key) there new
   where
     both : (a b m n : ℕ) → a ≤ b → m ≤ n → a + m ≤ b + n
     both a b m n x y = omega arith
@@ -181,33 +181,33 @@ none_gained notes ws w known = by_test (is_written ws w.key) there new
     moved : (a b m n : ℕ) → a ≤ b + 1 → m + 1 ≤ n → a + m ≤ b + n
     moved a b m n x y = omega arith
 
-    there : is_written ws w.key ≡ true → length (with_write ws w) + left notes (with_write ws w) ≤ length ws + left notes ws
-    there t = both (length (with_write ws w)) (length ws) (left notes (with_write ws w)) (left notes ws) (length_same ws w t) (left_fewer notes ws w)
+    there : is_written ws w.key ≡ true → length (with_write ws w) + left read_set (with_write ws w) ≤ length ws + left read_set ws
+    there t = both (length (with_write ws w)) (length ws) (left read_set (with_write ws w)) (left read_set ws) (length_same ws w t) (left_fewer read_set ws w)
 
-    noted : is_written ws w.key ≡ false → IsKnown notes ws w.key → is_some (base_at notes w.key) ≡ true
-    noted f (inl t) = clash (sym t ∙ f)
-    noted f (inr t) = t
+    as_read : is_written ws w.key ≡ false → IsKnown read_set ws w.key → is_some (base_at read_set w.key) ≡ true
+    as_read f (inl t) = clash (sym t ∙ f)
+    as_read f (inr t) = t
 
-    new : is_written ws w.key ≡ false → length (with_write ws w) + left notes (with_write ws w) ≤ length ws + left notes ws
-    new f = moved (length (with_write ws w)) (length ws) (left notes (with_write ws w)) (left notes ws) (length_one ws w) (left_less notes ws w f (noted f known))
+    new : is_written ws w.key ≡ false → length (with_write ws w) + left read_set (with_write ws w) ≤ length ws + left read_set ws
+    new f = moved (length (with_write ws w)) (length ws) (left read_set (with_write ws w)) (left read_set ws) (length_one ws w) (left_less read_set ws w f (as_read f known))
 
-known_all : (notes : List Note) (ws : List Write) (w : Write) (ks : List Keyed) → AllByRecursion (λ k. IsKnown notes ws k.key) ks → AllByRecursion (λ k. IsKnown notes (with_write ws w) k.key) ks
-known_all notes ws w [] all = tt
-known_all notes ws w (k ∷ ks) all = (known_then notes ws w k.key all.0, known_all notes ws w ks all.1)
+known_all : (read_set : List ReadRecord) (ws : List Write) (w : Write) (ks : List Keyed) → AllByRecursion (λ k. IsKnown read_set ws k.key) ks → AllByRecursion (λ k. IsKnown read_set (with_write ws w) k.key) ks
+known_all read_set ws w [] all = tt
+known_all read_set ws w (k ∷ ks) all = (known_then read_set ws w k.key all.0, known_all read_set ws w ks all.1)
 
-none_gained_all : (notes : List Note) (ws : List Write) (ks : List Keyed) → AllByRecursion (λ k. IsKnown notes ws k.key) ks → length (with_writes notes ws ks) + left notes (with_writes notes ws ks) ≤ length ws + left notes ws
-none_gained_all notes ws [] all = itself (length ws + left notes ws)
+none_gained_all : (read_set : List ReadRecord) (ws : List Write) (ks : List Keyed) → AllByRecursion (λ k. IsKnown read_set ws k.key) ks → length (with_writes read_set ws ks) + left read_set (with_writes read_set ws ks) ≤ length ws + left read_set ws
+none_gained_all read_set ws [] all = itself (length ws + left read_set ws)
   where
     itself : (n : ℕ) → n ≤ n
     itself n = omega arith
-none_gained_all notes ws (k ∷ ks) all = through (length (with_writes notes (with_write ws (write_of notes k)) ks) + left notes (with_writes notes (with_write ws (write_of notes k)) ks)) (length (with_write ws (write_of notes k)) + left notes (with_write ws (write_of notes k))) (length ws + left notes ws) (none_gained_all notes (with_write ws (write_of notes k)) ks (known_all notes ws (write_of notes k) ks all.1)) (none_gained notes ws (write_of notes k) all.0)
+none_gained_all read_set ws (k ∷ ks) all = through (length (with_writes read_set (with_write ws (write_of read_set k)) ks) + left read_set (with_writes read_set (with_write ws (write_of read_set k)) ks)) (length (with_write ws (write_of read_set k)) + left read_set (with_write ws (write_of read_set k))) (length ws + left read_set ws) (none_gained_all read_set (with_write ws (write_of read_set k)) ks (known_all read_set ws (write_of read_set k) ks all.1)) (none_gained read_set ws (write_of read_set k) all.0)
   where
     through : (a b c : ℕ) → a ≤ b → b ≤ c → a ≤ c
     through a b c l m = omega arith
 
 -- at most one key for each record noted
-pub known_few : (notes : List Note) (ws : List Write) (ks : List Keyed) → AllByRecursion (λ k. IsKnown notes ws k.key) ks → length (with_writes notes ws ks) ≤ length ws + records_noted notes
-known_few notes ws ks all = few (length (with_writes notes ws ks)) (left notes (with_writes notes ws ks)) (length ws) (left notes ws) (records_noted notes) (none_gained_all notes ws ks all) (left_all notes ws)
+pub known_few : (read_set : List ReadRecord) (ws : List Write) (ks : List Keyed) → AllByRecursion (λ k. IsKnown read_set ws k.key) ks → length (with_writes read_set ws ks) ≤ length ws + records_read_in read_set
+known_few read_set ws ks all = few (length (with_writes read_set ws ks)) (left read_set (with_writes read_set ws ks)) (length ws) (left read_set ws) (records_read_in read_set) (none_gained_all read_set ws ks all) (left_all read_set ws)
   where
     few : (a b c d e : ℕ) → a + b ≤ c + d → d ≤ e → a ≤ c + e
     few a b c d e l m = omega arith
@@ -228,15 +228,15 @@ found_all P (e ∷ es) h each =
         (λ t. found)
 
 -- each is of a key that is written, or was read with a record
-pub rows_known : (s : Seen) (a : Access) → AllByRecursion (λ (r : Image). IsKnown s.notes s.writes r.key) (overlay a s)
+pub rows_known : (s : Seen) (a : Access) → AllByRecursion (λ (r : Image). IsKnown s.read_set s.writes r.key) (overlay a s)
 rows_known s a =
-    each_kept (λ (r : Image). IsKnown s.notes s.writes r.key) (λ r. in_access a r.key) (map row_of_entry (entries (tables_seen s)))
-    (found_all (λ q cs. IsKnown s.notes s.writes q) (entries (tables_seen s)) (truth _ (entries_sorted (tables_seen s))) (λ q cs found. by q cs (write_among s.writes q) refl (sym (get_seen s.notes s.writes q) ∙ get-entries (tables_seen s) q ∙ found)))
+    each_kept (λ (r : Image). IsKnown s.read_set s.writes r.key) (λ r. in_access a r.key) (map row_of_entry (entries (tables_seen s)))
+    (found_all (λ q cs. IsKnown s.read_set s.writes q) (entries (tables_seen s)) (truth _ (entries_sorted (tables_seen s))) (λ q cs found. by q cs (write_among s.writes q) refl (sym (get_seen s.read_set s.writes q) ∙ get-entries (tables_seen s) q ∙ found)))
   where
-    noted : (o : Option Record) (cs : List Pair) → row_found o ≡ Some cs → is_some o ≡ true
-    noted None cs e = none_some cs e
-    noted (Some b) cs e = refl
+    as_read : (o : Option Record) (cs : List Pair) → row_found o ≡ Some cs → is_some o ≡ true
+    as_read None cs e = none_some cs e
+    as_read (Some b) cs e = refl
 
-    by : (q : Key) (cs : List Pair) (o : Option Write) → write_among s.writes q ≡ o → row_with (write_among s.writes q) (base_at s.notes q) ≡ Some cs → IsKnown s.notes s.writes q
+    by : (q : Key) (cs : List Pair) (o : Option Write) → write_among s.writes q ≡ o → row_with (write_among s.writes q) (base_at s.read_set q) ≡ Some cs → IsKnown s.read_set s.writes q
     by q cs (Some w) e h = inl (ap is_some e)
-    by q cs None e h = inr (noted (base_at s.notes q) cs (subst (λ o. row_with o (base_at s.notes q) ≡ Some cs) e h))
+    by q cs None e h = inr (as_read (base_at s.read_set q) cs (subst (λ o. row_with o (base_at s.read_set q) ≡ Some cs) e h))

@@ -21,27 +21,27 @@ use Rattle.sdb_model.specs.declared.answer.Answer.TheVariants as answer
 use Rattle.sdb_model.specs.declared.event.Event.{Event}
 use Rattle.sdb_model.specs.declared.statement.Statement.{Statement}
 use Rattle.sdb_model.specs.declared.statement.Statement.TheVariants as statement
-use Rattle.sdb_model.specs.Calls.{Made, calls_of, records_read}
+use Rattle.sdb_model.specs.Calls.{StoreCall, calls_of, records_read}
 use Rattle.sdb_model.specs.Causes.{may_pass, records_found, refused, rows_counted}
 use Rattle.sdb_model.specs.Exec.{key_of, passes, with_named, with_sets}
-use Rattle.sdb_model.specs.Noted.{reads_rows}
-use Rattle.sdb_model.specs.Noted.{has_finished, read_finished}
-use Rattle.sdb_model.specs.Transactions.{Said, changes_nothing, from_begin, is_effective, rest_of}
+use Rattle.sdb_model.specs.ReadSet.{reads_rows}
+use Rattle.sdb_model.specs.ReadSet.{has_finished, read_finished}
+use Rattle.sdb_model.specs.Transactions.{Executed, changes_nothing, from_begin, is_effective, rest_of}
 use Rattle.sdb_exec.specs.declared.plan.PlanStep.TheVariants.{Finished}
 use Rattle.sdb_exec.specs.Plans.{Planned, answer_on, changes_on, columns_at, finished, first_unfit, put_row, step_at, step_of}
 use Rattle.sdb_read.specs.Read.{request_of}
-use Rattle.sdb_snapshot.specs.Noted.{Note, is_noted, with_images, with_note}
+use Rattle.sdb_snapshot.specs.Reads.{ReadRecord, is_key_read, with_images, with_read_record}
 use Rattle.sdb_snapshot.specs.Seen.{Seen, nothing, overlay}
 use Rattle.sdb_snapshot.specs.Written.{with_writes}
 use Rattle.sdb_txn.specs.declared.txn.Doing.{Doing}
 use Rattle.sdb_txn.specs.declared.txn.Doing.TheVariants as doing
 use Rattle.sdb_txn.specs.Txn.{TxnAt}
-use Rattle.sdb_client.specs.Client.{given_answer, given_left, left_by_answer, noting, too_many, written}
+use Rattle.sdb_client.specs.Client.{given_answer, given_left, left_by_answer, with_rows_read, too_many, written}
 use Rattle.sdb_linked.proofs.Mild.{rows_finish}
 use Rattle.sdb_steps.proofs.Asked.{from_rows}
 use Rattle.sdb_steps.proofs.InTables.{access_table}
-use Rattle.sdb_causes.specs.Filled.{IsFilled, IsFilledBy, IsFilledIn, counted_told, found_told, records_noted}
-use Rattle.sdb_causes.specs.Moves.{HasRead}
+use Rattle.sdb_causes.specs.Filled.{IsFilled, IsFilledBy, IsFilledIn, rows_counted_by, records_found_by, records_read_in}
+use Rattle.sdb_causes.specs.Changes.{HasRead}
 use Rattle.sdb_causes.proofs.Filled.{IsKnown, known_few, length_all, rows_known}
 use Rattle.sdb_causes.proofs.Lists.{each_kept, since_more}
 use Rattle.sdb_causes.proofs.Passing.{found_grows, through, least, records_in, over_more}
@@ -56,7 +56,7 @@ further a b = omega arith
 
 -- with more counted and found
 pub filled_up : (a b x y : ℕ) (s : Seen) → a ≤ b → x ≤ y → IsFilledBy a x s → IsFilledBy b y s
-filled_up a b x y s l m h = record { writes = through (length s.writes) a b h.writes l; notes = through (records_noted s.notes) x y h.notes m }
+filled_up a b x y s l m h = record { writes = through (length s.writes) a b h.writes l; read_set = through (records_read_in s.read_set) x y h.read_set m }
 
 pub filled_few : (counted found own most : ℕ) (s : Seen) → own ≤ most → IsFilledBy counted (found + own) s → IsFilledBy counted (found + most) s
 filled_few counted found own most s few = filled_up counted counted (found + own) (found + most) s (least counted) (plus found own most few)
@@ -66,75 +66,75 @@ filled_few counted found own most s few = filled_up counted counted (found + own
 
 -- that of a transaction that begins
 pub filled_nothing : (a x : ℕ) → IsFilledBy a x nothing
-filled_nothing a x = record { writes = zero_least a; notes = zero_least x }
+filled_nothing a x = record { writes = zero_least a; read_set = zero_least x }
 
 ---- as events come
 
-found_stays : (events : List Event) (e : Event) (c : ℕ) (body : List Said) → found_told events c body ≤ found_told (events ++ e ∷ []) c body
+found_stays : (events : List Event) (e : Event) (c : ℕ) (body : List Executed) → records_found_by events c body ≤ records_found_by (events ++ e ∷ []) c body
 found_stays events e c body = sum_by-le-sum_by (λ b. records_found (calls_of events c b)) (λ b. records_found (calls_of (events ++ e ∷ []) c b)) (filter has_finished body) (found_grows c events e)
 
-in_stays : (events : List Event) (e : Event) (c : ℕ) (body : List Said) (s : Seen) (d : Doing) → IsFilledIn events c body s d → IsFilledIn (events ++ e ∷ []) c body s d
-in_stays events e c body s doing.Idle h = filled_up (counted_told body) (counted_told body) (found_told events c body) (found_told (events ++ e ∷ []) c body) s (least (counted_told body)) (found_stays events e c body) h
-in_stays events e c body s (doing.Read a x) h = filled_up (counted_told body) (counted_told body) (found_told events c body) (found_told (events ++ e ∷ []) c body) s (least (counted_told body)) (found_stays events e c body) h
+in_stays : (events : List Event) (e : Event) (c : ℕ) (body : List Executed) (s : Seen) (d : Doing) → IsFilledIn events c body s d → IsFilledIn (events ++ e ∷ []) c body s d
+in_stays events e c body s doing.Idle h = filled_up (rows_counted_by body) (rows_counted_by body) (records_found_by events c body) (records_found_by (events ++ e ∷ []) c body) s (least (rows_counted_by body)) (found_stays events e c body) h
+in_stays events e c body s (doing.Read a x) h = filled_up (rows_counted_by body) (rows_counted_by body) (records_found_by events c body) (records_found_by (events ++ e ∷ []) c body) s (least (rows_counted_by body)) (found_stays events e c body) h
 in_stays events e c body s (doing.Commit k) h = tt
-in_stays events e c body s doing.Over h = filled_up (counted_told body) (counted_told body) (found_told events c body) (found_told (events ++ e ∷ []) c body) s (least (counted_told body)) (found_stays events e c body) h
+in_stays events e c body s doing.Over h = filled_up (rows_counted_by body) (rows_counted_by body) (records_found_by events c body) (records_found_by (events ++ e ∷ []) c body) s (least (rows_counted_by body)) (found_stays events e c body) h
 
-pub filled_stays : (events : List Event) (e : Event) (c : ℕ) (body : List Said) (o : Option TxnAt) → IfSome o (IsFilled events c body) → IfSome o (IsFilled (events ++ e ∷ []) c body)
+pub filled_stays : (events : List Event) (e : Event) (c : ℕ) (body : List Executed) (o : Option TxnAt) → IfSome o (IsFilled events c body) → IfSome o (IsFilled (events ++ e ∷ []) c body)
 filled_stays events e c body None h = tt
 filled_stays events e c body (Some t) h = in_stays events e c body t.seen t.doing h
 
 -- with a statement more
-counted_more : (body : List Said) (s : Said) → counted_told (body ++ s ∷ []) ≡ counted_told body + counted_told (s ∷ [])
-counted_more body s = ap (sum_by (λ (b : Said). rows_counted b.answer)) (filter-append is_effective body (s ∷ [])) ∙ sum_by-append (λ (b : Said). rows_counted b.answer) (filter is_effective body) (filter is_effective (s ∷ []))
+counted_more : (body : List Executed) (s : Executed) → rows_counted_by (body ++ s ∷ []) ≡ rows_counted_by body + rows_counted_by (s ∷ [])
+counted_more body s = ap (sum_by (λ (b : Executed). rows_counted b.answer)) (filter-append is_effective body (s ∷ [])) ∙ sum_by-append (λ (b : Executed). rows_counted b.answer) (filter is_effective body) (filter is_effective (s ∷ []))
 
-found_more : (events : List Event) (c : ℕ) (body : List Said) (s : Said) → found_told events c (body ++ s ∷ []) ≡ found_told events c body + found_told events c (s ∷ [])
+found_more : (events : List Event) (c : ℕ) (body : List Executed) (s : Executed) → records_found_by events c (body ++ s ∷ []) ≡ records_found_by events c body + records_found_by events c (s ∷ [])
 found_more events c body s = ap (sum_by (λ b. records_found (calls_of events c b))) (filter-append has_finished body (s ∷ [])) ∙ sum_by-append (λ b. records_found (calls_of events c b)) (filter has_finished body) (filter has_finished (s ∷ []))
 
-pub filled_found : (events : List Event) (e : Event) (c : ℕ) (body : List Said) (own most : ℕ) (s : Seen) → own ≤ most → IsFilledBy (counted_told body) (found_told events c body + own) s → IsFilledBy (counted_told body) (found_told (events ++ e ∷ []) c body + most) s
-filled_found events e c body own most s few = filled_up (counted_told body) (counted_told body) (found_told events c body + own) (found_told (events ++ e ∷ []) c body + most) s (least (counted_told body)) (sums (found_told events c body) (found_told (events ++ e ∷ []) c body) own most (found_stays events e c body) few)
+pub filled_found : (events : List Event) (e : Event) (c : ℕ) (body : List Executed) (own most : ℕ) (s : Seen) → own ≤ most → IsFilledBy (rows_counted_by body) (records_found_by events c body + own) s → IsFilledBy (rows_counted_by body) (records_found_by (events ++ e ∷ []) c body + most) s
+filled_found events e c body own most s few = filled_up (rows_counted_by body) (rows_counted_by body) (records_found_by events c body + own) (records_found_by (events ++ e ∷ []) c body + most) s (least (rows_counted_by body)) (sums (records_found_by events c body) (records_found_by (events ++ e ∷ []) c body) own most (found_stays events e c body) few)
   where
     sums : (a b x y : ℕ) → a ≤ b → x ≤ y → a + x ≤ b + y
     sums a b x y l m = omega arith
 
-pub filled_more : (events : List Event) (e : Event) (c : ℕ) (body : List Said) (x : Said) (s : Seen) → IsFilledBy (counted_told body) (found_told events c body) s → IsFilledBy (counted_told (body ++ x ∷ [])) (found_told (events ++ e ∷ []) c (body ++ x ∷ [])) s
+pub filled_more : (events : List Event) (e : Event) (c : ℕ) (body : List Executed) (x : Executed) (s : Seen) → IsFilledBy (rows_counted_by body) (records_found_by events c body) s → IsFilledBy (rows_counted_by (body ++ x ∷ [])) (records_found_by (events ++ e ∷ []) c (body ++ x ∷ [])) s
 filled_more events e c body x s =
-    filled_up (counted_told body) (counted_told (body ++ x ∷ [])) (found_told events c body) (found_told (events ++ e ∷ []) c (body ++ x ∷ [])) s
-    (subst (λ n. counted_told body ≤ n) (sym (counted_more body x)) (further (counted_told body) (counted_told (x ∷ []))))
-    (subst (λ n. found_told events c body ≤ n) (sym (found_more (events ++ e ∷ []) c body x)) (through (found_told events c body) (found_told (events ++ e ∷ []) c body) (found_told (events ++ e ∷ []) c body + found_told (events ++ e ∷ []) c (x ∷ [])) (found_stays events e c body) (further (found_told (events ++ e ∷ []) c body) (found_told (events ++ e ∷ []) c (x ∷ [])))))
+    filled_up (rows_counted_by body) (rows_counted_by (body ++ x ∷ [])) (records_found_by events c body) (records_found_by (events ++ e ∷ []) c (body ++ x ∷ [])) s
+    (subst (λ n. rows_counted_by body ≤ n) (sym (counted_more body x)) (further (rows_counted_by body) (rows_counted_by (x ∷ []))))
+    (subst (λ n. records_found_by events c body ≤ n) (sym (found_more (events ++ e ∷ []) c body x)) (through (records_found_by events c body) (records_found_by (events ++ e ∷ []) c body) (records_found_by (events ++ e ∷ []) c body + records_found_by (events ++ e ∷ []) c (x ∷ [])) (found_stays events e c body) (further (records_found_by (events ++ e ∷ []) c body) (records_found_by (events ++ e ∷ []) c (x ∷ [])))))
 
 -- of a transaction that does nothing
-pub filled_idle : (events : List Event) (c n : ℕ) (told : List Said) (s begin : Said) (body : List Said) (t : TxnAt) → from_begin n told ≡ begin ∷ body → t.doing ≡ doing.Idle → IsFilledBy (counted_told (body ++ s ∷ [])) (found_told events c (body ++ s ∷ [])) t.seen → IsFilled events c (rest_of (from_begin n (told ++ s ∷ []))) t
+pub filled_idle : (events : List Event) (c n : ℕ) (told : List Executed) (s begin : Executed) (body : List Executed) (t : TxnAt) → from_begin n told ≡ begin ∷ body → t.doing ≡ doing.Idle → IsFilledBy (rows_counted_by (body ++ s ∷ [])) (records_found_by events c (body ++ s ∷ [])) t.seen → IsFilled events c (rest_of (from_begin n (told ++ s ∷ []))) t
 filled_idle events c n told s begin body t since idle h =
     subst (λ r. IsFilledIn events c (rest_of r) t.seen t.doing) (sym (since_more n told s begin body since)) (subst (IsFilledIn events c (body ++ s ∷ []) t.seen) (sym idle) h)
 
 ---- what a read notes
 
-abbrev counts : Note → ℕ
+abbrev counts : ReadRecord → ℕ
 counts m = cond (is_some m.1) 1 0
 
 -- one note more
-last_noted : (notes : List Note) (n : Note) → records_noted (notes ++ n ∷ []) ≤ records_noted notes + cond (is_some n.1) 1 0
-last_noted notes n = subst (λ k. k ≤ records_noted notes + cond (is_some n.1) 1 0) (sym (sum_by-append counts notes (n ∷ []) ∙ ap (λ k. records_noted notes + k) (sum_by-cons counts n []))) (only (records_noted notes) (cond (is_some n.1) 1 0))
+last_noted : (read_set : List ReadRecord) (n : ReadRecord) → records_read_in (read_set ++ n ∷ []) ≤ records_read_in read_set + cond (is_some n.1) 1 0
+last_noted read_set n = subst (λ k. k ≤ records_read_in read_set + cond (is_some n.1) 1 0) (sym (sum_by-append counts read_set (n ∷ []) ∙ ap (λ k. records_read_in read_set + k) (sum_by-cons counts n []))) (only (records_read_in read_set) (cond (is_some n.1) 1 0))
   where
     only : (a b : ℕ) → a + (b + 0) ≤ a + b
     only a b = omega arith
 
-noted_one : (notes : List Note) (r : Record) → records_noted (with_note notes r.key (Some r)) ≤ records_noted notes + 1
-noted_one notes r = by (is_noted notes r.key)
+noted_one : (read_set : List ReadRecord) (r : Record) → records_read_in (with_read_record read_set r.key (Some r)) ≤ records_read_in read_set + 1
+noted_one read_set r = by (is_key_read read_set r.key)
   where
-    by : (b : Bool) → records_noted (if b then notes else notes ++ (r.key, Some r) ∷ []) ≤ records_noted notes + 1
-    by true = further (records_noted notes) 1
-    by false = last_noted notes (r.key, Some r)
+    by : (b : Bool) → records_read_in (if b then read_set else read_set ++ (r.key, Some r) ∷ []) ≤ records_read_in read_set + 1
+    by true = further (records_read_in read_set) 1
+    by false = last_noted read_set (r.key, Some r)
 
-noted_all : (notes : List Note) (images : List Record) → records_noted (with_images notes images) ≤ records_noted notes + length images
-noted_all notes [] = further (records_noted notes) 0
-noted_all notes (r ∷ rs) = both (records_noted (with_images (with_note notes r.key (Some r)) rs)) (records_noted (with_note notes r.key (Some r))) (records_noted notes) (length rs) (noted_all (with_note notes r.key (Some r)) rs) (noted_one notes r)
+noted_all : (read_set : List ReadRecord) (images : List Record) → records_read_in (with_images read_set images) ≤ records_read_in read_set + length images
+noted_all read_set [] = further (records_read_in read_set) 0
+noted_all read_set (r ∷ rs) = both (records_read_in (with_images (with_read_record read_set r.key (Some r)) rs)) (records_read_in (with_read_record read_set r.key (Some r))) (records_read_in read_set) (length rs) (noted_all (with_read_record read_set r.key (Some r)) rs) (noted_one read_set r)
   where
     both : (a b c d : ℕ) → a ≤ b + d → b ≤ c + 1 → a ≤ c + suc d
     both a b c d l m = omega arith
 
-pub filled_noting : (counted found : ℕ) (t : TxnAt) (a : Access) (images : List Record) → IsFilledBy counted found t.seen → IsFilledBy counted (found + length images) (noting t a images).seen
-filled_noting counted found t (access.Get key) images h = record { writes = h.writes; notes = by images }
+pub filled_noting : (counted found : ℕ) (t : TxnAt) (a : Access) (images : List Record) → IsFilledBy counted found t.seen → IsFilledBy counted (found + length images) (with_rows_read t a images).seen
+filled_noting counted found t (access.Get key) images h = record { writes = h.writes; read_set = by images }
   where
     within : (a b x y f : ℕ) → a ≤ b + x → b ≤ f → x ≤ y → a ≤ f + y
     within a b x y f k l m = omega arith
@@ -146,15 +146,15 @@ filled_noting counted found t (access.Get key) images h = record { writes = h.wr
     few [] = least 0
     few (r ∷ rs) = one_least (length rs)
 
-    by : (rs : List Record) → records_noted (t.seen.notes ++ (key, slice_get rs 0) ∷ []) ≤ found + length rs
-    by rs = within (records_noted (t.seen.notes ++ (key, slice_get rs 0) ∷ [])) (records_noted t.seen.notes) (cond (is_some (slice_get rs 0)) 1 0) (length rs) found (last_noted t.seen.notes (key, slice_get rs 0)) h.notes (few rs)
-filled_noting counted found t (access.Scan span) images h = record { writes = h.writes; notes = within (records_noted (with_images t.seen.notes images)) (records_noted t.seen.notes) (length images) found (noted_all t.seen.notes images) h.notes }
+    by : (rs : List Record) → records_read_in (t.seen.read_set ++ (key, slice_get rs 0) ∷ []) ≤ found + length rs
+    by rs = within (records_read_in (t.seen.read_set ++ (key, slice_get rs 0) ∷ [])) (records_read_in t.seen.read_set) (cond (is_some (slice_get rs 0)) 1 0) (length rs) found (last_noted t.seen.read_set (key, slice_get rs 0)) h.read_set (few rs)
+filled_noting counted found t (access.Scan span) images h = record { writes = h.writes; read_set = within (records_read_in (with_images t.seen.read_set images)) (records_read_in t.seen.read_set) (length images) found (noted_all t.seen.read_set images) h.read_set }
   where
     within : (a b x f : ℕ) → a ≤ b + x → b ≤ f → a ≤ f + x
     within a b x f k l = omega arith
 
 -- a read has no more images than records were found
-pub images_few : (a : Access) (calls : List Made) (images : List Record) → HasRead (request_of a) calls images [] → IsDataTable (access_table a) → length images ≤ records_found calls
+pub images_few : (a : Access) (calls : List StoreCall) (images : List Record) → HasRead (request_of a) calls images [] → IsDataTable (access_table a) → length images ≤ records_found calls
 images_few a calls images h is =
     subst (λ (rs : List Record). length rs ≤ records_found calls) (sym h.images_are)
     (through (length (filter_map (λ (e : Record × Option Record). e.1) h.steps)) (length h.steps) (records_found calls) (fewer h.steps)
@@ -213,7 +213,7 @@ module _ (counted found own : ℕ) (was v : TxnAt) (before : IsFilledBy counted 
   as_read = filled_up counted (counted + 0) (found + own) (found + own) v.seen (further counted 0) (least (found + own)) now
 
   with_changes : (b : Answer) (ks : List Keyed) → length ks ≤ rows_counted (Some b) → IsFilledBy (counted + rows_counted (Some b)) (found + own) (written v ks).seen
-  with_changes b ks few = record { writes = within (length (with_writes v.seen.notes v.seen.writes ks)) (length v.seen.writes) (length ks) counted (rows_counted (Some b)) (length_all v.seen.notes v.seen.writes ks) now.writes few; notes = now.notes }
+  with_changes b ks few = record { writes = within (length (with_writes v.seen.read_set v.seen.writes ks)) (length v.seen.writes) (length ks) counted (rows_counted (Some b)) (length_all v.seen.read_set v.seen.writes ks) now.writes few; read_set = now.read_set }
     where
       within : (a b x f y : ℕ) → a ≤ b + x → b ≤ f → x ≤ y → a ≤ f + y
       within a b x f y k l m = omega arith
@@ -243,7 +243,7 @@ module _ (counted found own : ℕ) (was v : TxnAt) (before : IsFilledBy counted 
       by_asked true = by_unfit (first_unfit p.table rows)
 
 -- what is said of a statement counts where a test takes it
-one_taken : (t : Said → Bool) (f : Said → ℕ) (s : Said) (b : Bool) (n : ℕ) → t s ≡ not b → n ≤ f s → unless b n ≤ sum_by f (filter t (s ∷ []))
+one_taken : (t : Executed → Bool) (f : Executed → ℕ) (s : Executed) (b : Bool) (n : ℕ) → t s ≡ not b → n ≤ f s → unless b n ≤ sum_by f (filter t (s ∷ []))
 one_taken t f s b n is few = subst (λ z. unless b n ≤ sum_by f (if z then s ∷ [] else [])) (sym is) (by b)
   where
     within : (k : ℕ) → n ≤ k → n ≤ k + 0
@@ -253,10 +253,10 @@ one_taken t f s b n is few = subst (λ z. unless b n ≤ sum_by f (if z then s �
     by true = least 0
     by false = subst (λ k. n ≤ k) (sym (sum_by-cons f s [])) (within (f s) few)
 
-effective_is : (s : Said) (b : Answer) → s.answer ≡ Some b → is_effective s ≡ not (changes_nothing b)
+effective_is : (s : Executed) (b : Answer) → s.answer ≡ Some b → is_effective s ≡ not (changes_nothing b)
 effective_is s b is = ap (λ (o : Option Answer). not (option_map_or changes_nothing o false)) is
 
-finished_is : (s : Said) (b : Answer) → s.answer ≡ Some b → has_finished s ≡ not (not (read_finished b))
+finished_is : (s : Executed) (b : Answer) → s.answer ≡ Some b → has_finished s ≡ not (not (read_finished b))
 finished_is s b is = ap (λ (o : Option Answer). option_map_or read_finished o false) is ∙ twice (read_finished b)
   where
     twice : (f : Bool) → f ≡ not (not f)
@@ -264,37 +264,37 @@ finished_is s b is = ap (λ (o : Option Answer). option_map_or read_finished o f
     twice false = refl
 
 -- what a statement's plan leaves, with the statement
-pub filled_given : (events : List Event) (e : Event) (c : ℕ) (body : List Said) (s : Said) (p : Planned) (rows : List Image) (was v : TxnAt) (own : ℕ) → s.answer ≡ Some (given_answer v (step_of p rows)) → own ≤ records_found (calls_of (events ++ e ∷ []) c s) → IsFilledBy (counted_told body) (found_told events c body) was.seen
-    → IsFilledBy (counted_told body) (found_told events c body + own) v.seen → IsFilledBy (counted_told (body ++ s ∷ [])) (found_told (events ++ e ∷ []) c (body ++ s ∷ [])) (given_left was v (step_of p rows)).seen
+pub filled_given : (events : List Event) (e : Event) (c : ℕ) (body : List Executed) (s : Executed) (p : Planned) (rows : List Image) (was v : TxnAt) (own : ℕ) → s.answer ≡ Some (given_answer v (step_of p rows)) → own ≤ records_found (calls_of (events ++ e ∷ []) c s) → IsFilledBy (rows_counted_by body) (records_found_by events c body) was.seen
+    → IsFilledBy (rows_counted_by body) (records_found_by events c body + own) v.seen → IsFilledBy (rows_counted_by (body ++ s ∷ [])) (records_found_by (events ++ e ∷ []) c (body ++ s ∷ [])) (given_left was v (step_of p rows)).seen
 filled_given events e c body s p rows was v own is few before now =
-    filled_up (counted_told body + unless (changes_nothing (given_answer v (step_of p rows))) (rows_counted (Some (given_answer v (step_of p rows))))) (counted_told (body ++ s ∷ [])) (found_told events c body + unless (not (read_finished (given_answer v (step_of p rows)))) own) (found_told (events ++ e ∷ []) c (body ++ s ∷ [])) (given_left was v (step_of p rows)).seen
-    (subst (λ n. counted_told body + unless (changes_nothing (given_answer v (step_of p rows))) (rows_counted (Some (given_answer v (step_of p rows)))) ≤ n) (sym (counted_more body s)) (sums (counted_told body) (counted_told body) (unless (changes_nothing (given_answer v (step_of p rows))) (rows_counted (Some (given_answer v (step_of p rows))))) (counted_told (s ∷ [])) (least (counted_told body)) (one_taken is_effective (λ x. rows_counted x.answer) s (changes_nothing (given_answer v (step_of p rows))) (rows_counted (Some (given_answer v (step_of p rows)))) (effective_is s (given_answer v (step_of p rows)) is) (subst (λ o. rows_counted (Some (given_answer v (step_of p rows))) ≤ rows_counted o) (sym is) (least (rows_counted (Some (given_answer v (step_of p rows)))))))))
-    (subst (λ n. found_told events c body + unless (not (read_finished (given_answer v (step_of p rows)))) own ≤ n) (sym (found_more (events ++ e ∷ []) c body s)) (sums (found_told events c body) (found_told (events ++ e ∷ []) c body) (unless (not (read_finished (given_answer v (step_of p rows)))) own) (found_told (events ++ e ∷ []) c (s ∷ [])) (found_stays events e c body) (one_taken has_finished (λ x. records_found (calls_of (events ++ e ∷ []) c x)) s (not (read_finished (given_answer v (step_of p rows)))) own (finished_is s (given_answer v (step_of p rows)) is) few)))
-    (given_left_by (counted_told body) (found_told events c body) own was v before now p rows)
+    filled_up (rows_counted_by body + unless (changes_nothing (given_answer v (step_of p rows))) (rows_counted (Some (given_answer v (step_of p rows))))) (rows_counted_by (body ++ s ∷ [])) (records_found_by events c body + unless (not (read_finished (given_answer v (step_of p rows)))) own) (records_found_by (events ++ e ∷ []) c (body ++ s ∷ [])) (given_left was v (step_of p rows)).seen
+    (subst (λ n. rows_counted_by body + unless (changes_nothing (given_answer v (step_of p rows))) (rows_counted (Some (given_answer v (step_of p rows)))) ≤ n) (sym (counted_more body s)) (sums (rows_counted_by body) (rows_counted_by body) (unless (changes_nothing (given_answer v (step_of p rows))) (rows_counted (Some (given_answer v (step_of p rows))))) (rows_counted_by (s ∷ [])) (least (rows_counted_by body)) (one_taken is_effective (λ x. rows_counted x.answer) s (changes_nothing (given_answer v (step_of p rows))) (rows_counted (Some (given_answer v (step_of p rows)))) (effective_is s (given_answer v (step_of p rows)) is) (subst (λ o. rows_counted (Some (given_answer v (step_of p rows))) ≤ rows_counted o) (sym is) (least (rows_counted (Some (given_answer v (step_of p rows)))))))))
+    (subst (λ n. records_found_by events c body + unless (not (read_finished (given_answer v (step_of p rows)))) own ≤ n) (sym (found_more (events ++ e ∷ []) c body s)) (sums (records_found_by events c body) (records_found_by (events ++ e ∷ []) c body) (unless (not (read_finished (given_answer v (step_of p rows)))) own) (records_found_by (events ++ e ∷ []) c (s ∷ [])) (found_stays events e c body) (one_taken has_finished (λ x. records_found (calls_of (events ++ e ∷ []) c x)) s (not (read_finished (given_answer v (step_of p rows)))) own (finished_is s (given_answer v (step_of p rows)) is) few)))
+    (given_left_by (rows_counted_by body) (records_found_by events c body) own was v before now p rows)
   where
     sums : (a b x y : ℕ) → a ≤ b → x ≤ y → a + x ≤ b + y
     sums a b x y l m = omega arith
 
 ---- where the changes are too many
 
-too_is : (t : TxnAt) (ks : List Keyed) → too_many t ks ≡ true → nat_lt 4096 (length (with_writes t.seen.notes t.seen.writes ks)) ≡ true
+too_is : (t : TxnAt) (ks : List Keyed) → too_many t ks ≡ true → nat_lt 4096 (length (with_writes t.seen.read_set t.seen.writes ks)) ≡ true
 too_is t [] h = clash (sym h)
 too_is t (k ∷ ks) h = h
 
-known_changes : (notes : List Note) (ws : List Write) (f : Image → Keyed) → ((r : Image) → (f r).key ≡ r.key) → (rs : List Image) → AllByRecursion (λ (r : Image). IsKnown notes ws r.key) rs → AllByRecursion (λ (k : Keyed). IsKnown notes ws k.key) (map f rs)
-known_changes notes ws f same [] all = tt
-known_changes notes ws f same (r ∷ rs) all = (subst (IsKnown notes ws) (sym (same r)) all.0, known_changes notes ws f same rs all.1)
+known_changes : (read_set : List ReadRecord) (ws : List Write) (f : Image → Keyed) → ((r : Image) → (f r).key ≡ r.key) → (rs : List Image) → AllByRecursion (λ (r : Image). IsKnown read_set ws r.key) rs → AllByRecursion (λ (k : Keyed). IsKnown read_set ws k.key) (map f rs)
+known_changes read_set ws f same [] all = tt
+known_changes read_set ws f same (r ∷ rs) all = (subst (IsKnown read_set ws) (sym (same r)) all.0, known_changes read_set ws f same rs all.1)
 
 -- one key more
 one_passes : (counted found : ℕ) (v : TxnAt) (k : Keyed) → IsFilledBy counted found v.seen → too_many v (k ∷ []) ≡ true → nat_lt 4096 (counted + 1) ≡ true
-one_passes counted found v k h many = over_more (length (with_writes v.seen.notes v.seen.writes (k ∷ []))) (counted + 1) (within (length (with_writes v.seen.notes v.seen.writes (k ∷ []))) (length v.seen.writes) counted (length_all v.seen.notes v.seen.writes (k ∷ [])) h.writes) many
+one_passes counted found v k h many = over_more (length (with_writes v.seen.read_set v.seen.writes (k ∷ []))) (counted + 1) (within (length (with_writes v.seen.read_set v.seen.writes (k ∷ []))) (length v.seen.writes) counted (length_all v.seen.read_set v.seen.writes (k ∷ [])) h.writes) many
   where
     within : (a b f : ℕ) → a ≤ b + 1 → b ≤ f → a ≤ f + 1
     within a b f k l = omega arith
 
 -- those of rows that are seen
-rows_pass : (counted found : ℕ) (v : TxnAt) (ks : List Keyed) → IsFilledBy counted found v.seen → AllByRecursion (λ (k : Keyed). IsKnown v.seen.notes v.seen.writes k.key) ks → too_many v ks ≡ true → nat_lt 4096 (counted + found) ≡ true
-rows_pass counted found v ks h known many = over_more (length (with_writes v.seen.notes v.seen.writes ks)) (counted + found) (within (length (with_writes v.seen.notes v.seen.writes ks)) (length v.seen.writes) (records_noted v.seen.notes) counted found (known_few v.seen.notes v.seen.writes ks known) h.writes h.notes) (too_is v ks many)
+rows_pass : (counted found : ℕ) (v : TxnAt) (ks : List Keyed) → IsFilledBy counted found v.seen → AllByRecursion (λ (k : Keyed). IsKnown v.seen.read_set v.seen.writes k.key) ks → too_many v ks ≡ true → nat_lt 4096 (counted + found) ≡ true
+rows_pass counted found v ks h known many = over_more (length (with_writes v.seen.read_set v.seen.writes ks)) (counted + found) (within (length (with_writes v.seen.read_set v.seen.writes ks)) (length v.seen.writes) (records_read_in v.seen.read_set) counted found (known_few v.seen.read_set v.seen.writes ks known) h.writes h.read_set) (too_is v ks many)
   where
     within : (a b x f y : ℕ) → a ≤ b + x → b ≤ f → x ≤ y → a ≤ f + y
     within a b x f y k l m = omega arith
@@ -308,10 +308,10 @@ passes_given counted found v a t (statement.Insert s) h many = by (is_some (colu
 passes_given counted found v a t (statement.Upsert s) h many = one_passes counted found v (put_row (key_of t s) (with_named t s.columns s.values (unwrap_or (columns_at (key_of t s) (overlay a v.seen)) []))) h many
 passes_given counted found v a t (statement.Update s) h many =
     rows_pass counted found v (changes_on t (statement.Update s) (overlay a v.seen)) h
-    (known_changes v.seen.notes v.seen.writes (λ r. record { key = r.key; change = change.Row (with_sets t s.sets r.columns) }) (λ r. refl) (filter (passes t s.tests) (overlay a v.seen)) (each_kept (λ (r : Image). IsKnown v.seen.notes v.seen.writes r.key) (passes t s.tests) (overlay a v.seen) (rows_known v.seen a))) many
+    (known_changes v.seen.read_set v.seen.writes (λ r. record { key = r.key; change = change.Row (with_sets t s.sets r.columns) }) (λ r. refl) (filter (passes t s.tests) (overlay a v.seen)) (each_kept (λ (r : Image). IsKnown v.seen.read_set v.seen.writes r.key) (passes t s.tests) (overlay a v.seen) (rows_known v.seen a))) many
 passes_given counted found v a t (statement.Delete s) h many =
     rows_pass counted found v (changes_on t (statement.Delete s) (overlay a v.seen)) h
-    (known_changes v.seen.notes v.seen.writes (λ r. record { key = r.key; change = change.Delete }) (λ r. refl) (filter (passes t s.tests) (overlay a v.seen)) (each_kept (λ (r : Image). IsKnown v.seen.notes v.seen.writes r.key) (passes t s.tests) (overlay a v.seen) (rows_known v.seen a))) many
+    (known_changes v.seen.read_set v.seen.writes (λ r. record { key = r.key; change = change.Delete }) (λ r. refl) (filter (passes t s.tests) (overlay a v.seen)) (each_kept (λ (r : Image). IsKnown v.seen.read_set v.seen.writes r.key) (passes t s.tests) (overlay a v.seen) (rows_known v.seen a))) many
 passes_given counted found v a t (statement.Select s) h many = clash (sym many)
 passes_given counted found v a t statement.Begin h many = clash (sym many)
 passes_given counted found v a t statement.Commit h many = clash (sym many)

@@ -26,8 +26,8 @@ use Rattle.sdb_model.specs.declared.statement.Statement.TheVariants as statement
 use Rattle.sdb_model.specs.Causes.{IsBadRecord, IsCaused, MayPassMost, before, is_open, refused}
 use Rattle.sdb_model.specs.Exec.{all_rows, key_of, named_table}
 use Rattle.sdb_model.specs.Sql.{Reads}
-use Rattle.sdb_model.specs.Noted.{read_finished}
-use Rattle.sdb_model.specs.Transactions.{Said, changes_nothing, is_answered_from_rows, is_conflict, is_done}
+use Rattle.sdb_model.specs.ReadSet.{read_finished}
+use Rattle.sdb_model.specs.Transactions.{Executed, changes_nothing, is_answered_from_rows, is_conflict, is_done}
 use Rattle.sdb_linked.proofs.Mild.{rows_finish}
 use Rattle.sdb_exec.specs.declared.plan.PlanStep.{PlanStep}
 use Rattle.sdb_exec.specs.declared.plan.PlanStep.TheVariants.{Finished, Read as Wants}
@@ -38,7 +38,7 @@ use Rattle.sdb_steps.proofs.Asked.{from_rows}
 use Rattle.sdb_types.proofs.Basics.{clash, none_some, some_is}
 
 -- what a statement is answered on rows has its cause
-on_rows : (catalog : List Table) (events : List Event) (c : ℕ) (s : Said) (t : Table) (st : Statement) (rows : List Image) → Reads s.text st → named_table catalog st ≡ Some t → is_open (before s events) c ≡ true → IsCaused catalog events c s (answer_on t st rows)
+on_rows : (catalog : List Table) (events : List Event) (c : ℕ) (s : Executed) (t : Table) (st : Statement) (rows : List Image) → Reads s.text st → named_table catalog st ≡ Some t → is_open (before s events) c ≡ true → IsCaused catalog events c s (answer_on t st rows)
 on_rows catalog events c s t (statement.Insert i) rows reads named open_before = by (is_some (columns_at (key_of t i) rows))
   where
     by : (b : Bool) → IsCaused catalog events c s (if b then answer.Duplicate (key_of t i) else answer.Count 1)
@@ -54,7 +54,7 @@ on_rows catalog events c s t statement.Rollback rows reads named open_before = n
 on_rows catalog events c s t statement.Vacuum rows reads named open_before = none_some t named
 
 -- what a plan that was asked gives, with no more keys than may be
-given_on : (catalog : List Table) (events : List Event) (c : ℕ) (s : Said) (t : TxnAt) (x : PlanStep) (b : Answer) (ks : List Keyed) → (is_conflict (Some b) ≡ false → IsCaused catalog events c s b) → ((not (changes_nothing b) && too_many t ks) ≡ true → MayPassMost events c s) → x ≡ Finished b ks → is_conflict (Some (given_answer t x)) ≡ false → IsCaused catalog events c s (given_answer t x)
+given_on : (catalog : List Table) (events : List Event) (c : ℕ) (s : Executed) (t : TxnAt) (x : PlanStep) (b : Answer) (ks : List Keyed) → (is_conflict (Some b) ≡ false → IsCaused catalog events c s b) → ((not (changes_nothing b) && too_many t ks) ≡ true → MayPassMost events c s) → x ≡ Finished b ks → is_conflict (Some (given_answer t x)) ≡ false → IsCaused catalog events c s (given_answer t x)
 given_on catalog events c s t x b ks caused full e told = subst (λ y. IsCaused catalog events c s (given_answer t y)) (sym e) (by (not (changes_nothing b) && too_many t ks) refl (subst (λ y. is_conflict (Some (given_answer t y)) ≡ false) e told))
   where
     by : (z : Bool) → (not (changes_nothing b) && too_many t ks) ≡ z → is_conflict (Some (if z then refused 15 else b)) ≡ false → IsCaused catalog events c s (if z then refused 15 else b)
@@ -64,7 +64,7 @@ given_on catalog events c s t x b ks caused full e told = subst (λ y. IsCaused 
 pub asked_gives : (p : Planned) (rows : List Image) (o : Option Key) → p.asked ≡ true → first_unfit p.table rows ≡ o → step_of p rows ≡ finished p.table p.statement rows o
 asked_gives p rows o asked e = ap (λ b. step_at b p.table p.statement rows) asked ∙ ap (finished p.table p.statement rows) e
 
-pub given_caused : (catalog : List Table) (events : List Event) (c : ℕ) (s : Said) (p : Planned) (rows : List Image) (t : TxnAt) → Reads s.text p.statement → named_table catalog p.statement ≡ Some p.table → p.asked ≡ true → is_open (before s events) c ≡ true
+pub given_caused : (catalog : List Table) (events : List Event) (c : ℕ) (s : Executed) (p : Planned) (rows : List Image) (t : TxnAt) → Reads s.text p.statement → named_table catalog p.statement ≡ Some p.table → p.asked ≡ true → is_open (before s events) c ≡ true
     → ((key : Key) → first_unfit p.table rows ≡ Some key → IsBadRecord catalog events c s key) → (too_many t (changes_on p.table p.statement rows) ≡ true → MayPassMost events c s) → is_conflict (Some (given_answer t (step_of p rows))) ≡ false → IsCaused catalog events c s (given_answer t (step_of p rows))
 given_caused catalog events c s p rows t reads named asked open_before bad full = by (first_unfit p.table rows) refl
   where

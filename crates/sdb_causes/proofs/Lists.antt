@@ -4,10 +4,10 @@ use Rattle.std.specs.Prelude.{if◌then◌else◌, filter, find, Contains}
 use Rattle.std.specs.List.{AllByRecursion}
 use Rattle.std.proofs.lemmas.Bool.Decides.{nat_tests}
 use Rattle.std.proofs.lemmas.List.Elements.{All-contains, All-contains_itself, All-from_recursion, recursion_from_All}
-use Rattle.sdb_model.specs.Transactions.{Said, begins, ends, from_begin, rest_of}
+use Rattle.sdb_model.specs.Transactions.{Executed, begins, ends, from_begin, rest_of}
 use Rattle.sdb_story.proofs.Meanings.{find_more}
 use Rattle.sdb_types.proofs.Basics.{none_some}
-use Rattle.sdb_causes.specs.Tied.{begun_in}
+use Rattle.sdb_causes.specs.Invariant.{begun_in}
 
 pub each_in : {X : Type 0} (P : X → Type 0) (xs : List X) (x : X) → AllByRecursion P xs → Contains xs x → P x
 each_in P xs x all has = All-contains P xs x (All-from_recursion P xs all) has
@@ -45,7 +45,7 @@ kept_in p xs x has = each_in (Contains xs) (filter p xs) x (each_kept (Contains 
 ---- where a transaction begins
 
 -- one statement more after a BEGIN
-pub since_more : (n : ℕ) (ss : List Said) (s b : Said) (body : List Said) → from_begin n ss ≡ b ∷ body → from_begin n (ss ++ s ∷ []) ≡ b ∷ (body ++ s ∷ [])
+pub since_more : (n : ℕ) (ss : List Executed) (s b : Executed) (body : List Executed) → from_begin n ss ≡ b ∷ body → from_begin n (ss ++ s ∷ []) ≡ b ∷ (body ++ s ∷ [])
 since_more zero ss s b body e = absurd (cc)
 since_more (suc k) [] s b body e = absurd (cc)
 since_more (suc k) (x ∷ xs) s b body e = by (begins x) (k == 0) (λ h. since_more k xs s b body h) (λ h. since_more (suc k) xs s b body h) e
@@ -57,7 +57,7 @@ since_more (suc k) (x ∷ xs) s b body e = by (begins x) (k == 0) (λ h. since_m
     by false z i j h = j h
 
 -- where none began, one more statement is at most a BEGIN
-pub since_none : (n : ℕ) (ss : List Said) (s : Said) → from_begin n ss ≡ [] → rest_of (from_begin n (ss ++ s ∷ [])) ≡ []
+pub since_none : (n : ℕ) (ss : List Executed) (s : Executed) → from_begin n ss ≡ [] → rest_of (from_begin n (ss ++ s ∷ [])) ≡ []
 since_none zero ss s e = refl
 since_none (suc k) [] s e = by (begins s) (k == 0) (only k)
   where
@@ -78,7 +78,7 @@ since_none (suc k) (x ∷ xs) s e = by (begins x) (k == 0) (λ h. since_none k x
     by false z i j h = j h
 
 -- the next transaction begins with its BEGIN
-pub since_new : (ss : List Said) (s : Said) → begins s ≡ true → from_begin (suc (begun_in ss)) (ss ++ s ∷ []) ≡ s ∷ []
+pub since_new : (ss : List Executed) (s : Executed) → begins s ≡ true → from_begin (suc (begun_in ss)) (ss ++ s ∷ []) ≡ s ∷ []
 since_new [] s t = ap (λ b. if b then (if 0 == 0 then s ∷ [] else from_begin 0 []) else from_begin 1 []) t
 since_new (x ∷ xs) s t = by (begins x) (since_new xs s t)
   where
@@ -90,7 +90,7 @@ since_new (x ∷ xs) s t = by (begins x) (since_new xs s t)
     by true ih = ap (λ z. if z then x ∷ (xs ++ s ∷ []) else from_begin (suc (begun_in xs)) (xs ++ s ∷ [])) (positive (begun_in xs)) ∙ ih
     by false ih = ih
 
-pub begun_more : (ss : List Said) (s : Said) → begins s ≡ true → begun_in (ss ++ s ∷ []) ≡ begun_in ss + 1
+pub begun_more : (ss : List Executed) (s : Executed) → begins s ≡ true → begun_in (ss ++ s ∷ []) ≡ begun_in ss + 1
 begun_more [] s t = ap (λ b. if b then 1 else 0) t
 begun_more (x ∷ xs) s t = by (begins x) (begun_more xs s t)
   where
@@ -101,34 +101,34 @@ begun_more (x ∷ xs) s t = by (begins x) (begun_more xs s t)
     by true ih = up (begun_in (xs ++ s ∷ [])) (begun_in xs) ih
     by false ih = ih
 
-pub begun_same : (ss : List Said) (s : Said) → begins s ≡ false → begun_in (ss ++ s ∷ []) ≡ begun_in ss
+pub begun_same : (ss : List Executed) (s : Executed) → begins s ≡ false → begun_in (ss ++ s ∷ []) ≡ begun_in ss
 begun_same [] s f = ap (λ b. if b then 1 else 0) f
 begun_same (x ∷ xs) s f = ap (λ n. if begins x then suc n else n) (begun_same xs s f)
 
 ---- where it ends
 
 -- an ending of a transaction stays
-pub ending_stays : (n : ℕ) (ss : List Said) (x s : Said) → find ends (rest_of (from_begin n ss)) ≡ Some s → find ends (rest_of (from_begin n (ss ++ x ∷ []))) ≡ Some s
+pub ending_stays : (n : ℕ) (ss : List Executed) (x s : Executed) → find ends (rest_of (from_begin n ss)) ≡ Some s → find ends (rest_of (from_begin n (ss ++ x ∷ []))) ≡ Some s
 ending_stays n ss x s e = by (from_begin n ss) refl
   where
-    by : (r : List Said) → from_begin n ss ≡ r → find ends (rest_of (from_begin n (ss ++ x ∷ []))) ≡ Some s
+    by : (r : List Executed) → from_begin n ss ≡ r → find ends (rest_of (from_begin n (ss ++ x ∷ []))) ≡ Some s
     by [] k = none_some s (sym (ap (λ r. find ends (rest_of r)) k) ∙ e)
     by (b ∷ body) k = ap (λ r. find ends (rest_of r)) (since_more n ss x b body k) ∙ find_more ends body (x ∷ []) s (sym (ap (λ r. find ends (rest_of r)) k) ∙ e)
 
 -- and was there before one more came, or is that
-pub ending_front : (n : ℕ) (ss : List Said) (w s : Said) → find ends (rest_of (from_begin n (ss ++ w ∷ []))) ≡ Some s → (find ends (rest_of (from_begin n ss)) ≡ Some s) ⊎ (w ≡ s)
+pub ending_front : (n : ℕ) (ss : List Executed) (w s : Executed) → find ends (rest_of (from_begin n (ss ++ w ∷ []))) ≡ Some s → (find ends (rest_of (from_begin n ss)) ≡ Some s) ⊎ (w ≡ s)
 ending_front n ss w s e = by (from_begin n ss) refl
   where
-    as_front : (b : Said) (body : List Said) → from_begin n ss ≡ b ∷ body → (find ends body ≡ Some s) ⊎ (w ≡ s) → (find ends (rest_of (from_begin n ss)) ≡ Some s) ⊎ (w ≡ s)
+    as_front : (b : Executed) (body : List Executed) → from_begin n ss ≡ b ∷ body → (find ends body ≡ Some s) ⊎ (w ≡ s) → (find ends (rest_of (from_begin n ss)) ≡ Some s) ⊎ (w ≡ s)
     as_front b body k (inl h) = inl (ap (λ r. find ends (rest_of r)) k ∙ h)
     as_front b body k (inr h) = inr h
 
-    by : (r : List Said) → from_begin n ss ≡ r → (find ends (rest_of (from_begin n ss)) ≡ Some s) ⊎ (w ≡ s)
+    by : (r : List Executed) → from_begin n ss ≡ r → (find ends (rest_of (from_begin n ss)) ≡ Some s) ⊎ (w ≡ s)
     by [] k = none_some s (sym (ap (find ends) (since_none n ss w k)) ∙ e)
     by (b ∷ body) k = as_front b body k (find_front ends body w s (sym (ap (λ r. find ends (rest_of r)) (since_more n ss w b body k)) ∙ e))
 
 -- none of these ends it, and the next does
-pub ends_last : (body : List Said) (s : Said) → AllByRecursion (λ x. ends x ≡ false) body → ends s ≡ true → find ends (body ++ s ∷ []) ≡ Some s
+pub ends_last : (body : List Executed) (s : Executed) → AllByRecursion (λ x. ends x ≡ false) body → ends s ≡ true → find ends (body ++ s ∷ []) ≡ Some s
 ends_last [] s all t = ap (λ b. if b then Some s else None) t
 ends_last (x ∷ xs) s all t = ap (λ b. if b then Some x else find ends (xs ++ s ∷ [])) all.0 ∙ ends_last xs s all.1 t
 

@@ -24,21 +24,21 @@ use Rattle.sdb_types.proofs.Keys.{same_key_self, same_key_exact, same_key_is, sa
 use Rattle.sdb_record.specs.declared.access.Read.{Read}
 use Rattle.sdb_record.specs.declared.access.Scan.{Scan}
 use Rattle.sdb_record.specs.Meta.{id_in}
-use Rattle.sdb_record.specs.Moved.{Moved, condition_of, same_version, version_of}
+use Rattle.sdb_record.specs.Moved.{IsChanged, condition_of, same_version, version_of}
 use Rattle.sdb_record.proofs.ImageLaws.{version-writer}
-use Rattle.sdb_model.specs.Calls.{Made, records_read}
-use Rattle.sdb_model.specs.Causes.{HasMoved}
-use Rattle.sdb_model.specs.Noted.{Got, Note, Scanned, meaning_of}
-use Rattle.sdb_snapshot.specs.Noted as snapshot
-use Rattle.sdb_snapshot.specs.Noted.{base_at, differs, has_moved, is_noted, note_at}
+use Rattle.sdb_model.specs.Calls.{StoreCall, records_read}
+use Rattle.sdb_model.specs.Causes.{HasChanged}
+use Rattle.sdb_model.specs.ReadSet.{KeyRead, ReadItem, SpanRead, meaning_of}
+use Rattle.sdb_snapshot.specs.Reads as snapshot
+use Rattle.sdb_snapshot.specs.Reads.{base_at, differs, has_changed, is_key_read, record_read_at}
 use Rattle.sdb_snapshot.specs.Seen.{Seen}
-use Rattle.sdb_turns.specs.Noted.{IsFoundOk, IsReadOk, is_found, was_found, was_read}
+use Rattle.sdb_turns.specs.Reads.{IsFoundOk, IsReadOk, is_found, was_found, was_read}
 use Rattle.sdb_record.specs.declared.write.Write.{Write}
-use Rattle.sdb_snapshot.specs.Held.{AreKept}
+use Rattle.sdb_snapshot.specs.Sets.{IsSetInvariant}
 use Rattle.sdb_turns.proofs.Lists.{each_both}
 use Rattle.sdb_txn.specs.Txn.{TxnAt, work_of}
 use Rattle.sdb_validate.specs.Rescan.{reads_rise}
-use Rattle.sdb_causes.specs.Moves.{HasRead, IsNotedAt, IsRows, IsSettledAs, SeenBy, WorkBy}
+use Rattle.sdb_causes.specs.Changes.{HasRead, IsReadAt, IsRows, IsSettledAs, SeenBy, WorkBy}
 use Rattle.sdb_causes.proofs.Settling.{settled_keys, settled_means}
 use Rattle.sdb_record.proofs.IdLemmas.{id_in_value-fits}
 use Rattle.sdb_record.specs.Among.{version_among}
@@ -73,7 +73,7 @@ absent k (x ∷ es) keys all = by x.1 keys.0 (absent k es keys.1 all.1)
     by (Some b) same ih = ap (λ t. if t then Some b else record_among (filter_map (λ (e : Record × Option Record). e.1) es) k) (apart b same) ∙ ih
 
 -- the record of a key among those that a scan found, settled, is that among its images
-scan_found : (calls : List Made) (k : Key) (es : List (Record × Option Record)) → AllByRecursion (IsSettledAs calls) es → rise (map (λ e. e.0) es) ≡ true → option_and_then (meaning_of calls) (record_among (map (λ e. e.0) es) k) ≡ record_among (filter_map (λ (e : Record × Option Record). e.1) es) k
+scan_found : (calls : List StoreCall) (k : Key) (es : List (Record × Option Record)) → AllByRecursion (IsSettledAs calls) es → rise (map (λ e. e.0) es) ≡ true → option_and_then (meaning_of calls) (record_among (map (λ e. e.0) es) k) ≡ record_among (filter_map (λ (e : Record × Option Record). e.1) es) k
 scan_found calls k [] all r = refl
 scan_found calls k (x ∷ es) all r = by (same_key k x.0.key) refl (scan_found calls k es all.1 rest.1)
   where
@@ -93,7 +93,7 @@ scan_found calls k (x ∷ es) all r = by (same_key k x.0.key) refl (scan_found c
     by true e ih = settled_means calls x all.0 ∙ here x.1 all.0.key (sym (same_key_exact k x.0.key e))
     by false e ih = ih ∙ there x.1 all.0.key e
 
-pub scan_shows : (calls : List Made) (span : Span) (images : List Record) (k : Key) (h : HasRead (ask.Scan span) calls images []) → (rows : List Record) × (h.first.reply ≡ reply.Rows rows) × (option_and_then (meaning_of calls) (record_among rows k) ≡ record_among images k)
+pub scan_shows : (calls : List StoreCall) (span : Span) (images : List Record) (k : Key) (h : HasRead (ask.Scan span) calls images []) → (rows : List Record) × (h.first.reply ≡ reply.Rows rows) × (option_and_then (meaning_of calls) (record_among rows k) ≡ record_among images k)
 scan_shows calls span images k h = by h.first.reply refl h.can h.told
   where
     by : (r : Reply) → h.first.reply ≡ r → CanAnswer (ask.Scan span) r → IsRows r → (rows : List Record) × (h.first.reply ≡ reply.Rows rows) × (option_and_then (meaning_of calls) (record_among rows k) ≡ record_among images k)
@@ -109,11 +109,11 @@ scan_shows calls span images k h = by h.first.reply refl h.can h.told
 ---- versions
 
 -- a record of another version than one that was noted has moved
-pub has_moved_is : (noted found : Option Record) → has_moved (Some noted) found ≡ true → Moved found (version_of noted)
+pub has_moved_is : (as_read found : Option Record) → has_changed (Some as_read) found ≡ true → IsChanged found (version_of as_read)
 has_moved_is None None e = clash (sym e)
 has_moved_is None (Some r) e = by (id_in r.columns) refl e
   where
-    by : (o : Option TxId) → id_in r.columns ≡ o → not (same_version None o) ≡ true → Moved (Some r) None
+    by : (o : Option TxId) → id_in r.columns ≡ o → not (same_version None o) ≡ true → IsChanged (Some r) None
     by None k t = clash (sym t)
     by (Some id) k t = refl
 has_moved_is (Some n) found e = by_noted (id_in n.columns) refl e
@@ -137,62 +137,62 @@ has_moved_is (Some n) found e = by_noted (id_in n.columns) refl e
 
 -- A transaction's reads and scans tell what is noted at each key.
 pub record IsTold (s : Seen) : Type 0 where
-  pub reads : AllByRecursion (IsReadOk s.notes) s.reads
-  pub found : AllByRecursion (IsFoundOk s.notes) s.scans
-  pub noted : (q : Key) → is_noted s.notes q ≡ true → (was_read s.reads q || was_found s.scans q) ≡ true
+  pub reads : AllByRecursion (IsReadOk s.read_set) s.reads
+  pub found : AllByRecursion (IsFoundOk s.read_set) s.scans
+  pub as_read : (q : Key) → is_key_read s.read_set q ≡ true → (was_read s.reads q || was_found s.scans q) ≡ true
 
-read_at : (notes : List Note) (ns : List snapshot.Note) (rs : List Read) (q : Key) → AllByRecursion (λ r. Contains notes (Got r)) rs → AllByRecursion (IsReadOk ns) rs → was_read rs q ≡ true → IsNotedAt notes q (version_of (base_at ns q))
-read_at notes ns [] q has ok e = clash (sym e)
-read_at notes ns (r ∷ rs) q has ok e = by (same_key q r.key) refl (λ k. read_at notes ns rs q has.1 ok.1 k) e
+read_at : (read_set : List ReadItem) (ns : List snapshot.ReadRecord) (rs : List Read) (q : Key) → AllByRecursion (λ r. Contains read_set (KeyRead r)) rs → AllByRecursion (IsReadOk ns) rs → was_read rs q ≡ true → IsReadAt read_set q (version_of (base_at ns q))
+read_at read_set ns [] q has ok e = clash (sym e)
+read_at read_set ns (r ∷ rs) q has ok e = by (same_key q r.key) refl (λ k. read_at read_set ns rs q has.1 ok.1 k) e
   where
-    by : (b : Bool) → same_key q r.key ≡ b → (was_read rs q ≡ true → IsNotedAt notes q (version_of (base_at ns q))) → (b || was_read rs q) ≡ true → IsNotedAt notes q (version_of (base_at ns q))
+    by : (b : Bool) → same_key q r.key ≡ b → (was_read rs q ≡ true → IsReadAt read_set q (version_of (base_at ns q))) → (b || was_read rs q) ≡ true → IsReadAt read_set q (version_of (base_at ns q))
     by true t ih k =
         let same : q ≡ r.key = same_key_exact q r.key t in
-        record { note = Got r; among = has.0; noted = ap (λ b. if b then Some r.version else None) (same_key_of r.key q (sym same)) ∙ ap Some (ok.0.1 ∙ ap (λ (z : Key). version_of (base_at ns z)) (sym same)) }
+        record { item = KeyRead r; among = has.0; as_read = ap (λ b. if b then Some r.version else None) (same_key_of r.key q (sym same)) ∙ ap Some (ok.0.1 ∙ ap (λ (z : Key). version_of (base_at ns z)) (sym same)) }
     by false t ih k = ih k
 
-scan_at : (notes : List Note) (ns : List snapshot.Note) (xs : List Scan) (q : Key) → AllByRecursion (λ x. Contains notes (Scanned x) × (list_all (λ r. in_span x.span r.key) x.found ≡ true)) xs → AllByRecursion (IsFoundOk ns) xs → was_found xs q ≡ true → IsNotedAt notes q (version_of (base_at ns q))
-scan_at notes ns [] q has ok e = clash (sym e)
-scan_at notes ns (x ∷ xs) q has ok e = by (in_span x.span q && is_found x q) refl (λ k. scan_at notes ns xs q has.1 ok.1 k) e
+scan_at : (read_set : List ReadItem) (ns : List snapshot.ReadRecord) (xs : List Scan) (q : Key) → AllByRecursion (λ x. Contains read_set (SpanRead x) × (list_all (λ r. in_span x.span r.key) x.found ≡ true)) xs → AllByRecursion (IsFoundOk ns) xs → was_found xs q ≡ true → IsReadAt read_set q (version_of (base_at ns q))
+scan_at read_set ns [] q has ok e = clash (sym e)
+scan_at read_set ns (x ∷ xs) q has ok e = by (in_span x.span q && is_found x q) refl (λ k. scan_at read_set ns xs q has.1 ok.1 k) e
   where
-    by : (b : Bool) → (in_span x.span q && is_found x q) ≡ b → (was_found xs q ≡ true → IsNotedAt notes q (version_of (base_at ns q))) → (b || was_found xs q) ≡ true → IsNotedAt notes q (version_of (base_at ns q))
+    by : (b : Bool) → (in_span x.span q && is_found x q) ≡ b → (was_found xs q ≡ true → IsReadAt read_set q (version_of (base_at ns q))) → (b || was_found xs q) ≡ true → IsReadAt read_set q (version_of (base_at ns q))
     by true t ih k =
         let p = and_parts (in_span x.span q) (is_found x q) t in
-        record { note = Scanned x; among = has.0.0; noted = ap (λ b. if b then Some (version_among x.found q) else None) p.0 ∙ ap Some (sym (ok.0 q p.1).1) }
+        record { item = SpanRead x; among = has.0.0; as_read = ap (λ b. if b then Some (version_among x.found q) else None) p.0 ∙ ap Some (sym (ok.0 q p.1).1) }
     by false t ih k = ih k
 
-pub noted_at : (notes : List Note) (s : Seen) (q : Key) → SeenBy notes s → IsTold s → is_noted s.notes q ≡ true → IsNotedAt notes q (version_of (base_at s.notes q))
-noted_at notes s q by_notes told e = by (either (was_read s.reads q) (was_found s.scans q) (told.noted q e))
+pub noted_at : (read_set : List ReadItem) (s : Seen) (q : Key) → SeenBy read_set s → IsTold s → is_key_read s.read_set q ≡ true → IsReadAt read_set q (version_of (base_at s.read_set q))
+noted_at read_set s q by_notes told e = by (either (was_read s.reads q) (was_found s.scans q) (told.as_read q e))
   where
-    by : (was_read s.reads q ≡ true) ⊎ (was_found s.scans q ≡ true) → IsNotedAt notes q (version_of (base_at s.notes q))
-    by (inl k) = read_at notes s.notes s.reads q by_notes.reads told.reads k
-    by (inr k) = scan_at notes s.notes s.scans q by_notes.scans told.found k
+    by : (was_read s.reads q ≡ true) ⊎ (was_found s.scans q ≡ true) → IsReadAt read_set q (version_of (base_at s.read_set q))
+    by (inl k) = read_at read_set s.read_set s.reads q by_notes.reads told.reads k
+    by (inr k) = scan_at read_set s.read_set s.scans q by_notes.scans told.found k
 
 -- a key at which a scan differs has moved
-pub differs_moved : (notes : List Note) (s : Seen) (images : List Record) (k : Key) → SeenBy notes s → IsTold s → differs s.notes images k ≡ true → HasMoved notes k (record_among images k)
-differs_moved notes s images k by_notes told e = by (note_at s.notes k) refl e
+pub differs_moved : (read_set : List ReadItem) (s : Seen) (images : List Record) (k : Key) → SeenBy read_set s → IsTold s → differs s.read_set images k ≡ true → HasChanged read_set k (record_among images k)
+differs_moved read_set s images k by_notes told e = by (record_read_at s.read_set k) refl e
   where
-    by : (o : Option (Option Record)) → note_at s.notes k ≡ o → has_moved o (record_among images k) ≡ true → HasMoved notes k (record_among images k)
+    by : (o : Option (Option Record)) → record_read_at s.read_set k ≡ o → has_changed o (record_among images k) ≡ true → HasChanged read_set k (record_among images k)
     by None n t = clash (sym t)
-    by (Some noted) n t =
-        let at = noted_at notes s k by_notes told (ap is_some n) in
-        let base : base_at s.notes k ≡ noted = ap (λ o. option_and_then (λ f. f) o) n in
-        (at.note, version_of noted, at.among, at.noted ∙ ap (λ f. Some (version_of f)) base, has_moved_is noted (record_among images k) t)
+    by (Some as_read) n t =
+        let at = noted_at read_set s k by_notes told (ap is_some n) in
+        let base : base_at s.read_set k ≡ as_read = ap (λ o. option_and_then (λ f. f) o) n in
+        (at.item, version_of as_read, at.among, at.as_read ∙ ap (λ f. Some (version_of f)) base, has_moved_is as_read (record_among images k) t)
 
 ---- what a COMMIT takes
 
 -- what its COMMIT goes by: what is noted, the bases of what is written, and scans in the order of keys
 pub record IsTaken (s : Seen) : Type 0 where
   pub told : IsTold s
-  pub kept : AreKept s.notes s.writes
+  pub kept : IsSetInvariant s.read_set s.writes
   pub rises : AllByRecursion (λ x. reads_rise x.found ≡ true) s.scans
 
-pub work_by : (notes : List Note) (t : TxnAt) (now : ℤ) → SeenBy notes t.seen → IsTaken t.seen → WorkBy notes (work_of t now)
-work_by notes t now s k = record {
+pub work_by : (read_set : List ReadItem) (t : TxnAt) (now : ℤ) → SeenBy read_set t.seen → IsTaken t.seen → WorkBy read_set (work_of t now)
+work_by read_set t now s k = record {
   reads = s.reads;
-  scans = each_both (λ (x : Scan). Contains notes (Scanned x) × (list_all (λ r. in_span x.span r.key) x.found ≡ true)) (λ (x : Scan). reads_rise x.found ≡ true) (λ (x : Scan). Contains notes (Scanned x) × (list_all (λ r. in_span x.span r.key) x.found ≡ true) × (reads_rise x.found ≡ true)) t.seen.scans (λ x a b. (a.0, a.1, b)) s.scans k.rises;
-  writes = each_any (λ (w : Write). (is_noted t.seen.notes w.key ≡ true) × (w.base ≡ base_at t.seen.notes w.key)) (λ (w : Write). IsNotedAt notes w.key (version_of w.base)) t.seen.writes (λ w h. subst (λ (o : Option Record). IsNotedAt notes w.key (version_of o)) (sym h.1) (noted_at notes t.seen w.key s k.told h.0)) k.kept.based;
-  fine = k.kept.fine;
+  scans = each_both (λ (x : Scan). Contains read_set (SpanRead x) × (list_all (λ r. in_span x.span r.key) x.found ≡ true)) (λ (x : Scan). reads_rise x.found ≡ true) (λ (x : Scan). Contains read_set (SpanRead x) × (list_all (λ r. in_span x.span r.key) x.found ≡ true) × (reads_rise x.found ≡ true)) t.seen.scans (λ x a b. (a.0, a.1, b)) s.scans k.rises;
+  writes = each_any (λ (w : Write). (is_key_read t.seen.read_set w.key ≡ true) × (w.base ≡ base_at t.seen.read_set w.key)) (λ (w : Write). IsReadAt read_set w.key (version_of w.base)) t.seen.writes (λ w h. subst (λ (o : Option Record). IsReadAt read_set w.key (version_of o)) (sym h.1) (noted_at read_set t.seen w.key s k.told h.0)) k.kept.based;
+  valid = k.kept.valid;
 }
 
 ---- what a read leaves

@@ -28,23 +28,23 @@ use Rattle.sdb_model.specs.declared.statement.Statement.{Statement}
 use Rattle.sdb_model.specs.declared.statement.Statement.TheVariants as statement
 use Rattle.sdb_model.specs.declared.statement.Update.{Update}
 use Rattle.sdb_model.specs.Access.{in_access, with_changes}
-use Rattle.sdb_model.specs.Exec.{Tables, all_rows, cut, entry_of_row, exec, exec_in, find_table, is_row_of, key_of, left_by, named_table, nat_of, passes, placed, shown, sorted, table_of, updated, with_named, with_sets}
-use Rattle.sdb_model.specs.Shown.{one_row, row_left}
-use Rattle.sdb_exec.specs.Plans.{IsExec, all_fit, answer_on, changes_on, columns_at, first_unfit}
+use Rattle.sdb_model.specs.Exec.{Tables, all_rows, cut, entry_of_row, exec, exec_in, find_table, is_row_of, key_of, left_by, named_table, nat_of, passes, placed, projected, sorted, table_of, updated, with_named, with_sets}
+use Rattle.sdb_model.specs.DirtyReads.{one_row, row_left}
+use Rattle.sdb_exec.specs.Plans.{IsExec, all_well_typed, answer_on, changes_on, columns_at, first_unfit}
 use Rattle.sdb_exec.specs.Reads.{access_of}
 use Rattle.sdb_exec.proofs.Laid.{find-mapped, find-sieved, mapped_at, sieved_at}
 use Rattle.sdb_exec.proofs.Local.{ordered}
 use Rattle.sdb_exec.proofs.Places.{named_is_table}
 use Rattle.sdb_exec.proofs.Whole.{fitting_is_exec}
-use Rattle.sdb_snapshot.specs.Rows.{tables_of_notes}
+use Rattle.sdb_snapshot.specs.Rows.{tables_of_reads}
 use Rattle.sdb_snapshot.specs.Seen.{Seen, overlay, row_seen, tables_seen}
 use Rattle.sdb_snapshot.specs.Written.{with_writes}
 use Rattle.sdb_snapshot.proofs.Shown.{get_seen, own_is}
 use Rattle.sdb_client.specs.Client.{plan_of}
-use Rattle.sdb_steps.specs.Fitting.{row_fits}
+use Rattle.sdb_steps.specs.Fitting.{row_is_well_typed}
 use Rattle.sdb_steps.proofs.InTables.{own_table}
 use Rattle.sdb_steps.proofs.RowsFit.{found_itself}
-use Rattle.sdb_causes.specs.Unfit.{SeesFit}
+use Rattle.sdb_causes.specs.Unfit.{SeesWellTyped}
 use Rattle.sdb_causes.proofs.Given.{asked_gives, found_so}
 use Rattle.sdb_causes.proofs.Lists.{each_kept}
 use Rattle.sdb_causes.proofs.Unfit.{all_true, find_true, none_unfits, rows_there}
@@ -116,7 +116,7 @@ get_one key (Some c) = get-insert key_total (one_row key None) key c key ∙ ap 
 
 ---- on the rows that a transaction sees
 
-module _ (catalog : List Table) (table : Table) (st : Statement) (s : Seen) (is : is_catalog catalog ≡ true) (named : named_table catalog st ≡ Some table) (fits : SeesFit catalog s) where
+module _ (catalog : List Table) (table : Table) (st : Statement) (s : Seen) (is : is_catalog catalog ≡ true) (named : named_table catalog st ≡ Some table) (fits : SeesWellTyped catalog s) where
   abbrev rows : List Image
   rows = overlay (access_of table st) s
 
@@ -127,12 +127,12 @@ module _ (catalog : List Table) (table : Table) (st : Statement) (s : Seen) (is 
   listed = found_itself catalog (table_of st) table named
 
   -- each row of the table fits it
-  all_here : all_fit table (tables_seen s) ≡ true
+  all_here : all_well_typed table (tables_seen s) ≡ true
   all_here =
       all_true (λ r. not (is_row_of table r) || fits_table table r.key r.columns) (all_rows (tables_seen s))
-      (rows_there (λ q cs. (not (is_eq (table_cmp q.table table.name)) || fits_table table q cs) ≡ true) (tables_seen s) (λ q cs found. here q cs (is_eq (table_cmp q.table table.name)) refl (fits q cs (sym (get_seen s.notes s.writes q) ∙ found))))
+      (rows_there (λ q cs. (not (is_eq (table_cmp q.table table.name)) || fits_table table q cs) ≡ true) (tables_seen s) (λ q cs found. here q cs (is_eq (table_cmp q.table table.name)) refl (fits q cs (sym (get_seen s.read_set s.writes q) ∙ found))))
     where
-      here : (q : Key) (cs : List Pair) (b : Bool) → is_eq (table_cmp q.table table.name) ≡ b → row_fits catalog q cs ≡ true → (not b || fits_table table q cs) ≡ true
+      here : (q : Key) (cs : List Pair) (b : Bool) → is_eq (table_cmp q.table table.name) ≡ b → row_is_well_typed catalog q cs ≡ true → (not b || fits_table table q cs) ≡ true
       here q cs false e f = refl
       here q cs true e f = sym (ap (λ (o : Option Table). option_map_or (λ x. fits_table x q cs) o false) (ap (find_table catalog) (table_exact q.table table.name (equal_of (table_cmp q.table table.name) e)) ∙ listed)) ∙ f
 
@@ -149,27 +149,27 @@ module _ (catalog : List Table) (table : Table) (st : Statement) (s : Seen) (is 
       subst (IsExec catalog (plan_of table st) (tables_seen s)) (asked_gives (plan_of table st) rows None refl none_here)
       (fitting_is_exec catalog (plan_of table st) (tables_seen s) (named_is_table catalog st table is named) named refl all_here)
 
-  written_row : (key : Key) → row_seen s.notes (with_writes s.notes s.writes changes) key ≡ get (exec catalog st (tables_seen s)).1 key
+  written_row : (key : Key) → row_seen s.read_set (with_writes s.read_set s.writes changes) key ≡ get (exec catalog st (tables_seen s)).1 key
   written_row key =
-      sym (get_seen s.notes (with_writes s.notes s.writes changes) key)
-      ∙ ap (λ (e : Tables). get e key) (own_is (tables_of_notes s.notes) s.notes s.writes changes)
+      sym (get_seen s.read_set (with_writes s.read_set s.writes changes) key)
+      ∙ ap (λ (e : Tables). get e key) (own_is (tables_of_reads s.read_set) s.read_set s.writes changes)
       ∙ ap (λ (x : Answer × Tables). get x.1 key) (sym whole)
 
   -- what the statement makes of the row at a key is the row that is seen there with its changes
-  pub one_row_left : (key : Key) → row_left catalog st key (row_seen s.notes s.writes key) ≡ row_seen s.notes (with_writes s.notes s.writes (changes_on table st (overlay (access_of table st) s))) key
+  pub one_row_left : (key : Key) → row_left catalog st key (row_seen s.read_set s.writes key) ≡ row_seen s.read_set (with_writes s.read_set s.writes (changes_on table st (overlay (access_of table st) s))) key
   one_row_left key =
-      exec_left catalog table st (one_row key (row_seen s.notes s.writes key)) key named
-      ∙ ap (left_at table st key) (get_one key (row_seen s.notes s.writes key) ∙ sym (get_seen s.notes s.writes key))
+      exec_left catalog table st (one_row key (row_seen s.read_set s.writes key)) key named
+      ∙ ap (left_at table st key) (get_one key (row_seen s.read_set s.writes key) ∙ sym (get_seen s.read_set s.writes key))
       ∙ sym (exec_left catalog table st (tables_seen s) key named)
       ∙ sym (written_row key)
 
 ---- rows that are answered
 
 abbrev IsSeen : Seen → Image → Type 0
-IsSeen s r = row_seen s.notes s.writes r.key ≡ Some r.columns
+IsSeen s r = row_seen s.read_set s.writes r.key ≡ Some r.columns
 
 all_seen : (a : Access) (s : Seen) → AllByRecursion (IsSeen s) (overlay a s)
-all_seen a s = each_kept (IsSeen s) (λ r. in_access a r.key) (all_rows (tables_seen s)) (rows_there (λ q cs. row_seen s.notes s.writes q ≡ Some cs) (tables_seen s) (λ q cs found. sym (get_seen s.notes s.writes q) ∙ found))
+all_seen a s = each_kept (IsSeen s) (λ r. in_access a r.key) (all_rows (tables_seen s)) (rows_there (λ q cs. row_seen s.read_set s.writes q ≡ Some cs) (tables_seen s) (λ q cs found. sym (get_seen s.read_set s.writes q) ∙ found))
 
 all_taken : (P : Image → Type 0) (n : ℕ) (rs : List Image) → AllByRecursion P rs → AllByRecursion P (take n rs)
 all_taken P n rs all = recursion_from_All P (take n rs) (All-take P n rs (All-from_recursion P rs all))
@@ -194,13 +194,13 @@ no_rows false k n rows e = absurd (cc)
 
 -- rows that a SELECT is answered are rows that are seen
 pub rows_told : (table : Table) (st : Statement) (a : Access) (s : Seen) (rows : List (List Value)) → answer_on table st (overlay a s) ≡ answer.Rows rows
-    → (select : Select) × (images : List Image) × (st ≡ statement.Select select) × (rows ≡ map (shown table select.columns) images) × AllByRecursion (λ (r : Image). row_seen s.notes s.writes r.key ≡ Some r.columns) images
+    → (select : Select) × (images : List Image) × (st ≡ statement.Select select) × (rows ≡ map (projected table select.columns) images) × AllByRecursion (λ (r : Image). row_seen s.read_set s.writes r.key ≡ Some r.columns) images
 rows_told t (statement.Insert i) a s rows e = absurd (no_rows (is_some (columns_at (key_of t i) (overlay a s))) (key_of t i) 1 rows e)
 rows_told t (statement.Upsert i) a s rows e = absurd (cc)
 rows_told t (statement.Update u) a s rows e = absurd (cc)
 rows_told t (statement.Delete d) a s rows e = absurd (cc)
 rows_told t (statement.Select x) a s rows e =
-    let are : map (shown t x.columns) (cut x.limit (sorted t (filter (passes t x.tests) (overlay a s)))) ≡ rows = cc in (
+    let are : map (projected t x.columns) (cut x.limit (sorted t (filter (passes t x.tests) (overlay a s)))) ≡ rows = cc in (
       x,
       cut x.limit (sorted t (filter (passes t x.tests) (overlay a s))),
       refl,
@@ -213,21 +213,21 @@ rows_told t statement.Rollback a s rows e = absurd (cc)
 rows_told t statement.Vacuum a s rows e = absurd (cc)
 
 -- a row is seen at a key where one is found there
-seen_at : (a : Access) (s : Seen) (k : Key) → is_some (columns_at k (overlay a s)) ≡ true → (columns : List Pair) × (row_seen s.notes s.writes k ≡ Some columns)
+seen_at : (a : Access) (s : Seen) (k : Key) → is_some (columns_at k (overlay a s)) ≡ true → (columns : List Pair) × (row_seen s.read_set s.writes k ≡ Some columns)
 seen_at a s k some = by (find (λ r. is_eq (key_cmp k r.key)) (overlay a s)) refl some
   where
-    by : (o : Option Image) → find (λ r. is_eq (key_cmp k r.key)) (overlay a s) ≡ o → is_some (option_map (λ (r : Image). r.columns) o) ≡ true → (columns : List Pair) × (row_seen s.notes s.writes k ≡ Some columns)
+    by : (o : Option Image) → find (λ r. is_eq (key_cmp k r.key)) (overlay a s) ≡ o → is_some (option_map (λ (r : Image). r.columns) o) ≡ true → (columns : List Pair) × (row_seen s.read_set s.writes k ≡ Some columns)
     by None e h = clash (sym h)
-    by (Some r) e h = (r.columns, ap (row_seen s.notes s.writes) (tied k r.key (find_true (λ x. is_eq (key_cmp k x.key)) (overlay a s) r e)) ∙ found_so (IsSeen s) (λ x. is_eq (key_cmp k x.key)) (overlay a s) r (all_seen a s) e)
+    by (Some r) e h = (r.columns, ap (row_seen s.read_set s.writes) (tied k r.key (find_true (λ x. is_eq (key_cmp k x.key)) (overlay a s) r e)) ∙ found_so (IsSeen s) (λ x. is_eq (key_cmp k x.key)) (overlay a s) r (all_seen a s) e)
 
 -- and so is one at the key of a Duplicate
-pub key_told : (table : Table) (st : Statement) (a : Access) (s : Seen) (key : Key) → answer_on table st (overlay a s) ≡ answer.Duplicate key → (columns : List Pair) × (row_seen s.notes s.writes key ≡ Some columns)
+pub key_told : (table : Table) (st : Statement) (a : Access) (s : Seen) (key : Key) → answer_on table st (overlay a s) ≡ answer.Duplicate key → (columns : List Pair) × (row_seen s.read_set s.writes key ≡ Some columns)
 key_told t (statement.Insert i) a s key e = by (is_some (columns_at (key_of t i) (overlay a s))) refl e
   where
-    by : (b : Bool) → is_some (columns_at (key_of t i) (overlay a s)) ≡ b → (if b then answer.Duplicate (key_of t i) else answer.Count 1) ≡ answer.Duplicate key → (columns : List Pair) × (row_seen s.notes s.writes key ≡ Some columns)
+    by : (b : Bool) → is_some (columns_at (key_of t i) (overlay a s)) ≡ b → (if b then answer.Duplicate (key_of t i) else answer.Count 1) ≡ answer.Duplicate key → (columns : List Pair) × (row_seen s.read_set s.writes key ≡ Some columns)
     by true some h =
         let same : key_of t i ≡ key = cc in
-        subst (λ (k : Key). (columns : List Pair) × (row_seen s.notes s.writes k ≡ Some columns)) same (seen_at a s (key_of t i) some)
+        subst (λ (k : Key). (columns : List Pair) × (row_seen s.read_set s.writes k ≡ Some columns)) same (seen_at a s (key_of t i) some)
     by false some h = absurd (cc)
 key_told t (statement.Upsert i) a s key e = absurd (cc)
 key_told t (statement.Update u) a s key e = absurd (cc)

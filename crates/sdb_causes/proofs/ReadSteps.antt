@@ -26,14 +26,14 @@ use Rattle.sdb_record.specs.declared.coordinator.Decided.{Decided}
 use Rattle.sdb_record.specs.declared.coordinator.Decision.TheVariants as decision
 use Rattle.sdb_record.specs.declared.meta.Meta.{Meta}
 use Rattle.sdb_record.specs.Coordinator.{coordinator_key_of, decision_in, is_coordinator_table, is_expired}
-use Rattle.sdb_record.specs.Meta.{checked, checked_before, checked_part, is_committed, is_in, is_misnamed, is_taken, is_unresolved, moment_in, refuse, with_before}
+use Rattle.sdb_record.specs.Meta.{checked, checked_before, checked_part, is_committed, is_in, is_misnamed, is_transactional, is_unresolved, moment_in, refuse, with_before}
 use Rattle.sdb_record.specs.Parts.{before_part, is_before_pair}
 use Rattle.sdb_record.proofs.Fine.{refuse-ok, taken}
 use Rattle.sdb_record.proofs.ImageLaws.{row-key}
 use Rattle.sdb_model.specs.declared.event.Event.{Event}
-use Rattle.sdb_model.specs.Calls.{Made, calls_of, clock_at, is_read, records_read, records_shown}
+use Rattle.sdb_model.specs.Calls.{StoreCall, calls_of, clock_at, is_read, records_read, records_observed}
 use Rattle.sdb_model.specs.Causes.{HasReply, IsBusy}
-use Rattle.sdb_model.specs.Transactions.{Said}
+use Rattle.sdb_model.specs.Transactions.{Executed}
 use Rattle.sdb_phases.specs.declared.step.RecoverPhase.{RecoverPhase}
 use Rattle.sdb_phases.specs.declared.step.RecoverPhase.TheVariants as phase
 use Rattle.sdb_phases.specs.declared.step.RecoverStep.{RecoverStep}
@@ -43,7 +43,7 @@ use Rattle.sdb_phases.specs.Work.{abort_of, look_of}
 use Rattle.sdb_read.specs.Read.{Asking, Bad, Ended, Firm, Kind, Open, ReadStage, Resolving, answered, kind_of, opened, read_pending_at, read_step, request_of, resolved, settle, settle_one}
 use Rattle.sdb_turns.proofs.Meta.{meta_of}
 use Rattle.sdb_steps.proofs.InTables.{access_table}
-use Rattle.sdb_causes.specs.Commits.{IsBadRow, ShowsBad}
+use Rattle.sdb_causes.specs.Commits.{IsBadRow, ObservesBad}
 use Rattle.sdb_causes.specs.Reads.{IsBusyBy, IsFoundBy, IsPhaseBy, LedBy, ReadsBy, ResolvesBy}
 use Rattle.sdb_causes.proofs.Rows.{after_last, reply_now, reply_stays, shows_bad_row}
 use Rattle.sdb_types.specs.Replies.{is_fault}
@@ -55,8 +55,8 @@ IsDataTable t = not (is_coordinator_table t) ≡ true
 ---- what a record is
 
 -- a record that is no record of a transaction
-pub bad_is : (r : Record) → kind_of r ≡ Bad → is_taken r ≡ false
-bad_is r e = by_test (is_taken r) (λ t. absurd (taken_kind t)) (λ f. f)
+pub bad_is : (r : Record) → kind_of r ≡ Bad → is_transactional r ≡ false
+bad_is r e = by_test (is_transactional r) (λ t. absurd (taken_kind t)) (λ f. f)
   where
     by_ok : (o : Result Meta (List ℕ)) → is_ok o ≡ true → opened o ≡ Bad → ⊥
     by_ok (Ok m) t k = absurd (cc)
@@ -66,14 +66,14 @@ bad_is r e = by_test (is_taken r) (λ t. absurd (taken_kind t)) (λ f. f)
     by_state true t k = absurd (cc)
     by_state false t k = by_ok (checked r.columns) t k
 
-    taken_kind : is_taken r ≡ true → ⊥
+    taken_kind : is_transactional r ≡ true → ⊥
     taken_kind t = by_state (is_in state.Committed r.columns) (and_parts _ (is_ok (checked r.columns)) t).1 (sym (ap (λ b. if b then (if is_in state.Committed r.columns then Firm else opened (checked r.columns)) else Bad) t) ∙ e)
 
 -- an unresolved one, with its metadata
 pub open_is : (r : Record) (meta : Meta) → kind_of r ≡ Open meta → (is_unresolved r ≡ true) × (checked r.columns ≡ Ok meta)
-open_is r meta e = by (is_taken r) (is_in state.Committed r.columns) (checked r.columns) refl refl refl e
+open_is r meta e = by (is_transactional r) (is_in state.Committed r.columns) (checked r.columns) refl refl refl e
   where
-    by : (t s : Bool) (o : Result Meta (List ℕ)) → is_taken r ≡ t → is_in state.Committed r.columns ≡ s → checked r.columns ≡ o → (if t then (if s then Firm else opened o) else Bad) ≡ Open meta → (is_unresolved r ≡ true) × (checked r.columns ≡ Ok meta)
+    by : (t s : Bool) (o : Result Meta (List ℕ)) → is_transactional r ≡ t → is_in state.Committed r.columns ≡ s → checked r.columns ≡ o → (if t then (if s then Firm else opened o) else Bad) ≡ Open meta → (is_unresolved r ≡ true) × (checked r.columns ≡ Ok meta)
     by false s o a b c h = absurd (cc)
     by true true o a b c h = absurd (cc)
     by true false (Err name) a b c h = absurd (cc)
@@ -93,7 +93,7 @@ final_moment ps m y h = by (list_any is_before_pair ps) h
 pub prepared_moment : (r : Record) (m : Meta) → checked r.columns ≡ Ok m → moment_in r.columns (codes "tx_prepared_at") ≡ Some m.prepared_at
 prepared_moment r m says = let t = taken r.columns m says in t.1.says.prepared_at ∙ ap Some (final_moment r.columns t.0 m t.2)
 
-pub shown_read : (r : Reply) (x : Record) → Contains (records_read r) x → Contains (records_shown r) x
+pub shown_read : (r : Reply) (x : Record) → Contains (records_read r) x → Contains (records_observed r) x
 shown_read (reply.Found None) x h = h
 shown_read (reply.Found (Some y)) x h = h
 shown_read (reply.Rows rows) x h = h
@@ -122,8 +122,8 @@ read_asked (access.Scan span) = refl
 
 ---- one call more
 
-module _ (events : List Event) (calls : List Made) (m : Made) (older : AllByRecursion (λ x. x.at < m.at) calls) (now : ℤ) (clock : clock_at events m.at ≡ now) where
-  abbrev pub more : List Made
+module _ (events : List Event) (calls : List StoreCall) (m : StoreCall) (older : AllByRecursion (λ x. x.at < m.at) calls) (now : ℤ) (clock : clock_at events m.at ≡ now) where
+  abbrev pub more : List StoreCall
   more = calls ++ m ∷ []
 
   -- rows that were found are settled
@@ -131,10 +131,10 @@ module _ (events : List Event) (calls : List Made) (m : Made) (older : AllByRecu
   settled_is images [] f k = tt
   settled_is images (r ∷ left) f k = by (kind_of r) refl (settled_is (images ++ r ∷ []) left (record { read = f.read; among = f.among; reads = f.reads; found = f.found.1 }) k.1)
     where
-      bad : is_taken r ≡ false → IsBadRow r
+      bad : is_transactional r ≡ false → IsBadRow r
       bad e = by_table (is_coordinator_table r.key.table) k.0
         where
-          by_table : (b : Bool) → not b ≡ true → MatchBool b ((name : List ℕ) × (decision_in r ≡ Err name)) (is_taken r ≡ false)
+          by_table : (b : Bool) → not b ≡ true → MatchBool b ((name : List ℕ) × (decision_in r ≡ Err name)) (is_transactional r ≡ false)
           by_table true n = clash (sym n)
           by_table false n = e
 
@@ -180,7 +180,7 @@ module _ (events : List Event) (calls : List Made) (m : Made) (older : AllByRecu
     ComesTo (q, steps.Image o) = Unit {0}
     ComesTo (q, steps.Busy id at) = IsBusyBy events more rec.key id at
     ComesTo (q, steps.Faulted) = HasReply is_fault more
-    ComesTo (q, steps.BadRecord key) = ShowsBad more key
+    ComesTo (q, steps.BadRecord key) = ObservesBad more key
     ComesTo (q, steps.NoMemory) = Unit {0}
 
     busy_is : m.request ≡ look_of meta.id → m.reply ≡ reply.Found None → is_expired meta.prepared_at now ≡ false → IsBusyBy events more rec.key meta.id meta.prepared_at
@@ -204,7 +204,7 @@ module _ (events : List Event) (calls : List Made) (m : Made) (older : AllByRecu
         by true h = tt
         by false h = busy_is e f h
 
-    rolled_is : (row : Record) → row.key ≡ coordinator_key_of meta.id → records_shown m.reply ≡ row ∷ [] → ComesTo (roll_to meta (decision_in row))
+    rolled_is : (row : Record) → row.key ≡ coordinator_key_of meta.id → records_observed m.reply ≡ row ∷ [] → ComesTo (roll_to meta (decision_in row))
     rolled_is row same shown = by (decision_in row) refl
       where
         by : (o : Result Decided (List ℕ)) → decision_in row ≡ o → ComesTo (roll_to meta o)
@@ -222,7 +222,7 @@ module _ (events : List Event) (calls : List Made) (m : Made) (older : AllByRecu
 
   pub recovered_is : (rec : Record) (meta : Meta) (left : List Record) (p : RecoverPhase) (before : ResolvesBy calls rec meta p left) (r : Reply) → recover_request_at rec meta p ≡ Some m.request → m.reply ≡ r → CanAnswer m.request m.reply → ComesTo rec meta left p before (recover_next rec meta p now r)
   recovered_is rec meta left phase.Look b (reply.Found None) e f can = undecided_is rec meta left phase.Look b (asked_at rec meta left phase.Look b (look_of meta.id) e) f
-  recovered_is rec meta left phase.Look b (reply.Found (Some row)) e f can = rolled_is rec meta left phase.Look b row (can_at rec meta left phase.Look b (look_of meta.id) (reply.Found (Some row)) (asked_at rec meta left phase.Look b (look_of meta.id) e) f can) (ap records_shown f)
+  recovered_is rec meta left phase.Look b (reply.Found (Some row)) e f can = rolled_is rec meta left phase.Look b row (can_at rec meta left phase.Look b (look_of meta.id) (reply.Found (Some row)) (asked_at rec meta left phase.Look b (look_of meta.id) e) f can) (ap records_observed f)
   recovered_is rec meta left phase.Look b (reply.Rows rows) e f can = tt
   recovered_is rec meta left phase.Look b reply.Applied e f can = tt
   recovered_is rec meta left phase.Look b (reply.NotMet None) e f can = tt
@@ -236,11 +236,11 @@ module _ (events : List Event) (calls : List Made) (m : Made) (older : AllByRecu
   recovered_is rec meta left (phase.Abort n) b (reply.NotMet None) e f can = tt
   recovered_is rec meta left (phase.Abort n) b (reply.NotMet (Some row)) e f can =
       rolled_is rec meta left (phase.Abort n) b row
-      ((can_at rec meta left (phase.Abort n) b (abort_of meta.id n) (reply.NotMet (Some row)) (asked_at rec meta left (phase.Abort n) b (abort_of meta.id n) e) f can).0 ∙ row-key meta.id decision.Aborted n) (ap records_shown f)
+      ((can_at rec meta left (phase.Abort n) b (abort_of meta.id n) (reply.NotMet (Some row)) (asked_at rec meta left (phase.Abort n) b (abort_of meta.id n) e) f can).0 ∙ row-key meta.id decision.Aborted n) (ap records_observed f)
   recovered_is rec meta left (phase.Abort n) b reply.Fault e f can = faulted_now rec meta left (phase.Abort n) b f
   recovered_is rec meta left (phase.Abort n) b reply.NoMemory e f can = tt
   recovered_is rec meta left phase.Again b (reply.Found None) e f can = reply_stays is_fault calls m b.phase
-  recovered_is rec meta left phase.Again b (reply.Found (Some row)) e f can = rolled_is rec meta left phase.Again b row (can_at rec meta left phase.Again b (look_of meta.id) (reply.Found (Some row)) (asked_at rec meta left phase.Again b (look_of meta.id) e) f can) (ap records_shown f)
+  recovered_is rec meta left phase.Again b (reply.Found (Some row)) e f can = rolled_is rec meta left phase.Again b row (can_at rec meta left phase.Again b (look_of meta.id) (reply.Found (Some row)) (asked_at rec meta left phase.Again b (look_of meta.id) e) f can) (ap records_observed f)
   recovered_is rec meta left phase.Again b (reply.Rows rows) e f can = tt
   recovered_is rec meta left phase.Again b reply.Applied e f can = tt
   recovered_is rec meta left phase.Again b (reply.NotMet None) e f can = tt
@@ -285,5 +285,5 @@ module _ (events : List Event) (calls : List Made) (m : Made) (older : AllByRecu
   reads_on a (Ended s) k l h e can = absurd h
 
 -- a read that ends so has its cause
-pub busy_caused : (events : List Event) (c : ℕ) (s : Said) (key : Key) (id : TxId) (at : ℤ) → IsBusyBy events (calls_of events c s) key id at → IsBusy events c s key id at
+pub busy_caused : (events : List Event) (c : ℕ) (s : Executed) (key : Key) (id : TxId) (at : ℤ) → IsBusyBy events (calls_of events c s) key id at → IsBusy events c s key id at
 busy_caused events c s key id at b = record { read = b.read; found = b.found; reads = b.reads; early = b.early }

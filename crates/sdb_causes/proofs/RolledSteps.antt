@@ -25,24 +25,24 @@ use Rattle.sdb_record.specs.Parts.{before_record}
 use Rattle.sdb_record.specs.Rolls.{back_to, forward_record, is_tombstone, undo}
 use Rattle.sdb_record.proofs.ImageLaws.{row-decision, row-key}
 use Rattle.sdb_model.specs.declared.event.Event.{Event}
-use Rattle.sdb_model.specs.Calls.{Made, clock_at, decision_said, is_of_row, is_read, records_read}
+use Rattle.sdb_model.specs.Calls.{StoreCall, clock_at, decision_in_reply, is_of_row, is_read, records_read}
 use Rattle.sdb_model.specs.Causes.{IsEarly}
 use Rattle.sdb_model.specs.Counted.{request_of_back, roll_by}
 use Rattle.sdb_model.specs.Counted as counted
-use Rattle.sdb_model.specs.Noted.{reads_rows}
+use Rattle.sdb_model.specs.ReadSet.{reads_rows}
 use Rattle.sdb_phases.specs.declared.step.RecoverPhase.{RecoverPhase}
 use Rattle.sdb_phases.specs.declared.step.RecoverPhase.TheVariants as phase
 use Rattle.sdb_phases.specs.declared.step.RecoverStep.{RecoverStep}
 use Rattle.sdb_phases.specs.declared.step.RecoverStep.TheVariants as steps
-use Rattle.sdb_phases.specs.Recover.{recover_back, recover_forward, recover_next, recover_request_at, roll_to, stands_found, undecided}
+use Rattle.sdb_phases.specs.Recover.{recover_back, recover_forward, recover_next, recover_request_at, roll_to, is_as_found, undecided}
 use Rattle.sdb_phases.specs.Work.{abort_of, look_of}
 use Rattle.sdb_read.specs.Read.{Asking, Bad, Ended, Firm, Kind, Open, ReadStage, Resolving, answered, kind_of, read_pending_at, read_step, resolved, settle, settle_one}
 use Rattle.sdb_turns.proofs.Meta.{meta_of}
 use Rattle.sdb_vacuum.specs.declared.work.VacuumStep.{VacuumStep}
 use Rattle.sdb_vacuum.specs.declared.work.VacuumStep.TheVariants as sweep
 use Rattle.sdb_vacuum.specs.Vacuum as vacuum
-use Rattle.sdb_vacuum.specs.Vacuum.{First, Malformed, Nothing, Tombstone, Unresolved, VacuumAt, VacuumStage, first_of, first_one, going, goes_on, next_table, pending_at, removal_answered, step_at, tombstone_or}
-use Rattle.sdb_causes.specs.Rolled.{HasLooked, IsDealtWith, IsRolledBy, PhaseLooks, ReadRolls, RolledBut, SweepRolls}
+use Rattle.sdb_vacuum.specs.Vacuum.{First, Malformed, Nothing, Tombstone, Unresolved, VacuumAt, VacuumStage, first_of, first_one, next_of_row, with_call, next_table, pending_at, removal_answered, step_at, tombstone_or}
+use Rattle.sdb_causes.specs.Rolled.{HasLooked, IsDealtWith, IsRolledBy, PhaseLooks, ReadRolls, RolledBut, VacuumRolls}
 use Rattle.sdb_causes.proofs.ReadSteps.{open_is, prepared_moment}
 use Rattle.sdb_causes.proofs.Rows.{after_last, after_more, asks_row, shown_is}
 use Rattle.sdb_story.proofs.Meanings.{state_says}
@@ -54,34 +54,34 @@ use Rattle.sdb_read.proofs.Images.{held_of}
 
 forward_rolls : (rec : Record) (meta : Meta) (d : Decided) (n : ℤ) → d.decision ≡ decision.Committed → d.created_at ≡ n → recover_forward rec meta n ≡ roll_by rec (condition.Version meta.id meta.state) d
 forward_rolls rec meta d n w e =
-    ap (λ x. ask.PutIf (forward_record rec x) (stands_found meta)) (sym e)
-    ∙ ap (λ b. if b then ask.PutIf (forward_record rec d.created_at) (stands_found meta) else request_of_back (back_to rec.key (before_record rec)) (stands_found meta)) (sym (ap counted.is_committed w))
+    ap (λ x. ask.PutIf (forward_record rec x) (is_as_found meta)) (sym e)
+    ∙ ap (λ b. if b then ask.PutIf (forward_record rec d.created_at) (is_as_found meta) else request_of_back (back_to rec.key (before_record rec)) (is_as_found meta)) (sym (ap counted.is_committed w))
 
 back_rolls : (rec : Record) (meta : Meta) (d : Decided) → d.decision ≡ decision.Aborted → recover_back rec meta ≡ roll_by rec (condition.Version meta.id meta.state) d
 back_rolls rec meta d w =
     undone (before_record rec)
-    ∙ ap (λ b. if b then ask.PutIf (forward_record rec d.created_at) (stands_found meta) else request_of_back (back_to rec.key (before_record rec)) (stands_found meta)) (sym (ap counted.is_committed w))
+    ∙ ap (λ b. if b then ask.PutIf (forward_record rec d.created_at) (is_as_found meta) else request_of_back (back_to rec.key (before_record rec)) (is_as_found meta)) (sym (ap counted.is_committed w))
   where
-    undone : (o : Option Record) → undo (stands_found meta) rec.key o ≡ request_of_back (back_to rec.key o) (stands_found meta)
+    undone : (o : Option Record) → undo (is_as_found meta) rec.key o ≡ request_of_back (back_to rec.key o) (is_as_found meta)
     undone None = refl
     undone (Some b) = refl
 
 -- a recovery reads no rows of tables
-pub recovery_unread : (rec : Record) (meta : Meta) (p : RecoverPhase) (m : Made) → recover_request_at rec meta p ≡ Some m.request → reads_rows m ≡ false
+pub recovery_unread : (rec : Record) (meta : Meta) (p : RecoverPhase) (m : StoreCall) → recover_request_at rec meta p ≡ Some m.request → reads_rows m ≡ false
 recovery_unread rec meta phase.Look m e = look_rows m meta.id (sym (some_is (look_of meta.id) m.request e))
 recovery_unread rec meta (phase.Abort n) m e = unread_rows m (ap is_read (sym (some_is (abort_of meta.id n) m.request e)))
 recovery_unread rec meta phase.Again m e = look_rows m meta.id (sym (some_is (look_of meta.id) m.request e))
 recovery_unread rec meta (phase.Forward n) m e = unread_rows m (ap is_read (sym (some_is (recover_forward rec meta n) m.request e)))
-recovery_unread rec meta phase.Back m e = unread_rows m (ap is_read (sym (some_is (recover_back rec meta) m.request e)) ∙ undo_unread (stands_found meta) rec.key (before_record rec))
+recovery_unread rec meta phase.Back m e = unread_rows m (ap is_read (sym (some_is (recover_back rec meta) m.request e)) ∙ undo_unread (is_as_found meta) rec.key (before_record rec))
 recovery_unread rec meta phase.Ended m e = none_some m.request e
 
 ---- one call more
 
-module _ (events : List Event) (sweeps : Bool) (calls : List Made) (m : Made) (older : AllByRecursion (λ x. x.at < m.at) calls) where
-  abbrev more : List Made
+module _ (events : List Event) (sweeps : Bool) (calls : List StoreCall) (m : StoreCall) (older : AllByRecursion (λ x. x.at < m.at) calls) where
+  abbrev more : List StoreCall
   more = calls ++ m ∷ []
 
-  dealt_stays : (read : Made) (r : Record) → IsDealtWith events sweeps calls read r → IsDealtWith events sweeps more read r
+  dealt_stays : (read : StoreCall) (r : Record) → IsDealtWith events sweeps calls read r → IsDealtWith events sweeps more read r
   dealt_stays read r (inl h) = inl (record {
     id = h.id;
     state = h.state;
@@ -105,7 +105,7 @@ module _ (events : List Event) (sweeps : Bool) (calls : List Made) (m : Made) (o
 
       by : Contains calls x ⊎ (m ≡ x) → Contains left r ⊎ IsDealtWith events sweeps more x r
       by (inl k) = kept (h x r k reads found open_still)
-      by (inr e) = clash (sym reads ∙ ap (λ (y : Made). reads_rows y) (sym e) ∙ f)
+      by (inr e) = clash (sym reads ∙ ap (λ (y : StoreCall). reads_rows y) (sym e) ∙ f)
 
   -- one that does
   rows_add : (q : Reply) → m.reply ≡ q → RolledBut events sweeps calls [] → RolledBut events sweeps more (records_read q)
@@ -117,10 +117,10 @@ module _ (events : List Event) (sweeps : Bool) (calls : List Made) (m : Made) (o
 
       by : Contains calls x ⊎ (m ≡ x) → Contains (records_read q) r ⊎ IsDealtWith events sweeps more x r
       by (inl k) = kept (h x r k reads found open_still)
-      by (inr e) = inl (subst (λ (y : Reply). Contains (records_read y) r) is (subst (λ (y : Made). Contains (records_read y.reply) r) (sym e) found))
+      by (inr e) = inl (subst (λ (y : Reply). Contains (records_read y) r) is (subst (λ (y : StoreCall). Contains (records_read y.reply) r) (sym e) found))
 
   -- one of the records that were left is dealt with
-  one_dealt : (r : Record) (left : List Record) → (is_unresolved r ≡ true → (x : Made) → Contains more x → reads_rows x ≡ true → IsDealtWith events sweeps more x r) → RolledBut events sweeps more (r ∷ left) → RolledBut events sweeps more left
+  one_dealt : (r : Record) (left : List Record) → (is_unresolved r ≡ true → (x : StoreCall) → Contains more x → reads_rows x ≡ true → IsDealtWith events sweeps more x r) → RolledBut events sweeps more (r ∷ left) → RolledBut events sweeps more left
   one_dealt r left deals h x y has reads found open_still = by (h x y has reads found open_still)
     where
       first : (r ≡ y) ⊎ Contains left y → Contains left y ⊎ IsDealtWith events sweeps more x y
@@ -162,15 +162,15 @@ module _ (events : List Event) (sweeps : Bool) (calls : List Made) (m : Made) (o
     says = (open_is rec meta is_open).1
 
     -- the reads so far
-    old : reads_rows m ≡ false → (read : Made) → Contains more read → reads_rows read ≡ true → Contains calls read
+    old : reads_rows m ≡ false → (read : StoreCall) → Contains more read → reads_rows read ≡ true → Contains calls read
     old f read has reads = by (Contains-push_cases calls m read has)
       where
         by : Contains calls read ⊎ (m ≡ read) → Contains calls read
         by (inl k) = k
-        by (inr e) = clash (sym reads ∙ ap (λ (y : Made). reads_rows y) (sym e) ∙ f)
+        by (inr e) = clash (sym reads ∙ ap (λ (y : StoreCall). reads_rows y) (sym e) ∙ f)
 
-    abbrev OfReads : (Made → Type 0) → Type 0
-    OfReads P = (read : Made) → Contains calls read → reads_rows read ≡ true → P read
+    abbrev OfReads : (StoreCall → Type 0) → Type 0
+    OfReads P = (read : StoreCall) → Contains calls read → reads_rows read ≡ true → P read
 
     -- what a recovery comes to
     abbrev ComesTo : RecoverPhase × RecoverStep → Type 0
@@ -181,15 +181,15 @@ module _ (events : List Event) (sweeps : Bool) (calls : List Made) (m : Made) (o
     ComesTo (x, steps.BadRecord key) = Unit {0}
     ComesTo (x, steps.NoMemory) = Unit {0}
 
-    looked_now : (d : Decided) → reads_rows m ≡ false → is_of_row meta.id m.request ≡ true → decision_said m.request m.reply ≡ Some d → HasLooked more meta.id d
+    looked_now : (d : Decided) → reads_rows m ≡ false → is_of_row meta.id m.request ≡ true → decision_in_reply m.request m.reply ≡ Some d → HasLooked more meta.id d
     looked_now d f t e = record { look = m; among = Contains-push calls m; shown = shown_is meta.id m (Some d) t e; later = λ read has reads. after_last meta.id calls m older read (old f read has reads) }
 
-    rolled_comes : (row : Record) → reads_rows m ≡ false → is_of_row meta.id m.request ≡ true → decision_said m.request m.reply ≡ result_ok (decision_in row) → ComesTo (roll_to meta (decision_in row))
-    rolled_comes row f t said = by (decision_in row) refl
+    rolled_comes : (row : Record) → reads_rows m ≡ false → is_of_row meta.id m.request ≡ true → decision_in_reply m.request m.reply ≡ result_ok (decision_in row) → ComesTo (roll_to meta (decision_in row))
+    rolled_comes row f t executed = by (decision_in row) refl
       where
         by_decision : (d : Decided) (w : Decision) → decision_in row ≡ Ok d → d.decision ≡ w → ComesTo (elim w [ decision.Committed ↦ (phase.Forward d.created_at, steps.More) | decision.Aborted ↦ (phase.Back, steps.More) ])
-        by_decision d decision.Committed e w = (d, looked_now d f t (said ∙ ap result_ok e), w, refl)
-        by_decision d decision.Aborted e w = (d, looked_now d f t (said ∙ ap result_ok e), w)
+        by_decision d decision.Committed e w = (d, looked_now d f t (executed ∙ ap result_ok e), w, refl)
+        by_decision d decision.Aborted e w = (d, looked_now d f t (executed ∙ ap result_ok e), w)
 
         by : (o : Result Decided (List ℕ)) → decision_in row ≡ o → ComesTo (roll_to meta o)
         by (Err name) e = tt
@@ -216,8 +216,8 @@ module _ (events : List Event) (sweeps : Bool) (calls : List Made) (m : Made) (o
     abort_row : (n : ℤ) → m.request ≡ abort_of meta.id n → is_of_row meta.id m.request ≡ true
     abort_row n e = ap (is_of_row meta.id) e ∙ asks_row meta.id (abort_of meta.id n) (coordinator_row_of meta.id decision.Aborted n).key refl (row-key meta.id decision.Aborted n)
 
-    said_by : (x : Request) (r : Reply) → m.request ≡ x → m.reply ≡ r → decision_said m.request m.reply ≡ decision_said x r
-    said_by x r e f = ap (λ (y : Request). decision_said y m.reply) e ∙ ap (decision_said x) f
+    said_by : (x : Request) (r : Reply) → m.request ≡ x → m.reply ≡ r → decision_in_reply m.request m.reply ≡ decision_in_reply x r
+    said_by x r e f = ap (λ (y : Request). decision_in_reply y m.reply) e ∙ ap (decision_in_reply x) f
 
     look_comes : (r : Reply) → m.request ≡ look_of meta.id → m.reply ≡ r → ComesTo (recover_next rec meta phase.Look now r)
     look_comes (reply.Found None) e f = undecided_comes e f
@@ -325,8 +325,8 @@ module _ (events : List Event) (sweeps : Bool) (calls : List Made) (m : Made) (o
 
   -- where a step leads
   abbrev pub SweepsTo : VacuumStep → VacuumAt → Type 0
-  SweepsTo sweep.More v = SweepRolls events sweeps (calls ++ m ∷ []) v.stage
-  SweepsTo (sweep.Count n) v = RolledBut events sweeps (calls ++ m ∷ []) []
+  SweepsTo vacuuming.More v = VacuumRolls events sweeps (calls ++ m ∷ []) v.stage
+  SweepsTo (vacuuming.Count n) v = RolledBut events sweeps (calls ++ m ∷ []) []
   SweepsTo s v = Unit {0}
 
   abbrev Sweeps : VacuumAt × VacuumStep → Type 0
@@ -349,13 +349,13 @@ module _ (events : List Event) (sweeps : Bool) (calls : List Made) (m : Made) (o
   next_sweeps [] n h = h
   next_sweeps (s ∷ ss) n h = h
 
-  going_sweeps : (ss : List Span) (n : ℕ) (f : First) → FirstRolls f → Sweeps (going ss n f)
+  going_sweeps : (ss : List Span) (n : ℕ) (f : First) → FirstRolls f → Sweeps (next_of_row ss n f)
   going_sweeps ss n Nothing h = next_sweeps ss n h
   going_sweeps ss n (Tombstone b left) h = h
   going_sweeps ss n (Unresolved r meta left) h = (h.0, h.1, tt)
   going_sweeps ss n (Malformed key) h = tt
 
-  on_sweeps : (ss : List Span) (n : ℕ) (left : List Record) → RolledBut events sweeps more left → Sweeps (going ss n (first_of left))
+  on_sweeps : (ss : List Span) (n : ℕ) (left : List Record) → RolledBut events sweeps more left → Sweeps (next_of_row ss n (first_of left))
   on_sweeps ss n left h = going_sweeps ss n (first_of left) (first_rolls left h)
 
   answered_sweeps : (ss : List Span) (n : ℕ) (r : Reply) → RolledBut events sweeps more (records_read r) → Sweeps (vacuum.answered ss n r)
@@ -369,7 +369,7 @@ module _ (events : List Event) (sweeps : Bool) (calls : List Made) (m : Made) (o
   image_sweeps : (ss : List Span) (n : ℕ) (left : List Record) (b : Record) → RolledBut events sweeps more left → Sweeps (tombstone_or ss n left b)
   image_sweeps ss n left b h = by (is_tombstone b)
     where
-      by : (t : Bool) → Sweeps (if t then goes_on ss n (vacuum.Removing b left) else going ss n (first_of left))
+      by : (t : Bool) → Sweeps (if t then with_call ss n (vacuum.Removing b left) else next_of_row ss n (first_of left))
       by true = h
       by false = on_sweeps ss n left h
 
@@ -394,7 +394,7 @@ module _ (events : List Event) (sweeps : Bool) (calls : List Made) (m : Made) (o
   asks_unread b None e = none_some m.request e
   asks_unread b (Some id) e = unread_rows m (ap is_read (sym (some_is (ask.DeleteIf b.key (condition.Version id state.Committed)) m.request e)))
 
-  pub sweep_rolls : (now : ℤ) → clock_at events m.at ≡ now → is_moment now ≡ true → sweeps ≡ true → (ss : List Span) (n : ℕ) (s : VacuumStage) → SweepRolls events sweeps calls s → pending_at s ≡ Some m.request → Sweeps (step_at ss n s now m.reply)
+  pub sweep_rolls : (now : ℤ) → clock_at events m.at ≡ now → is_moment now ≡ true → sweeps ≡ true → (ss : List Span) (n : ℕ) (s : VacuumStage) → VacuumRolls events sweeps calls s → pending_at s ≡ Some m.request → Sweeps (step_at ss n s now m.reply)
   sweep_rolls now clock moment is ss n (vacuum.Scanning span) h e = answered_sweeps ss n m.reply (rows_add m.reply refl h)
   sweep_rolls now clock moment is ss n (vacuum.Resolving rec meta p left) h e =
       resolved_sweeps now clock moment rec meta h.1 is ss n left (recovery_unread rec meta p m e) h.0 (recover_next rec meta p now m.reply) (recovered_comes now clock moment rec meta h.1 p h.2 e)

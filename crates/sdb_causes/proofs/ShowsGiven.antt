@@ -14,24 +14,24 @@ use Rattle.sdb_model.specs.declared.answer.Answer.TheVariants as answer
 use Rattle.sdb_model.specs.declared.event.Event.{Event}
 use Rattle.sdb_model.specs.Causes.{refused}
 use Rattle.sdb_model.specs.Exec.{named_table}
-use Rattle.sdb_model.specs.Noted.{has_finished, read_finished}
+use Rattle.sdb_model.specs.ReadSet.{has_finished, read_finished}
 use Rattle.sdb_model.specs.Sql.{Reads}
-use Rattle.sdb_model.specs.Transactions.{Said, changes_nothing, from_begin, rest_of}
+use Rattle.sdb_model.specs.Transactions.{Executed, changes_nothing, from_begin, rest_of}
 use Rattle.sdb_exec.specs.declared.plan.PlanStep.{PlanStep}
 use Rattle.sdb_exec.specs.declared.plan.PlanStep.TheVariants.{Finished}
 use Rattle.sdb_exec.specs.Plans.{Planned, answer_on, changes_on, first_unfit}
 use Rattle.sdb_exec.specs.Reads.{access_of}
-use Rattle.sdb_snapshot.specs.Held.{WereRead}
-use Rattle.sdb_snapshot.specs.Noted.{is_noted}
+use Rattle.sdb_snapshot.specs.Sets.{WereRead}
+use Rattle.sdb_snapshot.specs.Reads.{is_key_read}
 use Rattle.sdb_snapshot.specs.Seen.{overlay, row_seen}
 use Rattle.sdb_snapshot.specs.Written.{with_writes}
 use Rattle.sdb_snapshot.proofs.Shown.{no_row}
 use Rattle.sdb_txn.specs.declared.txn.Doing.TheVariants as doing
 use Rattle.sdb_txn.specs.Txn.{TxnAt}
 use Rattle.sdb_client.specs.Client.{given_answer, given_left, gives, left_by_answer, too_many, written}
-use Rattle.sdb_causes.specs.Shows.{HasBefore, IsShowing, SeesOwn, GivesOwn}
-use Rattle.sdb_causes.specs.Tied.{begun_in, open_after}
-use Rattle.sdb_causes.specs.Unfit.{SeesFit}
+use Rattle.sdb_causes.specs.Views.{HasBefore, IsViewOf, SeesOwn, GivesOwn}
+use Rattle.sdb_causes.specs.Invariant.{begun_in, open_after}
+use Rattle.sdb_causes.specs.Unfit.{SeesWellTyped}
 use Rattle.sdb_causes.proofs.Given.{asked_gives, gives_finished}
 use Rattle.sdb_causes.proofs.OneRow.{key_told, one_row_left, rows_told}
 use Rattle.sdb_causes.proofs.Shows.{effective_by, has_kept, has_next, sees_same, tells_none}
@@ -83,9 +83,9 @@ given_by p a was v asked = by (first_unfit p.table (overlay a v.seen)) refl
 
 ---- a statement
 
-module _ (catalog : List Table) (events : List Event) (c : ℕ) (body : List Said) (s : Said) (p : Planned) (a : Access) (is : is_catalog catalog ≡ true) (reads : Reads s.text p.statement) (named : named_table catalog p.statement ≡ Some p.table) (asked : p.asked ≡ true) (access_is : a ≡ access_of p.table p.statement) (was v : TxnAt)
+module _ (catalog : List Table) (events : List Event) (c : ℕ) (body : List Executed) (s : Executed) (p : Planned) (a : Access) (is : is_catalog catalog ≡ true) (reads : Reads s.text p.statement) (named : named_table catalog p.statement ≡ Some p.table) (asked : p.asked ≡ true) (access_is : a ≡ access_of p.table p.statement) (was v : TxnAt)
     (answered : s.answer ≡ Some (given_answer v (gives p a v)))
-    (now : has_finished s ≡ true → (key : Key) → is_noted v.seen.notes key ≡ true → HasBefore catalog events c body s key (row_seen v.seen.notes v.seen.writes key)) where
+    (now : has_finished s ≡ true → (key : Key) → is_key_read v.seen.read_set key ≡ true → HasBefore catalog events c body s key (row_seen v.seen.read_set v.seen.writes key)) where
   -- its read has finished, by its answer
   finishes : read_finished (given_answer v (gives p a v)) ≡ true → has_finished s ≡ true
   finishes f = ap (λ (o : Option Answer). option_map_or read_finished o false) answered ∙ f
@@ -95,7 +95,7 @@ module _ (catalog : List Table) (events : List Event) (c : ℕ) (body : List Sai
   from_rows some = finishes (gives_finished p (overlay a v.seen) v some)
 
   -- what it is answered on the rows that it sees
-  tells_on : has_finished s ≡ true → WereRead v.seen.notes v.seen.writes → (b : Answer) → answer_on p.table p.statement (overlay a v.seen) ≡ b → GivesOwn catalog events c body s b
+  tells_on : has_finished s ≡ true → WereRead v.seen.read_set v.seen.writes → (b : Answer) → answer_on p.table p.statement (overlay a v.seen) ≡ b → GivesOwn catalog events c body s b
   tells_on told kept (answer.Rows rows) e =
       let r = rows_told p.table p.statement a v.seen rows e in (
         p.table,
@@ -104,12 +104,12 @@ module _ (catalog : List Table) (events : List Event) (c : ℕ) (body : List Sai
         subst (Reads s.text) r.2 reads,
         ap (named_table catalog) (sym r.2) ∙ named,
         r.3,
-        each_any (λ (x : Image). row_seen v.seen.notes v.seen.writes x.key ≡ Some x.columns) (λ (x : Image). HasBefore catalog events c body s x.key (Some x.columns)) r.1 (λ x f. subst (HasBefore catalog events c body s x.key) f (now told x.key (no_row v.seen.notes v.seen.writes x.key kept (ap is_some f)))) r.4,
+        each_any (λ (x : Image). row_seen v.seen.read_set v.seen.writes x.key ≡ Some x.columns) (λ (x : Image). HasBefore catalog events c body s x.key (Some x.columns)) r.1 (λ x f. subst (HasBefore catalog events c body s x.key) f (now told x.key (no_row v.seen.read_set v.seen.writes x.key kept (ap is_some f)))) r.4,
       )
-  tells_on told kept (answer.Duplicate key) e = let r = key_told p.table p.statement a v.seen key e in (r.0, subst (HasBefore catalog events c body s key) r.1 (now told key (no_row v.seen.notes v.seen.writes key kept (ap is_some r.1))))
+  tells_on told kept (answer.Duplicate key) e = let r = key_told p.table p.statement a v.seen key e in (r.0, subst (HasBefore catalog events c body s key) r.1 (now told key (no_row v.seen.read_set v.seen.writes key kept (ap is_some r.1))))
   tells_on told kept b e = tt
 
-  pub tells_given : WereRead v.seen.notes v.seen.writes → GivesOwn catalog events c body s (given_answer v (gives p a v))
+  pub tells_given : WereRead v.seen.read_set v.seen.writes → GivesOwn catalog events c body s (given_answer v (gives p a v))
   tells_given kept = by (given_by p a was v asked)
     where
       by_given : IsGiven was v (answer_on p.table p.statement (overlay a v.seen)) (changes_on p.table p.statement (overlay a v.seen)) (gives p a v) → GivesOwn catalog events c body s (given_answer v (gives p a v))
@@ -121,7 +121,7 @@ module _ (catalog : List Table) (events : List Event) (c : ℕ) (body : List Sai
       by (inl h) = tells_none catalog events c body s (given_answer v (gives p a v)) h.0
       by (inr h) = by_given h.1
 
-  module _ (before : SeesOwn catalog events c body was.seen) (fits : first_unfit p.table (overlay a v.seen) ≡ None → SeesFit catalog v.seen) where
+  module _ (before : SeesOwn catalog events c body was.seen) (fits : first_unfit p.table (overlay a v.seen) ≡ None → SeesWellTyped catalog v.seen) where
     -- where nothing was changed
     sees_was : changes_nothing (given_answer v (gives p a v)) ≡ true → given_left was v (gives p a v) ≡ was → SeesOwn catalog events c (body ++ s ∷ []) (given_left was v (gives p a v)).seen
     sees_was nothing left = subst (λ (u : TxnAt). SeesOwn catalog events c (body ++ s ∷ []) u.seen) (sym left) (sees_same catalog events c body s was.seen (effective_by s (given_answer v (gives p a v)) true answered nothing) before)
@@ -130,18 +130,18 @@ module _ (catalog : List Table) (events : List Event) (c : ℕ) (body : List Sai
     sees_kept : IsKept was v (gives p a v) → SeesOwn catalog events c (body ++ s ∷ []) (given_left was v (gives p a v)).seen
     sees_kept k =
         subst (λ (u : TxnAt). SeesOwn catalog events c (body ++ s ∷ []) u.seen) (sym k.2)
-        (λ key noted. has_kept catalog events c body s key (row_seen v.seen.notes v.seen.writes key) (effective_by s (given_answer v (gives p a v)) true answered k.0) (now (finishes k.1) key noted))
+        (λ key as_read. has_kept catalog events c body s key (row_seen v.seen.read_set v.seen.writes key) (effective_by s (given_answer v (gives p a v)) true answered k.0) (now (finishes k.1) key as_read))
 
     -- where its changes are written
-    sees_written : changes_nothing (given_answer v (gives p a v)) ≡ false → SeesFit catalog v.seen → SeesOwn catalog events c (body ++ s ∷ []) (written v (changes_on p.table p.statement (overlay a v.seen))).seen
-    sees_written some fit key noted =
-        has_next catalog events c body s key (row_seen v.seen.notes v.seen.writes key) (row_seen v.seen.notes (with_writes v.seen.notes v.seen.writes (changes_on p.table p.statement (overlay a v.seen))) key) p.statement (effective_by s (given_answer v (gives p a v)) false answered some) reads
-        (one_row_left catalog p.table p.statement v.seen is named fit key ∙ ap (λ x. row_seen v.seen.notes (with_writes v.seen.notes v.seen.writes (changes_on p.table p.statement (overlay x v.seen))) key) (sym access_is)) (now (from_rows some) key noted)
+    sees_written : changes_nothing (given_answer v (gives p a v)) ≡ false → SeesWellTyped catalog v.seen → SeesOwn catalog events c (body ++ s ∷ []) (written v (changes_on p.table p.statement (overlay a v.seen))).seen
+    sees_written some fit key as_read =
+        has_next catalog events c body s key (row_seen v.seen.read_set v.seen.writes key) (row_seen v.seen.read_set (with_writes v.seen.read_set v.seen.writes (changes_on p.table p.statement (overlay a v.seen))) key) p.statement (effective_by s (given_answer v (gives p a v)) false answered some) reads
+        (one_row_left catalog p.table p.statement v.seen is named fit key ∙ ap (λ x. row_seen v.seen.read_set (with_writes v.seen.read_set v.seen.writes (changes_on p.table p.statement (overlay x v.seen))) key) (sym access_is)) (now (from_rows some) key as_read)
 
     pub sees_given : SeesOwn catalog events c (body ++ s ∷ []) (given_left was v (gives p a v)).seen
     sees_given = by (given_by p a was v asked)
       where
-        by_given : SeesFit catalog v.seen → IsGiven was v (answer_on p.table p.statement (overlay a v.seen)) (changes_on p.table p.statement (overlay a v.seen)) (gives p a v) → SeesOwn catalog events c (body ++ s ∷ []) (given_left was v (gives p a v)).seen
+        by_given : SeesWellTyped catalog v.seen → IsGiven was v (answer_on p.table p.statement (overlay a v.seen)) (changes_on p.table p.statement (overlay a v.seen)) (gives p a v) → SeesOwn catalog events c (body ++ s ∷ []) (given_left was v (gives p a v)).seen
         by_given fit (inl h) = sees_was h.0 h.1
         by_given fit (inr (inl h)) = sees_kept h
         by_given fit (inr (inr h)) = subst (λ (u : TxnAt). SeesOwn catalog events c (body ++ s ∷ []) u.seen) (sym h.2) (sees_written h.0 fit)
@@ -151,9 +151,9 @@ module _ (catalog : List Table) (events : List Event) (c : ℕ) (body : List Sai
         by (inr h) = by_given (fits h.0) h.1
 
 -- A statement that is answered so shows rows that its transaction has, and the transaction goes on with such.
-pub next_given : (catalog : List Table) (events : List Event) (c n : ℕ) (told : List Said) (s begin : Said) (body : List Said) (p : Planned) (a : Access) (was v : TxnAt) → from_begin n told ≡ begin ∷ body → n ≡ begun_in told → is_catalog catalog ≡ true → Reads s.text p.statement → named_table catalog p.statement ≡ Some p.table → p.asked ≡ true → a ≡ access_of p.table p.statement
-    → s.answer ≡ Some (given_answer v (gives p a v)) → (given_left was v (gives p a v)).doing ≡ doing.Idle → WereRead v.seen.notes v.seen.writes → (first_unfit p.table (overlay a v.seen) ≡ None → SeesFit catalog v.seen) → SeesOwn catalog events c body was.seen → (has_finished s ≡ true → (key : Key) → is_noted v.seen.notes key ≡ true → HasBefore catalog events c body s key (row_seen v.seen.notes v.seen.writes key))
-    → (open_after told ≡ true → GivesOwn catalog events c (rest_of (from_begin (begun_in told) told)) s (given_answer v (gives p a v))) × IsShowing catalog events c (rest_of (from_begin n (told ++ s ∷ []))) (given_left was v (gives p a v))
+pub next_given : (catalog : List Table) (events : List Event) (c n : ℕ) (told : List Executed) (s begin : Executed) (body : List Executed) (p : Planned) (a : Access) (was v : TxnAt) → from_begin n told ≡ begin ∷ body → n ≡ begun_in told → is_catalog catalog ≡ true → Reads s.text p.statement → named_table catalog p.statement ≡ Some p.table → p.asked ≡ true → a ≡ access_of p.table p.statement
+    → s.answer ≡ Some (given_answer v (gives p a v)) → (given_left was v (gives p a v)).doing ≡ doing.Idle → WereRead v.seen.read_set v.seen.writes → (first_unfit p.table (overlay a v.seen) ≡ None → SeesWellTyped catalog v.seen) → SeesOwn catalog events c body was.seen → (has_finished s ≡ true → (key : Key) → is_key_read v.seen.read_set key ≡ true → HasBefore catalog events c body s key (row_seen v.seen.read_set v.seen.writes key))
+    → (open_after told ≡ true → GivesOwn catalog events c (rest_of (from_begin (begun_in told) told)) s (given_answer v (gives p a v))) × IsViewOf catalog events c (rest_of (from_begin n (told ++ s ∷ []))) (given_left was v (gives p a v))
 next_given catalog events c n told s begin body p a was v since number is reads named asked access_is answered idles kept fits before now = (
   λ opened. subst (λ r. GivesOwn catalog events c r s (given_answer v (gives p a v))) (sym (ap (λ i. rest_of (from_begin i told)) (sym number) ∙ ap rest_of since)) (tells_given catalog events c body s p a is reads named asked access_is was v answered now kept),
   showing_idle catalog events c n told s begin body (given_left was v (gives p a v)) since idles (sees_given catalog events c body s p a is reads named asked access_is was v answered now before fits),

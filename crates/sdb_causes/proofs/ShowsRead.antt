@@ -26,22 +26,22 @@ use Rattle.sdb_record.specs.Among.{is_written, write_among}
 use Rattle.sdb_schema.specs.declared.table.Table.{Table}
 use Rattle.sdb_model.specs.declared.event.Event.{Event}
 use Rattle.sdb_model.specs.Access.{in_access}
-use Rattle.sdb_model.specs.Calls.{Made, calls_of, records_read}
-use Rattle.sdb_model.specs.Explained.{IsTableKey, Shows}
-use Rattle.sdb_model.specs.Noted.{has_finished}
-use Rattle.sdb_model.specs.Shown.{WasFound}
+use Rattle.sdb_model.specs.Calls.{StoreCall, calls_of, records_read}
+use Rattle.sdb_model.specs.Explained.{IsTableKey, Observes}
+use Rattle.sdb_model.specs.ReadSet.{has_finished}
+use Rattle.sdb_model.specs.DirtyReads.{WasFound}
 use Rattle.sdb_model.specs.Sql.{reads_vacuum}
-use Rattle.sdb_model.specs.Transactions.{Said}
+use Rattle.sdb_model.specs.Transactions.{Executed}
 use Rattle.sdb_read.specs.Read.{request_of}
-use Rattle.sdb_snapshot.specs.Held.{WereRead}
-use Rattle.sdb_snapshot.specs.Noted.{base_at, is_noted}
+use Rattle.sdb_snapshot.specs.Sets.{WereRead}
+use Rattle.sdb_snapshot.specs.Reads.{base_at, is_key_read}
 use Rattle.sdb_snapshot.specs.Rows.{row_found}
 use Rattle.sdb_snapshot.specs.Seen.{Seen, row_seen, row_with}
 use Rattle.sdb_story.proofs.Meanings.{among_found}
 use Rattle.sdb_txn.specs.Txn.{TxnAt}
-use Rattle.sdb_client.specs.Client.{noting}
-use Rattle.sdb_causes.specs.Moves.{HasRead, IsRows}
-use Rattle.sdb_causes.specs.Shows.{HasBefore, SeesOwn}
+use Rattle.sdb_client.specs.Client.{with_rows_read}
+use Rattle.sdb_causes.specs.Changes.{HasRead, IsRows}
+use Rattle.sdb_causes.specs.Views.{HasBefore, SeesOwn}
 use Rattle.sdb_causes.proofs.Ends.{first_in}
 use Rattle.sdb_causes.proofs.Moving.{scan_shows}
 use Rattle.sdb_causes.proofs.Settling.{found_meant, got_image}
@@ -51,11 +51,11 @@ use Rattle.sdb_causes.proofs.Unfit.{IsReadAt, at_note, found_new, new_read, note
 ---- what a call found
 
 -- the call shows it
-shows_it : (m : Made) (q : Request) (r : Reply) (key : Key) (found : Option Record) → m.request ≡ q → m.reply ≡ r → Shows q r key found → Shows m.request m.reply key found
-shows_it m q r key found e f h = subst (λ (x : Request). Shows x m.reply key found) (sym e) (subst (λ (x : Reply). Shows q x key found) (sym f) h)
+shows_it : (m : StoreCall) (q : Request) (r : Reply) (key : Key) (found : Option Record) → m.request ≡ q → m.reply ≡ r → Observes q r key found → Observes m.request m.reply key found
+shows_it m q r key found e f h = subst (λ (x : Request). Observes x m.reply key found) (sym e) (subst (λ (x : Reply). Observes q x key found) (sym f) h)
 
 -- a get found a record, or none
-got_by : (calls : List Made) (k : Key) (images : List Record) (h : HasRead (ask.Get k) calls images []) → WasFound calls k (row_found (slice_get images 0))
+got_by : (calls : List StoreCall) (k : Key) (images : List Record) (h : HasRead (ask.Get k) calls images []) → WasFound calls k (row_found (slice_get images 0))
 got_by calls k images h = by h.first.reply refl h.can h.told
   where
     by : (r : Reply) → h.first.reply ≡ r → CanAnswer (ask.Get k) r → IsRows r → WasFound calls k (row_found (slice_get images 0))
@@ -74,7 +74,7 @@ got_by calls k images h = by h.first.reply refl h.can h.told
     by reply.NoMemory e can told = absurd told
 
 -- what a read found at a key that it noted
-found_by : (calls : List Made) (a : Access) (images : List Record) (h : HasRead (request_of a) calls images []) → (q : Key) (o : Option Record) → found_new a images q ≡ Some o → WasFound calls q (row_found o)
+found_by : (calls : List StoreCall) (a : Access) (images : List Record) (h : HasRead (request_of a) calls images []) → (q : Key) (o : Option Record) → found_new a images q ≡ Some o → WasFound calls q (row_found o)
 found_by calls (access.Get k) images h q o e = by (same_key q k) refl e
   where
     by : (t : Bool) → same_key q k ≡ t → cond t (Some (slice_get images 0)) None ≡ Some o → WasFound calls q (row_found o)
@@ -100,7 +100,7 @@ found_by calls (access.Scan span) images h q o e = by (record_among images q) re
     by (Some b) s f = subst (λ (x : Option Record). WasFound calls q (row_found x)) (some_is (Some b) o f) (found b s)
 
 -- the key is one of the read's
-new_inside : (calls : List Made) (a : Access) (images : List Record) (h : HasRead (request_of a) calls images []) (q : Key) (o : Option Record) → found_new a images q ≡ Some o → in_access a q ≡ true
+new_inside : (calls : List StoreCall) (a : Access) (images : List Record) (h : HasRead (request_of a) calls images []) (q : Key) (o : Option Record) → found_new a images q ≡ Some o → in_access a q ≡ true
 new_inside calls (access.Get k) images h q o e = by (same_key q k) refl e
   where
     by : (t : Bool) → same_key q k ≡ t → cond t (Some (slice_get images 0)) None ≡ Some o → in_access (access.Get k) q ≡ true
@@ -115,11 +115,11 @@ new_inside calls (access.Scan span) images h q o e = by (record_among images q) 
 ---- what a transaction then sees
 
 -- by what was noted at the key, and what was found there now
-row_now : (t : TxnAt) (a : Access) (images : List Record) (q : Key) → row_seen (noting t a images).seen.notes (noting t a images).seen.writes q ≡ row_with (write_among t.seen.writes q) (at_note (or_else (value_at t.seen.notes q) (found_new a images q)))
-row_now t a images q = ap (λ ws. row_with (write_among ws q) (base_at (noting t a images).seen.notes q)) (same_writes t a images) ∙ ap (λ x. row_with (write_among t.seen.writes q) (at_note x)) (noted_now t a images q)
+row_now : (t : TxnAt) (a : Access) (images : List Record) (q : Key) → row_seen (with_rows_read t a images).seen.read_set (with_rows_read t a images).seen.writes q ≡ row_with (write_among t.seen.writes q) (at_note (or_else (value_at t.seen.read_set q) (found_new a images q)))
+row_now t a images q = ap (λ ws. row_with (write_among ws q) (base_at (with_rows_read t a images).seen.read_set q)) (same_writes t a images) ∙ ap (λ x. row_with (write_among t.seen.writes q) (at_note x)) (noted_now t a images q)
 
 -- a key that wasn't read isn't written
-pub unwritten : (s : Seen) (q : Key) → WereRead s.notes s.writes → is_noted s.notes q ≡ false → write_among s.writes q ≡ None
+pub unwritten : (s : Seen) (q : Key) → WereRead s.read_set s.writes → is_key_read s.read_set q ≡ false → write_among s.writes q ≡ None
 unwritten s q kept f = by (write_among s.writes q) refl
   where
     by : (o : Option Write) → write_among s.writes q ≡ o → write_among s.writes q ≡ None
@@ -127,27 +127,27 @@ unwritten s q kept f = by (write_among s.writes q) refl
     by (Some w) e = clash (sym (kept q (ap is_some e)) ∙ f)
 
 -- it had read what it wrote
-pub kept_now : (t : TxnAt) (a : Access) (images : List Record) → WereRead t.seen.notes t.seen.writes → WereRead (noting t a images).seen.notes (noting t a images).seen.writes
-kept_now t a images kept q written = some (value_at t.seen.notes q) (kept q (subst (λ ws. is_written ws q ≡ true) (same_writes t a images) written)) (noted_now t a images q)
+pub kept_now : (t : TxnAt) (a : Access) (images : List Record) → WereRead t.seen.read_set t.seen.writes → WereRead (with_rows_read t a images).seen.read_set (with_rows_read t a images).seen.writes
+kept_now t a images kept q written = some (value_at t.seen.read_set q) (kept q (subst (λ ws. is_written ws q ≡ true) (same_writes t a images) written)) (noted_now t a images q)
   where
-    some : (x : Option (Option Record)) → is_some x ≡ true → value_at (noting t a images).seen.notes q ≡ or_else x (found_new a images q) → is_noted (noting t a images).seen.notes q ≡ true
+    some : (x : Option (Option Record)) → is_some x ≡ true → value_at (with_rows_read t a images).seen.read_set q ≡ or_else x (found_new a images q) → is_key_read (with_rows_read t a images).seen.read_set q ≡ true
     some None h e = clash (sym h)
     some (Some x) h e = ap is_some e
 
-module _ (catalog : List Table) (events : List Event) (c : ℕ) (body : List Said) (s : Said) (a : Access) (t : TxnAt) (images : List Record) (h : HasRead (request_of a) (calls_of events c s) images []) (kept : WereRead t.seen.notes t.seen.writes) (sees : SeesOwn catalog events c body t.seen)
+module _ (catalog : List Table) (events : List Event) (c : ℕ) (body : List Executed) (s : Executed) (a : Access) (t : TxnAt) (images : List Record) (h : HasRead (request_of a) (calls_of events c s) images []) (kept : WereRead t.seen.read_set t.seen.writes) (sees : SeesOwn catalog events c body t.seen)
     (no_vacuum : reads_vacuum s.text ≡ false) (tables : (q : Key) → in_access a q ≡ true → IsTableKey catalog q) (told : has_finished s ≡ true) (key : Key) where
   abbrev Has : Option (List Pair) → Type 0
   Has row = HasBefore catalog events c body s key row
 
   -- At each key that was read by then, now too, the transaction sees a row that it has before the statement whose calls these are.
-  pub now_has : is_noted (noting t a images).seen.notes key ≡ true → Has (row_seen (noting t a images).seen.notes (noting t a images).seen.writes key)
-  now_has noted = by (value_at t.seen.notes key) (found_new a images key) refl refl
+  pub now_has : is_key_read (with_rows_read t a images).seen.read_set key ≡ true → Has (row_seen (with_rows_read t a images).seen.read_set (with_rows_read t a images).seen.writes key)
+  now_has as_read = by (value_at t.seen.read_set key) (found_new a images key) refl refl
     where
-      by : (x y : Option (Option Record)) → value_at t.seen.notes key ≡ x → found_new a images key ≡ y → Has (row_seen (noting t a images).seen.notes (noting t a images).seen.writes key)
+      by : (x y : Option (Option Record)) → value_at t.seen.read_set key ≡ x → found_new a images key ≡ y → Has (row_seen (with_rows_read t a images).seen.read_set (with_rows_read t a images).seen.writes key)
       by (Some x) y e f =
           subst Has (sym (row_now t a images key ∙ ap (λ z. row_with (write_among t.seen.writes key) (at_note (or_else z (found_new a images key)))) e ∙ ap (λ z. row_with (write_among t.seen.writes key) (at_note z)) (sym e)))
-          (has_before catalog events c body s key (row_seen t.seen.notes t.seen.writes key) (sees key (ap is_some e)))
+          (has_before catalog events c body s key (row_seen t.seen.read_set t.seen.writes key) (sees key (ap is_some e)))
       by None (Some o) e f =
           subst Has (sym (row_now t a images key ∙ ap (λ z. row_with (write_among t.seen.writes key) (at_note (or_else z (found_new a images key)))) e ∙ ap (λ z. row_with (write_among t.seen.writes key) (at_note z)) f ∙ ap (λ w. row_with w o) (unwritten t.seen key kept (ap is_some e))))
           (has_shown catalog events c body s key (row_found o) (record { told = told; no_vacuum = no_vacuum; table = tables key (new_inside (calls_of events c s) a images h key o f); found = found_by (calls_of events c s) a images h key o f }))
-      by None None e f = clash (sym (sym (ap is_some (noted_now t a images key ∙ ap (λ z. or_else z (found_new a images key)) e ∙ f)) ∙ noted))
+      by None None e f = clash (sym (sym (ap is_some (noted_now t a images key ∙ ap (λ z. or_else z (found_new a images key)) e ∙ f)) ∙ as_read))

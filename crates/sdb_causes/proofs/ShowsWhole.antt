@@ -13,12 +13,12 @@ use Rattle.sdb_schema.specs.declared.table.Table.{Table}
 use Rattle.sdb_model.specs.declared.answer.Answer.{Answer}
 use Rattle.sdb_model.specs.declared.answer.Answer.TheVariants as answer
 use Rattle.sdb_model.specs.declared.event.Event.{Event}
-use Rattle.sdb_model.specs.Shown.{AnswersShow, HasRow, ShowsOwn}
-use Rattle.sdb_model.specs.Transactions.{Said, client_of, ends, from_begin, ordinal_of, rest_of, said, statements_of, through_end}
-use Rattle.sdb_steps.specs.Hands.{Hand}
-use Rattle.sdb_story.specs.Telling.{waiting_of}
-use Rattle.sdb_causes.specs.Shows.{AllGiveOwn, HasBefore, RowsAreShown, GivesOwn, WasRead}
-use Rattle.sdb_causes.specs.Tied.{AreTied, IsWaiting, Knows}
+use Rattle.sdb_model.specs.DirtyReads.{AnswersHaveRows, HasRow, AnswersAreOf}
+use Rattle.sdb_model.specs.Transactions.{Executed, client_of, ends, from_begin, ordinal_of, rest_of, statements_by, statements_of, through_end}
+use Rattle.sdb_steps.specs.States.{ClientState}
+use Rattle.sdb_story.specs.History.{waiting_of}
+use Rattle.sdb_causes.specs.Views.{AllGiveOwn, HasBefore, RowsAreOwn, GivesOwn, WasRead}
+use Rattle.sdb_causes.specs.Invariant.{CauseInvariant, IsWaiting, Knows}
 use Rattle.sdb_causes.proofs.Noting.{each_left, each_middle, since_all}
 use Rattle.sdb_causes.proofs.Shows.{each_changing, first_so}
 use Rattle.sdb_causes.proofs.ShowsTold.{own_waits}
@@ -26,20 +26,20 @@ use Rattle.sdb_causes.proofs.ShowsTold.{own_waits}
 ---- the statements of a transaction
 
 -- A statement among those up to the end, with those before it, none of which ends the transaction.
-record IsPart (ss through : List Said) (s : Said) : Type 0 where
-  body : List Said
-  post : List Said
-  tail : List Said
+record IsPart (ss through : List Executed) (s : Executed) : Type 0 where
+  body : List Executed
+  post : List Executed
+  tail : List Executed
   through_is : through ≡ body ++ s ∷ post
   all_is : ss ≡ body ++ s ∷ tail
   goes_on : AllByRecursion (λ x. ends x ≡ false) body
 
-parted : (ss : List Said) (s : Said) → Contains (through_end ss) s → IsPart ss (through_end ss) s
+parted : (ss : List Executed) (s : Executed) → Contains (through_end ss) s → IsPart ss (through_end ss) s
 parted [] s has = absurd (omega (arith, has.1))
 parted (x ∷ xs) s has = by (ends x) refl (λ h. parted xs s h) has
   where
-    first : (more : List Said) → x ≡ s → IsPart (x ∷ xs) (x ∷ more) s
-    first more same = record { body = []; post = more; tail = xs; through_is = ap (λ (y : Said). y ∷ more) same; all_is = ap (λ (y : Said). y ∷ xs) same; goes_on = tt }
+    first : (more : List Executed) → x ≡ s → IsPart (x ∷ xs) (x ∷ more) s
+    first more same = record { body = []; post = more; tail = xs; through_is = ap (λ (y : Executed). y ∷ more) same; all_is = ap (λ (y : Executed). y ∷ xs) same; goes_on = tt }
 
     later : ends x ≡ false → IsPart xs (through_end xs) s → IsPart (x ∷ xs) (x ∷ through_end xs) s
     later e h = record { body = x ∷ h.body; post = h.post; tail = h.tail; through_is = ap (λ ys. x ∷ ys) h.through_is; all_is = ap (λ ys. x ∷ ys) h.all_is; goes_on = (e, h.goes_on) }
@@ -58,8 +58,8 @@ parted (x ∷ xs) s has = by (ends x) refl (λ h. parted xs s h) has
 
 ---- its rows
 
-module _ (catalog : List Table) (events : List Event) (c : ℕ) (id : TxId) (s : Said) (body post : List Said) (statements : statements_of events id ≡ body ++ s ∷ post)
-    (among : AllByRecursion (Contains (said c events)) body) (last : Contains (said c events) s) where
+module _ (catalog : List Table) (events : List Event) (c : ℕ) (id : TxId) (s : Executed) (body post : List Executed) (statements : statements_of events id ≡ body ++ s ∷ post)
+    (among : AllByRecursion (Contains (statements_by c events)) body) (last : Contains (statements_by c events) s) where
   row_own : (key : Key) (row : Option (List Pair)) → HasBefore catalog events c body s key row → HasRow catalog (WasRead catalog events c) events id s key row
   row_own key row h = record {
     first = h.first;
@@ -71,12 +71,12 @@ module _ (catalog : List Table) (events : List Event) (c : ℕ) (id : TxId) (s :
     parts = statements ∙ ap (λ xs. xs ++ s ∷ post) h.parts;
     begins = h.begins;
     finished = h.shown.told;
-    shown = (first_so (Contains (said c events)) h.changing s h.first h.begins (each_changing (Contains (said c events)) body h.earlier h.changing h.parts among) last, h.shown);
+    shown = (first_so (Contains (statements_by c events)) h.changing s h.first h.begins (each_changing (Contains (statements_by c events)) body h.earlier h.changing h.parts among) last, h.shown);
     read = h.read;
     made = h.made;
   }
 
-  shows_own : (a : Answer) → s.answer ≡ Some a → GivesOwn catalog events c body s a → ShowsOwn catalog (WasRead catalog events c) events id s a
+  shows_own : (a : Answer) → s.answer ≡ Some a → GivesOwn catalog events c body s a → AnswersAreOf catalog (WasRead catalog events c) events id s a
   shows_own (answer.Rows rows) is (t, select, images, reads, found, shown, own) = (
     t,
     select,
@@ -91,43 +91,43 @@ module _ (catalog : List Table) (events : List Event) (c : ℕ) (id : TxId) (s :
 
 ---- all clients
 
-module _ (catalog : List Table) (events : List Event) (now : ℤ) (hands : ℕ → Hand) (ex : AreTied catalog events now hands) (c : ℕ) where
-  abbrev k : Knows catalog events c (hands c).client
+module _ (catalog : List Table) (events : List Event) (now : ℤ) (states : ℕ → ClientState) (ex : CauseInvariant catalog events now states) (c : ℕ) where
+  abbrev k : Knows catalog events c (states c).client
   k = ex.each c
 
-  all_own : AllGiveOwn catalog events c (said c events)
+  all_own : AllGiveOwn catalog events c (statements_by c events)
   all_own = subst (AllGiveOwn catalog events c) (sym k.same) (by k.waiting k.waits)
     where
-      by : (o : Option Said) → IfSome o (IsWaiting catalog events c (is_some (hands c).client.vacuum)) → AllGiveOwn catalog events c (k.told ++ waiting_of o)
+      by : (o : Option Executed) → IfSome o (IsWaiting catalog events c (is_some (states c).client.vacuum)) → AllGiveOwn catalog events c (k.told ++ waiting_of o)
       by None w = subst (AllGiveOwn catalog events c) (sym (append-nil k.told)) k.shows.told_own
       by (Some w) waits = own_waits catalog events c k.told w waits.unanswered k.counted.paired k.shows.told_own
 
-  all_said : AllByRecursion (Contains (said c events)) (said c events)
-  all_said = recursion_from_All (Contains (said c events)) (said c events) (All-contains_itself (said c events))
+  all_said : AllByRecursion (Contains (statements_by c events)) (statements_by c events)
+  all_said = recursion_from_All (Contains (statements_by c events)) (statements_by c events) (All-contains_itself (statements_by c events))
 
-  rows_own : (id : TxId) (s : Said) (a : Answer) → client_of id ≡ c → Contains (statements_of events id) s → s.answer ≡ Some a → ShowsOwn catalog (WasRead catalog events c) events id s a
-  rows_own id s a is has answered = by (from_begin (ordinal_of id) (said c events)) refl
+  rows_own : (id : TxId) (s : Executed) (a : Answer) → client_of id ≡ c → Contains (statements_of events id) s → s.answer ≡ Some a → AnswersAreOf catalog (WasRead catalog events c) events id s a
+  rows_own id s a is has answered = by (from_begin (ordinal_of id) (statements_by c events)) refl
     where
-      statements : statements_of events id ≡ through_end (rest_of (from_begin (ordinal_of id) (said c events)))
-      statements = ap (λ d. through_end (rest_of (from_begin (ordinal_of id) (said d events)))) is
+      statements : statements_of events id ≡ through_end (rest_of (from_begin (ordinal_of id) (statements_by c events)))
+      statements = ap (λ d. through_end (rest_of (from_begin (ordinal_of id) (statements_by d events)))) is
 
-      at : (b : Said) (rest : List Said) → from_begin (ordinal_of id) (said c events) ≡ b ∷ rest → statements_of events id ≡ through_end rest → IsPart rest (through_end rest) s → ShowsOwn catalog (WasRead catalog events c) events id s a
+      at : (b : Executed) (rest : List Executed) → from_begin (ordinal_of id) (statements_by c events) ≡ b ∷ rest → statements_of events id ≡ through_end rest → IsPart rest (through_end rest) s → AnswersAreOf catalog (WasRead catalog events c) events id s a
       at b rest e whole p =
-          let all : AllByRecursion (Contains (said c events)) (p.body ++ s ∷ p.tail) = subst (AllByRecursion (Contains (said c events))) p.all_is (since_all (Contains (said c events)) (ordinal_of id) (said c events) b rest all_said e) in
-          shows_own catalog events c id s p.body p.post (whole ∙ p.through_is) (each_left (Contains (said c events)) p.body (s ∷ p.tail) all) (each_middle (Contains (said c events)) p.body p.tail s all) a answered (all_own (ordinal_of id) b p.body s p.tail a (e ∙ ap (λ r. b ∷ r) p.all_is) p.goes_on answered)
+          let all : AllByRecursion (Contains (statements_by c events)) (p.body ++ s ∷ p.tail) = subst (AllByRecursion (Contains (statements_by c events))) p.all_is (since_all (Contains (statements_by c events)) (ordinal_of id) (statements_by c events) b rest all_said e) in
+          shows_own catalog events c id s p.body p.post (whole ∙ p.through_is) (each_left (Contains (statements_by c events)) p.body (s ∷ p.tail) all) (each_middle (Contains (statements_by c events)) p.body p.tail s all) a answered (all_own (ordinal_of id) b p.body s p.tail a (e ∙ ap (λ r. b ∷ r) p.all_is) p.goes_on answered)
 
-      by : (r : List Said) → from_begin (ordinal_of id) (said c events) ≡ r → ShowsOwn catalog (WasRead catalog events c) events id s a
+      by : (r : List Executed) → from_begin (ordinal_of id) (statements_by c events) ≡ r → AnswersAreOf catalog (WasRead catalog events c) events id s a
       by [] e = absurd (none (subst (λ ss. Contains ss s) (statements ∙ ap (λ r. through_end (rest_of r)) e) has))
         where
-          none : Contains {X = Said} [] s → ⊥
+          none : Contains {X = Executed} [] s → ⊥
           none y = absurd (omega (arith, y.1))
       by (b ∷ rest) e =
           let whole : statements_of events id ≡ through_end rest = statements ∙ ap (λ r. through_end (rest_of r)) e in
           at b rest e whole (parted rest s (subst (λ ss. Contains ss s) whole has))
 
-pub rows_shown : (catalog : List Table) (events : List Event) (now : ℤ) (hands : ℕ → Hand) → AreTied catalog events now hands → RowsAreShown catalog events
-rows_shown catalog events now hands ex c id s a is has answered = rows_own catalog events now hands ex c id s a is has answered
+pub rows_shown : (catalog : List Table) (events : List Event) (now : ℤ) (states : ℕ → ClientState) → CauseInvariant catalog events now states → RowsAreOwn catalog events
+rows_shown catalog events now states ex c id s a is has answered = rows_own catalog events now states ex c id s a is has answered
 
 -- So each answer of a run shows own rows.
-pub answers_own : (catalog : List Table) (events : List Event) → RowsAreShown catalog events → AnswersShow catalog (WasRead catalog events) events
+pub answers_own : (catalog : List Table) (events : List Event) → RowsAreOwn catalog events → AnswersHaveRows catalog (WasRead catalog events) events
 answers_own catalog events shown id s a has is = shown (client_of id) id s a refl has is

@@ -20,24 +20,24 @@ use Rattle.sdb_types.proofs.Basics.{clash, none_some, some_is}
 use Rattle.sdb_record.specs.declared.access.Access.TheVariants as access
 use Rattle.sdb_record.specs.declared.meta.Meta.{Meta}
 use Rattle.sdb_record.specs.Coordinator.{decision_in, is_coordinator_table}
-use Rattle.sdb_record.specs.Meta.{id_in, is_committed, is_taken}
+use Rattle.sdb_record.specs.Meta.{id_in, is_committed, is_transactional}
 use Rattle.sdb_record.specs.Parts.{before_record}
 use Rattle.sdb_record.specs.Rolls.{is_tombstone, undo}
 use Rattle.sdb_model.specs.declared.event.Event.{Event}
-use Rattle.sdb_model.specs.Calls.{Made, clock_at, is_removal}
+use Rattle.sdb_model.specs.Calls.{StoreCall, clock_at, is_removal}
 use Rattle.sdb_model.specs.Causes.{HasReply, removes}
 use Rattle.sdb_phases.specs.declared.step.RecoverPhase.{RecoverPhase}
 use Rattle.sdb_phases.specs.declared.step.RecoverPhase.TheVariants as phase
 use Rattle.sdb_phases.specs.declared.step.RecoverStep.{RecoverStep}
 use Rattle.sdb_phases.specs.declared.step.RecoverStep.TheVariants as steps
-use Rattle.sdb_phases.specs.Recover.{recover_next, recover_request_at, stands_found}
+use Rattle.sdb_phases.specs.Recover.{recover_next, recover_request_at, is_as_found}
 use Rattle.sdb_read.specs.Read.{Bad, Firm, Kind, Open, kind_of}
 use Rattle.sdb_vacuum.specs.declared.work.VacuumStep.{VacuumStep}
 use Rattle.sdb_vacuum.specs.declared.work.VacuumStep.TheVariants as step
-use Rattle.sdb_vacuum.specs.Vacuum.{First, Malformed, Nothing, Over, Removing, Resolving, Scanning, Tombstone, Unresolved, VacuumAt, VacuumStage, answered, first_of, first_one, goes_on, going, next_table, pending_at, removal_answered, resolved, step_at, tombstone_or}
-use Rattle.sdb_causes.specs.Commits.{IsBadRow, ShowsBad}
+use Rattle.sdb_vacuum.specs.Vacuum.{First, Malformed, Nothing, Over, Removing, Resolving, Scanning, Tombstone, Unresolved, VacuumAt, VacuumStage, answered, first_of, first_one, with_call, next_of_row, next_table, pending_at, removal_answered, resolved, step_at, tombstone_or}
+use Rattle.sdb_causes.specs.Commits.{IsBadRow, ObservesBad}
 use Rattle.sdb_causes.specs.Reads.{IsFoundBy, ResolvesBy}
-use Rattle.sdb_causes.specs.Sweeps.{SweepsBy, SweptBy, VacuumBy}
+use Rattle.sdb_causes.specs.Vacuums.{VacuumStageBy, VacuumEndBy, VacuumBy}
 use Rattle.sdb_causes.proofs.ReadSteps.{ComesTo, IsDataTable, bad_is, found_more, found_rows, open_is, recovered_is, rows_data, shown_read}
 use Rattle.sdb_causes.proofs.Rows.{reply_now}
 use Rattle.sdb_types.specs.Replies.{is_applied, is_fault}
@@ -45,7 +45,7 @@ use Rattle.sdb_vacuum.proofs.Counts.{open_state}
 
 ---- deletes of committed records
 
-undo_keeps : (meta : Meta) (rec : Record) (before : Option Record) → is_committed meta.state ≡ false → is_removal (undo (stands_found meta) rec.key before) ≡ false
+undo_keeps : (meta : Meta) (rec : Record) (before : Option Record) → is_committed meta.state ≡ false → is_removal (undo (is_as_found meta) rec.key before) ≡ false
 undo_keeps meta rec None h = by meta.state h
   where
     by : (s : State) → is_committed s ≡ false → is_removal (ask.DeleteIf rec.key (condition.Version meta.id s)) ≡ false
@@ -68,25 +68,25 @@ recovers_none rec meta phase.Ended q h e = none_some q e
 abbrev counted : Bool → ℕ
 counted b = cond b 1 0
 
-count_more : (calls : List Made) (m : Made) → count_by removes (calls ++ m ∷ []) ≡ count_by removes calls + counted (removes m)
+count_more : (calls : List StoreCall) (m : StoreCall) → count_by removes (calls ++ m ∷ []) ≡ count_by removes calls + counted (removes m)
 count_more calls m = fold-append (λ a x. a + cond (removes x) 1 0) 0 calls (m ∷ [])
 
-count_none : (calls : List Made) (m : Made) → removes m ≡ false → count_by removes calls ≡ count_by removes (calls ++ m ∷ [])
+count_none : (calls : List StoreCall) (m : StoreCall) → removes m ≡ false → count_by removes calls ≡ count_by removes (calls ++ m ∷ [])
 count_none calls m f = plus (count_by removes calls) (counted (removes m)) (count_by removes (calls ++ m ∷ [])) (count_more calls m) (ap counted f)
   where
     plus : (n k x : ℕ) → x ≡ n + k → k ≡ 0 → n ≡ x
     plus n k x e f = omega arith
 
-count_one : (calls : List Made) (m : Made) → removes m ≡ true → count_by removes calls + 1 ≡ count_by removes (calls ++ m ∷ [])
+count_one : (calls : List StoreCall) (m : StoreCall) → removes m ≡ true → count_by removes calls + 1 ≡ count_by removes (calls ++ m ∷ [])
 count_one calls m t = plus (count_by removes calls) (counted (removes m)) (count_by removes (calls ++ m ∷ [])) (count_more calls m) (ap counted t)
   where
     plus : (n k x : ℕ) → x ≡ n + k → k ≡ 1 → n + 1 ≡ x
     plus n k x e f = omega arith
 
-not_removal : (m : Made) → is_removal m.request ≡ false → removes m ≡ false
+not_removal : (m : StoreCall) → is_removal m.request ≡ false → removes m ≡ false
 not_removal m f = ap (λ b. b && is_applied m.reply) f
 
-not_applied : (m : Made) (r : Reply) → m.reply ≡ r → is_applied r ≡ false → removes m ≡ false
+not_applied : (m : StoreCall) (r : Reply) → m.reply ≡ r → is_applied r ≡ false → removes m ≡ false
 not_applied m r e f = ap (λ x. is_removal m.request && is_applied x) e ∙ ap (λ b. is_removal m.request && b) f ∙ none (is_removal m.request)
   where
     none : (b : Bool) → (b && false) ≡ false
@@ -101,11 +101,11 @@ IfMore step.More P = P
 IfMore s P = Unit {0}
 
 -- what rows come to
-abbrev FirstBy : List Made → First → Type 0
+abbrev FirstBy : List StoreCall → First → Type 0
 FirstBy calls Nothing = Unit {0}
 FirstBy calls (Tombstone b left) = IsFoundBy calls left
 FirstBy calls (Unresolved r meta left) = ResolvesBy calls r meta phase.Look left
-FirstBy calls (Malformed key) = ShowsBad calls key
+FirstBy calls (Malformed key) = ObservesBad calls key
 
 -- the records that are left are of tables, and so is the span that is scanned
 abbrev pub SweepsData : VacuumStage → Type 0
@@ -114,12 +114,12 @@ SweepsData (Resolving rec meta p left) = AllByRecursion (λ r. IsDataTable r.key
 SweepsData (Removing b left) = AllByRecursion (λ r. IsDataTable r.key.table) left
 SweepsData Over = Unit {0}
 
-module _ (events : List Event) (calls : List Made) (m : Made) (older : AllByRecursion (λ x. x.at < m.at) calls) (now : ℤ) (clock : clock_at events m.at ≡ now) where
-  abbrev now_calls : List Made
+module _ (events : List Event) (calls : List StoreCall) (m : StoreCall) (older : AllByRecursion (λ x. x.at < m.at) calls) (now : ℤ) (clock : clock_at events m.at ≡ now) where
+  abbrev now_calls : List StoreCall
   now_calls = calls ++ m ∷ []
 
   abbrev pub SweepLed : VacuumAt × VacuumStep → Type 0
-  SweepLed x = IfMore x.1 (VacuumBy (calls ++ m ∷ []) x.0) × SweptBy (calls ++ m ∷ []) x.1
+  SweepLed x = IfMore x.1 (VacuumBy (calls ++ m ∷ []) x.0) × VacuumEndBy (calls ++ m ∷ []) x.1
 
   without : (r : Record) (left : List Record) → IsFoundBy now_calls (r ∷ left) → IsFoundBy now_calls left
   without r left f = record { read = f.read; among = f.among; reads = f.reads; found = f.found.1 }
@@ -128,10 +128,10 @@ module _ (events : List Event) (calls : List Made) (m : Made) (older : AllByRecu
   first_led [] f k = tt
   first_led (r ∷ left) f k = by (kind_of r) refl (first_led left (without r left f) k.1)
     where
-      bad : is_taken r ≡ false → IsBadRow r
+      bad : is_transactional r ≡ false → IsBadRow r
       bad e = by_table (is_coordinator_table r.key.table) k.0
         where
-          by_table : (b : Bool) → not b ≡ true → MatchBool b ((name : List ℕ) × (decision_in r ≡ Err name)) (is_taken r ≡ false)
+          by_table : (b : Bool) → not b ≡ true → MatchBool b ((name : List ℕ) × (decision_in r ≡ Err name)) (is_transactional r ≡ false)
           by_table true n = clash (sym n)
           by_table false n = e
 
@@ -148,13 +148,13 @@ module _ (events : List Event) (calls : List Made) (m : Made) (older : AllByRecu
   next_led [] n e = (tt, e)
   next_led (s ∷ ss) n e = ((e, tt), tt)
 
-  going_led : (ss : List Span) (n : ℕ) (f : First) → n ≡ count_by removes now_calls → FirstBy now_calls f → SweepLed (going ss n f)
+  going_led : (ss : List Span) (n : ℕ) (f : First) → n ≡ count_by removes now_calls → FirstBy now_calls f → SweepLed (next_of_row ss n f)
   going_led ss n Nothing e h = next_led ss n e
   going_led ss n (Tombstone b left) e h = ((e, h), tt)
   going_led ss n (Unresolved r meta left) e h = ((e, h), tt)
   going_led ss n (Malformed key) e h = (tt, h)
 
-  on_led : (ss : List Span) (n : ℕ) (left : List Record) → n ≡ count_by removes now_calls → IsFoundBy now_calls left → AllByRecursion (λ r. IsDataTable r.key.table) left → SweepLed (going ss n (first_of left))
+  on_led : (ss : List Span) (n : ℕ) (left : List Record) → n ≡ count_by removes now_calls → IsFoundBy now_calls left → AllByRecursion (λ r. IsDataTable r.key.table) left → SweepLed (next_of_row ss n (first_of left))
   on_led ss n left e f k = going_led ss n (first_of left) e (first_led left f k)
 
   faulted : m.reply ≡ reply.Fault → HasReply is_fault now_calls
@@ -172,7 +172,7 @@ module _ (events : List Event) (calls : List Made) (m : Made) (older : AllByRecu
   image_led : (ss : List Span) (n : ℕ) (left : List Record) (b : Record) → n ≡ count_by removes now_calls → IsFoundBy now_calls left → AllByRecursion (λ r. IsDataTable r.key.table) left → SweepLed (tombstone_or ss n left b)
   image_led ss n left b e f k = by (is_tombstone b)
     where
-      by : (t : Bool) → SweepLed (if t then goes_on ss n (Removing b left) else going ss n (first_of left))
+      by : (t : Bool) → SweepLed (if t then with_call ss n (Removing b left) else next_of_row ss n (first_of left))
       by true = ((e, f), tt)
       by false = on_led ss n left e f k
 
@@ -201,7 +201,7 @@ module _ (events : List Event) (calls : List Made) (m : Made) (older : AllByRecu
   asks_removal b None e = none_some m.request e
   asks_removal b (Some id) e = ap is_removal (sym (some_is (ask.DeleteIf b.key (condition.Version id state.Committed)) m.request e))
 
-  pub step_led : (ss : List Span) (n : ℕ) (s : VacuumStage) → SweepsData s → n ≡ count_by removes calls → SweepsBy calls s → pending_at s ≡ Some m.request → CanAnswer m.request m.reply → SweepLed (step_at ss n s now m.reply)
+  pub step_led : (ss : List Span) (n : ℕ) (s : VacuumStage) → SweepsData s → n ≡ count_by removes calls → VacuumStageBy calls s → pending_at s ≡ Some m.request → CanAnswer m.request m.reply → SweepLed (step_at ss n s now m.reply)
   step_led ss n (Scanning span) k e h a can =
       let same : m.request ≡ ask.Scan span = sym (some_is (ask.Scan span) m.request a) in
       answered_led ss n span m.reply e k same refl (subst (λ (x : Request). CanAnswer x m.reply) same can)

@@ -29,7 +29,7 @@ use Rattle.sdb_record.specs.declared.meta.Meta.{Meta}
 use Rattle.sdb_record.specs.declared.write.Keyed.{Keyed}
 use Rattle.sdb_record.specs.declared.write.Write.{Write}
 use Rattle.sdb_record.specs.Coordinator.{decision_in, is_coordinator_table}
-use Rattle.sdb_record.specs.Meta.{checked, is_taken}
+use Rattle.sdb_record.specs.Meta.{checked, is_transactional}
 use Rattle.sdb_record.specs.Parts.{are_stored}
 use Rattle.sdb_record.specs.Rolls.{row_of_image}
 use Rattle.sdb_record.specs.Among.{write_among}
@@ -38,10 +38,10 @@ use Rattle.sdb_schema.specs.Catalog.{is_catalog}
 use Rattle.sdb_schema.specs.Rows.{fits_table}
 use Rattle.sdb_model.specs.declared.answer.Answer.{Answer}
 use Rattle.sdb_model.specs.Access.{in_access}
-use Rattle.sdb_model.specs.Calls.{Made, records_read, records_shown, shows_stored}
-use Rattle.sdb_model.specs.Causes.{IsBad, is_fit, is_misfit}
+use Rattle.sdb_model.specs.Calls.{StoreCall, records_read, records_observed, is_stored_reply}
+use Rattle.sdb_model.specs.Causes.{IsBad, is_well_typed, is_misfit}
 use Rattle.sdb_model.specs.Exec.{Tables, all_rows, find_table, named_table, row_of_entry}
-use Rattle.sdb_model.specs.Noted.{meaning_of, read_finished}
+use Rattle.sdb_model.specs.ReadSet.{meaning_of, read_finished}
 use Rattle.sdb_model.specs.Refused.{refusal_of}
 use Rattle.sdb_model.specs.Transactions.{changes_nothing}
 use Rattle.sdb_exec.specs.declared.plan.PlanStep.TheVariants.{Finished}
@@ -49,20 +49,20 @@ use Rattle.sdb_exec.specs.Plans.{Planned, answer_on, changes_on, first_unfit, ha
 use Rattle.sdb_exec.specs.Reads.{access_of}
 use Rattle.sdb_exec.proofs.Laid.{by_key}
 use Rattle.sdb_read.specs.Read.{request_of}
-use Rattle.sdb_snapshot.specs.Noted.{base_at}
-use Rattle.sdb_snapshot.specs.Rows.{tables_of_notes}
+use Rattle.sdb_snapshot.specs.Reads.{base_at}
+use Rattle.sdb_snapshot.specs.Rows.{tables_of_reads}
 use Rattle.sdb_snapshot.specs.Seen.{Seen, nothing, overlay, row_seen, row_with, tables_seen, with_written}
 use Rattle.sdb_snapshot.proofs.Differences.{noted_images}
 use Rattle.sdb_snapshot.proofs.Keys.{value_last}
 use Rattle.sdb_snapshot.proofs.Shown.{get_seen, own_is}
 use Rattle.sdb_txn.specs.Txn.{TxnAt}
-use Rattle.sdb_client.specs.Client.{given_answer, given_left, gives, noting, written}
-use Rattle.sdb_steps.specs.Fitting.{row_fits, tables_fit}
+use Rattle.sdb_client.specs.Client.{given_answer, given_left, gives, with_rows_read, written}
+use Rattle.sdb_steps.specs.Fitting.{row_is_well_typed, tables_are_well_typed}
 use Rattle.sdb_steps.proofs.InTables.{access_table}
 use Rattle.sdb_steps.proofs.RowsFit.{answers_on}
-use Rattle.sdb_causes.specs.Commits.{IsBadRow, ShowsBad}
-use Rattle.sdb_causes.specs.Moves.{HasRead, IsRows, IsSettledAs}
-use Rattle.sdb_causes.specs.Unfit.{SeesFit, ShowStored}
+use Rattle.sdb_causes.specs.Commits.{IsBadRow, ObservesBad}
+use Rattle.sdb_causes.specs.Changes.{HasRead, IsRows, IsSettledAs}
+use Rattle.sdb_causes.specs.Unfit.{SeesWellTyped, AreStoredReplies}
 use Rattle.sdb_causes.proofs.Filled.{found_all}
 use Rattle.sdb_causes.proofs.Given.{asked_gives, found_so, inside_access, passes_all}
 use Rattle.sdb_causes.proofs.Lists.{each_in, each_kept}
@@ -79,10 +79,10 @@ bad_stored r stored h = by_table (is_coordinator_table r.key.table) h
     by_checked (Ok m) e f = clash f
     by_checked (Err name) e f = (name, e)
 
-    of_table : is_taken r ≡ false → (name : List ℕ) × (checked r.columns ≡ Err name)
+    of_table : is_transactional r ≡ false → (name : List ℕ) × (checked r.columns ≡ Err name)
     of_table f = by_checked (checked r.columns) refl (sym (ap (λ b. b && is_ok (checked r.columns)) stored) ∙ f)
 
-    by_table : (b : Bool) → MatchBool b ((name : List ℕ) × (decision_in r ≡ Err name)) (is_taken r ≡ false) → (name : List ℕ) × MatchBool b (decision_in r ≡ Err name) (checked r.columns ≡ Err name)
+    by_table : (b : Bool) → MatchBool b ((name : List ℕ) × (decision_in r ≡ Err name)) (is_transactional r ≡ false) → (name : List ℕ) × MatchBool b (decision_in r ≡ Err name) (checked r.columns ≡ Err name)
     by_table true k = k
     by_table false k = of_table k
 
@@ -91,8 +91,8 @@ stored_one [] h = tt
 stored_one (r ∷ rs) h = let parts = and_parts (are_stored r.columns) (list_all (λ x. are_stored x.columns) rs) h in (parts.0, stored_one rs parts.1)
 
 -- one that calls show
-pub shown_bad : (calls : List Made) (key : Key) → ShowStored calls → (b : ShowsBad calls key) → IsBad b.found
-shown_bad calls key stored b = bad_stored b.found (each_in (λ (r : Record). are_stored r.columns ≡ true) (records_shown b.call.reply) b.found (stored_one (records_shown b.call.reply) (each_in (λ (m : Made). shows_stored m.reply ≡ true) calls b.call stored b.among)) b.shown) b.bad
+pub shown_bad : (calls : List StoreCall) (key : Key) → AreStoredReplies calls → (b : ObservesBad calls key) → IsBad b.found
+shown_bad calls key stored b = bad_stored b.found (each_in (λ (r : Record). are_stored r.columns ≡ true) (records_observed b.call.reply) b.found (stored_one (records_observed b.call.reply) (each_in (λ (m : StoreCall). is_stored_reply m.reply ≡ true) calls b.call stored b.among)) b.shown) b.bad
 
 ---- rows by their keys
 
@@ -118,13 +118,13 @@ pub rows_there : (P : Key → List Pair → Type 0) (d : Tables) → ((q : Key) 
 rows_there P d each = found_all P (entries d) (truth _ (entries_sorted d)) (λ q cs found. each q cs (get-entries d q ∙ found))
 
 -- what a transaction sees fits where its tables do
-pub fit_tables : (catalog : List Table) (s : Seen) → SeesFit catalog s → tables_fit catalog (tables_seen s) ≡ true
-fit_tables catalog s fits = all_true (λ r. row_fits catalog r.key r.columns) (all_rows (tables_seen s)) (rows_there (λ q cs. row_fits catalog q cs ≡ true) (tables_seen s) (λ q cs found. fits q cs (sym (get_seen s.notes s.writes q) ∙ found)))
+pub fit_tables : (catalog : List Table) (s : Seen) → SeesWellTyped catalog s → tables_are_well_typed catalog (tables_seen s) ≡ true
+fit_tables catalog s fits = all_true (λ r. row_is_well_typed catalog r.key r.columns) (all_rows (tables_seen s)) (rows_there (λ q cs. row_is_well_typed catalog q cs ≡ true) (tables_seen s) (λ q cs found. fits q cs (sym (get_seen s.read_set s.writes q) ∙ found)))
 
-tables_sees : (catalog : List Table) (s : Seen) → tables_fit catalog (tables_seen s) ≡ true → SeesFit catalog s
-tables_sees catalog s fit q cs found = at_entry (λ k c. row_fits catalog k c ≡ true) (entries (tables_seen s)) q cs (true_all (λ r. row_fits catalog r.key r.columns) (all_rows (tables_seen s)) fit) (sym (get-entries (tables_seen s) q) ∙ get_seen s.notes s.writes q ∙ found)
+tables_sees : (catalog : List Table) (s : Seen) → tables_are_well_typed catalog (tables_seen s) ≡ true → SeesWellTyped catalog s
+tables_sees catalog s fit q cs found = at_entry (λ k c. row_is_well_typed catalog k c ≡ true) (entries (tables_seen s)) q cs (true_all (λ r. row_is_well_typed catalog r.key r.columns) (all_rows (tables_seen s)) fit) (sym (get-entries (tables_seen s) q) ∙ get_seen s.read_set s.writes q ∙ found)
 
-pub fit_nothing : (catalog : List Table) → SeesFit catalog nothing
+pub fit_nothing : (catalog : List Table) → SeesWellTyped catalog nothing
 fit_nothing catalog q cs e = none_some cs e
 
 ---- what a read adds
@@ -134,11 +134,11 @@ abbrev pub found_new : Access → List Record → Key → Option (Option Record)
 found_new (access.Get k) images q = cond (same_key q k) (Some (slice_get images 0)) None
 found_new (access.Scan span) images q = option_map Some (record_among images q)
 
-pub noted_now : (t : TxnAt) (a : Access) (images : List Record) (q : Key) → value_at (noting t a images).seen.notes q ≡ or_else (value_at t.seen.notes q) (found_new a images q)
-noted_now t (access.Get k) images q = value_last t.seen.notes k (slice_get images 0) q
-noted_now t (access.Scan span) images q = noted_images t.seen.notes images q
+pub noted_now : (t : TxnAt) (a : Access) (images : List Record) (q : Key) → value_at (with_rows_read t a images).seen.read_set q ≡ or_else (value_at t.seen.read_set q) (found_new a images q)
+noted_now t (access.Get k) images q = value_last t.seen.read_set k (slice_get images 0) q
+noted_now t (access.Scan span) images q = noted_images t.seen.read_set images q
 
-pub same_writes : (t : TxnAt) (a : Access) (images : List Record) → (noting t a images).seen.writes ≡ t.seen.writes
+pub same_writes : (t : TxnAt) (a : Access) (images : List Record) → (with_rows_read t a images).seen.writes ≡ t.seen.writes
 same_writes t (access.Get k) images = refl
 same_writes t (access.Scan span) images = refl
 
@@ -146,11 +146,11 @@ abbrev pub at_note : Option (Option Record) → Option Record
 at_note o = option_and_then (λ (x : Option Record). x) o
 
 -- a row that is seen then was seen before, or is that of an image
-row_new : (t : TxnAt) (a : Access) (images : List Record) (q : Key) (cs : List Pair) → row_seen (noting t a images).seen.notes (noting t a images).seen.writes q ≡ Some cs
-    → (row_seen t.seen.notes t.seen.writes q ≡ Some cs) ⊎ ((b : Record) × (found_new a images q ≡ Some (Some b)) × (row_of_image b ≡ Some cs))
+row_new : (t : TxnAt) (a : Access) (images : List Record) (q : Key) (cs : List Pair) → row_seen (with_rows_read t a images).seen.read_set (with_rows_read t a images).seen.writes q ≡ Some cs
+    → (row_seen t.seen.read_set t.seen.writes q ≡ Some cs) ⊎ ((b : Record) × (found_new a images q ≡ Some (Some b)) × (row_of_image b ≡ Some cs))
 row_new t a images q cs h =
-    by (write_among t.seen.writes q) (value_at t.seen.notes q) (found_new a images q)
-    (subst (λ x. row_with (write_among t.seen.writes q) (at_note x) ≡ Some cs) (noted_now t a images q) (subst (λ ws. row_with (write_among ws q) (base_at (noting t a images).seen.notes q) ≡ Some cs) (same_writes t a images) h))
+    by (write_among t.seen.writes q) (value_at t.seen.read_set q) (found_new a images q)
+    (subst (λ x. row_with (write_among t.seen.writes q) (at_note x) ≡ Some cs) (noted_now t a images q) (subst (λ ws. row_with (write_among ws q) (base_at (with_rows_read t a images).seen.read_set q) ≡ Some cs) (same_writes t a images) h))
   where
     by : (o : Option Write) (x y : Option (Option Record)) → row_with o (at_note (or_else x y)) ≡ Some cs → (row_with o (at_note x) ≡ Some cs) ⊎ ((b : Record) × (y ≡ Some (Some b)) × (row_of_image b ≡ Some cs))
     by (Some w) x y e = inl e
@@ -225,14 +225,14 @@ step_in es e has = each_in (λ (x : Record × Option Record). Contains (map (λ 
     all (x ∷ xs) = (Contains-append_left (x.0 ∷ []) (map (λ (y : Record × Option Record). y.0) xs) x.0 (Contains-push [] x.0), more x (map (λ (y : Record × Option Record). y.0) xs) xs (all xs))
 
 -- an image that was read at a key, with its record
-pub record IsReadAt (calls : List Made) (first : Made) (a : Access) (q : Key) (b : Record) : Type 0 where
+pub record IsReadAt (calls : List StoreCall) (first : StoreCall) (a : Access) (q : Key) (b : Record) : Type 0 where
   pub found : Record
   pub settled : IsSettledAs calls (found, Some b)
   pub shown : Contains (records_read first.reply) found
   pub key : found.key ≡ q
   pub inside : in_access a q ≡ true
 
-module _ (calls : List Made) (a : Access) (images : List Record) (h : HasRead (request_of a) calls images []) where
+module _ (calls : List StoreCall) (a : Access) (images : List Record) (h : HasRead (request_of a) calls images []) where
   step_shown : (b : Record) (s : IsStepAt h.steps b) → Contains (records_read h.first.reply) s.step.0
   step_shown b s = subst (λ rs. Contains rs s.step.0) (sym (h.rows ∙ append-nil (map (λ (x : Record × Option Record). x.0) h.steps))) (step_in h.steps s.step s.among)
 
@@ -245,7 +245,7 @@ module _ (calls : List Made) (a : Access) (images : List Record) (h : HasRead (r
   read_by : (q : Key) (b : Record) (s : IsStepAt h.steps b) → s.step.0.key ≡ q → IsReadAt calls h.first a q b
   read_by q b s e = record { found = s.step.0; settled = step_settled b s; shown = step_shown b s; key = e; inside = subst (λ (k : Key). in_access a k ≡ true) e (step_inside b s) }
 
-pub new_read : (calls : List Made) (a : Access) (images : List Record) (h : HasRead (request_of a) calls images []) (q : Key) (b : Record) → found_new a images q ≡ Some (Some b) → IsReadAt calls h.first a q b
+pub new_read : (calls : List StoreCall) (a : Access) (images : List Record) (h : HasRead (request_of a) calls images []) (q : Key) (b : Record) → found_new a images q ≡ Some (Some b) → IsReadAt calls h.first a q b
 new_read calls (access.Get k) images h q b e = by (same_key q k) refl e
   where
     by : (t : Bool) → same_key q k ≡ t → cond t (Some (slice_get images 0)) None ≡ Some (Some b) → IsReadAt calls h.first (access.Get k) q b
@@ -291,7 +291,7 @@ record IsUnfitRow (t : Table) (a : Access) (s : Seen) (key : Key) : Type 0 where
   columns : List Pair
   unfit : fits_table t key columns ≡ false
   inside : in_access a key ≡ true
-  seen : row_seen s.notes s.writes key ≡ Some columns
+  seen : row_seen s.read_set s.writes key ≡ Some columns
 
 unfit_row : (t : Table) (a : Access) (s : Seen) (key : Key) → first_unfit t (overlay a s) ≡ Some key → IsUnfitRow t a s key
 unfit_row t a s key e = by (find (is_unfit t) (overlay a s)) refl e
@@ -305,7 +305,7 @@ unfit_row t a s key e = by (find (is_unfit t) (overlay a s)) refl e
       columns = r.columns;
       unfit = unfits (fits_table t r.key r.columns) (find_true (is_unfit t) (overlay a s) r f);
       inside = found_so (λ (x : Image). in_access a x.key ≡ true) (is_unfit t) (overlay a s) r (passes_all (λ (x : Image). in_access a x.key) (all_rows (tables_seen s))) f;
-      seen = found_so (λ (x : Image). row_seen s.notes s.writes x.key ≡ Some x.columns) (is_unfit t) (overlay a s) r (each_kept (λ (x : Image). row_seen s.notes s.writes x.key ≡ Some x.columns) (λ (x : Image). in_access a x.key) (all_rows (tables_seen s)) (rows_there (λ q cs. row_seen s.notes s.writes q ≡ Some cs) (tables_seen s) (λ q cs found. sym (get_seen s.notes s.writes q) ∙ found))) f;
+      seen = found_so (λ (x : Image). row_seen s.read_set s.writes x.key ≡ Some x.columns) (is_unfit t) (overlay a s) r (each_kept (λ (x : Image). row_seen s.read_set s.writes x.key ≡ Some x.columns) (λ (x : Image). in_access a x.key) (all_rows (tables_seen s)) (rows_there (λ q cs. row_seen s.read_set s.writes q ≡ Some cs) (tables_seen s) (λ q cs found. sym (get_seen s.read_set s.writes q) ∙ found))) f;
     }
 
     by : (o : Option Image) → find (is_unfit t) (overlay a s) ≡ o → option_map (λ (r : Image). r.key) o ≡ Some key → IsUnfitRow t a s key
@@ -318,69 +318,69 @@ module _ (catalog : List Table) (p : Planned) (a : Access) (listed : find_table 
   pub table_at : (q : Key) → in_access a q ≡ true → find_table catalog q.table ≡ Some p.table
   table_at q inside = ap (find_table catalog) (inside_access a q inside ∙ own) ∙ listed
 
-  row_at : (q : Key) (cs : List Pair) → in_access a q ≡ true → row_fits catalog q cs ≡ fits_table p.table q cs
+  row_at : (q : Key) (cs : List Pair) → in_access a q ≡ true → row_is_well_typed catalog q cs ≡ fits_table p.table q cs
   row_at q cs inside = ap (λ (o : Option Table). option_map_or (λ t. fits_table t q cs) o false) (table_at q inside)
 
   -- a transaction whose rows fit sees none that doesn't
-  pub none_unfits : (s : Seen) (key : Key) → SeesFit catalog s → first_unfit p.table (overlay a s) ≡ Some key → ⊥
+  pub none_unfits : (s : Seen) (key : Key) → SeesWellTyped catalog s → first_unfit p.table (overlay a s) ≡ Some key → ⊥
   none_unfits s key fits e = let r = unfit_row p.table a s key e in clash (sym (fits key r.columns r.seen) ∙ row_at key r.columns r.inside ∙ r.unfit)
 
-  module _ (calls : List Made) (t : TxnAt) (images : List Record) (h : HasRead (request_of a) calls images []) (fits : SeesFit catalog t.seen) where
+  module _ (calls : List StoreCall) (t : TxnAt) (images : List Record) (h : HasRead (request_of a) calls images []) (fits : SeesWellTyped catalog t.seen) where
     -- where it sees none that doesn't fit with what was read, all fits then
-    pub fits_now : first_unfit p.table (overlay a (noting t a images).seen) ≡ None → SeesFit catalog (noting t a images).seen
+    pub fits_now : first_unfit p.table (overlay a (with_rows_read t a images).seen) ≡ None → SeesWellTyped catalog (with_rows_read t a images).seen
     fits_now none q cs found = by (row_new t a images q cs found)
       where
-        by : (row_seen t.seen.notes t.seen.writes q ≡ Some cs) ⊎ ((b : Record) × (found_new a images q ≡ Some (Some b)) × (row_of_image b ≡ Some cs)) → row_fits catalog q cs ≡ true
+        by : (row_seen t.seen.read_set t.seen.writes q ≡ Some cs) ⊎ ((b : Record) × (found_new a images q ≡ Some (Some b)) × (row_of_image b ≡ Some cs)) → row_is_well_typed catalog q cs ≡ true
         by (inl e) = fits q cs e
         by (inr (b, e, f)) =
             let r : IsReadAt calls h.first a q b = new_read calls a images h q b e in
             row_at q cs r.inside
-            ∙ at_entry (λ k c. in_access a k ≡ true → fits_table p.table k c ≡ true) (entries (tables_seen (noting t a images).seen)) q cs (none_unfit p.table (λ (x : Image). in_access a x.key) (all_rows (tables_seen (noting t a images).seen)) none)
-            (sym (get-entries (tables_seen (noting t a images).seen) q) ∙ get_seen (noting t a images).seen.notes (noting t a images).seen.writes q ∙ found) r.inside
+            ∙ at_entry (λ k c. in_access a k ≡ true → fits_table p.table k c ≡ true) (entries (tables_seen (with_rows_read t a images).seen)) q cs (none_unfit p.table (λ (x : Image). in_access a x.key) (all_rows (tables_seen (with_rows_read t a images).seen)) none)
+            (sym (get-entries (tables_seen (with_rows_read t a images).seen) q) ∙ get_seen (with_rows_read t a images).seen.read_set (with_rows_read t a images).seen.writes q ∙ found) r.inside
 
     -- and one that doesn't is that of a record that was read
-    pub misfit_read : (key : Key) → IsDataTable (access_table a) → first_unfit p.table (overlay a (noting t a images).seen) ≡ Some key → (r : Record) × Contains (records_read h.first.reply) r × (r.key ≡ key) × (is_misfit catalog calls r ≡ true)
+    pub misfit_read : (key : Key) → IsDataTable (access_table a) → first_unfit p.table (overlay a (with_rows_read t a images).seen) ≡ Some key → (r : Record) × Contains (records_read h.first.reply) r × (r.key ≡ key) × (is_misfit catalog calls r ≡ true)
     misfit_read key is e = by (row_new t a images key row.columns row.seen)
       where
-        row : IsUnfitRow p.table a (noting t a images).seen key
-        row = unfit_row p.table a (noting t a images).seen key e
+        row : IsUnfitRow p.table a (with_rows_read t a images).seen key
+        row = unfit_row p.table a (with_rows_read t a images).seen key e
 
-        by : (row_seen t.seen.notes t.seen.writes key ≡ Some row.columns) ⊎ ((b : Record) × (found_new a images key ≡ Some (Some b)) × (row_of_image b ≡ Some row.columns)) → (r : Record) × Contains (records_read h.first.reply) r × (r.key ≡ key) × (is_misfit catalog calls r ≡ true)
+        by : (row_seen t.seen.read_set t.seen.writes key ≡ Some row.columns) ⊎ ((b : Record) × (found_new a images key ≡ Some (Some b)) × (row_of_image b ≡ Some row.columns)) → (r : Record) × Contains (records_read h.first.reply) r × (r.key ≡ key) × (is_misfit catalog calls r ≡ true)
         by (inl f) = clash (sym (fits key row.columns f) ∙ row_at key row.columns row.inside ∙ row.unfit)
         by (inr (b, f, g)) =
             let r : IsReadAt calls h.first a key b = new_read calls a images h key b f in (
               r.found,
               r.shown,
               r.key,
-              ap (λ (k : Key). not (is_coordinator_table k.table) && option_map_or (λ columns. not (is_fit catalog k columns)) (option_and_then row_of_image (meaning_of calls r.found)) false) r.key
-                  ∙ ap (λ x. not (is_coordinator_table x) && option_map_or (λ columns. not (is_fit catalog key columns)) (option_and_then row_of_image (meaning_of calls r.found)) false) (inside_access a key row.inside)
-                  ∙ ap (λ x. x && option_map_or (λ columns. not (is_fit catalog key columns)) (option_and_then row_of_image (meaning_of calls r.found)) false) is
-                  ∙ ap (λ o. option_map_or (λ columns. not (is_fit catalog key columns)) (option_and_then row_of_image o) false) (settled_means calls (r.found, Some b) r.settled)
-                  ∙ ap (λ o. option_map_or (λ columns. not (is_fit catalog key columns)) o false) g
+              ap (λ (k : Key). not (is_coordinator_table k.table) && option_map_or (λ columns. not (is_well_typed catalog k columns)) (option_and_then row_of_image (meaning_of calls r.found)) false) r.key
+                  ∙ ap (λ x. not (is_coordinator_table x) && option_map_or (λ columns. not (is_well_typed catalog key columns)) (option_and_then row_of_image (meaning_of calls r.found)) false) (inside_access a key row.inside)
+                  ∙ ap (λ x. x && option_map_or (λ columns. not (is_well_typed catalog key columns)) (option_and_then row_of_image (meaning_of calls r.found)) false) is
+                  ∙ ap (λ o. option_map_or (λ columns. not (is_well_typed catalog key columns)) (option_and_then row_of_image o) false) (settled_means calls (r.found, Some b) r.settled)
+                  ∙ ap (λ o. option_map_or (λ columns. not (is_well_typed catalog key columns)) o false) g
                   ∙ ap (λ (o : Option Table). not (option_map_or (λ x. fits_table x key row.columns) o true)) (table_at key row.inside)
                   ∙ ap not row.unfit,
             )
 
   -- what it leaves fits
   module _ (is : is_catalog catalog ≡ true) (named : named_table catalog p.statement ≡ Some p.table) (asked : p.asked ≡ true) (taken : refusal_of catalog p.statement ≡ None) (literals : has_all_literals p.statement ≡ true) (access_is : a ≡ access_of p.table p.statement) where
-    written_fits : (s : Seen) (b : Answer) (ks : List Keyed) → step_of p (overlay a s) ≡ Finished b ks → SeesFit catalog s → SeesFit catalog (with_written s ks)
+    written_fits : (s : Seen) (b : Answer) (ks : List Keyed) → step_of p (overlay a s) ≡ Finished b ks → SeesWellTyped catalog s → SeesWellTyped catalog (with_written s ks)
     written_fits s b ks step fits =
         tables_sees catalog (with_written s ks)
-        (subst (λ (d : Tables). tables_fit catalog d ≡ true) (sym (own_is (tables_of_notes s.notes) s.notes s.writes ks))
+        (subst (λ (d : Tables). tables_are_well_typed catalog d ≡ true) (sym (own_is (tables_of_reads s.read_set) s.read_set s.writes ks))
         (answers_on catalog p s b ks is named asked taken literals (subst (λ (z : Access). step_of p (overlay z s) ≡ Finished b ks) access_is step) (tables_seen s) (fit_tables catalog s fits) refl).1)
 
-    pub given_fits : (was v : TxnAt) → SeesFit catalog was.seen → (first_unfit p.table (overlay a v.seen) ≡ None → SeesFit catalog v.seen) → SeesFit catalog (given_left was v (gives p a v)).seen
+    pub given_fits : (was v : TxnAt) → SeesWellTyped catalog was.seen → (first_unfit p.table (overlay a v.seen) ≡ None → SeesWellTyped catalog v.seen) → SeesWellTyped catalog (given_left was v (gives p a v)).seen
     given_fits was v before now = by (first_unfit p.table (overlay a v.seen)) refl
       where
-        left : (ks : List Keyed) (t f : Bool) → SeesFit catalog v.seen → SeesFit catalog (with_written v.seen ks) → SeesFit catalog (if t then (if f then v else was) else written v ks).seen
+        left : (ks : List Keyed) (t f : Bool) → SeesWellTyped catalog v.seen → SeesWellTyped catalog (with_written v.seen ks) → SeesWellTyped catalog (if t then (if f then v else was) else written v ks).seen
         left ks true true seen fits = seen
         left ks true false seen fits = before
         left ks false f seen fits = fits
 
-        by : (o : Option Key) → first_unfit p.table (overlay a v.seen) ≡ o → SeesFit catalog (given_left was v (gives p a v)).seen
+        by : (o : Option Key) → first_unfit p.table (overlay a v.seen) ≡ o → SeesWellTyped catalog (given_left was v (gives p a v)).seen
         by None e =
             let step : step_of p (overlay a v.seen) ≡ Finished (answer_on p.table p.statement (overlay a v.seen)) (changes_on p.table p.statement (overlay a v.seen)) = asked_gives p (overlay a v.seen) None asked e in
-            subst (λ y. SeesFit catalog (given_left was v y).seen) (sym step)
+            subst (λ y. SeesWellTyped catalog (given_left was v y).seen) (sym step)
             (left (changes_on p.table p.statement (overlay a v.seen)) (changes_nothing (given_answer v (Finished (answer_on p.table p.statement (overlay a v.seen)) (changes_on p.table p.statement (overlay a v.seen)))))
             (read_finished (given_answer v (Finished (answer_on p.table p.statement (overlay a v.seen)) (changes_on p.table p.statement (overlay a v.seen))))) (now e) (written_fits v.seen (answer_on p.table p.statement (overlay a v.seen)) (changes_on p.table p.statement (overlay a v.seen)) step (now e)))
-        by (Some key) e = subst (λ y. SeesFit catalog (given_left was v y).seen) (sym (asked_gives p (overlay a v.seen) (Some key) asked e)) before
+        by (Some key) e = subst (λ y. SeesWellTyped catalog (given_left was v y).seen) (sym (asked_gives p (overlay a v.seen) (Some key) asked e)) before

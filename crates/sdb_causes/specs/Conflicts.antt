@@ -4,33 +4,33 @@ use Rattle.std.specs.List.{AllByRecursion}
 use Rattle.sdb_types.specs.declared.key.Key.{Key}
 use Rattle.sdb_record.specs.declared.write.Write.{Write}
 use Rattle.sdb_record.specs.Among.{is_written}
-use Rattle.sdb_model.specs.Calls.{Made}
+use Rattle.sdb_model.specs.Calls.{StoreCall}
 use Rattle.sdb_model.specs.Causes.{ConflictsAtCommit, prepares_key}
-use Rattle.sdb_model.specs.Noted.{Note}
+use Rattle.sdb_model.specs.ReadSet.{ReadItem}
 use Rattle.sdb_phases.specs.declared.step.Outcome.{Outcome}
 use Rattle.sdb_phases.specs.declared.step.Outcome.TheVariants as outcome
 use Rattle.sdb_phases.specs.Commit.{Stage, Preparing, Checking, Deciding, Forward, Stopping, Back, Over}
 use Rattle.sdb_phases.specs.Work.{Work, prepare_of}
 
 -- the calls prepare only keys that are written
-abbrev pub PreparesOnly : Work → List Made → Type 0
+abbrev pub PreparesOnly : Work → List StoreCall → Type 0
 PreparesOnly p calls = AllByRecursion (λ m. (q : Key) → prepares_key p.id q m ≡ true → is_written p.writes q ≡ true) calls
 
 -- so many of the writes, from the first, were prepared
-abbrev pub HasPrepared : Work → ℕ → List Made → Type 0
-HasPrepared p n calls = (j : ℕ) (w : Write) → j < n → slice_get p.writes j ≡ Some w → (m : Made) × Contains calls m × (m.request ≡ prepare_of p.id p.now w)
+abbrev pub HasPrepared : Work → ℕ → List StoreCall → Type 0
+HasPrepared p n calls = (j : ℕ) (w : Write) → j < n → slice_get p.writes j ≡ Some w → (m : StoreCall) × Contains calls m × (m.request ≡ prepare_of p.id p.now w)
 
 -- why it ends with a conflict
-abbrev pub ConflictBy : List Note → Work → List Made → Outcome → Type 0
-ConflictBy notes p calls (outcome.Conflict key found) = ConflictsAtCommit calls notes p.id key found
-ConflictBy notes p calls a = Unit {0}
+abbrev pub ConflictBy : List ReadItem → Work → List StoreCall → Outcome → Type 0
+ConflictBy read_set p calls (outcome.Conflict key found) = ConflictsAtCommit calls read_set p.id key found
+ConflictBy read_set p calls a = Unit {0}
 
 -- What the calls say where it is.
-abbrev pub ChecksBy : List Note → Work → List Made → Stage → Type 0
-ChecksBy notes p calls (Preparing i) = PreparesOnly p calls × HasPrepared p i calls
-ChecksBy notes p calls (Checking i) = PreparesOnly p calls × HasPrepared p (length p.writes) calls
-ChecksBy notes p calls (Deciding d) = Unit {0}
-ChecksBy notes p calls (Forward i) = Unit {0}
-ChecksBy notes p calls (Stopping a n) = ConflictBy notes p calls a
-ChecksBy notes p calls (Back a n i) = ConflictBy notes p calls a
-ChecksBy notes p calls (Over a) = ConflictBy notes p calls a
+abbrev pub ChecksBy : List ReadItem → Work → List StoreCall → Stage → Type 0
+ChecksBy read_set p calls (Preparing i) = PreparesOnly p calls × HasPrepared p i calls
+ChecksBy read_set p calls (Checking i) = PreparesOnly p calls × HasPrepared p (length p.writes) calls
+ChecksBy read_set p calls (Deciding d) = Unit {0}
+ChecksBy read_set p calls (Forward i) = Unit {0}
+ChecksBy read_set p calls (Stopping a n) = ConflictBy read_set p calls a
+ChecksBy read_set p calls (Back a n i) = ConflictBy read_set p calls a
+ChecksBy read_set p calls (Over a) = ConflictBy read_set p calls a

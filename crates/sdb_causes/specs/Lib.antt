@@ -1,12 +1,12 @@
 pub mod Commits
 pub mod Reads
-pub mod Sweeps
-pub mod Tied
-pub mod Moves
+pub mod Vacuums
+pub mod Invariant
+pub mod Changes
 pub mod Conflicts
 pub mod Counts
 pub mod Filled
 pub mod Unfit
 pub mod Rolled
-pub mod Shows
+pub mod Views
 pub mod Turns

@@ -11,12 +11,12 @@ use Rattle.sdb_record.specs.Meta.{id_in, is_moment, is_unresolved, state_in}
 use Rattle.sdb_model.specs.declared.answer.Answer.{Answer}
 use Rattle.sdb_model.specs.declared.event.Event.{Event}
 use Rattle.sdb_model.specs.declared.event.How.TheVariants.{Seen}
-use Rattle.sdb_model.specs.Calls.{Made, calls_after, calls_of, decision_shown, records_read}
+use Rattle.sdb_model.specs.Calls.{StoreCall, calls_after, calls_of, decision_observed, records_read}
 use Rattle.sdb_model.specs.Causes.{IsEarly}
 use Rattle.sdb_model.specs.Counted.{IsPassedOver, roll_by}
-use Rattle.sdb_model.specs.Noted.{read_finished, reads_rows}
+use Rattle.sdb_model.specs.ReadSet.{read_finished, reads_rows}
 use Rattle.sdb_model.specs.Sql.{reads_vacuum}
-use Rattle.sdb_model.specs.Transactions.{Said, said}
+use Rattle.sdb_model.specs.Transactions.{Executed, statements_by}
 use Rattle.sdb_phases.specs.declared.step.RecoverPhase.{RecoverPhase}
 use Rattle.sdb_phases.specs.declared.step.RecoverPhase.TheVariants as phase
 use Rattle.sdb_read.specs.declared.read.ReadStep.{ReadStep}
@@ -32,84 +32,84 @@ use Rattle.sdb_types.specs.Replies.{is_answered}
 
 -- A call showed the decision on a record's transaction after the read that found it, and a later one asked for what that decision
 -- makes of the record, on condition of what was found, and was answered.
-pub record IsRolledBy (calls : List Made) (read : Made) (r : Record) : Type 0 where
+pub record IsRolledBy (calls : List StoreCall) (read : StoreCall) (r : Record) : Type 0 where
   pub id : TxId
   pub state : State
   pub decided : Decided
-  pub look : Made
-  pub roll : Made
+  pub look : StoreCall
+  pub roll : StoreCall
   pub writer : (id_in r.columns ≡ Some id) × (state_in r.columns ≡ Some state)
-  pub looks : Contains (calls_after read.at calls) look × (decision_shown id look ≡ Some decided)
+  pub looks : Contains (calls_after read.at calls) look × (decision_observed id look ≡ Some decided)
   pub rolls : Contains (calls_after look.at calls) roll × (roll.request ≡ roll_by r (condition.Version id state) decided)
   pub answered : is_answered roll.reply ≡ true
 
----- what is so of all events
+---- what holds of all events
 
 -- Each statement whose read finished had each unresolved record that was found rolled first, but for those that a VACUUM passed over.
 abbrev pub RecordsAreRolled : List Event → Type 0
-RecordsAreRolled events = (c : ℕ) (s : Said) (a : Answer) (m : Made) (r : Record) → Contains (said c events) s → s.answer ≡ Some a → read_finished a ≡ true
+RecordsAreRolled events = (c : ℕ) (s : Executed) (a : Answer) (m : StoreCall) (r : Record) → Contains (statements_by c events) s → s.answer ≡ Some a → read_finished a ≡ true
     → Contains (calls_of events c s) m → reads_rows m ≡ true → Contains (records_read m.reply) r → is_unresolved r ≡ true → IsRolledBy (calls_of events c s) m r ⊎ IsPassedOver events s (calls_of events c s) m r
 
 -- each call that was answered Applied or NotMet was seen
 abbrev pub AnsweredWereSeen : List Event → Type 0
-AnsweredWereSeen events = (c : ℕ) (s : Said) (m : Made) → Contains (said c events) s → Contains (calls_of events c s) m → is_answered m.reply ≡ true → m.how ≡ Seen
+AnsweredWereSeen events = (c : ℕ) (s : Executed) (m : StoreCall) → Contains (statements_by c events) s → Contains (calls_of events c s) m → is_answered m.reply ≡ true → m.how ≡ Seen
 
 ---- one statement
 
--- what became of a record that a read found: it was rolled, or passed over where the statement sweeps
-abbrev pub IsDealtWith : List Event → Bool → List Made → Made → Record → Type 0
+-- what became of a record that a read found: it was rolled, or passed over where the statement runs VACUUM
+abbrev pub IsDealtWith : List Event → Bool → List StoreCall → StoreCall → Record → Type 0
 IsDealtWith events sweeps calls read r = IsRolledBy calls read r ⊎ ((id : TxId) × (at : ℤ) × (sweeps ≡ true) × IsEarly events calls read r id at)
 
 -- Each unresolved record that was found is dealt with, but for these that are left.
-abbrev pub RolledBut : List Event → Bool → List Made → List Record → Type 0
-RolledBut events sweeps calls left = (m : Made) (r : Record) → Contains calls m → reads_rows m ≡ true → Contains (records_read m.reply) r → is_unresolved r ≡ true → Contains left r ⊎ IsDealtWith events sweeps calls m r
+abbrev pub RolledBut : List Event → Bool → List StoreCall → List Record → Type 0
+RolledBut events sweeps calls left = (m : StoreCall) (r : Record) → Contains calls m → reads_rows m ≡ true → Contains (records_read m.reply) r → is_unresolved r ≡ true → Contains left r ⊎ IsDealtWith events sweeps calls m r
 
 -- a call showed this decision on a transaction, after each read of rows
-pub record HasLooked (calls : List Made) (id : TxId) (d : Decided) : Type 0 where
-  pub look : Made
+pub record HasLooked (calls : List StoreCall) (id : TxId) (d : Decided) : Type 0 where
+  pub look : StoreCall
   pub among : Contains calls look
-  pub shown : decision_shown id look ≡ Some d
-  pub later : (read : Made) → Contains calls read → reads_rows read ≡ true → Contains (calls_after read.at calls) look
+  pub shown : decision_observed id look ≡ Some d
+  pub later : (read : StoreCall) → Contains calls read → reads_rows read ≡ true → Contains (calls_after read.at calls) look
 
--- the decision by which a recovery rolls was shown
-abbrev pub PhaseLooks : List Made → TxId → RecoverPhase → Type 0
+-- the decision by which a recovery rolls was observed
+abbrev pub PhaseLooks : List StoreCall → TxId → RecoverPhase → Type 0
 PhaseLooks calls id (phase.Abort n) = is_moment n ≡ true
 PhaseLooks calls id (phase.Forward n) = (d : Decided) × HasLooked calls id d × (d.decision ≡ decision.Committed) × (d.created_at ≡ n)
 PhaseLooks calls id phase.Back = (d : Decided) × HasLooked calls id d × (d.decision ≡ decision.Aborted)
 PhaseLooks calls id p = Unit {0}
 
-abbrev pub EndRolls : List Event → Bool → List Made → ReadStep → Type 0
+abbrev pub EndRolls : List Event → Bool → List StoreCall → ReadStep → Type 0
 EndRolls events sweeps calls (step.Images images) = RolledBut events sweeps calls []
 EndRolls events sweeps calls s = Unit {0}
 
 -- What is dealt with where a read is.
-abbrev pub ReadRolls : List Event → Bool → List Made → ReadStage → Type 0
+abbrev pub ReadRolls : List Event → Bool → List StoreCall → ReadStage → Type 0
 ReadRolls events sweeps calls Asking = RolledBut events sweeps calls []
 ReadRolls events sweeps calls (Resolving images rec meta p left) = RolledBut events sweeps calls (rec ∷ left) × (kind_of rec ≡ Open meta) × PhaseLooks calls meta.id p
 ReadRolls events sweeps calls (Ended s) = EndRolls events sweeps calls s
 
 -- and where a VACUUM does
-abbrev pub SweepRolls : List Event → Bool → List Made → VacuumStage → Type 0
-SweepRolls events sweeps calls (vacuum.Scanning span) = RolledBut events sweeps calls []
-SweepRolls events sweeps calls (vacuum.Resolving rec meta p left) = RolledBut events sweeps calls (rec ∷ left) × (kind_of rec ≡ Open meta) × PhaseLooks calls meta.id p
-SweepRolls events sweeps calls (vacuum.Removing b left) = RolledBut events sweeps calls left
-SweepRolls events sweeps calls vacuum.Over = Unit {0}
+abbrev pub VacuumRolls : List Event → Bool → List StoreCall → VacuumStage → Type 0
+VacuumRolls events sweeps calls (vacuum.Scanning span) = RolledBut events sweeps calls []
+VacuumRolls events sweeps calls (vacuum.Resolving rec meta p left) = RolledBut events sweeps calls (rec ∷ left) × (kind_of rec ≡ Open meta) × PhaseLooks calls meta.id p
+VacuumRolls events sweeps calls (vacuum.Removing b left) = RolledBut events sweeps calls left
+VacuumRolls events sweeps calls vacuum.Over = Unit {0}
 
 -- Of a statement that waits, by what the client does.
-abbrev pub DoingRolls : List Event → Bool → List Made → Doing → Type 0
+abbrev pub DoingRolls : List Event → Bool → List StoreCall → Doing → Type 0
 DoingRolls events sweeps calls (doing.Read a x) = ReadRolls events sweeps calls x.stage
 DoingRolls events sweeps calls d = Unit {0}
 
-abbrev pub WaitRolls : List Event → Bool → List Made → Option VacuumAt → Option TxnAt → Type 0
+abbrev pub WaitRolls : List Event → Bool → List StoreCall → Option VacuumAt → Option TxnAt → Type 0
 WaitRolls events sweeps calls None None = Unit {0}
 WaitRolls events sweeps calls None (Some t) = DoingRolls events sweeps calls t.doing
-WaitRolls events sweeps calls (Some v) o = SweepRolls events sweeps calls v.stage
+WaitRolls events sweeps calls (Some v) o = VacuumRolls events sweeps calls v.stage
 
 -- of one whose read finished
-abbrev pub IsRolledIn : List Event → ℕ → Said → Type 0
+abbrev pub IsRolledIn : List Event → ℕ → Executed → Type 0
 IsRolledIn events c s = (a : Answer) → s.answer ≡ Some a → read_finished a ≡ true → RolledBut events (reads_vacuum s.text) (calls_of events c s) []
 
 -- The records that the statements of a client found, those that were answered and the one that waits.
-pub record RollsBy (events : List Event) (c : ℕ) (told : List Said) (waiting : Option Said) (h : ClientAt) : Type 0 where
+pub record RollsBy (events : List Event) (c : ℕ) (told : List Executed) (waiting : Option Executed) (h : ClientAt) : Type 0 where
   pub answered : AllByRecursion (IsRolledIn events c) told
   pub waits : IfSome waiting (λ w. WaitRolls events (reads_vacuum w.text) (calls_of events c w) h.vacuum h.txn)

@@ -1,9 +1,9 @@
-//! Why each statement of a run has its answer: for each its cause among the events, over whatever replies the stores give.
+//! Why each statement of a run has its answer: a second invariant between events and clients, over whatever replies the stores give.
 //!
 //! Each law is the contract of a function with an empty body.
 #![tactic(auto)]
 
 pub mod clock;
 pub mod ending;
-pub mod replying;
-pub mod taking;
+pub mod replies;
+pub mod texts;

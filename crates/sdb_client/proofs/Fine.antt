@@ -23,19 +23,19 @@ use Rattle.sdb_record.proofs.NameLemmas.{same_name-true as same}
 
 ---- user columns
 
-refuse-fine : {A B : Type 0} (o : Option A) (f : A → TableRefused) (after : Result B TableRefused) → is_ok (refuse o f after) ≡ true → (o ≡ None) × (is_ok after ≡ true)
-refuse-fine None f after h = (refl, h)
-refuse-fine (Some a) f after h = absurd (cc)
+refuse-valid : {A B : Type 0} (o : Option A) (f : A → TableRefused) (after : Result B TableRefused) → is_ok (refuse o f after) ≡ true → (o ≡ None) × (is_ok after ≡ true)
+refuse-valid None f after h = (refl, h)
+refuse-valid (Some a) f after h = absurd (cc)
 
 none_reserved : (t : Table) → is_ok (checked_table t) ≡ true → first_reserved t.columns ≡ None
 unfolding checked_table
 none_reserved t h =
-    let a = refuse-fine (none_of t.partition) _ _ h in
-    let b = refuse-fine (first_unknown t.columns (key_names t)) _ _ a.1 in
-    let c = refuse-fine (first_unknown t.columns t.indexed) _ _ b.1 in
-    let d = refuse-fine (first_listed_twice t.columns) _ _ c.1 in
-    let e = refuse-fine (first_repeated [] (key_names t)) _ _ d.1 in
-    (refuse-fine (first_reserved t.columns) _ _ e.1).0
+    let a = refuse-valid (none_of t.partition) _ _ h in
+    let b = refuse-valid (first_unknown t.columns (key_names t)) _ _ a.1 in
+    let c = refuse-valid (first_unknown t.columns t.indexed) _ _ b.1 in
+    let d = refuse-valid (first_listed_twice t.columns) _ _ c.1 in
+    let e = refuse-valid (first_repeated [] (key_names t)) _ _ d.1 in
+    (refuse-valid (first_reserved t.columns) _ _ e.1).0
 
 -- each column of a table has a user's name of at most 64 bytes
 abbrev are_users : List Column → Bool

@@ -32,11 +32,11 @@ use Rattle.sdb_phases.specs.declared.step.ValidateStep.{ValidateStep}
 use Rattle.sdb_phases.specs.declared.step.ValidateStep.TheVariants as validate
 use Rattle.sdb_phases.specs.Work.{Work, prepares}
 use Rattle.sdb_phases.specs.Checks.{checks, difference_in}
-use Rattle.sdb_phases.specs.Steps.{decide_next, decide_request_at, judged, prepare_step, refused, told, touched_after, validate_step}
+use Rattle.sdb_phases.specs.Steps.{decide_next, decide_request_at, judged, prepare_step, refused, step_of_row, touched_after, validate_step}
 use Rattle.sdb_phases.specs.Commit.{Stage, Preparing, Checking, Deciding, Forward, Stopping, Back, Over, after_abort, after_check, after_decide, after_prepare, back, checking, forward, pending, preparing, step as commit_step}
 use Rattle.sdb_commit.specs.Phases.{IsNext, ended_at}
 use Rattle.sdb_validate.specs.Inside.{Judges}
-use Rattle.sdb_client.specs.Inside.{IsGoing}
+use Rattle.sdb_client.specs.Inside.{IsCommitPending}
 use Rattle.sdb_read.specs.declared.read.ReadStep.TheVariants as step
 use Rattle.sdb_read.specs.Read.{Kind, Firm, Open, Bad, ReadStage, Asking, Resolving, Ended, answered, kind_of, read_pending_at, read_result, read_step, resolved, settle, settle_one}
 
@@ -159,7 +159,7 @@ some_mapped f None h = h
 some_of : {A B : Type 0} (f : A → B) (xs : List A) (i : ℕ) → i < length xs → IsSome (slice_get (map f xs) i)
 some_of f xs i h = some_at (map f xs) i (subst (λ (n : ℕ). i < n) (sym (length-map xs f)) h)
 
-pub going_asks : (p : Work) (s : Stage) → IsGoing p s → IsSome (pending p s)
+pub going_asks : (p : Work) (s : Stage) → IsCommitPending p s → IsSome (pending p s)
 going_asks p (Preparing i) h = some_of _ p.writes i h
 going_asks p (Checking i) h = some_mapped (λ (c : Check). c.request) (slice_get (checks p) i) (some_at (checks p) i h)
 going_asks p (Deciding d) h = h
@@ -168,30 +168,30 @@ going_asks p (Stopping a n) h = refl
 going_asks p (Back a n i) h = some_of _ p.writes i (let first = h.0 in let second = h.1 in omega arith)
 going_asks p (Over a) h = absurd h
 
-going_forward : (p : Work) (i : ℕ) → ended_at (forward p i) ≡ None → IsGoing p (forward p i)
+going_forward : (p : Work) (i : ℕ) → ended_at (forward p i) ≡ None → IsCommitPending p (forward p i)
 going_forward p i h =
-    elim (nat_lt i (length p.writes)) as (λ b. nat_lt i (length p.writes) ≡ b → ended_at (cond b (Forward i) (Over outcome.Committed)) ≡ None → IsGoing p (cond b (Forward i) (Over outcome.Committed))) [
+    elim (nat_lt i (length p.writes)) as (λ b. nat_lt i (length p.writes) ≡ b → ended_at (cond b (Forward i) (Over outcome.Committed)) ≡ None → IsCommitPending p (cond b (Forward i) (Over outcome.Committed))) [
       | true ↦ λ e k. grind (arith, nat_tests, e)
       | false ↦ λ e k. absurd (cc)
     ] refl h
 
-going_back : (p : Work) (a : Outcome) (n i : ℕ) → n ≤ length p.writes → ended_at (back a n i) ≡ None → IsGoing p (back a n i)
+going_back : (p : Work) (a : Outcome) (n i : ℕ) → n ≤ length p.writes → ended_at (back a n i) ≡ None → IsCommitPending p (back a n i)
 going_back p a n i most h =
-    elim (nat_lt i n) as (λ b. nat_lt i n ≡ b → ended_at (cond b (Back a n i) (Over a)) ≡ None → IsGoing p (cond b (Back a n i) (Over a))) [
+    elim (nat_lt i n) as (λ b. nat_lt i n ≡ b → ended_at (cond b (Back a n i) (Over a)) ≡ None → IsCommitPending p (cond b (Back a n i) (Over a))) [
       | true ↦ λ e k. (grind (arith, nat_tests, e), most)
       | false ↦ λ e k. absurd (cc)
     ] refl h
 
-going_checking : (p : Work) (i : ℕ) → IsGoing p (checking p i)
+going_checking : (p : Work) (i : ℕ) → IsCommitPending p (checking p i)
 going_checking p i =
-    elim (nat_lt i (length (checks p))) as (λ b. nat_lt i (length (checks p)) ≡ b → IsGoing p (cond b (Checking i) (Deciding phase.Put))) [
+    elim (nat_lt i (length (checks p))) as (λ b. nat_lt i (length (checks p)) ≡ b → IsCommitPending p (cond b (Checking i) (Deciding phase.Put))) [
       | true ↦ λ e. grind (arith, nat_tests, e)
       | false ↦ λ e. refl
     ] refl
 
-pub going_first : (p : Work) → IsGoing p (preparing p 0)
+pub going_first : (p : Work) → IsCommitPending p (preparing p 0)
 going_first p =
-    elim (nat_lt 0 (length p.writes)) as (λ b. nat_lt 0 (length p.writes) ≡ b → IsGoing p (cond b (Preparing 0) (checking p 0))) [
+    elim (nat_lt 0 (length p.writes)) as (λ b. nat_lt 0 (length p.writes) ≡ b → IsCommitPending p (cond b (Preparing 0) (checking p 0))) [
       | true ↦ λ e. grind (arith, nat_tests, e)
       | false ↦ λ e. going_checking p 0
     ] refl
@@ -223,14 +223,14 @@ touched_within i m (reply.Found found) h = omega arith
 touched_within i m (reply.Rows rows) h = omega arith
 touched_within i m reply.NoMemory h = omega arith
 
-going_prepare : (p : Work) (i n : ℕ) (s : PrepareStep) → n ≤ length p.writes → (s ≡ prepare.More → i + 1 < length p.writes) → IsGoing p (after_prepare p i n s)
+going_prepare : (p : Work) (i n : ℕ) (s : PrepareStep) → n ≤ length p.writes → (s ≡ prepare.More → i + 1 < length p.writes) → IsCommitPending p (after_prepare p i n s)
 going_prepare p i n prepare.More most h = h refl
 going_prepare p i n prepare.Done most h = going_checking p 0
 going_prepare p i n (prepare.Conflict key found) most h = most
 going_prepare p i n prepare.Faulted most h = most
 going_prepare p i n prepare.NoMemory most h = most
 
-going_check : (p : Work) (i : ℕ) (v : ValidateStep) → (v ≡ validate.More → i + 1 < length (checks p)) → IsGoing p (after_check p i v)
+going_check : (p : Work) (i : ℕ) (v : ValidateStep) → (v ≡ validate.More → i + 1 < length (checks p)) → IsCommitPending p (after_check p i v)
 going_check p i validate.More h = h refl
 going_check p i validate.Valid h = refl
 going_check p i (validate.Conflict key found) h = omega arith
@@ -270,7 +270,7 @@ DecideGoes p (d, decide.Unknown id) = Unit {0}
 DecideGoes p (d, decide.BadRecord key) = Unit {0}
 DecideGoes p (d, decide.NoMemory) = Unit {0}
 
-told_goes : (p : Work) (d : DecidePhase) (a : DecideStep) (o : Result Decided (List ℕ)) → DecideGoes p (d, a) → DecideGoes p (d, told p.id a o)
+told_goes : (p : Work) (d : DecidePhase) (a : DecideStep) (o : Result Decided (List ℕ)) → DecideGoes p (d, a) → DecideGoes p (d, step_of_row p.id a o)
 unfolding DecideGoes
 told_goes p d a (Err column) h = tt
 told_goes p d a (Ok x) h = elim x.decision as (λ y. DecideGoes p (d, elim y [ decision.Committed ↦ decide.Committed | decision.Aborted ↦ a ])) [ decision.Committed ↦ tt | decision.Aborted ↦ h ]
@@ -318,7 +318,7 @@ decide_goes p phase.Ended (reply.NotMet (Some row)) = tt
 decide_goes p phase.Ended reply.Fault = tt
 decide_goes p phase.Ended reply.NoMemory = tt
 
-going_decide : (p : Work) (n : DecidePhase × DecideStep) → DecideGoes p n → ended_at (after_decide p n.0 n.1) ≡ None → IsGoing p (after_decide p n.0 n.1)
+going_decide : (p : Work) (n : DecidePhase × DecideStep) → DecideGoes p n → ended_at (after_decide p n.0 n.1) ≡ None → IsCommitPending p (after_decide p n.0 n.1)
 unfolding DecideGoes
 going_decide p (d, decide.More) h e = h
 going_decide p (d, decide.Committed) h e = going_forward p 0 e
@@ -328,7 +328,7 @@ going_decide p (d, decide.Unknown id) h e = absurd (cc)
 going_decide p (d, decide.BadRecord key) h e = absurd (cc)
 going_decide p (d, decide.NoMemory) h e = omega arith
 
-going_abort : (p : Work) (a : Outcome) (n : ℕ) (r : Reply) → n ≤ length p.writes → ended_at (after_abort a n r) ≡ None → IsGoing p (after_abort a n r)
+going_abort : (p : Work) (a : Outcome) (n : ℕ) (r : Reply) → n ≤ length p.writes → ended_at (after_abort a n r) ≡ None → IsCommitPending p (after_abort a n r)
 going_abort p a n reply.Applied h e = going_back p a n 0 h e
 going_abort p a n (reply.NotMet found) h e = going_back p a n 0 h e
 going_abort p a n reply.Fault h e = absurd (cc)
@@ -337,14 +337,14 @@ going_abort p a n (reply.Found found) h e = absurd (cc)
 going_abort p a n (reply.Rows rows) h e = absurd (cc)
 
 -- a COMMIT that goes on has a call pending
-pub commit_goes : (p : Work) (s : Stage) (r : Reply) (after : Stage) → IsGoing p s → IsNext p s r after → ended_at (commit_step p s r) ≡ None → IsGoing p after
+pub commit_goes : (p : Work) (s : Stage) (r : Reply) (after : Stage) → IsCommitPending p s → IsNext p s r after → ended_at (commit_step p s r) ≡ None → IsCommitPending p after
 commit_goes p (Preparing i) r after h is e =
-    subst (IsGoing p) (sym is) (going_prepare p i (touched_after i r) (prepare_step (nat_lt (i + 1) (length p.writes)) (slice_get (prepares p) i) r) (touched_within i (length p.writes) r h)
+    subst (IsCommitPending p) (sym is) (going_prepare p i (touched_after i r) (prepare_step (nat_lt (i + 1) (length p.writes)) (slice_get (prepares p) i) r) (touched_within i (length p.writes) r h)
     (λ k. less_of_test (i + 1) (length p.writes) (prepare_more (nat_lt (i + 1) (length p.writes)) (slice_get (prepares p) i) r k)))
 commit_goes p (Checking i) r after h (v, judges, is) e =
-    subst (IsGoing p) (sym is) (going_check p i v (λ k. less_of_test (i + 1) (length (checks p)) (validate_more (nat_lt (i + 1) (length (checks p))) (slice_get (checks p) i) r (judges_more _ v judges k))))
-commit_goes p (Deciding d) r after h is e = subst (IsGoing p) (sym is) (going_decide p (decide_next p.id d r) (decide_goes p d r) e)
-commit_goes p (Forward i) r after h is e = subst (IsGoing p) (sym is) (going_forward p (i + 1) e)
-commit_goes p (Stopping a n) r after h is e = subst (IsGoing p) (sym is) (going_abort p a n r h e)
-commit_goes p (Back a n i) r after h is e = subst (IsGoing p) (sym is) (going_back p a n (i + 1) h.1 e)
+    subst (IsCommitPending p) (sym is) (going_check p i v (λ k. less_of_test (i + 1) (length (checks p)) (validate_more (nat_lt (i + 1) (length (checks p))) (slice_get (checks p) i) r (judges_more _ v judges k))))
+commit_goes p (Deciding d) r after h is e = subst (IsCommitPending p) (sym is) (going_decide p (decide_next p.id d r) (decide_goes p d r) e)
+commit_goes p (Forward i) r after h is e = subst (IsCommitPending p) (sym is) (going_forward p (i + 1) e)
+commit_goes p (Stopping a n) r after h is e = subst (IsCommitPending p) (sym is) (going_abort p a n r h e)
+commit_goes p (Back a n i) r after h is e = subst (IsCommitPending p) (sym is) (going_back p a n (i + 1) h.1 e)
 commit_goes p (Over a) r after h is e = absurd h

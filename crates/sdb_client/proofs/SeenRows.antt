@@ -27,8 +27,8 @@ use Rattle.sdb_record.specs.Among.{write_among}
 use Rattle.sdb_model.specs.Exec.{Tables, row_of_entry}
 use Rattle.sdb_model.specs.Access.{in_access, rows_at}
 use Rattle.sdb_exec.proofs.Laid.{by_key}
-use Rattle.sdb_snapshot.specs.Noted.{Note, AreBases, base_at, is_noted, note_at}
-use Rattle.sdb_snapshot.specs.Held.{AreKept}
+use Rattle.sdb_snapshot.specs.Reads.{ReadRecord, AreBases, base_at, is_key_read, record_read_at}
+use Rattle.sdb_snapshot.specs.Sets.{IsSetInvariant}
 use Rattle.sdb_snapshot.specs.Rows.{row_found}
 use Rattle.sdb_snapshot.specs.Seen.{Seen, overlay, row_seen, row_with, tables_seen}
 use Rattle.sdb_snapshot.specs.Written.{AreWrites}
@@ -36,8 +36,8 @@ use Rattle.sdb_snapshot.proofs.Shown.{get_seen, no_row}
 use Rattle.sdb_types.proofs.Basics.{less_of, truth as true_from_T}
 
 -- a row of a key that was read, with its columns in order
-abbrev pub IsSeenRow : List Note → Image → Type 0
-IsSeenRow notes r = (is_noted notes r.key ≡ true) × (are_columns r.columns ≡ true)
+abbrev pub IsSeenRow : List ReadRecord → Image → Type 0
+IsSeenRow read_set r = (is_key_read read_set r.key ≡ true) × (are_columns r.columns ≡ true)
 
 ---- rows of tables
 
@@ -90,10 +90,10 @@ write_fine (x ∷ xs) q w h e =
       | false ↦ λ k. write_fine xs q w h.1 k
     ] e
 
-note_base : (notes : List Note) (q : Key) → AreBases notes → IfSome (base_at notes q) (λ b. are_columns b.columns ≡ true)
+note_base : (read_set : List ReadRecord) (q : Key) → AreBases read_set → IfSome (base_at read_set q) (λ b. are_columns b.columns ≡ true)
 note_base [] q h = tt
 note_base (e ∷ es) q h =
-    elim (same_key q e.0) as (λ b. IfSome (option_and_then (λ found. found) (cond b (Some e.1) (note_at es q))) (λ r. are_columns r.columns ≡ true)) [
+    elim (same_key q e.0) as (λ b. IfSome (option_and_then (λ found. found) (cond b (Some e.1) (record_read_at es q))) (λ r. are_columns r.columns ≡ true)) [
       | true ↦ of_note e.1 h.0
       | false ↦ note_base es q h.1
     ]
@@ -107,13 +107,13 @@ found_ordered None cs h e = absurd (cc)
 found_ordered (Some b) cs h e = image_ordered b cs h e
 
 row_ordered : (x : Option Write) (o : Option Record) (cs : List Pair) → ((w : Write) → x ≡ Some w → is_change w.change ≡ true) → IfSome o (λ b. are_columns b.columns ≡ true) → row_with x o ≡ Some cs → are_columns cs ≡ true
-row_ordered None o cs fine base e = found_ordered o cs base e
-row_ordered (Some w) o cs fine base e = change_ordered w.change cs (fine w refl) e
+row_ordered None o cs valid base e = found_ordered o cs base e
+row_ordered (Some w) o cs valid base e = change_ordered w.change cs (valid w refl) e
 
 ---- what a transaction sees
 
-pub seen_rows : (s : Seen) (a : Access) → AreKept s.notes s.writes → AllByRecursion (IsSeenRow s.notes) (overlay a s)
+pub seen_rows : (s : Seen) (a : Access) → IsSetInvariant s.read_set s.writes → AllByRecursion (IsSeenRow s.read_set) (overlay a s)
 seen_rows s a kept =
-    all_rows_at (λ q cs. (is_noted s.notes q ≡ true) × (are_columns cs ≡ true)) a (tables_seen s) (λ q cs found.
-    let here : row_seen s.notes s.writes q ≡ Some cs = sym (get_seen s.notes s.writes q) ∙ found in
-    (no_row s.notes s.writes q kept.read (ap is_some here), row_ordered (write_among s.writes q) (base_at s.notes q) cs (λ w e. write_fine s.writes q w kept.fine e) (note_base s.notes q kept.bases) here))
+    all_rows_at (λ q cs. (is_key_read s.read_set q ≡ true) × (are_columns cs ≡ true)) a (tables_seen s) (λ q cs found.
+    let here : row_seen s.read_set s.writes q ≡ Some cs = sym (get_seen s.read_set s.writes q) ∙ found in
+    (no_row s.read_set s.writes q kept.read (ap is_some here), row_ordered (write_among s.writes q) (base_at s.read_set q) cs (λ w e. write_fine s.writes q w kept.valid e) (note_base s.read_set q kept.bases) here))

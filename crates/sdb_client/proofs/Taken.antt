@@ -9,15 +9,15 @@ use Rattle.sdb_model.specs.declared.answer.Refusal.{Refusal}
 use Rattle.sdb_model.specs.declared.statement.Statement.{Statement}
 use Rattle.sdb_model.specs.Refused.{refusal_by, refusal_on}
 use Rattle.sdb_model.specs.Sql.{Refuses}
-use Rattle.sdb_model.specs.Noted.{read_finished}
+use Rattle.sdb_model.specs.ReadSet.{read_finished}
 use Rattle.sdb_model.specs.Transactions.{changes_nothing}
 use Rattle.sdb_exec.specs.declared.plan.PlanStep.{PlanStep}
 use Rattle.sdb_exec.specs.declared.plan.PlanStep.TheVariants.{Finished, Read as Wants}
 use Rattle.sdb_exec.specs.Plans.{Planned, has_all_literals}
 use Rattle.sdb_exec.proofs.Places.{named_is_table}
 use Rattle.sdb_txn.specs.Txn.{TxnAt}
-use Rattle.sdb_client.specs.Client.{ClientAt, Taking, TextTold, given_answer, given_left, written}
-use Rattle.sdb_client.specs.Inside.{IsFine, IsPlanOf}
+use Rattle.sdb_client.specs.Client.{ClientAt, Taking, TextPost, given_answer, given_left, written}
+use Rattle.sdb_client.specs.Inside.{IsValidPlan, IsPlanOf}
 
 ---- answers
 
@@ -56,7 +56,7 @@ nothing_left t u s z h told left memory = by (memory_or z)
 
 ---- plans
 
-pub plan_fine : (catalog : List Table) (st : Statement) (p : Planned) → is_catalog catalog ≡ true → has_all_literals st ≡ true → IsPlanOf catalog st p → IsFine p
+pub plan_fine : (catalog : List Table) (st : Statement) (p : Planned) → is_catalog catalog ≡ true → has_all_literals st ≡ true → IsPlanOf catalog st p → IsValidPlan p
 plan_fine catalog st p is whole h = record {
   asked = h.asked;
   table = named_is_table catalog st p.table is h.table;
@@ -66,6 +66,6 @@ plan_fine catalog st p is whole h = record {
 
 ---- texts
 
-pub unread_told : (q : Taking) (text : List ℕ) (o : Option Refusal) (z : Answer) (c d : ClientAt) → IfSome o (Refuses text) → IfSome o (λ r. (z ≡ answer.Refused r) × (d ≡ c)) → (o ≡ None → (z ≡ answer.NoMemory)) → Some z ≢ Some answer.NoMemory → TextTold q text c (Some z) d
+pub unread_told : (q : Taking) (text : List ℕ) (o : Option Refusal) (z : Answer) (c d : ClientAt) → IfSome o (Refuses text) → IfSome o (λ r. (z ≡ answer.Refused r) × (d ≡ c)) → (o ≡ None → (z ≡ answer.NoMemory)) → Some z ≢ Some answer.NoMemory → TextPost q text c (Some z) d
 unread_told q text None z c d refuses told memory n = absurd (n (ap Some (memory refl)))
 unread_told q text (Some r) z c d refuses told memory n = (Err r, refuses, record { answer = ap Some told.0; same = told.1 })

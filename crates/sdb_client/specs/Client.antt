@@ -16,7 +16,7 @@ use Rattle.sdb_model.specs.declared.statement.Statement.{Statement}
 use Rattle.sdb_model.specs.declared.statement.Statement.TheVariants as statement
 use Rattle.sdb_model.specs.Causes.{refused}
 use Rattle.sdb_model.specs.Exec.{named_table}
-use Rattle.sdb_model.specs.Noted.{read_finished}
+use Rattle.sdb_model.specs.ReadSet.{read_finished}
 use Rattle.sdb_model.specs.Refused.{refusal_of}
 use Rattle.sdb_model.specs.Sql.{Reads, Refuses, reads_commit}
 use Rattle.sdb_model.specs.Transactions.{changes_nothing, id_of}
@@ -28,14 +28,14 @@ use Rattle.sdb_commit.specs.Phases.{CommitAt}
 use Rattle.sdb_read.specs.declared.read.ReadStep.{ReadStep}
 use Rattle.sdb_read.specs.declared.read.ReadStep.TheVariants as step
 use Rattle.sdb_read.specs.Read.{ReadAt, ReadStage, read_result, read_step}
-use Rattle.sdb_snapshot.specs.Noted.{IsFirstDifference, IsUnmoved, is_noted}
+use Rattle.sdb_snapshot.specs.Reads.{IsFirstDifference, IsUnmoved, is_key_read}
 use Rattle.sdb_snapshot.specs.Seen.{Seen, is_scanned, overlay, with_get, with_scan, with_written}
 use Rattle.sdb_snapshot.specs.Written.{most_writes}
 use Rattle.sdb_txn.specs.declared.progress.Progress.{Progress}
 use Rattle.sdb_txn.specs.declared.progress.Progress.TheVariants as progress
 use Rattle.sdb_txn.specs.declared.txn.Doing.{Doing}
 use Rattle.sdb_txn.specs.declared.txn.Doing.TheVariants as doing
-use Rattle.sdb_txn.specs.Txn.{TxnAt, CommitTold, begun, committing, idle, pending, reading}
+use Rattle.sdb_txn.specs.Txn.{TxnAt, CommitPost, begun, committing, idle, pending, reading}
 use Rattle.sdb_vacuum.specs.declared.work.VacuumStep.{VacuumStep}
 use Rattle.sdb_vacuum.specs.declared.work.VacuumStep.TheVariants as sweep
 use Rattle.sdb_vacuum.specs.Vacuum.{VacuumAt, Gives, begun as sweeping, vacuum_pending, vacuum_step}
@@ -121,7 +121,7 @@ plan_of table st = record { table = table; statement = st; asked = true }
 
 -- an access can be answered from what was read: its key was read, or its span scanned
 abbrev pub is_covered : Seen → Access → Bool
-is_covered s (access.Get key) = is_noted s.notes key
+is_covered s (access.Get key) = is_key_read s.read_set key
 is_covered s (access.Scan span) = is_scanned s.scans span
 
 ---- a statement that is taken
@@ -134,7 +134,7 @@ pub record Taking : Type 0 where
   pub fresh : TxId
 
 -- A statement is answered at once, and its client is as before.
-pub record IsTold (c : ClientAt) (a : Answer) (result : Option Answer) (d : ClientAt) : Type 0 where
+pub record IsAnsweredAtOnce (c : ClientAt) (a : Answer) (result : Option Answer) (d : ClientAt) : Type 0 where
   pub answer : result ≡ Some a
   pub same : d ≡ c
 
@@ -146,108 +146,108 @@ next_id c = id_of c.number (c.begun + 1)
 abbrev pub with_begun : ClientAt → TxId → ClientAt
 with_begun c fresh = record { number = c.number; begun = c.begun + 1; txn = Some (begun fresh); plan = None; vacuum = None }
 
-abbrev pub GateTold : Bool → TxId → ClientAt → Option Answer → ClientAt → Type 0
-GateTold true fresh c result d = IsTold c answer.Vacuuming result d
-GateTold false fresh c result d = (result ≡ Some answer.Done) × (d ≡ with_begun c fresh)
+abbrev pub GatePost : Bool → TxId → ClientAt → Option Answer → ClientAt → Type 0
+GatePost true fresh c result d = IsAnsweredAtOnce c answer.Vacuuming result d
+GatePost false fresh c result d = (result ≡ Some answer.Done) × (d ≡ with_begun c fresh)
 
 -- BEGIN is refused inside of a transaction, and turned away while a VACUUM runs; else a transaction begins.
-abbrev pub BeginTold : Gate → TxId → ClientAt → Option TxnAt → Option Answer → ClientAt → Type 0
-BeginTold gate fresh c (Some t) result d = IsTold c (refused 4) result d
-BeginTold gate fresh c None result d = GateTold gate.vacuum_runs fresh c result d
+abbrev pub BeginPost : Gate → TxId → ClientAt → Option TxnAt → Option Answer → ClientAt → Type 0
+BeginPost gate fresh c (Some t) result d = IsAnsweredAtOnce c (refused 4) result d
+BeginPost gate fresh c None result d = GatePost gate.vacuum_runs fresh c result d
 
 -- COMMIT is refused outside of a transaction; else its first call is pending.
-abbrev pub CommitTaken : ℤ → ClientAt → Option TxnAt → Option Answer → ClientAt → Type 0
-CommitTaken now c None result d = IsTold c (refused 5) result d
-CommitTaken now c (Some t) result d = (result ≡ None) × (d ≡ holding c (committing t now))
+abbrev pub CommitStartPost : ℤ → ClientAt → Option TxnAt → Option Answer → ClientAt → Type 0
+CommitStartPost now c None result d = IsAnsweredAtOnce c (refused 5) result d
+CommitStartPost now c (Some t) result d = (result ≡ None) × (d ≡ holding c (committing t now))
 
 -- ROLLBACK is refused outside of a transaction; else it ends the transaction.
-abbrev pub RollbackTold : ClientAt → Option TxnAt → Option Answer → ClientAt → Type 0
-RollbackTold c None result d = IsTold c (refused 5) result d
-RollbackTold c (Some t) result d = (result ≡ Some answer.Done) × (d ≡ resting c)
+abbrev pub RollbackPost : ClientAt → Option TxnAt → Option Answer → ClientAt → Type 0
+RollbackPost c None result d = IsAnsweredAtOnce c (refused 5) result d
+RollbackPost c (Some t) result d = (result ≡ Some answer.Done) × (d ≡ resting c)
 
 -- VACUUM is turned away where a transaction is open. Over an empty catalog it has nothing to do; else its first call is pending.
-abbrev pub VacuumTold : Bool → List Table → ClientAt → Option Answer → ClientAt → Type 0
-VacuumTold true catalog c result d = IsTold c answer.OpenTransactions result d
-VacuumTold false [] c result d = IsTold c (answer.Count 0) result d
-VacuumTold false (t ∷ ts) c result d = (result ≡ None) × (d ≡ record c { vacuum = Some (sweeping (t ∷ ts)) })
+abbrev pub VacuumStartPost : Bool → List Table → ClientAt → Option Answer → ClientAt → Type 0
+VacuumStartPost true catalog c result d = IsAnsweredAtOnce c answer.OpenTransactions result d
+VacuumStartPost false [] c result d = IsAnsweredAtOnce c (answer.Count 0) result d
+VacuumStartPost false (t ∷ ts) c result d = (result ≡ None) × (d ≡ record c { vacuum = Some (sweeping (t ∷ ts)) })
 
 -- A statement reads: from what was read before it is answered at once; else the call for its rows is pending.
-pub record RowsTold (p : Planned) (a : Access) (c : ClientAt) (t : TxnAt) (result : Option Answer) (d : ClientAt) : Type 0 where
+pub record RowsPost (p : Planned) (a : Access) (c : ClientAt) (t : TxnAt) (result : Option Answer) (d : ClientAt) : Type 0 where
   pub known : is_covered t.seen a ≡ true → (result ≡ Some (given_answer t (gives p a t))) × (d ≡ holding c (given_left t t (gives p a t)))
   pub unknown : is_covered t.seen a ≡ false → (result ≡ None) × (d ≡ record c { txn = Some (reading t a); plan = Some p })
 
 -- A statement on a table is refused by the catalog, or reads.
-pub record TableTold (catalog : List Table) (st : Statement) (c : ClientAt) (t : TxnAt) (result : Option Answer) (d : ClientAt) : Type 0 where
-  pub refused : (r : Refusal) → refusal_of catalog st ≡ Some r → IsTold c (answer.Refused r) result d
-  pub reads : (table : Table) → refusal_of catalog st ≡ None → named_table catalog st ≡ Some table → RowsTold (plan_of table st) (access_of table st) c t result d
+pub record TablePost (catalog : List Table) (st : Statement) (c : ClientAt) (t : TxnAt) (result : Option Answer) (d : ClientAt) : Type 0 where
+  pub refused : (r : Refusal) → refusal_of catalog st ≡ Some r → IsAnsweredAtOnce c (answer.Refused r) result d
+  pub reads : (table : Table) → refusal_of catalog st ≡ None → named_table catalog st ≡ Some table → RowsPost (plan_of table st) (access_of table st) c t result d
 
 -- It is refused outside of a transaction.
-abbrev pub AskTold : List Table → Statement → ClientAt → Option TxnAt → Option Answer → ClientAt → Type 0
-AskTold catalog st c None result d = IsTold c (refused 5) result d
-AskTold catalog st c (Some t) result d = TableTold catalog st c t result d
+abbrev pub AskPost : List Table → Statement → ClientAt → Option TxnAt → Option Answer → ClientAt → Type 0
+AskPost catalog st c None result d = IsAnsweredAtOnce c (refused 5) result d
+AskPost catalog st c (Some t) result d = TablePost catalog st c t result d
 
 -- What the taking of a statement comes to.
-abbrev pub StatementTold : Taking → Statement → ClientAt → Option Answer → ClientAt → Type 0
-StatementTold q statement.Begin c result d = BeginTold q.gate q.fresh c c.txn result d
-StatementTold q statement.Commit c result d = CommitTaken q.now c c.txn result d
-StatementTold q statement.Rollback c result d = RollbackTold c c.txn result d
-StatementTold q statement.Vacuum c result d = VacuumTold (is_some c.txn || q.gate.open_elsewhere) q.catalog c result d
-StatementTold q st c result d = AskTold q.catalog st c c.txn result d
+abbrev pub StatementPost : Taking → Statement → ClientAt → Option Answer → ClientAt → Type 0
+StatementPost q statement.Begin c result d = BeginPost q.gate q.fresh c c.txn result d
+StatementPost q statement.Commit c result d = CommitStartPost q.now c c.txn result d
+StatementPost q statement.Rollback c result d = RollbackPost c c.txn result d
+StatementPost q statement.Vacuum c result d = VacuumStartPost (is_some c.txn || q.gate.open_elsewhere) q.catalog c result d
+StatementPost q st c result d = AskPost q.catalog st c c.txn result d
 
 -- what a text says: the statement that it is read as, or what it is refused for
-abbrev pub Says : List ℕ → Result Statement Refusal → Type 0
-Says text (Ok st) = Reads text st
-Says text (Err r) = Refuses text r
+abbrev pub Parses : List ℕ → Result Statement Refusal → Type 0
+Parses text (Ok st) = Reads text st
+Parses text (Err r) = Refuses text r
 
-abbrev pub SaidTold : Taking → Result Statement Refusal → ClientAt → Option Answer → ClientAt → Type 0
-SaidTold q (Ok st) c result d = StatementTold q st c result d
-SaidTold q (Err r) c result d = IsTold c (answer.Refused r) result d
+abbrev pub ParsedPost : Taking → Result Statement Refusal → ClientAt → Option Answer → ClientAt → Type 0
+ParsedPost q (Ok st) c result d = StatementPost q st c result d
+ParsedPost q (Err r) c result d = IsAnsweredAtOnce c (answer.Refused r) result d
 
 -- What the taking of a text comes to, unless memory runs out.
-abbrev pub TextTold : Taking → List ℕ → ClientAt → Option Answer → ClientAt → Type 0
-TextTold q text c result d = (x : Result Statement Refusal) × Says text x × SaidTold q x c result d
+abbrev pub TextPost : Taking → List ℕ → ClientAt → Option Answer → ClientAt → Type 0
+TextPost q text c result d = (x : Result Statement Refusal) × Parses text x × ParsedPost q x c result d
 
 -- What out of memory leaves: a COMMIT ends its transaction, and each other statement leaves all as it was.
-abbrev pub starved : List ℕ → ClientAt → ClientAt
-starved text c = if reads_commit text then resting c else c
+abbrev pub out_of_memory : List ℕ → ClientAt → ClientAt
+out_of_memory text c = if reads_commit text then resting c else c
 
 ---- a reply that is taken
 
 -- the transaction with what a read has found
-abbrev pub noting : TxnAt → Access → List Record → TxnAt
-noting t (access.Get key) images = record (idle t) { seen = with_get t.seen key (slice_get images 0) }
-noting t (access.Scan span) images = record (idle t) { seen = with_scan t.seen span images }
+abbrev pub with_rows_read : TxnAt → Access → List Record → TxnAt
+with_rows_read t (access.Get key) images = record (idle t) { seen = with_get t.seen key (slice_get images 0) }
+with_rows_read t (access.Scan span) images = record (idle t) { seen = with_scan t.seen span images }
 
 -- a get is of a key that was not read, and a scan finds each key that was read as it was read
 abbrev pub IsAsRead : TxnAt → Access → List Record → Type 0
-IsAsRead t (access.Get key) images = is_noted t.seen.notes key ≡ false
-IsAsRead t (access.Scan span) images = IsUnmoved t.seen.notes span images
+IsAsRead t (access.Get key) images = is_key_read t.seen.read_set key ≡ false
+IsAsRead t (access.Scan span) images = IsUnmoved t.seen.read_set span images
 
 -- this is the first key that it finds otherwise
-abbrev pub IsMovedAt : TxnAt → Access → List Record → Key → Option Record → Type 0
-IsMovedAt t (access.Get key) images moved found = ⊥
-IsMovedAt t (access.Scan span) images moved found = IsFirstDifference t.seen.notes span images moved found
+abbrev pub IsChangedAt : TxnAt → Access → List Record → Key → Option Record → Type 0
+IsChangedAt t (access.Get key) images moved found = ⊥
+IsChangedAt t (access.Scan span) images moved found = IsFirstDifference t.seen.read_set span images moved found
 
 -- A statement that has read is answered from the rows that its transaction then sees; or its read doesn't agree with those before,
 -- and ends the transaction.
-abbrev pub ImagesTold : TxnAt → Planned → Access → List Record → Next → TxnAt → Type 0
-ImagesTold t p a images (next.Answer z) u = IsAsRead t a images × (z ≡ given_answer (noting t a images) (gives p a (noting t a images))) × (u ≡ given_left (idle t) (noting t a images) (gives p a (noting t a images)))
-ImagesTold t p a images (next.End (answer.Conflict key found)) u = IsMovedAt t a images key found
-ImagesTold t p a images n u = ⊥
+abbrev pub RowsReadPost : TxnAt → Planned → Access → List Record → Next → TxnAt → Type 0
+RowsReadPost t p a images (next.Answer z) u = IsAsRead t a images × (z ≡ given_answer (with_rows_read t a images) (gives p a (with_rows_read t a images))) × (u ≡ given_left (idle t) (with_rows_read t a images) (gives p a (with_rows_read t a images)))
+RowsReadPost t p a images (next.End (answer.Conflict key found)) u = IsChangedAt t a images key found
+RowsReadPost t p a images n u = ⊥
 
 -- What the call of a read comes to, by the stage that its reply leads to.
-abbrev pub StageTold : TxnAt → Planned → Access → ReadAt → ReadStage → ReadStep → Next → TxnAt → Type 0
-StageTold t p a x after step.More n u = (n ≡ next.Call) × (u ≡ record t { doing = doing.Read a (record x { stage = after }) })
-StageTold t p a x after (step.Images images) n u = ImagesTold t p a images n u
-StageTold t p a x after (step.Busy key id at) n u = (n ≡ next.Answer (answer.Busy key id at)) × (u ≡ idle t)
-StageTold t p a x after step.Faulted n u = (n ≡ next.Answer answer.Faulted) × (u ≡ idle t)
-StageTold t p a x after (step.BadRecord key) n u = (n ≡ next.Answer (answer.BadRecord key)) × (u ≡ idle t)
-StageTold t p a x after step.NoMemory n u = ⊥
+abbrev pub StagePost : TxnAt → Planned → Access → ReadAt → ReadStage → ReadStep → Next → TxnAt → Type 0
+StagePost t p a x after step.More n u = (n ≡ next.Call) × (u ≡ record t { doing = doing.Read a (record x { stage = after }) })
+StagePost t p a x after (step.Images images) n u = RowsReadPost t p a images n u
+StagePost t p a x after (step.Busy key id at) n u = (n ≡ next.Answer (answer.Busy key id at)) × (u ≡ idle t)
+StagePost t p a x after step.Faulted n u = (n ≡ next.Answer answer.Faulted) × (u ≡ idle t)
+StagePost t p a x after (step.BadRecord key) n u = (n ≡ next.Answer (answer.BadRecord key)) × (u ≡ idle t)
+StagePost t p a x after step.NoMemory n u = ⊥
 
--- A reply leads a statement where the definition of its read says; or it is out of memory, and has noted nothing.
-pub record CallTold (t : TxnAt) (p : Planned) (a : Access) (x : ReadAt) (r : Reply) (now : ℤ) (n : Next) (u : TxnAt) : Type 0 where
+-- A reply leads a statement where the definition of its read says; or it is out of memory, and has recorded no read.
+pub record CallPost (t : TxnAt) (p : Planned) (a : Access) (x : ReadAt) (r : Reply) (now : ℤ) (n : Next) (u : TxnAt) : Type 0 where
   pub memory : n ≡ next.Answer answer.NoMemory → u ≡ idle t
-  pub told : n ≢ next.Answer answer.NoMemory → StageTold t p a x (read_step x.stage now r) (read_result (read_step x.stage now r)) n u
+  pub told : n ≢ next.Answer answer.NoMemory → StagePost t p a x (read_step x.stage now r) (read_result (read_step x.stage now r)) n u
 
 -- the answer of a COMMIT's call; none where another is pending
 abbrev pub next_of : Progress → Next
@@ -277,42 +277,42 @@ after c (next.End a) u = resting c
 -- A call of a COMMIT leads where the definition of a COMMIT says, and its answer ends the transaction.
 pub record CommitNext (t : TxnAt) (k : CommitAt) (r : Reply) (n : Next) (u : TxnAt) : Type 0 where
   pub progress : Progress
-  pub told : CommitTold t k r progress u
+  pub told : CommitPost t k r progress u
   pub next : n ≡ next_of progress
 
 -- What a reply leads to, by what the transaction does.
-abbrev pub NextTold : TxnAt → Doing → Option Planned → Reply → ℤ → Next → TxnAt → Type 0
-NextTold t (doing.Read a x) (Some p) r now n u = CallTold t p a x r now n u
-NextTold t (doing.Commit k) None r now n u = CommitNext t k r n u
-NextTold t d p r now n u = ⊥
+abbrev pub NextPost : TxnAt → Doing → Option Planned → Reply → ℤ → Next → TxnAt → Type 0
+NextPost t (doing.Read a x) (Some p) r now n u = CallPost t p a x r now n u
+NextPost t (doing.Commit k) None r now n u = CommitNext t k r n u
+NextPost t d p r now n u = ⊥
 
 -- A reply leads the client's open transaction somewhere, and the client is left there, with the answer that this gives.
-pub record TxnTold (c : ClientAt) (t : TxnAt) (r : Reply) (now : ℤ) (result : Option Answer) (d : ClientAt) : Type 0 where
+pub record TxnPost (c : ClientAt) (t : TxnAt) (r : Reply) (now : ℤ) (result : Option Answer) (d : ClientAt) : Type 0 where
   pub next : Next
   pub left : TxnAt
-  pub told : NextTold t t.doing c.plan r now next left
+  pub told : NextPost t t.doing c.plan r now next left
   pub answer : result ≡ answer_in next
   pub client : d ≡ after c next left
 
-abbrev pub OpenTold : ClientAt → Option TxnAt → Reply → ℤ → Option Answer → ClientAt → Type 0
-OpenTold c None r now result d = ⊥
-OpenTold c (Some t) r now result d = TxnTold c t r now result d
+abbrev pub OpenTxnPost : ClientAt → Option TxnAt → Reply → ℤ → Option Answer → ClientAt → Type 0
+OpenTxnPost c None r now result d = ⊥
+OpenTxnPost c (Some t) r now result d = TxnPost c t r now result d
 
 -- what a VACUUM's call is answered; none where another is pending
 abbrev pub answer_of : VacuumStep → Option Answer
-answer_of sweep.More = None
-answer_of (sweep.Count n) = Some (answer.Count n)
-answer_of sweep.Faulted = Some answer.Faulted
-answer_of (sweep.BadRecord key) = Some (answer.BadRecord key)
-answer_of sweep.NoMemory = Some answer.NoMemory
+answer_of vacuuming.More = None
+answer_of (vacuuming.Count n) = Some (answer.Count n)
+answer_of vacuuming.Faulted = Some answer.Faulted
+answer_of (vacuuming.BadRecord key) = Some (answer.BadRecord key)
+answer_of vacuuming.NoMemory = Some answer.NoMemory
 
 -- the VACUUM that goes on
 abbrev pub vacuum_left : VacuumStep → VacuumAt → Option VacuumAt
-vacuum_left sweep.More v = Some v
+vacuum_left vacuuming.More v = Some v
 vacuum_left s v = None
 
 -- A reply leads a VACUUM where its definition says; or it is out of memory. Its answer ends it.
-pub record SweepTold (v : VacuumAt) (r : Reply) (now : ℤ) (result : Option Answer) (w : Option VacuumAt) : Type 0 where
+pub record VacuumPost (v : VacuumAt) (r : Reply) (now : ℤ) (result : Option Answer) (w : Option VacuumAt) : Type 0 where
   pub step : VacuumStep
   pub left : VacuumAt
   pub told : Gives (vacuum_step v now r) left step
@@ -320,11 +320,11 @@ pub record SweepTold (v : VacuumAt) (r : Reply) (now : ℤ) (result : Option Ans
   pub goes : w ≡ vacuum_left step left
 
 -- A reply leads the VACUUM that the client runs, or else its open transaction.
-abbrev pub ReplyTold : ClientAt → Option VacuumAt → Reply → ℤ → Option Answer → ClientAt → Type 0
-ReplyTold c (Some v) r now result d = SweepTold v r now result d.vacuum × (d ≡ record c { vacuum = d.vacuum })
-ReplyTold c None r now result d = OpenTold c c.txn r now result d
+abbrev pub ReplyPost : ClientAt → Option VacuumAt → Reply → ℤ → Option Answer → ClientAt → Type 0
+ReplyPost c (Some v) r now result d = VacuumPost v r now result d.vacuum × (d ≡ record c { vacuum = d.vacuum })
+ReplyPost c None r now result d = OpenTxnPost c c.txn r now result d
 
 -- What the taking of a text by a client comes to: that, or out of memory.
-pub record Takes (q : Taking) (text : List ℕ) (c : ClientAt) (result : Option Answer) (d : ClientAt) : Type 0 where
-  pub memory : result ≡ Some answer.NoMemory → d ≡ starved text c
-  pub told : result ≢ Some answer.NoMemory → TextTold q text c result d
+pub record TextStep (q : Taking) (text : List ℕ) (c : ClientAt) (result : Option Answer) (d : ClientAt) : Type 0 where
+  pub memory : result ≡ Some answer.NoMemory → d ≡ out_of_memory text c
+  pub told : result ≢ Some answer.NoMemory → TextPost q text c result d

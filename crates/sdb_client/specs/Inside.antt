@@ -17,7 +17,7 @@ use Rattle.sdb_phases.specs.Checks.{checks}
 use Rattle.sdb_phases.specs.Steps.{decide_request_at}
 use Rattle.sdb_phases.specs.Commit.{Stage, Preparing, Checking, Deciding, Forward, Stopping, Back, Over}
 use Rattle.sdb_read.specs.Read.{read_pending}
-use Rattle.sdb_snapshot.specs.Noted.{Note, is_noted}
+use Rattle.sdb_snapshot.specs.Reads.{ReadRecord, is_key_read}
 use Rattle.sdb_snapshot.specs.Written.{AreChanges}
 use Rattle.sdb_txn.specs.declared.progress.Progress.{Progress}
 use Rattle.sdb_txn.specs.declared.progress.Progress.TheVariants as progress
@@ -31,10 +31,10 @@ use Rattle.sdb_model.specs.declared.statement.Statement.TheVariants as statement
 use Rattle.sdb_client.specs.declared.next.Next.{Next}
 use Rattle.sdb_client.specs.declared.next.Next.TheVariants as next
 use Rattle.sdb_vacuum.specs.Vacuum.{VacuumAt, vacuum_pending}
-use Rattle.sdb_client.specs.Client.{ClientAt, NextTold, given_answer, given_left, gives, is_covered, plan_of, resting}
+use Rattle.sdb_client.specs.Client.{ClientAt, NextPost, given_answer, given_left, gives, is_covered, plan_of, resting}
 
 -- A plan that was asked for its rows, of a statement that its table doesn't refuse.
-pub record IsFine (p : Planned) : Type 0 where
+pub record IsValidPlan (p : Planned) : Type 0 where
   pub asked : p.asked ≡ true
   pub table : is_table p.table ≡ true
   pub taken : refusal_on p.table p.statement ≡ None
@@ -48,30 +48,30 @@ pub record IsPlanOf (catalog : List Table) (st : Statement) (p : Planned) : Type
   pub taken : refusal_of catalog st ≡ None
 
 -- what a plan gives may be written
-abbrev pub MayWrite : List Note → PlanStep → Type 0
-MayWrite notes (Finished a ks) = AreChanges notes ks
-MayWrite notes (Wants a) = Unit {0}
+abbrev pub MayWrite : List ReadRecord → PlanStep → Type 0
+MayWrite read_set (Finished a ks) = AreChanges read_set ks
+MayWrite read_set (Wants a) = Unit {0}
 
 -- the key of a get was read
-abbrev pub IsKeyRead : List Note → Access → Type 0
-IsKeyRead notes (access.Get key) = is_noted notes key ≡ true
-IsKeyRead notes (access.Scan span) = Unit {0}
+abbrev pub IsKeyRead : List ReadRecord → Access → Type 0
+IsKeyRead read_set (access.Get key) = is_key_read read_set key ≡ true
+IsKeyRead read_set (access.Scan span) = Unit {0}
 
 -- A COMMIT goes on: a call of it is pending, and those that are left to it are within what it writes and checks.
-abbrev pub IsGoing : Work → Stage → Type 0
-IsGoing p (Preparing i) = i < length p.writes
-IsGoing p (Checking i) = i < length (checks p)
-IsGoing p (Deciding d) = IsSome (decide_request_at p.id p.now d)
-IsGoing p (Forward i) = i < length p.writes
-IsGoing p (Stopping a n) = n ≤ length p.writes
-IsGoing p (Back a n i) = (i < n) × (n ≤ length p.writes)
-IsGoing p (Over a) = ⊥
+abbrev pub IsCommitPending : Work → Stage → Type 0
+IsCommitPending p (Preparing i) = i < length p.writes
+IsCommitPending p (Checking i) = i < length (checks p)
+IsCommitPending p (Deciding d) = IsSome (decide_request_at p.id p.now d)
+IsCommitPending p (Forward i) = i < length p.writes
+IsCommitPending p (Stopping a n) = n ≤ length p.writes
+IsCommitPending p (Back a n i) = (i < n) × (n ≤ length p.writes)
+IsCommitPending p (Over a) = ⊥
 
 -- A statement has a plan while it reads, and reads where the plan says. Where it reads, and where a COMMIT goes on, a call is pending.
 abbrev pub IsUnder : Doing → Option Planned → Type 0
 IsUnder doing.Idle None = Unit {0}
-IsUnder (doing.Read a x) (Some p) = IsFine p × (a ≡ access_of p.table p.statement) × IsSome (read_pending x)
-IsUnder (doing.Commit k) None = IsGoing k.work k.stage
+IsUnder (doing.Read a x) (Some p) = IsValidPlan p × (a ≡ access_of p.table p.statement) × IsSome (read_pending x)
+IsUnder (doing.Commit k) None = IsCommitPending k.work k.stage
 IsUnder d p = ⊥
 
 abbrev pub IsClient : Option TxnAt → Option Planned → Type 0
@@ -89,12 +89,12 @@ abbrev pub vacuum_asked : Option VacuumAt → Option Request
 vacuum_asked None = None
 vacuum_asked (Some v) = vacuum_pending v
 
--- it does the read of an access, by a plan that is fine
+-- it does the read of an access, by a valid plan
 abbrev pub IsReadOf : Doing → Planned → Type 0
-IsReadOf (doing.Read a x) p = IsFine p × (a ≡ access_of p.table p.statement) × IsSome (read_pending x)
+IsReadOf (doing.Read a x) p = IsValidPlan p × (a ≡ access_of p.table p.statement) × IsSome (read_pending x)
 IsReadOf d p = ⊥
 
--- rows are told, and they are so
+-- rows are returned, and they are valid
 abbrev pub IfRows : Progress → (List Image → Type 0) → Type 0
 IfRows (progress.Rows rows) P = P rows
 IfRows p P = Unit {0}
@@ -126,7 +126,7 @@ abbrev pub left_by : Statement → ClientAt → ClientAt
 left_by statement.Commit c = resting c
 left_by st c = c
 
--- What is so of a transaction after a call: another is pending, or it does nothing, or it has ended.
+-- What holds of a transaction after a call: another is pending, or it does nothing, or it has ended.
 abbrev pub IsLeft : Next → TxnAt → Option Planned → Type 0
 IsLeft next.Call u p = IsUnder u.doing p
 IsLeft (next.Answer a) u p = u.doing ≡ doing.Idle
@@ -135,4 +135,4 @@ IsLeft (next.End a) u p = Unit {0}
 -- a reply leads the transaction that is open
 abbrev pub OpenNext : Option TxnAt → Option Planned → Reply → ℤ → Next → Option TxnAt → Type 0
 OpenNext None p r now n u = ⊥
-OpenNext (Some t) p r now n u = IsSomeAnd u (NextTold t t.doing p r now n)
+OpenNext (Some t) p r now n u = IsSomeAnd u (NextPost t t.doing p r now n)

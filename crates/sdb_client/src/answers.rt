@@ -1,7 +1,7 @@
 //! Answers that a client gives of its own.
 ghost use Rattle.std.specs.Prelude.{◌≡◌, true, false};
 ghost use Rattle.sdb_model.specs.Causes.{refused as refused_lem};
-ghost use Rattle.sdb_model.specs.Noted.{read_finished as read_finished_lem};
+ghost use Rattle.sdb_model.specs.ReadSet.{read_finished as read_finished_lem};
 ghost use Rattle.sdb_model.specs.Transactions.{changes_nothing as changes_nothing_lem};
 ghost use Rattle.sdb_client.specs.Client.{answer_of as answer_of_lem, next_of as next_of_lem};
 

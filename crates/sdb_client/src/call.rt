@@ -2,7 +2,7 @@
 ghost use Rattle.std.specs.Prelude.{◌≡◌, IsSome, None, Some};
 ghost use Rattle.sdb_phases.specs.Steps.{CanGet};
 ghost use Rattle.sdb_txn.specs.Txn.{IfReading, pending};
-ghost use Rattle.sdb_client.specs.Client.{CallTold, NextTold, answer_in, pending_of};
+ghost use Rattle.sdb_client.specs.Client.{CallPost, NextPost, answer_in, pending_of};
 ghost use Rattle.sdb_client.specs.Inside.{IsClient, IsLeft, IsReadOf, IsUnder, OpenNext, plan_after, txn_after};
 
 use crate::answers::next_of;
@@ -18,7 +18,7 @@ fn read_took(txn: &mut Txn, plan: &mut Plan, reply: Reply, now: i64) -> Next
     requires at { IsReadOf txn.old.doing plan.old }
     requires pending { IsSome (pending txn.old) }
     requires reply { CanGet (pending txn.old) reply }
-    ensures told { IfReading txn.old.doing (λ a x. CallTold txn.old plan.old a x reply now result txn.new) }
+    ensures told { IfReading txn.old.doing (λ a x. CallPost txn.old plan.old a x reply now result txn.new) }
     ensures plan { result ≡ Next.Call → plan.new ≡ plan.old }
 {
     let mark = txn.mark();
@@ -39,7 +39,7 @@ fn took(txn: &mut Txn, plan: &mut Option<Plan>, reply: Reply, now: i64) -> Next
     requires under { IsUnder txn.old.doing plan.old }
     requires pending { IsSome (pending txn.old) }
     requires reply { CanGet (pending txn.old) reply }
-    ensures told { NextTold txn.old txn.old.doing plan.old reply now result txn.new }
+    ensures told { NextPost txn.old txn.old.doing plan.old reply now result txn.new }
     ensures left { IsLeft result txn.new plan.new }
     ensures plan { result ≡ Next.Call → plan.new ≡ plan.old }
 {

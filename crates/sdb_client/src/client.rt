@@ -4,7 +4,7 @@ ghost use Rattle.std.specs.Option.{option_copied};
 ghost use Rattle.sdb_model.specs.declared.answer.Answer.TheVariants as answer;
 ghost use Rattle.sdb_exec.specs.Plans.{has_all_literals};
 ghost use Rattle.sdb_phases.specs.Steps.{CanGet};
-ghost use Rattle.sdb_client.specs.Client.{AskTold, BeginTold, CommitTaken, IsBusy, IsIdle, OpenTold, ReplyTold, RollbackTold, StatementTold, TextTold, VacuumTold, client_pending, next_id as next_id_lem, nothing_done, pending_of, resting, starved};
+ghost use Rattle.sdb_client.specs.Client.{AskPost, BeginPost, CommitStartPost, IsBusy, IsIdle, OpenTxnPost, ReplyPost, RollbackPost, StatementPost, TextPost, VacuumStartPost, client_pending, next_id as next_id_lem, nothing_done, pending_of, resting, out_of_memory};
 ghost use Rattle.sdb_sqltext.specs.Answers.{refusal_of};
 ghost use Rattle.sdb_client.specs.Inside.{left_by};
 
@@ -12,7 +12,7 @@ use crate::answers::refused;
 use crate::call::{leave, take_reply};
 use crate::gate::Gate;
 use crate::plan::ask;
-use crate::sweep::vacuum_took;
+use crate::vacuum::vacuum_advance;
 use sdb_exec::Plan;
 use sdb_model::{Answer, Statement};
 use sdb_schema::Catalog;
@@ -141,8 +141,8 @@ impl Client {
     ) -> Option<Answer>
         requires idle { IsIdle self.old }
         requires short { length text.now < 2 ^ 32 }
-        ensures memory { result ≡ Some answer.NoMemory → self.new ≡ starved text.now self.old }
-        ensures told { result ≢ Some answer.NoMemory → TextTold (record { catalog = catalog.now; now = now; gate = gate; fresh = fresh }) text.now self.old result self.new }
+        ensures memory { result ≡ Some answer.NoMemory → self.new ≡ out_of_memory text.now self.old }
+        ensures told { result ≢ Some answer.NoMemory → TextPost (record { catalog = catalog.now; now = now; gate = gate; fresh = fresh }) text.now self.old result self.new }
     {
         match parse_statement(self.alloc, text.as_str()) {
             Ok(statement) => self.take_statement(catalog, &statement, gate, fresh, now),
@@ -154,7 +154,7 @@ impl Client {
     fn unread(&mut self, text: &Txt, refused: ParseRefused) -> Answer
         requires idle { IsIdle self.old }
         requires place { IfSome (refusal_of refused) (λ r. r.place < 2 ^ 32) }
-        ensures memory { refusal_of refused ≡ None → (result ≡ answer.NoMemory) × (self.new ≡ starved text.now self.old) }
+        ensures memory { refusal_of refused ≡ None → (result ≡ answer.NoMemory) × (self.new ≡ out_of_memory text.now self.old) }
         ensures told { IfSome (refusal_of refused) (λ r. (result ≡ answer.Refused r) × (self.new ≡ self.old)) }
     {
         match refused.refusal() {
@@ -180,7 +180,7 @@ impl Client {
         requires idle { IsIdle self.old }
         requires literals { has_all_literals statement.now ≡ true }
         ensures memory { result ≡ Some answer.NoMemory → self.new ≡ left_by statement.now self.old }
-        ensures told { result ≢ Some answer.NoMemory → StatementTold (record { catalog = catalog.now; now = now; gate = gate; fresh = fresh }) statement.now self.old result self.new }
+        ensures told { result ≢ Some answer.NoMemory → StatementPost (record { catalog = catalog.now; now = now; gate = gate; fresh = fresh }) statement.now self.old result self.new }
     {
         match statement {
             Statement::Begin => Some(self.begin(gate, fresh)),
@@ -194,7 +194,7 @@ impl Client {
     fn begin(&mut self, gate: Gate, fresh: TxId) -> Answer
         requires idle { IsIdle self.old }
         ensures memory { result ≡ answer.NoMemory → self.new ≡ self.old }
-        ensures told { result ≢ answer.NoMemory → BeginTold gate fresh self.old self.old.txn (Some result) self.new }
+        ensures told { result ≢ answer.NoMemory → BeginPost gate fresh self.old self.old.txn (Some result) self.new }
     {
         if self.txn.is_some() {
             return refused(4);
@@ -217,7 +217,7 @@ impl Client {
     fn commit(&mut self, now: i64) -> Option<Answer>
         requires idle { IsIdle self.old }
         ensures memory { result ≡ Some answer.NoMemory → self.new ≡ resting self.old }
-        ensures told { result ≢ Some answer.NoMemory → CommitTaken now self.old self.old.txn result self.new }
+        ensures told { result ≢ Some answer.NoMemory → CommitStartPost now self.old self.old.txn result self.new }
     {
         match &mut self.txn {
             Some(txn) => match txn.commit(now) {
@@ -234,7 +234,7 @@ impl Client {
     fn rollback(&mut self) -> Answer
         requires idle { IsIdle self.old }
         ensures some { result ≢ answer.NoMemory }
-        ensures told { RollbackTold self.old self.old.txn (Some result) self.new }
+        ensures told { RollbackPost self.old self.old.txn (Some result) self.new }
     {
         match self.txn.take() {
             Some(txn) => {
@@ -249,20 +249,20 @@ impl Client {
     fn vacuum(&mut self, catalog: &Catalog, gate: Gate) -> Option<Answer>
         requires idle { IsIdle self.old }
         ensures memory { result ≡ Some answer.NoMemory → self.new ≡ self.old }
-        ensures told { result ≢ Some answer.NoMemory → VacuumTold (is_some self.old.txn || gate.open_elsewhere) catalog.now self.old result self.new }
+        ensures told { result ≢ Some answer.NoMemory → VacuumStartPost (is_some self.old.txn || gate.open_elsewhere) catalog.now self.old result self.new }
     {
         if self.is_open() || gate.open_elsewhere {
             return Some(Answer::OpenTransactions);
         }
-        self.sweep(catalog)
+        self.start_vacuum(catalog)
     }
 
     // Begins a VACUUM.
-    fn sweep(&mut self, catalog: &Catalog) -> Option<Answer>
+    fn start_vacuum(&mut self, catalog: &Catalog) -> Option<Answer>
         requires idle { IsIdle self.old }
         requires closed { self.old.txn ≡ None }
         ensures memory { result ≡ Some answer.NoMemory → self.new ≡ self.old }
-        ensures told { result ≢ Some answer.NoMemory → VacuumTold false catalog.now self.old result self.new }
+        ensures told { result ≢ Some answer.NoMemory → VacuumStartPost false catalog.now self.old result self.new }
     {
         if catalog.len() == 0 {
             return Some(Answer::Count(0));
@@ -281,7 +281,7 @@ impl Client {
         requires idle { IsIdle self.old }
         requires literals { has_all_literals statement.now ≡ true }
         ensures memory { result ≡ Some answer.NoMemory → self.new ≡ self.old }
-        ensures told { result ≢ Some answer.NoMemory → AskTold catalog.now statement.now self.old self.old.txn result self.new }
+        ensures told { result ≢ Some answer.NoMemory → AskPost catalog.now statement.now self.old self.old.txn result self.new }
     {
         match &mut self.txn {
             Some(txn) => ask(self.alloc, txn, &mut self.plan, catalog, statement),
@@ -294,10 +294,10 @@ impl Client {
     pub fn advance(&mut self, reply: Reply, now: i64) -> Option<Answer>
         requires pending { IsSome (client_pending self.old) }
         requires reply { CanGet (client_pending self.old) reply }
-        ensures { ReplyTold self.old self.old.vacuum reply now result self.new }
+        ensures { ReplyPost self.old self.old.vacuum reply now result self.new }
     {
         if self.vacuum.is_some() {
-            vacuum_took(&mut self.vacuum, reply, now)
+            vacuum_advance(&mut self.vacuum, reply, now)
         } else {
             self.txn_took(reply, now)
         }
@@ -308,7 +308,7 @@ impl Client {
         requires free { self.old.vacuum ≡ None }
         requires pending { IsSome (pending_of self.old.txn) }
         requires reply { CanGet (pending_of self.old.txn) reply }
-        ensures { OpenTold self.old self.old.txn reply now result self.new }
+        ensures { OpenTxnPost self.old self.old.txn reply now result self.new }
     {
         let next = take_reply(&mut self.txn, &mut self.plan, reply, now);
         leave(&mut self.txn, &mut self.plan, next)

@@ -3,12 +3,12 @@ ghost use Rattle.std.specs.Prelude.{◌≡◌, ◌≢◌, true, take};
 ghost use Rattle.sdb_exec.specs.declared.plan.PlanStep.TheVariants.{Finished};
 ghost use Rattle.sdb_exec.specs.Plans.{step_of};
 ghost use Rattle.sdb_exec.specs.Reads.{access_of};
-ghost use Rattle.sdb_snapshot.specs.Held.{AreKept};
+ghost use Rattle.sdb_snapshot.specs.Sets.{IsSetInvariant};
 ghost use Rattle.sdb_snapshot.specs.Seen.{forgotten, overlay};
 ghost use Rattle.sdb_snapshot.specs.Written.{AreChanges};
 ghost use Rattle.sdb_txn.specs.declared.txn.Doing.TheVariants as doing;
 ghost use Rattle.sdb_client.specs.Client.{given_answer, given_left};
-ghost use Rattle.sdb_client.specs.Inside.{IsFine, IsKeyRead};
+ghost use Rattle.sdb_client.specs.Inside.{IsValidPlan, IsKeyRead};
 
 use crate::answers::{changes_nothing, read_finished, refused};
 use sdb_exec::{Plan, PlanStep};
@@ -20,7 +20,7 @@ use sdb_txn::Txn;
 // Writes the changes of a statement, all or none.
 fn write(txn: &mut Txn, answer: Answer, changes: Changes) -> Answer
     requires idle { txn.old.doing ≡ doing.Idle }
-    requires fine { AreChanges txn.old.seen.notes changes }
+    requires valid { AreChanges txn.old.seen.read_set changes }
     ensures idle { txn.new.doing ≡ doing.Idle }
     ensures answer { result ≢ Answer.NoMemory → result ≡ given_answer txn.old (Finished answer changes) }
     ensures left { result ≢ Answer.NoMemory → txn.new ≡ given_left txn.old txn.old (Finished answer changes) }
@@ -39,9 +39,9 @@ fn write(txn: &mut Txn, answer: Answer, changes: Changes) -> Answer
 /// Answers a statement on rows, and writes its changes. Where it is answered that it changed nothing, nothing is written.
 pub fn finish(txn: &mut Txn, plan: &mut Plan, rows: Images) -> Answer
     requires idle { txn.old.doing ≡ doing.Idle }
-    requires fine { IsFine plan.old }
+    requires valid { IsValidPlan plan.old }
     requires rows { rows ≡ overlay (access_of plan.old.table plan.old.statement) txn.old.seen }
-    requires read { IsKeyRead txn.old.seen.notes (access_of plan.old.table plan.old.statement) }
+    requires read { IsKeyRead txn.old.seen.read_set (access_of plan.old.table plan.old.statement) }
     ensures idle { txn.new.doing ≡ doing.Idle }
     ensures answer { result ≢ Answer.NoMemory → result ≡ given_answer txn.old (step_of plan.old rows) }
     ensures left { result ≢ Answer.NoMemory → txn.new ≡ given_left txn.old txn.old (step_of plan.old rows) }
@@ -58,10 +58,10 @@ pub fn finish(txn: &mut Txn, plan: &mut Plan, rows: Images) -> Answer
 /// it changed nothing, that is forgotten.
 pub fn finish_read(txn: &mut Txn, plan: &mut Plan, rows: Images, mark: Mark) -> Answer
     requires idle { txn.old.doing ≡ doing.Idle }
-    requires fine { IsFine plan.old }
+    requires valid { IsValidPlan plan.old }
     requires rows { rows ≡ overlay (access_of plan.old.table plan.old.statement) txn.old.seen }
-    requires read { IsKeyRead txn.old.seen.notes (access_of plan.old.table plan.old.statement) }
-    requires kept { AreKept (take mark.notes txn.old.seen.notes) txn.old.seen.writes }
+    requires read { IsKeyRead txn.old.seen.read_set (access_of plan.old.table plan.old.statement) }
+    requires kept { IsSetInvariant (take mark.read_set txn.old.seen.read_set) txn.old.seen.writes }
     ensures idle { txn.new.doing ≡ doing.Idle }
     ensures answer { result ≢ Answer.NoMemory → result ≡ given_answer txn.old (step_of plan.old rows) }
     ensures left { result ≢ Answer.NoMemory → txn.new ≡ given_left (record txn.old { seen = forgotten mark txn.old.seen }) txn.old (step_of plan.old rows) }

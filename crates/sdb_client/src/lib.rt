@@ -8,7 +8,7 @@ mod finish;
 mod gate;
 mod next;
 mod plan;
-mod sweep;
+mod vacuum;
 
 pub use client::Client;
 pub use gate::Gate;

@@ -10,7 +10,7 @@ ghost use Rattle.sdb_snapshot.specs.Seen.{overlay};
 ghost use Rattle.sdb_txn.specs.declared.txn.Doing.TheVariants as doing;
 ghost use Rattle.sdb_txn.specs.Txn.{reading};
 ghost use Rattle.sdb_client.specs.Client.{is_covered};
-ghost use Rattle.sdb_client.specs.Inside.{IfRows, IsFine, IsPlanOf, IsUnder, StatementReads, TxnReads};
+ghost use Rattle.sdb_client.specs.Inside.{IfRows, IsValidPlan, IsPlanOf, IsUnder, StatementReads, TxnReads};
 
 use crate::finish::finish;
 use sdb_exec::{Plan, PlanRefused, PlanStep};
@@ -70,7 +70,7 @@ fn begin_read(
     access: Access,
 ) -> Option<Answer>
     requires idle { txn.old.doing ≡ doing.Idle }
-    requires fine { IsFine plan }
+    requires valid { IsValidPlan plan }
     requires at { access ≡ access_of plan.table plan.statement }
     requires alone { running.old ≡ None }
     ensures under { IsUnder txn.new.doing running.new }

@@ -11,7 +11,7 @@ use Rattle.std.proofs.lemmas.Nat.{be_bytes_2, be_bytes_4, be_bytes_8, from_be_by
 use Rattle.sdb_types.specs.declared.value.Value.{Value}
 use Rattle.sdb_types.specs.declared.value.Value.TheVariants as value
 use Rattle.sdb_types.specs.Fits.{value_fits}
-use Rattle.sdb_codec.specs.Spelling.{sized_bytes, value_bytes, ValueFitsField}
+use Rattle.sdb_codec.specs.Spelling.{sized_bytes, value_bytes, ValueIsEncodable}
 use Rattle.sdb_codec.specs.Reading.{◌>>=◌, number_at, sized_at, text_at, bool_at, value_of, value_at}
 use Rattle.sdb_types.proofs.Basics.{done}
 
@@ -144,7 +144,7 @@ text_again left text rest lt utf8 = rw (sized_again left text rest lt, is_utf8-f
 
 -- what a reader of a value took
 abbrev pub TakesValue : List ℕ → Value × List ℕ → Type 0
-TakesValue bytes x = Takes bytes (value_bytes x.0) x.1 × ValueFitsField x.0
+TakesValue bytes x = Takes bytes (value_bytes x.0) x.1 × ValueIsEncodable x.0
 
 bool_takes : (left : ℕ) (bytes : List ℕ) (x : Bool × List ℕ) → IsBytes bytes → bool_at left bytes ≡ Ok x → TakesValue (1 ∷ bytes) (value.Bool x.0, x.1)
 unfolding bool_at
@@ -186,7 +186,7 @@ unfolding value_at
 value_takes [] x fits e = absurd cc
 value_takes (kind ∷ rest) x fits e = value_of_takes (length (kind ∷ rest)) kind rest x (IsBytes-rest kind rest fits) e
 
-pub value_again : (v : Value) (rest : List ℕ) → value_fits v → ValueFitsField v → value_at (value_bytes v ++ rest) ≡ Ok (v, rest)
+pub value_again : (v : Value) (rest : List ℕ) → value_fits v → ValueIsEncodable v → value_at (value_bytes v ++ rest) ≡ Ok (v, rest)
 unfolding value_at value_of bool_at
 value_again value.Null rest known fits = refl
 value_again (value.Bool false) rest known fits = refl

@@ -5,7 +5,7 @@ use Rattle.std.proofs.lemmas.List.Elements.{All-from_recursion}
 use Rattle.std.proofs.lemmas.List.Concat.{flat_map-cons}
 use Rattle.sdb_types.specs.declared.value.Value.{Value}
 use Rattle.sdb_types.specs.Fits.{value_fits}
-use Rattle.sdb_codec.specs.Spelling.{value_bytes, values_bytes, ValueFitsField, ValuesFitFields}
+use Rattle.sdb_codec.specs.Spelling.{value_bytes, values_bytes, ValueIsEncodable, ValuesAreEncodable}
 use Rattle.sdb_codec.specs.Reading.{◌>>=◌, items_at, value_at, values_at}
 use Rattle.sdb_codec.proofs.FieldLaws.{IsBytes, IsBytes-rest, bind_ok, ok_is, Takes, Takes-then, Takes-after, value_takes, value_again}
 
@@ -54,23 +54,23 @@ abbrev pub values_after : Option Value → List ℕ → Result (Value × List �
 values_after before rest = value_at rest
 
 abbrev Readable : Option Value → Value → Type 0
-Readable before v = value_fits v × ValueFitsField v
+Readable before v = value_fits v × ValueIsEncodable v
 
 abbrev pub TakesValues : List ℕ → List Value × List ℕ → Type 0
-TakesValues bytes x = Takes bytes (values_bytes x.0) x.1 × ValuesFitFields x.0
+TakesValues bytes x = Takes bytes (values_bytes x.0) x.1 × ValuesAreEncodable x.0
 
 pub values_take : (bytes : List ℕ) (x : List Value × List ℕ) → IsBytes bytes → values_at bytes ≡ Ok x → TakesValues bytes x
 unfolding values_at
 values_take [] x fits e = absurd cc
 values_take (n ∷ rest) x fits e =
-    let fitting : Option Value → Value → Type 0 = λ before v. ValueFitsField v in
+    let fitting : Option Value → Value → Type 0 = λ before v. ValueIsEncodable v in
     let t = items_take values_after value_bytes fitting (λ before bytes v. value_takes bytes v) None n rest x (IsBytes-rest n rest fits) e in
     let counted : Takes (n ∷ rest) (n ∷ flat_map value_bytes x.0) x.1 = Takes-after n rest (flat_map value_bytes x.0) x.1 t.0 in
-    let lengths = All-from_recursion ValueFitsField x.0 (Chain-all fitting ValueFitsField (λ before v h. h) None x.0 t.2) in
+    let lengths = All-from_recursion ValueIsEncodable x.0 (Chain-all fitting ValueIsEncodable (λ before v h. h) None x.0 t.2) in
     (subst (λ (k : ℕ). Takes (n ∷ rest) (k ∷ flat_map value_bytes x.0) x.1) (cc t.1) counted, record { count = omega (arith, t.1, fits 0); lengths = lengths })
 
-pub values_again : (vs : List Value) (rest : List ℕ) → All value_fits vs → ValuesFitFields vs → values_at (values_bytes vs ++ rest) ≡ Ok (vs, rest)
+pub values_again : (vs : List Value) (rest : List ℕ) → All value_fits vs → ValuesAreEncodable vs → values_at (values_bytes vs ++ rest) ≡ Ok (vs, rest)
 unfolding values_at
 values_again vs rest known fits =
     items_again values_after value_bytes Readable (λ before v after h. value_again v after h.0 h.1) None vs rest
-    (Chain-from_all Readable (λ v. value_fits v × ValueFitsField v) (λ before v h. h) None vs (λ i d lt. (known i d lt, fits.lengths i d lt)))
+    (Chain-from_all Readable (λ v. value_fits v × ValueIsEncodable v) (λ before v h. h) None vs (λ i d lt. (known i d lt, fits.lengths i d lt)))

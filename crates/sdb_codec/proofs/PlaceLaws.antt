@@ -16,9 +16,9 @@ use Rattle.sdb_types.specs.Identifier.{is_name}
 use Rattle.sdb_types.specs.Columns.{is_null}
 use Rattle.sdb_codec.specs.declared.refused.ReadRefused.{ReadRefused}
 use Rattle.sdb_codec.specs.declared.refused.ReadRefused.TheVariants as refused
-use Rattle.sdb_codec.specs.Spelling.{sized_bytes, value_bytes, ValueFitsField}
+use Rattle.sdb_codec.specs.Spelling.{sized_bytes, value_bytes, ValueIsEncodable}
 use Rattle.sdb_codec.specs.Reading.{◌>>=◌, number_at, sized_at, text_at, bool_at, value_of, value_at, items_at, values_at, name_of, dot_split, names_of, table_at, key_at, is_above, column_name_at, column_value_at, pair_at, columns_at, format_at, record_at, whole, from_front, record_in, key_in, Reads}
-use Rattle.sdb_codec.specs.Places.{Field, Format, Table, Count, Item, ColumnCount, Name, field_bytes, Due, FormatDue, TableDue, CountDue, ItemDue, ColumnCountDue, NameDue, CellDue, key_due, record_due, columns_due, due_after, IsText, stands_above, HasForm, Leads, IsWrong, IsFirstWrong, IsRefusedAt}
+use Rattle.sdb_codec.specs.Places.{Field, Format, Table, Count, Item, ColumnCount, Name, field_bytes, Due, FormatDue, TableDue, CountDue, ItemDue, ColumnCountDue, NameDue, CellDue, key_due, record_due, columns_due, due_after, IsText, is_above_last, HasForm, Leads, IsWrong, IsFirstWrong, IsRefusedAt}
 use Rattle.sdb_codec.proofs.FieldLaws.{IsBytes, IsBytes-rest, bind_ok, guard_ok, passed_ok, ok_is, IsWide, wide16, wide32, wide64, number_takes, number_again, sized_again, text_again, value_takes}
 use Rattle.sdb_codec.proofs.ItemLaws.{values_after, values_take}
 use Rattle.sdb_codec.proofs.RecordLaws.{name_length, table_takes, table_again, column_name_takes, column_value_takes, key_takes, format_takes}
@@ -234,7 +234,7 @@ number_reads w limit wide left n rest =
     rw (long, take_at (to_be_bytes w n) rest (byte_len w) len, drop_at (to_be_bytes w n) rest (byte_len w) len) refl
 
 -- the bytes of a value are read as one of the same kind
-value_reads : (v : Value) (rest : List ℕ) → ValueFitsField v → IsText v → (w : Value) × (value_at (value_bytes v ++ rest) ≡ Ok (w, rest)) × (is_null w ≡ is_null v)
+value_reads : (v : Value) (rest : List ℕ) → ValueIsEncodable v → IsText v → (w : Value) × (value_at (value_bytes v ++ rest) ≡ Ok (w, rest)) × (is_null w ≡ is_null v)
 unfolding value_at value_of bool_at
 value_reads value.Null rest fits text = (value.Null, refl, refl)
 value_reads (value.Bool false) rest fits text = (value.Bool false, refl, refl)
@@ -331,7 +331,7 @@ key_pass more bytes x fits e =
 abbrev name_before : Option Pair → Option (List ℕ)
 name_before before = option_map (λ p. p.name) before
 
-above_same : (before : Option Pair) (name : List ℕ) → is_above before name ≡ stands_above (name_before before) name
+above_same : (before : Option Pair) (name : List ℕ) → is_above before name ≡ is_above_last (name_before before) name
 above_same None name = refl
 above_same (Some p) name = refl
 

@@ -19,7 +19,7 @@ use Rattle.sdb_types.proofs.Bools.{and_first, and_second, and_both}
 use Rattle.sdb_types.proofs.KeyOrder.{parts}
 use Rattle.sdb_types.proofs.ColumnMap.{tail_above, tail_columns}
 use Rattle.sdb_codec.specs.declared.refused.ReadRefused.{ReadRefused}
-use Rattle.sdb_codec.specs.Spelling.{sized_bytes, value_bytes, values_bytes, key_bytes, pair_bytes, columns_bytes, record_bytes, ValueFitsField, KeyFitsFields, ColumnsFitFields, RecordFitsFields}
+use Rattle.sdb_codec.specs.Spelling.{sized_bytes, value_bytes, values_bytes, key_bytes, pair_bytes, columns_bytes, record_bytes, ValueIsEncodable, KeyIsEncodable, ColumnsAreEncodable, RecordIsEncodable}
 use Rattle.sdb_codec.specs.Reading.{◌>>=◌, number_at, sized_at, value_at, values_at, name_of, dot_split, names_of, table_at, key_at, is_above, column_name_at, column_value_at, pair_at, items_at, columns_at, format_at, record_at, whole, from_front, record_in, key_in, Reads}
 use Rattle.sdb_codec.proofs.FieldLaws.{IsBytes, IsBytes-rest, bind_ok, guard_ok, passed_ok, ok_is, Takes, Takes-then, Takes-after, TakesValue, wide16, number_takes, number_again, sized_takes, sized_again, value_takes, value_again}
 use Rattle.sdb_codec.proofs.ItemLaws.{Chain, Chain-all, items_take, items_again, values_take, values_again}
@@ -94,7 +94,7 @@ regroup : (s p c rest : List ℕ) → ((s ++ p) ++ c) ++ rest ≡ s ++ (p ++ (c 
 regroup s p c rest = simp append_assoc
 
 abbrev pub TakesKey : List ℕ → Key × List ℕ → Type 0
-TakesKey bytes x = Takes bytes (key_bytes x.0) x.1 × KeyFitsFields x.0
+TakesKey bytes x = Takes bytes (key_bytes x.0) x.1 × KeyIsEncodable x.0
 
 pub key_takes : (bytes : List ℕ) (x : Key × List ℕ) → IsBytes bytes → key_at bytes ≡ Ok x → TakesKey bytes x
 unfolding key_at
@@ -110,7 +110,7 @@ key_takes bytes x fits e =
     let made : Key × List ℕ = (record { table = a.0.0; partition = b.0.0; clustering = c.0.0 }, c.0.1) in
     subst (TakesKey bytes) (ok_is made x c.2) (all, record { partition = t1.1; clustering = t2.1 })
 
-pub key_again : (k : Key) (rest : List ℕ) → key_fits k → KeyFitsFields k → key_at (key_bytes k ++ rest) ≡ Ok (k, rest)
+pub key_again : (k : Key) (rest : List ℕ) → key_fits k → KeyIsEncodable k → key_at (key_bytes k ++ rest) ≡ Ok (k, rest)
 unfolding key_at
 key_again k rest known fits =
     let table : List ℕ = sized_bytes (table_text k.table) in
@@ -124,7 +124,7 @@ key_again k rest known fits =
 
 -- a column that may follow the one before
 abbrev Follows : Option Pair → Pair → Type 0
-Follows before p = (is_above before p.name ≡ true) × (is_null p.value ≡ false) × ValueFitsField p.value
+Follows before p = (is_above before p.name ≡ true) × (is_null p.value ≡ false) × ValueIsEncodable p.value
 
 abbrev TakesPair : Option Pair → List ℕ → Pair × List ℕ → Type 0
 TakesPair before bytes x = Takes bytes (pair_bytes x.0) x.1 × Follows before x.0
@@ -187,7 +187,7 @@ full_first p ps h =
 above_first : (p : Pair) (ps : List Pair) → starts_above p.name ps ≡ true → (q : Pair) (qs : List Pair) → ps ≡ q ∷ qs → is_above (Some p) q.name ≡ true
 above_first p ps h q qs e = subst (λ (l : List Pair). starts_above p.name l ≡ true) e h
 
-chain_of : (before : Option Pair) (ps : List Pair) → ((q : Pair) (qs : List Pair) → ps ≡ q ∷ qs → is_above before q.name ≡ true) → are_columns ps ≡ true → All pair_fits ps → All (λ p. ValueFitsField p.value) ps → Chain Readable before ps
+chain_of : (before : Option Pair) (ps : List Pair) → ((q : Pair) (qs : List Pair) → ps ≡ q ∷ qs → is_above before q.name ≡ true) → are_columns ps ≡ true → All pair_fits ps → All (λ p. ValueIsEncodable p.value) ps → Chain Readable before ps
 chain_of before [] first sorted known fits = tt
 chain_of before (p ∷ ps) first sorted known fits = (
   (known 0 p (omega arith), (first p ps refl, full_first p ps sorted, fits 0 p (omega arith))),
@@ -195,7 +195,7 @@ chain_of before (p ∷ ps) first sorted known fits = (
 )
 
 abbrev pub TakesColumns : List ℕ → List Pair × List ℕ → Type 0
-TakesColumns bytes x = Takes bytes (columns_bytes x.0) x.1 × ColumnsFitFields x.0 × (are_columns x.0 ≡ true)
+TakesColumns bytes x = Takes bytes (columns_bytes x.0) x.1 × ColumnsAreEncodable x.0 × (are_columns x.0 ≡ true)
 
 pub pairs_take : (n : ℕ) (bytes : List ℕ) (x : List Pair × List ℕ) → IsBytes bytes → items_at pair_at None n bytes ≡ Ok x → Takes bytes (flat_map pair_bytes x.0) x.1 × (length x.0 ≡ n) × Chain Follows None x.0
 pairs_take n bytes x fits e = items_take pair_at pair_bytes Follows pair_takes None n bytes x fits e
@@ -208,10 +208,10 @@ columns_take bytes x fits e =
     let first = number_takes w16 (2 ^ 16) wide16 left bytes a.0 fits a.1 in
     let second = pairs_take a.0.0 a.0.1 x first.0.rest_fits a.2 in
     let both = Takes-then bytes (to_be_bytes w16 a.0.0) a.0.1 (flat_map pair_bytes x.0) x.1 first.0 second.0 in
-    let lengths = All-from_recursion (λ (p : Pair). ValueFitsField p.value) x.0 (Chain-all Follows (λ (p : Pair). ValueFitsField p.value) (λ before p h. h.2) None x.0 second.2) in
+    let lengths = All-from_recursion (λ (p : Pair). ValueIsEncodable p.value) x.0 (Chain-all Follows (λ (p : Pair). ValueIsEncodable p.value) (λ before p h. h.2) None x.0 second.2) in
     (subst (λ (k : ℕ). Takes bytes (to_be_bytes w16 k ++ flat_map pair_bytes x.0) x.1) (sym second.1) both, record { count = omega (arith, second.1, first.1); lengths = lengths }, Chain-are_columns None x.0 second.2)
 
-pub columns_again : (ps : List Pair) (rest : List ℕ) → columns_fit ps → ColumnsFitFields ps → columns_at (columns_bytes ps ++ rest) ≡ Ok (ps, rest)
+pub columns_again : (ps : List Pair) (rest : List ℕ) → columns_fit ps → ColumnsAreEncodable ps → columns_at (columns_bytes ps ++ rest) ≡ Ok (ps, rest)
 unfolding columns_at
 columns_again ps rest known fits =
     let after : List ℕ = flat_map pair_bytes ps ++ rest in
@@ -222,7 +222,7 @@ columns_again ps rest known fits =
 ---- records
 
 abbrev pub TakesRecord : List ℕ → Record × List ℕ → Type 0
-TakesRecord bytes x = Takes bytes (record_bytes x.0) x.1 × RecordFitsFields x.0
+TakesRecord bytes x = Takes bytes (record_bytes x.0) x.1 × RecordIsEncodable x.0
 
 pub format_takes : (bytes rest : List ℕ) → format_at bytes ≡ Ok rest → bytes ≡ 1 ∷ rest
 format_takes [] rest e = absurd cc
@@ -245,7 +245,7 @@ record_takes bytes x fits e =
     let made : Record × List ℕ = (record { key = b.0.0; columns = c.0.0 }, c.0.1) in
     subst (TakesRecord bytes) (ok_is made x c.2) (record { parts = front ∙ all.parts; rest_fits = all.rest_fits }, record { key = t1.1; columns = t2.1 })
 
-pub record_again : (r : Record) (rest : List ℕ) → record_fits r → RecordFitsFields r → record_at (record_bytes r ++ rest) ≡ Ok (r, rest)
+pub record_again : (r : Record) (rest : List ℕ) → record_fits r → RecordIsEncodable r → record_at (record_bytes r ++ rest) ≡ Ok (r, rest)
 unfolding record_at
 record_again r rest known fits =
     let one = key_again r.key (columns_bytes r.columns ++ rest) known.key fits.key in
@@ -273,26 +273,26 @@ from_front_ok total (Ok y) x e = e
 from_front_ok total (Err left) x e = absurd cc
 
 module _ (bytes : List ℕ) where
-  pub record_found : (r : Result Record ReadRefused) → IsBytes bytes → Reads r (record_in bytes) → IfOk r (λ x. RecordFitsFields x × (bytes ≡ record_bytes x))
-  record_found (Ok x) fits h = whole_takes record_at record_bytes RecordFitsFields record_fits record_takes bytes x fits (from_front_ok (length bytes) (whole (record_at bytes)) x h)
+  pub record_found : (r : Result Record ReadRefused) → IsBytes bytes → Reads r (record_in bytes) → IfOk r (λ x. RecordIsEncodable x × (bytes ≡ record_bytes x))
+  record_found (Ok x) fits h = whole_takes record_at record_bytes RecordIsEncodable record_fits record_takes bytes x fits (from_front_ok (length bytes) (whole (record_at bytes)) x h)
   record_found (Err e) fits h = tt
 
-  pub key_found : (r : Result Key ReadRefused) → IsBytes bytes → Reads r (key_in bytes) → IfOk r (λ x. KeyFitsFields x × (bytes ≡ key_bytes x))
-  key_found (Ok x) fits h = whole_takes key_at key_bytes KeyFitsFields key_fits key_takes bytes x fits (from_front_ok (length bytes) (whole (key_at bytes)) x h)
+  pub key_found : (r : Result Key ReadRefused) → IsBytes bytes → Reads r (key_in bytes) → IfOk r (λ x. KeyIsEncodable x × (bytes ≡ key_bytes x))
+  key_found (Ok x) fits h = whole_takes key_at key_bytes KeyIsEncodable key_fits key_takes bytes x fits (from_front_ok (length bytes) (whole (key_at bytes)) x h)
   key_found (Err e) fits h = tt
 
 -- what is written is read back
-pub record_round_trip : (r : Record) → record_fits r → RecordFitsFields r → record_in (record_bytes r) ≡ Ok r
+pub record_round_trip : (r : Record) → record_fits r → RecordIsEncodable r → record_in (record_bytes r) ≡ Ok r
 record_round_trip r known fits =
-    ap (from_front (length (record_bytes r))) (whole_again record_at record_bytes RecordFitsFields (λ x. record_fits x × RecordFitsFields x) (λ x rest h. record_again x rest h.0 h.1) r (known, fits))
+    ap (from_front (length (record_bytes r))) (whole_again record_at record_bytes RecordIsEncodable (λ x. record_fits x × RecordIsEncodable x) (λ x rest h. record_again x rest h.0 h.1) r (known, fits))
 
-pub key_round_trip : (k : Key) → key_fits k → KeyFitsFields k → key_in (key_bytes k) ≡ Ok k
+pub key_round_trip : (k : Key) → key_fits k → KeyIsEncodable k → key_in (key_bytes k) ≡ Ok k
 key_round_trip k known fits =
-    ap (from_front (length (key_bytes k))) (whole_again key_at key_bytes KeyFitsFields (λ x. key_fits x × KeyFitsFields x) (λ x rest h. key_again x rest h.0 h.1) k (known, fits))
+    ap (from_front (length (key_bytes k))) (whole_again key_at key_bytes KeyIsEncodable (λ x. key_fits x × KeyIsEncodable x) (λ x rest h. key_again x rest h.0 h.1) k (known, fits))
 
 -- and parts its record from others
-pub record_apart : (r s : Record) → record_fits r → record_fits s → RecordFitsFields r → RecordFitsFields s → record_bytes r ≡ record_bytes s → r ≡ s
+pub record_apart : (r s : Record) → record_fits r → record_fits s → RecordIsEncodable r → RecordIsEncodable s → record_bytes r ≡ record_bytes s → r ≡ s
 record_apart r s known also fits fit e = ok_is r s (sym (record_round_trip r known fits) ∙ ap record_in e ∙ record_round_trip s also fit)
 
-pub key_apart : (k l : Key) → key_fits k → key_fits l → KeyFitsFields k → KeyFitsFields l → key_bytes k ≡ key_bytes l → k ≡ l
+pub key_apart : (k l : Key) → key_fits k → key_fits l → KeyIsEncodable k → KeyIsEncodable l → key_bytes k ≡ key_bytes l → k ≡ l
 key_apart k l known also fits fit e = ok_is k l (sym (key_round_trip k known fits) ∙ ap key_in e ∙ key_round_trip l also fit)

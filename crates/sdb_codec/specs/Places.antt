@@ -14,7 +14,7 @@ use Rattle.sdb_types.specs.Columns.{is_null}
 use Rattle.sdb_types.specs.Order.{name_cmp, table_text}
 use Rattle.sdb_codec.specs.declared.refused.ReadRefused.{ReadRefused}
 use Rattle.sdb_codec.specs.declared.refused.ReadRefused.TheVariants as refused
-use Rattle.sdb_codec.specs.Spelling.{sized_bytes, value_bytes, ValueFitsField}
+use Rattle.sdb_codec.specs.Spelling.{sized_bytes, value_bytes, ValueIsEncodable}
 
 pub data Field : Type 0 where
   Format : Field
@@ -68,19 +68,19 @@ IsText (value.BigInt n) = Unit {0}
 IsText (value.Text text) = IsUtf8 text
 IsText (value.Blob bytes) = Unit {0}
 
-abbrev pub stands_above : Option (List ℕ) → List ℕ → Bool
-stands_above None name = true
-stands_above (Some before) name = is_lt (name_cmp before name)
+abbrev pub is_above_last : Option (List ℕ) → List ℕ → Bool
+is_above_last None name = true
+is_above_last (Some before) name = is_lt (name_cmp before name)
 
 -- a field is of the form that is due
 abbrev pub HasForm : Due → Field → Type 0
 HasForm FormatDue Format = Unit {0}
 HasForm TableDue (Table table) = (is_name table.ns ≡ true) × (is_name table.table ≡ true)
 HasForm CountDue (Count count) = count < 256
-HasForm ItemDue (Item v) = ValueFitsField v × IsText v
+HasForm ItemDue (Item v) = ValueIsEncodable v × IsText v
 HasForm ColumnCountDue (ColumnCount count) = count < 2 ^ 16
-HasForm (NameDue before more) (Name name) = (is_name name ≡ true) × (stands_above before name ≡ true)
-HasForm CellDue (Item v) = (is_null v ≡ false) × ValueFitsField v × IsText v
+HasForm (NameDue before more) (Name name) = (is_name name ≡ true) × (is_above_last before name ≡ true)
+HasForm CellDue (Item v) = (is_null v ≡ false) × ValueIsEncodable v × IsText v
 HasForm d f = ⊥
 
 -- fields that are of their forms one after another, from what is due before them to what is due after them

@@ -44,26 +44,26 @@ record_bytes r = 1 ∷ (key_bytes r.key ++ columns_bytes r.columns)
 
 ---- what has a spelling: each count and length fits its field
 
-abbrev pub ValueFitsField : Value → Type 0
-ValueFitsField value.Null = Unit {0}
-ValueFitsField (value.Bool b) = Unit {0}
-ValueFitsField (value.Int n) = Unit {0}
-ValueFitsField (value.BigInt n) = Unit {0}
-ValueFitsField (value.Text text) = length text < 2 ^ 32
-ValueFitsField (value.Blob bytes) = length bytes < 2 ^ 32
+abbrev pub ValueIsEncodable : Value → Type 0
+ValueIsEncodable value.Null = Unit {0}
+ValueIsEncodable (value.Bool b) = Unit {0}
+ValueIsEncodable (value.Int n) = Unit {0}
+ValueIsEncodable (value.BigInt n) = Unit {0}
+ValueIsEncodable (value.Text text) = length text < 2 ^ 32
+ValueIsEncodable (value.Blob bytes) = length bytes < 2 ^ 32
 
-pub record ValuesFitFields (values : List Value) : Type 0 where
+pub record ValuesAreEncodable (values : List Value) : Type 0 where
   pub count : length values < 256
-  pub lengths : All ValueFitsField values
+  pub lengths : All ValueIsEncodable values
 
-pub record KeyFitsFields (key : Key) : Type 0 where
-  pub partition : ValuesFitFields key.partition
-  pub clustering : ValuesFitFields key.clustering
+pub record KeyIsEncodable (key : Key) : Type 0 where
+  pub partition : ValuesAreEncodable key.partition
+  pub clustering : ValuesAreEncodable key.clustering
 
-pub record ColumnsFitFields (pairs : List Pair) : Type 0 where
+pub record ColumnsAreEncodable (pairs : List Pair) : Type 0 where
   pub count : length pairs < 2 ^ 16
-  pub lengths : All (λ p. ValueFitsField p.value) pairs
+  pub lengths : All (λ p. ValueIsEncodable p.value) pairs
 
-pub record RecordFitsFields (r : Record) : Type 0 where
-  pub key : KeyFitsFields r.key
-  pub columns : ColumnsFitFields r.columns
+pub record RecordIsEncodable (r : Record) : Type 0 where
+  pub key : KeyIsEncodable r.key
+  pub columns : ColumnsAreEncodable r.columns

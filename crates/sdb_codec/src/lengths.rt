@@ -1,6 +1,6 @@
 //! Whether a record or a key has a spelling: each count and length fits its field.
 ghost use Rattle.std.specs.Prelude.{◌≡◌, ◌<◌, ◌^◌, ◌↔◌, IsTrue, All, length};
-ghost use Rattle.sdb_codec.specs.Spelling.{ValueFitsField, ValuesFitFields, KeyFitsFields, ColumnsFitFields, RecordFitsFields};
+ghost use Rattle.sdb_codec.specs.Spelling.{ValueIsEncodable, ValuesAreEncodable, KeyIsEncodable, ColumnsAreEncodable, RecordIsEncodable};
 
 use sdb_types::{Columns, Key, Pair, Record, Value, Values};
 
@@ -11,7 +11,7 @@ fn length_fits(length: usize) -> bool
 }
 
 fn value_fits(value: &Value) -> bool
-    ensures { IsTrue result ↔ ValueFitsField value.now }
+    ensures { IsTrue result ↔ ValueIsEncodable value.now }
 {
     match value {
         Value::Null | Value::Bool(_) | Value::Int(_) | Value::BigInt(_) => true,
@@ -21,25 +21,25 @@ fn value_fits(value: &Value) -> bool
 }
 
 fn all_values_fit(values: &[Value]) -> bool
-    ensures { IsTrue result ↔ All ValueFitsField values.now }
+    ensures { IsTrue result ↔ All ValueIsEncodable values.now }
 {
     values.iter().all(|value| value_fits(value))
 }
 
 fn all_pairs_fit(pairs: &[Pair]) -> bool
-    ensures { IsTrue result ↔ All (λ p. ValueFitsField p.value) pairs.now }
+    ensures { IsTrue result ↔ All (λ p. ValueIsEncodable p.value) pairs.now }
 {
     pairs.iter().all(|pair| value_fits(&pair.value))
 }
 
 fn values_fit(values: &Values) -> bool
-    ensures { IsTrue result ↔ ValuesFitFields values.now }
+    ensures { IsTrue result ↔ ValuesAreEncodable values.now }
 {
     values.len() < 256 && all_values_fit(values.as_slice())
 }
 
 fn columns_fit(columns: &Columns) -> bool
-    ensures { IsTrue result ↔ ColumnsFitFields columns.now }
+    ensures { IsTrue result ↔ ColumnsAreEncodable columns.now }
 {
     columns.len() < 65536 && all_pairs_fit(columns.pairs())
 }
@@ -47,7 +47,7 @@ fn columns_fit(columns: &Columns) -> bool
 /// Whether the key has a spelling: at most 255 values in its partition and in its clustering, and texts and blobs of
 /// less than 2^32 bytes.
 pub fn key_has_spelling(key: &Key) -> bool
-    ensures { IsTrue result ↔ KeyFitsFields key.now }
+    ensures { IsTrue result ↔ KeyIsEncodable key.now }
 {
     values_fit(&key.partition) && values_fit(&key.clustering)
 }
@@ -55,7 +55,7 @@ pub fn key_has_spelling(key: &Key) -> bool
 /// Whether the record has a spelling: its key has, its columns are less than 65,536, and their texts and blobs have less
 /// than 2^32 bytes.
 pub fn record_has_spelling(rec: &Record) -> bool
-    ensures { IsTrue result ↔ RecordFitsFields rec.now }
+    ensures { IsTrue result ↔ RecordIsEncodable rec.now }
 {
     key_has_spelling(&rec.key) && columns_fit(&rec.columns)
 }

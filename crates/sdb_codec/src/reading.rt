@@ -3,7 +3,7 @@ ghost use Rattle.std.specs.Prelude.{◌≡◌, IfOk, IfErr, Ok};
 ghost use Rattle.sdb_types.specs.declared.key.Key.{Key};
 ghost use Rattle.sdb_types.specs.declared.record.Record.{Record};
 ghost use Rattle.sdb_types.specs.Fits.{key_fits, record_fits};
-ghost use Rattle.sdb_codec.specs.Spelling.{key_bytes, record_bytes, KeyFitsFields, RecordFitsFields};
+ghost use Rattle.sdb_codec.specs.Spelling.{key_bytes, record_bytes, KeyIsEncodable, RecordIsEncodable};
 ghost use Rattle.sdb_codec.specs.Places.{IsRefusedAt, key_due, record_due};
 ghost use Rattle.sdb_codec.specs.Reading.{Gives, Reads, format_at as format_at_lem, key_at as key_at_lem, record_at as record_at_lem, whole, record_in, key_in, refusal};
 
@@ -98,9 +98,9 @@ fn key_of(alloc: Global, bytes: &[u8]) -> Result<Key, ReadRefused>
 /// The record that the bytes spell, all of the bytes.
 pub fn read_record(alloc: Global, bytes: &[u8]) -> Result<Record, ReadRefused>
     // What is read is spelled so.
-    ensures found { IfOk result (λ r. RecordFitsFields r × (bytes.now ≡ record_bytes r)) }
-    // What is spelled so is read, unless memory runs out.
-    ensures only { (r : Record) → record_fits r → RecordFitsFields r → bytes.now ≡ record_bytes r → Reads result (Ok r) }
+    ensures found { IfOk result (λ r. RecordIsEncodable r × (bytes.now ≡ record_bytes r)) }
+    // What is spelled like this is read, unless memory runs out.
+    ensures only { (r : Record) → record_fits r → RecordIsEncodable r → bytes.now ≡ record_bytes r → Reads result (Ok r) }
     // The bad place is where the first field begins that is cut off or isn't of its form, or where bytes follow the whole.
     ensures place { IfErr result (IsRefusedAt record_due bytes.now) }
     // It is what reading from left to right gives.
@@ -112,9 +112,9 @@ pub fn read_record(alloc: Global, bytes: &[u8]) -> Result<Record, ReadRefused>
 /// The key that the bytes spell, all of the bytes.
 pub fn read_key(alloc: Global, bytes: &[u8]) -> Result<Key, ReadRefused>
     // What is read is spelled so.
-    ensures found { IfOk result (λ k. KeyFitsFields k × (bytes.now ≡ key_bytes k)) }
-    // What is spelled so is read, unless memory runs out.
-    ensures only { (k : Key) → key_fits k → KeyFitsFields k → bytes.now ≡ key_bytes k → Reads result (Ok k) }
+    ensures found { IfOk result (λ k. KeyIsEncodable k × (bytes.now ≡ key_bytes k)) }
+    // What is spelled like this is read, unless memory runs out.
+    ensures only { (k : Key) → key_fits k → KeyIsEncodable k → bytes.now ≡ key_bytes k → Reads result (Ok k) }
     // The bad place is where the first field begins that is cut off or isn't of its form, or where bytes follow the whole.
     ensures place { IfErr result (IsRefusedAt key_due bytes.now) }
     // It is what reading from left to right gives.

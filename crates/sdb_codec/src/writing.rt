@@ -2,7 +2,7 @@
 ghost use Rattle.std.specs.Prelude.{◌≡◌, ◌<◌, ◌^◌, ◌++◌, true, length, All, OnOk, IfOk};
 ghost use Rattle.sdb_types.specs.Identifier.{is_name};
 ghost use Rattle.sdb_types.specs.Order.{table_text};
-ghost use Rattle.sdb_codec.specs.Spelling.{sized_bytes, value_bytes, values_bytes, key_bytes, pair_bytes, columns_bytes, record_bytes, ValueFitsField, ValuesFitFields, KeyFitsFields, ColumnsFitFields, RecordFitsFields};
+ghost use Rattle.sdb_codec.specs.Spelling.{sized_bytes, value_bytes, values_bytes, key_bytes, pair_bytes, columns_bytes, record_bytes, ValueIsEncodable, ValuesAreEncodable, KeyIsEncodable, ColumnsAreEncodable, RecordIsEncodable};
 
 use sdb_types::{Columns, Key, Name, NoMemory, Octets, Pair, Record, TableName, Value, Values};
 use std::alloc::Global;
@@ -16,7 +16,7 @@ fn put_sized(out: &mut Octets, bytes: &[u8]) -> Result<(), NoMemory>
 }
 
 fn put_value(out: &mut Octets, value: &Value) -> Result<(), NoMemory>
-    requires { ValueFitsField value.now }
+    requires { ValueIsEncodable value.now }
     ensures { OnOk result (out.new ≡ out.old ++ value_bytes value.now) }
 {
     match value {
@@ -43,7 +43,7 @@ fn put_value(out: &mut Octets, value: &Value) -> Result<(), NoMemory>
 }
 
 fn put_values(out: &mut Octets, values: &Values) -> Result<(), NoMemory>
-    requires { ValuesFitFields values.now }
+    requires { ValuesAreEncodable values.now }
     ensures { OnOk result (out.new ≡ out.old ++ values_bytes values.now) }
 {
     out.push(values.len() as u8)?;
@@ -66,7 +66,7 @@ fn put_table(out: &mut Octets, table: &TableName) -> Result<(), NoMemory>
 }
 
 fn put_key(out: &mut Octets, key: &Key) -> Result<(), NoMemory>
-    requires { KeyFitsFields key.now }
+    requires { KeyIsEncodable key.now }
     ensures { OnOk result (out.new ≡ out.old ++ key_bytes key.now) }
 {
     put_table(out, &key.table)?;
@@ -81,7 +81,7 @@ fn put_name(out: &mut Octets, name: &Name) -> Result<(), NoMemory>
 }
 
 fn put_pair(out: &mut Octets, pair: &Pair) -> Result<(), NoMemory>
-    requires { ValueFitsField pair.now.value }
+    requires { ValueIsEncodable pair.now.value }
     ensures { OnOk result (out.new ≡ out.old ++ pair_bytes pair.now) }
 {
     put_name(out, &pair.name)?;
@@ -89,7 +89,7 @@ fn put_pair(out: &mut Octets, pair: &Pair) -> Result<(), NoMemory>
 }
 
 fn put_columns(out: &mut Octets, columns: &Columns) -> Result<(), NoMemory>
-    requires { ColumnsFitFields columns.now }
+    requires { ColumnsAreEncodable columns.now }
     ensures { OnOk result (out.new ≡ out.old ++ columns_bytes columns.now) }
 {
     out.extend_from_slice(&(columns.len() as u16).to_be_bytes())?;
@@ -101,7 +101,7 @@ fn put_columns(out: &mut Octets, columns: &Columns) -> Result<(), NoMemory>
 
 /// The one spelling of a record.
 pub fn write_record(alloc: Global, rec: &Record) -> Result<Octets, NoMemory>
-    requires { RecordFitsFields rec.now }
+    requires { RecordIsEncodable rec.now }
     ensures { IfOk result (λ bytes. bytes ≡ record_bytes rec.now) }
 {
     let mut out = Octets::new(alloc);
@@ -113,7 +113,7 @@ pub fn write_record(alloc: Global, rec: &Record) -> Result<Octets, NoMemory>
 
 /// The one spelling of a key.
 pub fn write_key(alloc: Global, key: &Key) -> Result<Octets, NoMemory>
-    requires { KeyFitsFields key.now }
+    requires { KeyIsEncodable key.now }
     ensures { IfOk result (λ bytes. bytes ≡ key_bytes key.now) }
 {
     let mut out = Octets::new(alloc);

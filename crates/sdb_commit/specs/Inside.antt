@@ -23,25 +23,25 @@ undo_stage a abort.Row u = Stopping a u.upto
 undo_stage a abort.Idle u = Stopping a u.upto
 
 -- the stage of an abort that keeps what it will answer
-abbrev pub kept_stage : Option Outcome → Inside → Stage
-kept_stage None c = Over outcome.NoMemory
-kept_stage (Some a) c = undo_stage a c.abort.phase c.abort
+abbrev pub abort_stage : Option Outcome → Inside → Stage
+abort_stage None c = Over outcome.NoMemory
+abort_stage (Some a) c = undo_stage a c.abort.phase c.abort
 
 abbrev pub stage_of : Phase → Inside → Stage
 stage_of phase.Prepare c = Preparing c.prepare.at
 stage_of phase.Validate c = Checking c.validate.at
 stage_of phase.Decide c = Deciding c.decide.phase
 stage_of phase.Forward c = Forward c.commit.at
-stage_of phase.Abort c = kept_stage c.answer c
+stage_of phase.Abort c = abort_stage c.answer c
 stage_of phase.Ended c = Over outcome.NoMemory
 
 abbrev pub commit_of : Inside → CommitAt
 commit_of c = record { work = work_of c; stage = stage_of c.phase c }
 
-abbrev pub IsUnderWay : AbortPhase → Aborting → Type 0
-IsUnderWay abort.Idle u = ⊥
-IsUnderWay abort.Row u = u.at ≡ 0
-IsUnderWay abort.Rolling u = u.at < u.upto
+abbrev pub IsAbortPending : AbortPhase → Aborting → Type 0
+IsAbortPending abort.Idle u = ⊥
+IsAbortPending abort.Row u = u.at ≡ 0
+IsAbortPending abort.Rolling u = u.at < u.upto
 
 -- The phases to come are at their start.
 abbrev pub IsReady : Phase → Inside → Type 0
@@ -49,7 +49,7 @@ IsReady phase.Prepare c = (c.prepare.asks ≡ prepares (work_of c)) × (c.prepar
 IsReady phase.Validate c = (c.decide.phase ≡ decide.Put) × (c.commit.at ≡ 0) × (c.abort.phase ≡ abort.Idle)
 IsReady phase.Decide c = (c.commit.at ≡ 0) × (c.abort.phase ≡ abort.Idle)
 IsReady phase.Forward c = Unit {0}
-IsReady phase.Abort c = IsUnderWay c.abort.phase c.abort × IsSome c.answer
+IsReady phase.Abort c = IsAbortPending c.abort.phase c.abort × IsSome c.answer
 IsReady phase.Ended c = Unit {0}
 
 -- The requests of each phase are those of what is committed.

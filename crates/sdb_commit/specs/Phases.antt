@@ -19,7 +19,7 @@ abbrev pub ended_at : Stage → Option Outcome
 ended_at (Over a) = Some a
 ended_at s = None
 
--- A reply leads to the next stage of the protocol. The conflict that an extra read finds may be told as out of memory.
+-- A reply leads to the next stage of the protocol. The conflict that an extra read finds may be returned as out of memory.
 abbrev pub IsNext : Work → Stage → Reply → Stage → Type 0
 IsNext p (Checking i) r next = (v : ValidateStep) × Judges (validate_step (nat_lt (i + 1) (length (checks p))) (slice_get (checks p) i) r) v × (next ≡ after_check p i v)
 IsNext p (Preparing i) r next = next ≡ step p (Preparing i) r

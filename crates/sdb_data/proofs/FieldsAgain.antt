@@ -26,7 +26,7 @@ use Rattle.sdb_schema.specs.declared.table.Table.{Table}
 use Rattle.sdb_schema.specs.Table.{is_key_column}
 use Rattle.sdb_schema.specs.Rows.{is_of_kind, is_in_range}
 use Rattle.sdb_data.specs.declared.field.Head.{Head}
-use Rattle.sdb_data.specs.Fields.{begins_backslash, blob_in, escaped, field_of, if_short, is_big, is_null_field, is_short, null_field, said_in, said_number, suits, text_in, unescaped, value_at}
+use Rattle.sdb_data.specs.Fields.{begins_backslash, blob_in, escaped, field_of, if_short, is_big, is_null_field, is_short, null_field, value_given, number_of_digits, suits, text_in, unescaped, value_at}
 use Rattle.sdb_data.specs.Printed.{is_byte, is_cell, is_small}
 use Rattle.sdb_data.proofs.Numbers.{big-small, int-small, number-again}
 use Rattle.sdb_types.specs.Fits.{fits_int}
@@ -89,7 +89,7 @@ text-again (b ∷ bs) s =
 blob-again : (bs : List ℕ) → list_all is_byte bs ≡ true → is_short bs ≡ true → blob_in (encode_upper bs) ≡ Some bs
 blob-again bs h s = rw (decode_of-encode_upper bs (below 256 bs (omega arith) h), s) refl
 
-said-again : (k : Kind) (v : Value) → is_of_kind k v ≡ true → is_in_range v ≡ true → is_small v ≡ true → said_in k (field_of v) ≡ Some v
+said-again : (k : Kind) (v : Value) → is_of_kind k v ≡ true → is_in_range v ≡ true → is_small v ≡ true → value_given k (field_of v) ≡ Some v
 said-again kind.Boolean (value.Bool true) h r s = refl
 said-again kind.Boolean (value.Bool false) h r s = refl
 said-again kind.Int (value.Int n) h r s = let m = int-small n s in ap (option_map value.Int) (number-again fits_int n (omega arith) s)
@@ -135,11 +135,11 @@ null-no-number : (z : ℤ) → mag z < 2 ^ 63 → bytes_eq null_field (signed_de
 null-no-number (pos n) h = null-no-digits n (omega arith)
 null-no-number (negsuc n) h = refl
 
-pub null-said : (k : Kind) → said_in k null_field ≡ None
+pub null-said : (k : Kind) → value_given k null_field ≡ None
 unfolding hex_on_literals
 null-said kind.Boolean = refl
-null-said kind.Int = rw (null-no-number (said_number null_field) (omega arith)) refl
-null-said kind.BigInt = rw (null-no-number (said_number null_field) (omega arith)) refl
+null-said kind.Int = rw (null-no-number (number_of_digits null_field) (omega arith)) refl
+null-said kind.BigInt = rw (null-no-number (number_of_digits null_field) (omega arith)) refl
 null-said kind.Text = refl
 null-said kind.Blob = refl
 

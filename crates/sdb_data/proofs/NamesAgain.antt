@@ -20,10 +20,10 @@ use Rattle.sdb_schema.specs.declared.table.Kind.TheVariants as kind
 use Rattle.sdb_schema.specs.declared.table.Column.{Column}
 use Rattle.sdb_schema.specs.declared.table.Table.{Table}
 use Rattle.sdb_schema.specs.declared.make.TableRefused.{TableRefused}
-use Rattle.sdb_schema.specs.Table.{checked_table, column_names, first_unknown, has_column, is_key_column, is_table, key_names, kind_in, none_of, refuse, rises, stands_above}
+use Rattle.sdb_schema.specs.Table.{checked_table, column_names, first_unknown, has_column, is_key_column, is_table, key_names, kind_in, none_of, refuse, rises, is_above_column}
 use Rattle.sdb_data.specs.declared.fault.Mode.{Mode}
 use Rattle.sdb_data.specs.declared.fault.Mode.TheVariants as mode
-use Rattle.sdb_data.specs.Tables.{header_fault, is_named, named_at, names_fault, nothing_to_set, repeat_place, taken_at}
+use Rattle.sdb_data.specs.Tables.{header_fault, is_named, named_at, names_fault, nothing_to_set, repeat_place, column_taken}
 use Rattle.sdb_data.specs.Printed.{can_load}
 use Rattle.sdb_data.proofs.FieldsAgain.{ascii-utf8}
 use Rattle.sdb_types.proofs.Basics.{less_of, one_more}
@@ -31,19 +31,19 @@ use Rattle.sdb_types.proofs.Words.{part_small as part-small, start_part as start
 
 ---- columns whose names rise
 
-above : (d : Column) (ds : List Column) (c : Column) (back : List Column) → rises (ds ++ c ∷ back) ≡ true → stands_above d.name (ds ++ c ∷ back) ≡ true → is_lt (name_cmp d.name c.name) ≡ true
+above : (d : Column) (ds : List Column) (c : Column) (back : List Column) → rises (ds ++ c ∷ back) ≡ true → is_above_column d.name (ds ++ c ∷ back) ≡ true → is_lt (name_cmp d.name c.name) ≡ true
 above d [] c back r h = h
 above d (e ∷ es) c back r h =
-    let next = above e es c back (and_second (stands_above e.name (es ++ c ∷ back)) (rises (es ++ c ∷ back)) r) (and_first (stands_above e.name (es ++ c ∷ back)) (rises (es ++ c ∷ back)) r) in
+    let next = above e es c back (and_second (is_above_column e.name (es ++ c ∷ back)) (rises (es ++ c ∷ back)) r) (and_first (is_above_column e.name (es ++ c ∷ back)) (rises (es ++ c ∷ back)) r) in
     ap is_lt (name_total.trans d.name e.name c.name (less_of _ h) (less_of _ next))
 
 -- an earlier column has another name
 other : (d : Column) (ds : List Column) (c : Column) (back : List Column) → rises (d ∷ (ds ++ c ∷ back)) ≡ true → same_name d.name c.name ≡ false
 other d ds c back r =
-    ap is_eq (less_of _ (above d ds c back (and_second (stands_above d.name (ds ++ c ∷ back)) (rises (ds ++ c ∷ back)) r) (and_first (stands_above d.name (ds ++ c ∷ back)) (rises (ds ++ c ∷ back)) r)))
+    ap is_eq (less_of _ (above d ds c back (and_second (is_above_column d.name (ds ++ c ∷ back)) (rises (ds ++ c ∷ back)) r) (and_first (is_above_column d.name (ds ++ c ∷ back)) (rises (ds ++ c ∷ back)) r)))
 
 behind : (d : Column) (ds : List Column) → rises (d ∷ ds) ≡ true → rises ds ≡ true
-behind d ds r = and_second (stands_above d.name ds) (rises ds) r
+behind d ds r = and_second (is_above_column d.name ds) (rises ds) r
 
 -- the column itself is found under its name
 found : (front : List Column) (c : Column) (back : List Column) → rises (front ++ c ∷ back) ≡ true → find (λ d. same_name d.name c.name) (front ++ c ∷ back) ≡ Some c
@@ -74,7 +74,7 @@ many : (front : List Column) (c : Column) (back : List Column) → length front 
 many [] c back = omega arith
 many (d ∷ ds) c back = let m = many ds c back in omega arith
 
-pub at-place : (front : List Column) (c : Column) (back : List Column) → rises (front ++ c ∷ back) ≡ true → taken_at (column_names (front ++ c ∷ back)) c ≡ Some (record { kind = c.kind; place = length front })
+pub at-place : (front : List Column) (c : Column) (back : List Column) → rises (front ++ c ∷ back) ≡ true → column_taken (column_names (front ++ c ∷ back)) c ≡ Some (record { kind = c.kind; place = length front })
 at-place front c back r =
     let p = place front c back r in
     let m = many front c back in
@@ -146,9 +146,9 @@ settable t mode.Update h =
       | false ↦ λ q k. rw (list_all-map (is_key_column t) (λ (c : Column). c.name) t.columns, q) refl
     ] refl h
 
-pub names-fine : (t : Table) (m : Mode) → is_table t ≡ true → can_load t m ≡ true → names_fault t m (column_names t.columns) ≡ None
+pub names-valid : (t : Table) (m : Mode) → is_table t ≡ true → can_load t m ≡ true → names_fault t m (column_names t.columns) ≡ None
 unfolding names_fault
-names-fine t m h l =
+names-valid t m h l =
     let r = and_first (rises t.columns) _ h in
     rw (
       none-at (λ name. not (has_column t.columns name)) (column_names t.columns) (all-known [] t.columns),
@@ -174,9 +174,9 @@ names-utf8 : (cs : List Column) → list_all (λ c. is_column_name c.name) cs �
 names-utf8 [] h = refl
 names-utf8 (c ∷ cs) h = rw (name-utf8 c.name (and_first (is_column_name c.name) _ h)) (names-utf8 cs (and_second (is_column_name c.name) _ h))
 
-pub header-fine : (t : Table) (m : Mode) → is_table t ≡ true → can_load t m ≡ true → header_fault t m (column_names t.columns) ≡ None
-header-fine t m h l =
-    rw (names-utf8 t.columns (and_first _ (is_ok (checked_table t)) (and_second (rises t.columns) _ h))) (names-fine t m h l)
+pub header-valid : (t : Table) (m : Mode) → is_table t ≡ true → can_load t m ≡ true → header_fault t m (column_names t.columns) ≡ None
+header-valid t m h l =
+    rw (names-utf8 t.columns (and_first _ (is_ok (checked_table t)) (and_second (rises t.columns) _ h))) (names-valid t m h l)
 
 ---- what is read under the header
 

@@ -12,7 +12,7 @@ use Rattle.std.proofs.lemmas.Bool.Decides.{nat_tests}
 use Rattle.std.proofs.lemmas.Fmt.{decimal_is_IsNumeral, parse-signed_decimal}
 use lib.Signed.{mag}
 use Rattle.sdb_types.proofs.Bools.{and_first, and_second}
-use Rattle.sdb_data.specs.Fields.{said_number, is_shortest, is_big, number_in}
+use Rattle.sdb_data.specs.Fields.{number_of_digits, is_shortest, is_big, number_in}
 use Rattle.sdb_types.specs.Fits.{fits_int}
 
 ---- ranges
@@ -31,11 +31,11 @@ big-small (negsuc n) h = let k = and_first (int_le (negsuc 9007199254740991) (ne
 pub unparsed : {E : Type 0} (w : Width) (fits : ℤ → Bool) (field : List ℕ) (e : E) → ((z : ℤ) → fits z ≡ true → FitsSigned w z × (mag z < 2 ^ 63))
     → bytes_eq field (codes "-0") ≡ false → ParsesSigned w 10 field (Err e) → number_in fits field ≡ None
 unparsed w fits field e small other h =
-    elim (is_shortest field && fits (said_number field)) as (λ b. (is_shortest field && fits (said_number field)) ≡ b → cond (bytes_eq field (codes "-0")) (Some (pos 0)) (cond b (Some (said_number field)) None) ≡ None) [
+    elim (is_shortest field && fits (number_of_digits field)) as (λ b. (is_shortest field && fits (number_of_digits field)) ≡ b → cond (bytes_eq field (codes "-0")) (Some (pos 0)) (cond b (Some (number_of_digits field)) None) ≡ None) [
       | true ↦ λ q.
-          let inside = small (said_number field) (and_second (is_shortest field) (fits (said_number field)) q) in
-          let same : field ≡ signed_decimal (said_number field) = (bytes_eq-Decides field (signed_decimal (said_number field))).0 (and_first (is_shortest field) (fits (said_number field)) q) in
-          let ok = parse-signed_decimal w (said_number field) field (Err e) inside.0 inside.1 same h in
+          let inside = small (number_of_digits field) (and_second (is_shortest field) (fits (number_of_digits field)) q) in
+          let same : field ≡ signed_decimal (number_of_digits field) = (bytes_eq-Decides field (signed_decimal (number_of_digits field))).0 (and_first (is_shortest field) (fits (number_of_digits field)) q) in
+          let ok = parse-signed_decimal w (number_of_digits field) field (Err e) inside.0 inside.1 same h in
           absurd (cc)
       | false ↦ λ q. rw other refl
     ] refl
@@ -59,7 +59,7 @@ plain (d ∷ ds) h =
     (minus, rw plus refl)
 
 -- the number that its decimal text says
-pub said-again : (z : ℤ) → mag z < 2 ^ 63 → said_number (signed_decimal z) ≡ z
+pub said-again : (z : ℤ) → mag z < 2 ^ 63 → number_of_digits (signed_decimal z) ≡ z
 said-again (pos n) h =
     let k = decimal_is_IsNumeral n (omega arith) in
     let p = plain (decimal n) k.0 in
@@ -68,10 +68,10 @@ said-again (negsuc n) h = ap (λ (m : ℕ). neg_ℤ (pos m)) (decimal_is_IsNumer
 
 pub number-again : (fits : ℤ → Bool) (z : ℤ) → mag z < 2 ^ 63 → fits z ≡ true → number_in fits (signed_decimal z) ≡ Some z
 number-again fits z h f =
-    elim (bytes_eq (signed_decimal z) (codes "-0")) as (λ b. bytes_eq (signed_decimal z) (codes "-0") ≡ b → cond b (Some (pos 0)) (cond (is_shortest (signed_decimal z) && fits (said_number (signed_decimal z))) (Some (said_number (signed_decimal z))) None) ≡ Some z) [
+    elim (bytes_eq (signed_decimal z) (codes "-0")) as (λ b. bytes_eq (signed_decimal z) (codes "-0") ≡ b → cond b (Some (pos 0)) (cond (is_shortest (signed_decimal z) && fits (number_of_digits (signed_decimal z))) (Some (number_of_digits (signed_decimal z))) None) ≡ Some z) [
       | true ↦ λ q.
           let e : signed_decimal z ≡ codes "-0" = (bytes_eq-Decides (signed_decimal z) (codes "-0")).0 q in
-          let zero : pos 0 ≡ z = sym (ap said_number e) ∙ said-again z h in
+          let zero : pos 0 ≡ z = sym (ap number_of_digits e) ∙ said-again z h in
           ap Some zero
       | false ↦ λ q. rw (said-again z h, f, (bytes_eq-Decides (signed_decimal z) (signed_decimal z)).1 refl) refl
     ] refl

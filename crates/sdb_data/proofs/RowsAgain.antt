@@ -13,10 +13,10 @@ use Rattle.sdb_schema.specs.Table.{column_names, is_key_column, is_table, kind_i
 use Rattle.sdb_data.specs.declared.field.Head.{Head}
 use Rattle.sdb_data.specs.declared.fault.Mode.{Mode}
 use Rattle.sdb_data.specs.Fields.{field_of, suits, value_at}
-use Rattle.sdb_data.specs.Tables.{bad_place, cell_of, fault_from, first_fault, head_of, heads_of, record_fault, row_of, rows_in, taken_at, taken_of}
+use Rattle.sdb_data.specs.Tables.{bad_place, cell_of, fault_from, first_fault, head_of, heads_of, record_fault, row_of, rows_in, column_taken, columns_taken}
 use Rattle.sdb_data.specs.Printed.{are_cells, can_load, fields_of_row, header_row, is_cell, is_row, records_of}
 use Rattle.sdb_data.proofs.FieldsAgain.{cell-again}
-use Rattle.sdb_data.proofs.NamesAgain.{at-place, header-fine, kinds, names-row}
+use Rattle.sdb_data.proofs.NamesAgain.{at-place, header-valid, kinds, names-row}
 
 shift : {A : Type 0} (front : List A) (c : A) (back : List A) → (front ++ c ∷ []) ++ back ≡ front ++ c ∷ back
 shift front c back = append_assoc front (c ∷ []) back
@@ -26,13 +26,13 @@ plain-head t c = record { kind = c.kind; in_key = is_key_column t c.name }
 
 ---- a record of cells
 
-texts-fine : (t : Table) (cs : List Column) (row : List Value) → are_cells t cs row ≡ true → list_all is_utf8 (fields_of_row row) ≡ true
-texts-fine t [] [] h = refl
-texts-fine t [] (v ∷ vs) h = cc h
-texts-fine t (c ∷ cs) [] h = cc h
-texts-fine t (c ∷ cs) (v ∷ vs) h =
+texts-valid : (t : Table) (cs : List Column) (row : List Value) → are_cells t cs row ≡ true → list_all is_utf8 (fields_of_row row) ≡ true
+texts-valid t [] [] h = refl
+texts-valid t [] (v ∷ vs) h = cc h
+texts-valid t (c ∷ cs) [] h = cc h
+texts-valid t (c ∷ cs) (v ∷ vs) h =
     let a = cell-again t c v (and_first (is_cell t c v) _ h) in
-    rw a.utf8 (texts-fine t cs vs (and_second (is_cell t c v) (are_cells t cs vs) h))
+    rw a.utf8 (texts-valid t cs vs (and_second (is_cell t c v) (are_cells t cs vs) h))
 
 same-length : (t : Table) (cs : List Column) (row : List Value) → are_cells t cs row ≡ true → length (fields_of_row row) ≡ length cs
 same-length t [] [] h = refl
@@ -55,15 +55,15 @@ none-bad t front (c ∷ cs) (v ∷ vs) e r h =
     let rest = none-bad t (front ++ c ∷ []) cs vs (e ∙ sym (shift front c cs)) (ap rises (shift front c cs) ∙ r) (and_second (is_cell t c v) (are_cells t cs vs) h) in
     rw (s, rest) refl
 
-record-fine : (t : Table) (row : List Value) → rises t.columns ≡ true → is_row t row ≡ true → record_fault (heads_of t (column_names t.columns)) (fields_of_row row) ≡ None
+record-valid : (t : Table) (row : List Value) → rises t.columns ≡ true → is_row t row ≡ true → record_fault (heads_of t (column_names t.columns)) (fields_of_row row) ≡ None
 unfolding record_fault
-record-fine t row r h =
+record-valid t row r h =
     let n : length (fields_of_row row) ≡ length (heads_of t (column_names t.columns)) = same-length t t.columns row h ∙ sym (names-length t t.columns) in
-    rw (texts-fine t t.columns row h, eq-eqb _ _ n, none-bad t [] t.columns row refl r h) refl
+    rw (texts-valid t t.columns row h, eq-eqb _ _ n, none-bad t [] t.columns row refl r h) refl
 
-all-fine : (t : Table) (n : ℕ) (rows : List (List Value)) → rises t.columns ≡ true → list_all (is_row t) rows ≡ true → fault_from (heads_of t (column_names t.columns)) n (map fields_of_row rows) ≡ None
-all-fine t n [] r h = refl
-all-fine t n (row ∷ rows) r h = rw (record-fine t row r (and_first (is_row t row) _ h)) (all-fine t (n + 1) rows r (and_second (is_row t row) _ h))
+all-valid : (t : Table) (n : ℕ) (rows : List (List Value)) → rises t.columns ≡ true → list_all (is_row t) rows ≡ true → fault_from (heads_of t (column_names t.columns)) n (map fields_of_row rows) ≡ None
+all-valid t n [] r h = refl
+all-valid t n (row ∷ rows) r h = rw (record-valid t row r (and_first (is_row t row) _ h)) (all-valid t (n + 1) rows r (and_second (is_row t row) _ h))
 
 ---- their values
 
@@ -78,7 +78,7 @@ one-longer (d ∷ ds) c [] v e = cc e
 one-longer (d ∷ ds) c (w ∷ ws) v e = let k : length ws ≡ length ds = omega arith in ap suc (one-longer ds c ws v k)
 
 values-again : (t : Table) (front back : List Column) (rf rb : List Value) → rises (front ++ back) ≡ true → length rf ≡ length front → are_cells t back rb ≡ true
-    → map (cell_of (fields_of_row (rf ++ rb))) (filter_map (taken_at (column_names (front ++ back))) back) ≡ rb
+    → map (cell_of (fields_of_row (rf ++ rb))) (filter_map (column_taken (column_names (front ++ back))) back) ≡ rb
 values-again t front [] rf [] r e h = refl
 values-again t front [] rf (v ∷ vs) r e h = cc h
 values-again t front (c ∷ cs) rf [] r e h = cc h
@@ -86,22 +86,22 @@ values-again t front (c ∷ cs) rf (v ∷ vs) r e h =
     let a = cell-again t c v (and_first (is_cell t c v) (are_cells t cs vs) h) in
     let here : value_at c.kind (get_or (fields_of_row (rf ++ v ∷ vs)) (length front) []) ≡ v = ap (λ n. value_at c.kind (get_or (fields_of_row (rf ++ v ∷ vs)) n [])) (sym e) ∙ ap (value_at c.kind) (value-here rf v vs) ∙ a.value in
     let rest = values-again t (front ++ c ∷ []) cs (rf ++ v ∷ []) vs (ap rises (shift front c cs) ∙ r) (one-longer front c rf v e) (and_second (is_cell t c v) (are_cells t cs vs) h) in
-    let moved : map (cell_of (fields_of_row (rf ++ v ∷ vs))) (filter_map (taken_at (column_names (front ++ c ∷ cs))) cs) ≡ vs =
-    subst (λ (w : List Value). map (cell_of (fields_of_row w)) (filter_map (taken_at (column_names (front ++ c ∷ cs))) cs) ≡ vs) (shift rf v vs)
-    (subst (λ (ds : List Column). map (cell_of (fields_of_row ((rf ++ v ∷ []) ++ vs))) (filter_map (taken_at (column_names ds)) cs) ≡ vs) (shift front c cs) rest) in
+    let moved : map (cell_of (fields_of_row (rf ++ v ∷ vs))) (filter_map (column_taken (column_names (front ++ c ∷ cs))) cs) ≡ vs =
+    subst (λ (w : List Value). map (cell_of (fields_of_row w)) (filter_map (column_taken (column_names (front ++ c ∷ cs))) cs) ≡ vs) (shift rf v vs)
+    (subst (λ (ds : List Column). map (cell_of (fields_of_row ((rf ++ v ∷ []) ++ vs))) (filter_map (column_taken (column_names ds)) cs) ≡ vs) (shift front c cs) rest) in
     rw (at-place front c cs r, here, moved) refl
 
-row-again : (t : Table) (row : List Value) → rises t.columns ≡ true → is_row t row ≡ true → row_of (taken_of t.columns (column_names t.columns)) (fields_of_row row) ≡ row
+row-again : (t : Table) (row : List Value) → rises t.columns ≡ true → is_row t row ≡ true → row_of (columns_taken t.columns (column_names t.columns)) (fields_of_row row) ≡ row
 row-again t row r h = values-again t [] t.columns [] row r refl h
 
-rows-again : (t : Table) (rows : List (List Value)) → rises t.columns ≡ true → list_all (is_row t) rows ≡ true → map (row_of (taken_of t.columns (column_names t.columns))) (map fields_of_row rows) ≡ rows
+rows-again : (t : Table) (rows : List (List Value)) → rises t.columns ≡ true → list_all (is_row t) rows ≡ true → map (row_of (columns_taken t.columns (column_names t.columns))) (map fields_of_row rows) ≡ rows
 rows-again t [] r h = refl
 rows-again t (row ∷ rows) r h = rw (row-again t row r (and_first (is_row t row) _ h), rows-again t rows r (and_second (is_row t row) _ h)) refl
 
 ---- the whole
 
 pub no-fault : (t : Table) (m : Mode) (rows : List (List Value)) → is_table t ≡ true → can_load t m ≡ true → list_all (is_row t) rows ≡ true → first_fault t m (records_of t rows) ≡ None
-no-fault t m rows h l a = rw (header-fine t m h l) (all-fine t 2 rows (and_first (rises t.columns) _ h) a)
+no-fault t m rows h l a = rw (header-valid t m h l) (all-valid t 2 rows (and_first (rises t.columns) _ h) a)
 
 pub all-again : (t : Table) (rows : List (List Value)) → is_table t ≡ true → list_all (is_row t) rows ≡ true → rows_in t (records_of t rows) ≡ header_row t ∷ rows
 all-again t rows h a = rw (names-row [] t.columns, rows-again t rows (and_first (rises t.columns) _ h) a) refl

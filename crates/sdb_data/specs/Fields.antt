@@ -37,11 +37,11 @@ bool_in field =
 ---- INT and BIGINT: the shortest decimal text of a number in the kind's range, or `-0`
 
 -- the number that digits say, after a `-` where there is one
-abbrev pub said_number : List ℕ → ℤ
-said_number field = signed_digits_value 10 field
+abbrev pub number_of_digits : List ℕ → ℤ
+number_of_digits field = signed_digits_value 10 field
 
 abbrev pub is_shortest : List ℕ → Bool
-is_shortest field = bytes_eq field (signed_decimal (said_number field))
+is_shortest field = bytes_eq field (signed_decimal (number_of_digits field))
 
 abbrev pub is_big : ℤ → Bool
 is_big n = int_le (negsuc 9007199254740991) n && int_le n (pos 9007199254740992)
@@ -49,7 +49,7 @@ is_big n = int_le (negsuc 9007199254740991) n && int_le n (pos 9007199254740992)
 abbrev pub number_in : (ℤ → Bool) → List ℕ → Option ℤ
 number_in fits field =
     if bytes_eq field (codes "-0") then Some (pos 0)
-    else if is_shortest field && fits (said_number field) then Some (said_number field)
+    else if is_shortest field && fits (number_of_digits field) then Some (number_of_digits field)
     else None
 
 ---- TEXT: the text, with one more `\` before it where it begins with one
@@ -90,16 +90,16 @@ has_blob_form field = (length field % 2 == 0) && (nat_le (length field / 2) 4096
 ---- a field of a column
 
 -- the value that a text says in a column of a kind, if it says one
-abbrev pub said_in : Kind → List ℕ → Option Value
-said_in kind.Boolean field = option_map value.Bool (bool_in field)
-said_in kind.Int field = option_map value.Int (number_in fits_int field)
-said_in kind.BigInt field = option_map value.BigInt (number_in is_big field)
-said_in kind.Text field = option_map value.Text (text_in field)
-said_in kind.Blob field = option_map value.Blob (blob_in field)
+abbrev pub value_given : Kind → List ℕ → Option Value
+value_given kind.Boolean field = option_map value.Bool (bool_in field)
+value_given kind.Int field = option_map value.Int (number_in fits_int field)
+value_given kind.BigInt field = option_map value.BigInt (number_in is_big field)
+value_given kind.Text field = option_map value.Text (text_in field)
+value_given kind.Blob field = option_map value.Blob (blob_in field)
 
 -- the same of a field of any bytes
 abbrev pub value_in : Kind → List ℕ → Option Value
-value_in k field = if is_utf8 field then said_in k field else None
+value_in k field = if is_utf8 field then value_given k field else None
 
 -- A column takes a field that says a value of its kind, and `\N`, which says none, unless it is of the primary key.
 abbrev pub suits : Head → List ℕ → Bool

@@ -173,7 +173,7 @@ fn is_blob(field: &[u8]) -> bool
 }
 
 fn says(kind: Kind, field: &str) -> bool
-    ensures { result ≡ is_some (spec.said_in kind field.now) }
+    ensures { result ≡ is_some (spec.value_given kind field.now) }
 {
     match kind {
         Kind::Boolean => bool_in(field).is_some(),
@@ -247,7 +247,7 @@ fn blob_of(alloc: Global, field: &[u8]) -> Result<Value, NoMemory>
 }
 
 fn value_of(alloc: Global, kind: Kind, field: &str) -> Result<Value, NoMemory>
-    ensures { IfOk result (λ v. v ≡ spec.or_null (spec.said_in kind field.now)) }
+    ensures { IfOk result (λ v. v ≡ spec.or_null (spec.value_given kind field.now)) }
 {
     match kind {
         Kind::Boolean => Ok(bool_of(field)),

@@ -18,7 +18,7 @@ use std::alloc::Global;
 
 /// A column that the header names: its kind, and the place of its field, from 0.
 #[derive(Clone, Copy)]
-pub struct Taken {
+pub struct ColumnTaken {
     pub kind: Kind,
     pub place: usize,
 }
@@ -219,11 +219,11 @@ fn place_of(header: &[Txt], name: &str) -> Option<usize>
     header.iter().position(|other| is_text(other, name))
 }
 
-fn taken_at(header: &[Txt], column: &Column) -> Option<Taken>
-    ensures { result ≡ spec.taken_at header.now column.now }
+fn taken_at(header: &[Txt], column: &Column) -> Option<ColumnTaken>
+    ensures { result ≡ spec.column_taken header.now column.now }
 {
     match place_of(header, column.name.as_str()) {
-        Some(place) => Some(Taken {
+        Some(place) => Some(ColumnTaken {
             kind: column.kind,
             place,
         }),
@@ -232,8 +232,12 @@ fn taken_at(header: &[Txt], column: &Column) -> Option<Taken>
 }
 
 /// The columns that the header names, in the order of their names.
-pub fn taken_of(alloc: Global, columns: &[Column], header: &[Txt]) -> Result<Seq<Taken>, NoMemory>
-    ensures { IfOk result (λ taken. taken ≡ spec.taken_of columns.now header.now) }
+pub fn columns_taken(
+    alloc: Global,
+    columns: &[Column],
+    header: &[Txt],
+) -> Result<Seq<ColumnTaken>, NoMemory>
+    ensures { IfOk result (λ taken. taken ≡ spec.columns_taken columns.now header.now) }
 {
     let mut taken = Seq::new(alloc);
     for column in columns {

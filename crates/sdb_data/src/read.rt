@@ -6,7 +6,7 @@ ghost use Rattle.sdb_data.specs.Tables as spec;
 
 use crate::fault::{CsvFault, CsvRefused, Mode};
 use crate::field::{Head, suits, value_at};
-use crate::header::{Taken, heads_of, named_row, names_fault, taken_of, texts_of};
+use crate::header::{ColumnTaken, columns_taken, heads_of, named_row, names_fault, texts_of};
 use crate::records::{field_at, is_text, records_of};
 use csv::ByteRecord;
 use sdb_schema::Table;
@@ -44,7 +44,7 @@ fn record_fault(heads: &[Head], fields: &ByteRecord) -> Option<CsvFault>
 }
 
 // The values of a record, in the order of their columns' names.
-fn row_of(alloc: Global, taken: &[Taken], fields: &ByteRecord) -> Result<Values, NoMemory>
+fn row_of(alloc: Global, taken: &[ColumnTaken], fields: &ByteRecord) -> Result<Values, NoMemory>
     ensures { IfOk result (λ row. row ≡ spec.row_of taken.now (fields_of fields.now)) }
 {
     let mut row = Values::new(alloc);
@@ -59,13 +59,13 @@ fn add_rows(
     alloc: Global,
     rows: &mut Seq<Values>,
     heads: &[Head],
-    taken: &[Taken],
+    taken: &[ColumnTaken],
     records: &[ByteRecord],
 ) -> Result<(), CsvRefused>
     requires { length records.now + 1 < 2 ^ 64 }
     ensures rows { OnOk result (rows.new ≡ rows.old ++ map (λ r. spec.row_of taken.now (fields_of r)) records.now) }
     ensures good { OnOk result (spec.fault_from heads.now 2 (map fields_of records.now) ≡ None) }
-    ensures fault { IfErr result (spec.Tells (spec.fault_from heads.now 2 (map fields_of records.now))) }
+    ensures fault { IfErr result (spec.IsFirstFault (spec.fault_from heads.now 2 (map fields_of records.now))) }
 {
     for (i, fields) in records.iter().enumerate() {
         if let Some(fault) = record_fault(heads, fields) {
@@ -95,10 +95,10 @@ fn rows_under(
     requires { length records.now + 1 < 2 ^ 64 }
     ensures rows { IfOk result (λ rows. rows ≡ spec.rows_in table.now (header.now ∷ map fields_of records.now)) }
     ensures good { OnOk result (spec.fault_from (spec.heads_of table.now header.now) 2 (map fields_of records.now) ≡ None) }
-    ensures fault { IfErr result (spec.Tells (spec.fault_from (spec.heads_of table.now header.now) 2 (map fields_of records.now))) }
+    ensures fault { IfErr result (spec.IsFirstFault (spec.fault_from (spec.heads_of table.now header.now) 2 (map fields_of records.now))) }
 {
     let heads = heads_of(alloc, table, header)?;
-    let taken = taken_of(alloc, table.columns.as_slice(), header)?;
+    let taken = columns_taken(alloc, table.columns.as_slice(), header)?;
     let mut rows = first_row(alloc, table, header)?;
     add_rows(
         alloc,
@@ -121,7 +121,7 @@ fn rows_named(
     requires { length records.now + 1 < 2 ^ 64 }
     ensures rows { IfOk result (λ rows. rows ≡ spec.rows_in table.now (names.now ∷ map fields_of records.now)) }
     ensures good { OnOk result (spec.fault_behind table.now mode names.now (map fields_of records.now) ≡ None) }
-    ensures fault { IfErr result (spec.Tells (spec.fault_behind table.now mode names.now (map fields_of records.now))) }
+    ensures fault { IfErr result (spec.IsFirstFault (spec.fault_behind table.now mode names.now (map fields_of records.now))) }
 {
     match names_fault(alloc, table, mode, names)? {
         Some(fault) => Err(CsvRefused::BadCsv(1, fault)),
@@ -140,7 +140,7 @@ fn rows_of(
     requires { length records.now + 1 < 2 ^ 64 }
     ensures rows { IfOk result (λ rows. rows ≡ spec.rows_in table.now (fields_of header.now ∷ map fields_of records.now)) }
     ensures good { OnOk result (spec.first_fault table.now mode (fields_of header.now ∷ map fields_of records.now) ≡ None) }
-    ensures fault { IfErr result (spec.Tells (spec.first_fault table.now mode (fields_of header.now ∷ map fields_of records.now))) }
+    ensures fault { IfErr result (spec.IsFirstFault (spec.first_fault table.now mode (fields_of header.now ∷ map fields_of records.now))) }
 {
     let Some(names) = texts_of(alloc, header)? else {
         return Err(CsvRefused::BadCsv(1, CsvFault::NotUtf8));

@@ -19,13 +19,13 @@ use Rattle.sdb_types.proofs.KeyOrder.{table_exact}
 use Rattle.sdb_record.specs.declared.coordinator.Decided.{Decided}
 use Rattle.sdb_record.specs.Coordinator.{coordinator_table, is_coordinator_table}
 use Rattle.sdb_schema.specs.declared.table.Table.{Table}
-use Rattle.sdb_stores.specs.Shelf.{Attached}
+use Rattle.sdb_stores.specs.Views.{Attached}
 use Rattle.sdb_stores.specs.declared.place.Place.{Place}
 use Rattle.sdb_model.specs.declared.event.TableDump.{TableDump}
-use Rattle.sdb_model.specs.Events.{Shelf}
+use Rattle.sdb_model.specs.Events.{StoreContents}
 use Rattle.sdb_model.specs.Exec.{find_table}
 use Rattle.sdb_model.specs.Images.{decision_at}
-use Rattle.sdb_board.specs.Board.{AreFit, AreFitFor, GoOn, HoldTheSame, KnownStay, shown}
+use Rattle.sdb_board.specs.Board.{AreUsable, AreUsableFor, GoOn, HoldTheSame, KnownAreUnchanged, contents_of_views}
 use Rattle.sdb_board.specs.Opening.{records_in, records_of, table_names, whole}
 use Rattle.sdb_board.proofs.Empty.{records_stay}
 use Rattle.sdb_board.proofs.GoesOn.{fit_for, fit_for_on}
@@ -41,22 +41,22 @@ use Rattle.sdb_dump.proofs.Images.{decision_there, dump_same, dumps_are, first_i
 use Rattle.sdb_dump.proofs.Lists.{contains_at, last_or_before}
 use Rattle.sdb_dump.proofs.OddRecords.{first_behind, first_same, none_of_all, odd_record, odd_row}
 use Rattle.sdb_types.proofs.Basics.{all_each, none_some, or_second, some_is}
-use Rattle.sdb_model.specs.Tables.{is_played}
+use Rattle.sdb_model.specs.Tables.{is_table_of_run}
 
 ---- tables of the run
 
-pub coordinator_played : (catalog : List Table) (table : TableName) → table ≡ coordinator_table → is_played catalog table ≡ true
-coordinator_played catalog table named = ap (is_played catalog) named ∙ or_second (is_some (find_table catalog coordinator_table)) (is_coordinator_table coordinator_table) refl
+pub coordinator_played : (catalog : List Table) (table : TableName) → table ≡ coordinator_table → is_table_of_run catalog table ≡ true
+coordinator_played catalog table named = ap (is_table_of_run catalog) named ∙ or_second (is_some (find_table catalog coordinator_table)) (is_coordinator_table coordinator_table) refl
 
-pub played_at : (catalog : List Table) (i : ℕ) (t : Table) → slice_get catalog i ≡ Some t → is_played catalog t.name ≡ true
-played_at catalog i t here = all_at (λ (u : Table). is_played catalog u.name ≡ true) catalog i t (each_played catalog) here
+pub played_at : (catalog : List Table) (i : ℕ) (t : Table) → slice_get catalog i ≡ Some t → is_table_of_run catalog t.name ≡ true
+played_at catalog i t here = all_at (λ (u : Table). is_table_of_run catalog u.name ≡ true) catalog i t (each_played catalog) here
 
 ---- scans after others
 
-pub dump_behind : (decide : TxId → Option Decided) (old mid : Attached) (t : Table) → GoOn old mid → KnownStay old mid → AreFitFor t.name old → dump_in decide mid t ≡ dump_in decide old t
+pub dump_behind : (decide : TxId → Option Decided) (old mid : Attached) (t : Table) → GoOn old mid → KnownAreUnchanged old mid → AreUsableFor t.name old → dump_in decide mid t ≡ dump_in decide old t
 dump_behind decide old mid t goes stay fit = ap (dump_by decide t) (records_stay old mid t.name goes stay fit)
 
-ill_formed_behind : (decide : TxId → Option Decided) (old mid : Attached) (t : Table) → GoOn old mid → KnownStay old mid → AreFitFor t.name old → first_ill_formed_in decide mid t ≡ first_ill_formed_in decide old t
+ill_formed_behind : (decide : TxId → Option Decided) (old mid : Attached) (t : Table) → GoOn old mid → KnownAreUnchanged old mid → AreUsableFor t.name old → first_ill_formed_in decide mid t ≡ first_ill_formed_in decide old t
 ill_formed_behind decide old mid t goes stay fit = ap (first_unlike (is_well_formed decide t)) (records_stay old mid t.name goes stay fit)
 
 -- what is so of each is so of the first ones
@@ -77,20 +77,20 @@ pub named_size : (ts : List Table) (i : ℕ) (t : Table) (ds : List TableDump) �
 named_size ts i t ds here named =
     sym (length-map ds (λ (x : TableDump). x.name)) ∙ ap length named ∙ length-map (take i ts) (λ (u : Table). u.name) ∙ length-take-le i ts (let low : i < length ts = slice_get_within ts i t here in omega (arith, low))
 
-pub dumps_more : (decide : TxId → Option Decided) (old mid : Attached) (ts : List Table) (i : ℕ) (t : Table) (before after : List TableDump) (d : TableDump) → slice_get ts i ≡ Some t → length before ≡ i → GoOn old mid → KnownStay old mid → AreDumpsUnder decide ts old before
-    → (AreFitFor t.name mid → d ≡ dump_in decide mid t) → after ≡ before ++ d ∷ [] → AreDumpsUnder decide ts old after
+pub dumps_more : (decide : TxId → Option Decided) (old mid : Attached) (ts : List Table) (i : ℕ) (t : Table) (before after : List TableDump) (d : TableDump) → slice_get ts i ≡ Some t → length before ≡ i → GoOn old mid → KnownAreUnchanged old mid → AreDumpsUnder decide ts old before
+    → (AreUsableFor t.name mid → d ≡ dump_in decide mid t) → after ≡ before ++ d ∷ [] → AreDumpsUnder decide ts old after
 dumps_more decide old mid ts i t before after d here size goes stay so is pushed j u dump there found fit =
     elim (last_or_before before d j dump (ap (λ (xs : List TableDump). slice_get xs j) (sym pushed) ∙ found)) [
       | inl k ↦ so j u dump there k fit
       | inr k ↦ (
           let same : t ≡ u = some_is t u (sym here ∙ ap (slice_get ts) (sym (k.0 ∙ size)) ∙ there) in
-          let fit_t : AreFitFor t.name old = subst (λ (x : Table). AreFitFor x.name old) (sym same) fit in
+          let fit_t : AreUsableFor t.name old = subst (λ (x : Table). AreUsableFor x.name old) (sym same) fit in
           sym k.1 ∙ is (fit_for_on old mid t.name goes fit_t) ∙ dump_behind decide old mid t goes stay fit_t ∙ ap (dump_in decide old) same
           )
     ]
 
 -- all dumps, where all stores are known
-pub dumps_all : (decide : TxId → Option Decided) (stores : Attached) (ts : List Table) (ds : List TableDump) → map (λ (x : TableDump). x.name) ds ≡ table_names ts → AreDumpsUnder decide ts stores ds → AllByRecursion (λ (t : Table). AreFitFor t.name stores) ts → ds ≡ dumps_in decide stores ts
+pub dumps_all : (decide : TxId → Option Decided) (stores : Attached) (ts : List Table) (ds : List TableDump) → map (λ (x : TableDump). x.name) ds ≡ table_names ts → AreDumpsUnder decide ts stores ds → AllByRecursion (λ (t : Table). AreUsableFor t.name stores) ts → ds ≡ dumps_in decide stores ts
 dumps_all decide stores [] [] named each fit = refl
 dumps_all decide stores [] (d ∷ ds) named each fit = absurd (cc)
 dumps_all decide stores (t ∷ ts) [] named each fit = absurd (cc)
@@ -103,27 +103,27 @@ dumps_all decide stores (t ∷ ts) (d ∷ ds) named each fit =
     tail_same x y xs ys e = cc
 
 -- the tables of a run are fit for calls where its stores are
-pub each_fit : (catalog : List Table) (stores : Attached) → AreFit catalog stores → AllByRecursion (λ (t : Table). AreFitFor t.name stores) catalog
+pub each_fit : (catalog : List Table) (stores : Attached) → AreUsable catalog stores → AllByRecursion (λ (t : Table). AreUsableFor t.name stores) catalog
 each_fit catalog stores fit =
-    all_each (λ (t : Table). is_played catalog t.name ≡ true) (λ (t : Table). AreFitFor t.name stores) catalog (λ t about. fit_for catalog stores t.name about fit) (each_played catalog)
+    all_each (λ (t : Table). is_table_of_run catalog t.name ≡ true) (λ (t : Table). AreUsableFor t.name stores) catalog (λ t about. fit_for catalog stores t.name about fit) (each_played catalog)
 
-pub coordinator_fit : (catalog : List Table) (stores : Attached) → AreFit catalog stores → AreFitFor coordinator_table stores
+pub coordinator_fit : (catalog : List Table) (stores : Attached) → AreUsable catalog stores → AreUsableFor coordinator_table stores
 coordinator_fit catalog stores fit = fit_for catalog stores coordinator_table (coordinator_played catalog coordinator_table refl) fit
 
 -- a table more whose records are all well formed
-pub well_formed_more : (decide : TxId → Option Decided) (old mid : Attached) (ts : List Table) (i : ℕ) (t : Table) → slice_get ts i ≡ Some t → GoOn old mid → KnownStay old mid → AreWellFormedUnder decide (take i ts) old → (AreFitFor t.name mid → first_ill_formed_in decide mid t ≡ None)
+pub well_formed_more : (decide : TxId → Option Decided) (old mid : Attached) (ts : List Table) (i : ℕ) (t : Table) → slice_get ts i ≡ Some t → GoOn old mid → KnownAreUnchanged old mid → AreWellFormedUnder decide (take i ts) old → (AreUsableFor t.name mid → first_ill_formed_in decide mid t ≡ None)
     → AreWellFormedUnder decide (take (i + 1) ts) old
 well_formed_more decide old mid ts i t here goes stay before last j u there fit =
     elim (last_or_before (take i ts) t j u (ap (λ (xs : List Table). slice_get xs j) (sym (ap (λ (k : ℕ). take k ts) (add-one i) ∙ take_suc ts i t here)) ∙ there)) [
       | inl k ↦ before j u k fit
-      | inr k ↦ subst (λ (x : Table). AreFitFor x.name old → first_ill_formed_in decide old x ≡ None) k.1 (λ f. sym (ill_formed_behind decide old mid t goes stay f) ∙ last (fit_for_on old mid t.name goes f)) fit
+      | inr k ↦ subst (λ (x : Table). AreUsableFor x.name old → first_ill_formed_in decide old x ≡ None) k.1 (λ f. sym (ill_formed_behind decide old mid t goes stay f) ∙ last (fit_for_on old mid t.name goes f)) fit
     ]
 
 -- a table with one that isn't
-pub ill_formed_among : (decide : TxId → Option Decided) (old mid : Attached) (ts : List Table) (i : ℕ) (t : Table) (key : Key) → slice_get ts i ≡ Some t → GoOn old mid → KnownStay old mid → AreWellFormedUnder decide (take i ts) old → IsIllFormed decide t mid key
+pub ill_formed_among : (decide : TxId → Option Decided) (old mid : Attached) (ts : List Table) (i : ℕ) (t : Table) (key : Key) → slice_get ts i ≡ Some t → GoOn old mid → KnownAreUnchanged old mid → AreWellFormedUnder decide (take i ts) old → IsIllFormed decide t mid key
     → IsIllFormedAmong decide ts old key
 ill_formed_among decide old mid ts i t key here goes stay before first =
-    let at : AreFitFor t.name old → first_ill_formed_in decide old t ≡ Some key = λ fit. sym (ill_formed_behind decide old mid t goes stay fit) ∙ first.first (fit_for_on old mid t.name goes fit) in
+    let at : AreUsableFor t.name old → first_ill_formed_in decide old t ≡ Some key = λ fit. sym (ill_formed_behind decide old mid t goes stay fit) ∙ first.first (fit_for_on old mid t.name goes fit) in
     record {
       at = i;
       table = t;
@@ -131,7 +131,7 @@ ill_formed_among decide old mid ts i t key here goes stay before first =
       ill_formed = record { named = first.named; first = at };
       first = λ fit.
           first_behind (first_ill_formed_in decide old) ts i t key here
-          (none_of_all (first_ill_formed_in decide old) (take i ts) (λ j u low. before j u low (fit_for ts old u.name (all_at (λ (x : Table). is_played ts x.name ≡ true) (take i ts) j u (all_front (λ (x : Table). is_played ts x.name ≡ true) i ts (each_played ts)) low) fit)))
+          (none_of_all (first_ill_formed_in decide old) (take i ts) (λ j u low. before j u low (fit_for ts old u.name (all_at (λ (x : Table). is_table_of_run ts x.name ≡ true) (take i ts) j u (all_front (λ (x : Table). is_table_of_run ts x.name ≡ true) i ts (each_played ts)) low) fit)))
           (at (fit_for ts old t.name (played_at ts i t here) fit));
     }
 
@@ -154,35 +154,35 @@ unlike_of table is_so rows key of e = by rows (and_second (rise rows) (list_all 
 
 -- What the scan of the coordinator's table gave.
 pub record AreRows (stores : Attached) (found : List Record) (decide : TxId → Option Decided) (ids : List TxId) : Type 0 where
-  pub rows : AreFitFor coordinator_table stores → found ≡ records_in stores coordinator_table
+  pub rows : AreUsableFor coordinator_table stores → found ≡ records_in stores coordinator_table
   pub rising : rise found ≡ true
   pub decided : rise found ≡ true → (id : TxId) → id.0 < 2 ^ 128 → decide id ≡ decision_among found id
   pub recorded : ids ≡ recorded_among found
 
-decision_where : (stores : Attached) (rows : List Record) (id : TxId) → rows ≡ records_in stores coordinator_table → decision_among rows id ≡ decision_at stores.places (shown stores.shelves) id
-decision_where stores rows id e = ap (λ (xs : List Record). decision_among xs id) e ∙ decision_there stores.places (shown stores.shelves) id
+decision_where : (stores : Attached) (rows : List Record) (id : TxId) → rows ≡ records_in stores coordinator_table → decision_among rows id ≡ decision_at stores.places (contents_of_views stores.views) id
+decision_where stores rows id e = ap (λ (xs : List Record). decision_among xs id) e ∙ decision_there stores.places (contents_of_views stores.views) id
 
 -- they are the decisions of what the stores hold
-pub decisions_are : (stores : Attached) (rows : List Record) (decide : TxId → Option Decided) (recorded : List TxId) → AreRows stores rows decide recorded → AreFitFor coordinator_table stores → AreDecisions stores.places (shown stores.shelves) decide
+pub decisions_are : (stores : Attached) (rows : List Record) (decide : TxId → Option Decided) (recorded : List TxId) → AreRows stores rows decide recorded → AreUsableFor coordinator_table stores → AreDecisions stores.places (contents_of_views stores.views) decide
 decisions_are stores rows decide recorded r fit = record { at = λ id small. r.decided r.rising id small ∙ decision_where stores rows id (r.rows fit) }
 
-pub closing_tables : (catalog : List Table) (old mid : Attached) (rows : List Record) (decide : TxId → Option Decided) (recorded : List TxId) (tables : List TableDump) → AreRows old rows decide recorded → GoOn old mid → (AreFit catalog old → HoldTheSame old mid)
-    → map (λ (d : TableDump). d.name) tables ≡ table_names catalog → AreDumpsUnder decide catalog mid tables → AreFit catalog old → AreDumps catalog old tables
+pub closing_tables : (catalog : List Table) (old mid : Attached) (rows : List Record) (decide : TxId → Option Decided) (recorded : List TxId) (tables : List TableDump) → AreRows old rows decide recorded → GoOn old mid → (AreUsable catalog old → HoldTheSame old mid)
+    → map (λ (d : TableDump). d.name) tables ≡ table_names catalog → AreDumpsUnder decide catalog mid tables → AreUsable catalog old → AreDumps catalog old tables
 closing_tables catalog old mid rows decide recorded tables r goes still named under fit d images =
     dumps_all decide mid catalog tables named under (each_fit catalog mid (goes.fit catalog fit))
-    ∙ ap (λ (ps : List Place). map (λ t. dump_by decide t (records_of ps (shown mid.shelves) t.name)) catalog) goes.places ∙ ap (λ (ss : List Shelf). map (λ t. dump_by decide t (records_of old.places ss t.name)) catalog) (still fit)
-    ∙ dumps_are catalog old.places (shown old.shelves) decide d (decisions_are old rows decide recorded r (coordinator_fit catalog old fit)) images
+    ∙ ap (λ (ps : List Place). map (λ t. dump_by decide t (records_of ps (contents_of_views mid.views) t.name)) catalog) goes.places ∙ ap (λ (ss : List StoreContents). map (λ t. dump_by decide t (records_of old.places ss t.name)) catalog) (still fit)
+    ∙ dumps_are catalog old.places (contents_of_views old.views) decide d (decisions_are old rows decide recorded r (coordinator_fit catalog old fit)) images
 
-pub closing_known : (catalog : List Table) (old mid : Attached) (rows : List Record) (decide : TxId → Option Decided) (recorded : List TxId) (tables : List TableDump) → AreRows old rows decide recorded → GoOn old mid → KnownStay old mid
+pub closing_known : (catalog : List Table) (old mid : Attached) (rows : List Record) (decide : TxId → Option Decided) (recorded : List TxId) (tables : List TableDump) → AreRows old rows decide recorded → GoOn old mid → KnownAreUnchanged old mid
     → map (λ (d : TableDump). d.name) tables ≡ table_names catalog → AreDumpsUnder decide catalog mid tables → AreDumpsWhereKnown catalog old tables
 closing_known catalog old mid rows decide recorded tables r goes stay named under = record {
   named = named;
   each = λ i t dump here there fit coordinator.
       under i t dump here there (fit_for_on old mid t.name goes fit) ∙ dump_behind decide old mid t goes stay fit
-      ∙ sym (dump_same old.places (shown old.shelves) decide t (records_in old t.name) (decisions_are old rows decide recorded r coordinator));
+      ∙ sym (dump_same old.places (contents_of_views old.views) decide t (records_in old t.name) (decisions_are old rows decide recorded r coordinator));
 }
 
-pub closing_recorded : (stores : Attached) (rows : List Record) (decide : TxId → Option Decided) (recorded : List TxId) → AreRows stores rows decide recorded → AreFitFor coordinator_table stores → AreRecorded recorded stores
+pub closing_recorded : (stores : Attached) (rows : List Record) (decide : TxId → Option Decided) (recorded : List TxId) → AreRows stores rows decide recorded → AreUsableFor coordinator_table stores → AreRecorded recorded stores
 closing_recorded stores rows decide recorded r fit id small =
     let decision = decision_where stores rows id (r.rows fit) in (
       λ h. subst (λ (o : Option Decided). IsSomeAnd o IsCommitted) decision (recorded_has rows r.rising id (subst (λ (ids : List TxId). Contains ids id) r.recorded h)),
@@ -193,55 +193,55 @@ pub closing_once : (stores : Attached) (rows : List Record) (decide : TxId → O
 closing_once stores rows decide recorded r = subst (AllPairs (λ (a b : TxId). a ≢ b)) (sym r.recorded) (recorded_once rows r.rising)
 
 -- each record is well formed
-pub closing_well_formed : (catalog : List Table) (old mid : Attached) (rows : List Record) (decide : TxId → Option Decided) (recorded : List TxId) → AreRows old rows decide recorded → GoOn old mid → KnownStay old mid → first_unlike is_decided rows ≡ None → AreWellFormedUnder decide catalog mid
+pub closing_well_formed : (catalog : List Table) (old mid : Attached) (rows : List Record) (decide : TxId → Option Decided) (recorded : List TxId) → AreRows old rows decide recorded → GoOn old mid → KnownAreUnchanged old mid → first_unlike is_decided rows ≡ None → AreWellFormedUnder decide catalog mid
     → AreWellFormedWhereKnown catalog old
 closing_well_formed catalog old mid rows decide recorded r goes stay none under = record {
   rows = λ fit. ap (first_unlike is_decided) (sym (r.rows fit)) ∙ none;
   records = λ coordinator i t here fit.
-      first_ill_formed_same old.places (shown old.shelves) decide t (records_in old t.name) (decisions_are old rows decide recorded r coordinator)
+      first_ill_formed_same old.places (contents_of_views old.views) decide t (records_in old t.name) (decisions_are old rows decide recorded r coordinator)
       ∙ sym (ill_formed_behind decide old mid t goes stay fit) ∙ under i t here (fit_for_on old mid t.name goes fit);
 }
 
 ---- what stopped it
 
 -- the first odd record is a row of the coordinator's table
-pub odd_in_rows : (catalog : List Table) (stores : Attached) (rows : List Record) (key : Key) → rows ≡ records_in stores coordinator_table → first_unlike is_decided rows ≡ Some key → first_odd catalog stores.places (shown stores.shelves) ≡ Some key
+pub odd_in_rows : (catalog : List Table) (stores : Attached) (rows : List Record) (key : Key) → rows ≡ records_in stores coordinator_table → first_unlike is_decided rows ≡ Some key → first_odd catalog stores.places (contents_of_views stores.views) ≡ Some key
 odd_in_rows catalog stores rows key e first =
-    ap (λ (o : Option Key). first_of o (first_in (first_ill_formed_in (decision_at stores.places (shown stores.shelves)) stores) catalog)) (ap (first_unlike is_decided) (sym e) ∙ first)
+    ap (λ (o : Option Key). first_of o (first_in (first_ill_formed_in (decision_at stores.places (contents_of_views stores.views)) stores) catalog)) (ap (first_unlike is_decided) (sym e) ∙ first)
 
-pub row_odd : (catalog : List Table) (stores : Attached) (rows : List Record) (key : Key) → (AreFitFor coordinator_table stores → rows ≡ records_in stores coordinator_table) → are_rows_of (whole coordinator_table) rows ≡ true → first_unlike is_decided rows ≡ Some key → IsOddIn catalog stores key
+pub row_odd : (catalog : List Table) (stores : Attached) (rows : List Record) (key : Key) → (AreUsableFor coordinator_table stores → rows ≡ records_in stores coordinator_table) → are_rows_of (whole coordinator_table) rows ≡ true → first_unlike is_decided rows ≡ Some key → IsOddIn catalog stores key
 row_odd catalog stores rows key found of first =
     let named = unlike_of coordinator_table is_decided rows key of first in
-    let decide = decision_at stores.places (shown stores.shelves) in
+    let decide = decision_at stores.places (contents_of_views stores.views) in
     record {
       played = coordinator_played catalog key.table named;
       decide = decide;
       decisions = λ fit. record { at = λ id small. refl };
-      odd = λ fit. odd_row catalog stores.places (shown stores.shelves) decide key (ap (first_unlike is_decided) (sym (found (subst (λ (n : TableName). AreFitFor n stores) named fit))) ∙ first);
+      odd = λ fit. odd_row catalog stores.places (contents_of_views stores.views) decide key (ap (first_unlike is_decided) (sym (found (subst (λ (n : TableName). AreUsableFor n stores) named fit))) ∙ first);
     }
 
 -- or a record of a table, where these are well formed
-pub odd_in_tables : (catalog : List Table) (old mid : Attached) (rows : List Record) (decide : TxId → Option Decided) (recorded : List TxId) (key : Key) → AreRows old rows decide recorded → first_unlike is_decided rows ≡ None → GoOn old mid → KnownStay old mid → IsIllFormedAmong decide catalog mid key
-    → AreFit catalog old → first_odd catalog old.places (shown old.shelves) ≡ Some key
+pub odd_in_tables : (catalog : List Table) (old mid : Attached) (rows : List Record) (decide : TxId → Option Decided) (recorded : List TxId) (key : Key) → AreRows old rows decide recorded → first_unlike is_decided rows ≡ None → GoOn old mid → KnownAreUnchanged old mid → IsIllFormedAmong decide catalog mid key
+    → AreUsable catalog old → first_odd catalog old.places (contents_of_views old.views) ≡ Some key
 odd_in_tables catalog old mid rows decide recorded key r none goes stay first fit =
-    let held = decision_at old.places (shown old.shelves) in
+    let held = decision_at old.places (contents_of_views old.views) in
     let coordinator = coordinator_fit catalog old fit in
-    let here : (t : Table) → AreFitFor t.name old → first_ill_formed_in decide mid t ≡ first_ill_formed_in held old t = λ t f.
-    ill_formed_behind decide old mid t goes stay f ∙ sym (first_ill_formed_same old.places (shown old.shelves) decide t (records_in old t.name) (decisions_are old rows decide recorded r coordinator)) in
+    let here : (t : Table) → AreUsableFor t.name old → first_ill_formed_in decide mid t ≡ first_ill_formed_in held old t = λ t f.
+    ill_formed_behind decide old mid t goes stay f ∙ sym (first_ill_formed_same old.places (contents_of_views old.views) decide t (records_in old t.name) (decisions_are old rows decide recorded r coordinator)) in
     ap (λ (o : Option Key). first_of o (first_in (first_ill_formed_in held old) catalog)) (ap (first_unlike is_decided) (sym (r.rows coordinator)) ∙ none)
-    ∙ sym (first_same (first_ill_formed_in decide mid) (first_ill_formed_in held old) catalog (all_each (λ (t : Table). AreFitFor t.name old) (λ (t : Table). first_ill_formed_in decide mid t ≡ first_ill_formed_in held old t) catalog here (each_fit catalog old fit)))
+    ∙ sym (first_same (first_ill_formed_in decide mid) (first_ill_formed_in held old) catalog (all_each (λ (t : Table). AreUsableFor t.name old) (λ (t : Table). first_ill_formed_in decide mid t ≡ first_ill_formed_in held old t) catalog here (each_fit catalog old fit)))
     ∙ first.first (goes.fit catalog fit)
 
-pub record_odd : (catalog : List Table) (old mid : Attached) (rows : List Record) (decide : TxId → Option Decided) (recorded : List TxId) (key : Key) → AreRows old rows decide recorded → GoOn old mid → KnownStay old mid → IsIllFormedAmong decide catalog mid key → IsOddIn catalog old key
+pub record_odd : (catalog : List Table) (old mid : Attached) (rows : List Record) (decide : TxId → Option Decided) (recorded : List TxId) (key : Key) → AreRows old rows decide recorded → GoOn old mid → KnownAreUnchanged old mid → IsIllFormedAmong decide catalog mid key → IsOddIn catalog old key
 record_odd catalog old mid rows decide recorded key r goes stay first =
     let t = first.table in
     let named = first.ill_formed.named in
     record {
-      played = ap (is_played catalog) named ∙ played_at catalog first.at t first.there;
+      played = ap (is_table_of_run catalog) named ∙ played_at catalog first.at t first.there;
       decide = decide;
       decisions = decisions_are old rows decide recorded r;
       odd = λ fit.
-          let fit_t : AreFitFor t.name old = subst (λ (n : TableName). AreFitFor n old) named fit in
-          odd_record catalog old.places (shown old.shelves) decide t key (contains_at catalog first.at t first.there)
+          let fit_t : AreUsableFor t.name old = subst (λ (n : TableName). AreUsableFor n old) named fit in
+          odd_record catalog old.places (contents_of_views old.views) decide t key (contains_at catalog first.at t first.there)
           (sym (ill_formed_behind decide old mid t goes stay fit_t) ∙ first.ill_formed.first (fit_for_on old mid t.name goes fit_t));
     }

@@ -19,7 +19,7 @@ use Rattle.sdb_record.specs.declared.coordinator.Decided.{Decided}
 use Rattle.sdb_laws.proofs.Shown.{row_there}
 use Rattle.sdb_schema.specs.declared.table.Table.{Table}
 use Rattle.sdb_stores.specs.declared.place.Place.{Place}
-use Rattle.sdb_model.specs.Events.{Shelf, held_by, standing, store_of}
+use Rattle.sdb_model.specs.Events.{StoreContents, contents_under, standing, store_of}
 use Rattle.sdb_board.specs.Opening.{records_of, whole}
 use Rattle.sdb_dump.specs.Decided.{is_decided}
 use Rattle.sdb_dump.specs.Dumped.{is_well_formed}
@@ -41,14 +41,14 @@ all_in p (x ∷ rs) r all among = elim (first_or_later x r rs among) [
 ]
 
 -- a record of a table, in the order of its scan, is at its key
-pub record Scanned (places : List Place) (shelves : List Shelf) (table : TableName) (r : Record) : Type 0 where
+pub record Scanned (places : List Place) (shelves : List StoreContents) (table : TableName) (r : Record) : Type 0 where
   pub stands : standing places shelves r.key ≡ Some r
   pub table_is : table ≡ r.key.table
 
-scanned : (places : List Place) (shelves : List Shelf) (table : TableName) (r : Record) → Contains (records_of places shelves table) r → Scanned places shelves table r
-scanned places shelves table r among = by (held_by shelves (store_of places shelves table.ns)) refl among
+scanned : (places : List Place) (shelves : List StoreContents) (table : TableName) (r : Record) → Contains (records_of places shelves table) r → Scanned places shelves table r
+scanned places shelves table r among = by (contents_under shelves (store_of places shelves table.ns)) refl among
   where
-    by : (o : Option Contents) → held_by shelves (store_of places shelves table.ns) ≡ o → Contains (option_map_or (rows_in (whole table)) o []) r → Scanned places shelves table r
+    by : (o : Option Contents) → contents_under shelves (store_of places shelves table.ns) ≡ o → Contains (option_map_or (rows_in (whole table)) o []) r → Scanned places shelves table r
     by None e h = absurd (none_in r h)
     by (Some m) e h =
         let lawful = rows_in-are_rows_of (whole table) m in
@@ -56,18 +56,18 @@ scanned places shelves table r among = by (held_by shelves (store_of places shel
         let found : record_at m r.key ≡ Some r = sym (row_there (whole table) r.key m within) ∙ row_found (rows_in (whole table) m) r (and_first (rise (rows_in (whole table) m)) (list_all (λ x. in_span (whole table) x.key) (rows_in (whole table) m)) lawful) h in
         let named : table ≡ r.key.table = table_exact table r.key.table (equal_of (table_cmp table r.key.table) (and_first (is_eq (table_cmp table r.key.table)) true within)) in
         record {
-          stands = ap (λ (t : TableName). option_map_or (λ (x : Contents). record_at x r.key) (held_by shelves (store_of places shelves t.ns)) None) (sym named) ∙ ap (λ (x : Option Contents). option_map_or (λ (y : Contents). record_at y r.key) x None) e ∙ found;
+          stands = ap (λ (t : TableName). option_map_or (λ (x : Contents). record_at x r.key) (contents_under shelves (store_of places shelves t.ns)) None) (sym named) ∙ ap (λ (x : Option Contents). option_map_or (λ (y : Contents). record_at y r.key) x None) e ∙ found;
           table_is = named;
         }
 
 -- the first record that isn't so
-pub record Unlike (places : List Place) (shelves : List Shelf) (table : TableName) (is_so : Record → Bool) (key : Key) : Type 0 where
+pub record Unlike (places : List Place) (shelves : List StoreContents) (table : TableName) (is_so : Record → Bool) (key : Key) : Type 0 where
   pub found : Record
   pub stands : standing places shelves key ≡ Some found
   pub table_is : table ≡ found.key.table
   pub bad : is_so found ≡ false
 
-unlike : (places : List Place) (shelves : List Shelf) (table : TableName) (is_so : Record → Bool) (key : Key) → first_unlike is_so (records_of places shelves table) ≡ Some key → Unlike places shelves table is_so key
+unlike : (places : List Place) (shelves : List StoreContents) (table : TableName) (is_so : Record → Bool) (key : Key) → first_unlike is_so (records_of places shelves table) ≡ Some key → Unlike places shelves table is_so key
 unlike places shelves table is_so key h = by (find (λ r. not (is_so r)) (records_of places shelves table)) refl h
   where
     by : (o : Option Record) → find (λ r. not (is_so r)) (records_of places shelves table) ≡ o → option_map (λ (r : Record). r.key) o ≡ Some key → Unlike places shelves table is_so key
@@ -78,13 +78,13 @@ unlike places shelves table is_so key h = by (find (λ r. not (is_so r)) (record
         record { found = r; stands = ap (standing places shelves) (sym (some_is r.key key k)) ∙ s.stands; table_is = s.table_is; bad = not_so (is_so r) there.1 }
 
 -- of the coordinator's table
-pub odd_row : (catalog : List Table) (places : List Place) (shelves : List Shelf) (decide : TxId → Option Decided) (key : Key) → first_unlike is_decided (records_of places shelves coordinator_table) ≡ Some key → IsOddAt catalog places shelves decide key
+pub odd_row : (catalog : List Table) (places : List Place) (shelves : List StoreContents) (decide : TxId → Option Decided) (key : Key) → first_unlike is_decided (records_of places shelves coordinator_table) ≡ Some key → IsOddAt catalog places shelves decide key
 odd_row catalog places shelves decide key h =
     let u = unlike places shelves coordinator_table is_decided key h in
     record { found = u.found; stands = u.stands; odd = inr (ap is_coordinator_table (sym u.table_is), u.bad) }
 
 -- of a table of the catalog
-pub odd_record : (catalog : List Table) (places : List Place) (shelves : List Shelf) (decide : TxId → Option Decided) (t : Table) (key : Key) → Contains catalog t → first_ill_formed decide places shelves t ≡ Some key → IsOddAt catalog places shelves decide key
+pub odd_record : (catalog : List Table) (places : List Place) (shelves : List StoreContents) (decide : TxId → Option Decided) (t : Table) (key : Key) → Contains catalog t → first_ill_formed decide places shelves t ≡ Some key → IsOddAt catalog places shelves decide key
 odd_record catalog places shelves decide t key listed h =
     let u = unlike places shelves t.name (is_well_formed decide t) key h in
     record { found = u.found; stands = u.stands; odd = inl (record { table = t; listed = listed; named = u.table_is; ill_formed = u.bad }) }

@@ -6,7 +6,7 @@ use Rattle.std.proofs.lemmas.List.{take_more}
 use Rattle.std.proofs.lemmas.Option.{slice_get-get_or}
 use Rattle.sdb_types.specs.declared.key.Key.{Key}
 use Rattle.sdb_types.specs.declared.record.Record.{Record}
-use Rattle.sdb_stores.specs.Shelf.{Attached, Shelf as Counted, HaveRisen}
+use Rattle.sdb_stores.specs.Views.{Attached, StoreView as Counted, HaveRisen}
 use Rattle.sdb_board.specs.Board.{GoOn, Refuses as CallRefuses}
 use Rattle.sdb_board.specs.declared.refused.CallRefused.{CallRefused}
 use Rattle.sdb_board.specs.declared.refused.CallRefused.TheVariants as call
@@ -52,7 +52,7 @@ pub scan_passed : {T : Type 0} (bad : Key → Type 0) (old new : List Counted) (
 scan_passed bad old new r e h k = passed (Refuses bad (HaveRisen old new)) r (of_call e) h (of_scan bad old new e k)
 
 -- a fault after others
-pub risen_after : (old mid : Attached) (new : List Counted) → GoOn old mid → HaveRisen mid.shelves new → HaveRisen old.shelves new
+pub risen_after : (old mid : Attached) (new : List Counted) → GoOn old mid → HaveRisen mid.views new → HaveRisen old.views new
 risen_after old mid new goes h = refused_after old mid new call.StoreFault goes h
 
 ---- the i-th item

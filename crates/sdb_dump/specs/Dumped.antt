@@ -7,12 +7,12 @@ use Rattle.sdb_types.specs.declared.txid.TxId.{TxId}
 use Rattle.sdb_types.specs.declared.record.Record.{Record}
 use Rattle.sdb_record.specs.declared.access.Image.{Image}
 use Rattle.sdb_record.specs.declared.coordinator.Decided.{Decided}
-use Rattle.sdb_record.specs.Meta.{id_in, is_taken}
+use Rattle.sdb_record.specs.Meta.{id_in, is_transactional}
 use Rattle.sdb_record.specs.Rolls.{image_of, row_of_image}
 use Rattle.sdb_schema.specs.declared.table.Table.{Table}
 use Rattle.sdb_schema.specs.Rows.{fits_table}
 use Rattle.sdb_model.specs.declared.event.TableDump.{TableDump}
-use Rattle.sdb_model.specs.Exec.{shown, sorted}
+use Rattle.sdb_model.specs.Exec.{projected, sorted}
 
 -- the row of a record's committed image, under the decision on its writer
 abbrev pub row_by : (TxId → Option Decided) → Record → Option (List Pair)
@@ -23,12 +23,12 @@ image_by decide r = option_map (λ columns. record { key = r.key; columns = colu
 
 -- the rows of a table's records, in its order, all columns in name order
 abbrev pub dump_by : (TxId → Option Decided) → Table → List Record → TableDump
-dump_by decide t records = record { name = t.name; rows = map (shown t None) (sorted t (filter_map (image_by decide) records)) }
+dump_by decide t records = record { name = t.name; rows = map (projected t None) (sorted t (filter_map (image_by decide) records)) }
 
 -- the row of a record's committed image, where it has one, fits the table
-abbrev pub image_fits : (TxId → Option Decided) → Table → Record → Bool
-image_fits decide t r = option_map_or (fits_table t r.key) (row_by decide r) true
+abbrev pub image_is_well_typed : (TxId → Option Decided) → Table → Record → Bool
+image_is_well_typed decide t r = option_map_or (fits_table t r.key) (row_by decide r) true
 
 -- A record of a table is well formed: it passes the checks of its metadata, and its committed image fits the table.
 abbrev pub is_well_formed : (TxId → Option Decided) → Table → Record → Bool
-is_well_formed decide t r = is_taken r && image_fits decide t r
+is_well_formed decide t r = is_transactional r && image_is_well_typed decide t r

@@ -2,7 +2,7 @@
 ghost use Rattle.std.specs.Prelude.{◌≡◌, ◌≢◌, ◌<◌, ◌^◌, AllPairs, Contains, length, map, IfOk, IfErr, OnOk, None};
 ghost use Rattle.sdb_types.specs.declared.txid.TxId.{TxId as Id};
 ghost use Rattle.sdb_record.specs.Coordinator.{coordinator_table as coordinator_table_lem};
-ghost use Rattle.sdb_board.specs.Board.{AreFit, AreFitFor, GoOn, HoldTheSame, KnownStay, known_before};
+ghost use Rattle.sdb_board.specs.Board.{AreUsable, AreUsableFor, GoOn, HoldTheSame, KnownAreUnchanged, known_before};
 ghost use Rattle.sdb_board.specs.Opening.{table_names};
 ghost use Rattle.sdb_dump.specs.Decided.{decided};
 ghost use Rattle.sdb_dump.specs.Held.{AreDumps, AreDumpsUnder, AreDumpsWhereKnown, AreRecorded, AreWellFormedUnder, AreWellFormedWhereKnown, IsFirstOdd, IsIllFormed, IsIllFormedAmong, IsOddIn, dump_in, first_ill_formed_in};
@@ -34,12 +34,12 @@ fn dump<R: Registry>(
     table: &Table,
     decisions: &Decisions,
 ) -> Result<TableDump, ClosingRefused>
-    requires some { 0 < length (R.state stores.old).shelves }
-    ensures dump { IfOk result (λ dump. AreFitFor table.now.name (R.state stores.old) → dump ≡ dump_in (decided decisions.now) (R.state stores.old) table.now) }
+    requires some { 0 < length (R.state stores.old).views }
+    ensures dump { IfOk result (λ dump. AreUsableFor table.now.name (R.state stores.old) → dump ≡ dump_in (decided decisions.now) (R.state stores.old) table.now) }
     ensures named { IfOk result (λ dump. dump.name ≡ table.now.name) }
-    ensures well_formed { OnOk result (AreFitFor table.now.name (R.state stores.old) → first_ill_formed_in (decided decisions.now) (R.state stores.old) table.now ≡ None) }
-    ensures still { AreFitFor table.now.name (R.state stores.old) → HoldTheSame (R.state stores.old) (R.state stores.new) }
-    ensures known { KnownStay (R.state stores.old) (R.state stores.new) }
+    ensures well_formed { OnOk result (AreUsableFor table.now.name (R.state stores.old) → first_ill_formed_in (decided decisions.now) (R.state stores.old) table.now ≡ None) }
+    ensures still { AreUsableFor table.now.name (R.state stores.old) → HoldTheSame (R.state stores.old) (R.state stores.new) }
+    ensures known { KnownAreUnchanged (R.state stores.old) (R.state stores.new) }
     ensures goes { GoOn (R.state stores.old) (R.state stores.new) }
     ensures err { IfErr result (RefusesOn (R.state stores.old) (R.state stores.new) (IsIllFormed (decided decisions.now) table.now (R.state stores.old))) }
 {
@@ -54,12 +54,12 @@ fn dumps<R: Registry>(
     catalog: &Catalog,
     decisions: &Decisions,
 ) -> Result<TableRows, ClosingRefused>
-    requires some { 0 < length (R.state stores.old).shelves }
+    requires some { 0 < length (R.state stores.old).views }
     ensures named { IfOk result (λ tables. map (λ d. d.name) tables ≡ table_names catalog.now) }
     ensures tables { IfOk result (AreDumpsUnder (decided decisions.now) catalog.now (R.state stores.old)) }
     ensures well_formed { OnOk result (AreWellFormedUnder (decided decisions.now) catalog.now (R.state stores.old)) }
-    ensures still { AreFit catalog.now (R.state stores.old) → HoldTheSame (R.state stores.old) (R.state stores.new) }
-    ensures known { KnownStay (R.state stores.old) (R.state stores.new) }
+    ensures still { AreUsable catalog.now (R.state stores.old) → HoldTheSame (R.state stores.old) (R.state stores.new) }
+    ensures known { KnownAreUnchanged (R.state stores.old) (R.state stores.new) }
     ensures goes { GoOn (R.state stores.old) (R.state stores.new) }
     ensures err { IfErr result (RefusesOn (R.state stores.old) (R.state stores.new) (IsIllFormedAmong (decided decisions.now) catalog.now (R.state stores.old))) }
 {
@@ -80,15 +80,15 @@ pub fn closing_dump<R: Registry>(
     stores: &mut R,
     catalog: &Catalog,
 ) -> Result<Closing, ClosingRefused>
-    requires some { 0 < length (R.state stores.old).shelves }
-    ensures tables { IfOk result (λ closing. AreFit catalog.now (R.state stores.old) → AreDumps catalog.now (R.state stores.old) closing.tables) }
+    requires some { 0 < length (R.state stores.old).views }
+    ensures tables { IfOk result (λ closing. AreUsable catalog.now (R.state stores.old) → AreDumps catalog.now (R.state stores.old) closing.tables) }
     ensures dumped { IfOk result (λ closing. AreDumpsWhereKnown catalog.now (known_before (R.state stores.old) (R.state stores.new)) closing.tables) }
     ensures well_formed { OnOk result (AreWellFormedWhereKnown catalog.now (known_before (R.state stores.old) (R.state stores.new))) }
-    ensures recorded { IfOk result (λ closing. AreFitFor coordinator_table_lem (R.state stores.old) → AreRecorded closing.recorded (R.state stores.old)) }
+    ensures recorded { IfOk result (λ closing. AreUsableFor coordinator_table_lem (R.state stores.old) → AreRecorded closing.recorded (R.state stores.old)) }
     ensures small { IfOk result (λ closing. (id : Id) → Contains closing.recorded id → id.0 < 2 ^ 128) }
     ensures once { IfOk result (λ closing. AllPairs (λ a b. a ≢ b) closing.recorded) }
-    ensures still { AreFit catalog.now (R.state stores.old) → HoldTheSame (R.state stores.old) (R.state stores.new) }
-    ensures known { KnownStay (R.state stores.old) (R.state stores.new) }
+    ensures still { AreUsable catalog.now (R.state stores.old) → HoldTheSame (R.state stores.old) (R.state stores.new) }
+    ensures known { KnownAreUnchanged (R.state stores.old) (R.state stores.new) }
     ensures goes { GoOn (R.state stores.old) (R.state stores.new) }
     ensures first { IfErr result (RefusesOn (R.state stores.old) (R.state stores.new) (IsFirstOdd catalog.now (R.state stores.old))) }
     ensures err { IfErr result (RefusesOn (R.state stores.old) (R.state stores.new) (IsOddIn catalog.now (known_before (R.state stores.old) (R.state stores.new)))) }

@@ -67,7 +67,7 @@ fn read(alloc: Global, row: &Record) -> Result<(TxId, Decided), ClosingRefused>
 pub fn decisions_of(alloc: Global, rows: &[Record]) -> Result<Decisions, ClosingRefused>
     ensures decided { IfOk result (λ d. rise rows.now ≡ true → (id : Id) → id.0 < 2 ^ 128 → decided d id ≡ decision_among rows.now id) }
     ensures recorded { IfOk result (λ d. d.recorded ≡ recorded_among rows.now) }
-    ensures fine { OnOk result (first_unlike is_decided rows.now ≡ None) }
+    ensures valid { OnOk result (first_unlike is_decided rows.now ≡ None) }
     ensures err { IfErr result (Refuses (λ key. first_unlike is_decided rows.now ≡ Some key) ⊥) }
 {
     let mut decisions = Decisions {

@@ -1,7 +1,7 @@
 //! What is printed of a table's records.
 ghost use Rattle.std.specs.Prelude.{◌≡◌, ◌++◌, [], true, false, IfOk, IfErr, OnOk, Some, None};
 ghost use Rattle.std.specs.List.{filter_map, cons_option};
-ghost use Rattle.sdb_record.specs.Meta.{is_taken};
+ghost use Rattle.sdb_record.specs.Meta.{is_transactional};
 ghost use Rattle.sdb_model.specs.Exec.{sorted as sorted_lem};
 ghost use Rattle.sdb_dump.specs.Decided.{decided};
 ghost use Rattle.sdb_dump.specs.Dumped.{dump_by, image_by, is_well_formed, row_by};
@@ -11,7 +11,7 @@ use crate::decisions::Decisions;
 use crate::refused::{ClosingRefused, bad};
 use sdb_model::TableDump;
 use sdb_record::{Image, Images, committed_image, meta_of};
-use sdb_rows::{shown_all, shown_names};
+use sdb_rows::{projected_all, projected_names};
 use sdb_schema::Table;
 use sdb_snapshot::row_of;
 use sdb_types::{Columns, Duplicate, NoMemory, Record, Seq};
@@ -24,8 +24,8 @@ fn row_under(
     rec: &Record,
 ) -> Result<Option<Columns>, ClosingRefused>
     ensures row { IfOk result (λ row. row ≡ row_by (decided decisions.now) rec.now) }
-    ensures taken { OnOk result (is_taken rec.now ≡ true) }
-    ensures err { IfErr result (Refuses (λ key. (key ≡ rec.now.key) × (is_taken rec.now ≡ false)) ⊥) }
+    ensures taken { OnOk result (is_transactional rec.now ≡ true) }
+    ensures err { IfErr result (Refuses (λ key. (key ≡ rec.now.key) × (is_transactional rec.now ≡ false)) ⊥) }
 {
     let Some(meta) = meta_of(alloc, rec).ok() else {
         return Err(bad(rec));
@@ -102,9 +102,9 @@ pub fn dump_of(
     ensures err { IfErr result (Refuses (λ key. first_unlike (is_well_formed (decided decisions.now) table.now) records.now ≡ Some key) ⊥) }
 {
     let rows = sorted(table, rows_of(alloc, table, decisions, records)?)?;
-    let names = shown_names(alloc, table, &None)?;
+    let names = projected_names(alloc, table, &None)?;
     Ok(TableDump {
         name: table.name.copy()?,
-        rows: shown_all(alloc, table, names.as_slice(), rows.as_slice())?,
+        rows: projected_all(alloc, table, names.as_slice(), rows.as_slice())?,
     })
 }

@@ -26,44 +26,44 @@ use Rattle.sdb_model.specs.declared.event.Event.TheVariants as event
 use Rattle.sdb_model.specs.declared.event.How.{How}
 use Rattle.sdb_stores.specs.declared.place.Place.{Place}
 use Rattle.sdb_model.specs.declared.statement.Statement.{Statement}
-use Rattle.sdb_model.specs.Events.{IsTrace, Shelf, moment, standing, table_asked}
+use Rattle.sdb_model.specs.Events.{IsTrace, StoreContents, moment, standing, table_asked}
 use Rattle.sdb_model.specs.Exec.{Tables, find_table}
-use Rattle.sdb_model.specs.Explained.{Explained, IsCurrent, IsLastBefore, IsLeftBy, IsOfOrLater, IsPrepareOf, IsPreparedAfter, IsTableKey, IsWriter, ReadsCurrent, StandingExplained, closing_of, AreTaken}
+use Rattle.sdb_model.specs.Explained.{Explained, IsCurrent, IsLastBefore, IsLeftBy, IsOfOrLater, IsPrepareOf, IsPreparedAfter, IsTableKey, IsWriter, ReadsCurrent, ContentsExplained, closing_of, AreTransactional}
 use Rattle.sdb_model.specs.Images.{decision_at, image_at}
-use Rattle.sdb_model.specs.Noted.{Note}
+use Rattle.sdb_model.specs.ReadSet.{ReadItem}
 use Rattle.sdb_model.specs.Rows.{Name}
 use Rattle.sdb_model.specs.Transactions.{Recorded, point}
 use Rattle.sdb_model.proofs.Requests.{call_of, puts_table}
 use Rattle.sdb_laws.proofs.Current.{current_at, stand_at, unchanged_at}
 use Rattle.sdb_laws.proofs.Moments.{committed_at, gone_at, rows_at, stands_at, unresolved_at}
 use Rattle.sdb_turns.specs.System.{SystemAt}
-use Rattle.sdb_linked.specs.Going.{IsGoing}
-use Rattle.sdb_spread.specs.Spread.{AreAbout, HoldAs, IsAbout, moved_event, moved_events, one_shelf}
+use Rattle.sdb_linked.specs.Invariant.{RunInvariant}
+use Rattle.sdb_spread.specs.Spread.{AreAbout, HoldAs, IsAbout, relocated_event, relocated_events, one_store}
 use Rattle.sdb_spread.proofs.Moved.{begun_moved, moved_more, point_moved}
 use Rattle.sdb_endings.proofs.Ended.{starts_empty}
 use Rattle.sdb_endings.proofs.Moments.{Alone, alone}
 use Rattle.sdb_endings.proofs.Noted.{noted_moved}
 use Rattle.sdb_endings.proofs.Runs.{IsLawfulRun, lawful_run}
 use Rattle.sdb_endings.proofs.Standing.{taken_at}
-use Rattle.sdb_model.specs.Tables.{is_played}
+use Rattle.sdb_model.specs.Tables.{is_table_of_run}
 
 ---- a run of the laws
 
-standing_by_run : (catalog : List Table) (places : List Place) (events : List Event) (opening : List Shelf) (moments : List (List Shelf)) → find_table catalog coordinator_table ≡ None → IsLawfulRun places events opening moments → StandingExplained catalog places events opening moments
+standing_by_run : (catalog : List Table) (places : List Place) (events : List Event) (opening : List StoreContents) (moments : List (List StoreContents)) → find_table catalog coordinator_table ≡ None → IsLawfulRun places events opening moments → ContentsExplained catalog places events opening moments
 standing_by_run catalog places events opening moments none b =
-    subst (λ (es : List Event). StandingExplained catalog places es opening moments) (sym b.same) (record {
-      committed_recorded = λ n low. committed_at b.plan places opening b.played moments catalog n b.run none low;
-      unresolved_prepared = λ n low. unresolved_at b.plan places opening b.played moments catalog n b.run none low;
-      prepared_stands = λ n low. stands_at b.plan places opening b.played moments catalog n b.run none low;
-      writes_stand = stand_at b.plan places opening b.played moments catalog b.run none b.faithful;
-      aborted_gone = λ n low. gone_at b.plan places opening b.played moments catalog n b.run none low;
-      rows_final = λ early late order low. rows_at b.plan places opening b.played moments early late b.run order low;
-      unchanged_resolved = unchanged_at b.plan places opening b.played moments catalog b.run none;
+    subst (λ (es : List Event). ContentsExplained catalog places es opening moments) (sym b.same) (record {
+      committed_recorded = λ n low. committed_at b.plan places opening b.labelled moments catalog n b.run none low;
+      unresolved_prepared = λ n low. unresolved_at b.plan places opening b.labelled moments catalog n b.run none low;
+      prepared_stands = λ n low. stands_at b.plan places opening b.labelled moments catalog n b.run none low;
+      writes_stand = stand_at b.plan places opening b.labelled moments catalog b.run none b.faithful;
+      aborted_gone = λ n low. gone_at b.plan places opening b.labelled moments catalog n b.run none low;
+      rows_final = λ early late order low. rows_at b.plan places opening b.labelled moments early late b.run order low;
+      unchanged_resolved = unchanged_at b.plan places opening b.labelled moments catalog b.run none;
     })
 
 -- what each recorded transaction noted is current
-reads_by_run : (catalog : List Table) (places : List Place) (events : List Event) (opening : List Shelf) (moments : List (List Shelf)) → find_table catalog coordinator_table ≡ None → IsLawfulRun places events opening moments → ReadsCurrent catalog places events opening moments
-reads_by_run catalog places events opening moments none b = subst (λ (es : List Event). ReadsCurrent catalog places es opening moments) (sym b.same) (current_at b.plan places opening b.played moments catalog b.run none b.faithful b.noted)
+reads_by_run : (catalog : List Table) (places : List Place) (events : List Event) (opening : List StoreContents) (moments : List (List StoreContents)) → find_table catalog coordinator_table ≡ None → IsLawfulRun places events opening moments → ReadsCurrent catalog places events opening moments
+reads_by_run catalog places events opening moments none b = subst (λ (es : List Event). ReadsCurrent catalog places es opening moments) (sym b.same) (current_at b.plan places opening b.labelled moments catalog b.run none b.faithful b.as_read)
 
 ---- calls among events
 
@@ -100,42 +100,42 @@ call_same : (c client : ℕ) (s u store : Name) (p q : Request) (g how : How) (b
     → ◌≡◌ {A = List Event} (event.Call c s p g b a ∷ es) (event.Call client s q how r answer ∷ es)
 call_same c client s u store p q g how b r a answer es fs back h = cc
 
-moved_from : (at : Name → Name) (events front back : List Event) (client : ℕ) (store : Name) (q : Request) (how : How) (r : Reply) (answer : Option Answer) → moved_events at events ≡ front ++ event.Call client store q how r answer ∷ back → IsMoved events front client q how r answer
+moved_from : (at : Name → Name) (events front back : List Event) (client : ℕ) (store : Name) (q : Request) (how : How) (r : Reply) (answer : Option Answer) → relocated_events at events ≡ front ++ event.Call client store q how r answer ∷ back → IsMoved events front client q how r answer
 moved_from at [] [] back client store q how r answer h = absurd (none_some _ _ h)
 moved_from at [] (f ∷ fs) back client store q how r answer h = absurd (none_some _ _ h)
-moved_from at (event.Take c text a ∷ es) [] back client store q how r answer h = absurd (no_call (event.Take c text a) (moved_events at es) back client store q how r answer refl h)
+moved_from at (event.Take c text a ∷ es) [] back client store q how r answer h = absurd (no_call (event.Take c text a) (relocated_events at es) back client store q how r answer refl h)
 moved_from at (event.Call c s p g b a ∷ es) [] back client store q how r answer h =
-    record { early = []; store = s; back = es; same = call_same c client s (at (table_asked p).ns) store p q g how b r a answer es (moved_events at es) back h; long = refl }
-moved_from at (event.Stop c ∷ es) [] back client store q how r answer h = absurd (no_call (event.Stop c) (moved_events at es) back client store q how r answer refl h)
-moved_from at (event.Clock m ∷ es) [] back client store q how r answer h = absurd (no_call (event.Clock m) (moved_events at es) back client store q how r answer refl h)
-moved_from at (event.Idle c ∷ es) [] back client store q how r answer h = absurd (no_call (event.Idle c) (moved_events at es) back client store q how r answer refl h)
+    record { early = []; store = s; back = es; same = call_same c client s (at (table_asked p).ns) store p q g how b r a answer es (relocated_events at es) back h; long = refl }
+moved_from at (event.Stop c ∷ es) [] back client store q how r answer h = absurd (no_call (event.Stop c) (relocated_events at es) back client store q how r answer refl h)
+moved_from at (event.Clock m ∷ es) [] back client store q how r answer h = absurd (no_call (event.Clock m) (relocated_events at es) back client store q how r answer refl h)
+moved_from at (event.Idle c ∷ es) [] back client store q how r answer h = absurd (no_call (event.Idle c) (relocated_events at es) back client store q how r answer refl h)
 moved_from at (e ∷ es) (f ∷ fs) back client store q how r answer h =
-    let rest = moved_from at es fs back client store q how r answer (others (moved_event at e) f (moved_events at es) (fs ++ event.Call client store q how r answer ∷ back) h) in
+    let rest = moved_from at es fs back client store q how r answer (others (relocated_event at e) f (relocated_events at es) (fs ++ event.Call client store q how r answer ∷ back) h) in
     record { early = e ∷ rest.early; store = rest.store; back = rest.back; same = ap (λ (xs : List Event). e ∷ xs) rest.same; long = ap suc rest.long }
 
 ---- keys of the tables
 
-row_played : (catalog : List Table) (id : TxId) → is_played catalog (coordinator_key_of id).table ≡ true
+row_played : (catalog : List Table) (id : TxId) → is_table_of_run catalog (coordinator_key_of id).table ≡ true
 unfolding coordinator_key_of
 row_played catalog id = or_true (is_some (find_table catalog (coordinator_key_of id).table))
 
-table_played : (catalog : List Table) (key : Key) → IsTableKey catalog key → is_played catalog key.table ≡ true
+table_played : (catalog : List Table) (key : Key) → IsTableKey catalog key → is_table_of_run catalog key.table ≡ true
 table_played catalog key table = or_first (is_some (find_table catalog key.table)) (is_coordinator_table key.table) table
 
 ---- from the one store to several
 
-module _ (catalog : List Table) (name : Name) (places : List Place) (events : List Event) (opening : List Shelf) (moments : List (List Shelf)) (m : Contents) (about : AreAbout catalog events) (a : Alone catalog name places events opening moments m) where
+module _ (catalog : List Table) (name : Name) (places : List Place) (events : List Event) (opening : List StoreContents) (moments : List (List StoreContents)) (m : Contents) (about : AreAbout catalog events) (a : Alone catalog name places events opening moments m) where
   abbrev moved : List Event → List Event
-  moved = moved_events (λ ns. name)
+  moved = relocated_events (λ ns. name)
 
-  abbrev many : ℕ → List Shelf
+  abbrev many : ℕ → List StoreContents
   many = moment opening moments
 
-  abbrev one : ℕ → List Shelf
-  one = moment (one_shelf name m) a.singles
+  abbrev one : ℕ → List StoreContents
+  one = moment (one_store name m) a.singles
 
   long : (es : List Event) → length (moved es) ≡ length es
-  long es = length-map es (moved_event (λ ns. name))
+  long es = length-map es (relocated_event (λ ns. name))
 
   within : (n : ℕ) → n ≤ length moments → n ≤ length a.singles
   within n low = subst (λ (k : ℕ). n ≤ k) (sym a.long) low
@@ -170,36 +170,36 @@ module _ (catalog : List Table) (name : Name) (places : List Place) (events : Li
   call_on front client store q how r answer back same = ap moved same ∙ moved_more (λ ns. name) front (event.Call client store q how r answer ∷ back)
 
   -- a prepare is about the table of the record that it puts
-  prepare_played : (front : List Event) (id : TxId) (r : Record) (e : Event) (back : List Event) → events ≡ front ++ e ∷ back → IsPrepareOf id r e → is_played catalog r.key.table ≡ true
+  prepare_played : (front : List Event) (id : TxId) (r : Record) (e : Event) (back : List Event) → events ≡ front ++ e ∷ back → IsPrepareOf id r e → is_table_of_run catalog r.key.table ≡ true
   prepare_played front id r e back same p =
       let c = call_of e p.contact p.asks in
-      ap (is_played catalog) (sym (puts_table p.contact.request r p.puts))
+      ap (is_table_of_run catalog) (sym (puts_table p.contact.request r p.puts))
       ∙ put_played front (event.Call c.0 p.contact.store p.contact.request p.contact.how p.contact.reply c.1) back (same ∙ ap (λ (x : Event). front ++ x ∷ back) c.2)
 
   put_in : (store : Name) (client : ℕ) (answer : Option Answer) (id : TxId) (r : Record) (e : Event) (p : IsPrepareOf id r e) → IsPrepareOf id r (event.Call client store p.contact.request p.contact.how p.contact.reply answer)
   put_in store client answer id r e p = record { contact = record p.contact { store = store }; asks = refl; puts = p.puts; prepare = p.prepare }
 
   -- a prepare on several stores, and on the one
-  prepared_on : (id : TxId) (r : Record) (front : List Event) → IsPreparedAfter places events opening moments id r front → IsPreparedAfter [] (moved events) (one_shelf name m) a.singles id r (moved front)
+  prepared_on : (id : TxId) (r : Record) (front : List Event) → IsPreparedAfter places events opening moments id r front → IsPreparedAfter [] (moved events) (one_store name m) a.singles id r (moved front)
   prepared_on id r front p =
       let c = call_of p.event p.put.contact p.put.asks in
-      let played = prepare_played front id r p.event p.back p.at p.put in
+      let labelled = prepare_played front id r p.event p.back p.at p.put in
       record {
         event = event.Call c.0 name p.put.contact.request p.put.contact.how p.put.contact.reply c.1;
         back = moved p.back;
         at = call_on front c.0 p.put.contact.store p.put.contact.request p.put.contact.how p.put.contact.reply c.1 p.back (p.at ∙ ap (λ (x : Event). front ++ x ∷ p.back) c.2);
         put = put_in name c.0 c.1 id r p.event p.put;
-        before = ap (λ (n : ℕ). standing [] (one n) r.key) (long front) ∙ sym (a.stands (length front) r.key played) ∙ p.before;
-        after = ap (λ (n : ℕ). standing [] (one (suc n)) r.key) (long front) ∙ sym (a.stands (suc (length front)) r.key played) ∙ p.after;
+        before = ap (λ (n : ℕ). standing [] (one n) r.key) (long front) ∙ sym (a.stands (length front) r.key labelled) ∙ p.before;
+        after = ap (λ (n : ℕ). standing [] (one (suc n)) r.key) (long front) ∙ sym (a.stands (suc (length front)) r.key labelled) ∙ p.after;
       }
 
-  prepared_back : (id : TxId) (r : Record) (front : List Event) → IsPreparedAfter [] (moved events) (one_shelf name m) a.singles id r front → (early : List Event) × (length early ≡ length front) × IsPreparedAfter places events opening moments id r early
+  prepared_back : (id : TxId) (r : Record) (front : List Event) → IsPreparedAfter [] (moved events) (one_store name m) a.singles id r front → (early : List Event) × (length early ≡ length front) × IsPreparedAfter places events opening moments id r early
   prepared_back id r front p =
       let q = p.put.contact in
       let c = call_of p.event q p.put.asks in
       let b = moved_from (λ ns. name) events front p.back c.0 q.store q.request q.how q.reply c.1 (p.at ∙ ap (λ (x : Event). front ++ x ∷ p.back) c.2) in
       let put = put_in b.store c.0 c.1 id r p.event p.put in
-      let played = prepare_played b.early id r (event.Call c.0 b.store q.request q.how q.reply c.1) b.back b.same put in (
+      let labelled = prepare_played b.early id r (event.Call c.0 b.store q.request q.how q.reply c.1) b.back b.same put in (
         b.early,
         b.long,
         record {
@@ -207,13 +207,13 @@ module _ (catalog : List Table) (name : Name) (places : List Place) (events : Li
           back = b.back;
           at = b.same;
           put = put;
-          before = a.stands (length b.early) r.key played ∙ ap (λ (n : ℕ). standing [] (one n) r.key) b.long ∙ p.before;
-          after = a.stands (suc (length b.early)) r.key played ∙ ap (λ (n : ℕ). standing [] (one (suc n)) r.key) b.long ∙ p.after;
+          before = a.stands (length b.early) r.key labelled ∙ ap (λ (n : ℕ). standing [] (one n) r.key) b.long ∙ p.before;
+          after = a.stands (suc (length b.early)) r.key labelled ∙ ap (λ (n : ℕ). standing [] (one (suc n)) r.key) b.long ∙ p.after;
         },
       )
 
   -- a writer
-  writer_on : (key : Key) (id : TxId) → IsWriter places events opening moments key id → IsWriter [] (moved events) (one_shelf name m) a.singles key id
+  writer_on : (key : Key) (id : TxId) → IsWriter places events opening moments key id → IsWriter [] (moved events) (one_store name m) a.singles key id
   writer_on key id w = record {
     fits = w.fits;
     recorded = subst (λ (n : ℕ). Recorded [] (one n) id) (sym (long events)) (recorded_on (length events) id w.recorded);
@@ -223,7 +223,7 @@ module _ (catalog : List Table) (name : Name) (places : List Place) (events : Li
     prepared = prepared_on id w.r w.front w.prepared;
   }
 
-  abbrev writer_back : (key : Key) (id : TxId) → IsWriter [] (moved events) (one_shelf name m) a.singles key id → IsWriter places events opening moments key id
+  abbrev writer_back : (key : Key) (id : TxId) → IsWriter [] (moved events) (one_store name m) a.singles key id → IsWriter places events opening moments key id
   writer_back key id w = record {
     fits = w.fits;
     recorded = recorded_back (length events) id (subst (λ (n : ℕ). Recorded [] (one n) id) (long events) w.recorded);
@@ -233,7 +233,7 @@ module _ (catalog : List Table) (name : Name) (places : List Place) (events : Li
     prepared = (prepared_back id w.r w.front w.prepared).2;
   }
 
-  left_back : (key : Key) (id : TxId) → IsTableKey catalog key → IsOfOrLater [] (moved events) (one_shelf name m) a.singles key id (image_at [] (closing_of (moved events) (one_shelf name m) a.singles) key) → IsOfOrLater places events opening moments key id (image_at places (closing_of events opening moments) key)
+  left_back : (key : Key) (id : TxId) → IsTableKey catalog key → IsOfOrLater [] (moved events) (one_store name m) a.singles key id (image_at [] (closing_of (moved events) (one_store name m) a.singles) key) → IsOfOrLater places events opening moments key id (image_at places (closing_of events opening moments) key)
   left_back key id table l = record {
     u = l.u;
     writer = writer_back key l.u l.writer;
@@ -244,7 +244,7 @@ module _ (catalog : List Table) (name : Name) (places : List Place) (events : Li
     left = subst (λ (o : Option Record). IsLeftBy l.u l.writer.r o) (ap (λ (n : ℕ). image_at [] (one n) key) (long events) ∙ sym (image (length events) key table)) l.left;
   }
 
-  standing_back : StandingExplained catalog [] (moved events) (one_shelf name m) a.singles → StandingExplained catalog places events opening moments
+  standing_back : ContentsExplained catalog [] (moved events) (one_store name m) a.singles → ContentsExplained catalog places events opening moments
   standing_back s = record {
     committed_recorded = λ n low key r table at committed.
         let c = s.committed_recorded n (within n low) key r table (sym (at_key n key table) ∙ at) committed in
@@ -275,14 +275,14 @@ module _ (catalog : List Table) (name : Name) (places : List Place) (events : Li
   earlier_back : (id u : TxId) → point (moved events) u < point (moved events) id → point events u < point events id
   earlier_back id u less = subst (λ (n : ℕ). n < point events id) (point_moved (λ ns. name) events u) (subst (λ (n : ℕ). point (moved events) u < n) (point_moved (λ ns. name) events id) less)
 
-  abbrev last_back : (key : Key) (id u : TxId) → IsLastBefore [] (moved events) (one_shelf name m) a.singles key id u → IsLastBefore places events opening moments key id u
+  abbrev last_back : (key : Key) (id u : TxId) → IsLastBefore [] (moved events) (one_store name m) a.singles key id u → IsLastBefore places events opening moments key id u
   last_back key id u l = record {
     writer = writer_back key u l.writer;
     before = earlier_back id u l.before;
     last = λ v w less. elim (l.last v (writer_on key v w) (earlier_on id v less)) [ inl same ↦ inl same | inr later ↦ inr (earlier_back u v later) ];
   }
 
-  current_back : (key : Key) (id : TxId) (version : Option TxId) → IsCurrent [] (moved events) (one_shelf name m) a.singles key id version → IsCurrent places events opening moments key id version
+  current_back : (key : Key) (id : TxId) (version : Option TxId) → IsCurrent [] (moved events) (one_store name m) a.singles key id version → IsCurrent places events opening moments key id version
   current_back key id (Some u) l = last_back key id u l
   current_back key id None (inl none) = inl (λ v w less. none v (writer_on key v w) (earlier_on id v less))
   current_back key id None (inr d) = inr (record {
@@ -292,39 +292,39 @@ module _ (catalog : List Table) (name : Name) (places : List Place) (events : Li
     recorded = λ n b. recorded_back n d.u (d.recorded n (begun_moved (λ ns. name) events id ∙ b));
   })
 
-  reads_back : ReadsCurrent catalog [] (moved events) (one_shelf name m) a.singles → ReadsCurrent catalog places events opening moments
-  reads_back r id note key version fits recorded among says table =
-      current_back key id version (r id note key version fits (subst (λ (n : ℕ). Recorded [] (one n) id) (sym (long events)) (recorded_on (length events) id recorded))
-      (subst (λ (ns : List Note). Contains ns note) (sym (noted_moved (λ ns. name) events id)) among) says table)
+  reads_back : ReadsCurrent catalog [] (moved events) (one_store name m) a.singles → ReadsCurrent catalog places events opening moments
+  reads_back r id item key version fits recorded among says table =
+      current_back key id version (r id item key version fits (subst (λ (n : ℕ). Recorded [] (one n) id) (sym (long events)) (recorded_on (length events) id recorded))
+      (subst (λ (ns : List ReadItem). Contains ns item) (sym (noted_moved (λ ns. name) events id)) among) says table)
 
-  taken_back : AreTaken catalog [] (one_shelf name m) a.singles → AreTaken catalog places opening moments
+  taken_back : AreTransactional catalog [] (one_store name m) a.singles → AreTransactional catalog places opening moments
   taken_back all n key r low table at = all n key r (within n low) table (sym (at_key n key table) ∙ at)
 
 ---- the whole
 
 -- the one store's moments, and the run that events make of them
-abbrev Beside : List Table → List Place → Name → List Event → List Shelf → List (List Shelf) → Type 0
-Beside catalog places name events opening moments = (a : Alone catalog name places events opening moments empty) × IsLawfulRun [] (moved_events (λ ns. name) events) (one_shelf name empty) a.singles
+abbrev Beside : List Table → List Place → Name → List Event → List StoreContents → List (List StoreContents) → Type 0
+Beside catalog places name events opening moments = (a : Alone catalog name places events opening moments empty) × IsLawfulRun [] (relocated_events (λ ns. name) events) (one_store name empty) a.singles
 
-beside : (catalog : List Table) (places : List Place) (name : Name) (fit : Tables → Bool) (events : List Event) (sys : SystemAt) (doing : ℕ → Option Statement) (opening closing : List Shelf) (moments : List (List Shelf))
-    → IsGoing catalog fit (moved_events (λ ns. name) events) sys doing → IsTrace places events opening moments closing → AreAbout catalog events → HoldAs catalog places opening empty → Beside catalog places name events opening moments
+beside : (catalog : List Table) (places : List Place) (name : Name) (fit : Tables → Bool) (events : List Event) (sys : SystemAt) (doing : ℕ → Option Statement) (opening closing : List StoreContents) (moments : List (List StoreContents))
+    → RunInvariant catalog fit (relocated_events (λ ns. name) events) sys doing → IsTrace places events opening moments closing → AreAbout catalog events → HoldAs catalog places opening empty → Beside catalog places name events opening moments
 beside catalog places name fit events sys doing opening closing moments g t about h =
     let a = alone catalog name places events opening moments closing empty t about h in
-    (a, lawful_run catalog fit (moved_events (λ ns. name) events) sys doing [] (one_shelf name empty) a.last a.singles g a.traced (starts_empty name))
+    (a, lawful_run catalog fit (relocated_events (λ ns. name) events) sys doing [] (one_store name empty) a.last a.singles g a.traced (starts_empty name))
 
-pub going_is_explained : (catalog : List Table) (places : List Place) (name : Name) (fit : Tables → Bool) (events : List Event) (sys : SystemAt) (doing : ℕ → Option Statement) (opening closing : List Shelf) (moments : List (List Shelf))
-    → IsGoing catalog fit (moved_events (λ ns. name) events) sys doing → find_table catalog coordinator_table ≡ None → IsTrace places events opening moments closing → AreAbout catalog events → HoldAs catalog places opening empty
+pub going_is_explained : (catalog : List Table) (places : List Place) (name : Name) (fit : Tables → Bool) (events : List Event) (sys : SystemAt) (doing : ℕ → Option Statement) (opening closing : List StoreContents) (moments : List (List StoreContents))
+    → RunInvariant catalog fit (relocated_events (λ ns. name) events) sys doing → find_table catalog coordinator_table ≡ None → IsTrace places events opening moments closing → AreAbout catalog events → HoldAs catalog places opening empty
     → Explained catalog places events opening moments
 going_is_explained catalog places name fit events sys doing opening closing moments g none t about h =
     let b = beside catalog places name fit events sys doing opening closing moments g t about h in
     record {
-      standing = standing_back catalog name places events opening moments empty about b.0 (standing_by_run catalog [] (moved_events (λ ns. name) events) (one_shelf name empty) b.0.singles none b.1);
-      reads_current = reads_back catalog name places events opening moments empty about b.0 (reads_by_run catalog [] (moved_events (λ ns. name) events) (one_shelf name empty) b.0.singles none b.1);
+      standing = standing_back catalog name places events opening moments empty about b.0 (standing_by_run catalog [] (relocated_events (λ ns. name) events) (one_store name empty) b.0.singles none b.1);
+      reads_current = reads_back catalog name places events opening moments empty about b.0 (reads_by_run catalog [] (relocated_events (λ ns. name) events) (one_store name empty) b.0.singles none b.1);
     }
 
-pub going_is_taken : (catalog : List Table) (places : List Place) (name : Name) (fit : Tables → Bool) (events : List Event) (sys : SystemAt) (doing : ℕ → Option Statement) (opening closing : List Shelf) (moments : List (List Shelf))
-    → IsGoing catalog fit (moved_events (λ ns. name) events) sys doing → find_table catalog coordinator_table ≡ None → IsTrace places events opening moments closing → AreAbout catalog events → HoldAs catalog places opening empty
-    → AreTaken catalog places opening moments
+pub going_is_taken : (catalog : List Table) (places : List Place) (name : Name) (fit : Tables → Bool) (events : List Event) (sys : SystemAt) (doing : ℕ → Option Statement) (opening closing : List StoreContents) (moments : List (List StoreContents))
+    → RunInvariant catalog fit (relocated_events (λ ns. name) events) sys doing → find_table catalog coordinator_table ≡ None → IsTrace places events opening moments closing → AreAbout catalog events → HoldAs catalog places opening empty
+    → AreTransactional catalog places opening moments
 going_is_taken catalog places name fit events sys doing opening closing moments g none t about h =
     let b = beside catalog places name fit events sys doing opening closing moments g t about h in
-    taken_back catalog name places events opening moments empty about b.0 (taken_at b.1.plan [] (one_shelf name empty) b.1.played b.0.singles catalog b.1.run none)
+    taken_back catalog name places events opening moments empty about b.0 (taken_at b.1.plan [] (one_store name empty) b.1.labelled b.0.singles catalog b.1.run none)

@@ -27,7 +27,7 @@ use Rattle.sdb_schema.specs.declared.table.Table.{Table}
 use Rattle.sdb_record.specs.declared.access.Image.{Image}
 use Rattle.sdb_record.specs.declared.coordinator.Decided.{Decided}
 use Rattle.sdb_record.specs.Coordinator.{coordinator_key_of, coordinator_table, decision_in, is_coordinator_table}
-use Rattle.sdb_record.specs.Meta.{id_in, id_in_value, is_in, is_taken}
+use Rattle.sdb_record.specs.Meta.{id_in, id_in_value, is_in, is_transactional}
 use Rattle.sdb_record.specs.Rolls.{image_of, image_under, row_of_image}
 use Rattle.sdb_record.proofs.IdLemmas.{id_in_value-fits}
 use Rattle.sdb_record.proofs.ImageLaws.{image-open, image-settled}
@@ -36,20 +36,20 @@ use Rattle.sdb_model.specs.declared.answer.Answer.TheVariants as answer
 use Rattle.sdb_model.specs.declared.event.Event.{Event}
 use Rattle.sdb_model.specs.declared.event.Event.TheVariants as event
 use Rattle.sdb_stores.specs.declared.place.Place.{Place}
-use Rattle.sdb_model.specs.Calls.{Made, calls_of, decision_shown, end_of, is_read, records_read}
+use Rattle.sdb_model.specs.Calls.{StoreCall, calls_of, decision_observed, end_of, is_read, records_read}
 use Rattle.sdb_model.specs.Counted.{AreResolved, IsPassedOver, IsResolved}
-use Rattle.sdb_model.specs.Events.{Effect, IsTrace, Shelf, held_by, moment, standing, store_of, table_asked}
+use Rattle.sdb_model.specs.Events.{Effect, IsTrace, StoreContents, contents_under, moment, standing, store_of, table_asked}
 use Rattle.sdb_model.specs.Exec.{find_table}
-use Rattle.sdb_model.specs.Explained.{IsPreparedAfter, IsTableKey, Shows, StandingExplained, AreTaken}
+use Rattle.sdb_model.specs.Explained.{IsPreparedAfter, IsTableKey, Observes, ContentsExplained, AreTransactional}
 use Rattle.sdb_model.specs.Images.{decision_at, decision_on}
-use Rattle.sdb_model.specs.Noted.{meaning_of, reads_rows}
-use Rattle.sdb_model.specs.Shown.{AnswersShow, AreShown, CommittedBy, HasRow, IsMeantBy, ReadsKey, ShowsOwn, WasCommitted, WasFound}
-use Rattle.sdb_model.specs.Transactions.{Said, client_of}
+use Rattle.sdb_model.specs.ReadSet.{meaning_of, reads_rows}
+use Rattle.sdb_model.specs.DirtyReads.{AnswersHaveRows, NoDirtyReads, CommittedBy, HasRow, IsMeantBy, ReadsKey, AnswersAreOf, WasCommitted, WasFound}
+use Rattle.sdb_model.specs.Transactions.{Executed, client_of}
 use Rattle.sdb_laws.proofs.Effects.{AtCall, after_put, at_call}
 use Rattle.sdb_laws.proofs.Moments.{apart_from}
 use Rattle.sdb_laws.proofs.Shown.{get_reply, scan_reply}
 use Rattle.sdb_story.proofs.Meanings.{among_found, meaning_settled}
-use Rattle.sdb_endings.specs.Shown.{FoundDecided, IsDecidedIn, IsReader, ReadBy}
+use Rattle.sdb_endings.specs.DirtyReads.{FoundDecided, IsDecidedIn, IsReader, ReadBy}
 use Rattle.sdb_endings.proofs.Agreeing.{Stands, decisions_agree, same_row, shown_stands}
 use Rattle.sdb_endings.proofs.Calls.{IsAt, IsWithin, call_at, effect_at, later_call, the_first, within_statement}
 use Rattle.sdb_endings.proofs.Others.{PutsAt, stood_or_put}
@@ -57,7 +57,7 @@ use Rattle.sdb_endings.proofs.Others.{PutsAt, stood_or_put}
 ---- one event
 
 -- A put at one key leaves what is at another.
-put_leaves : (places : List Place) (e : Event) (before now : List Shelf) (k j : Key) → Effect places e before now → PutsAt e k → k ≢ j → standing places now j ≡ standing places before j
+put_leaves : (places : List Place) (e : Event) (before now : List StoreContents) (k j : Key) → Effect places e before now → PutsAt e k → k ≢ j → standing places now j ≡ standing places before j
 put_leaves places (event.Call client store (ask.PutIf rec c) how r answer) before now k j effect put apart = stays (at_call places store (ask.PutIf rec c) how r before now effect)
   where
     other : same_key j rec.key ≡ false
@@ -82,8 +82,8 @@ put_leaves places (event.Call client store (ask.PutIf rec c) how r answer) befor
 put_leaves places e before now k j effect put apart = absurd put
 
 -- what is at a key has that key
-standing_key : (places : List Place) (now : List Shelf) (key : Key) (r : Record) → standing places now key ≡ Some r → r.key ≡ key
-standing_key places now key r h = by (held_by now (store_of places now key.table.ns)) h
+standing_key : (places : List Place) (now : List StoreContents) (key : Key) (r : Record) → standing places now key ≡ Some r → r.key ≡ key
+standing_key places now key r h = by (contents_under now (store_of places now key.table.ns)) h
   where
     own : (o : Option Record) → IfSome o (λ x. x.key ≡ key) → o ≡ Some r → r.key ≡ key
     own None is e = none_some r e
@@ -100,10 +100,10 @@ record IsRead (q : Request) (r : Reply) (key : Key) (found : Option Record) : Ty
   reads : ReadsKey key q
   is : is_read q ≡ true
   table : table_asked q ≡ key.table
-  stood : (places : List Place) (before now : List Shelf) → AtCall places q r before now → standing places before key ≡ found
+  stood : (places : List Place) (before now : List StoreContents) → AtCall places q r before now → standing places before key ≡ found
   shown : (x : Record) → found ≡ Some x → Contains (records_read r) x
 
-read_of : (q : Request) (r : Reply) (key : Key) (found : Option Record) → Shows q r key found → IsRead q r key found
+read_of : (q : Request) (r : Reply) (key : Key) (found : Option Record) → Observes q r key found → IsRead q r key found
 read_of (ask.Get k) (reply.Found x) key found (same, is) = record {
   reads = same;
   is = refl;
@@ -162,21 +162,21 @@ comes at low (suc high) row l none some = by (cases_lt high low) (at high) refl 
 
 ---- what a statement found
 
-module _ (catalog : List Table) (places : List Place) (events : List Event) (opening closing : List Shelf) (moments : List (List Shelf)) (client : ℕ) (s : Said) (key : Key) (trace : IsTrace places events opening moments closing) (table : IsTableKey catalog key) where
-  abbrev now : ℕ → List Shelf
+module _ (catalog : List Table) (places : List Place) (events : List Event) (opening closing : List StoreContents) (moments : List (List StoreContents)) (client : ℕ) (s : Executed) (key : Key) (trace : IsTrace places events opening moments closing) (table : IsTableKey catalog key) where
+  abbrev now : ℕ → List StoreContents
   now = moment opening moments
 
-  abbrev calls : List Made
+  abbrev calls : List StoreCall
   calls = calls_of events client s
 
   -- a call of the statement: where it is among the events
-  within : (m : Made) → Contains calls m → IsWithin events client s m
+  within : (m : StoreCall) → Contains calls m → IsWithin events client s m
   within m has = within_statement events client s m has
 
-  at_of : (m : Made) → Contains calls m → IsAt places opening moments 1 m
+  at_of : (m : StoreCall) → Contains calls m → IsAt places opening moments 1 m
   at_of m has = call_at places events opening closing moments client m trace (within m has).among
 
-  module _ (x : StandingExplained catalog places events opening moments) (row : Option (List Pair)) (w : WasFound calls key row) where
+  module _ (x : ContentsExplained catalog places events opening moments) (row : Option (List Pair)) (w : WasFound calls key row) where
     read : IsRead w.call.request w.call.reply key w.found
     read = read_of w.call.request w.call.reply key w.found w.shows
 
@@ -242,7 +242,7 @@ module _ (catalog : List Table) (places : List Place) (events : List Event) (ope
       agrees : meant.decided ≡ d.decided
       agrees =
           let same : meant.id ≡ d.id = some_is meant.id d.id (sym meant.writer ∙ d.writer) in
-          decisions_agree places events opening closing moments trace x.rows_final client client d.id meant.look d.look meant.decided d.decided fits (within meant.look meant.looks.0).among (within d.look d.among).among (subst (λ (id : TxId). decision_shown id meant.look ≡ Some meant.decided) same meant.looks.1) d.shown
+          decisions_agree places events opening closing moments trace x.rows_final client client d.id meant.look d.look meant.decided d.decided fits (within meant.look meant.looks.0).among (within d.look d.among).among (subst (λ (id : TxId). decision_observed id meant.look ≡ Some meant.decided) same meant.looks.1) d.shown
 
       -- so this makes what the record means
       means : meaning_of calls r ≡ image_of r (Some d.decided)
@@ -328,16 +328,16 @@ module _ (catalog : List Table) (places : List Place) (events : List Event) (ope
         by None is = committed_at n taken before_end None is (stood ∙ is) refl
         by (Some r) is = by_test (is_in state.Committed r.columns)
             (λ firm. committed_at n taken before_end (Some r) is (stood ∙ is) (image-settled r (decision_on places (now n) r) firm ∙ sym (meaning_settled calls r firm)))
-            (λ loose. open_committed r is loose (decided w.call r w.among (subst (Shows w.call.request w.call.reply key) is w.shows) loose))
+            (λ loose. open_committed r is loose (decided w.call r w.among (subst (Observes w.call.request w.call.reply key) is w.shows) loose))
 
   ---- what was rolled
 
-  module _ (none : find_table catalog coordinator_table ≡ None) (all : AreTaken catalog places opening moments) (rolled : AreResolved events) (reader : IsReader events client s) where
-    data_read : (m : Made) → is_read m.request ≡ true → table_asked m.request ≡ key.table → reads_rows m ≡ true
+  module _ (none : find_table catalog coordinator_table ≡ None) (all : AreTransactional catalog places opening moments) (rolled : AreResolved events) (reader : IsReader events client s) where
+    data_read : (m : StoreCall) → is_read m.request ≡ true → table_asked m.request ≡ key.table → reads_rows m ≡ true
     data_read m is same = ap (λ (b : Bool). if b then false else is_read m.request) (ap is_coordinator_table same ∙ not_true (is_coordinator_table key.table) ((apart_from catalog none).outside key table)) ∙ is
 
     pub resolved_decided : FoundDecided events client s key
-    resolved_decided m r has shows loose = by (rolled client s reader.a m r reader.among reader.answer reader.finished has (data_read m read.is read.table) (read.shown r refl) (and_both (is_taken r) (not (is_in state.Committed r.columns)) taken (ap not loose)))
+    resolved_decided m r has shows loose = by (rolled client s reader.a m r reader.among reader.answer reader.finished has (data_read m read.is read.table) (read.shown r refl) (and_both (is_transactional r) (not (is_in state.Committed r.columns)) taken (ap not loose)))
       where
         read : IsRead m.request m.reply key (Some r)
         read = read_of m.request m.reply key (Some r) shows
@@ -345,7 +345,7 @@ module _ (catalog : List Table) (places : List Place) (events : List Event) (ope
         p : IsAt places opening moments 1 m
         p = at_of m has
 
-        taken : is_taken r ≡ true
+        taken : is_transactional r ≡ true
         taken = all p.n key r (least p.n (length moments) p.within) table (read.stood places (now p.n) (now (suc p.n)) p.did)
           where
             least : (a b : ℕ) → suc a ≤ b → a ≤ b
@@ -364,8 +364,8 @@ module _ (catalog : List Table) (places : List Place) (events : List Event) (ope
 ---- what answers show
 
 -- rows that a transaction has, however its reads were shown rows
-has_row_as : (catalog : List Table) (was now : Said → Key → Option (List Pair) → Type 0) (id : TxId) (events : List Event) → ((s : Said) (key : Key) (row : Option (List Pair)) → was s key row → now s key row)
-    → (s : Said) (key : Key) (row : Option (List Pair)) → HasRow catalog was events id s key row → HasRow catalog now events id s key row
+has_row_as : (catalog : List Table) (was now : Executed → Key → Option (List Pair) → Type 0) (id : TxId) (events : List Event) → ((s : Executed) (key : Key) (row : Option (List Pair)) → was s key row → now s key row)
+    → (s : Executed) (key : Key) (row : Option (List Pair)) → HasRow catalog was events id s key row → HasRow catalog now events id s key row
 has_row_as catalog was now id events f s key row h = record {
   first = h.first;
   earlier = h.earlier;
@@ -381,10 +381,10 @@ has_row_as catalog was now id events f s key row h = record {
   made = h.made;
 }
 
-pub answers_as : (catalog : List Table) (was now : ℕ → Said → Key → Option (List Pair) → Type 0) (events : List Event) → ((client : ℕ) (s : Said) (key : Key) (row : Option (List Pair)) → was client s key row → now client s key row) → AnswersShow catalog was events → AnswersShow catalog now events
+pub answers_as : (catalog : List Table) (was now : ℕ → Executed → Key → Option (List Pair) → Type 0) (events : List Event) → ((client : ℕ) (s : Executed) (key : Key) (row : Option (List Pair)) → was client s key row → now client s key row) → AnswersHaveRows catalog was events → AnswersHaveRows catalog now events
 answers_as catalog was now events f h id s a has is = by a (h id s a has is)
   where
-    by : (a : Answer) → ShowsOwn catalog (was (client_of id)) events id s a → ShowsOwn catalog (now (client_of id)) events id s a
+    by : (a : Answer) → AnswersAreOf catalog (was (client_of id)) events id s a → AnswersAreOf catalog (now (client_of id)) events id s a
     by (answer.Rows rows) (t, select, images, reads, found, same, all) = (
       t,
       select,
@@ -398,10 +398,10 @@ answers_as catalog was now events f h id s a has is = by a (h id s a has is)
     by (answer.Duplicate key) (columns, row) = (columns, has_row_as catalog (was (client_of id)) (now (client_of id)) id events (f (client_of id)) s key (Some columns) row)
     by a k = tt
 
-pub answers_committed : (catalog : List Table) (places : List Place) (events : List Event) (opening closing : List Shelf) (moments : List (List Shelf)) → find_table catalog coordinator_table ≡ None → IsTrace places events opening moments closing → StandingExplained catalog places events opening moments → AreTaken catalog places opening moments → AreResolved events
-    → AnswersShow catalog (ReadBy catalog events) events → AreShown catalog places events opening moments
+pub answers_committed : (catalog : List Table) (places : List Place) (events : List Event) (opening closing : List StoreContents) (moments : List (List StoreContents)) → find_table catalog coordinator_table ≡ None → IsTrace places events opening moments closing → ContentsExplained catalog places events opening moments → AreTransactional catalog places opening moments → AreResolved events
+    → AnswersHaveRows catalog (ReadBy catalog events) events → NoDirtyReads catalog places events opening moments
 answers_committed catalog places events opening closing moments none trace x all rolled answers = answers_as catalog (ReadBy catalog events) (CommittedBy places events opening moments) events committed answers
   where
-    committed : (client : ℕ) (s : Said) (key : Key) (row : Option (List Pair)) → ReadBy catalog events client s key row → CommittedBy places events opening moments client s key row
+    committed : (client : ℕ) (s : Executed) (key : Key) (row : Option (List Pair)) → ReadBy catalog events client s key row → CommittedBy places events opening moments client s key row
     committed client s key row (reader, table, w) =
         found_committed catalog places events opening closing moments client s key trace table x row w (resolved_decided catalog places events opening closing moments client s key trace table none all rolled reader)

@@ -7,7 +7,7 @@ use Rattle.sdb_types.specs.declared.txid.TxId.{TxId}
 use Rattle.sdb_model.specs.declared.event.Event.{Event}
 use Rattle.sdb_model.specs.declared.event.Point.{Point}
 use Rattle.sdb_stores.specs.declared.place.Place.{Place}
-use Rattle.sdb_model.specs.Events.{Shelf}
+use Rattle.sdb_model.specs.Events.{StoreContents}
 use Rattle.sdb_model.specs.Transactions.{IsOrder, Recorded, commit_of, ArePointsApart}
 use Rattle.sdb_endings.specs.Order.{HasRisen}
 use Rattle.sdb_endings.specs.Points.{HavePoints}
@@ -43,7 +43,7 @@ same_id i j h = by (i.0 == j.0) refl
     by true e = ap (λ (n : ℕ). record { 0 = n }) (equal i.0 j.0 e)
     by false e = absurd (h (λ same. differ i.0 j.0 e (ap (λ (x : TxId). x.0) same)))
 
-pub is_order : (places : List Place) (events : List Event) (closing : List Shelf) (recorded : List TxId) (order : List Point) → All (λ (id : TxId). id.0 < 2 ^ 128) recorded → ((id : TxId) → id.0 < 2 ^ 128 → Contains recorded id ↔ Recorded places closing id) → HavePoints places events closing → HasRisen events recorded order → IsOrder places events closing order
+pub is_order : (places : List Place) (events : List Event) (closing : List StoreContents) (recorded : List TxId) (order : List Point) → All (λ (id : TxId). id.0 < 2 ^ 128) recorded → ((id : TxId) → id.0 < 2 ^ 128 → Contains recorded id ↔ Recorded places closing id) → HavePoints places events closing → HasRisen events recorded order → IsOrder places events closing order
 is_order places events closing recorded order fits are have risen = record {
   recorded = λ id small. (λ c. of_recorded id (risen.among id c).0, λ r. risen.whole apart id ((are id small).1 r) (have.some id small r));
   points = risen.points;

@@ -23,10 +23,10 @@ use Rattle.sdb_record.specs.Rolls.{undo}
 use Rattle.sdb_model.specs.declared.event.Event.{Event}
 use Rattle.sdb_model.specs.declared.event.Event.TheVariants as event
 use Rattle.sdb_stores.specs.declared.place.Place.{Place}
-use Rattle.sdb_model.specs.Events.{Effect, Shelf, standing}
-use Rattle.sdb_model.specs.Noted.{Got, Note, Scanned}
-use Rattle.sdb_laws.specs.History.{Role, Other, Begins, Takes, Prepares, Checks, Decides, Aborts, Rolls, Removes, Ends, Stops, History, Talk}
-use Rattle.sdb_laws.specs.Lawful.{IsCallOf, IsLawful, IsUnchanged, MayPlay, MayRoll, Played, id, is_quiet}
+use Rattle.sdb_model.specs.Events.{Effect, StoreContents, standing}
+use Rattle.sdb_model.specs.ReadSet.{KeyRead, ReadItem, SpanRead}
+use Rattle.sdb_laws.specs.History.{Action, Other, Begins, Takes, Prepares, Checks, Decides, Aborts, Rolls, Removes, Ends, Stops, History, ProtocolState}
+use Rattle.sdb_laws.specs.Lawful.{IsCallOf, IsLawful, IsUnchanged, IsEnabled, MayRoll, Labelled, id, is_quiet}
 use Rattle.sdb_laws.specs.Plan.{Plan}
 use Rattle.sdb_laws.specs.Trace.{IsTraced, StartsEmpty, closing, history}
 use Rattle.sdb_laws.proofs.Effects.{AtCall, after_delete, after_put, at_call}
@@ -72,7 +72,7 @@ left_or_put (ask.DeleteIf key c) m k row h = by (holds c (record_at m key) && sa
     by true h = absurd (cc)
     by false h = inl h
 
-call_left_or_put : (places : List Place) (q : Request) (r : Reply) (before now : List Shelf) (k : Key) (row : Record) → AtCall places q r before now → standing places now k ≡ Some row → (standing places before k ≡ Some row) ⊎ PutsBy q k
+call_left_or_put : (places : List Place) (q : Request) (r : Reply) (before now : List StoreContents) (k : Key) (row : Record) → AtCall places q r before now → standing places now k ≡ Some row → (standing places before k ≡ Some row) ⊎ PutsBy q k
 call_left_or_put places q r before now k row a h = elim (a.there k) [
   | inl x ↦ elim a.moved [
     | inl m ↦ elim (left_or_put q a.held k row (sym (x.1 ∙ ap (λ c. record_at c k) m.0) ∙ h)) [ inl stood ↦ inl (x.0 ∙ stood) | inr put ↦ inr put ]
@@ -81,7 +81,7 @@ call_left_or_put places q r before now k row a h = elim (a.there k) [
   | inr x ↦ inl (sym x.0 ∙ h)
 ]
 
-pub stood_or_put : (places : List Place) (e : Event) (before now : List Shelf) (k : Key) (row : Record) → Effect places e before now → standing places now k ≡ Some row → (standing places before k ≡ Some row) ⊎ PutsAt e k
+pub stood_or_put : (places : List Place) (e : Event) (before now : List StoreContents) (k : Key) (row : Record) → Effect places e before now → standing places now k ≡ Some row → (standing places before k ≡ Some row) ⊎ PutsAt e k
 stood_or_put places (event.Take client text answer) before now k row same h = inl (ap (λ s. standing places s k) (sym same) ∙ h)
 stood_or_put places (event.Call client store q how r answer) before now k row c h = call_left_or_put places q r before now k row (at_call places store q how r before now c) h
 stood_or_put places (event.Stop client) before now k row same h = inl (ap (λ s. standing places s k) (sym same) ∙ h)
@@ -109,9 +109,9 @@ quiet_puts_none (event.Stop client) k quiet put = put
 quiet_puts_none (event.Clock moment) k quiet put = put
 quiet_puts_none (event.Idle client) k quiet put = put
 
-check_puts_none : (plan : Plan) (note : Note) (q : Request) (r : Reply) (k : Key) → IsUnchanged plan note q r → PutsBy q k → ⊥
-check_puts_none plan (Got read) q r k same put = subst (λ x. PutsBy x k) same.1 put
-check_puts_none plan (Scanned scan) q r k same put = subst (λ x. PutsBy x k) same.1 put
+check_puts_none : (plan : Plan) (item : ReadItem) (q : Request) (r : Reply) (k : Key) → IsUnchanged plan item q r → PutsBy q k → ⊥
+check_puts_none plan (KeyRead read) q r k same put = subst (λ x. PutsBy x k) same.1 put
+check_puts_none plan (SpanRead scan) q r k same put = subst (λ x. PutsBy x k) same.1 put
 
 key_before : (r b : Record) → before_record r ≡ Some b → b.key ≡ r.key
 unfolding before_record
@@ -125,23 +125,23 @@ back_puts : (k : Key) (t : TxId) (s : State) (o : Option Record) (q : Key) → (
 back_puts k t s None q key put = absurd put
 back_puts k t s (Some b) q key put = sym (key b refl) ∙ put
 
-rolled_key : (plan : ℕ → Plan) (w : History) (past : List Played) (e : Event) (t : ℕ) (k : Key) → Knows plan w past → (m : MayRoll plan past e t k) → m.rolled.key ≡ k
+rolled_key : (plan : ℕ → Plan) (w : History) (past : List Labelled) (e : Event) (t : ℕ) (k : Key) → Knows plan w past → (m : MayRoll plan past e t k) → m.rolled.key ≡ k
 rolled_key plan w past e t k knows m =
     let own = prepared_there plan w past t k m.rolled knows m.outside m.prepared in
     ap (λ (r : Record). r.key) own.same ∙ held_key plan t k own.writes
 
 -- What is put in the coordinator's table is put at the key of a transaction's row.
-puts_row : (plan : ℕ → Plan) (w : History) (past : List Played) (e : Event) (role : Role) (q : Key) → Knows plan w past → MayPlay plan past e role → is_data q ≡ false → PutsAt e q → IsRowKey q
+puts_row : (plan : ℕ → Plan) (w : History) (past : List Labelled) (e : Event) (action : Action) (q : Key) → Knows plan w past → IsEnabled plan past e action → is_data q ≡ false → PutsAt e q → IsRowKey q
 puts_row plan w past e Other q knows m row put = absurd (quiet_puts_none e q m put)
 puts_row plan w past e (Begins t c) q knows m row put = absurd (subst (λ x. PutsAt x q) m.take put)
 puts_row plan w past e (Takes t) q knows m row put = absurd (subst (λ x. PutsAt x q) m.take put)
 puts_row plan w past e (Prepares t k word) q knows m row put =
-    let taken = subst (λ (x : Talk). x.taken t ≡ true) knows.talks m.within.taken in
+    let taken = subst (λ (x : ProtocolState). x.taken t ≡ true) knows.talks m.within.taken in
     data_apart k q ((knows.planned t taken).write k m.write m.at).1 row (sym (prepared-key m.write (id t) (plan t).now ∙ write_key (plan t) k m.write m.at) ∙ called e m.client _ m.r q m.call put)
-puts_row plan w past e (Checks t i) q knows m row put = absurd (check_puts_none (plan t) m.note m.q m.r q m.unchanged (called e m.client m.q m.r q m.call put))
+puts_row plan w past e (Checks t i) q knows m row put = absurd (check_puts_none (plan t) m.item m.q m.r q m.unchanged (called e m.client m.q m.r q m.call put))
 puts_row plan w past e (Decides t word) q knows m row put = record {
   t = t;
-  fits = taken_fits w t knows.inv.begun knows.fits (subst (λ (x : Talk). x.taken t ≡ true) knows.talks m.within.taken);
+  fits = taken_fits w t knows.inv.begun knows.fits (subst (λ (x : ProtocolState). x.taken t ≡ true) knows.talks m.within.taken);
   same = sym (called e m.client _ m.r q m.call put) ∙ row-key (id t) Committed (plan t).now;
 }
 puts_row plan w past e (Aborts t moment word) q knows m row put = record {
@@ -160,7 +160,7 @@ puts_row plan w past e (Stops c) q knows m row put = absurd (subst (λ x. PutsAt
 ---- every event
 
 -- After a lawful list of events from empty stores, each record of the coordinator's table is at the key of a transaction's row.
-pub only_rows : (plan : ℕ → Plan) (places : List Place) (opening : List Shelf) (past : List Played) (ss : List (List Shelf)) (k : Key) (row : Record) → StartsEmpty places opening → IsLawful plan past → IsTraced places opening past ss → is_data k ≡ false → standing places (closing opening ss) k ≡ Some row → IsRowKey k
+pub only_rows : (plan : ℕ → Plan) (places : List Place) (opening : List StoreContents) (past : List Labelled) (ss : List (List StoreContents)) (k : Key) (row : Record) → StartsEmpty places opening → IsLawful plan past → IsTraced places opening past ss → is_data k ≡ false → standing places (closing opening ss) k ≡ Some row → IsRowKey k
 only_rows plan places opening [] [] k row empty l t outside h = absurd (none (sym (empty k) ∙ h))
   where
     none : ◌≡◌ {A = Option Record} None (Some row) → ⊥
@@ -169,5 +169,5 @@ only_rows plan places opening [] (s ∷ ss) k row empty l t outside h = absurd t
 only_rows plan places opening (p ∷ past) [] k row empty l t outside h = absurd t
 only_rows plan places opening (p ∷ past) (s ∷ ss) k row empty l t outside h = elim (stood_or_put places p.event (closing opening ss) s k row t.1 h) [
   | inl stood ↦ only_rows plan places opening past ss k row empty l.0 t.0 outside stood
-  | inr put ↦ puts_row plan (history plan places opening past ss) past p.event p.role k (whole plan places opening past ss empty l.0 t.0).knows l.1 outside put
+  | inr put ↦ puts_row plan (history plan places opening past ss) past p.event p.action k (whole plan places opening past ss empty l.0 t.0).knows l.1 outside put
 ]

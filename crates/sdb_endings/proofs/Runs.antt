@@ -4,57 +4,57 @@ use Rattle.sdb_schema.specs.declared.table.Table.{Table}
 use Rattle.sdb_model.specs.declared.event.Event.{Event}
 use Rattle.sdb_stores.specs.declared.place.Place.{Place}
 use Rattle.sdb_model.specs.declared.statement.Statement.{Statement}
-use Rattle.sdb_model.specs.Events.{IsTrace, Shelf}
+use Rattle.sdb_model.specs.Events.{IsTrace, StoreContents}
 use Rattle.sdb_model.specs.Exec.{Tables}
 use Rattle.sdb_laws.specs.Explained.{IsRunOf, events_of, newest_first}
-use Rattle.sdb_laws.specs.Faithful.{AreNoted, IsFaithful}
-use Rattle.sdb_laws.specs.Lawful.{IsLawful, Played}
+use Rattle.sdb_laws.specs.Faithful.{AreReadSets, IsFaithful}
+use Rattle.sdb_laws.specs.Lawful.{IsLawful, Labelled}
 use Rattle.sdb_laws.specs.Plan.{Plan}
 use Rattle.sdb_laws.specs.Trace.{IsTraced, StartsEmpty, closing}
 use Rattle.sdb_laws.proofs.Times.{traced_of}
 use Rattle.sdb_turns.specs.System.{SystemAt, SystemOk}
-use Rattle.sdb_story.specs.Telling.{AllStories}
+use Rattle.sdb_story.specs.History.{AllStories}
 use Rattle.sdb_story.proofs.Files.{clients_faithful}
-use Rattle.sdb_linked.specs.Going.{IsGoing}
+use Rattle.sdb_linked.specs.Invariant.{RunInvariant}
 use Rattle.sdb_linked.proofs.Ends.{going_is_noted}
 
 -- The parts of the events, which with these moments are a run of the laws. The plans' notes are what the statements noted.
-pub record IsLawfulRun (places : List Place) (events : List Event) (opening : List Shelf) (moments : List (List Shelf)) : Type 0 where
+pub record IsLawfulRun (places : List Place) (events : List Event) (opening : List StoreContents) (moments : List (List StoreContents)) : Type 0 where
   pub plan : ℕ → Plan
-  pub played : List Played
-  pub same : events ≡ events_of played
-  pub run : IsRunOf plan places opening (newest_first played) (newest_first moments)
-  pub faithful : IsFaithful (events_of played) (newest_first played)
-  pub noted : AreNoted plan (events_of played) (newest_first played)
+  pub labelled : List Labelled
+  pub same : events ≡ events_of labelled
+  pub run : IsRunOf plan places opening (newest_first labelled) (newest_first moments)
+  pub faithful : IsFaithful (events_of labelled) (newest_first labelled)
+  pub as_read : AreReadSets plan (events_of labelled) (newest_first labelled)
 
 -- the trace, newest first
-turned : (catalog : List Table) (fit : Tables → Bool) (events : List Event) (sys : SystemAt) (doing : ℕ → Option Statement) (places : List Place) (opening end : List Shelf) (moments : List (List Shelf)) → (g : IsGoing catalog fit events sys doing) → IsTrace places events opening moments end
-    → IsTraced places opening (newest_first g.played) (newest_first moments) × (closing opening (newest_first moments) ≡ end)
-turned catalog fit events sys doing places opening end moments g trace = traced_of places opening g.played moments end (subst (λ es. IsTrace places es opening moments end) g.same trace)
+turned : (catalog : List Table) (fit : Tables → Bool) (events : List Event) (sys : SystemAt) (doing : ℕ → Option Statement) (places : List Place) (opening end : List StoreContents) (moments : List (List StoreContents)) → (g : RunInvariant catalog fit events sys doing) → IsTrace places events opening moments end
+    → IsTraced places opening (newest_first g.labelled) (newest_first moments) × (closing opening (newest_first moments) ≡ end)
+turned catalog fit events sys doing places opening end moments g trace = traced_of places opening g.labelled moments end (subst (λ es. IsTrace places es opening moments end) g.same trace)
 
-pub lawful_run : (catalog : List Table) (fit : Tables → Bool) (events : List Event) (sys : SystemAt) (doing : ℕ → Option Statement) (places : List Place) (opening end : List Shelf) (moments : List (List Shelf)) → IsGoing catalog fit events sys doing → IsTrace places events opening moments end → StartsEmpty places opening → IsLawfulRun places events opening moments
+pub lawful_run : (catalog : List Table) (fit : Tables → Bool) (events : List Event) (sys : SystemAt) (doing : ℕ → Option Statement) (places : List Place) (opening end : List StoreContents) (moments : List (List StoreContents)) → RunInvariant catalog fit events sys doing → IsTrace places events opening moments end → StartsEmpty places opening → IsLawfulRun places events opening moments
 lawful_run catalog fit events sys doing places opening end moments g trace empty = record {
   plan = g.plan;
-  played = g.played;
+  labelled = g.labelled;
   same = g.same;
   run = record { empty = empty; lawful = subst (IsLawful g.plan) g.turned g.system.lawful; traced = (turned catalog fit events sys doing places opening end moments g trace).0 };
-  faithful = clients_faithful g.plan (events_of g.played) (newest_first g.played) sys g.told
+  faithful = clients_faithful g.plan (events_of g.labelled) (newest_first g.labelled) sys g.told
       (subst (λ ps. SystemOk g.plan ps sys) g.turned g.system)
-      (subst (λ ps. AllStories (events_of g.played) ps sys g.told) g.turned (subst (λ es. AllStories es g.past sys g.told) g.same g.stories));
-  noted = subst (λ ps. AreNoted g.plan (events_of g.played) ps) g.turned (subst (λ es. AreNoted g.plan es g.past) g.same (going_is_noted catalog fit events sys doing g));
+      (subst (λ ps. AllStories (events_of g.labelled) ps sys g.told) g.turned (subst (λ es. AllStories es g.past sys g.told) g.same g.stories));
+  as_read = subst (λ ps. AreReadSets g.plan (events_of g.labelled) ps) g.turned (subst (λ es. AreReadSets g.plan es g.past) g.same (going_is_noted catalog fit events sys doing g));
 }
 
 -- The parts of the events, and what the stores held, newest first.
-pub record ByLaws (places : List Place) (events : List Event) (opening end : List Shelf) : Type 0 where
+pub record ByLaws (places : List Place) (events : List Event) (opening end : List StoreContents) : Type 0 where
   pub plan : ℕ → Plan
-  pub played : List Played
-  pub held : List (List Shelf)
-  pub same : events ≡ events_of played
+  pub labelled : List Labelled
+  pub held : List (List StoreContents)
+  pub same : events ≡ events_of labelled
   pub end_is : closing opening held ≡ end
-  pub run : IsRunOf plan places opening (newest_first played) held
-  pub faithful : IsFaithful (events_of played) (newest_first played)
+  pub run : IsRunOf plan places opening (newest_first labelled) held
+  pub faithful : IsFaithful (events_of labelled) (newest_first labelled)
 
-pub by_laws : (catalog : List Table) (fit : Tables → Bool) (events : List Event) (sys : SystemAt) (doing : ℕ → Option Statement) (places : List Place) (opening end : List Shelf) (moments : List (List Shelf)) → IsGoing catalog fit events sys doing → IsTrace places events opening moments end → StartsEmpty places opening → ByLaws places events opening end
+pub by_laws : (catalog : List Table) (fit : Tables → Bool) (events : List Event) (sys : SystemAt) (doing : ℕ → Option Statement) (places : List Place) (opening end : List StoreContents) (moments : List (List StoreContents)) → RunInvariant catalog fit events sys doing → IsTrace places events opening moments end → StartsEmpty places opening → ByLaws places events opening end
 by_laws catalog fit events sys doing places opening end moments g trace empty =
     let r = lawful_run catalog fit events sys doing places opening end moments g trace empty in
-    record { plan = r.plan; played = r.played; held = newest_first moments; same = r.same; end_is = (turned catalog fit events sys doing places opening end moments g trace).1; run = r.run; faithful = r.faithful }
+    record { plan = r.plan; labelled = r.labelled; held = newest_first moments; same = r.same; end_is = (turned catalog fit events sys doing places opening end moments g trace).1; run = r.run; faithful = r.faithful }

@@ -3,8 +3,8 @@ use Rattle.std.specs.Prelude.{◌≡◌, ◌<◌, ◌^◌, ℕ, List, Some, Cont
 use Rattle.sdb_types.specs.declared.txid.TxId.{TxId}
 use Rattle.sdb_record.specs.declared.coordinator.Decided.{Decided}
 use Rattle.sdb_model.specs.declared.event.Event.{Event}
-use Rattle.sdb_model.specs.Calls.{Made, calls_by, decision_shown}
+use Rattle.sdb_model.specs.Calls.{StoreCall, calls_by, decision_observed}
 
 -- All calls that show a decision on a transaction show the same one, whichever clients made them.
-abbrev pub ShowOne : List Event → Type 0
-ShowOne events = (c d : ℕ) (id : TxId) (m x : Made) (a b : Decided) → id.0 < 2 ^ 128 → Contains (calls_by events c) m → Contains (calls_by events d) x → decision_shown id m ≡ Some a → decision_shown id x ≡ Some b → a ≡ b
+abbrev pub ObserveOne : List Event → Type 0
+ObserveOne events = (c d : ℕ) (id : TxId) (m x : StoreCall) (a b : Decided) → id.0 < 2 ^ 128 → Contains (calls_by events c) m → Contains (calls_by events d) x → decision_observed id m ≡ Some a → decision_observed id x ≡ Some b → a ≡ b

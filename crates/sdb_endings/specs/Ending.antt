@@ -4,15 +4,15 @@ use Rattle.std.specs.FinMap.{empty}
 use Rattle.sdb_model.specs.declared.event.Event.{Event}
 use Rattle.sdb_model.specs.declared.event.Point.{Point}
 use Rattle.sdb_model.specs.declared.script.Script.{Script}
-use Rattle.sdb_model.specs.Events.{IsTrace, Shelf}
+use Rattle.sdb_model.specs.Events.{IsTrace, StoreContents}
 use Rattle.sdb_model.specs.Follows.{Follows}
 use Rattle.sdb_model.specs.Transactions.{IsOrder}
 use Rattle.sdb_spread.specs.Spread.{AreAbout, HoldAs}
 
 -- Events follow a script's moves, about its tables and the coordinator's, and agree with stores that held nothing of these to begin
 -- with; and this is the order of the transactions that are recorded in the end.
-pub record IsEnd (script : Script) (events : List Event) (opening closing : List Shelf) (order : List Point) : Type 0 where
-  pub moments : List (List Shelf)
+pub record IsEnd (script : Script) (events : List Event) (opening closing : List StoreContents) (order : List Point) : Type 0 where
+  pub moments : List (List StoreContents)
   pub follows : Follows script events
   pub traced : IsTrace script.places events opening moments closing
   pub about : AreAbout script.catalog events

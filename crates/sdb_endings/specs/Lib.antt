@@ -3,5 +3,5 @@ pub mod Order
 pub mod Points
 pub mod Stores
 pub mod Decisions
-pub mod Shown
+pub mod DirtyReads
 pub mod Traces

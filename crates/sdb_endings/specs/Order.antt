@@ -5,7 +5,7 @@ use Rattle.sdb_types.specs.declared.txid.TxId.{TxId}
 use Rattle.sdb_model.specs.declared.event.Event.{Event}
 use Rattle.sdb_model.specs.declared.event.Point.{Point}
 use Rattle.sdb_stores.specs.declared.place.Place.{Place}
-use Rattle.sdb_model.specs.Events.{Shelf}
+use Rattle.sdb_model.specs.Events.{StoreContents}
 use Rattle.sdb_model.specs.Transactions.{point, ArePointsApart, Recorded}
 
 -- Those of a list that have a point, each with it, by rising point.
@@ -22,7 +22,7 @@ AreIds ids = All (λ (id : TxId). id.0 < 2 ^ 128) ids
 -- The ids of the transactions that stores record and no others, and those of them that have a point, by rising point.
 pub record RisenIds : Type 0 where
   pub places : List Place
-  pub closing : List Shelf
+  pub closing : List StoreContents
   pub ids : List TxId
   pub fit : AreIds ids
   pub recorded : (id : TxId) → id.0 < 2 ^ 128 → Contains ids id ↔ Recorded places closing id

@@ -13,21 +13,21 @@ use Rattle.sdb_stores.specs.declared.place.Place.{Place}
 use Rattle.sdb_model.specs.declared.script.Script.{Script}
 use Rattle.sdb_model.specs.declared.statement.Statement.{Statement}
 use Rattle.sdb_model.specs.Calls.{calls_of}
-use Rattle.sdb_model.specs.Events.{IsTrace, Shelf}
+use Rattle.sdb_model.specs.Events.{IsTrace, StoreContents}
 use Rattle.sdb_model.specs.Exec.{Tables, find_table}
-use Rattle.sdb_model.specs.Explained.{IsTableKey, StandingExplained, AreTaken}
+use Rattle.sdb_model.specs.Explained.{IsTableKey, ContentsExplained, AreTransactional}
 use Rattle.sdb_model.specs.Rows.{Name}
-use Rattle.sdb_model.specs.Shown.{AnswersShow, AreShown, WasCommitted, WasFound}
-use Rattle.sdb_model.specs.Transactions.{Said}
+use Rattle.sdb_model.specs.DirtyReads.{AnswersHaveRows, NoDirtyReads, WasCommitted, WasFound}
+use Rattle.sdb_model.specs.Transactions.{Executed}
 use Rattle.sdb_laws.specs.Trace.{StartsEmpty}
 use Rattle.sdb_turns.specs.System.{SystemAt}
 use Rattle.sdb_story.specs.Left.{IsFitting}
-use Rattle.sdb_linked.specs.Going.{IsGoing}
+use Rattle.sdb_linked.specs.Invariant.{RunInvariant}
 use Rattle.sdb_linked.specs.Progress.{Progress}
-use Rattle.sdb_spread.specs.Spread.{AreAbout, HoldAs, moved_events}
+use Rattle.sdb_spread.specs.Spread.{AreAbout, HoldAs, relocated_events}
 use Rattle.sdb_endings.specs.Ending.{IsEnd}
-use Rattle.sdb_endings.specs.Shown.{FoundDecided, ReadBy}
-use Rattle.sdb_endings.specs.Stores.{IsPlayedOn}
+use Rattle.sdb_endings.specs.DirtyReads.{FoundDecided, ReadBy}
+use Rattle.sdb_endings.specs.Stores.{IsTraceOnEmpty}
 
 ---- any events
 
@@ -36,9 +36,9 @@ pub record Traced : Type 0 where
   pub catalog : List Table
   pub places : List Place
   pub events : List Event
-  pub opening : List Shelf
-  pub closing : List Shelf
-  pub moments : List (List Shelf)
+  pub opening : List StoreContents
+  pub closing : List StoreContents
+  pub moments : List (List StoreContents)
   pub trace : IsTrace places events opening moments closing
 
 -- no table of the catalog is the coordinator's
@@ -46,39 +46,39 @@ abbrev pub IsApart : Traced → Type 0
 IsApart t = find_table t.catalog coordinator_table ≡ None
 
 -- what is there at every moment is explained by the events
-abbrev pub StandsExplained : Traced → Type 0
-StandsExplained t = StandingExplained t.catalog t.places t.events t.opening t.moments
+abbrev pub IsExplainedTrace : Traced → Type 0
+IsExplainedTrace t = ContentsExplained t.catalog t.places t.events t.opening t.moments
 
 -- each record that is at a key of a table at any moment passes the checks
-abbrev pub TakesRecords : Traced → Type 0
-TakesRecords t = AreTaken t.catalog t.places t.opening t.moments
+abbrev pub HasTransactional : Traced → Type 0
+HasTransactional t = AreTransactional t.catalog t.places t.opening t.moments
 
 -- answers show rows that their transactions have, as the calls of statements whose reads finished showed them
-abbrev pub ShowsAsRead : Traced → Type 0
-ShowsAsRead t = AnswersShow t.catalog (ReadBy t.catalog t.events) t.events
+abbrev pub AnswersAsRead : Traced → Type 0
+AnswersAsRead t = AnswersHaveRows t.catalog (ReadBy t.catalog t.events) t.events
 
--- no transaction was shown a row that was neither its own nor committed
-abbrev pub ShowsCommitted : Traced → Type 0
-ShowsCommitted t = AreShown t.catalog t.places t.events t.opening t.moments
+-- no transaction observed a row that was neither its own nor committed
+abbrev pub HasNoDirtyReads : Traced → Type 0
+HasNoDirtyReads t = NoDirtyReads t.catalog t.places t.events t.opening t.moments
 
 -- A statement of a client, and a key of a table.
-pub record SaidAtKey (t : Traced) : Type 0 where
+pub record ExecutedAtKey (t : Traced) : Type 0 where
   pub client : ℕ
-  pub said : Said
+  pub executed : Executed
   pub key : Key
   pub of_table : IsTableKey t.catalog key
 
 -- its calls showed that row there
-abbrev pub WasFoundAt : {t : Traced} → SaidAtKey t → Option (List Pair) → Type 0
-WasFoundAt {t} x row = WasFound (calls_of t.events x.client x.said) x.key row
+abbrev pub WasFoundAt : {t : Traced} → ExecutedAtKey t → Option (List Pair) → Type 0
+WasFoundAt {t} x row = WasFound (calls_of t.events x.client x.executed) x.key row
 
 -- and the decision on each record that they found there unresolved
-abbrev pub WereDecidedAt : {t : Traced} → SaidAtKey t → Type 0
-WereDecidedAt {t} x = FoundDecided t.events x.client x.said x.key
+abbrev pub WereDecidedAt : {t : Traced} → ExecutedAtKey t → Type 0
+WereDecidedAt {t} x = FoundDecided t.events x.client x.executed x.key
 
 -- the row was the one of the committed image at a moment between the statement's Take and its last event
-abbrev pub WasCommittedAt : {t : Traced} → SaidAtKey t → Option (List Pair) → Type 0
-WasCommittedAt {t} x row = WasCommitted t.places t.events t.opening t.moments x.client x.said x.key row
+abbrev pub WasCommittedAt : {t : Traced} → ExecutedAtKey t → Option (List Pair) → Type 0
+WasCommittedAt {t} x row = WasCommitted t.places t.events t.opening t.moments x.client x.executed x.key row
 
 ---- events that are tied to their clients
 
@@ -86,47 +86,47 @@ WasCommittedAt {t} x row = WasCommitted t.places t.events t.opening t.moments x.
 pub record TracedProgress : Type 0 where
   pub progress : Progress
   pub places : List Place
-  pub opening : List Shelf
-  pub closing : List Shelf
-  pub moments : List (List Shelf)
+  pub opening : List StoreContents
+  pub closing : List StoreContents
+  pub moments : List (List StoreContents)
   pub trace : IsTrace places progress.events opening moments closing
   pub empty : StartsEmpty places opening
 
 -- Events that are tied to their clients as made on one store.
-pub record GoingOnOne (catalog : List Table) : Type 0 where
+pub record InvariantOnOne (catalog : List Table) : Type 0 where
   pub name : Name
   pub fit : Tables → Bool
   pub events : List Event
   pub sys : SystemAt
   pub doing : ℕ → Option Statement
-  pub going : IsGoing catalog fit (moved_events (λ ns. name) events) sys doing
+  pub going : RunInvariant catalog fit (relocated_events (λ ns. name) events) sys doing
 
 -- Such events, about the tables of a catalog, agree with stores that held nothing of these to begin with.
 pub record TracedOnStores : Type 0 where
   pub catalog : List Table
-  pub going : GoingOnOne catalog
+  pub going : InvariantOnOne catalog
   pub apart : find_table catalog coordinator_table ≡ None
   pub places : List Place
-  pub opening : List Shelf
-  pub closing : List Shelf
-  pub moments : List (List Shelf)
+  pub opening : List StoreContents
+  pub closing : List StoreContents
+  pub moments : List (List StoreContents)
   pub trace : IsTrace places going.events opening moments closing
   pub about : AreAbout catalog going.events
   pub nothing : HoldAs catalog places opening empty
 
 -- Such events agree with the stores of a script, whose tables held nothing to begin with.
-pub record PlayedOnStores (script : Script) : Type 0 where
-  pub going : GoingOnOne script.catalog
-  pub opening : List Shelf
-  pub closing : List Shelf
-  pub played : IsPlayedOn script going.events opening closing
+pub record TraceOnStores (script : Script) : Type 0 where
+  pub going : InvariantOnOne script.catalog
+  pub opening : List StoreContents
+  pub closing : List StoreContents
+  pub labelled : IsTraceOnEmpty script going.events opening closing
 
 -- Such events end on the stores of a script, with the order of what is recorded.
 pub record EndOnStores (script : Script) : Type 0 where
-  pub going : GoingOnOne script.catalog
+  pub going : InvariantOnOne script.catalog
   pub fitting : IsFitting script.catalog going.fit
-  pub opening : List Shelf
-  pub closing : List Shelf
+  pub opening : List StoreContents
+  pub closing : List StoreContents
   pub order : List Point
   pub ends : IsEnd script going.events opening closing order
 

@@ -2,11 +2,11 @@
 ghost use Rattle.sdb_model.specs.declared.script.Script.{Script};
 ghost use Rattle.sdb_endings.specs.Points.{HavePoints};
 ghost use Rattle.sdb_endings.specs.Stores.{AreSound};
-ghost use Rattle.sdb_endings.specs.Traces.{PlayedOnStores};
+ghost use Rattle.sdb_endings.specs.Traces.{TraceOnStores};
 
 /// Where events, as made on one store, are tied to their clients, and agree with the stores of a script whose tables held nothing, each
 /// recorded transaction has its point, and what is in the tables is sound.
-pub fn going_ends_on_stores()
-    ensures points { (script : Script) (p : PlayedOnStores script) → HavePoints script.places p.going.events p.closing }
-    ensures sound { (script : Script) (p : PlayedOnStores script) → AreSound script.catalog script.places p.closing }
+pub fn invariant_gives_end_on_stores()
+    ensures points { (script : Script) (p : TraceOnStores script) → HavePoints script.places p.going.events p.closing }
+    ensures sound { (script : Script) (p : TraceOnStores script) → AreSound script.catalog script.places p.closing }
 {}

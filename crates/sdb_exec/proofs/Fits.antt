@@ -34,7 +34,7 @@ use Rattle.sdb_model.specs.declared.answer.Refusal.{Refusal}
 use Rattle.sdb_model.specs.Exec.{with_sets, with_named, passes, key_of}
 use Rattle.sdb_model.specs.declared.statement.Mention.{Mention}
 use Rattle.sdb_model.specs.Refused.{suits, is_within, first_place, is_unknown, names_key, is_of_other_kind, is_null_in_key, is_out_of_range, mention_of_set, listed, written, looked_at, mentions, set_by, lacking, missing_place, refusal, or_next, column_refusal, key_refusal, literal_refusal, refusal_on}
-use Rattle.sdb_exec.specs.Plans.{columns_at, put_row, changes_on, change_fits, has_all_literals}
+use Rattle.sdb_exec.specs.Plans.{columns_at, put_row, changes_on, change_is_well_typed, has_all_literals}
 use Rattle.sdb_exec.proofs.Laid.{keyed}
 use Rattle.sdb_types.specs.Fits.{fits_int}
 
@@ -330,34 +330,34 @@ columns_fit t k (r ∷ rs) h =
     ]
 
 updates_fit : (t : Table) (sets : List Pair) (p : Image → Bool) (rows : List Image) → list_all (is_fine t) (map mention_of_set sets) ≡ true → list_all (λ m. not (names_key t m)) (map mention_of_set sets) ≡ true → all_in t rows ≡ true
-    → list_all (change_fits t) (map (keyed (λ r. change.Row (with_sets t sets r.columns))) (filter p rows)) ≡ true
+    → list_all (change_is_well_typed t) (map (keyed (λ r. change.Row (with_sets t sets r.columns))) (filter p rows)) ≡ true
 updates_fit t sets p [] f k h = refl
 updates_fit t sets p (r ∷ rs) f k h =
     let parts = and_parts (fits_table t r.key r.columns) (all_in t rs) h in
     let its = row_parts t r.key r.columns parts.0 in
-    let rest : list_all (change_fits t) (map (keyed (λ x. change.Row (with_sets t sets x.columns))) (filter p rs)) ≡ true = updates_fit t sets p rs f k parts.1 in
+    let rest : list_all (change_is_well_typed t) (map (keyed (λ x. change.Row (with_sets t sets x.columns))) (filter p rs)) ≡ true = updates_fit t sets p rs f k parts.1 in
     let here : fits_table t r.key (with_sets t sets r.columns) ≡ true = row_from t r.key _ its.0 its.1 (sets_fit t sets r.columns f k its.2) in
-    elim (p r) as (λ b. list_all (change_fits t) (map (keyed (λ x. change.Row (with_sets t sets x.columns))) (cond b (r ∷ filter p rs) (filter p rs))) ≡ true) [ true ↦ rw (here, rest) refl | false ↦ rest ]
+    elim (p r) as (λ b. list_all (change_is_well_typed t) (map (keyed (λ x. change.Row (with_sets t sets x.columns))) (cond b (r ∷ filter p rs) (filter p rs))) ≡ true) [ true ↦ rw (here, rest) refl | false ↦ rest ]
 
-deletes_fit : (t : Table) (rows : List Image) → list_all (change_fits t) (map (keyed (λ r. change.Delete)) rows) ≡ true
+deletes_fit : (t : Table) (rows : List Image) → list_all (change_is_well_typed t) (map (keyed (λ r. change.Delete)) rows) ≡ true
 deletes_fit t [] = refl
 deletes_fit t (r ∷ rs) = deletes_fit t rs
 
-one_fits : (t : Table) (o : Option (List Pair)) (k : Key) (c : List Pair) → fits_table t k c ≡ true → list_all (change_fits t) (cond (is_some o) [] (put_row k c ∷ [])) ≡ true
+one_fits : (t : Table) (o : Option (List Pair)) (k : Key) (c : List Pair) → fits_table t k c ≡ true → list_all (change_is_well_typed t) (cond (is_some o) [] (put_row k c ∷ [])) ≡ true
 one_fits t None k c h = rw h refl
 one_fits t (Some x) k c h = refl
 
-pub changes_fit : (t : Table) (s : Statement) (rows : List Image) → has_all_literals s ≡ true → refusal_on t s ≡ None → all_in t rows ≡ true → list_all (change_fits t) (changes_on t s rows) ≡ true
+pub changes_fit : (t : Table) (s : Statement) (rows : List Image) → has_all_literals s ≡ true → refusal_on t s ≡ None → all_in t rows ≡ true → list_all (change_is_well_typed t) (changes_on t s rows) ≡ true
 changes_fit t (statement.Insert s) rows whole h a =
     let f = all_fine t (statement.Insert s) h in
-    let fine : list_all (is_fine t) (listed s.columns s.values) ≡ true = written_fine t (statement.Insert s) f.0 in
-    let key = key_fits t s (eqb-true _ _ whole) fine f.2 in
-    one_fits t (columns_at (key_of t s) rows) (key_of t s) _ (row_from t (key_of t s) _ key.0 key.1 (named_fit t s.columns s.values [] fine refl))
+    let valid : list_all (is_fine t) (listed s.columns s.values) ≡ true = written_fine t (statement.Insert s) f.0 in
+    let key = key_fits t s (eqb-true _ _ whole) valid f.2 in
+    one_fits t (columns_at (key_of t s) rows) (key_of t s) _ (row_from t (key_of t s) _ key.0 key.1 (named_fit t s.columns s.values [] valid refl))
 changes_fit t (statement.Upsert s) rows whole h a =
     let f = all_fine t (statement.Upsert s) h in
-    let fine : list_all (is_fine t) (listed s.columns s.values) ≡ true = written_fine t (statement.Upsert s) f.0 in
-    let key = key_fits t s (eqb-true _ _ whole) fine f.2 in
-    one_fits t None (key_of t s) _ (row_from t (key_of t s) _ key.0 key.1 (named_fit t s.columns s.values _ fine (columns_fit t (key_of t s) rows a)))
+    let valid : list_all (is_fine t) (listed s.columns s.values) ≡ true = written_fine t (statement.Upsert s) f.0 in
+    let key = key_fits t s (eqb-true _ _ whole) valid f.2 in
+    one_fits t None (key_of t s) _ (row_from t (key_of t s) _ key.0 key.1 (named_fit t s.columns s.values _ valid (columns_fit t (key_of t s) rows a)))
 changes_fit t (statement.Update s) rows whole h a =
     let f = all_fine t (statement.Update s) h in
     updates_fit t s.sets (passes t s.tests) rows (written_fine t (statement.Update s) f.0) (none_passes (names_key t) (map mention_of_set s.sets) f.1) a

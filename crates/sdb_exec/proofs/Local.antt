@@ -18,7 +18,7 @@ use Rattle.sdb_model.specs.declared.answer.Answer.TheVariants as answer
 use Rattle.sdb_record.specs.declared.write.Change.TheVariants as change
 use Rattle.sdb_record.specs.declared.access.Image.{Image}
 use Rattle.sdb_schema.specs.Table.{is_table}
-use Rattle.sdb_model.specs.Exec.{Tables, all_rows, row_of_entry, tables_of_rows, is_row_of, passes, with_sets, key_of, with_named, answer_of, left_by, shown, cut, sorted}
+use Rattle.sdb_model.specs.Exec.{Tables, all_rows, row_of_entry, tables_of_rows, is_row_of, passes, with_sets, key_of, with_named, answer_of, left_by, projected, cut, sorted}
 use Rattle.sdb_exec.specs.Reads.{access_for, access_of}
 use Rattle.sdb_model.specs.Access.{in_access, rows_at, with_changes}
 use Rattle.sdb_exec.specs.Plans.{has_shape, are_shaped, put_row, columns_at, answer_on, changes_on}
@@ -85,7 +85,7 @@ same_answer t (statement.Insert s) d table shaped = ap (λ o. cond (is_some o) (
 same_answer t (statement.Upsert s) d table shaped = refl
 same_answer t (statement.Update s) d table shaped = ap (λ rs. answer.Count (length rs)) (passing t s.tests d table shaped)
 same_answer t (statement.Delete s) d table shaped = ap (λ rs. answer.Count (length rs)) (passing t s.tests d table shaped)
-same_answer t (statement.Select s) d table shaped = ap (λ rs. answer.Rows (map (shown t s.columns) (cut s.limit (sorted t rs)))) (passing t s.tests d table shaped)
+same_answer t (statement.Select s) d table shaped = ap (λ rs. answer.Rows (map (projected t s.columns) (cut s.limit (sorted t rs)))) (passing t s.tests d table shaped)
 same_answer t statement.Begin d table shaped = refl
 same_answer t statement.Commit d table shaped = refl
 same_answer t statement.Rollback d table shaped = refl

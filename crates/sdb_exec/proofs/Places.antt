@@ -19,9 +19,9 @@ use Rattle.std.specs.Option.{option_map_or}
 use Rattle.sdb_model.specs.declared.statement.Mention.{Mention}
 use Rattle.sdb_model.specs.Refused.{first_place, repeat_place, is_named_by, refusal, or_next, written, looked_at, mentions, set_by, missing_place, is_unknown, names_key, is_of_other_kind, is_null_in_key, is_out_of_range, is_too_long, refusal_on}
 
-refuse-fine : {A B : Type 0} (o : Option A) (f : A → TableRefused) (next : Result B TableRefused) → is_ok (refuse o f next) ≡ true → (o ≡ None) × (is_ok next ≡ true)
-refuse-fine None f next h = (refl, h)
-refuse-fine (Some a) f next h = absurd (cc)
+refuse-valid : {A B : Type 0} (o : Option A) (f : A → TableRefused) (next : Result B TableRefused) → is_ok (refuse o f next) ≡ true → (o ≡ None) × (is_ok next ≡ true)
+refuse-valid None f next h = (refl, h)
+refuse-valid (Some a) f next h = absurd (cc)
 
 abbrev pub IsSound : Table → Type 0
 IsSound t = (first_repeated [] (key_names t) ≡ None) × (limit_passed t ≡ None)
@@ -29,13 +29,13 @@ IsSound t = (first_repeated [] (key_names t) ≡ None) × (limit_passed t ≡ No
 checked : (t : Table) → is_ok (checked_table t) ≡ true → IsSound t
 unfolding checked_table
 checked t h =
-    let a = refuse-fine (none_of t.partition) _ _ h in
-    let b = refuse-fine (first_unknown t.columns (key_names t)) _ _ a.1 in
-    let c = refuse-fine (first_unknown t.columns t.indexed) _ _ b.1 in
-    let d = refuse-fine (first_listed_twice t.columns) _ _ c.1 in
-    let e = refuse-fine (first_repeated [] (key_names t)) _ _ d.1 in
-    let f = refuse-fine (first_reserved t.columns) _ _ e.1 in
-    let g = refuse-fine (limit_passed t) _ _ f.1 in
+    let a = refuse-valid (none_of t.partition) _ _ h in
+    let b = refuse-valid (first_unknown t.columns (key_names t)) _ _ a.1 in
+    let c = refuse-valid (first_unknown t.columns t.indexed) _ _ b.1 in
+    let d = refuse-valid (first_listed_twice t.columns) _ _ c.1 in
+    let e = refuse-valid (first_repeated [] (key_names t)) _ _ d.1 in
+    let f = refuse-valid (first_reserved t.columns) _ _ e.1 in
+    let g = refuse-valid (limit_passed t) _ _ f.1 in
     (e.0, g.0)
 
 pub sound : (t : Table) → is_table t ≡ true → IsSound t

@@ -23,7 +23,7 @@ use Rattle.sdb_model.specs.declared.statement.Statement.TheVariants as statement
 use Rattle.sdb_model.specs.Exec.{Tables, all_rows, is_row_of, exec, exec_in, named_table, answer_of, left_by, key_of}
 use Rattle.sdb_exec.specs.Reads.{access_of, access_by}
 use Rattle.sdb_model.specs.Access.{in_access, rows_at, with_changes}
-use Rattle.sdb_exec.specs.Plans.{Planned, first_unfit, has_shape, are_shaped, all_fit, answer_on, changes_on, step_of, IsExec}
+use Rattle.sdb_exec.specs.Plans.{Planned, first_unfit, has_shape, are_shaped, all_well_typed, answer_on, changes_on, step_of, IsExec}
 use Rattle.sdb_exec.proofs.Local.{same_answer, same_after}
 use Rattle.sdb_types.specs.Exact.{equal_of as equal}
 
@@ -106,7 +106,7 @@ is_exec catalog p d table named asked shaped fit =
     whole ∙ (λ i. (same_answer p.table p.statement d table shaped i, same_after p.table p.statement d table shaped i)) in
     rw (asked, fit) both
 
-pub fitting_is_exec : (catalog : List Table) (p : Planned) (d : Tables) → is_table p.table ≡ true → named_table catalog p.statement ≡ Some p.table → p.asked ≡ true → all_fit p.table d ≡ true
+pub fitting_is_exec : (catalog : List Table) (p : Planned) (d : Tables) → is_table p.table ≡ true → named_table catalog p.statement ≡ Some p.table → p.asked ≡ true → all_well_typed p.table d ≡ true
     → IsExec catalog p d (step_of p (rows_at (access_of p.table p.statement) d))
 fitting_is_exec catalog p d table named asked fit =
     is_exec catalog p d table named asked (all_shaped p.table (all_rows d) fit) (none_unfit p.table (in_access (access_of p.table p.statement)) (own p.table p.statement) (all_rows d) fit)

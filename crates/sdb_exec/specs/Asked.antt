@@ -41,5 +41,5 @@ pub record AcceptedStatement : Type 0 where
   pub accepted : refusal_on table statement ≡ None
 
 -- each row fits the table
-abbrev pub rows_fit : Table → List Image → Bool
-rows_fit t rows = list_all (λ r. fits_table t r.key r.columns) rows
+abbrev pub rows_are_well_typed : Table → List Image → Bool
+rows_are_well_typed t rows = list_all (λ r. fits_table t r.key r.columns) rows

@@ -16,7 +16,7 @@ use Rattle.sdb_model.specs.declared.statement.Statement.{Statement}
 use Rattle.sdb_model.specs.declared.statement.Statement.TheVariants as statement
 use Rattle.sdb_model.specs.declared.answer.Answer.{Answer}
 use Rattle.sdb_model.specs.declared.answer.Answer.TheVariants as answer
-use Rattle.sdb_model.specs.Exec.{Tables, exec, all_rows, is_row_of, passes, key_of, with_named, with_sets, sorted, cut, shown, not_a_table}
+use Rattle.sdb_model.specs.Exec.{Tables, exec, all_rows, is_row_of, passes, key_of, with_named, with_sets, sorted, cut, projected, not_a_table}
 use Rattle.sdb_model.specs.declared.answer.Refusal.{Refusal}
 use Rattle.sdb_exec.specs.declared.plan.PlanRefused.{PlanRefused}
 use Rattle.sdb_exec.specs.declared.plan.PlanRefused.TheVariants as refused
@@ -58,7 +58,7 @@ answer_on t (statement.Insert s) rows = if is_some (columns_at (key_of t s) rows
 answer_on t (statement.Upsert s) rows = answer.Count 1
 answer_on t (statement.Update s) rows = answer.Count (length (filter (passes t s.tests) rows))
 answer_on t (statement.Delete s) rows = answer.Count (length (filter (passes t s.tests) rows))
-answer_on t (statement.Select s) rows = answer.Rows (map (shown t s.columns) (cut s.limit (sorted t (filter (passes t s.tests) rows))))
+answer_on t (statement.Select s) rows = answer.Rows (map (projected t s.columns) (cut s.limit (sorted t (filter (passes t s.tests) rows))))
 answer_on t statement.Begin rows = not_a_table
 answer_on t statement.Commit rows = not_a_table
 answer_on t statement.Rollback rows = not_a_table
@@ -106,8 +106,8 @@ abbrev pub are_shaped : Table → List Image → Bool
 are_shaped t = list_all (λ r. not (is_row_of t r) || has_shape t r.key)
 
 -- each row of the table fits it
-abbrev pub all_fit : Table → Tables → Bool
-all_fit t d = list_all (λ r. not (is_row_of t r) || fits_table t r.key r.columns) (all_rows d)
+abbrev pub all_well_typed : Table → Tables → Bool
+all_well_typed t d = list_all (λ r. not (is_row_of t r) || fits_table t r.key r.columns) (all_rows d)
 
 -- the step finishes as the statement does on these tables
 abbrev pub IsExec : List Table → Planned → Tables → PlanStep → Type 0
@@ -130,12 +130,12 @@ change_keys changes = map (λ k. k.key) changes
 ---- changes that fit
 
 -- the row that a change leaves, if it leaves one, fits the table
-abbrev pub leaves_fit : Table → Key → Change → Bool
-leaves_fit t key (change.Row columns) = fits_table t key columns
-leaves_fit t key change.Delete = true
+abbrev pub leaves_well_typed : Table → Key → Change → Bool
+leaves_well_typed t key (change.Row columns) = fits_table t key columns
+leaves_well_typed t key change.Delete = true
 
-abbrev pub change_fits : Table → Keyed → Bool
-change_fits t k = leaves_fit t k.key k.change
+abbrev pub change_is_well_typed : Table → Keyed → Bool
+change_is_well_typed t k = leaves_well_typed t k.key k.change
 
 -- an insert has as many literals as names
 abbrev pub has_all_literals : Statement → Bool

@@ -6,17 +6,17 @@ ghost use Rattle.sdb_record.specs.declared.access.Access.{Access};
 ghost use Rattle.sdb_schema.specs.declared.table.Table.{Table};
 ghost use Rattle.sdb_model.specs.Exec.{Tables};
 ghost use Rattle.sdb_model.specs.Access.{in_access, rows_at};
-ghost use Rattle.sdb_exec.specs.Asked.{AcceptedStatement, AreReadable, AskedPlan, FinishesAsExec, rows_fit};
+ghost use Rattle.sdb_exec.specs.Asked.{AcceptedStatement, AreReadable, AskedPlan, FinishesAsExec, rows_are_well_typed};
 ghost use Rattle.sdb_model.specs.declared.statement.Statement.{Statement};
 ghost use Rattle.sdb_record.specs.declared.access.Image.{Image};
-ghost use Rattle.sdb_exec.specs.Plans.{all_fit, changes_on, keys_rise, row_keys, change_keys, change_fits};
+ghost use Rattle.sdb_exec.specs.Plans.{all_well_typed, changes_on, keys_rise, row_keys, change_keys, change_is_well_typed};
 ghost use Rattle.std.specs.List.{list_all};
 
 /// On the rows of its access a plan finishes as its statement does on the whole tables, with the same answer and the same
 /// tables after it: where all rows of its table fit, and also where those that it reads do and each other one has a key
 /// with a value for each column of the primary key.
 pub fn plan_is_exec()
-    ensures fitting { (a : AskedPlan) (d : Tables) → all_fit a.plan.table d ≡ true → FinishesAsExec a d }
+    ensures fitting { (a : AskedPlan) (d : Tables) → all_well_typed a.plan.table d ≡ true → FinishesAsExec a d }
     ensures shaped { (a : AskedPlan) (d : Tables) → AreReadable a d → FinishesAsExec a d }
 {}
 
@@ -33,6 +33,6 @@ pub fn changes_in_key_order()
 
 /// The rows that a statement writes fit its table, where the statement isn't refused, an insert has as many literals as names,
 /// and the rows that were read fit.
-pub fn changes_fit_their_table()
-    ensures { (s : AcceptedStatement) (rows : List Image) → rows_fit s.table rows ≡ true → list_all (change_fits s.table) (changes_on s.table s.statement rows) ≡ true }
+pub fn changes_are_well_typed()
+    ensures { (s : AcceptedStatement) (rows : List Image) → rows_are_well_typed s.table rows ≡ true → list_all (change_is_well_typed s.table) (changes_on s.table s.statement rows) ≡ true }
 {}

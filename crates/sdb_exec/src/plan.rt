@@ -94,9 +94,9 @@ fn find_table<'a>(catalog: &'a Catalog, statement: &Statement) -> Option<&'a Tab
 
 impl Plan {
     /// The plan of a statement, or its refusal. Takes time linear in the statement. A statement that mentions more columns than
-    /// 32 bits can number counts as one that wants memory.
+    /// 32 bits can number counts as out of memory.
     pub fn new(alloc: Global, catalog: &Catalog, statement: &Statement) -> Result<Plan, PlanRefused>
-        ensures fine { OnOk result (refusal_of catalog.now statement.now ≡ None) }
+        ensures valid { OnOk result (refusal_of catalog.now statement.now ≡ None) }
         ensures table { IfOk result (λ p. named_table catalog.now statement.now ≡ Some p.table) }
         ensures statement { IfOk result (λ p. p.statement ≡ statement.now) }
         ensures first { IfOk result (λ p. p.asked ≡ false) }

@@ -310,7 +310,7 @@ fn first_fault(
 }
 
 /// The refusal of a statement on its table, if there is one. Takes time linear in the statement. A statement with more mentions
-/// than 32 bits can number counts as one that wants memory.
+/// than 32 bits can number counts as out of memory.
 pub fn refusal_on_table(
     alloc: Global,
     table: &Table,

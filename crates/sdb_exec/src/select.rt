@@ -1,10 +1,10 @@
 //! The rows that a SELECT shows.
 ghost use Rattle.std.specs.Prelude.{◌≡◌, IfOk, map};
-ghost use Rattle.sdb_model.specs.Exec.{sorted as sorted_lem, cut as cut_lem, shown as shown_lem};
+ghost use Rattle.sdb_model.specs.Exec.{sorted as sorted_lem, cut as cut_lem, projected as projected_lem};
 
 use sdb_model::{Rows, Select};
 use sdb_record::{Image, Images};
-use sdb_rows::{cut, shown_all, shown_names};
+use sdb_rows::{cut, projected_all, projected_names};
 use sdb_schema::Table;
 use sdb_types::{NoMemory, Seq};
 use std::alloc::Global;
@@ -26,11 +26,11 @@ pub fn selected(
     select: &Select,
     rows: Images,
 ) -> Result<Rows, NoMemory>
-    ensures { IfOk result (λ found. found ≡ map (shown_lem table.now select.now.columns) (cut_lem select.now.limit (sorted_lem table.now rows))) }
+    ensures { IfOk result (λ found. found ≡ map (projected_lem table.now select.now.columns) (cut_lem select.now.limit (sorted_lem table.now rows))) }
 {
     let found = sorted(table, rows)?;
-    let names = shown_names(alloc, table, &select.columns)?;
-    shown_all(
+    let names = projected_names(alloc, table, &select.columns)?;
+    projected_all(
         alloc,
         table,
         names.as_slice(),

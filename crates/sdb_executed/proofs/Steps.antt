@@ -10,53 +10,53 @@ use Rattle.sdb_types.specs.Contents.{CanAnswer}
 use Rattle.sdb_model.specs.declared.answer.Answer.{Answer}
 use Rattle.sdb_model.specs.declared.script.Script.{Script}
 use Rattle.sdb_model.specs.Follows.{texts_of}
-use Rattle.sdb_client.specs.Client.{ClientAt, IsIdle, ReplyTold, client_pending, next_id, Takes}
+use Rattle.sdb_client.specs.Client.{ClientAt, IsIdle, ReplyPost, client_pending, next_id, TextStep}
 use Rattle.sdb_client.specs.declared.gate.Gate.{Gate}
-use Rattle.sdb_execution.specs.declared.seat.Seat.{Seat}
-use Rattle.sdb_execution.specs.Execution.{CallStep, IsGateAt, State, TakeStep, moved_seat, with_seat_at}
-use Rattle.sdb_model.specs.Calls.{shows_stored}
+use Rattle.sdb_execution.specs.declared.slot.ClientSlot.{ClientSlot}
+use Rattle.sdb_execution.specs.Execution.{CallStep, IsGateAt, State, TakeStep, client_after, with_client_at}
+use Rattle.sdb_model.specs.Calls.{is_stored_reply}
 
-pub took : (script : Script) (s : State) (c at : ℕ) (seat : Seat) (gate : Gate) (text : List ℕ) (answer : Option Answer) (client : ClientAt)
-    → c ≡ suc at → at < length s.seats → IfSome (slice_get s.seats at) (λ x. x.stopped ≡ false) → seat ≡ get_or s.seats at seat → IsIdle seat.client → slice_get (texts_of script.clients (suc at)) seat.taken ≡ Some text → IsGateAt gate s.seats at → client.begun < 2 ^ 64
-    → Takes (record { catalog = script.catalog; now = s.clock; gate = gate; fresh = next_id seat.client }) text seat.client answer client → TakeStep script s c text answer (with_seat_at s at (moved_seat seat 1 client))
-took script s c at seat gate text answer client number low goes read idle next gated small takes = record {
+pub took : (script : Script) (s : State) (c at : ℕ) (client_slot : ClientSlot) (gate : Gate) (text : List ℕ) (answer : Option Answer) (client : ClientAt)
+    → c ≡ suc at → at < length s.client_slots → IfSome (slice_get s.client_slots at) (λ x. x.stopped ≡ false) → client_slot ≡ get_or s.client_slots at client_slot → IsIdle client_slot.client → slice_get (texts_of script.clients (suc at)) client_slot.taken ≡ Some text → IsGateAt gate s.client_slots at → client.begun < 2 ^ 64
+    → TextStep (record { catalog = script.catalog; now = s.clock; gate = gate; fresh = next_id client_slot.client }) text client_slot.client answer client → TakeStep script s c text answer (with_client_at s at (client_after client_slot 1 client))
+took script s c at client_slot gate text answer client number low goes read idle next gated small takes = record {
   place = at;
-  seat = seat;
+  client_slot = client_slot;
   gate = gate;
   client = client;
   number = number;
   at = there;
-  goes_on = subst (λ (o : Option Seat). IfSome o (λ x. x.stopped ≡ false)) there goes;
+  goes_on = subst (λ (o : Option ClientSlot). IfSome o (λ x. x.stopped ≡ false)) there goes;
   idle = idle;
-  next = subst (λ n. slice_get (texts_of script.clients n) seat.taken ≡ Some text) (sym number) next;
+  next = subst (λ n. slice_get (texts_of script.clients n) client_slot.taken ≡ Some text) (sym number) next;
   gated = gated;
   small = small;
   takes = takes;
   left = refl;
 }
   where
-    there : slice_get s.seats at ≡ Some seat
-    there = slice_get_read s.seats (length s.seats) at seat refl low read
+    there : slice_get s.client_slots at ≡ Some client_slot
+    there = slice_get_read s.client_slots (length s.client_slots) at client_slot refl low read
 
-pub called : (s v : State) (c at : ℕ) (seat : Seat) (q : Request) (r : Reply) (answer : Option Answer) (client : ClientAt)
-    → c ≡ suc at → at < length s.seats → IfSome (slice_get s.seats at) (λ x. x.stopped ≡ false) → seat ≡ get_or s.seats at seat → client_pending seat.client ≡ Some q → CanAnswer q r → shows_stored r ≡ true
-    → ReplyTold seat.client seat.client.vacuum r s.clock answer client → v ≡ with_seat_at s at (record { client = client; taken = seat.taken; stopped = seat.stopped }) → CallStep s c q r answer v
-called s v c at seat q r answer client number low goes read pending can stored takes left = record {
+pub called : (s v : State) (c at : ℕ) (client_slot : ClientSlot) (q : Request) (r : Reply) (answer : Option Answer) (client : ClientAt)
+    → c ≡ suc at → at < length s.client_slots → IfSome (slice_get s.client_slots at) (λ x. x.stopped ≡ false) → client_slot ≡ get_or s.client_slots at client_slot → client_pending client_slot.client ≡ Some q → CanAnswer q r → is_stored_reply r ≡ true
+    → ReplyPost client_slot.client client_slot.client.vacuum r s.clock answer client → v ≡ with_client_at s at (record { client = client; taken = client_slot.taken; stopped = client_slot.stopped }) → CallStep s c q r answer v
+called s v c at client_slot q r answer client number low goes read pending can stored takes left = record {
   place = at;
-  seat = seat;
+  client_slot = client_slot;
   client = client;
   number = number;
   at = there;
-  goes_on = subst (λ (o : Option Seat). IfSome o (λ x. x.stopped ≡ false)) there goes;
+  goes_on = subst (λ (o : Option ClientSlot). IfSome o (λ x. x.stopped ≡ false)) there goes;
   pending = pending;
   can = can;
   stored = stored;
   takes = takes;
-  left = left ∙ ap (λ n. with_seat_at s at (record { client = client; taken = n; stopped = seat.stopped })) (sym (add-zero seat.taken));
+  left = left ∙ ap (λ n. with_client_at s at (record { client = client; taken = n; stopped = client_slot.stopped })) (sym (add-zero client_slot.taken));
 }
   where
-    there : slice_get s.seats at ≡ Some seat
-    there = slice_get_read s.seats (length s.seats) at seat refl low read
+    there : slice_get s.client_slots at ≡ Some client_slot
+    there = slice_get_read s.client_slots (length s.client_slots) at client_slot refl low read
 
 -- the first events with one more
 pub event_more : (es : List Event) (i : ℕ) (e : Event) → i < length es → e ≡ get_or es i e → take (i + 1) es ≡ take i es ++ e ∷ []

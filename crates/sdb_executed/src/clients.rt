@@ -8,7 +8,7 @@ ghost use Rattle.sdb_execution.specs.Execution.{AreFresh, CallStep, IsStepFrom, 
 use crate::replies::{can_answer, is_moment};
 use sdb_caused::is_answered_alike;
 use sdb_client::Client;
-use sdb_execution::{Seat, fresh_seats, gate_at, show_order};
+use sdb_execution::{ClientSlot, fresh_slots, gate_at, prove_order};
 use sdb_model::{Answer, Event, Script};
 use sdb_types::{Duplicate, NoMemory, Reply, Request, Txt, same};
 use std::alloc::Global;
@@ -16,14 +16,17 @@ use std::marker::Model;
 
 /// A state of an execution: the clients, and the clock.
 pub struct Clients {
-    seats: Vec<Seat>,
+    client_slots: Vec<ClientSlot>,
     clock: i64,
 }
 
 // By hand: each drop is then one call, where a derived one is written out at each exit, with a call for each field.
 impl Drop for Clients {
     fn drop(self) {
-        let Clients { seats: _, clock: _ } = self;
+        let Clients {
+            client_slots: _,
+            clock: _,
+        } = self;
     }
 }
 
@@ -32,7 +35,7 @@ impl Model for Clients {
 
     ghost Value = { State };
 
-    ghost view = { λ c. record { seats = c.seats.items; clock = c.clock } };
+    ghost view = { λ c. record { client_slots = c.client_slots.items; clock = c.clock } };
 }
 
 // A text is a client's next statement.
@@ -69,20 +72,23 @@ impl Clients {
     /// So many clients that have done nothing, at moment 0.
     pub fn new(alloc: Global, count: usize) -> Result<Clients, NoMemory>
         requires few { count < 2 ^ 32 - 1 }
-        ensures seats { IfOk result (λ c. AreFresh count c.seats) }
+        ensures client_slots { IfOk result (λ c. AreFresh count c.client_slots) }
         ensures clock { IfOk result (λ c. c.clock ≡ pos 0) }
     {
-        let seats = fresh_seats(alloc, count)?;
-        Ok(Clients { seats, clock: 0 })
+        let client_slots = fresh_slots(alloc, count)?;
+        Ok(Clients {
+            client_slots,
+            clock: 0,
+        })
     }
 
     // The place of a client that goes on.
     fn place(&self, client: u32) -> Option<usize>
-        ensures { IfSome result (λ at. (client ≡ suc at) × (at < length self.now.seats) × IfSome (slice_get self.now.seats at) (λ s. s.stopped ≡ false)) }
+        ensures { IfSome result (λ at. (client ≡ suc at) × (at < length self.now.client_slots) × IfSome (slice_get self.now.client_slots at) (λ s. s.stopped ≡ false)) }
     {
         let at = (client as usize).checked_sub(1)?;
-        match self.seats.get(at) {
-            Some(seat) if !seat.stopped => Some(at),
+        match self.client_slots.get(at) {
+            Some(client_slot) if !client_slot.stopped => Some(at),
             _ => None,
         }
     }
@@ -94,20 +100,23 @@ impl Clients {
         let Some(at) = self.place(client) else {
             return false;
         };
-        let gate = gate_at(&self.seats, at);
-        let seat = &mut self.seats[at];
-        let Some(taken) = seat.taken.checked_add(1) else {
+        let gate = gate_at(&self.client_slots, at);
+        let client_slot = &mut self.client_slots[at];
+        let Some(taken) = client_slot.taken.checked_add(1) else {
             return false;
         };
-        if !seat.client.is_idle() || !is_next(script, at, seat.taken, text) || !is_short(text) {
+        if !client_slot.client.is_idle()
+            || !is_next(script, at, client_slot.taken, text)
+            || !is_short(text)
+        {
             return false;
         }
-        let fresh = seat.client.next_id();
-        let answered = seat
+        let fresh = client_slot.client.next_id();
+        let answered = client_slot
             .client
             .take(&script.catalog, text, gate, fresh, self.clock);
-        let _begun = seat.client.begun();
-        seat.taken = taken;
+        let _begun = client_slot.client.begun();
+        client_slot.taken = taken;
         is_answered_alike(&answered, answer)
     }
 
@@ -124,12 +133,12 @@ impl Clients {
         let Some(at) = self.place(client) else {
             return false;
         };
-        let seat = &mut self.seats[at];
-        if !is_pending(&seat.client, request) || !can_answer(request, &reply) {
+        let client_slot = &mut self.client_slots[at];
+        if !is_pending(&client_slot.client, request) || !can_answer(request, &reply) {
             return false;
         }
-        show_order(&reply);
-        let answered = seat.client.advance(reply, self.clock);
+        prove_order(&reply);
+        let answered = client_slot.client.advance(reply, self.clock);
         is_answered_alike(&answered, answer)
     }
 
@@ -140,16 +149,16 @@ impl Clients {
         let Some(at) = (client as usize).checked_sub(1) else {
             return false;
         };
-        if at >= self.seats.len() {
+        if at >= self.client_slots.len() {
             return false;
         }
-        self.seats[at].stopped = true;
+        self.client_slots[at].stopped = true;
         true
     }
 
     // The clock shows a moment.
     fn tick(&mut self, moment: i64) -> bool
-        ensures { result ≡ true → (is_moment_lem moment ≡ true) × (self.new ≡ record { seats = self.old.seats; clock = moment }) }
+        ensures { result ≡ true → (is_moment_lem moment ≡ true) × (self.new ≡ record { client_slots = self.old.client_slots; clock = moment }) }
     {
         self.clock = moment;
         is_moment(moment)

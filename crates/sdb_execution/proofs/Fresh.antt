@@ -1,8 +1,8 @@
 -- Clients that have done nothing; and what is so of those at other places.
 use Rattle.std.proofs.Common.{◌≡◌, ◌≢◌, ℕ, zero, suc, ◌+◌, ◌<◌, List, [], ◌∷◌, ◌++◌, length, Some, refl, sym, ap, subst, ◌∙◌, length-append}
 use Rattle.std.specs.Prelude.{slice_get}
-use Rattle.sdb_execution.specs.declared.seat.Seat.{Seat}
-use Rattle.sdb_execution.specs.Execution.{AreFresh, fresh_seat}
+use Rattle.sdb_execution.specs.declared.slot.ClientSlot.{ClientSlot}
+use Rattle.sdb_execution.specs.Execution.{AreFresh, initial_client}
 use Rattle.sdb_types.proofs.Basics.{none_some, some_is}
 
 -- what is so of each by its place is so with one more
@@ -16,10 +16,10 @@ pub fresh_none : AreFresh 0 []
 fresh_none = record { size = refl; each = λ i s e. absurd (none_some s e) }
 
 -- one client more
-pub fresh_more : (i : ℕ) (seats more : List Seat) (s : Seat) → AreFresh i seats → s ≡ fresh_seat i → more ≡ seats ++ s ∷ [] → AreFresh (i + 1) more
-fresh_more i seats more s h is same = subst (λ (xs : List Seat). AreFresh (i + 1) xs) (sym same) (record {
-  size = length-append seats (s ∷ []) ∙ ap (λ (n : ℕ). n + 1) h.size;
-  each = each_more (λ (j : ℕ) (t : Seat). t ≡ fresh_seat j) seats s h.each (is ∙ ap fresh_seat (sym h.size));
+pub fresh_more : (i : ℕ) (client_slots more : List ClientSlot) (s : ClientSlot) → AreFresh i client_slots → s ≡ initial_client i → more ≡ client_slots ++ s ∷ [] → AreFresh (i + 1) more
+fresh_more i client_slots more s h is same = subst (λ (xs : List ClientSlot). AreFresh (i + 1) xs) (sym same) (record {
+  size = length-append client_slots (s ∷ []) ∙ ap (λ (n : ℕ). n + 1) h.size;
+  each = each_more (λ (j : ℕ) (t : ClientSlot). t ≡ initial_client j) client_slots s h.each (is ∙ ap initial_client (sym h.size));
 })
 
 -- what is so of each client before a place, but for one

@@ -1,10 +1,10 @@
 //! Executions of a script's clients: the states that they go through, and the steps from one state to another.
 #![tactic(auto)]
 
-mod seat;
-mod seats;
+mod slot;
+mod slots;
 mod stored;
 
-pub use seat::Seat;
-pub use seats::{fresh_seats, gate_at};
-pub use stored::show_order;
+pub use slot::ClientSlot;
+pub use slots::{fresh_slots, gate_at};
+pub use stored::prove_order;

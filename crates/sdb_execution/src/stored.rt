@@ -2,7 +2,7 @@
 ghost use Rattle.std.specs.Prelude.{◌≡◌, true};
 ghost use Rattle.std.specs.List.{list_all};
 ghost use Rattle.sdb_record.specs.Parts.{are_stored};
-ghost use Rattle.sdb_model.specs.Calls.{shows_stored};
+ghost use Rattle.sdb_model.specs.Calls.{is_stored_reply};
 
 use sdb_types::{Columns, Record, Reply};
 
@@ -16,7 +16,7 @@ fn have_order(columns: &Columns)
     }
 }
 
-// So are those of each of some records.
+// The same for each of some records.
 fn all_have_order(records: &[Record])
     ensures { list_all (λ x. are_stored x.columns) records.now ≡ true }
 {
@@ -26,8 +26,8 @@ fn all_have_order(records: &[Record])
 }
 
 /// The columns of each record that a reply shows are in order, each with a name.
-pub fn show_order(reply: &Reply)
-    ensures { shows_stored reply.now ≡ true }
+pub fn prove_order(reply: &Reply)
+    ensures { is_stored_reply reply.now ≡ true }
 {
     match reply {
         Reply::Found(Some(rec)) => have_order(&rec.columns),

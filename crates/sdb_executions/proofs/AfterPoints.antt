@@ -18,9 +18,9 @@ use Rattle.sdb_model.specs.declared.event.Event.{Event}
 use Rattle.sdb_model.specs.declared.event.Event.TheVariants as event
 use Rattle.sdb_model.specs.declared.event.How.{How}
 use Rattle.sdb_model.specs.declared.event.How.TheVariants.{Seen, Lost, Discarded, Broken}
-use Rattle.sdb_model.specs.Calls.{Made, calls_before, calls_by, calls_of, end_of, key_asked, made_by, put_by}
+use Rattle.sdb_model.specs.Calls.{StoreCall, calls_before, calls_by, calls_of, end_of, key_asked, made_by, put_by}
 use Rattle.sdb_model.specs.Counted.{prepares_in}
-use Rattle.sdb_model.specs.Transactions.{Said, commit_of, is_prepared_by, last_prepare, point, prepares, said}
+use Rattle.sdb_model.specs.Transactions.{Executed, commit_of, is_prepared_by, last_prepare, point, prepares, statements_by}
 use Rattle.sdb_causes.specs.Rolled.{AnsweredWereSeen}
 use Rattle.sdb_causes.proofs.Lists.{each_in, kept_in}
 use Rattle.sdb_endings.proofs.Calls.{a_later, the_first}
@@ -96,11 +96,11 @@ prepare_key id (ask.Get key) e = clash (sym e)
 prepare_key id (ask.Scan span) e = clash (sym e)
 prepare_key id (ask.DeleteIf key condition) e = clash (sym e)
 
-keys_long : (id : TxId) (ms : List Made) → length (keys_prepared id ms) ≡ length (prepares_in id ms)
+keys_long : (id : TxId) (ms : List StoreCall) → length (keys_prepared id ms) ≡ length (prepares_in id ms)
 keys_long id [] = refl
 keys_long id (m ∷ ms) = by (prepares id m.request) refl (keys_long id ms)
   where
-    by : (b : Bool) → prepares id m.request ≡ b → length (keys_prepared id ms) ≡ length (prepares_in id ms) → length (filter_map (λ (x : Made). key_asked x.request) (if b then m ∷ prepares_in id ms else prepares_in id ms)) ≡ length (if b then m ∷ prepares_in id ms else prepares_in id ms)
+    by : (b : Bool) → prepares id m.request ≡ b → length (keys_prepared id ms) ≡ length (prepares_in id ms) → length (filter_map (λ (x : StoreCall). key_asked x.request) (if b then m ∷ prepares_in id ms else prepares_in id ms)) ≡ length (if b then m ∷ prepares_in id ms else prepares_in id ms)
     by true e ih = ap (λ (o : Option Key). length (cons_option o (keys_prepared id ms))) (prepare_key id m.request e).2 ∙ ap suc ih
     by false e ih = ih
 
@@ -113,22 +113,22 @@ short (suc n) (k ∷ ks) = let l = short n ks in up (length (take n ks)) (length
     up a b l = omega (arith, l)
 
 -- Where a call decides, each prepare was applied before it.
-applied_before : (keys : List Key) (id : TxId) (calls : List Made) (m p : Made) → PreparesAll keys id calls → keys_applied id (calls_before m.at calls) ≡ keys → Contains calls p → prepares id p.request ≡ true → (is_applied p.reply ≡ true) × (nat_lt p.at m.at ≡ true)
+applied_before : (keys : List Key) (id : TxId) (calls : List StoreCall) (m p : StoreCall) → PreparesAll keys id calls → keys_applied id (calls_before m.at calls) ≡ keys → Contains calls p → prepares id p.request ≡ true → (is_applied p.reply ≡ true) × (nat_lt p.at m.at ≡ true)
 applied_before keys id calls m p h all has is =
-    each_in (λ (x : Made). prepares id x.request ≡ true → (is_applied x.reply ≡ true) × (nat_lt x.at m.at ≡ true)) calls p
-    (all_kept (λ (x : Made). prepares id x.request) (λ (x : Made). is_applied x.reply) (λ (x : Made). nat_lt x.at m.at) calls
-    (few (length (prepares_in id calls)) (length (take h.count keys)) (length keys) (length (prepares_in id (filter (λ (x : Made). is_applied x.reply) (calls_before m.at calls))))
-    (sym (keys_long id calls) ∙ ap (λ (ks : List Key). length ks) h.prepared) (short h.count keys) (sym (keys_long id (filter (λ (x : Made). is_applied x.reply) (calls_before m.at calls))) ∙ ap (λ (ks : List Key). length ks) all))) has is
+    each_in (λ (x : StoreCall). prepares id x.request ≡ true → (is_applied x.reply ≡ true) × (nat_lt x.at m.at ≡ true)) calls p
+    (all_kept (λ (x : StoreCall). prepares id x.request) (λ (x : StoreCall). is_applied x.reply) (λ (x : StoreCall). nat_lt x.at m.at) calls
+    (few (length (prepares_in id calls)) (length (take h.count keys)) (length keys) (length (prepares_in id (filter (λ (x : StoreCall). is_applied x.reply) (calls_before m.at calls))))
+    (sym (keys_long id calls) ∙ ap (λ (ks : List Key). length ks) h.prepared) (short h.count keys) (sym (keys_long id (filter (λ (x : StoreCall). is_applied x.reply) (calls_before m.at calls))) ∙ ap (λ (ks : List Key). length ks) all))) has is
   where
     few : (a b c d : ℕ) → a ≡ b → b ≤ c → d ≡ c → a ≤ d
     few a b c d e l f = omega (arith, e, l, f)
 
 -- There it has made as many prepares as there are keys.
-pub as_many : (keys : List Key) (id : TxId) (calls : List Made) (m : Made) → PreparesAll keys id calls → keys_applied id (calls_before m.at calls) ≡ keys → length (prepares_in id calls) ≡ length keys
+pub as_many : (keys : List Key) (id : TxId) (calls : List StoreCall) (m : StoreCall) → PreparesAll keys id calls → keys_applied id (calls_before m.at calls) ≡ keys → length (prepares_in id calls) ≡ length keys
 as_many keys id calls m h all =
-    both (length (prepares_in id calls)) (length (take h.count keys)) (length keys) (length (prepares_in id (filter (λ (x : Made). is_applied x.reply) (calls_before m.at calls))))
-    (sym (keys_long id calls) ∙ ap (λ (ks : List Key). length ks) h.prepared) (short h.count keys) (sym (keys_long id (filter (λ (x : Made). is_applied x.reply) (calls_before m.at calls))) ∙ ap (λ (ks : List Key). length ks) all)
-    (fewer (λ (x : Made). prepares id x.request) (λ (x : Made). is_applied x.reply) (λ (x : Made). nat_lt x.at m.at) calls)
+    both (length (prepares_in id calls)) (length (take h.count keys)) (length keys) (length (prepares_in id (filter (λ (x : StoreCall). is_applied x.reply) (calls_before m.at calls))))
+    (sym (keys_long id calls) ∙ ap (λ (ks : List Key). length ks) h.prepared) (short h.count keys) (sym (keys_long id (filter (λ (x : StoreCall). is_applied x.reply) (calls_before m.at calls))) ∙ ap (λ (ks : List Key). length ks) all)
+    (fewer (λ (x : StoreCall). prepares id x.request) (λ (x : StoreCall). is_applied x.reply) (λ (x : StoreCall). nat_lt x.at m.at) calls)
   where
     both : (a b c d : ℕ) → a ≡ b → b ≤ c → d ≡ c → d ≤ a → a ≡ c
     both a b c d e l f k = omega (arith, e, l, f, k)
@@ -155,10 +155,10 @@ module _ (id : TxId) where
       by false h g = g
 
   -- a call that prepares, was seen and applied
-  abbrev IsPrepare : Made → Type 0
+  abbrev IsPrepare : StoreCall → Type 0
   IsPrepare p = (prepares id p.request ≡ true) × (p.how ≡ Seen) × (p.reply ≡ reply.Applied)
 
-  made_prepares : (c k : ℕ) (e : Event) (p : Made) → made_by c (k, e) ≡ Some p → IsPrepare p → (p.at ≡ k) × (is_prepared_by id e ≡ true)
+  made_prepares : (c k : ℕ) (e : Event) (p : StoreCall) → made_by c (k, e) ≡ Some p → IsPrepare p → (p.at ≡ k) × (is_prepared_by id e ≡ true)
   made_prepares c k (event.Take d text a) p made is = none_some p made
   made_prepares c k (event.Stop d) p made is = none_some p made
   made_prepares c k (event.Clock now) p made is = none_some p made
@@ -169,11 +169,11 @@ module _ (id : TxId) where
       here q how r h = ap (λ (x : How). is_prepared_by id (event.Call d store q x r a)) h.1 ∙ ap (λ (x : Reply). is_prepared_by id (event.Call d store q Seen x a)) h.2 ∙ h.0
 
       by : (b : Bool) → (if b then Some (record { at = k; store = store; request = q; how = how; reply = r }) else None) ≡ Some p → (p.at ≡ k) × (is_prepared_by id (event.Call d store q how r a) ≡ true)
-      by true f = let same = some_is _ p f in (sym (ap (λ (y : Made). y.at) same), here q how r (subst IsPrepare (sym same) is))
+      by true f = let same = some_is _ p f in (sym (ap (λ (y : StoreCall). y.at) same), here q how r (subst IsPrepare (sym same) is))
       by false f = none_some p f
 
   -- the last prepare is this one or a later
-  last_from : (c k : ℕ) (es : List Event) (o : Option ℕ) (p : Made) → Contains (filter_map (made_by c) (enumerate_from k es)) p → IsPrepare p → (n : ℕ) × (fold newer o (enumerate_from k es) ≡ Some n) × (p.at ≤ n)
+  last_from : (c k : ℕ) (es : List Event) (o : Option ℕ) (p : StoreCall) → Contains (filter_map (made_by c) (enumerate_from k es)) p → IsPrepare p → (n : ℕ) × (fold newer o (enumerate_from k es) ≡ Some n) × (p.at ≤ n)
   last_from c k [] o p has is = none_in p has
   last_from c k (e ∷ es) o p has is = by (made_by c (k, e)) refl has (λ later. last_from c (k + 1) es (newer o (k, e)) p later is)
     where
@@ -186,7 +186,7 @@ module _ (id : TxId) where
           at_most : (a b n : ℕ) → a ≡ b → b ≤ n → a ≤ n
           at_most a b n e h = omega (arith, e, h)
 
-      by : (m : Option Made) → made_by c (k, e) ≡ m → Contains (cons_option m (filter_map (made_by c) (enumerate_from (k + 1) es))) p
+      by : (m : Option StoreCall) → made_by c (k, e) ≡ m → Contains (cons_option m (filter_map (made_by c) (enumerate_from (k + 1) es))) p
           → (Contains (filter_map (made_by c) (enumerate_from (k + 1) es)) p → (n : ℕ) × (fold newer (newer o (k, e)) (enumerate_from (k + 1) es) ≡ Some n) × (p.at ≤ n)) → (n : ℕ) × (fold newer (newer o (k, e)) (enumerate_from (k + 1) es) ≡ Some n) × (p.at ≤ n)
       by None f h ih = ih h
       by (Some m) f h ih = first (one_of m p (filter_map (made_by c) (enumerate_from (k + 1) es)) h)
@@ -198,7 +198,7 @@ module _ (id : TxId) where
   -- some client's call is the last prepare
   record LastCall (k : ℕ) (es : List Event) (n : ℕ) : Type 0 where
     c : ℕ
-    p : Made
+    p : StoreCall
     among : Contains (filter_map (made_by c) (enumerate_from k es)) p
     is : prepares id p.request ≡ true
     at : p.at ≡ n
@@ -238,13 +238,13 @@ module _ (id : TxId) where
 
 ---- the law
 
-module _ (events : List Event) (own : PreparesAreOwn events) (belong : CallsAreOfStatements events) (seen : AnsweredWereSeen events) (client : ℕ) (s : Said) (id : TxId) (m : Made) (d : Decides events client s id m) (among : Contains (said client events) s)
+module _ (events : List Event) (own : PreparesAreOwn events) (belong : CallsAreOfStatements events) (seen : AnsweredWereSeen events) (client : ℕ) (s : Executed) (id : TxId) (m : StoreCall) (d : Decides events client s id m) (among : Contains (statements_by client events) s)
     (keys : List Key) (h : PreparesAll keys id (calls_of events client s)) where
-  abbrev calls : List Made
+  abbrev calls : List StoreCall
   calls = calls_of events client s
 
   -- each prepare of the COMMIT
-  prepared : (p : Made) → Contains calls p → prepares id p.request ≡ true → IsPrepare id p × (p.at < m.at)
+  prepared : (p : StoreCall) → Contains calls p → prepares id p.request ≡ true → IsPrepare id p × (p.at < m.at)
   prepared p has is =
       let x = applied_before keys id calls m p h (h.decided m d.call d.puts) has is in
       let r = applied p.reply x.0 in
@@ -261,10 +261,10 @@ module _ (events : List Event) (own : PreparesAreOwn events) (belong : CallsAreO
       low : (a b : ℕ) → nat_lt a b ≡ true → a < b
       low a b e = grind (arith, nat_tests)
 
-  in_window : (p : Made) → Contains calls p → Contains (calls_by events client) p × (s.taken < p.at)
+  in_window : (p : StoreCall) → Contains calls p → Contains (calls_by events client) p × (s.taken < p.at)
   in_window p has = (
-    kept_in (λ (x : Made). nat_lt s.taken x.at && nat_le x.at (end_of events s)) (calls_by events client) p has,
-    low s.taken p.at (and_parts (nat_lt s.taken p.at) (nat_le p.at (end_of events s)) (each_in (λ (x : Made). (nat_lt s.taken x.at && nat_le x.at (end_of events s)) ≡ true) calls p (passes (λ (x : Made). nat_lt s.taken x.at && nat_le x.at (end_of events s)) (calls_by events client)) has)).0,
+    kept_in (λ (x : StoreCall). nat_lt s.taken x.at && nat_le x.at (end_of events s)) (calls_by events client) p has,
+    low s.taken p.at (and_parts (nat_lt s.taken p.at) (nat_le p.at (end_of events s)) (each_in (λ (x : StoreCall). (nat_lt s.taken x.at && nat_le x.at (end_of events s)) ≡ true) calls p (passes (λ (x : StoreCall). nat_lt s.taken x.at && nat_le x.at (end_of events s)) (calls_by events client)) has)).0,
   )
     where
       low : (a b : ℕ) → nat_lt a b ≡ true → a < b
@@ -278,24 +278,24 @@ module _ (events : List Event) (own : PreparesAreOwn events) (belong : CallsAreO
       let mine = own x.c of.statement x.p id key.0 (record { among = of.among; call = of.call; fits = d.fits; is = x.is; puts = key.1 }) in
       let same_s : of.statement ≡ s = some_is of.statement s (sym mine.commit.1 ∙ d.commit.1) in
       let same_c : x.c ≡ client = sym mine.commit.0 ∙ d.commit.0 in
-      let has : Contains calls x.p = subst (λ (t : Said). Contains (calls_of events client t) x.p) same_s (subst (λ (c : ℕ). Contains (calls_of events c of.statement) x.p) same_c of.call) in
+      let has : Contains calls x.p = subst (λ (t : Executed). Contains (calls_of events client t) x.p) same_s (subst (λ (c : ℕ). Contains (calls_of events c of.statement) x.p) same_c of.call) in
       before x.p.at n x.at (prepared x.p has x.is).1
     where
       before : (a n : ℕ) → a ≡ n → a < m.at → n < m.at
       before a n e l = omega (arith, e, l)
 
   point_is : (o : Option ℕ) → last_prepare events id ≡ o → point events id ≡ unwrap_or o s.taken
-  point_is o e = ap (λ (x : Option ℕ). unwrap_or x (option_map_or (λ (t : Said). t.taken) (commit_of events id) 0)) e ∙ ap (λ (x : Option Said). unwrap_or o (option_map_or (λ (t : Said). t.taken) x 0)) d.commit.1
+  point_is o e = ap (λ (x : Option ℕ). unwrap_or x (option_map_or (λ (t : Executed). t.taken) (commit_of events id) 0)) e ∙ ap (λ (x : Option Executed). unwrap_or o (option_map_or (λ (t : Executed). t.taken) x 0)) d.commit.1
 
   pub follows_point : IsAfterPoint events client s id m
   follows_point = record { prepared = each; decides = by (last_prepare events id) refl }
     where
-      at_point : (p : Made) → Contains calls p → IsPrepare id p → p.at ≤ point events id
+      at_point : (p : StoreCall) → Contains calls p → IsPrepare id p → p.at ≤ point events id
       at_point p has is =
           let x = last_from id client 1 events None p (in_window p has).0 is in
           subst (λ n. p.at ≤ n) (sym (point_is (Some x.0) x.1)) x.2
 
-      each : (p : Made) → Contains calls p → prepares id p.request ≡ true → (p.how ≡ Seen) × (p.reply ≡ reply.Applied) × (p.at ≤ point events id)
+      each : (p : StoreCall) → Contains calls p → prepares id p.request ≡ true → (p.how ≡ Seen) × (p.reply ≡ reply.Applied) × (p.at ≤ point events id)
       each p has is = let x = (prepared p has is).0 in (x.1, x.2, at_point p has x)
 
       by : (o : Option ℕ) → last_prepare events id ≡ o → point events id < m.at

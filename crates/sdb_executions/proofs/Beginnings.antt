@@ -8,7 +8,7 @@ use Rattle.sdb_schema.specs.declared.table.Table.{Table}
 use Rattle.sdb_model.specs.declared.event.Event.{Event}
 use Rattle.sdb_stores.specs.declared.place.Place.{Place}
 use Rattle.sdb_model.specs.declared.script.Script.{Script}
-use Rattle.sdb_model.specs.Events.{IsTrace, Shelf, moment}
+use Rattle.sdb_model.specs.Events.{IsTrace, StoreContents, moment}
 use Rattle.sdb_model.specs.Exec.{find_table}
 use Rattle.sdb_model.specs.Explained.{Explained}
 use Rattle.sdb_laws.proofs.Moments.{half}
@@ -16,11 +16,11 @@ use Rattle.sdb_spread.specs.Spread.{HoldAs}
 use Rattle.sdb_endings.specs.Stores.{AreSound}
 use Rattle.sdb_endings.proofs.Explains.{going_is_explained}
 use Rattle.sdb_endings.proofs.OnStores.{sound_on_stores}
-use Rattle.sdb_steps.specs.Fitting.{tables_fit}
-use Rattle.sdb_steps.specs.Hands.{doing_of, system_of}
+use Rattle.sdb_steps.specs.Fitting.{tables_are_well_typed}
+use Rattle.sdb_steps.specs.States.{doing_of, system_of}
 use Rattle.sdb_execution.specs.Execution.{IsExecution, IsPath, IsPlayable, State}
 use Rattle.sdb_executions.specs.Linked.{one_name}
-use Rattle.sdb_executions.specs.World.{hands_of}
+use Rattle.sdb_executions.specs.World.{states_of}
 use Rattle.sdb_executions.proofs.Steps.{execution_about, execution_linked}
 
 -- the first steps of a path
@@ -38,7 +38,7 @@ begins_execution script events n x =
     record { first = x.first; last = f.last; initial = x.initial; path = f.path }
 
 -- what the stores held after the first events
-trace_front : (places : List Place) (n : ℕ) (es : List Event) (opening : List Shelf) (ms : List (List Shelf)) (closing : List Shelf) → IsTrace places es opening ms closing → IsTrace places (take n es) opening (take n ms) (moment opening ms n)
+trace_front : (places : List Place) (n : ℕ) (es : List Event) (opening : List StoreContents) (ms : List (List StoreContents)) (closing : List StoreContents) → IsTrace places es opening ms closing → IsTrace places (take n es) opening (take n ms) (moment opening ms n)
 trace_front places zero es opening ms closing h = refl
 trace_front places (suc n) [] opening [] closing h = refl
 trace_front places (suc n) [] opening (m ∷ ms) closing h = absurd h
@@ -53,15 +53,15 @@ no_coordinator script p = by (find_table script.catalog coordinator_table) refl
     by (Some t) e = clash (sym (p.apart (record { table = coordinator_table; partition = []; clustering = [] }) (ap is_some e)))
 
 -- What there is after so many events is explained by them.
-pub explained_at : (script : Script) (events : List Event) (opening closing : List Shelf) (moments : List (List Shelf)) (n : ℕ) → IsPlayable script → IsExecution script events → IsTrace script.places events opening moments closing → HoldAs script.catalog script.places opening empty → Explained script.catalog script.places (take n events) opening (take n moments)
+pub explained_at : (script : Script) (events : List Event) (opening closing : List StoreContents) (moments : List (List StoreContents)) (n : ℕ) → IsPlayable script → IsExecution script events → IsTrace script.places events opening moments closing → HoldAs script.catalog script.places opening empty → Explained script.catalog script.places (take n events) opening (take n moments)
 explained_at script events opening closing moments n playable x trace nothing =
     let y : IsExecution script (take n events) = begins_execution script events n x in
-    going_is_explained script.catalog script.places one_name (tables_fit script.catalog) (take n events) (system_of (hands_of y.last.seats)) (doing_of (hands_of y.last.seats)) opening (moment opening moments n) (take n moments)
+    going_is_explained script.catalog script.places one_name (tables_are_well_typed script.catalog) (take n events) (system_of (states_of y.last.client_slots)) (doing_of (states_of y.last.client_slots)) opening (moment opening moments n) (take n moments)
     (execution_linked script (take n events) playable y) (no_coordinator script playable) (trace_front script.places n events opening moments closing trace) (execution_about script (take n events) playable y) nothing
 
 -- Each record that is there after so many events passes the checks.
-pub sound_at : (script : Script) (events : List Event) (opening closing : List Shelf) (moments : List (List Shelf)) (n : ℕ) → IsPlayable script → IsExecution script events → IsTrace script.places events opening moments closing → HoldAs script.catalog script.places opening empty → AreSound script.catalog script.places (moment opening moments n)
+pub sound_at : (script : Script) (events : List Event) (opening closing : List StoreContents) (moments : List (List StoreContents)) (n : ℕ) → IsPlayable script → IsExecution script events → IsTrace script.places events opening moments closing → HoldAs script.catalog script.places opening empty → AreSound script.catalog script.places (moment opening moments n)
 sound_at script events opening closing moments n playable x trace nothing =
     let y : IsExecution script (take n events) = begins_execution script events n x in
-    sound_on_stores script one_name (tables_fit script.catalog) (take n events) (system_of (hands_of y.last.seats)) (doing_of (hands_of y.last.seats)) opening (moment opening moments n) (execution_linked script (take n events) playable y)
+    sound_on_stores script one_name (tables_are_well_typed script.catalog) (take n events) (system_of (states_of y.last.client_slots)) (doing_of (states_of y.last.client_slots)) opening (moment opening moments n) (execution_linked script (take n events) playable y)
     (record { moments = take n moments; traced = trace_front script.places n events opening moments closing trace; about = execution_about script (take n events) playable y; nothing = nothing })

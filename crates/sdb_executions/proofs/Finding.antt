@@ -6,7 +6,7 @@ use Rattle.sdb_schema.specs.declared.table.Table.{Table}
 use Rattle.sdb_model.specs.declared.answer.Answer.{Answer}
 use Rattle.sdb_model.specs.declared.answer.Answer.TheVariants as answer
 use Rattle.sdb_model.specs.declared.event.Event.{Event}
-use Rattle.sdb_model.specs.Transactions.{Said}
+use Rattle.sdb_model.specs.Transactions.{Executed}
 use Rattle.sdb_exec.specs.Plans.{Planned}
 use Rattle.sdb_read.specs.declared.read.ReadStep.{ReadStep}
 use Rattle.sdb_read.specs.declared.read.ReadStep.TheVariants as step
@@ -15,20 +15,20 @@ use Rattle.sdb_txn.specs.declared.txn.Doing.TheVariants as doing
 use Rattle.sdb_txn.specs.Txn.{TxnAt}
 use Rattle.sdb_client.specs.declared.next.Next.{Next}
 use Rattle.sdb_client.specs.declared.next.Next.TheVariants as next
-use Rattle.sdb_client.specs.Client.{CallTold, StageTold}
+use Rattle.sdb_client.specs.Client.{CallPost, StagePost}
 
 -- nothing more is so of a statement that was answered
-abbrev pub NothingMore : List Table → List Event → ℕ → Said → Type 0
+abbrev pub NothingMore : List Table → List Event → ℕ → Executed → Type 0
 NothingMore catalog events c s = Unit {0}
 
 -- a read that goes on
-pub reads_again : (t : TxnAt) (p : Planned) (a : Access) (x : ReadAt) (r : Reply) (now : ℤ) (n : Next) (u : TxnAt) → CallTold t p a x r now n u → n ≡ next.Call → u ≡ record t { doing = doing.Read a (record x { stage = read_step x.stage now r }) }
-reads_again t p a x r now n u leads e = by (read_result (read_step x.stage now r)) (subst (λ (m : Next). StageTold t p a x (read_step x.stage now r) (read_result (read_step x.stage now r)) m u) e (leads.told (λ k. other (sym e ∙ k))))
+pub reads_again : (t : TxnAt) (p : Planned) (a : Access) (x : ReadAt) (r : Reply) (now : ℤ) (n : Next) (u : TxnAt) → CallPost t p a x r now n u → n ≡ next.Call → u ≡ record t { doing = doing.Read a (record x { stage = read_step x.stage now r }) }
+reads_again t p a x r now n u leads e = by (read_result (read_step x.stage now r)) (subst (λ (m : Next). StagePost t p a x (read_step x.stage now r) (read_result (read_step x.stage now r)) m u) e (leads.told (λ k. other (sym e ∙ k))))
   where
     other : next.Call ≡ next.Answer answer.NoMemory → ⊥
     other k = cc
 
-    by : (s : ReadStep) → StageTold t p a x (read_step x.stage now r) s next.Call u → u ≡ record t { doing = doing.Read a (record x { stage = read_step x.stage now r }) }
+    by : (s : ReadStep) → StagePost t p a x (read_step x.stage now r) s next.Call u → u ≡ record t { doing = doing.Read a (record x { stage = read_step x.stage now r }) }
     by step.More k = k.1
     by (step.Images images) k = absurd k
     by (step.Busy key id at) k = absurd (let z = k.0 in cc)

@@ -3,11 +3,11 @@ use Rattle.std.proofs.Common.{◌≡◌, ℕ, List, [], length, sym, subst, ◌�
 use Rattle.std.specs.Prelude.{pos}
 use Rattle.sdb_model.specs.declared.event.Event.{Event}
 use Rattle.sdb_model.specs.declared.script.Script.{Script}
-use Rattle.sdb_execution.specs.declared.seat.Seat.{Seat}
-use Rattle.sdb_execution.specs.Execution.{AreFresh, IsPlayable, fresh_seat}
-use Rattle.sdb_executions.specs.World.{IsSeat, IsWorld}
+use Rattle.sdb_execution.specs.declared.slot.ClientSlot.{ClientSlot}
+use Rattle.sdb_execution.specs.Execution.{AreFresh, IsPlayable, initial_client}
+use Rattle.sdb_executions.specs.World.{IsClientState, IsWorld}
 
-seat_first : (script : Script) (i : ℕ) → IsSeat script [] i (fresh_seat i)
+seat_first : (script : Script) (i : ℕ) → IsClientState script [] i (initial_client i)
 seat_first script i = record {
   number = refl;
   fitted = refl;
@@ -19,11 +19,11 @@ seat_first script i = record {
 }
 
 -- before the first statement
-pub world_first : (script : Script) (count : ℕ) (seats : List Seat) (events : List Event) → IsPlayable script → count ≡ length script.clients → AreFresh count seats → events ≡ [] → IsWorld (record { script = script; seats = seats; events = events; clock = pos 0 })
-world_first script count seats events playable few h none = subst (λ (es : List Event). IsWorld (record { script = script; seats = seats; events = es; clock = pos 0 })) (sym none) (record {
+pub world_first : (script : Script) (count : ℕ) (client_slots : List ClientSlot) (events : List Event) → IsPlayable script → count ≡ length script.clients → AreFresh count client_slots → events ≡ [] → IsWorld (record { script = script; client_slots = client_slots; events = events; clock = pos 0 })
+world_first script count client_slots events playable few h none = subst (λ (es : List Event). IsWorld (record { script = script; client_slots = client_slots; events = es; clock = pos 0 })) (sym none) (record {
   playable = playable;
   clients = h.size ∙ few;
-  each = λ i s here. subst (λ (t : Seat). IsSeat script [] i t) (sym (h.each i s here)) (seat_first script i);
+  each = λ i s here. subst (λ (t : ClientSlot). IsClientState script [] i t) (sym (h.each i s here)) (seat_first script i);
   moment = refl;
   about = tt;
 })

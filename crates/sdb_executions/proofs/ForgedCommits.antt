@@ -19,10 +19,10 @@ use Rattle.sdb_model.specs.declared.event.Event.{Event}
 use Rattle.sdb_model.specs.declared.event.How.TheVariants.{Seen}
 use Rattle.sdb_types.specs.declared.value.Value.{Value}
 use Rattle.sdb_model.specs.Access.{with_row}
-use Rattle.sdb_model.specs.Calls.{Made, calls_of}
+use Rattle.sdb_model.specs.Calls.{StoreCall, calls_of}
 use Rattle.sdb_model.specs.Exec.{Tables}
 use Rattle.sdb_model.specs.Sql.{reads_commit}
-use Rattle.sdb_model.specs.Transactions.{Said, changes_nothing, commit_of, ends, from_begin, id_of, point, rest_of, said}
+use Rattle.sdb_model.specs.Transactions.{Executed, changes_nothing, commit_of, ends, from_begin, id_of, point, rest_of, statements_by}
 use Rattle.sdb_session.specs.Keys.{keys_on, keys_written, with_keys}
 use Rattle.sdb_causes.proofs.Conflicts.{prepared_is}
 use Rattle.sdb_causes.proofs.Given.{IsMiddle}
@@ -40,18 +40,18 @@ use Rattle.sdb_executions.proofs.WroteRuns.{running_ended}
 
 ---- the COMMIT of the first transaction, after one statement
 
-abbrev commit_said : CommitText → Said
+abbrev commit_said : CommitText → Executed
 commit_said t = record { taken = 4; text = t.text; answer = None; reached = 4 }
 
-abbrev read_call : Request → Reply → Made
+abbrev read_call : Request → Reply → StoreCall
 read_call q r = record { at = 3; store = []; request = q; how = Seen; reply = r }
 
 module _ (f : StatementOn) (no_commit : reads_commit f.text ≡ false) (b : Answer) (middle : IsMiddle b) (changes : changes_nothing b ≡ false) (q : Request) (r : Reply) (t : CommitText) (events : List Event)
-    (says : said 1 events ≡ begin_said f ∷ after_call f b ∷ commit_said t ∷ []) (reads : calls_of events 1 (after_call f b) ≡ read_call q r ∷ []) where
-  abbrev s : Said
+    (says : statements_by 1 events ≡ begin_said f ∷ after_call f b ∷ commit_said t ∷ []) (reads : calls_of events 1 (after_call f b) ≡ read_call q r ∷ []) where
+  abbrev s : Executed
   s = after_call f b
 
-  abbrev z : Said
+  abbrev z : Executed
   z = commit_said t
 
   goes_on : ends s ≡ false
@@ -60,7 +60,7 @@ module _ (f : StatementOn) (no_commit : reads_commit f.text ≡ false) (b : Answ
   over : ends z ≡ true
   over = ends_commit z t.commits
 
-  since : rest_of (from_begin 1 (said 1 events)) ≡ s ∷ z ∷ []
+  since : rest_of (from_begin 1 (statements_by 1 events)) ≡ s ∷ z ∷ []
   since = ap (λ ss. rest_of (from_begin 1 ss)) says ∙ since_first (begin_said f) (s ∷ z ∷ []) (begun f)
 
   ran : answered_inside events (id_of 1 1) ≡ s ∷ []
@@ -68,9 +68,9 @@ module _ (f : StatementOn) (no_commit : reads_commit f.text ≡ false) (b : Answ
 
   commits : commit_of events (id_of 1 1) ≡ Some z
   commits =
-      ap (λ ss. option_and_then (λ (x : Said). if reads_commit x.text then Some x else None) (find ends ss)) since
-      ∙ ap (λ e. option_and_then (λ (x : Said). if reads_commit x.text then Some x else None) (if e then Some s else if ends z then Some z else None)) goes_on
-      ∙ ap (λ e. option_and_then (λ (x : Said). if reads_commit x.text then Some x else None) (if e then Some z else None)) over
+      ap (λ ss. option_and_then (λ (x : Executed). if reads_commit x.text then Some x else None) (find ends ss)) since
+      ∙ ap (λ e. option_and_then (λ (x : Executed). if reads_commit x.text then Some x else None) (if e then Some s else if ends z then Some z else None)) goes_on
+      ∙ ap (λ e. option_and_then (λ (x : Executed). if reads_commit x.text then Some x else None) (if e then Some z else None)) over
       ∙ ap (λ e. if e then Some z else None) t.commits
 
   abbrev found : Tables
@@ -93,7 +93,7 @@ module _ (f : StatementOn) (no_commit : reads_commit f.text ≡ false) (b : Answ
 pub unwritten_refused : (f : SelectOn) (r : Record) (row : List Value) (t : CommitText) → CommitsPrepareWritten f.on.catalog (prepares_unwritten f r row t) → ⊥
 unwritten_refused f r row t law = by has.count (sym (one_prepared (id_of 1 1) [] m t.write.key (prepared_is (id_of 1 1) t.now t.write) (ap Some (prepared-key t.write (id_of 1 1) t.now))) ∙ has.prepared)
   where
-    m : Made
+    m : StoreCall
     m = record { at = 5; store = []; request = prepare_first t; how = Seen; reply = reply.Applied }
 
     keys : with_keys [] (keys_on f.on.table f.on.statement (with_found nothing_found (found_by (read_call (ask.Get t.write.key) (reply.Found (Some r)) ∷ []))).rows) ≡ []
@@ -120,7 +120,7 @@ none_first k e = cc
 pub unprepared_refused : (f : InsertOn) (t : CommitText) → CommitsPrepareWritten f.on.catalog (decides_unprepared f t) → ⊥
 unprepared_refused f t law = none_first (insert_key f) (has.decided m (Contains-push [] m) (t.now, refl))
   where
-    m : Made
+    m : StoreCall
     m = record { at = 5; store = []; request = row_put (id_of 1 1) decision.Committed t.now; how = Seen; reply = reply.Applied }
 
     has : PreparesAll (insert_key f ∷ []) (id_of 1 1) (m ∷ [])
@@ -130,10 +130,10 @@ unprepared_refused f t law = none_first (insert_key f) (has.decided m (Contains-
 pub unapplied_refused : (f : InsertOn) (t : CommitText) → CommitsPrepareWritten f.on.catalog (decides_unapplied f t) → ⊥
 unapplied_refused f t law = none_first (insert_key f) (has.decided m (Contains-push (p ∷ []) m) (t.now, refl))
   where
-    p : Made
+    p : StoreCall
     p = record { at = 5; store = []; request = prepare_first t; how = Seen; reply = reply.Fault }
 
-    m : Made
+    m : StoreCall
     m = record { at = 6; store = []; request = row_put (id_of 1 1) decision.Committed t.now; how = Seen; reply = reply.Applied }
 
     has : PreparesAll (insert_key f ∷ []) (id_of 1 1) (p ∷ m ∷ [])
@@ -143,10 +143,10 @@ unapplied_refused f t law = none_first (insert_key f) (has.decided m (Contains-p
 pub early_refused : (f : InsertOn) (t : CommitText) → DecisionsFollowPoints (decides_early f t) → ⊥
 early_refused f t law = no_order (point (decides_early f t) (id_of 1 1)) (after.prepared p (Contains-push (m ∷ []) p) (prepared_is (id_of 1 1) t.now t.write)).2 after.decides
   where
-    m : Made
+    m : StoreCall
     m = record { at = 5; store = []; request = row_put (id_of 1 1) decision.Committed t.now; how = Seen; reply = reply.Applied }
 
-    p : Made
+    p : StoreCall
     p = record { at = 6; store = []; request = prepare_first t; how = Seen; reply = reply.Applied }
 
     after : IsAfterPoint (decides_early f t) 1 (commit_said t) (id_of 1 1) m

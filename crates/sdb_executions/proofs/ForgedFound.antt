@@ -33,18 +33,18 @@ use Rattle.sdb_model.specs.declared.event.How.TheVariants.{Seen}
 use Rattle.sdb_model.specs.declared.statement.Statement.{Statement}
 use Rattle.sdb_model.specs.declared.statement.Test.{Test}
 use Rattle.sdb_model.specs.Access.{with_row}
-use Rattle.sdb_model.specs.Calls.{Made, calls_of, put_by}
-use Rattle.sdb_model.specs.Exec.{Tables, answer_of, cut, exec, exec_in, left_by, nat_of, passes, passing, row_of_entry, shown, sorted, with_named}
+use Rattle.sdb_model.specs.Calls.{StoreCall, calls_of, put_by}
+use Rattle.sdb_model.specs.Exec.{Tables, answer_of, cut, exec, exec_in, left_by, nat_of, passes, passing, row_of_entry, projected, sorted, with_named}
 use Rattle.sdb_model.specs.Sql.{Reads, reads_commit}
-use Rattle.sdb_model.specs.Noted.{has_finished}
-use Rattle.sdb_model.specs.Transactions.{Said, begins, changes_nothing, from_begin, is_effective, rest_of, said, through_end, statements_of, ends}
+use Rattle.sdb_model.specs.ReadSet.{has_finished}
+use Rattle.sdb_model.specs.Transactions.{Executed, begins, changes_nothing, from_begin, is_effective, rest_of, statements_by, through_end, statements_of, ends}
 use Rattle.sdb_sqltext.proofs.Clauses.{one_statement}
 use Rattle.sdb_steps.proofs.Taken.{other_no_commit}
 use Rattle.sdb_causes.proofs.Given.{IsMiddle}
 use Rattle.sdb_causes.proofs.Shows.{effective_by}
 use Rattle.sdb_causes.proofs.Takings.{middle_ends}
-use Rattle.sdb_executions.specs.Forged.{FindsRow, InsertOn, SelectOn, ShowsRow, StatementOn, UpdateOn, answered_after, answered_at_once, counts_over, counts_twice, counts_unread, duplicates_none, insert_key, leaves_out, shows_two, shows_unread, reads_again, FindsUnresolved, shows_unrolled}
-use Rattle.sdb_model.specs.Noted.{meaning_of, rolls, has_finished}
+use Rattle.sdb_executions.specs.Forged.{FindsRow, InsertOn, SelectOn, IsCommittedRow, StatementOn, UpdateOn, answered_after, answered_at_once, counts_over, counts_twice, counts_unread, duplicates_none, insert_key, leaves_out, answers_two, answers_unread, reads_again, FindsUnresolved, answers_unrolled}
+use Rattle.sdb_model.specs.ReadSet.{meaning_of, rolls, has_finished}
 use Rattle.sdb_executions.specs.Found.{IsRunOnFound, RunsOnFound, View, exec_on, found_by, found_in, is_answered, nothing_found, run_on_found, with_found, ReadsAreNew, was_found, AllRunAs, takes_part}
 use Rattle.sdb_executions.proofs.Running.{is_running, running, running_more}
 
@@ -53,37 +53,37 @@ use Rattle.sdb_executions.proofs.Running.{is_running, running, running_more}
 abbrev first : TxId
 first = record { 0 = 18446744073709551617 }
 
-pub since_first : (b : Said) (ss : List Said) → begins b ≡ true → rest_of (from_begin 1 (b ∷ ss)) ≡ ss
+pub since_first : (b : Executed) (ss : List Executed) → begins b ≡ true → rest_of (from_begin 1 (b ∷ ss)) ≡ ss
 since_first b ss e = ap (λ t. rest_of (if t then b ∷ ss else from_begin 1 ss)) e
 
-runs_of : (catalog : List Table) (events : List Event) (b : Said) (ss : List Said) → RunsOnFound catalog events → begins b ≡ true → said 1 events ≡ b ∷ ss → IsRunOnFound catalog events 1 (running ss)
+runs_of : (catalog : List Table) (events : List Event) (b : Executed) (ss : List Executed) → RunsOnFound catalog events → begins b ≡ true → statements_by 1 events ≡ b ∷ ss → IsRunOnFound catalog events 1 (running ss)
 runs_of catalog events b ss law e same = subst (λ xs. IsRunOnFound catalog events 1 (running xs)) (ap (λ xs. rest_of (from_begin 1 xs)) same ∙ since_first b ss e) (law first)
 
 -- a statement that reads rows, which is answered so
-pub record IsPlain (s : Said) (st : Statement) (b : Answer) : Type 0 where
+pub record IsPlain (s : Executed) (st : Statement) (b : Answer) : Type 0 where
   pub reads : Reads s.text st
   pub answered : s.answer ≡ Some b
   pub middle : IsMiddle b
   pub changes : changes_nothing b ≡ false
   pub no_commit : reads_commit s.text ≡ false
 
-runs_plain : (s : Said) (st : Statement) (b : Answer) → IsPlain s st b → is_running s ≡ true
+runs_plain : (s : Executed) (st : Statement) (b : Answer) → IsPlain s st b → is_running s ≡ true
 runs_plain s st b h =
     ap (λ x. not x && takes_part s && is_answered s) (middle_ends s b h.answered h.middle h.no_commit)
     ∙ ap (λ x. (x || has_finished s) && is_answered s) (effective_by s b false h.answered h.changes)
     ∙ ap is_some h.answered
 
-pub one_running : (s : Said) (st : Statement) (b : Answer) → IsPlain s st b → running (s ∷ []) ≡ s ∷ []
+pub one_running : (s : Executed) (st : Statement) (b : Answer) → IsPlain s st b → running (s ∷ []) ≡ s ∷ []
 one_running s st b h = running_more [] s tt ∙ ap (λ t. if t then s ∷ [] else []) (runs_plain s st b h)
 
-two_running : (s z : Said) (st : Statement) (a b : Answer) → IsPlain s st a → IsPlain z st b → running (s ∷ z ∷ []) ≡ s ∷ z ∷ []
+two_running : (s z : Executed) (st : Statement) (a b : Answer) → IsPlain s st a → IsPlain z st b → running (s ∷ z ∷ []) ≡ s ∷ z ∷ []
 two_running s z st a b h k = running_more (s ∷ []) z (middle_ends s a h.answered h.middle h.no_commit, tt) ∙ ap (λ xs. xs ++ (if is_running z then z ∷ [] else [])) (one_running s st a h) ∙ ap (λ t. s ∷ (if t then z ∷ [] else [])) (runs_plain z st b k)
 
 ---- what it is answered
 
 -- one statement, on what it found
-one_answer : (catalog : List Table) (events : List Event) (s : Said) (st : Statement) (b : Answer) → is_effective s ≡ true → Reads s.text st → s.answer ≡ Some b → IsRunOnFound catalog events 1 (s ∷ []) → (exec catalog st (with_found nothing_found (found_by (calls_of events 1 s))).rows).0 ≡ b
-one_answer catalog events s st b effective reads answered r = by r.statements r.run (sym (ap (λ t. map (λ (x : Said). x.answer) (if t then s ∷ [] else [])) effective) ∙ r.answers)
+one_answer : (catalog : List Table) (events : List Event) (s : Executed) (st : Statement) (b : Answer) → is_effective s ≡ true → Reads s.text st → s.answer ≡ Some b → IsRunOnFound catalog events 1 (s ∷ []) → (exec catalog st (with_found nothing_found (found_by (calls_of events 1 s))).rows).0 ≡ b
+one_answer catalog events s st b effective reads answered r = by r.statements r.run (sym (ap (λ t. map (λ (x : Executed). x.answer) (if t then s ∷ [] else [])) effective) ∙ r.answers)
   where
     by : (sts : List (Option Statement)) → AllRunAs (s ∷ []) sts → s.answer ∷ [] ≡ map Some (run_on_found catalog (found_by (calls_of events 1 s) ∷ []) sts nothing_found).0 → (exec catalog st (with_found nothing_found (found_by (calls_of events 1 s))).rows).0 ≡ b
     by [] h e = absurd h
@@ -96,10 +96,10 @@ one_answer catalog events s st b effective reads answered r = by r.statements r.
         sym (here ∙ ap (λ x. (exec catalog x (with_found nothing_found (found_by (calls_of events 1 s))).rows).0) same)
 
 -- two that read as one statement, the second on what the first left
-two_answers : (catalog : List Table) (events : List Event) (s z : Said) (st : Statement) (b : Answer) → is_effective s ≡ true → is_effective z ≡ true → Reads s.text st → Reads z.text st → z.answer ≡ Some b → IsRunOnFound catalog events 1 (s ∷ z ∷ [])
+two_answers : (catalog : List Table) (events : List Event) (s z : Executed) (st : Statement) (b : Answer) → is_effective s ≡ true → is_effective z ≡ true → Reads s.text st → Reads z.text st → z.answer ≡ Some b → IsRunOnFound catalog events 1 (s ∷ z ∷ [])
     → (exec catalog st (with_found (exec_on catalog st (with_found nothing_found (found_by (calls_of events 1 s)))).1 (found_by (calls_of events 1 z))).rows).0 ≡ b
 two_answers catalog events s z st b effective after reads again answered r =
-    by r.statements r.run (sym (ap (λ t. map (λ (x : Said). x.answer) (if t then s ∷ filter is_effective (z ∷ []) else filter is_effective (z ∷ []))) effective ∙ ap (λ t. s.answer ∷ map (λ (x : Said). x.answer) (if t then z ∷ [] else [])) after) ∙ r.answers)
+    by r.statements r.run (sym (ap (λ t. map (λ (x : Executed). x.answer) (if t then s ∷ filter is_effective (z ∷ []) else filter is_effective (z ∷ []))) effective ∙ ap (λ t. s.answer ∷ map (λ (x : Executed). x.answer) (if t then z ∷ [] else [])) after) ∙ r.answers)
   where
     by : (sts : List (Option Statement)) → AllRunAs (s ∷ z ∷ []) sts → s.answer ∷ z.answer ∷ [] ≡ map Some (run_on_found catalog (found_by (calls_of events 1 s) ∷ found_by (calls_of events 1 z) ∷ []) sts nothing_found).0
         → (exec catalog st (with_found (exec_on catalog st (with_found nothing_found (found_by (calls_of events 1 s)))).1 (found_by (calls_of events 1 z))).rows).0 ≡ b
@@ -148,16 +148,16 @@ module _ (f : StatementOn) where
   answers_on : (d : Tables) → exec f.catalog f.statement d ≡ (answer_of f.table f.statement d, left_by f.table f.statement d)
   answers_on d = ap (λ (o : Option Table). exec_in o f.statement d) f.named
 
-  abbrev pub begin_said : Said
+  abbrev pub begin_said : Executed
   begin_said = record { taken = 1; text = f.begin; answer = Some answer.Done; reached = 1 }
 
   pub begun : begins begin_said ≡ true
   begun = ap (λ b. b && true) f.begins
 
-  abbrev at_once : Answer → Said
+  abbrev at_once : Answer → Executed
   at_once b = record { taken = 2; text = f.text; answer = Some b; reached = 2 }
 
-  abbrev pub after_call : Answer → Said
+  abbrev pub after_call : Answer → Executed
   after_call b = record { taken = 2; text = f.text; answer = Some b; reached = 3 }
 
   module _ (no_commit : reads_commit f.text ≡ false) (b : Answer) (middle : IsMiddle b) (changes : changes_nothing b ≡ false) where
@@ -177,10 +177,10 @@ module _ (f : StatementOn) where
 
   -- what a get of a key of the table finds
   got : (key : Key) (found : Option Record) → key.table ≡ f.table.name → found_by (record { at = 3; store = []; request = ask.Get key; how = Seen; reply = reply.Found found } ∷ []) ≡ (key, option_and_then (meaning_of (record { at = 3; store = []; request = ask.Get key; how = Seen; reply = reply.Found found } ∷ [])) found) ∷ []
-  got key found same = ap (λ b. flat_map (λ (m : Made). found_in (record { at = 3; store = []; request = ask.Get key; how = Seen; reply = reply.Found found } ∷ []) m.request m.reply) (if (if b then false else true) then record { at = 3; store = []; request = ask.Get key; how = Seen; reply = reply.Found found } ∷ [] else [])) (ap is_coordinator_table same ∙ f.apart)
+  got key found same = ap (λ b. flat_map (λ (m : StoreCall). found_in (record { at = 3; store = []; request = ask.Get key; how = Seen; reply = reply.Found found } ∷ []) m.request m.reply) (if (if b then false else true) then record { at = 3; store = []; request = ask.Get key; how = Seen; reply = reply.Found found } ∷ [] else [])) (ap is_coordinator_table same ∙ f.apart)
 
   -- of a row
-  got_row : (key : Key) (r : Record) → key.table ≡ f.table.name → ShowsRow r → (with_found nothing_found (found_by (record { at = 3; store = []; request = ask.Get key; how = Seen; reply = reply.Found (Some r) } ∷ []))).rows ≡ insert empty key (user_columns r.columns)
+  got_row : (key : Key) (r : Record) → key.table ≡ f.table.name → IsCommittedRow r → (with_found nothing_found (found_by (record { at = 3; store = []; request = ask.Get key; how = Seen; reply = reply.Found (Some r) } ∷ []))).rows ≡ insert empty key (user_columns r.columns)
   got_row key r same shows =
       ap (λ fs. (with_found nothing_found fs).rows) (got key (Some r) same)
       ∙ ap (λ o. with_row empty key (option_and_then row_of_image o)) (ap (λ b. if b then Some r else option_and_then (λ m. put_by m.request) (find (rolls r) (record { at = 3; store = []; request = ask.Get key; how = Seen; reply = reply.Found (Some r) } ∷ []))) shows.0)
@@ -209,20 +209,20 @@ insert_commits f = other_no_commit f.on.text f.on.statement f.on.reads (λ e. le
 update_commits : (f : UpdateOn) → reads_commit f.on.text ≡ false
 update_commits f = other_no_commit f.on.text f.on.statement f.on.reads (λ e. let k = sym f.is ∙ e in cc)
 
-pub invented_refused : (f : SelectOn) (row : List Value) (rows : List (List Value)) → RunsOnFound f.on.catalog (shows_unread f row rows) → ⊥
+pub invented_refused : (f : SelectOn) (row : List Value) (rows : List (List Value)) → RunsOnFound f.on.catalog (answers_unread f row rows) → ⊥
 invented_refused f row rows law =
     let e = once_answer f.on (select_commits f) (answer.Rows (row ∷ rows)) (record { undone = refl; agrees = refl }) refl law in
     let k : answer.Rows [] ≡ answer.Rows (row ∷ rows) =
-    sym (ap (λ st. answer_of f.on.table st empty) f.is ∙ ap (λ rs. answer.Rows (map (shown f.on.table f.select.columns) (cut f.select.limit (sorted f.on.table rs)))) (none_passing f.on.table f.select.tests) ∙ ap (λ rs. answer.Rows (map (shown f.on.table f.select.columns) rs)) (no_rows_cut f.select.limit)) ∙ e in
+    sym (ap (λ st. answer_of f.on.table st empty) f.is ∙ ap (λ rs. answer.Rows (map (projected f.on.table f.select.columns) (cut f.select.limit (sorted f.on.table rs)))) (none_passing f.on.table f.select.tests) ∙ ap (λ rs. answer.Rows (map (projected f.on.table f.select.columns) rs)) (no_rows_cut f.select.limit)) ∙ e in
     cc
 
 pub left_out_refused : (f : SelectOn) (key : Key) (r : Record) → FindsRow f key r → RunsOnFound f.on.catalog (leaves_out f key r) → ⊥
 left_out_refused f key r finds law =
     let e = after_answer f.on (select_commits f) (answer.Rows []) (record { undone = refl; agrees = refl }) refl (ask.Get key) (reply.Found (Some r)) law in
     let d : Tables = insert empty key (user_columns r.columns) in
-    let k : answer.Rows (shown f.on.table f.select.columns (record { key = key; columns = user_columns r.columns }) ∷ []) ≡ answer.Rows [] =
-    sym (ap (answer_of f.on.table f.on.statement) (got_row f.on key r finds.inside finds.shows) ∙ ap (λ st. answer_of f.on.table st d) f.is ∙ ap (λ ts. answer.Rows (map (shown f.on.table f.select.columns) (cut f.select.limit (sorted f.on.table (passing f.on.table ts d))))) finds.tests ∙ ap (λ o. answer.Rows (map (shown f.on.table f.select.columns) (cut o (sorted f.on.table (passing f.on.table [] d))))) finds.limit
-    ∙ ap (λ rs. answer.Rows (map (shown f.on.table f.select.columns) (sorted f.on.table rs))) (one_passing f.on.table key (user_columns r.columns) finds.inside)) ∙ e in
+    let k : answer.Rows (projected f.on.table f.select.columns (record { key = key; columns = user_columns r.columns }) ∷ []) ≡ answer.Rows [] =
+    sym (ap (answer_of f.on.table f.on.statement) (got_row f.on key r finds.inside finds.shows) ∙ ap (λ st. answer_of f.on.table st d) f.is ∙ ap (λ ts. answer.Rows (map (projected f.on.table f.select.columns) (cut f.select.limit (sorted f.on.table (passing f.on.table ts d))))) finds.tests ∙ ap (λ o. answer.Rows (map (projected f.on.table f.select.columns) (cut o (sorted f.on.table (passing f.on.table [] d))))) finds.limit
+    ∙ ap (λ rs. answer.Rows (map (projected f.on.table f.select.columns) (sorted f.on.table rs))) (one_passing f.on.table key (user_columns r.columns) finds.inside)) ∙ e in
     cc
 
 -- nothing is left of what wasn't there
@@ -233,33 +233,33 @@ none_removed k = same_map key_total key_exact (with_row empty k None) empty (λ 
     none true = refl
     none false = refl
 
-pub unrolled_refused : (f : SelectOn) (key : Key) (r : Record) (row : List Value) → FindsUnresolved f key r → RunsOnFound f.on.catalog (shows_unrolled f key r row) → ⊥
+pub unrolled_refused : (f : SelectOn) (key : Key) (r : Record) (row : List Value) → FindsUnresolved f key r → RunsOnFound f.on.catalog (answers_unrolled f key r row) → ⊥
 unrolled_refused f key r row finds law =
     let e = after_answer f.on (select_commits f) (answer.Rows (row ∷ [])) (record { undone = refl; agrees = refl }) refl (ask.Get key) (reply.Found (Some r)) law in
     let k : answer.Rows [] ≡ answer.Rows (row ∷ []) =
-    sym (ap (answer_of f.on.table f.on.statement) (rows ∙ none_removed key) ∙ ap (λ st. answer_of f.on.table st empty) f.is ∙ ap (λ rs. answer.Rows (map (shown f.on.table f.select.columns) (cut f.select.limit (sorted f.on.table rs)))) (none_passing f.on.table f.select.tests)
-    ∙ ap (λ rs. answer.Rows (map (shown f.on.table f.select.columns) rs)) (no_rows_cut f.select.limit)) ∙ e in
+    sym (ap (answer_of f.on.table f.on.statement) (rows ∙ none_removed key) ∙ ap (λ st. answer_of f.on.table st empty) f.is ∙ ap (λ rs. answer.Rows (map (projected f.on.table f.select.columns) (cut f.select.limit (sorted f.on.table rs)))) (none_passing f.on.table f.select.tests)
+    ∙ ap (λ rs. answer.Rows (map (projected f.on.table f.select.columns) rs)) (no_rows_cut f.select.limit)) ∙ e in
     cc
   where
-    get_call : Made
+    get_call : StoreCall
     get_call = record { at = 3; store = []; request = ask.Get key; how = Seen; reply = reply.Found (Some r) }
 
     means : meaning_of (get_call ∷ []) r ≡ None
     means =
         ap (λ b. if b then Some r else option_and_then (λ m. put_by m.request) (find (rolls r) (get_call ∷ []))) finds.unresolved
-        ∙ ap (λ b. option_and_then (λ (m : Made). put_by m.request) (if b then Some get_call else None)) (and_false (is_key_of r.key get_call))
+        ∙ ap (λ b. option_and_then (λ (m : StoreCall). put_by m.request) (if b then Some get_call else None)) (and_false (is_key_of r.key get_call))
 
     rows : (with_found nothing_found (found_by (get_call ∷ []))).rows ≡ with_row empty key None
     rows = ap (λ fs. (with_found nothing_found fs).rows) (got f.on key (Some r) finds.inside) ∙ ap (λ o. with_row empty key (option_and_then row_of_image o)) means
 
-pub unlimited_refused : (f : SelectOn) (q : Request) (r : Reply) (a b : List Value) → f.select.limit ≡ Some (pos 1) → RunsOnFound f.on.catalog (shows_two f q r a b) → ⊥
+pub unlimited_refused : (f : SelectOn) (q : Request) (r : Reply) (a b : List Value) → f.select.limit ≡ Some (pos 1) → RunsOnFound f.on.catalog (answers_two f q r a b) → ⊥
 unlimited_refused f q r a b limit law =
     let e = after_answer f.on (select_commits f) (answer.Rows (a ∷ b ∷ [])) (record { undone = refl; agrees = refl }) refl q r law in
     let d : Tables = (with_found nothing_found (found_by (record { at = 3; store = []; request = q; how = Seen; reply = r } ∷ []))).rows in
     by (sorted f.on.table (passing f.on.table f.select.tests d))
-    (sym (ap (λ st. answer_of f.on.table st d) f.is ∙ ap (λ o. answer.Rows (map (shown f.on.table f.select.columns) (cut o (sorted f.on.table (passing f.on.table f.select.tests d))))) limit) ∙ e)
+    (sym (ap (λ st. answer_of f.on.table st d) f.is ∙ ap (λ o. answer.Rows (map (projected f.on.table f.select.columns) (cut o (sorted f.on.table (passing f.on.table f.select.tests d))))) limit) ∙ e)
   where
-    by : (rs : List Image) → answer.Rows (map (shown f.on.table f.select.columns) (take 1 rs)) ≡ answer.Rows (a ∷ b ∷ []) → ⊥
+    by : (rs : List Image) → answer.Rows (map (projected f.on.table f.select.columns) (take 1 rs)) ≡ answer.Rows (a ∷ b ∷ []) → ⊥
     by [] k = cc
     by (x ∷ xs) k = cc
 
@@ -276,7 +276,7 @@ miscounted_refused f n law =
 insert_answer : (f : InsertOn) (d : Tables) (b : Bool) → is_some (get d (insert_key f)) ≡ b → answer_of f.on.table f.on.statement d ≡ (if b then answer.Duplicate (insert_key f) else answer.Count 1)
 insert_answer f d b e = ap (λ st. answer_of f.on.table st d) f.is ∙ ap (λ t. if t then answer.Duplicate (insert_key f) else answer.Count 1) e
 
-pub counted_over_refused : (f : InsertOn) (r : Record) → ShowsRow r → RunsOnFound f.on.catalog (counts_over f r) → ⊥
+pub counted_over_refused : (f : InsertOn) (r : Record) → IsCommittedRow r → RunsOnFound f.on.catalog (counts_over f r) → ⊥
 counted_over_refused f r shows law =
     let e = after_answer f.on (insert_commits f) (answer.Count 1) (record { undone = refl; agrees = refl }) refl (ask.Get (insert_key f)) (reply.Found (Some r)) law in
     let k : answer.Duplicate (insert_key f) ≡ answer.Count 1 = sym (ap (answer_of f.on.table f.on.statement) (got_row f.on (insert_key f) r refl shows) ∙ insert_answer f (insert empty (insert_key f) (user_columns r.columns)) true (got_inserted empty (insert_key f) (user_columns r.columns))) ∙ e in
@@ -294,10 +294,10 @@ forgotten_refused f law = no_count (sym (ap (answer_of f.on.table f.on.statement
     es : List Event
     es = counts_twice f
 
-    s : Said
+    s : Executed
     s = record { taken = 2; text = f.on.text; answer = Some (answer.Count 1); reached = 3 }
 
-    z : Said
+    z : Executed
     z = record { taken = 4; text = f.on.text; answer = Some (answer.Count 1); reached = 4 }
 
     plain_s : IsPlain s f.on.statement (answer.Count 1)
@@ -330,13 +330,13 @@ forgotten_refused f law = no_count (sym (ap (answer_of f.on.table f.on.statement
 pub again_refused : (f : InsertOn) → ReadsAreNew (reads_again f) → ⊥
 again_refused f law = clash (sym found ∙ law first (s ∷ []) z m (record { after = []; statements = statements; no_commit = insert_commits f; call = Contains-push [] m; reads = ap (λ b. if b then false else true) f.on.apart }))
   where
-    s : Said
+    s : Executed
     s = record { taken = 2; text = f.on.text; answer = Some (answer.Count 1); reached = 3 }
 
-    z : Said
+    z : Executed
     z = record { taken = 4; text = f.on.text; answer = None; reached = 4 }
 
-    m : Made
+    m : StoreCall
     m = record { at = 5; store = []; request = ask.Get (insert_key f); how = Seen; reply = reply.Found None }
 
     ends_last : (b : Bool) → (if b then z ∷ [] else z ∷ []) ≡ z ∷ []

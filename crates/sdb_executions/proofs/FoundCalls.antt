@@ -24,17 +24,17 @@ use Rattle.sdb_model.specs.declared.answer.Answer.TheVariants as answer
 use Rattle.sdb_model.specs.declared.event.Event.{Event}
 use Rattle.sdb_model.specs.declared.event.Event.TheVariants as event
 use Rattle.sdb_model.specs.declared.event.How.{How}
-use Rattle.sdb_model.specs.Calls.{Made, calls_of}
+use Rattle.sdb_model.specs.Calls.{StoreCall, calls_of}
 use Rattle.sdb_model.specs.Exec.{find_table, table_of}
 use Rattle.sdb_model.specs.Rows.{Name}
 use Rattle.sdb_model.specs.Sql.{reads_commit, reads_rollback}
-use Rattle.sdb_model.specs.Noted.{read_finished}
-use Rattle.sdb_model.specs.Transactions.{Said, changes_nothing, ends, id_of, is_conflict, is_done}
+use Rattle.sdb_model.specs.ReadSet.{read_finished}
+use Rattle.sdb_model.specs.Transactions.{Executed, changes_nothing, ends, id_of, is_conflict, is_done}
 use Rattle.sdb_exec.specs.Plans.{Planned}
 use Rattle.sdb_read.specs.declared.read.ReadStep.TheVariants as step
 use Rattle.sdb_read.specs.Read.{Asking, Ended, ReadAt, ReadStage, Resolving, read_result, read_step, request_of}
-use Rattle.sdb_snapshot.specs.Held.{WereRead}
-use Rattle.sdb_snapshot.specs.Noted.{reads_of}
+use Rattle.sdb_snapshot.specs.Sets.{WereRead}
+use Rattle.sdb_snapshot.specs.Reads.{reads_of}
 use Rattle.sdb_snapshot.specs.Seen.{is_scanned, same_span}
 use Rattle.sdb_txn.specs.declared.progress.Progress.{Progress}
 use Rattle.sdb_txn.specs.declared.progress.Progress.TheVariants as progress
@@ -45,15 +45,15 @@ use Rattle.sdb_commit.specs.Phases.{CommitAt}
 use Rattle.sdb_phases.specs.Work.{Work}
 use Rattle.sdb_client.specs.declared.next.Next.{Next}
 use Rattle.sdb_client.specs.declared.next.Next.TheVariants as next
-use Rattle.sdb_client.specs.Client.{ClientAt, ImagesTold, StageTold, after, answer_in, given_answer, given_left, gives, next_of, noting, resting}
+use Rattle.sdb_client.specs.Client.{ClientAt, RowsReadPost, StagePost, after, answer_in, given_answer, given_left, gives, next_of, with_rows_read, resting}
 use Rattle.sdb_steps.proofs.Fitted.{by_next}
 use Rattle.sdb_steps.proofs.InTables.{access_table, own_table}
 use Rattle.sdb_steps.proofs.RowsFit.{found_itself}
-use Rattle.sdb_story.specs.Telling.{answered_said, waiting_of}
-use Rattle.sdb_causes.specs.Moves.{HasRead, ShowsAt}
+use Rattle.sdb_story.specs.History.{executed_with_answer, waiting_of}
+use Rattle.sdb_causes.specs.Changes.{HasRead, StageObserves}
 use Rattle.sdb_causes.specs.Reads.{ReadsBy}
-use Rattle.sdb_causes.specs.Tied.{IsWaiting, Knows}
-use Rattle.sdb_causes.specs.Unfit.{IsFit, SeesFit, SeesFitIn}
+use Rattle.sdb_causes.specs.Invariant.{IsWaiting, Knows}
+use Rattle.sdb_causes.specs.Unfit.{IsWellTypedTxn, SeesWellTyped, SeesWellTypedIn}
 use Rattle.sdb_causes.proofs.Calls.{call_said, made_at, silent_said}
 use Rattle.sdb_causes.proofs.ReadSteps.{IsDataTable}
 use Rattle.sdb_causes.proofs.Showing.{IsOpenAt, shows_on}
@@ -73,7 +73,7 @@ use Rattle.sdb_executions.proofs.Writing.{write_keys}
 use Rattle.sdb_model.specs.Tables.{is_data}
 
 -- a COMMIT that goes on writes the same
-commits_see : (catalog : List Table) (events : List Event) (c : ℕ) (ss : List Said) (u : TxnAt) (ws : List Write) (P : CommitAt → Type 0) → ((k : CommitAt) → P k → k.work.writes ≡ ws) → WroteAs catalog events c ss ws → IsCommitting u.doing P → SeesRun catalog events c ss u
+commits_see : (catalog : List Table) (events : List Event) (c : ℕ) (ss : List Executed) (u : TxnAt) (ws : List Write) (P : CommitAt → Type 0) → ((k : CommitAt) → P k → k.work.writes ≡ ws) → WroteAs catalog events c ss ws → IsCommitting u.doing P → SeesRun catalog events c ss u
 commits_see catalog events c ss u ws P same wrote h = by u.doing h
   where
     by : (d : Doing) → IsCommitting d P → SeesIn catalog events c ss u.seen d
@@ -95,12 +95,12 @@ ends_only progress.Committed b e = ap next.End (cc)
 ends_only (progress.Expired id) b e = ap next.End (cc)
 ends_only (progress.Unknown id) b e = ap next.End (cc)
 
-noted_idle : (t : TxnAt) (a : Access) (images : List Record) → (noting t a images).doing ≡ doing.Idle
+noted_idle : (t : TxnAt) (a : Access) (images : List Record) → (with_rows_read t a images).doing ≡ doing.Idle
 noted_idle t (access.Get key) images = refl
 noted_idle t (access.Scan span) images = refl
 
 -- a scan is among the scans that are then noted
-noted_scans : (t : TxnAt) (a : Access) (images : List Record) (span : Span) (m : Made) → m.request ≡ request_of a → (is_scanned t.seen.scans span ≡ true) ⊎ (is_scan_of span m.request ≡ true) → is_scanned (noting t a images).seen.scans span ≡ true
+noted_scans : (t : TxnAt) (a : Access) (images : List Record) (span : Span) (m : StoreCall) → m.request ≡ request_of a → (is_scanned t.seen.scans span ≡ true) ⊎ (is_scan_of span m.request ≡ true) → is_scanned (with_rows_read t a images).seen.scans span ≡ true
 noted_scans t (access.Get key) images span m e (inl f) = f
 noted_scans t (access.Get key) images span m e (inr f) = clash (sym f ∙ ap (is_scan_of span) e)
 noted_scans t (access.Scan other) images span m e (inl f) = list_any-append (λ (x : Scan). same_span x.span span) t.seen.scans (record { span = other; found = reads_of images } ∷ []) ∙ ap (λ b. b || list_any (λ (x : Scan). same_span x.span span) (record { span = other; found = reads_of images } ∷ [])) f
@@ -108,22 +108,22 @@ noted_scans t (access.Scan other) images span m e (inr f) =
     list_any-append (λ (x : Scan). same_span x.span span) t.seen.scans (record { span = other; found = reads_of images } ∷ []) ∙ ap (λ b. is_scanned t.seen.scans span || (b || false)) (sym (ap (is_scan_of span) e) ∙ f) ∙ or_true (is_scanned t.seen.scans span)
 
 module _ (catalog : List Table) (is : is_catalog catalog ≡ true) (apart : (k : Key) → is_some (find_table catalog k.table) ≡ true → is_data k ≡ true) (events : List Event) (c : ℕ) (h : ClientAt) (k : Knows catalog events c h) (runs : ClientRuns catalog events c h)
-    (x : Said) (waiting : k.waiting ≡ Some x) (waits : IsWaiting catalog events c (is_some h.vacuum) x) (prepares : WaitPrepares catalog events c x h) (store : Name) (q : Request) (how : How) (r : Reply) (now : ℤ) (moment : is_moment now ≡ true) (can : CanAnswer q r)
-    (kept : (t : TxnAt) → h.vacuum ≡ None → h.txn ≡ Some t → (a : Access) (y : ReadAt) → t.doing ≡ doing.Read a y → WereRead t.seen.notes t.seen.writes) (d : ClientAt) where
+    (x : Executed) (waiting : k.waiting ≡ Some x) (waits : IsWaiting catalog events c (is_some h.vacuum) x) (prepares : WaitPrepares catalog events c x h) (store : Name) (q : Request) (how : How) (r : Reply) (now : ℤ) (moment : is_moment now ≡ true) (can : CanAnswer q r)
+    (kept : (t : TxnAt) → h.vacuum ≡ None → h.txn ≡ Some t → (a : Access) (y : ReadAt) → t.doing ≡ doing.Read a y → WereRead t.seen.read_set t.seen.writes) (d : ClientAt) where
   abbrev ev : Option Answer → Event
   ev a = event.Call c store q how r a
 
   abbrev E : Option Answer → List Event
   E a = events ++ ev a ∷ []
 
-  abbrev made : Made
+  abbrev made : StoreCall
   made = made_at events store q how r
 
-  abbrev ms : List Made
+  abbrev ms : List StoreCall
   ms = calls_of events c x
 
-  abbrev done : Answer → Said
-  done b = answered_said events x b
+  abbrev done : Answer → Executed
+  done b = executed_with_answer events x b
 
   calls_done : (b : Answer) → calls_of (E (Some b)) c (done b) ≡ ms ++ made ∷ []
   calls_done b = calls_more events c store q how r x waits.unanswered waits.taken (Some b)
@@ -174,19 +174,19 @@ module _ (catalog : List Table) (is : is_catalog catalog ≡ true) (apart : (k :
     sees : (b : Option Answer) → RunsTo catalog (E b) c (running_of h.begun k.told) t.seen
     sees b = subst (SeesIn catalog (E b) c (running_of h.begun k.told) t.seen) z.reads (follows.sees_open catalog events c h k runs (ev b) t z.opened z.free)
 
-    fit : SeesFit catalog t.seen
-    fit = subst (SeesFitIn catalog t.seen) z.reads (subst (λ (o : Option TxnAt). IfSome o (IsFit catalog)) z.opened k.fits)
+    fit : SeesWellTyped catalog t.seen
+    fit = subst (SeesWellTypedIn catalog t.seen) z.reads (subst (λ (o : Option TxnAt). IfSome o (IsWellTypedTxn catalog)) z.opened k.fits)
 
     open_at : (s : ReadStage) → ReadsBy ms s → IsOpenAt z.x.request ms made now moment s
     open_at Asking i = tt
     open_at (Resolving images rec meta y left) i = i.is_open
     open_at (Ended s) i = absurd i
 
-    shown : ShowsAt z.x.request (ms ++ made ∷ []) (read_step z.x.stage now r)
+    shown : StageObserves z.x.request (ms ++ made ∷ []) (read_step z.x.stage now r)
     shown = shows_on z.x.request ms made now moment z.access z.x.stage z.asked.request (open_at z.x.stage z.is.stage) z.is.shows z.pends can
 
     has_read : (images : List Record) → read_step z.x.stage now r ≡ Ended (step.Images images) → HasRead (request_of z.access) (ms ++ made ∷ []) images []
-    has_read images e = subst (λ (y : Request). HasRead y (ms ++ made ∷ []) images []) z.asked.request (subst (ShowsAt z.x.request (ms ++ made ∷ [])) e shown)
+    has_read images e = subst (λ (y : Request). HasRead y (ms ++ made ∷ []) images []) z.asked.request (subst (StageObserves z.x.request (ms ++ made ∷ [])) e shown)
 
     abbrev Left : Next → TxnAt → Type 0
     Left n u = Comes (answer_in n) (after h n u)
@@ -202,19 +202,19 @@ module _ (catalog : List Table) (is : is_catalog catalog ≡ true) (apart : (k :
     further s = sees None
 
     -- its scan is among the scans
-    scans_then : (b : Answer) (images : List Record) → read_step z.x.stage now r ≡ Ended (step.Images images) → HoldsScans (E (Some b)) c (running_of h.begun k.told ++ done b ∷ []) (noting t z.access images).seen
+    scans_then : (b : Answer) (images : List Record) → read_step z.x.stage now r ≡ Ended (step.Images images) → HoldsScans (E (Some b)) c (running_of h.begun k.told ++ done b ∷ []) (with_rows_read t z.access images).seen
     scans_then b images e span is =
         noted_scans t z.access images span (has_read images e).first (has_read images e).request
         (by (either (was_scanned (E (Some b)) c (running_of h.begun k.told) span) (scans_span span (calls_of (E (Some b)) c (done b))) (sym (scanned_more (E (Some b)) c (running_of h.begun k.told) (done b) span) ∙ is)))
       where
         by : (was_scanned (E (Some b)) c (running_of h.begun k.told) span ≡ true) ⊎ (scans_span span (calls_of (E (Some b)) c (done b)) ≡ true) → (is_scanned t.seen.scans span ≡ true) ⊎ (is_scan_of span (has_read images e).first.request ≡ true)
         by (inl f) = inl ((sees (Some b)).scans span f)
-        by (inr f) = inr (sym (ap (scans_span span) (calls_done b) ∙ ap (λ cs. list_any (λ (m : Made). is_scan_of span m.request) cs) (read_only (ms ++ made ∷ []) z.access images (has_read images e) own) ∙ or_false (is_scan_of span (has_read images e).first.request)) ∙ f)
+        by (inr f) = inr (sym (ap (scans_span span) (calls_done b) ∙ ap (λ cs. list_any (λ (m : StoreCall). is_scan_of span m.request) cs) (read_only (ms ++ made ∷ []) z.access images (has_read images e) own) ∙ or_false (is_scan_of span (has_read images e).first.request)) ∙ f)
 
-    gives_rows : (images : List Record) → read_step z.x.stage now r ≡ Ended (step.Images images) → Left (next.Answer (given_answer (noting t z.access images) (gives p z.access (noting t z.access images)))) (given_left (idle t) (noting t z.access images) (gives p z.access (noting t z.access images)))
+    gives_rows : (images : List Record) → read_step z.x.stage now r ≡ Ended (step.Images images) → Left (next.Answer (given_answer (with_rows_read t z.access images) (gives p z.access (with_rows_read t z.access images)))) (given_left (idle t) (with_rows_read t z.access images) (gives p z.access (with_rows_read t z.access images)))
     gives_rows images e =
-        let b : Answer = given_answer (noting t z.access images) (gives p z.access (noting t z.access images)) in
-        follows.given_follows catalog events c h k runs (ev (Some b)) t z.opened z.free (done b) p z.access (idle t) (noting t z.access images)
+        let b : Answer = given_answer (with_rows_read t z.access images) (gives p z.access (with_rows_read t z.access images)) in
+        follows.given_follows catalog events c h k runs (ev (Some b)) t z.opened z.free (done b) p z.access (idle t) (with_rows_read t z.access images)
         (record { is = is; named = z.asked.named; asked = z.asked.asked; taken = z.asked.taken; literals = z.asked.literals; access = z.asked.access }) z.is.text z.is.inner.commit refl (refl, refl) (noted_idle t z.access images, same_writes t z.access images) (sees (Some b))
         (view_found (view_after catalog (E (Some b)) c (running_of h.begun k.told) (sees (Some b)).run) t z.access images (found_by (calls_of (E (Some b)) c (done b))) (sees (Some b)).sees (kept t z.free z.opened z.access z.x z.reads)
         (λ key. ap (λ cs. value_at (found_by cs) key) (calls_done b) ∙ found_now (ms ++ made ∷ []) z.access images (has_read images e) own key))
@@ -227,12 +227,12 @@ module _ (catalog : List Table) (is : is_catalog catalog ≡ true) (apart : (k :
         last true = refl
         last false = refl
 
-    images_case : (images : List Record) → read_step z.x.stage now r ≡ Ended (step.Images images) → (n : Next) (u : TxnAt) → ImagesTold t p z.access images n u → Left n u
-    images_case images e (next.Answer b) u y = as_left (next.Answer b) (next.Answer (given_answer (noting t z.access images) (gives p z.access (noting t z.access images)))) u _ (ap next.Answer y.1) y.2 (gives_rows images e)
+    images_case : (images : List Record) → read_step z.x.stage now r ≡ Ended (step.Images images) → (n : Next) (u : TxnAt) → RowsReadPost t p z.access images n u → Left n u
+    images_case images e (next.Answer b) u y = as_left (next.Answer b) (next.Answer (given_answer (with_rows_read t z.access images) (gives p z.access (with_rows_read t z.access images)))) u _ (ap next.Answer y.1) y.2 (gives_rows images e)
     images_case images e (next.End (answer.Conflict key found)) u y = follows.ended_follows catalog events c h k runs (ev (Some (answer.Conflict key found))) (done (answer.Conflict key found)) (resting h) (inl (follows.ends_stays (done (answer.Conflict key found)) (over (answer.Conflict key found) refl))) refl
     images_case images e n u y = absurd y
 
-    stage_case : (s : ReadStage) → read_step z.x.stage now r ≡ s → (n : Next) (u : TxnAt) → StageTold t p z.access z.x s (read_result s) n u → Left n u
+    stage_case : (s : ReadStage) → read_step z.x.stage now r ≡ s → (n : Next) (u : TxnAt) → StagePost t p z.access z.x s (read_result s) n u → Left n u
     stage_case Asking e n u y = as_left n next.Call u _ y.0 y.1 (further Asking)
     stage_case (Resolving images rec meta f left) e n u y = as_left n next.Call u _ y.0 y.1 (further (Resolving images rec meta f left))
     stage_case (Ended step.More) e n u y = as_left n next.Call u _ y.0 y.1 (further (Ended step.More))
@@ -269,4 +269,4 @@ module _ (catalog : List Table) (is : is_catalog catalog ≡ true) (apart : (k :
   calls_runs None z = follows.still_runs catalog events c h k runs (ev None) d (ap (filter is_answered) (silent_said c events store q how r) ∙ answered_of_is catalog events c h k) (call_comes None z)
   calls_runs (Some b) z =
       follows.next_runs catalog events c h k runs (ev (Some b)) (done b) d
-      (ap (filter is_answered) (call_said c events store q how r b k.told x (k.same ∙ ap (λ (o : Option Said). k.told ++ waiting_of o) waiting)) ∙ filter-append is_answered k.told (done b ∷ []) ∙ ap (λ ss. ss ++ done b ∷ []) (all_answered catalog events c k.told k.answered)) (call_comes (Some b) z) (last_wrote b z)
+      (ap (filter is_answered) (call_said c events store q how r b k.told x (k.same ∙ ap (λ (o : Option Executed). k.told ++ waiting_of o) waiting)) ∙ filter-append is_answered k.told (done b ∷ []) ∙ ap (λ ss. ss ++ done b ∷ []) (all_answered catalog events c k.told k.answered)) (call_comes (Some b) z) (last_wrote b z)

@@ -15,15 +15,15 @@ use Rattle.sdb_model.specs.Causes.{refused}
 use Rattle.sdb_model.specs.Exec.{Tables, all_rows, exec, named_table, table_of}
 use Rattle.sdb_model.specs.Refused.{refusal_of}
 use Rattle.sdb_model.specs.Sql.{Reads, reads_commit}
-use Rattle.sdb_model.specs.Noted.{has_finished, read_finished}
-use Rattle.sdb_model.specs.Transactions.{Said, changes_nothing}
+use Rattle.sdb_model.specs.ReadSet.{has_finished, read_finished}
+use Rattle.sdb_model.specs.Transactions.{Executed, changes_nothing}
 use Rattle.std.specs.Option.{option_map_or}
 use Rattle.sdb_exec.specs.declared.plan.PlanStep.{PlanStep}
 use Rattle.sdb_exec.specs.declared.plan.PlanStep.TheVariants.{Finished}
 use Rattle.sdb_exec.specs.Plans.{Planned, answer_on, changes_on, first_unfit, has_all_literals, step_of}
 use Rattle.sdb_exec.specs.Reads.{access_of}
 use Rattle.sdb_exec.proofs.Places.{named_is_table}
-use Rattle.sdb_snapshot.specs.Rows.{tables_of_notes}
+use Rattle.sdb_snapshot.specs.Rows.{tables_of_reads}
 use Rattle.sdb_snapshot.specs.Seen.{overlay, tables_seen, with_written}
 use Rattle.sdb_snapshot.specs.Written.{with_writes}
 use Rattle.sdb_snapshot.proofs.Shown.{get_seen, own_is}
@@ -33,7 +33,7 @@ use Rattle.sdb_steps.proofs.RowsFit.{answers_on, found_itself}
 use Rattle.sdb_session.specs.Keys.{keys_written, with_keys}
 use Rattle.sdb_session.proofs.Fits.{all_in_fit}
 use Rattle.sdb_session.proofs.Keys.{keys_changed, keys_with}
-use Rattle.sdb_causes.specs.Unfit.{SeesFit}
+use Rattle.sdb_causes.specs.Unfit.{SeesWellTyped}
 use Rattle.sdb_causes.proofs.Given.{asked_gives, given_middle}
 use Rattle.sdb_causes.proofs.Shows.{effective_by}
 use Rattle.sdb_causes.proofs.Takings.{middle_ends}
@@ -106,13 +106,13 @@ pub record IsPlannedOn (catalog : List Table) (p : Planned) (a : Access) : Type 
   pub literals : has_all_literals p.statement ≡ true
   pub access : a ≡ access_of p.table p.statement
 
-module _ (catalog : List Table) (events : List Event) (c : ℕ) (ss : List Said) (z : Said) (p : Planned) (a : Access) (on : IsPlannedOn catalog p a) (was v : TxnAt) (reads : Reads z.text p.statement) (answered : z.answer ≡ Some (given_answer v (gives p a v)))
-    (run : IsRunOnFound catalog events c ss) (now : IsViewOf (with_found (view_after catalog events c ss run) (found_by (calls_of events c z))) v.seen) (fits : first_unfit p.table (overlay a v.seen) ≡ None → SeesFit catalog v.seen) (scans : HoldsScans events c (ss ++ z ∷ []) v.seen)
+module _ (catalog : List Table) (events : List Event) (c : ℕ) (ss : List Executed) (z : Executed) (p : Planned) (a : Access) (on : IsPlannedOn catalog p a) (was v : TxnAt) (reads : Reads z.text p.statement) (answered : z.answer ≡ Some (given_answer v (gives p a v)))
+    (run : IsRunOnFound catalog events c ss) (now : IsViewOf (with_found (view_after catalog events c ss run) (found_by (calls_of events c z))) v.seen) (fits : first_unfit p.table (overlay a v.seen) ≡ None → SeesWellTyped catalog v.seen) (scans : HoldsScans events c (ss ++ z ∷ []) v.seen)
     (before : write_keys v.seen.writes ≡ keys_of catalog events c ss run.statements) where
   abbrev w : View
   w = with_found (view_after catalog events c ss run) (found_by (calls_of events c z))
 
-  module _ (b : Answer) (ks : List Keyed) (fit : SeesFit catalog v.seen) (step : step_of p (overlay a v.seen) ≡ Finished b ks) where
+  module _ (b : Answer) (ks : List Keyed) (fit : SeesWellTyped catalog v.seen) (step : step_of p (overlay a v.seen) ≡ Finished b ks) where
     -- the statement on the rows of the view
     execs : exec catalog p.statement w.rows ≡ (b, with_changes (tables_seen v.seen) ks)
     execs =
@@ -122,7 +122,7 @@ module _ (catalog : List Table) (events : List Event) (c : ℕ) (ss : List Said)
     left_view : IsViewOf (exec_on catalog p.statement w).1 (with_written v.seen ks)
     left_view = record {
       keys = now.keys;
-      rows = λ q. ap (λ (x : Answer × Tables). get x.1 q) execs ∙ ap (λ (d : Tables). get d q) (sym (own_is (tables_of_notes v.seen.notes) v.seen.notes v.seen.writes ks)) ∙ get_seen v.seen.notes (with_writes v.seen.notes v.seen.writes ks) q;
+      rows = λ q. ap (λ (x : Answer × Tables). get x.1 q) execs ∙ ap (λ (d : Tables). get d q) (sym (own_is (tables_of_reads v.seen.read_set) v.seen.read_set v.seen.writes ks)) ∙ get_seen v.seen.read_set (with_writes v.seen.read_set v.seen.writes ks) q;
     }
 
     -- its changes are of the keys that it writes
@@ -136,7 +136,7 @@ module _ (catalog : List Table) (events : List Event) (c : ℕ) (ss : List Said)
     runs_written : z.answer ≡ Some b → changes_nothing b ≡ false → first_unfit p.table (overlay a v.seen) ≡ None → RunsTo catalog events c (ss ++ z ∷ []) (with_written v.seen ks)
     runs_written is some none =
         runs_more catalog events c ss z run p.statement b (with_written v.seen ks) (effective_by z b false is some) reads is (ap (λ (x : Answer × Tables). x.0) execs) left_view scans
-        (keys_with v.seen.notes v.seen.writes ks ∙ ap (λ (qs : List Key). with_keys qs (map (λ (k : Keyed). k.key) ks)) before ∙ ap (with_keys (keys_of catalog events c ss run.statements)) (changes none))
+        (keys_with v.seen.read_set v.seen.writes ks ∙ ap (λ (qs : List Key). with_keys qs (map (λ (k : Keyed). k.key) ks)) before ∙ ap (with_keys (keys_of catalog events c ss run.statements)) (changes none))
 
   -- it takes part where it changed something, or shows it, or its read has finished
   running_by : (t f : Bool) → reads_commit z.text ≡ false → changes_nothing (given_answer v (gives p a v)) ≡ t → read_finished (given_answer v (gives p a v)) ≡ f → is_running z ≡ (not t || f)

@@ -2,27 +2,27 @@
 use Rattle.std.proofs.Common.{◌≡◌, ◌≢◌, ℕ, zero, suc, false, List, Option, Some, None, IfSome, refl, ap}
 use Rattle.std.specs.Prelude.{slice_get}
 use Rattle.sdb_client.specs.declared.gate.Gate.{Gate}
-use Rattle.sdb_steps.specs.Hands.{IsGated}
-use Rattle.sdb_execution.specs.declared.seat.Seat.{Seat}
-use Rattle.sdb_executions.specs.World.{hand_in, hands_of}
+use Rattle.sdb_steps.specs.States.{IsGated}
+use Rattle.sdb_execution.specs.declared.slot.ClientSlot.{ClientSlot}
+use Rattle.sdb_executions.specs.World.{state_in, states_of}
 use Rattle.sdb_execution.specs.Execution.{IsGateAt}
 
 -- A gate by the places of clients is one by their numbers.
-pub gated_at : (gate : Gate) (seats : List Seat) (i : ℕ) → IsGateAt gate seats i → IsGated gate (hands_of seats) (suc i)
-gated_at gate seats i h = record { sweeps = sweeps; opens = opens }
+pub gated_at : (gate : Gate) (client_slots : List ClientSlot) (i : ℕ) → IsGateAt gate client_slots i → IsGated gate (states_of client_slots) (suc i)
+gated_at gate client_slots i h = record { sweeps = sweeps; opens = opens }
   where
-    sweeps : gate.vacuum_runs ≡ false → (d : ℕ) → d ≢ suc i → (hands_of seats d).stopped ≡ false → (hands_of seats d).client.vacuum ≡ None
+    sweeps : gate.vacuum_runs ≡ false → (d : ℕ) → d ≢ suc i → (states_of client_slots d).stopped ≡ false → (states_of client_slots d).client.vacuum ≡ None
     sweeps shut zero n goes = refl
-    sweeps shut (suc j) n goes = by (slice_get seats j) (h.sweeps shut j (λ e. n (ap suc e))) goes
+    sweeps shut (suc j) n goes = by (slice_get client_slots j) (h.sweeps shut j (λ e. n (ap suc e))) goes
       where
-        by : (o : Option Seat) → IfSome o (λ s. s.stopped ≡ false → s.client.vacuum ≡ None) → (hand_in o (suc j)).stopped ≡ false → (hand_in o (suc j)).client.vacuum ≡ None
+        by : (o : Option ClientSlot) → IfSome o (λ s. s.stopped ≡ false → s.client.vacuum ≡ None) → (state_in o (suc j)).stopped ≡ false → (state_in o (suc j)).client.vacuum ≡ None
         by None k goes = refl
         by (Some s) k goes = k goes
 
-    opens : gate.open_elsewhere ≡ false → (d : ℕ) → d ≢ suc i → (hands_of seats d).stopped ≡ false → (hands_of seats d).client.txn ≡ None
+    opens : gate.open_elsewhere ≡ false → (d : ℕ) → d ≢ suc i → (states_of client_slots d).stopped ≡ false → (states_of client_slots d).client.txn ≡ None
     opens shut zero n goes = refl
-    opens shut (suc j) n goes = by (slice_get seats j) (h.opens shut j (λ e. n (ap suc e))) goes
+    opens shut (suc j) n goes = by (slice_get client_slots j) (h.opens shut j (λ e. n (ap suc e))) goes
       where
-        by : (o : Option Seat) → IfSome o (λ s. s.stopped ≡ false → s.client.txn ≡ None) → (hand_in o (suc j)).stopped ≡ false → (hand_in o (suc j)).client.txn ≡ None
+        by : (o : Option ClientSlot) → IfSome o (λ s. s.stopped ≡ false → s.client.txn ≡ None) → (state_in o (suc j)).stopped ≡ false → (state_in o (suc j)).client.txn ≡ None
         by None k goes = refl
         by (Some s) k goes = k goes

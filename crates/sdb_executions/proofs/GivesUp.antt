@@ -17,8 +17,8 @@ use Rattle.sdb_record.specs.declared.meta.Meta.{Meta}
 use Rattle.sdb_record.specs.Coordinator.{decision_in, is_expired}
 use Rattle.sdb_record.specs.Rolls.{is_tombstone}
 use Rattle.sdb_model.specs.declared.event.Event.{Event}
-use Rattle.sdb_model.specs.Calls.{Made, calls_after, calls_of, clock_at, is_read, key_asked}
-use Rattle.sdb_steps.specs.About.{IsDoingIn, IsIn, IsOfTables, IsStageIn, IsSweepIn, IsVacuumIn, IsWorkIn}
+use Rattle.sdb_model.specs.Calls.{StoreCall, calls_after, calls_of, clock_at, is_read, key_asked}
+use Rattle.sdb_steps.specs.About.{IsDoingIn, IsIn, IsOfTables, IsStageIn, IsVacuumStageIn, IsVacuumIn, IsWorkIn}
 use Rattle.sdb_executions.proofs.Unprepared.{base_of}
 use Rattle.sdb_phases.specs.declared.step.RecoverPhase.{RecoverPhase}
 use Rattle.sdb_phases.specs.declared.step.RecoverPhase.TheVariants as phase
@@ -35,13 +35,13 @@ use Rattle.sdb_record.specs.declared.access.Access.{Access}
 use Rattle.sdb_model.specs.declared.answer.Answer.{Answer}
 use Rattle.sdb_executions.proofs.Statements.{AreKept, IsPast, SoBy, calls_more, known, none_in, replied_said, statements_so}
 use Rattle.sdb_executions.proofs.Replies.{CallOf, CommitCall, ReadCall, SweepCall, call_of}
-use Rattle.sdb_client.specs.Client.{ClientAt, StageTold, after, answer_of, next_id, next_of, vacuum_left}
+use Rattle.sdb_client.specs.Client.{ClientAt, StagePost, after, answer_of, next_id, next_of, vacuum_left}
 use Rattle.sdb_commit.specs.Phases.{CommitAt}
 use Rattle.sdb_txn.specs.declared.txn.Doing.{Doing}
 use Rattle.sdb_txn.specs.Txn.{IsCommitting as GoesOn, TxnAt, committing, reading}
 use Rattle.sdb_executions.proofs.Steps.{Holds, execution_holds}
 use Rattle.sdb_model.specs.declared.event.How.{How}
-use Rattle.sdb_causes.specs.Tied.{IsAnswered, IsWaiting, Knows}
+use Rattle.sdb_causes.specs.Invariant.{IsAnswered, IsWaiting, Knows}
 use Rattle.sdb_model.specs.Causes.{IsCommitOf}
 use Rattle.sdb_execution.specs.Execution.{IsExecution, IsPlayable, State, TakeStep}
 use Rattle.sdb_model.specs.Rows.{Name}
@@ -49,15 +49,15 @@ use Rattle.sdb_client.specs.declared.next.Next.{Next}
 use Rattle.sdb_txn.specs.declared.progress.Progress.{Progress}
 use Rattle.sdb_read.specs.declared.read.ReadStep.{ReadStep}
 use Rattle.sdb_causes.specs.Reads.{ReadsBy, ResolvesBy}
-use Rattle.sdb_model.specs.Transactions.{Said, said}
+use Rattle.sdb_model.specs.Transactions.{Executed, statements_by}
 use Rattle.sdb_model.specs.declared.script.Script.{Script}
-use Rattle.sdb_causes.specs.Sweeps.{SweepsBy}
+use Rattle.sdb_causes.specs.Vacuums.{VacuumStageBy}
 use Rattle.sdb_schema.specs.declared.table.Table.{Table}
 use Rattle.sdb_executions.proofs.Takes.{TakenAs, taken_as}
 use Rattle.sdb_phases.specs.Work.{Work, look_of}
-use Rattle.sdb_executions.specs.World.{WorldAt, hands_of, state_of}
+use Rattle.sdb_executions.specs.World.{WorldAt, states_of, state_of}
 use Rattle.sdb_causes.proofs.Rows.{after_last, after_more}
-use Rattle.sdb_story.specs.Telling.{answered_said, taken_said, waiting_of}
+use Rattle.sdb_story.specs.History.{executed_with_answer, executed_of_take, waiting_of}
 use Rattle.sdb_causes.proofs.Calls.{call_said, clock_more, clock_same, made_at, of_within}
 use Rattle.sdb_executions.proofs.OwnPrepares.{calls_again, commit_waits, ends_commit, goes_further, work_doing, work_in, work_txn}
 use Rattle.sdb_executions.proofs.RowWrites.{commit_writes, data_not, read_not, recover_writes, writer_fits}
@@ -84,25 +84,25 @@ use Rattle.sdb_model.specs.Tables.{is_data}
 ---- where a recovery gives a transaction up
 
 -- a call looked for the row, and found none of a transaction that has expired
-abbrev pub Evidence : List Event → List Made → TxId → ℤ → Type 0
-Evidence events calls id now = (look : Made) × Contains calls look × HasExpired events calls id look × (clock_at events look.at ≡ now)
+abbrev pub Evidence : List Event → List StoreCall → TxId → ℤ → Type 0
+Evidence events calls id now = (look : StoreCall) × Contains calls look × HasExpired events calls id look × (clock_at events look.at ≡ now)
 
-abbrev pub PhaseGives : List Event → List Made → TxId → RecoverPhase → Type 0
+abbrev pub PhaseGives : List Event → List StoreCall → TxId → RecoverPhase → Type 0
 PhaseGives events calls id (phase.Abort now) = Evidence events calls id now
 PhaseGives events calls id p = Unit {0}
 
-abbrev pub StageGives : List Event → List Made → ReadStage → Type 0
+abbrev pub StageGives : List Event → List StoreCall → ReadStage → Type 0
 StageGives events calls (Resolving images rec meta p left) = PhaseGives events calls meta.id p
 StageGives events calls Asking = Unit {0}
 StageGives events calls (Ended s) = Unit {0}
 
-abbrev pub SweepGives : List Event → List Made → VacuumStage → Type 0
+abbrev pub SweepGives : List Event → List StoreCall → VacuumStage → Type 0
 SweepGives events calls (vacuum.Resolving rec meta p left) = PhaseGives events calls meta.id p
 SweepGives events calls (vacuum.Scanning span) = Unit {0}
 SweepGives events calls (vacuum.Removing b left) = Unit {0}
 SweepGives events calls vacuum.Over = Unit {0}
 
-module _ (events : List Event) (calls : List Made) where
+module _ (events : List Event) (calls : List StoreCall) where
   rolls_gives : (id : TxId) (meta : Meta) (x : Result Decided (List ℕ)) → PhaseGives events calls id (roll_to meta x).0
   rolls_gives id meta (Err column) = tt
   rolls_gives id meta (Ok d) = by d.decision
@@ -206,7 +206,7 @@ module _ (events : List Event) (calls : List Made) where
   next_table_gives [] n = tt
   next_table_gives (s ∷ ss) n = tt
 
-  going_gives : (ss : List Span) (n : ℕ) (f : First) → SweepGives events calls (vacuum.going ss n f).0.stage
+  going_gives : (ss : List Span) (n : ℕ) (f : First) → SweepGives events calls (vacuum.next_of_row ss n f).0.stage
   going_gives ss n vacuum.Nothing = next_table_gives ss n
   going_gives ss n (vacuum.Tombstone b left) = tt
   going_gives ss n (vacuum.Unresolved r meta left) = tt
@@ -223,7 +223,7 @@ module _ (events : List Event) (calls : List Made) where
   tombstone_gives : (ss : List Span) (n : ℕ) (left : List Record) (b : Record) → SweepGives events calls (vacuum.tombstone_or ss n left b).0.stage
   tombstone_gives ss n left b = by (is_tombstone b)
     where
-      by : (t : Bool) → SweepGives events calls (if t then vacuum.goes_on ss n (vacuum.Removing b left) else vacuum.going ss n (vacuum.first_of left)).0.stage
+      by : (t : Bool) → SweepGives events calls (if t then vacuum.with_call ss n (vacuum.Removing b left) else vacuum.next_of_row ss n (vacuum.first_of left)).0.stage
       by true = tt
       by false = going_gives ss n (vacuum.first_of left)
 
@@ -258,51 +258,51 @@ module _ (events : List Event) (calls : List Made) where
 
   -- where it goes on
   left_gives : (want : VacuumAt × VacuumStep) (v : VacuumAt) (s : VacuumStep) → Gives want v s → SweepGives events calls want.0.stage → SweepGives events calls v.stage
-  left_gives want v sweep.NoMemory g h = subst (SweepGives events calls) (sym g) tt
-  left_gives want v sweep.More g h = subst (λ (y : VacuumAt). SweepGives events calls y.stage) (sym g.0) h
-  left_gives want v (sweep.Count n) g h = subst (λ (y : VacuumAt). SweepGives events calls y.stage) (sym g.0) h
-  left_gives want v sweep.Faulted g h = subst (λ (y : VacuumAt). SweepGives events calls y.stage) (sym g.0) h
-  left_gives want v (sweep.BadRecord key) g h = subst (λ (y : VacuumAt). SweepGives events calls y.stage) (sym g.0) h
+  left_gives want v vacuuming.NoMemory g h = subst (SweepGives events calls) (sym g) tt
+  left_gives want v vacuuming.More g h = subst (λ (y : VacuumAt). SweepGives events calls y.stage) (sym g.0) h
+  left_gives want v (vacuuming.Count n) g h = subst (λ (y : VacuumAt). SweepGives events calls y.stage) (sym g.0) h
+  left_gives want v vacuuming.Faulted g h = subst (λ (y : VacuumAt). SweepGives events calls y.stage) (sym g.0) h
+  left_gives want v (vacuuming.BadRecord key) g h = subst (λ (y : VacuumAt). SweepGives events calls y.stage) (sym g.0) h
 
 ---- what is so of the calls of a statement
 
-abbrev AllGive : List Event → List Made → Type 0
-AllGive events calls = (m : Made) (id : TxId) → Contains calls m → id.0 < 2 ^ 128 → WritesRow id m → GivesUp events calls m id
+abbrev AllGive : List Event → List StoreCall → Type 0
+AllGive events calls = (m : StoreCall) (id : TxId) → Contains calls m → id.0 < 2 ^ 128 → WritesRow id m → GivesUp events calls m id
 
 -- each write of a row is the COMMIT's own
-abbrev pub OwnWrites : Work → List Made → Type 0
-OwnWrites p calls = (m : Made) (id : TxId) → Contains calls m → id.0 < 2 ^ 128 → WritesRow id m → (id ≡ p.id) × (d : Decision) × (m.request ≡ row_put p.id d p.now)
+abbrev pub OwnWrites : Work → List StoreCall → Type 0
+OwnWrites p calls = (m : StoreCall) (id : TxId) → Contains calls m → id.0 < 2 ^ 128 → WritesRow id m → (id ≡ p.id) × (d : Decision) × (m.request ≡ row_put p.id d p.now)
 
-abbrev pub DoingGives : List Event → List Made → ℤ → Doing → Type 0
+abbrev pub DoingGives : List Event → List StoreCall → ℤ → Doing → Type 0
 DoingGives events calls taken (doing.Read a x) = AllGive events calls × StageGives events calls x.stage
 DoingGives events calls taken (doing.Commit k) = (k.work.now ≡ taken) × OwnWrites k.work calls
 DoingGives events calls taken doing.Idle = AllGive events calls
 DoingGives events calls taken doing.Over = AllGive events calls
 
-abbrev pub TxnGives : List Event → List Made → ℤ → Option TxnAt → Type 0
+abbrev pub TxnGives : List Event → List StoreCall → ℤ → Option TxnAt → Type 0
 TxnGives events calls taken None = AllGive events calls
 TxnGives events calls taken (Some t) = DoingGives events calls taken t.doing
 
-abbrev pub HandGives : List Event → List Made → ℤ → Option VacuumAt → Option TxnAt → Type 0
+abbrev pub HandGives : List Event → List StoreCall → ℤ → Option VacuumAt → Option TxnAt → Type 0
 HandGives events calls taken None o = TxnGives events calls taken o
 HandGives events calls taken (Some v) o = AllGive events calls × SweepGives events calls v.stage
 
-abbrev pub AreDue : List Event → ℕ → Said → Type 0
-AreDue events c s = (m : Made) (id : TxId) → Contains (calls_of events c s) m → id.0 < 2 ^ 128 → WritesRow id m → IsOwnDecision events c s id m ⊎ GivesUp events (calls_of events c s) m id
+abbrev pub AreDue : List Event → ℕ → Executed → Type 0
+AreDue events c s = (m : StoreCall) (id : TxId) → Contains (calls_of events c s) m → id.0 < 2 ^ 128 → WritesRow id m → IsOwnDecision events c s id m ⊎ GivesUp events (calls_of events c s) m id
 
-abbrev pub WaitDue : List Event → ℕ → Said → ClientAt → Type 0
+abbrev pub WaitDue : List Event → ℕ → Executed → ClientAt → Type 0
 WaitDue events c s h = HandGives events (calls_of events c s) (clock_at events s.taken) h.vacuum h.txn
 
 ---- it stays
 
 -- calls are among later ones, and the clock showed the same at each
-record Carries (events later : List Event) (calls more : List Made) : Type 0 where
-  has : (x : Made) → Contains calls x → Contains more x
-  after : (n : ℕ) (x : Made) → Contains (calls_after n calls) x → Contains (calls_after n more) x
-  clock : (x : Made) → Contains calls x → clock_at later x.at ≡ clock_at events x.at
+record Carries (events later : List Event) (calls more : List StoreCall) : Type 0 where
+  has : (x : StoreCall) → Contains calls x → Contains more x
+  after : (n : ℕ) (x : StoreCall) → Contains (calls_after n calls) x → Contains (calls_after n more) x
+  clock : (x : StoreCall) → Contains calls x → clock_at later x.at ≡ clock_at events x.at
 
-module _ (events later : List Event) (calls more : List Made) (on : Carries events later calls more) where
-  expired_on : (id : TxId) (look : Made) → HasExpired events calls id look → HasExpired later more id look
+module _ (events later : List Event) (calls more : List StoreCall) (on : Carries events later calls more) where
+  expired_on : (id : TxId) (look : StoreCall) → HasExpired events calls id look → HasExpired later more id look
   expired_on id look h = record {
     read = h.read;
     found = h.found;
@@ -310,13 +310,13 @@ module _ (events later : List Event) (calls more : List Made) (on : Carries even
     reads = (on.has h.read h.reads.0, h.reads.1, h.reads.2);
     unresolved = h.unresolved;
     looks = (on.after h.read.at look h.looks.0, h.looks.1, h.looks.2);
-    late = ap (is_expired h.at) (on.clock look (kept_in (λ (y : Made). nat_lt h.read.at y.at) calls look h.looks.0)) ∙ h.late;
+    late = ap (is_expired h.at) (on.clock look (kept_in (λ (y : StoreCall). nat_lt h.read.at y.at) calls look h.looks.0)) ∙ h.late;
   }
 
-  looked_at : (id : TxId) (look : Made) → HasExpired events calls id look → clock_at later look.at ≡ clock_at events look.at
-  looked_at id look h = on.clock look (kept_in (λ (y : Made). nat_lt h.read.at y.at) calls look h.looks.0)
+  looked_at : (id : TxId) (look : StoreCall) → HasExpired events calls id look → clock_at later look.at ≡ clock_at events look.at
+  looked_at id look h = on.clock look (kept_in (λ (y : StoreCall). nat_lt h.read.at y.at) calls look h.looks.0)
 
-  gives_on : (m : Made) (id : TxId) → GivesUp events calls m id → GivesUp later more m id
+  gives_on : (m : StoreCall) (id : TxId) → GivesUp events calls m id → GivesUp later more m id
   gives_on m id h = record { look = h.look; expired = expired_on id h.look h.expired; before = h.before; asks = h.asks ∙ ap (row_put id decision.Aborted) (sym (looked_at id h.look h.expired)) }
 
   phase_on : (id : TxId) (p : RecoverPhase) → PhaseGives events calls id p → PhaseGives later more id p
@@ -328,17 +328,17 @@ module _ (events later : List Event) (calls more : List Made) (on : Carries even
   phase_on id phase.Ended h = tt
 
 -- an event of others
-carries_same : (c : ℕ) (events : List Event) (e : Event) (s : Said) → calls_of (events ++ e ∷ []) c s ≡ calls_of events c s → Carries events (events ++ e ∷ []) (calls_of events c s) (calls_of (events ++ e ∷ []) c s)
+carries_same : (c : ℕ) (events : List Event) (e : Event) (s : Executed) → calls_of (events ++ e ∷ []) c s ≡ calls_of events c s → Carries events (events ++ e ∷ []) (calls_of events c s) (calls_of (events ++ e ∷ []) c s)
 carries_same c events e s same = record {
-  has = λ x h. subst (λ (ms : List Made). Contains ms x) (sym same) h;
-  after = λ n x h. subst (λ (ms : List Made). Contains (calls_after n ms) x) (sym same) h;
+  has = λ x h. subst (λ (ms : List StoreCall). Contains ms x) (sym same) h;
+  after = λ n x h. subst (λ (ms : List StoreCall). Contains (calls_after n ms) x) (sym same) h;
   clock = λ x h. clock_same events e x.at (of_within c events s x h);
 }
 
-all_same : (c : ℕ) (events : List Event) (e : Event) (s : Said) → calls_of (events ++ e ∷ []) c s ≡ calls_of events c s → AllGive events (calls_of events c s) → AllGive (events ++ e ∷ []) (calls_of (events ++ e ∷ []) c s)
-all_same c events e s same all m id has fits puts = gives_on events (events ++ e ∷ []) (calls_of events c s) (calls_of (events ++ e ∷ []) c s) (carries_same c events e s same) m id (all m id (subst (λ (ms : List Made). Contains ms m) same has) fits puts)
+all_same : (c : ℕ) (events : List Event) (e : Event) (s : Executed) → calls_of (events ++ e ∷ []) c s ≡ calls_of events c s → AllGive events (calls_of events c s) → AllGive (events ++ e ∷ []) (calls_of (events ++ e ∷ []) c s)
+all_same c events e s same all m id has fits puts = gives_on events (events ++ e ∷ []) (calls_of events c s) (calls_of (events ++ e ∷ []) c s) (carries_same c events e s same) m id (all m id (subst (λ (ms : List StoreCall). Contains ms m) same has) fits puts)
 
-still_gives : (c : ℕ) (events : List Event) (e : Event) (s : Said) → calls_of (events ++ e ∷ []) c s ≡ calls_of events c s → clock_at (events ++ e ∷ []) s.taken ≡ clock_at events s.taken → (v : Option VacuumAt) (o : Option TxnAt) → HandGives events (calls_of events c s) (clock_at events s.taken) v o → HandGives (events ++ e ∷ []) (calls_of (events ++ e ∷ []) c s) (clock_at (events ++ e ∷ []) s.taken) v o
+still_gives : (c : ℕ) (events : List Event) (e : Event) (s : Executed) → calls_of (events ++ e ∷ []) c s ≡ calls_of events c s → clock_at (events ++ e ∷ []) s.taken ≡ clock_at events s.taken → (v : Option VacuumAt) (o : Option TxnAt) → HandGives events (calls_of events c s) (clock_at events s.taken) v o → HandGives (events ++ e ∷ []) (calls_of (events ++ e ∷ []) c s) (clock_at (events ++ e ∷ []) s.taken) v o
 still_gives c events e s same shows = by_vacuum
   where
     all : AllGive events (calls_of events c s) → AllGive (events ++ e ∷ []) (calls_of (events ++ e ∷ []) c s)
@@ -372,8 +372,8 @@ still_gives c events e s same shows = by_vacuum
     by_vacuum None o h = by_txn o h
     by_vacuum (Some v) o h = (all h.0, by_sweep v.stage h.1)
 
-past_due : (events : List Event) (e : Event) (c : ℕ) (s : Said) → IsPast events e c s → AreDue events c s → AreDue (events ++ e ∷ []) c s
-past_due events e c s past due m id has fits puts = by (due m id (subst (λ (ms : List Made). Contains ms m) past.calls has) fits puts)
+past_due : (events : List Event) (e : Event) (c : ℕ) (s : Executed) → IsPast events e c s → AreDue events c s → AreDue (events ++ e ∷ []) c s
+past_due events e c s past due m id has fits puts = by (due m id (subst (λ (ms : List StoreCall). Contains ms m) past.calls has) fits puts)
   where
     by : IsOwnDecision events c s id m ⊎ GivesUp events (calls_of events c s) m id → IsOwnDecision (events ++ e ∷ []) c s id m ⊎ GivesUp (events ++ e ∷ []) (calls_of (events ++ e ∷ []) c s) m id
     by (inl own) = inl (record { commit = past.commit id own.commit; decision = own.decision; asks = own.asks ∙ ap (row_put id own.decision) (sym past.clock) })
@@ -381,18 +381,18 @@ past_due events e c s past due m id has fits puts = by (due m id (subst (λ (ms 
 
 ---- a statement is taken
 
-no_calls : (events : List Event) (calls : List Made) → calls ≡ [] → AllGive events calls
-no_calls events calls none m id has fits puts = none_in m (subst (λ (ms : List Made). Contains ms m) none has)
+no_calls : (events : List Event) (calls : List StoreCall) → calls ≡ [] → AllGive events calls
+no_calls events calls none m id has fits puts = none_in m (subst (λ (ms : List StoreCall). Contains ms m) none has)
 
-takes_due : (w : WorldAt) (u : State) (c : ℕ) (text : List ℕ) (a : Option Answer) (t : TakeStep w.script (state_of w) c text a u) → Holds w → SoBy AreDue WaitDue (w.events ++ event.Take c text a ∷ []) c (taken_said w.events text a) t.client a
-takes_due w u c text (Some b) t h = λ m id has fits puts. none_in m (subst (λ (ms : List Made). Contains ms m) (none_yet c w.events text (Some b)) has)
-takes_due w u c text None t h = by (taken_as (record { catalog = w.script.catalog; now = w.clock; gate = t.gate; fresh = next_id t.seat.client }) text t.seat.client t.client t.takes)
+takes_due : (w : WorldAt) (u : State) (c : ℕ) (text : List ℕ) (a : Option Answer) (t : TakeStep w.script (state_of w) c text a u) → Holds w → SoBy AreDue WaitDue (w.events ++ event.Take c text a ∷ []) c (executed_of_take w.events text a) t.client a
+takes_due w u c text (Some b) t h = λ m id has fits puts. none_in m (subst (λ (ms : List StoreCall). Contains ms m) (none_yet c w.events text (Some b)) has)
+takes_due w u c text None t h = by (taken_as (record { catalog = w.script.catalog; now = w.clock; gate = t.gate; fresh = next_id t.client_slot.client }) text t.client_slot.client t.client t.takes)
   where
     E : List Event
     E = w.events ++ event.Take c text None ∷ []
 
-    calls : List Made
-    calls = calls_of E c (taken_said w.events text None)
+    calls : List StoreCall
+    calls = calls_of E c (executed_of_take w.events text None)
 
     none : AllGive E calls
     none = no_calls E calls (none_yet c w.events text None)
@@ -407,33 +407,33 @@ takes_due w u c text None t h = by (taken_as (record { catalog = w.script.catalo
     taken = clock_at E (1 + length w.events)
 
     commits : (v : Option VacuumAt) (x : TxnAt) → v ≡ None → HandGives E calls taken v (Some (committing x w.clock))
-    commits None x e = (sym shows, λ m id has fits puts. none_in m (subst (λ (ms : List Made). Contains ms m) (none_yet c w.events text None) has))
+    commits None x e = (sym shows, λ m id has fits puts. none_in m (subst (λ (ms : List StoreCall). Contains ms m) (none_yet c w.events text None) has))
     commits (Some v) x e = none_some v (sym e)
 
     reads : (v : Option VacuumAt) (x : TxnAt) (a : Access) → v ≡ None → HandGives E calls taken v (Some (reading x a))
     reads None x a e = (none, tt)
     reads (Some v) x a e = none_some v (sym e)
 
-    by : TakenAs (record { catalog = w.script.catalog; now = w.clock; gate = t.gate; fresh = next_id t.seat.client }) t.seat.client t.client → HandGives E calls taken t.client.vacuum t.client.txn
-    by (inl z) = subst (λ (y : ClientAt). HandGives E calls taken y.vacuum y.txn) (sym z.left) (commits t.seat.client.vacuum z.t t.idle.free)
+    by : TakenAs (record { catalog = w.script.catalog; now = w.clock; gate = t.gate; fresh = next_id t.client_slot.client }) t.client_slot.client t.client → HandGives E calls taken t.client.vacuum t.client.txn
+    by (inl z) = subst (λ (y : ClientAt). HandGives E calls taken y.vacuum y.txn) (sym z.left) (commits t.client_slot.client.vacuum z.t t.idle.free)
     by (inr (inl z)) = subst (λ (y : ClientAt). HandGives E calls taken y.vacuum y.txn) (sym z.left) (none, tt)
-    by (inr (inr z)) = subst (λ (y : ClientAt). HandGives E calls taken y.vacuum y.txn) (sym z.left) (reads t.seat.client.vacuum z.t z.access t.idle.free)
+    by (inr (inr z)) = subst (λ (y : ClientAt). HandGives E calls taken y.vacuum y.txn) (sym z.left) (reads t.client_slot.client.vacuum z.t z.access t.idle.free)
 
 ---- a call is made
 
 -- what is so of each call is so of all
-pub each_of : {P : Made → Type 0} (calls : List Made) → ((y : Made) → Contains calls y → P y) → AllByRecursion P calls
+pub each_of : {P : StoreCall → Type 0} (calls : List StoreCall) → ((y : StoreCall) → Contains calls y → P y) → AllByRecursion P calls
 each_of [] h = tt
 each_of {P = P} (y ∷ ys) h = (h y (Contains-append_left (y ∷ []) ys y (Contains-push [] y)), each_of {P = P} ys (λ z has. h z (Contains-append_right (y ∷ []) ys z has)))
 
-module _ (catalog : List Table) (events : List Event) (c : ℕ) (h d : ClientAt) (store : Name) (q : Request) (how : How) (r : Reply) (now : ℤ) (k : Knows catalog events c h) (x : Said) (waiting : k.waiting ≡ Some x) (waits : IsWaiting catalog events c (is_some h.vacuum) x) (clock : clock_at events (length events) ≡ now) (about : IsOfTables catalog h) (apart : (y : Key) → IsIn catalog y → is_data y ≡ true) (so : WaitDue events c x h) where
+module _ (catalog : List Table) (events : List Event) (c : ℕ) (h d : ClientAt) (store : Name) (q : Request) (how : How) (r : Reply) (now : ℤ) (k : Knows catalog events c h) (x : Executed) (waiting : k.waiting ≡ Some x) (waits : IsWaiting catalog events c (is_some h.vacuum) x) (clock : clock_at events (length events) ≡ now) (about : IsOfTables catalog h) (apart : (y : Key) → IsIn catalog y → is_data y ≡ true) (so : WaitDue events c x h) where
   abbrev E : Option Answer → List Event
   E a = events ++ event.Call c store q how r a ∷ []
 
-  abbrev made : Made
+  abbrev made : StoreCall
   made = made_at events store q how r
 
-  abbrev ms : List Made
+  abbrev ms : List StoreCall
   ms = calls_of events c x
 
   more : (a : Option Answer) → calls_of (E a) c (replied_said events x a) ≡ ms ++ made ∷ []
@@ -461,7 +461,7 @@ module _ (catalog : List Table) (events : List Event) (c : ℕ) (h d : ClientAt)
     where
       by : Contains ms m ⊎ (made ≡ m) → GivesUp (E a) (ms ++ made ∷ []) m id
       by (inl old) = gives_on events (E a) ms (ms ++ made ∷ []) (on a) m id (all m id old fits puts)
-      by (inr same) = subst (λ (y : Made). GivesUp (E a) (ms ++ made ∷ []) y id) same (one id fits (subst (λ (y : Made). WritesRow id y) (sym same) puts))
+      by (inr same) = subst (λ (y : StoreCall). GivesUp (E a) (ms ++ made ∷ []) y id) same (one id fits (subst (λ (y : StoreCall). WritesRow id y) (sym same) puts))
 
   -- a recovery that gives up had looked before
   gives_now : (a : Option Answer) (rec : Record) (meta : Meta) (p : RecoverPhase) (left : List Record) → IsIn catalog rec.key → ResolvesBy ms rec meta p left → recover_request_at rec meta p ≡ Some q → PhaseGives events ms meta.id p → (id : TxId) → id.0 < 2 ^ 128 → WritesRow id made → GivesUp (E a) (ms ++ made ∷ []) made id
@@ -498,8 +498,8 @@ module _ (catalog : List Table) (events : List Event) (c : ℕ) (h d : ClientAt)
 
   -- what was so of its calls, with this one
   comes : (a : Option Answer) → AllGive (E a) (ms ++ made ∷ []) → (a ≡ None → HandGives (E None) (ms ++ made ∷ []) (clock_at (E None) x.taken) d.vacuum d.txn) → SoBy AreDue WaitDue (E a) c (replied_said events x a) d a
-  comes None all left = subst (λ (cs : List Made). HandGives (E None) cs (clock_at (E None) x.taken) d.vacuum d.txn) (sym (more None)) (left refl)
-  comes (Some b) all left = λ m id has fits puts. inr (subst (λ (cs : List Made). GivesUp (E (Some b)) cs m id) (sym (more (Some b))) (all m id (subst (λ (cs : List Made). Contains cs m) (more (Some b)) has) fits puts))
+  comes None all left = subst (λ (cs : List StoreCall). HandGives (E None) cs (clock_at (E None) x.taken) d.vacuum d.txn) (sym (more None)) (left refl)
+  comes (Some b) all left = λ m id has fits puts. inr (subst (λ (cs : List StoreCall). GivesUp (E (Some b)) cs m id) (sym (more (Some b))) (all m id (subst (λ (cs : List StoreCall). Contains cs m) (more (Some b)) has) fits puts))
 
   sweeps : (a : Option Answer) → SweepCall events c x h q r now a d → SoBy AreDue WaitDue (E a) c (replied_said events x a) d a
   sweeps a z = comes a (all_more a was.0 (λ id fits puts. by_stage a z.v.stage inside z.is.1 z.pends was.1 id fits puts)) (λ e. goes e)
@@ -507,10 +507,10 @@ module _ (catalog : List Table) (events : List Event) (c : ℕ) (h d : ClientAt)
       was : AllGive events ms × SweepGives events ms z.v.stage
       was = subst (λ (v : Option VacuumAt). HandGives events ms (clock_at events x.taken) v h.txn) z.runs so
 
-      inside : IsSweepIn catalog z.v.stage
+      inside : IsVacuumStageIn catalog z.v.stage
       inside = (subst (λ (o : Option VacuumAt). IfSome o (IsVacuumIn catalog)) z.runs about.vacuum).0
 
-      by_stage : (a : Option Answer) (s : VacuumStage) → IsSweepIn catalog s → SweepsBy ms s → vacuum.pending_at s ≡ Some q → SweepGives events ms s → (id : TxId) → id.0 < 2 ^ 128 → WritesRow id made → GivesUp (E a) (ms ++ made ∷ []) made id
+      by_stage : (a : Option Answer) (s : VacuumStage) → IsVacuumStageIn catalog s → VacuumStageBy ms s → vacuum.pending_at s ≡ Some q → SweepGives events ms s → (id : TxId) → id.0 < 2 ^ 128 → WritesRow id made → GivesUp (E a) (ms ++ made ∷ []) made id
       by_stage a (vacuum.Scanning span) i by_calls asks gives id fits puts = absurd (read_not catalog apart id q (ap is_read (sym (some_is (ask.Scan span) q asks))) puts)
       by_stage a (vacuum.Resolving rec meta p left) i by_calls asks gives id fits puts = gives_now a rec meta p left i.0 by_calls asks gives id fits puts
       by_stage a (vacuum.Removing b left) i by_calls asks gives id fits puts = absurd (removes (id_in b.columns) asks)
@@ -520,22 +520,22 @@ module _ (catalog : List Table) (events : List Event) (c : ℕ) (h d : ClientAt)
           removes (Some n) e = data_not catalog apart id q b.key (ap key_asked (sym (some_is (ask.DeleteIf b.key (condition.Version n state.Committed)) q e))) i.0 puts
       by_stage a vacuum.Over i by_calls asks gives id fits puts = none_some q asks
 
-      looks : (s : VacuumStage) → SweepsBy ms s → vacuum.pending_at s ≡ Some q → SweepLooks (E None) (ms ++ made ∷ []) s now r
+      looks : (s : VacuumStage) → VacuumStageBy ms s → vacuum.pending_at s ≡ Some q → SweepLooks (E None) (ms ++ made ∷ []) s now r
       looks (vacuum.Scanning span) by_calls asks = tt
       looks (vacuum.Resolving rec meta p left) by_calls asks = late_now None rec meta p left by_calls asks
       looks (vacuum.Removing b left) by_calls asks = tt
       looks vacuum.Over by_calls asks = tt
 
-      more_step : (s : VacuumStep) → None ≡ answer_of s → s ≡ sweep.More
-      more_step sweep.More e = refl
-      more_step (sweep.Count n) e = absurd (cc)
-      more_step sweep.Faulted e = absurd (cc)
-      more_step (sweep.BadRecord key) e = absurd (cc)
-      more_step sweep.NoMemory e = absurd (cc)
+      more_step : (s : VacuumStep) → None ≡ answer_of s → s ≡ vacuuming.More
+      more_step vacuuming.More e = refl
+      more_step (vacuuming.Count n) e = absurd (cc)
+      more_step vacuuming.Faulted e = absurd (cc)
+      more_step (vacuuming.BadRecord key) e = absurd (cc)
+      more_step vacuuming.NoMemory e = absurd (cc)
 
       goes : a ≡ None → HandGives (E None) (ms ++ made ∷ []) (clock_at (E None) x.taken) d.vacuum d.txn
       goes e =
-          let further : z.told.step ≡ sweep.More = more_step z.told.step (sym e ∙ z.told.answer) in
+          let further : z.told.step ≡ vacuuming.More = more_step z.told.step (sym e ∙ z.told.answer) in
           let left : d.vacuum ≡ Some z.told.left = z.told.goes ∙ ap (λ (s : VacuumStep). vacuum_left s z.told.left) further in
           let all : AllGive (E None) (ms ++ made ∷ []) = all_more None was.0 (λ id fits puts. by_stage None z.v.stage inside z.is.1 z.pends was.1 id fits puts) in
           subst (λ (v : Option VacuumAt). HandGives (E None) (ms ++ made ∷ []) (clock_at (E None) x.taken) v d.txn) (sym left)
@@ -578,12 +578,12 @@ module _ (catalog : List Table) (events : List Event) (c : ℕ) (h d : ClientAt)
           let again : z.next ≡ next.Call = calls_again z.next (sym e ∙ z.answer) in
           let left : d ≡ record h { txn = Some z.u } = z.left ∙ ap (λ (n : Next). after h n z.u) again in
           subst (λ (y : ClientAt). HandGives (E None) (ms ++ made ∷ []) (clock_at (E None) x.taken) y.vacuum y.txn) (sym left)
-          (subst (λ (v : Option VacuumAt). HandGives (E None) (ms ++ made ∷ []) (clock_at (E None) x.taken) v (Some z.u)) (sym z.free) (by (read_result (read_step z.x.stage now r)) (subst (λ (m : Next). StageTold z.t z.p z.access z.x (read_step z.x.stage now r) (read_result (read_step z.x.stage now r)) m z.u) again (z.told.told (λ n. other (sym again ∙ n))))))
+          (subst (λ (v : Option VacuumAt). HandGives (E None) (ms ++ made ∷ []) (clock_at (E None) x.taken) v (Some z.u)) (sym z.free) (by (read_result (read_step z.x.stage now r)) (subst (λ (m : Next). StagePost z.t z.p z.access z.x (read_step z.x.stage now r) (read_result (read_step z.x.stage now r)) m z.u) again (z.told.told (λ n. other (sym again ∙ n))))))
         where
           other : next.Call ≡ next.Answer answer.NoMemory → ⊥
           other n = cc
 
-          by : (s : ReadStep) → StageTold z.t z.p z.access z.x (read_step z.x.stage now r) s next.Call z.u → DoingGives (E None) (ms ++ made ∷ []) (clock_at (E None) x.taken) z.u.doing
+          by : (s : ReadStep) → StagePost z.t z.p z.access z.x (read_step z.x.stage now r) s next.Call z.u → DoingGives (E None) (ms ++ made ∷ []) (clock_at (E None) x.taken) z.u.doing
           by step.More n = subst (λ (y : TxnAt). DoingGives (E None) (ms ++ made ∷ []) (clock_at (E None) x.taken) y.doing) (sym n.1) (all, step_gives (E None) (ms ++ made ∷ []) z.x.stage now r (looks z.x.stage z.is.stage asks))
           by (step.Images images) n = absurd n
           by (step.Busy key id at) n = absurd (let y = n.0 in cc)
@@ -612,8 +612,8 @@ module _ (catalog : List Table) (events : List Event) (c : ℕ) (h d : ClientAt)
           one : Contains ms m ⊎ (made ≡ m) → (id ≡ z.k.work.id) × (n : Decision) × (m.request ≡ row_put z.k.work.id n z.k.work.now)
           one (inl old) = was.1 m id old fits puts
           one (inr same) =
-              subst (λ (y : Made). (id ≡ z.k.work.id) × (n : Decision) × (y.request ≡ row_put z.k.work.id n z.k.work.now)) same
-              (commit_writes catalog apart id z.k.work z.k.stage q z.pends inside.writes z.writes fits fits_own (subst (λ (y : Made). WritesRow id y) (sym same) puts))
+              subst (λ (y : StoreCall). (id ≡ z.k.work.id) × (n : Decision) × (y.request ≡ row_put z.k.work.id n z.k.work.now)) same
+              (commit_writes catalog apart id z.k.work z.k.stage q z.pends inside.writes z.writes fits fits_own (subst (λ (y : StoreCall). WritesRow id y) (sym same) puts))
 
       doing_own : (y : Doing) (P : CommitAt → Type 0) → ((i : CommitAt) → P i → i.work ≡ z.k.work) → GoesOn y P → DoingGives (E None) (ms ++ made ∷ []) (clock_at (E None) x.taken) y
       doing_own (doing.Commit i) P f g = subst (λ (w : Work). (w.now ≡ clock_at (E None) x.taken) × OwnWrites w (ms ++ made ∷ [])) (sym (f i g)) (shows None, all)
@@ -625,15 +625,15 @@ module _ (catalog : List Table) (events : List Event) (c : ℕ) (h d : ClientAt)
       by None e =
           let further : z.progress ≡ progress.More = goes_further z.progress (sym e ∙ z.answer) in
           let left : d ≡ record h { txn = Some z.u } = z.left ∙ ap (λ (n : Progress). after h (next_of n) z.u) further in
-          subst (λ (cs : List Made). HandGives (E None) cs (clock_at (E None) x.taken) d.vacuum d.txn) (sym (more None))
+          subst (λ (cs : List StoreCall). HandGives (E None) cs (clock_at (E None) x.taken) d.vacuum d.txn) (sym (more None))
           (subst (λ (y : ClientAt). HandGives (E None) (ms ++ made ∷ []) (clock_at (E None) x.taken) y.vacuum y.txn) (sym left)
           (subst (λ (v : Option VacuumAt). HandGives (E None) (ms ++ made ∷ []) (clock_at (E None) x.taken) v (Some z.u)) (sym z.free) (doing_own z.u.doing _ (λ i g. g.0) (z.told.next further))))
       by (Some b) e = λ m id has fits puts.
-          let own = all m id (subst (λ (cs : List Made). Contains cs m) (more (Some b)) has) fits puts in
-          let told : said c events ≡ k.told ++ x ∷ [] = k.same ∙ ap (λ (o : Option Said). k.told ++ waiting_of o) waiting in
+          let own = all m id (subst (λ (cs : List StoreCall). Contains cs m) (more (Some b)) has) fits puts in
+          let told : statements_by c events ≡ k.told ++ x ∷ [] = k.same ∙ ap (λ (o : Option Executed). k.told ++ waiting_of o) waiting in
           inl (record {
-            commit = subst (IsCommitOf (E (Some b)) c (answered_said events x b)) (sym (own.0 ∙ z.is.same))
-                (commit_is (E (Some b)) c h.begun k.told (answered_said events x b) z.t k.small (call_said c events store q how r b k.told x told) z.is.text (ends_commit (answered_said events x b) z.is.text) z.since);
+            commit = subst (IsCommitOf (E (Some b)) c (executed_with_answer events x b)) (sym (own.0 ∙ z.is.same))
+                (commit_is (E (Some b)) c h.begun k.told (executed_with_answer events x b) z.t k.small (call_said c events store q how r b k.told x told) z.is.text (ends_commit (executed_with_answer events x b) z.is.text) z.since);
             decision = own.1;
             asks = own.2 ∙ ap (λ (i : TxId). row_put i own.1 z.k.work.now) (sym own.0) ∙ ap (row_put id own.1) (shows (Some b));
           })
@@ -650,8 +650,8 @@ due_kept = record {
   answered = λ catalog. past_due;
   waiting = λ catalog events e c s h still so. still_gives c events e s still.calls still.clock h.vacuum h.txn so;
   takes = takes_due;
-  calls = λ w u c store q how r a t h k x waiting waits so. call_due w.script.catalog w.events c t.seat.client t.client store q how r w.clock k x waiting waits h.caused.clock (h.world.each t.place t.seat t.at).about h.world.playable.apart so a
-      (call_of w.script.catalog w.events c t.seat.client k x waiting q r w.clock a t.client t.pending (h.world.each t.place t.seat t.at).fitted t.takes);
+  calls = λ w u c store q how r a t h k x waiting waits so. call_due w.script.catalog w.events c t.client_slot.client t.client store q how r w.clock k x waiting waits h.caused.clock (h.world.each t.place t.client_slot t.at).about h.world.playable.apart so a
+      (call_of w.script.catalog w.events c t.client_slot.client k x waiting q r w.clock a t.client t.pending (h.world.each t.place t.client_slot t.at).fitted t.takes);
 }
 
 -- Each write of a row of an execution is due.
@@ -659,7 +659,7 @@ pub execution_due : (script : Script) (events : List Event) → IsPlayable scrip
 execution_due script events playable x client s m id has call fits puts = by s.answer refl (statements_so (λ catalog. AreDue) (λ catalog. WaitDue) due_kept script events playable x client s has)
   where
     h : ClientAt
-    h = (hands_of x.last.seats client).client
+    h = (states_of x.last.client_slots client).client
 
     k : Knows script.catalog events client h
     k = (execution_holds script events playable x).caused.each client

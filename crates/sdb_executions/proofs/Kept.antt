@@ -13,10 +13,10 @@ use Rattle.sdb_model.specs.Rows.{Name}
 use Rattle.sdb_spread.specs.Spread.{IsAbout}
 use Rattle.sdb_client.specs.Client.{ClientAt}
 use Rattle.sdb_steps.specs.About.{IsOfTables}
-use Rattle.sdb_steps.specs.Hands.{IsAfter}
-use Rattle.sdb_execution.specs.declared.seat.Seat.{Seat}
-use Rattle.sdb_executions.specs.World.{IsSeat, IsWorld, WorldAt, at_moment, with_event, with_seat}
-use Rattle.sdb_execution.specs.Execution.{moved_seat, stopped_seat}
+use Rattle.sdb_steps.specs.States.{IsAfter}
+use Rattle.sdb_execution.specs.declared.slot.ClientSlot.{ClientSlot}
+use Rattle.sdb_executions.specs.World.{IsClientState, IsWorld, WorldAt, at_moment, with_event, with_client}
+use Rattle.sdb_execution.specs.Execution.{client_after, client_stopped}
 use Rattle.sdb_executions.proofs.Seats.{set_here, set_length, set_other, suc_is}
 use Rattle.sdb_executions.proofs.Ties.{IsApart, apart_pending, apart_stopped, apart_taken, own_call_pending, own_call_stopped, own_call_taken, own_stop_pending, own_stop_stopped, own_stop_taken, own_take_pending, own_take_stopped, own_take_taken}
 use Rattle.sdb_types.proofs.Basics.{some_is, all_last as all_more}
@@ -29,7 +29,7 @@ by_nat (suc i) (suc j) a b = by_nat i j (λ e. a (ap suc e)) (λ n. b (λ e. n (
 
 ---- a client that the event isn't of
 
-seat_stays : (script : Script) (es : List Event) (e : Event) (j : ℕ) (s : Seat) → IsApart (suc j) e → IsSeat script es j s → IsSeat script (es ++ e ∷ []) j s
+seat_stays : (script : Script) (es : List Event) (e : Event) (j : ℕ) (s : ClientSlot) → IsApart (suc j) e → IsClientState script es j s → IsClientState script (es ++ e ∷ []) j s
 seat_stays script es e j s apart h = record {
   number = h.number;
   fitted = h.fitted;
@@ -61,14 +61,14 @@ world_ticks w m is apart h = record {
 }
 
 -- a client is elsewhere, and the event is its own
-pub world_moves : (w : WorldAt) (i : ℕ) (s t : Seat) (e : Event) → slice_get w.seats i ≡ Some s → ((j : ℕ) → (i ≡ j → ⊥) → IsApart (suc j) e) → IsSeat w.script (w.events ++ e ∷ []) i t → IsAbout w.script.catalog e → IsWorld w → IsWorld (with_event (with_seat w i t) e)
+pub world_moves : (w : WorldAt) (i : ℕ) (s t : ClientSlot) (e : Event) → slice_get w.client_slots i ≡ Some s → ((j : ℕ) → (i ≡ j → ⊥) → IsApart (suc j) e) → IsClientState w.script (w.events ++ e ∷ []) i t → IsAbout w.script.catalog e → IsWorld w → IsWorld (with_event (with_client w i t) e)
 world_moves w i s t e at apart own about h = record {
   playable = h.playable;
-  clients = set_length w.seats i t ∙ h.clients;
+  clients = set_length w.client_slots i t ∙ h.clients;
   each = λ j u there.
       by_nat i j
-      (λ same. subst (λ (k : ℕ). slice_get (slice_set w.seats i t) k ≡ Some u → IsSeat w.script (w.events ++ e ∷ []) k u) same (λ here. subst (IsSeat w.script (w.events ++ e ∷ []) i) (some_is t u (sym (set_here w.seats i s t at) ∙ here)) own) there)
-      (λ other. seat_stays w.script w.events e j u (apart j other) (h.each j u (sym (set_other w.seats i j t (λ same. other (sym same))) ∙ there)));
+      (λ same. subst (λ (k : ℕ). slice_get (slice_set w.client_slots i t) k ≡ Some u → IsClientState w.script (w.events ++ e ∷ []) k u) same (λ here. subst (IsClientState w.script (w.events ++ e ∷ []) i) (some_is t u (sym (set_here w.client_slots i s t at) ∙ here)) own) there)
+      (λ other. seat_stays w.script w.events e j u (apart j other) (h.each j u (sym (set_other w.client_slots i j t (λ same. other (sym same))) ∙ there)));
   moment = h.moment;
   about = all_more (IsAbout w.script.catalog) w.events e h.about about;
 }
@@ -83,8 +83,8 @@ none_false : (o : Option Answer) → is_none o ≡ false → IsSome o
 none_false None t = absurd (cc)
 none_false (Some a) t = refl
 
-module _ (script : Script) (es : List Event) (i : ℕ) (s : Seat) (h : IsSeat script es i s) (a : Option Answer) (d : ClientAt) (after : IsAfter script.catalog s.client a d) (about : IsOfTables script.catalog d) where
-  pub seat_takes : (text : List ℕ) → IsSeat script (es ++ event.Take (suc i) text a ∷ []) i (moved_seat s 1 d)
+module _ (script : Script) (es : List Event) (i : ℕ) (s : ClientSlot) (h : IsClientState script es i s) (a : Option Answer) (d : ClientAt) (after : IsAfter script.catalog s.client a d) (about : IsOfTables script.catalog d) where
+  pub seat_takes : (text : List ℕ) → IsClientState script (es ++ event.Take (suc i) text a ∷ []) i (client_after s 1 d)
   seat_takes text = record {
     number = after.number ∙ h.number;
     fitted = after.fitted;
@@ -95,7 +95,7 @@ module _ (script : Script) (es : List Event) (i : ℕ) (s : Seat) (h : IsSeat sc
     idle = λ t. after.idle (none_false a (sym (own_take_pending (suc i) es text a) ∙ t));
   }
 
-  pub seat_calls : (store : Name) (q : Request) (how : How) (r : Reply) → IsSeat script (es ++ event.Call (suc i) store q how r a ∷ []) i (moved_seat s 0 d)
+  pub seat_calls : (store : Name) (q : Request) (how : How) (r : Reply) → IsClientState script (es ++ event.Call (suc i) store q how r a ∷ []) i (client_after s 0 d)
   seat_calls store q how r = record {
     number = after.number ∙ h.number;
     fitted = after.fitted;
@@ -106,7 +106,7 @@ module _ (script : Script) (es : List Event) (i : ℕ) (s : Seat) (h : IsSeat sc
     idle = λ t. after.idle (none_false a (sym (own_call_pending (suc i) es store q how r a) ∙ t));
   }
 
-pub seat_stops : (script : Script) (es : List Event) (i : ℕ) (s : Seat) → IsSeat script es i s → IsSeat script (es ++ event.Stop (suc i) ∷ []) i (stopped_seat s)
+pub seat_stops : (script : Script) (es : List Event) (i : ℕ) (s : ClientSlot) → IsClientState script es i s → IsClientState script (es ++ event.Stop (suc i) ∷ []) i (client_stopped s)
 seat_stops script es i s h = record {
   number = h.number;
   fitted = h.fitted;

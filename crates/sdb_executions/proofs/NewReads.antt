@@ -18,11 +18,11 @@ use Rattle.sdb_model.specs.declared.event.Event.{Event}
 use Rattle.sdb_model.specs.declared.event.Event.TheVariants as event
 use Rattle.sdb_model.specs.declared.event.How.{How}
 use Rattle.sdb_model.specs.declared.statement.Statement.{Statement}
-use Rattle.sdb_model.specs.Calls.{Made, calls_of}
-use Rattle.sdb_model.specs.Noted.{reads_rows}
+use Rattle.sdb_model.specs.Calls.{StoreCall, calls_of}
+use Rattle.sdb_model.specs.ReadSet.{reads_rows}
 use Rattle.sdb_model.specs.Rows.{Name}
 use Rattle.sdb_model.specs.Sql.{reads_commit}
-use Rattle.sdb_model.specs.Transactions.{Said, ends, from_begin, rest_of}
+use Rattle.sdb_model.specs.Transactions.{Executed, ends, from_begin, rest_of}
 use Rattle.sdb_read.specs.Read.{Asking, Ended, ReadStage, Resolving, read_pending_at, request_of}
 use Rattle.sdb_snapshot.specs.Seen.{Seen}
 use Rattle.sdb_txn.specs.declared.progress.Progress.TheVariants as progress
@@ -32,10 +32,10 @@ use Rattle.sdb_txn.specs.Txn.{IsCommitting, TxnAt}
 use Rattle.sdb_commit.specs.Phases.{CommitAt}
 use Rattle.sdb_client.specs.declared.next.Next.{Next}
 use Rattle.sdb_client.specs.declared.next.Next.TheVariants as next
-use Rattle.sdb_client.specs.Client.{ClientAt, IsIdle, Taking, after, is_covered, next_id, next_of, Takes}
-use Rattle.sdb_story.specs.Telling.{answered_said, taken_said}
+use Rattle.sdb_client.specs.Client.{ClientAt, IsIdle, Taking, after, is_covered, next_id, next_of, TextStep}
+use Rattle.sdb_story.specs.History.{executed_with_answer, executed_of_take}
 use Rattle.sdb_causes.specs.Counts.{ArePaired}
-use Rattle.sdb_causes.specs.Tied.{IsAnswered, IsWaiting, Knows, begun_in, open_after}
+use Rattle.sdb_causes.specs.Invariant.{IsAnswered, IsWaiting, Knows, begun_in, open_after}
 use Rattle.sdb_causes.proofs.Calls.{calls_stay, made_at}
 use Rattle.sdb_causes.proofs.CountsNotes.{last_or, open_only}
 use Rattle.sdb_causes.proofs.Lists.{each_in, each_kept, since_more, since_none}
@@ -62,7 +62,7 @@ any_at (e ∷ fs) q = by (same_key q e.0) (any_at fs q)
     by true ih = refl
     by false ih = ih
 
-view_finds : (catalog : List Table) (events : List Event) (c : ℕ) (ss : List Said) (os : List (Option Statement)) (v : View) (q : Key) → AllRunAs ss os → has_found (run_on_found catalog (finds events c ss) os v).1 q ≡ (has_found v q || was_found events c ss q)
+view_finds : (catalog : List Table) (events : List Event) (c : ℕ) (ss : List Executed) (os : List (Option Statement)) (v : View) (q : Key) → AllRunAs ss os → has_found (run_on_found catalog (finds events c ss) os v).1 q ≡ (has_found v q || was_found events c ss q)
 view_finds catalog events c [] [] v q run = sym (or_false (has_found v q))
 view_finds catalog events c [] (y ∷ ys) v q run = absurd run
 view_finds catalog events c (s ∷ ss) [] v q run = absurd run
@@ -81,51 +81,51 @@ view_finds catalog events c (s ∷ ss) (y ∷ ys) v q run =
     both false y z = refl
 
 -- A read that what was read doesn't cover is new.
-pub new_of : (catalog : List Table) (events : List Event) (c : ℕ) (ss : List Said) (s : Seen) (a : Access) → RunsTo catalog events c ss s → is_covered s a ≡ false → IsNewRead events c ss (request_of a)
+pub new_of : (catalog : List Table) (events : List Event) (c : ℕ) (ss : List Executed) (s : Seen) (a : Access) → RunsTo catalog events c ss s → is_covered s a ≡ false → IsNewRead events c ss (request_of a)
 new_of catalog events c ss s (access.Get key) r e = sym (view_finds catalog events c ss r.run.statements nothing_found key r.run.run) ∙ r.sees.keys key ∙ e
 new_of catalog events c ss s (access.Scan span) r e = by_test (was_scanned events c ss span) (λ t. clash (sym (r.scans span t) ∙ e)) (λ f. f)
 
 ---- as events come
 
-new_stays : (catalog : List Table) (events : List Event) (e : Event) (c : ℕ) (ss : List Said) (q : Request) → AllByRecursion (IsAnswered catalog events c) ss → IsNewRead events c ss q → IsNewRead (events ++ e ∷ []) c ss q
+new_stays : (catalog : List Table) (events : List Event) (e : Event) (c : ℕ) (ss : List Executed) (q : Request) → AllByRecursion (IsAnswered catalog events c) ss → IsNewRead events c ss q → IsNewRead (events ++ e ∷ []) c ss q
 new_stays catalog events e c ss (ask.Get key) all h = ap (list_any (λ (fs : List (Key × Option Record)). list_any (λ x. same_key key x.0) fs)) (finds_stay catalog events e c ss all) ∙ h
 new_stays catalog events e c ss (ask.Scan span) all h = scanned_stays catalog events e c ss span all ∙ h
 new_stays catalog events e c ss (ask.PutIf rec condition) all h = tt
 new_stays catalog events e c ss (ask.DeleteIf key condition) all h = tt
 
 -- Each read of a statement is new after those before it.
-abbrev pub StatementNew : List Event → ℕ → List Said → Said → Type 0
-StatementNew events c ss s = reads_commit s.text ≡ false → (m : Made) → Contains (calls_of events c s) m → reads_rows m ≡ true → IsNewRead events c ss m.request
+abbrev pub StatementNew : List Event → ℕ → List Executed → Executed → Type 0
+StatementNew events c ss s = reads_commit s.text ≡ false → (m : StoreCall) → Contains (calls_of events c s) m → reads_rows m ≡ true → IsNewRead events c ss m.request
 
 -- So it is of each statement of each transaction.
-abbrev pub AllNew : List Event → ℕ → List Said → Type 0
-AllNew events c past = (n : ℕ) (begin : Said) (body : List Said) (s : Said) (tail : List Said) → from_begin n past ≡ begin ∷ (body ++ s ∷ tail) → AllByRecursion (λ x. ends x ≡ false) body → StatementNew events c (running body) s
+abbrev pub AllNew : List Event → ℕ → List Executed → Type 0
+AllNew events c past = (n : ℕ) (begin : Executed) (body : List Executed) (s : Executed) (tail : List Executed) → from_begin n past ≡ begin ∷ (body ++ s ∷ tail) → AllByRecursion (λ x. ends x ≡ false) body → StatementNew events c (running body) s
 
-pub all_stay : (catalog : List Table) (events : List Event) (e : Event) (c : ℕ) (past : List Said) → AllByRecursion (IsAnswered catalog events c) past → AllNew events c past → AllNew (events ++ e ∷ []) c past
+pub all_stay : (catalog : List Table) (events : List Event) (e : Event) (c : ℕ) (past : List Executed) → AllByRecursion (IsAnswered catalog events c) past → AllNew events c past → AllNew (events ++ e ∷ []) c past
 all_stay catalog events e c past all k n begin body s tail since goes no_commit m among reads =
     let whole : AllByRecursion (IsAnswered catalog events c) (body ++ s ∷ tail) = since_all (IsAnswered catalog events c) n past begin (body ++ s ∷ tail) all since in
     let here : IsAnswered catalog events c s = each_middle (IsAnswered catalog events c) body tail s whole in
     let before : AllByRecursion (IsAnswered catalog events c) body = each_left (IsAnswered catalog events c) body (s ∷ tail) whole in
     new_stays catalog events e c (running body) m.request (each_kept (IsAnswered catalog events c) is_answered (filter takes_part (take_while goes_on body)) (each_kept (IsAnswered catalog events c) takes_part (take_while goes_on body) (each_taken (IsAnswered catalog events c) goes_on body before)))
-    (k n begin body s tail since goes no_commit m (subst (λ (ms : List Made). Contains ms m) (calls_stay c events e s here.given here.is here.answered) among) reads)
+    (k n begin body s tail since goes no_commit m (subst (λ (ms : List StoreCall). Contains ms m) (calls_stay c events e s here.given here.is here.answered) among) reads)
 
 -- with one statement more, which is of the open transaction or of none
-pub all_more : (events : List Event) (c : ℕ) (past : List Said) (z : Said) → ArePaired false past → AllNew events c past → (open_after past ≡ true → StatementNew events c (running_of (begun_in past) past) z) → AllNew events c (past ++ z ∷ [])
+pub all_more : (events : List Event) (c : ℕ) (past : List Executed) (z : Executed) → ArePaired false past → AllNew events c past → (open_after past ≡ true → StatementNew events c (running_of (begun_in past) past) z) → AllNew events c (past ++ z ∷ [])
 all_more events c past z pairs k last n begin body s tail since goes = by (from_begin n past) refl
   where
-    none : (ys : List Said) → ys ++ s ∷ tail ≡ [] → ⊥
+    none : (ys : List Executed) → ys ++ s ∷ tail ≡ [] → ⊥
     none [] h = absurd (cc)
     none (w ∷ ys) h = absurd (cc)
 
-    here : (b : Said) (r : List Said) → from_begin n past ≡ b ∷ r → b ≡ begin → ((r ≡ body) × (z ≡ s)) ⊎ ((front : List Said) × (r ≡ body ++ s ∷ front)) → StatementNew events c (running body) s
+    here : (b : Executed) (r : List Executed) → from_begin n past ≡ b ∷ r → b ≡ begin → ((r ≡ body) × (z ≡ s)) ⊎ ((front : List Executed) × (r ≡ body ++ s ∷ front)) → StatementNew events c (running body) s
     here b r e f (inr h) = k n b body s h.0 (e ∙ ap (λ x. b ∷ x) h.1) goes
     here b r e f (inl h) =
         let from : from_begin n past ≡ b ∷ body = e ∙ ap (λ x. b ∷ x) h.0 in
         let only = open_only n past false b body pairs from goes in
         let rest : running_of (begun_in past) past ≡ running body = ap (λ i. running_of i past) (sym only.0) ∙ ap (λ x. running (rest_of x)) from in
-        subst (StatementNew events c (running body)) h.1 (subst (λ (ss : List Said). StatementNew events c ss z) rest (last only.1))
+        subst (StatementNew events c (running body)) h.1 (subst (λ (ss : List Executed). StatementNew events c ss z) rest (last only.1))
 
-    by : (r : List Said) → from_begin n past ≡ r → StatementNew events c (running body) s
+    by : (r : List Executed) → from_begin n past ≡ r → StatementNew events c (running body) s
     by [] e = absurd (none body (sym (ap rest_of since) ∙ since_none n past z e))
     by (b ∷ r) e =
         let whole : b ∷ (r ++ z ∷ []) ≡ begin ∷ (body ++ s ∷ tail) = sym (since_more n past z b r e) ∙ since in
@@ -136,46 +136,46 @@ all_more events c past z pairs k last n begin body s tail since goes = by (from_
 ---- a statement that waits
 
 -- it reads rows by its one access, which what was read doesn't cover
-abbrev pub ReadsAccess : Access → List Made → Type 0
+abbrev pub ReadsAccess : Access → List StoreCall → Type 0
 ReadsAccess a calls = AllByRecursion (λ m. reads_rows m ≡ true → m.request ≡ request_of a) calls
 
-abbrev pub DoingNew : Seen → Doing → List Made → Type 0
+abbrev pub DoingNew : Seen → Doing → List StoreCall → Type 0
 DoingNew s (doing.Read a x) calls = (is_covered s a ≡ false) × ReadsAccess a calls
 DoingNew s d calls = Unit {0}
 
-abbrev pub TxnNew : Option TxnAt → List Made → Type 0
+abbrev pub TxnNew : Option TxnAt → List StoreCall → Type 0
 TxnNew None calls = Unit {0}
 TxnNew (Some t) calls = DoingNew t.seen t.doing calls
 
-abbrev pub WaitNew : List Table → List Event → ℕ → Said → ClientAt → Type 0
+abbrev pub WaitNew : List Table → List Event → ℕ → Executed → ClientAt → Type 0
 WaitNew catalog events c s h = TxnNew h.txn (calls_of events c s)
 
-idle_new : (o : Option TxnAt) (calls : List Made) → IfSome o (λ t. t.doing ≡ doing.Idle) → TxnNew o calls
+idle_new : (o : Option TxnAt) (calls : List StoreCall) → IfSome o (λ t. t.doing ≡ doing.Idle) → TxnNew o calls
 idle_new None calls h = tt
 idle_new (Some t) calls h = subst (λ (d : Doing). DoingNew t.seen d calls) (sym h) tt
 
-take_new : (q : Taking) (text : List ℕ) (h d : ClientAt) (a : Option Answer) (events : List Event) (c : ℕ) → IsIdle h → Takes q text h a d → SoBy (NothingMore q.catalog) (WaitNew q.catalog) (events ++ event.Take c text a ∷ []) c (taken_said events text a) d a
+take_new : (q : Taking) (text : List ℕ) (h d : ClientAt) (a : Option Answer) (events : List Event) (c : ℕ) → IsIdle h → TextStep q text h a d → SoBy (NothingMore q.catalog) (WaitNew q.catalog) (events ++ event.Take c text a ∷ []) c (executed_of_take events text a) d a
 take_new q text h d (Some b) events c idle t = tt
 take_new q text h d None events c idle t = by (taken_as q text h d t)
   where
-    by : TakenAs q h d → TxnNew d.txn (calls_of (events ++ event.Take c text None ∷ []) c (taken_said events text None))
-    by (inl z) = subst (λ (y : ClientAt). TxnNew y.txn (calls_of (events ++ event.Take c text None ∷ []) c (taken_said events text None))) (sym z.left) tt
-    by (inr (inl z)) = subst (λ (y : ClientAt). TxnNew y.txn (calls_of (events ++ event.Take c text None ∷ []) c (taken_said events text None))) (sym z.left) (idle_new h.txn (calls_of (events ++ event.Take c text None ∷ []) c (taken_said events text None)) idle.still)
-    by (inr (inr z)) = subst (λ (y : ClientAt). TxnNew y.txn (calls_of (events ++ event.Take c text None ∷ []) c (taken_said events text None))) (sym z.left) (z.unread, subst (ReadsAccess z.access) (sym (none_yet c events text None)) tt)
+    by : TakenAs q h d → TxnNew d.txn (calls_of (events ++ event.Take c text None ∷ []) c (executed_of_take events text None))
+    by (inl z) = subst (λ (y : ClientAt). TxnNew y.txn (calls_of (events ++ event.Take c text None ∷ []) c (executed_of_take events text None))) (sym z.left) tt
+    by (inr (inl z)) = subst (λ (y : ClientAt). TxnNew y.txn (calls_of (events ++ event.Take c text None ∷ []) c (executed_of_take events text None))) (sym z.left) (idle_new h.txn (calls_of (events ++ event.Take c text None ∷ []) c (executed_of_take events text None)) idle.still)
+    by (inr (inr z)) = subst (λ (y : ClientAt). TxnNew y.txn (calls_of (events ++ event.Take c text None ∷ []) c (executed_of_take events text None))) (sym z.left) (z.unread, subst (ReadsAccess z.access) (sym (none_yet c events text None)) tt)
 
-commits_new : (s : Seen) (d : Doing) (P : CommitAt → Type 0) (calls : List Made) → IsCommitting d P → DoingNew s d calls
+commits_new : (s : Seen) (d : Doing) (P : CommitAt → Type 0) (calls : List StoreCall) → IsCommitting d P → DoingNew s d calls
 commits_new s (doing.Commit k) P calls h = tt
 commits_new s doing.Idle P calls h = tt
 commits_new s (doing.Read a x) P calls h = absurd h
 commits_new s doing.Over P calls h = tt
 
-module _ (catalog : List Table) (events : List Event) (c : ℕ) (h d : ClientAt) (store : Name) (q : Request) (how : How) (r : Reply) (now : ℤ) (past : List Said) (x : Said) (so : WaitNew catalog events c x h) where
-  abbrev made : Made
+module _ (catalog : List Table) (events : List Event) (c : ℕ) (h d : ClientAt) (store : Name) (q : Request) (how : How) (r : Reply) (now : ℤ) (past : List Executed) (x : Executed) (so : WaitNew catalog events c x h) where
+  abbrev made : StoreCall
   made = made_at events store q how r
 
   -- after a call of a read
   pub access_more : (a : Option Answer) (z : ReadCall catalog events c x h q r now a d) → (is_covered z.t.seen z.access ≡ false) × ReadsAccess z.access (calls_of events c x ++ made ∷ [])
-  access_more a z = (was.0, all_last (λ (m : Made). reads_rows m ≡ true → m.request ≡ request_of z.access) (calls_of events c x) made was.1 (λ reads. by z.x.stage z.pends reads))
+  access_more a z = (was.0, all_last (λ (m : StoreCall). reads_rows m ≡ true → m.request ≡ request_of z.access) (calls_of events c x) made was.1 (λ reads. by z.x.stage z.pends reads))
     where
       was : (is_covered z.t.seen z.access ≡ false) × ReadsAccess z.access (calls_of events c x)
       was = subst (λ (y : Doing). DoingNew z.t.seen y (calls_of events c x)) z.reads (subst (λ (o : Option TxnAt). TxnNew o (calls_of events c x)) z.opened so)
@@ -196,7 +196,7 @@ module _ (catalog : List Table) (events : List Event) (c : ℕ) (h d : ClientAt)
         let again : z.next ≡ next.Call = calls_again z.next z.answer in
         let left : d.txn ≡ Some z.u = ap (λ (y : ClientAt). y.txn) (z.left ∙ ap (λ (n : Next). after h n z.u) again) in
         subst (λ (o : Option TxnAt). TxnNew o (calls_of (E None) c x)) (sym (left ∙ ap Some (reads_again z.t z.p z.access z.x r now z.next z.u z.told again)))
-        (subst (λ (ms : List Made). (is_covered z.t.seen z.access ≡ false) × ReadsAccess z.access ms) (sym (calls_more events c store q how r x waits.unanswered waits.taken None)) (access_more None z))
+        (subst (λ (ms : List StoreCall). (is_covered z.t.seen z.access ≡ false) × ReadsAccess z.access ms) (sym (calls_more events c store q how r x waits.unanswered waits.taken None)) (access_more None z))
     call_new None (inr (inr z)) =
         let further : z.progress ≡ progress.More = goes_further z.progress z.answer in
         let left : d.txn ≡ Some z.u = ap (λ (y : ClientAt). y.txn) (z.left ∙ ap (λ p. after h (next_of p) z.u) further) in
@@ -207,28 +207,28 @@ pub new_kept : AreKept NothingMore WaitNew
 new_kept = record {
   answered = λ catalog events e c s past so. tt;
   waiting = λ catalog events e c s h still so. subst (TxnNew h.txn) (sym still.calls) so;
-  takes = λ w u c text a t h. take_new (record { catalog = w.script.catalog; now = w.clock; gate = t.gate; fresh = next_id t.seat.client }) text t.seat.client t.client a w.events c t.idle t.takes;
-  calls = λ w u c store q how r a t h k x waiting waits so. call_new w.script.catalog w.events c t.seat.client t.client store q how r w.clock k.told x so waits a
-      (call_of w.script.catalog w.events c t.seat.client k x waiting q r w.clock a t.client t.pending (h.world.each t.place t.seat t.at).fitted t.takes);
+  takes = λ w u c text a t h. take_new (record { catalog = w.script.catalog; now = w.clock; gate = t.gate; fresh = next_id t.client_slot.client }) text t.client_slot.client t.client a w.events c t.idle t.takes;
+  calls = λ w u c store q how r a t h k x waiting waits so. call_new w.script.catalog w.events c t.client_slot.client t.client store q how r w.clock k.told x so waits a
+      (call_of w.script.catalog w.events c t.client_slot.client k x waiting q r w.clock a t.client t.pending (h.world.each t.place t.client_slot t.at).fitted t.takes);
 }
 
 -- A statement whose calls read rows by an access that what was read doesn't cover reads new.
-pub access_new : (catalog : List Table) (events : List Event) (c : ℕ) (ss : List Said) (s : Seen) (a : Access) (z : Said) → RunsTo catalog events c ss s → is_covered s a ≡ false → ReadsAccess a (calls_of events c z) → StatementNew events c ss z
-access_new catalog events c ss s a z runs uncovered all no_commit m among reads = subst (IsNewRead events c ss) (sym (each_in (λ (y : Made). reads_rows y ≡ true → y.request ≡ request_of a) (calls_of events c z) m all among reads)) (new_of catalog events c ss s a runs uncovered)
+pub access_new : (catalog : List Table) (events : List Event) (c : ℕ) (ss : List Executed) (s : Seen) (a : Access) (z : Executed) → RunsTo catalog events c ss s → is_covered s a ≡ false → ReadsAccess a (calls_of events c z) → StatementNew events c ss z
+access_new catalog events c ss s a z runs uncovered all no_commit m among reads = subst (IsNewRead events c ss) (sym (each_in (λ (y : StoreCall). reads_rows y ≡ true → y.request ≡ request_of a) (calls_of events c z) m all among reads)) (new_of catalog events c ss s a runs uncovered)
 
 -- a statement that is answered by a call
-pub answered_new : (catalog : List Table) (events : List Event) (c : ℕ) (h d : ClientAt) (k : Knows catalog events c h) (runs : ClientRuns catalog events c h) (store : Name) (q : Request) (how : How) (r : Reply) (now : ℤ) (x : Said) (b : Answer) → IsWaiting catalog events c (is_some h.vacuum) x → WaitNew catalog events c x h → CallOf catalog events c k.told x h q r now (Some b) d
-    → open_after k.told ≡ true → StatementNew (events ++ event.Call c store q how r (Some b) ∷ []) c (running_of (begun_in k.told) k.told) (answered_said events x b)
+pub answered_new : (catalog : List Table) (events : List Event) (c : ℕ) (h d : ClientAt) (k : Knows catalog events c h) (runs : ClientRuns catalog events c h) (store : Name) (q : Request) (how : How) (r : Reply) (now : ℤ) (x : Executed) (b : Answer) → IsWaiting catalog events c (is_some h.vacuum) x → WaitNew catalog events c x h → CallOf catalog events c k.told x h q r now (Some b) d
+    → open_after k.told ≡ true → StatementNew (events ++ event.Call c store q how r (Some b) ∷ []) c (running_of (begun_in k.told) k.told) (executed_with_answer events x b)
 answered_new catalog events c h d k runs store q how r now x b waits so (inl z) opened = clash (sym opened ∙ closed catalog events c h k runs (event.Call c store q how r (Some b)) z.rests)
 answered_new catalog events c h d k runs store q how r now x b waits so (inr (inr z)) opened = λ no_commit. clash (sym z.is.text ∙ no_commit)
 answered_new catalog events c h d k runs store q how r now x b waits so (inr (inl z)) opened =
     let e : Event = event.Call c store q how r (Some b) in
     let more = access_more catalog events c h d store q how r now k.told x so (Some b) z in
-    subst (λ n. StatementNew (events ++ e ∷ []) c (running_of n k.told) (answered_said events x b)) k.begun
-    (access_new catalog (events ++ e ∷ []) c (running_of h.begun k.told) z.t.seen z.access (answered_said events x b)
+    subst (λ n. StatementNew (events ++ e ∷ []) c (running_of n k.told) (executed_with_answer events x b)) k.begun
+    (access_new catalog (events ++ e ∷ []) c (running_of h.begun k.told) z.t.seen z.access (executed_with_answer events x b)
     (subst (SeesIn catalog (events ++ e ∷ []) c (running_of h.begun k.told) z.t.seen) z.reads (sees_open catalog events c h k runs e z.t z.opened z.free)) more.0
     (subst (ReadsAccess z.access) (sym (calls_more events c store q how r x waits.unanswered waits.taken (Some b))) more.1))
 
 -- one that is answered as it is taken
-pub taken_new : (events : List Event) (c : ℕ) (text : List ℕ) (a : Option Answer) (ss : List Said) → StatementNew (events ++ event.Take c text a ∷ []) c ss (taken_said events text a)
-taken_new events c text a ss no_commit m among reads = none_in m (subst (λ (ms : List Made). Contains ms m) (none_yet c events text a) among)
+pub taken_new : (events : List Event) (c : ℕ) (text : List ℕ) (a : Option Answer) (ss : List Executed) → StatementNew (events ++ event.Take c text a ∷ []) c ss (executed_of_take events text a)
+taken_new events c text a ss no_commit m among reads = none_in m (subst (λ (ms : List StoreCall). Contains ms m) (none_yet c events text a) among)

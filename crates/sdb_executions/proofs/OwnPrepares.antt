@@ -17,11 +17,11 @@ use Rattle.sdb_model.specs.declared.event.Event.{Event}
 use Rattle.sdb_model.specs.declared.event.Event.TheVariants as event
 use Rattle.sdb_model.specs.declared.event.How.{How}
 use Rattle.sdb_model.specs.declared.script.Script.{Script}
-use Rattle.sdb_model.specs.Calls.{Made, calls_of, clock_at, put_by}
+use Rattle.sdb_model.specs.Calls.{StoreCall, calls_of, clock_at, put_by}
 use Rattle.sdb_model.specs.Causes.{IsCommitOf}
 use Rattle.sdb_model.specs.Rows.{Name}
 use Rattle.sdb_model.specs.Sql.{reads_commit, reads_rollback}
-use Rattle.sdb_model.specs.Transactions.{Said, ends, id_of, is_conflict, is_done, prepares, said}
+use Rattle.sdb_model.specs.Transactions.{Executed, ends, id_of, is_conflict, is_done, prepares, statements_by}
 use Rattle.sdb_phases.specs.Work.{Work}
 use Rattle.sdb_read.specs.declared.read.ReadStep.{ReadStep}
 use Rattle.sdb_read.specs.declared.read.ReadStep.TheVariants as step
@@ -34,17 +34,17 @@ use Rattle.sdb_txn.specs.Txn.{IsCommitting as GoesOn, TxnAt, committing, reading
 use Rattle.sdb_vacuum.specs.Vacuum.{VacuumAt}
 use Rattle.sdb_client.specs.declared.next.Next.{Next}
 use Rattle.sdb_client.specs.declared.next.Next.TheVariants as next
-use Rattle.sdb_client.specs.Client.{CallTold, ClientAt, IsIdle, StageTold, Taking, after, answer_in, next_id, next_of, Takes}
+use Rattle.sdb_client.specs.Client.{CallPost, ClientAt, IsIdle, StagePost, Taking, after, answer_in, next_id, next_of, TextStep}
 use Rattle.sdb_exec.specs.Plans.{Planned}
-use Rattle.sdb_story.specs.Telling.{answered_said, taken_said, waiting_of}
+use Rattle.sdb_story.specs.History.{executed_with_answer, executed_of_take, waiting_of}
 use Rattle.sdb_commit.specs.Phases.{CommitAt}
-use Rattle.sdb_causes.specs.Tied.{IsAnswered, IsDoing, IsOpenAs, IsWaiting, Knows, StandsIn, StandsOn}
+use Rattle.sdb_causes.specs.Invariant.{IsAnswered, IsDoing, IsOpenAs, IsWaiting, Knows, DoingByHistory, ClientByHistory}
 use Rattle.sdb_causes.proofs.Calls.{call_said, clock_more, clock_same, made_at}
 use Rattle.sdb_causes.proofs.Ends.{commit_is}
 use Rattle.sdb_causes.proofs.Takings.{none_yet}
 use Rattle.sdb_execution.specs.Execution.{IsExecution, IsPlayable, State, TakeStep}
 use Rattle.sdb_executions.specs.Laws.{IsOwnPrepare, PreparesAreOwn}
-use Rattle.sdb_executions.specs.World.{WorldAt, hands_of, state_of}
+use Rattle.sdb_executions.specs.World.{WorldAt, states_of, state_of}
 use Rattle.sdb_executions.proofs.Takes.{TakenAs, taken_as}
 use Rattle.sdb_executions.proofs.Replies.{CallOf, CommitCall, ReadCall, SweepCall, call_of}
 use Rattle.sdb_executions.proofs.Statements.{AreKept, IsPast, IsStill, SoBy, calls_more, none_in, replied_said, known, statements_so}
@@ -54,16 +54,16 @@ use Rattle.sdb_executions.proofs.Unprepared.{commit_own, read_no, sweep_no}
 ---- what is so of the calls of a statement
 
 -- a call prepares for a transaction by a record
-abbrev PutsFor : Made → TxId → Record → Type 0
+abbrev PutsFor : StoreCall → TxId → Record → Type 0
 PutsFor m id r = (id.0 < 2 ^ 128) × (prepares id m.request ≡ true) × (put_by m.request ≡ Some r)
 
-abbrev NonePrepares : List Made → Type 0
-NonePrepares calls = (m : Made) (id : TxId) (r : Record) → Contains calls m → PutsFor m id r → ⊥
+abbrev NonePrepares : List StoreCall → Type 0
+NonePrepares calls = (m : StoreCall) (id : TxId) (r : Record) → Contains calls m → PutsFor m id r → ⊥
 
-abbrev PreparesFor : Work → List Made → Type 0
-PreparesFor p calls = (m : Made) (id : TxId) (r : Record) → Contains calls m → PutsFor m id r → (id ≡ p.id) × (moment_in r.columns tx_prepared_at ≡ Some p.now)
+abbrev PreparesFor : Work → List StoreCall → Type 0
+PreparesFor p calls = (m : StoreCall) (id : TxId) (r : Record) → Contains calls m → PutsFor m id r → (id ≡ p.id) × (moment_in r.columns tx_prepared_at ≡ Some p.now)
 
-abbrev PreparesBy : Option Work → List Event → ℕ → Said → Type 0
+abbrev PreparesBy : Option Work → List Event → ℕ → Executed → Type 0
 PreparesBy None events c s = NonePrepares (calls_of events c s)
 PreparesBy (Some p) events c s = (p.now ≡ clock_at events s.taken) × PreparesFor p (calls_of events c s)
 
@@ -80,27 +80,27 @@ abbrev pub work_in : Option VacuumAt → Option TxnAt → Option Work
 work_in None o = work_txn o
 work_in (Some v) o = None
 
-abbrev AreOwn : List Event → ℕ → Said → Type 0
-AreOwn events c s = (m : Made) (id : TxId) (r : Record) → Contains (calls_of events c s) m → PutsFor m id r → IsOwnPrepare events c s id r
+abbrev AreOwn : List Event → ℕ → Executed → Type 0
+AreOwn events c s = (m : StoreCall) (id : TxId) (r : Record) → Contains (calls_of events c s) m → PutsFor m id r → IsOwnPrepare events c s id r
 
-abbrev WaitsOwn : List Event → ℕ → Said → ClientAt → Type 0
+abbrev WaitsOwn : List Event → ℕ → Executed → ClientAt → Type 0
 WaitsOwn events c s h = PreparesBy (work_in h.vacuum h.txn) events c s
 
 ---- one call more
 
-none_more : (calls : List Made) (m : Made) → NonePrepares calls → ((id : TxId) → prepares id m.request ≡ false) → NonePrepares (calls ++ m ∷ [])
+none_more : (calls : List StoreCall) (m : StoreCall) → NonePrepares calls → ((id : TxId) → prepares id m.request ≡ false) → NonePrepares (calls ++ m ∷ [])
 none_more calls m h clean x id r has puts = by (Contains-push_cases calls m x has)
   where
     by : Contains calls x ⊎ (m ≡ x) → ⊥
     by (inl old) = h x id r old puts
-    by (inr same) = clash (sym puts.1 ∙ ap (λ (y : Made). prepares id y.request) (sym same) ∙ clean id)
+    by (inr same) = clash (sym puts.1 ∙ ap (λ (y : StoreCall). prepares id y.request) (sym same) ∙ clean id)
 
-for_more : (p : Work) (calls : List Made) (m : Made) → PreparesFor p calls → ((id : TxId) (r : Record) → PutsFor m id r → (id ≡ p.id) × (moment_in r.columns tx_prepared_at ≡ Some p.now)) → PreparesFor p (calls ++ m ∷ [])
+for_more : (p : Work) (calls : List StoreCall) (m : StoreCall) → PreparesFor p calls → ((id : TxId) (r : Record) → PutsFor m id r → (id ≡ p.id) × (moment_in r.columns tx_prepared_at ≡ Some p.now)) → PreparesFor p (calls ++ m ∷ [])
 for_more p calls m h now x id r has puts = by (Contains-push_cases calls m x has)
   where
     by : Contains calls x ⊎ (m ≡ x) → (id ≡ p.id) × (moment_in r.columns tx_prepared_at ≡ Some p.now)
     by (inl old) = h x id r old puts
-    by (inr same) = now id r (subst (λ (y : Made). PutsFor y id r) (sym same) puts)
+    by (inr same) = now id r (subst (λ (y : StoreCall). PutsFor y id r) (sym same) puts)
 
 ---- a statement is taken
 
@@ -113,7 +113,7 @@ work_reads None t a = refl
 work_reads (Some v) t a = refl
 
 -- a COMMIT that is taken goes by the moment at which it is
-taken_now : (q : Taking) (h d : ClientAt) → IsIdle h → (p : Work) → work_in d.vacuum d.txn ≡ Some p → (text : List ℕ) → Takes q text h None d → p.now ≡ q.now
+taken_now : (q : Taking) (h d : ClientAt) → IsIdle h → (p : Work) → work_in d.vacuum d.txn ≡ Some p → (text : List ℕ) → TextStep q text h None d → p.now ≡ q.now
 taken_now q h d idle p here text takes = by (taken_as q text h d takes)
   where
     none_here : work_in d.vacuum d.txn ≡ None → p.now ≡ q.now
@@ -126,15 +126,15 @@ taken_now q h d idle p here text takes = by (taken_as q text h d takes)
     by (inr (inl z)) = none_here (ap (λ (y : ClientAt). work_in y.vacuum y.txn) z.left)
     by (inr (inr z)) = none_here (ap (λ (y : ClientAt). work_in y.vacuum y.txn) z.left ∙ work_reads h.vacuum z.t z.access)
 
-takes_own : (w : WorldAt) (u : State) (c : ℕ) (text : List ℕ) (a : Option Answer) (t : TakeStep w.script (state_of w) c text a u) → Holds w → SoBy AreOwn WaitsOwn (w.events ++ event.Take c text a ∷ []) c (taken_said w.events text a) t.client a
-takes_own w u c text (Some b) t h = λ m id r has puts. none_in m (subst (λ (ms : List Made). Contains ms m) (none_yet c w.events text (Some b)) has)
+takes_own : (w : WorldAt) (u : State) (c : ℕ) (text : List ℕ) (a : Option Answer) (t : TakeStep w.script (state_of w) c text a u) → Holds w → SoBy AreOwn WaitsOwn (w.events ++ event.Take c text a ∷ []) c (executed_of_take w.events text a) t.client a
+takes_own w u c text (Some b) t h = λ m id r has puts. none_in m (subst (λ (ms : List StoreCall). Contains ms m) (none_yet c w.events text (Some b)) has)
 takes_own w u c text None t h = by (work_in t.client.vacuum t.client.txn) refl
   where
     E : List Event
     E = w.events ++ event.Take c text None ∷ []
 
-    none_of : (m : Made) → Contains (calls_of E c (taken_said w.events text None)) m → Contains [] m
-    none_of m has = subst (λ (ms : List Made). Contains ms m) (none_yet c w.events text None) has
+    none_of : (m : StoreCall) → Contains (calls_of E c (executed_of_take w.events text None)) m → Contains [] m
+    none_of m has = subst (λ (ms : List StoreCall). Contains ms m) (none_yet c w.events text None) has
 
     shows : clock_at E (1 + length w.events) ≡ w.clock
     shows = ap (clock_at E) (sym (length_more w.events (event.Take c text None) ∙ one_plus (length w.events))) ∙ clock_more w.events (event.Take c text None) ∙ h.caused.clock
@@ -142,23 +142,23 @@ takes_own w u c text None t h = by (work_in t.client.vacuum t.client.txn) refl
         one_plus : (n : ℕ) → n + 1 ≡ 1 + n
         one_plus n = omega arith
 
-    by : (o : Option Work) → work_in t.client.vacuum t.client.txn ≡ o → PreparesBy o E c (taken_said w.events text None)
+    by : (o : Option Work) → work_in t.client.vacuum t.client.txn ≡ o → PreparesBy o E c (executed_of_take w.events text None)
     by None e = λ m id r has puts. none_in m (none_of m has)
     by (Some p) e = (
-      taken_now (record { catalog = w.script.catalog; now = w.clock; gate = t.gate; fresh = next_id t.seat.client }) t.seat.client t.client t.idle p e text t.takes ∙ sym shows,
+      taken_now (record { catalog = w.script.catalog; now = w.clock; gate = t.gate; fresh = next_id t.client_slot.client }) t.client_slot.client t.client t.idle p e text t.takes ∙ sym shows,
       λ m id r has puts. none_in m (none_of m has),
     )
 
 ---- a call is made
 
 -- a read that goes on commits nothing
-read_left : (t : TxnAt) (p : Planned) (a : Access) (x : ReadAt) (r : Reply) (now : ℤ) (n : Next) (u : TxnAt) → CallTold t p a x r now n u → n ≡ next.Call → work_doing u.doing ≡ None
-read_left t p a x r now n u told e = by (read_result (read_step x.stage now r)) (subst (λ (m : Next). StageTold t p a x (read_step x.stage now r) (read_result (read_step x.stage now r)) m u) e (told.told (λ k. other (sym e ∙ k))))
+read_left : (t : TxnAt) (p : Planned) (a : Access) (x : ReadAt) (r : Reply) (now : ℤ) (n : Next) (u : TxnAt) → CallPost t p a x r now n u → n ≡ next.Call → work_doing u.doing ≡ None
+read_left t p a x r now n u told e = by (read_result (read_step x.stage now r)) (subst (λ (m : Next). StagePost t p a x (read_step x.stage now r) (read_result (read_step x.stage now r)) m u) e (told.told (λ k. other (sym e ∙ k))))
   where
     other : next.Call ≡ next.Answer answer.NoMemory → ⊥
     other k = cc
 
-    by : (s : ReadStep) → StageTold t p a x (read_step x.stage now r) s next.Call u → work_doing u.doing ≡ None
+    by : (s : ReadStep) → StagePost t p a x (read_step x.stage now r) s next.Call u → work_doing u.doing ≡ None
     by step.More k = ap (λ (y : TxnAt). work_doing y.doing) k.1
     by (step.Images images) k = absurd k
     by (step.Busy key id at) k = absurd (let z = k.0 in cc)
@@ -190,14 +190,14 @@ work_goes doing.Idle p P f g = absurd g
 work_goes (doing.Read a x) p P f g = absurd g
 work_goes doing.Over p P f g = absurd g
 
-pub ends_commit : (s : Said) → reads_commit s.text ≡ true → ends s ≡ true
+pub ends_commit : (s : Executed) → reads_commit s.text ≡ true → ends s ≡ true
 ends_commit s e = ap (λ (b : Bool). b || is_conflict s.answer || (reads_rollback s.text && is_done s.answer)) e
 
-module _ (catalog : List Table) (events : List Event) (c : ℕ) (h d : ClientAt) (store : Name) (q : Request) (how : How) (r : Reply) (now : ℤ) (k : Knows catalog events c h) (x : Said) (waiting : k.waiting ≡ Some x) (waits : IsWaiting catalog events c (is_some h.vacuum) x) (so : PreparesBy (work_in h.vacuum h.txn) events c x) where
+module _ (catalog : List Table) (events : List Event) (c : ℕ) (h d : ClientAt) (store : Name) (q : Request) (how : How) (r : Reply) (now : ℤ) (k : Knows catalog events c h) (x : Executed) (waiting : k.waiting ≡ Some x) (waits : IsWaiting catalog events c (is_some h.vacuum) x) (so : PreparesBy (work_in h.vacuum h.txn) events c x) where
   abbrev E : Option Answer → List Event
   E a = events ++ event.Call c store q how r a ∷ []
 
-  abbrev made : Made
+  abbrev made : StoreCall
   made = made_at events store q how r
 
   more : (a : Option Answer) → calls_of (E a) c (replied_said events x a) ≡ calls_of events c x ++ made ∷ []
@@ -206,7 +206,7 @@ module _ (catalog : List Table) (events : List Event) (c : ℕ) (h d : ClientAt)
   -- none of its calls prepares
   rests : (a : Option Answer) → NonePrepares (calls_of events c x ++ made ∷ []) → (a ≡ None → work_in d.vacuum d.txn ≡ None) → SoBy AreOwn WaitsOwn (E a) c (replied_said events x a) d a
   rests None none idle = subst (λ (o : Option Work). PreparesBy o (E None) c x) (sym (idle refl)) (subst NonePrepares (sym (more None)) none)
-  rests (Some b) none idle = λ m id z has puts. absurd (none m id z (subst (λ (ms : List Made). Contains ms m) (more (Some b)) has) puts)
+  rests (Some b) none idle = λ m id z has puts. absurd (none m id z (subst (λ (ms : List StoreCall). Contains ms m) (more (Some b)) has) puts)
 
   before : (o : Option Work) → work_in h.vacuum h.txn ≡ o → PreparesBy o events c x
   before o e = subst (λ (y : Option Work). PreparesBy y events c x) e so
@@ -251,11 +251,11 @@ module _ (catalog : List Table) (events : List Event) (c : ℕ) (h d : ClientAt)
           subst (λ (o : Option Work). PreparesBy o (E None) c x) (sym here)
           (was.0 ∙ sym (clock_same events (event.Call c store q how r None) x.taken waits.taken), subst (PreparesFor p) (sym (more None)) all)
       by (Some b) e = λ m id y has puts.
-          let found = all m id y (subst (λ (ms : List Made). Contains ms m) (more (Some b)) has) puts in
-          let told : said c events ≡ k.told ++ x ∷ [] = k.same ∙ ap (λ (o : Option Said). k.told ++ waiting_of o) waiting in
+          let found = all m id y (subst (λ (ms : List StoreCall). Contains ms m) (more (Some b)) has) puts in
+          let told : statements_by c events ≡ k.told ++ x ∷ [] = k.same ∙ ap (λ (o : Option Executed). k.told ++ waiting_of o) waiting in
           record {
-            commit = subst (IsCommitOf (E (Some b)) c (answered_said events x b)) (sym (found.0 ∙ z.is.same))
-                (commit_is (E (Some b)) c h.begun k.told (answered_said events x b) z.t k.small (call_said c events store q how r b k.told x told) z.is.text (ends_commit (answered_said events x b) z.is.text) z.since);
+            commit = subst (IsCommitOf (E (Some b)) c (executed_with_answer events x b)) (sym (found.0 ∙ z.is.same))
+                (commit_is (E (Some b)) c h.begun k.told (executed_with_answer events x b) z.t k.small (call_said c events store q how r b k.told x told) z.is.text (ends_commit (executed_with_answer events x b) z.is.text) z.since);
             moment = found.1 ∙ ap Some (was.0 ∙ sym (clock_same events (event.Call c store q how r (Some b)) x.taken waits.taken));
           }
 
@@ -266,13 +266,13 @@ module _ (catalog : List Table) (events : List Event) (c : ℕ) (h d : ClientAt)
 
 ---- every statement
 
-still_by : (events : List Event) (e : Event) (c : ℕ) (s : Said) (o : Option Work) → IsStill events e c s → PreparesBy o events c s → PreparesBy o (events ++ e ∷ []) c s
+still_by : (events : List Event) (e : Event) (c : ℕ) (s : Executed) (o : Option Work) → IsStill events e c s → PreparesBy o events c s → PreparesBy o (events ++ e ∷ []) c s
 still_by events e c s None still so = subst NonePrepares (sym still.calls) so
 still_by events e c s (Some p) still so = (so.0 ∙ sym still.clock, subst (PreparesFor p) (sym still.calls) so.1)
 
-past_own : (events : List Event) (e : Event) (c : ℕ) (s : Said) → IsPast events e c s → AreOwn events c s → AreOwn (events ++ e ∷ []) c s
+past_own : (events : List Event) (e : Event) (c : ℕ) (s : Executed) → IsPast events e c s → AreOwn events c s → AreOwn (events ++ e ∷ []) c s
 past_own events e c s past so m id r has puts =
-    let own = so m id r (subst (λ (ms : List Made). Contains ms m) past.calls has) puts in
+    let own = so m id r (subst (λ (ms : List StoreCall). Contains ms m) past.calls has) puts in
     record { commit = past.commit id own.commit; moment = own.moment ∙ ap Some (sym past.clock) }
 
 pub own_kept : AreKept (λ catalog. AreOwn) (λ catalog. WaitsOwn)
@@ -280,16 +280,16 @@ own_kept = record {
   answered = λ catalog. past_own;
   waiting = λ catalog events e c s h still so. still_by events e c s (work_in h.vacuum h.txn) still so;
   takes = takes_own;
-  calls = λ w u c store q how r a t h k x waiting waits so. call_own w.script.catalog w.events c t.seat.client t.client store q how r w.clock k x waiting waits so a
-      (call_of w.script.catalog w.events c t.seat.client k x waiting q r w.clock a t.client t.pending (h.world.each t.place t.seat t.at).fitted t.takes);
+  calls = λ w u c store q how r a t h k x waiting waits so. call_own w.script.catalog w.events c t.client_slot.client t.client store q how r w.clock k x waiting waits so a
+      (call_of w.script.catalog w.events c t.client_slot.client k x waiting q r w.clock a t.client t.pending (h.world.each t.place t.client_slot t.at).fitted t.takes);
 }
 
 -- the COMMIT that waits is one of its transaction
-pub commit_waits : (catalog : List Table) (events : List Event) (c : ℕ) (h : ClientAt) (k : Knows catalog events c h) (s : Said) → k.waiting ≡ Some s → (p : Work) → work_in h.vacuum h.txn ≡ Some p → IsCommitOf events c s p.id
-commit_waits catalog events c h k s waiting p here = by_vacuum h.vacuum (subst (λ (o : Option Said). StandsOn events c h.begun k.told o h.plan h.txn h.vacuum) waiting k.stands) here
+pub commit_waits : (catalog : List Table) (events : List Event) (c : ℕ) (h : ClientAt) (k : Knows catalog events c h) (s : Executed) → k.waiting ≡ Some s → (p : Work) → work_in h.vacuum h.txn ≡ Some p → IsCommitOf events c s p.id
+commit_waits catalog events c h k s waiting p here = by_vacuum h.vacuum (subst (λ (o : Option Executed). ClientByHistory events c h.begun k.told o h.plan h.txn h.vacuum) waiting k.stands) here
   where
-    told : said c events ≡ k.told ++ s ∷ []
-    told = k.same ∙ ap (λ (o : Option Said). k.told ++ waiting_of o) waiting
+    told : statements_by c events ≡ k.told ++ s ∷ []
+    told = k.same ∙ ap (λ (o : Option Executed). k.told ++ waiting_of o) waiting
 
     by_doing : (t : TxnAt) (x : Doing) → IsOpenAs c h.begun k.told t → IsDoing events c t h.plan (Some s) x → work_doing x ≡ Some p → IsCommitOf events c s p.id
     by_doing t (doing.Commit y) since is e =
@@ -299,11 +299,11 @@ commit_waits catalog events c h k s waiting p here = by_vacuum h.vacuum (subst (
     by_doing t (doing.Read a x) since is e = none_some p e
     by_doing t doing.Over since is e = none_some p e
 
-    by_txn : (o : Option TxnAt) → StandsIn events c h.begun k.told (Some s) h.plan o → work_txn o ≡ Some p → IsCommitOf events c s p.id
+    by_txn : (o : Option TxnAt) → DoingByHistory events c h.begun k.told (Some s) h.plan o → work_txn o ≡ Some p → IsCommitOf events c s p.id
     by_txn None z e = none_some p e
     by_txn (Some t) z e = by_doing t t.doing z.1 z.2 e
 
-    by_vacuum : (v : Option VacuumAt) → StandsOn events c h.begun k.told (Some s) h.plan h.txn v → work_in v h.txn ≡ Some p → IsCommitOf events c s p.id
+    by_vacuum : (v : Option VacuumAt) → ClientByHistory events c h.begun k.told (Some s) h.plan h.txn v → work_in v h.txn ≡ Some p → IsCommitOf events c s p.id
     by_vacuum None z e = by_txn h.txn z e
     by_vacuum (Some v) z e = none_some p e
 
@@ -312,7 +312,7 @@ pub execution_own : (script : Script) (events : List Event) → IsPlayable scrip
 execution_own script events playable x client s m id r call = by s.answer refl (statements_so (λ catalog. AreOwn) (λ catalog. WaitsOwn) own_kept script events playable x client s call.among)
   where
     h : ClientAt
-    h = (hands_of x.last.seats client).client
+    h = (states_of x.last.client_slots client).client
 
     k : Knows script.catalog events client h
     k = (execution_holds script events playable x).caused.each client

@@ -24,7 +24,7 @@ use Rattle.sdb_record.specs.declared.write.Write.{Write}
 use Rattle.sdb_record.specs.Coordinator.{coordinator_row_of}
 use Rattle.sdb_record.specs.Rolls.{IsWrite, prepared_record, undo}
 use Rattle.sdb_record.proofs.TakenLaws.{prepared-key}
-use Rattle.sdb_model.specs.Calls.{Made, calls_before, is_read, key_asked, put_by}
+use Rattle.sdb_model.specs.Calls.{StoreCall, calls_before, is_read, key_asked, put_by}
 use Rattle.sdb_model.specs.Counted.{prepares_in}
 use Rattle.sdb_model.specs.Transactions.{prepares}
 use Rattle.sdb_phases.specs.declared.check.Check.{Check}
@@ -39,7 +39,7 @@ use Rattle.sdb_phases.specs.declared.step.ValidateStep.TheVariants as validate
 use Rattle.sdb_phases.specs.Checks.{checks}
 use Rattle.sdb_phases.specs.Commit.{Stage, Preparing, Checking, Deciding, Forward, Stopping, Back, Over, after_abort, after_check, after_decide, after_prepare, back, checking, forward, pending, preparing}
 use Rattle.sdb_phases.specs.Steps.{decide_next, decide_request_at, prepare_step, refused, touched_after}
-use Rattle.sdb_phases.specs.Work.{Work, abort_of, back_of, forward_of, look_of, prepare_of, stands_prepared}
+use Rattle.sdb_phases.specs.Work.{Work, abort_of, back_of, forward_of, look_of, prepare_of, is_as_prepared}
 use Rattle.sdb_phases.specs.Work as work
 use Rattle.sdb_commit.specs.Phases.{IsNext}
 use Rattle.sdb_turns.proofs.Lists.{each_at}
@@ -54,15 +54,15 @@ use Rattle.sdb_executions.proofs.Writing.{write_keys}
 
 ---- the keys that calls prepare
 
-prepared_append : (id : TxId) (xs ys : List Made) → keys_prepared id (xs ++ ys) ≡ keys_prepared id xs ++ keys_prepared id ys
-prepared_append id xs ys = ap (filter_map (λ (x : Made). key_asked x.request)) (filter-append (λ (x : Made). prepares id x.request) xs ys) ∙ filter_map-append (λ (x : Made). key_asked x.request) (prepares_in id xs) (prepares_in id ys)
+prepared_append : (id : TxId) (xs ys : List StoreCall) → keys_prepared id (xs ++ ys) ≡ keys_prepared id xs ++ keys_prepared id ys
+prepared_append id xs ys = ap (filter_map (λ (x : StoreCall). key_asked x.request)) (filter-append (λ (x : StoreCall). prepares id x.request) xs ys) ∙ filter_map-append (λ (x : StoreCall). key_asked x.request) (prepares_in id xs) (prepares_in id ys)
 
-module _ (id : TxId) (calls : List Made) (m : Made) where
+module _ (id : TxId) (calls : List StoreCall) (m : StoreCall) where
   applied_more : keys_applied id (calls ++ m ∷ []) ≡ keys_applied id calls ++ keys_applied id (m ∷ [])
-  applied_more = ap (keys_prepared id) (filter-append (λ (x : Made). is_applied x.reply) calls (m ∷ [])) ∙ prepared_append id (filter (λ (x : Made). is_applied x.reply) calls) (filter (λ (x : Made). is_applied x.reply) (m ∷ []))
+  applied_more = ap (keys_prepared id) (filter-append (λ (x : StoreCall). is_applied x.reply) calls (m ∷ [])) ∙ prepared_append id (filter (λ (x : StoreCall). is_applied x.reply) calls) (filter (λ (x : StoreCall). is_applied x.reply) (m ∷ []))
 
   none_prepared : prepares id m.request ≡ false → keys_prepared id (m ∷ []) ≡ []
-  none_prepared f = ap (λ b. filter_map (λ (x : Made). key_asked x.request) (if b then m ∷ [] else [])) f
+  none_prepared f = ap (λ b. filter_map (λ (x : StoreCall). key_asked x.request) (if b then m ∷ [] else [])) f
 
   none_applied : prepares id m.request ≡ false → keys_applied id (m ∷ []) ≡ []
   none_applied f = by (is_applied m.reply)
@@ -72,7 +72,7 @@ module _ (id : TxId) (calls : List Made) (m : Made) where
       by false = refl
 
   pub one_prepared : (k : Key) → prepares id m.request ≡ true → key_asked m.request ≡ Some k → keys_prepared id (m ∷ []) ≡ k ∷ []
-  one_prepared k t e = ap (λ b. filter_map (λ (x : Made). key_asked x.request) (if b then m ∷ [] else [])) t ∙ ap (λ (o : Option Key). cons_option o []) e
+  one_prepared k t e = ap (λ b. filter_map (λ (x : StoreCall). key_asked x.request) (if b then m ∷ [] else [])) t ∙ ap (λ (o : Option Key). cons_option o []) e
 
   one_applied : (k : Key) → is_applied m.reply ≡ true → prepares id m.request ≡ true → key_asked m.request ≡ Some k → keys_applied id (m ∷ []) ≡ k ∷ []
   one_applied k a t e = ap (λ b. keys_prepared id (if b then m ∷ [] else [])) a ∙ one_prepared k t e
@@ -87,17 +87,17 @@ module _ (id : TxId) (calls : List Made) (m : Made) where
 ---- where a COMMIT is
 
 -- its calls prepared these keys, and each prepare was applied
-abbrev pub HavePrepared : Work → List Made → List Key → Type 0
+abbrev pub HavePrepared : Work → List StoreCall → List Key → Type 0
 HavePrepared p calls keys = (keys_prepared p.id calls ≡ keys) × (keys_applied p.id calls ≡ keys)
 
 -- Until the deciding put each prepare was applied: those of the keys before this one, or of all.
-abbrev pub ReadyAt : Work → List Made → Stage → Type 0
+abbrev pub ReadyAt : Work → List StoreCall → Stage → Type 0
 ReadyAt p calls (Preparing i) = HavePrepared p calls (take i (write_keys p.writes))
 ReadyAt p calls (Checking i) = HavePrepared p calls (write_keys p.writes)
 ReadyAt p calls (Deciding phase.Put) = HavePrepared p calls (write_keys p.writes)
 ReadyAt p calls s = Unit {0}
 
-pub record CommitPrepares (p : Work) (calls : List Made) (s : Stage) : Type 0 where
+pub record CommitPrepares (p : Work) (calls : List StoreCall) (s : Stage) : Type 0 where
   pub ready : ReadyAt p calls s
   pub sofar : PreparesAll (write_keys p.writes) p.id calls
 
@@ -114,7 +114,7 @@ take_next ws i w e = ap (λ n. take n (write_keys ws)) (one i) ∙ by ws i e
     by (x ∷ xs) zero k = ap (λ (y : Write). y.key ∷ []) (some_is x w k)
     by (x ∷ xs) (suc j) k = ap (λ r. x.key ∷ r) (by xs j k)
 
-all_before : (n : ℕ) (calls : List Made) → AllByRecursion (λ x. x.at < n) calls → calls_before n calls ≡ calls
+all_before : (n : ℕ) (calls : List StoreCall) → AllByRecursion (λ x. x.at < n) calls → calls_before n calls ≡ calls
 all_before n [] all = refl
 all_before n (x ∷ xs) all = ap (λ b. if b then x ∷ calls_before n xs else calls_before n xs) (low x.at all.0) ∙ ap (λ ms. x ∷ ms) (all_before n xs all.1)
   where
@@ -137,17 +137,17 @@ abort_other id a b e = by (ap (λ (q : Request). option_and_then (λ (r : Record
     by : Some (value.Int (pos 4)) ≡ Some (value.Int (pos 3)) → ⊥
     by k = cc
 
-undo_other : (p : Work) (w : Write) (o : Option Record) (now : ℤ) → undo (stands_prepared p.id w) w.key o ≡ row_put p.id decision.Committed now → ⊥
+undo_other : (p : Work) (w : Write) (o : Option Record) (now : ℤ) → undo (is_as_prepared p.id w) w.key o ≡ row_put p.id decision.Committed now → ⊥
 undo_other p w None now e = cc
 undo_other p w (Some b) now e = cc
 
 ---- one call more
 
-module _ (p : Work) (writes : AllByRecursion IsWrite p.writes) (calls : List Made) (m : Made) (older : AllByRecursion (λ x. x.at < m.at) calls) where
+module _ (p : Work) (writes : AllByRecursion IsWrite p.writes) (calls : List StoreCall) (m : StoreCall) (older : AllByRecursion (λ x. x.at < m.at) calls) where
   abbrev keys : List Key
   keys = write_keys p.writes
 
-  abbrev more : List Made
+  abbrev more : List StoreCall
   more = calls ++ m ∷ []
 
   abbrev Decides : ℤ → Type 0
@@ -156,15 +156,15 @@ module _ (p : Work) (writes : AllByRecursion IsWrite p.writes) (calls : List Mad
   now_before : calls_before m.at more ≡ calls
   now_before = before_stays p.id calls m older m.at (omega arith) ∙ all_before m.at calls older
 
-  decided_more : PreparesAll keys p.id calls → ((now : ℤ) → Decides now → keys_applied p.id calls ≡ keys) → (x : Made) → Contains more x → PutsCommitted p.id x → keys_applied p.id (calls_before x.at more) ≡ keys
+  decided_more : PreparesAll keys p.id calls → ((now : ℤ) → Decides now → keys_applied p.id calls ≡ keys) → (x : StoreCall) → Contains more x → PutsCommitted p.id x → keys_applied p.id (calls_before x.at more) ≡ keys
   decided_more h own x has e = by (Contains-push_cases calls m x has)
     where
       le : (a b : ℕ) → a < b → a ≤ b
       le a b l = omega arith
 
       by : Contains calls x ⊎ (m ≡ x) → keys_applied p.id (calls_before x.at more) ≡ keys
-      by (inl old) = ap (keys_applied p.id) (before_stays p.id calls m older x.at (le x.at m.at (each_in (λ (y : Made). y.at < m.at) calls x older old))) ∙ h.decided x old e
-      by (inr same) = subst (λ (y : Made). keys_applied p.id (calls_before y.at more) ≡ keys) same (ap (keys_applied p.id) now_before ∙ own e.0 (ap (λ (y : Made). y.request) same ∙ e.1))
+      by (inl old) = ap (keys_applied p.id) (before_stays p.id calls m older x.at (le x.at m.at (each_in (λ (y : StoreCall). y.at < m.at) calls x older old))) ∙ h.decided x old e
+      by (inr same) = subst (λ (y : StoreCall). keys_applied p.id (calls_before y.at more) ≡ keys) same (ap (keys_applied p.id) now_before ∙ own e.0 (ap (λ (y : StoreCall). y.request) same ∙ e.1))
 
   other_more : prepares p.id m.request ≡ false → ((now : ℤ) → Decides now → keys_applied p.id calls ≡ keys) → PreparesAll keys p.id calls → PreparesAll keys p.id more
   other_more f own h = record { count = h.count; prepared = prepared_same p.id calls m f ∙ h.prepared; decided = decided_more h own }
@@ -323,7 +323,7 @@ module _ (p : Work) (writes : AllByRecursion IsWrite p.writes) (calls : List Mad
   forward_at : (i : ℕ) → slice_get (work.forwards p) i ≡ Some m.request → (prepares p.id m.request ≡ false) × ((now : ℤ) → Decides now → ⊥)
   forward_at i e =
       let x = mapped_at (forward_of p.id p.now) p.writes i m.request e in
-      (ap (prepares p.id) (sym x.2) ∙ forward_no p.id (prepared_record x.0 p.id p.now) p.now (stands_prepared p.id x.0), λ now d. by x.0 now (x.2 ∙ d))
+      (ap (prepares p.id) (sym x.2) ∙ forward_no p.id (prepared_record x.0 p.id p.now) p.now (is_as_prepared p.id x.0), λ now d. by x.0 now (x.2 ∙ d))
     where
       by : (w : Write) (now : ℤ) → forward_of p.id p.now w ≡ row_put p.id decision.Committed now → ⊥
       by w now k = cc
@@ -331,7 +331,7 @@ module _ (p : Work) (writes : AllByRecursion IsWrite p.writes) (calls : List Mad
   back_at : (i : ℕ) → slice_get (work.backs p) i ≡ Some m.request → (prepares p.id m.request ≡ false) × ((now : ℤ) → Decides now → ⊥)
   back_at i e =
       let x = mapped_at (back_of p.id) p.writes i m.request e in
-      (ap (prepares p.id) (sym x.2) ∙ undo_unprepared p.id x.0.key x.0.base (stands_prepared p.id x.0) (each_at IsWrite p.writes i x.0 writes x.1).base, λ now d. undo_other p x.0 x.0.base now (x.2 ∙ d))
+      (ap (prepares p.id) (sym x.2) ∙ undo_unprepared p.id x.0.key x.0.base (is_as_prepared p.id x.0) (each_at IsWrite p.writes i x.0 writes x.1).base, λ now d. undo_other p x.0 x.0.base now (x.2 ∙ d))
 
   decide_at : (d : DecidePhase) → decide_request_at p.id p.now d ≡ Some m.request → ReadyAt p calls (Deciding d) → (now : ℤ) → Decides now → keys_applied p.id calls ≡ keys
   decide_at phase.Put e ready now k = ready.1
@@ -372,7 +372,7 @@ module _ (p : Work) (writes : AllByRecursion IsWrite p.writes) (calls : List Mad
 pub prepares_first : (p : Work) → CommitPrepares p [] (preparing p 0)
 prepares_first p = record { ready = by (nat_lt 0 (length p.writes)) refl; sofar = record { count = 0; prepared = refl; decided = λ m has e. none_here m has } }
   where
-    none_here : (m : Made) → Contains [] m → [] ≡ write_keys p.writes
+    none_here : (m : StoreCall) → Contains [] m → [] ≡ write_keys p.writes
     none_here m h = absurd (let low : h.0 < 0 = h.1 in omega (arith, low))
 
     empty : (ws : List Write) → nat_lt 0 (length ws) ≡ false → [] ≡ write_keys ws

@@ -9,9 +9,9 @@ use Rattle.sdb_model.specs.declared.answer.Answer.{Answer}
 use Rattle.sdb_model.specs.declared.event.Event.{Event}
 use Rattle.sdb_model.specs.declared.event.Event.TheVariants as event
 use Rattle.sdb_model.specs.declared.event.How.{How}
-use Rattle.sdb_model.specs.Calls.{Made, calls_of}
+use Rattle.sdb_model.specs.Calls.{StoreCall, calls_of}
 use Rattle.sdb_model.specs.Rows.{Name}
-use Rattle.sdb_model.specs.Transactions.{Said}
+use Rattle.sdb_model.specs.Transactions.{Executed}
 use Rattle.sdb_phases.specs.Commit.{preparing}
 use Rattle.sdb_commit.specs.Phases.{CommitAt, IsNext}
 use Rattle.sdb_txn.specs.declared.progress.Progress.TheVariants as progress
@@ -19,9 +19,9 @@ use Rattle.sdb_txn.specs.declared.txn.Doing.{Doing}
 use Rattle.sdb_txn.specs.declared.txn.Doing.TheVariants as doing
 use Rattle.sdb_txn.specs.Txn.{IsCommitting, TxnAt, work_of}
 use Rattle.sdb_client.specs.declared.next.Next.TheVariants as next
-use Rattle.sdb_client.specs.Client.{ClientAt, IsIdle, Taking, after, next_id, next_of, Takes}
-use Rattle.sdb_story.specs.Telling.{taken_said}
-use Rattle.sdb_causes.specs.Tied.{IsWaiting}
+use Rattle.sdb_client.specs.Client.{ClientAt, IsIdle, Taking, after, next_id, next_of, TextStep}
+use Rattle.sdb_story.specs.History.{executed_of_take}
+use Rattle.sdb_causes.specs.Invariant.{IsWaiting}
 use Rattle.sdb_causes.proofs.Calls.{calls_open, end_waiting, later_within, made_at}
 use Rattle.sdb_causes.proofs.Takings.{none_yet}
 use Rattle.sdb_executions.specs.Written.{PreparesAll}
@@ -33,43 +33,43 @@ use Rattle.sdb_executions.proofs.Statements.{AreKept, SoBy, calls_more, replied_
 use Rattle.sdb_executions.proofs.Takes.{TakenAs, taken_as}
 use Rattle.sdb_executions.proofs.Writing.{write_keys}
 
-abbrev pub DoingPrepares : Doing → List Made → Type 0
+abbrev pub DoingPrepares : Doing → List StoreCall → Type 0
 DoingPrepares (doing.Commit k) calls = CommitPrepares k.work calls k.stage
 DoingPrepares d calls = Unit {0}
 
-abbrev pub TxnPrepares : Option TxnAt → List Made → Type 0
+abbrev pub TxnPrepares : Option TxnAt → List StoreCall → Type 0
 TxnPrepares None calls = Unit {0}
 TxnPrepares (Some t) calls = DoingPrepares t.doing calls
 
 -- So it is of a statement that waits.
-abbrev pub WaitPrepares : List Table → List Event → ℕ → Said → ClientAt → Type 0
+abbrev pub WaitPrepares : List Table → List Event → ℕ → Executed → ClientAt → Type 0
 WaitPrepares catalog events c s h = TxnPrepares h.txn (calls_of events c s)
 
 -- where a transaction does nothing
-idle_prepares : (o : Option TxnAt) (calls : List Made) → IfSome o (λ t. t.doing ≡ doing.Idle) → TxnPrepares o calls
+idle_prepares : (o : Option TxnAt) (calls : List StoreCall) → IfSome o (λ t. t.doing ≡ doing.Idle) → TxnPrepares o calls
 idle_prepares None calls h = tt
 idle_prepares (Some t) calls h = subst (λ (d : Doing). DoingPrepares d calls) (sym h) tt
 
-take_prepares : (q : Taking) (text : List ℕ) (h d : ClientAt) (a : Option Answer) (events : List Event) (c : ℕ) → IsIdle h → Takes q text h a d → SoBy (NothingMore q.catalog) (WaitPrepares q.catalog) (events ++ event.Take c text a ∷ []) c (taken_said events text a) d a
+take_prepares : (q : Taking) (text : List ℕ) (h d : ClientAt) (a : Option Answer) (events : List Event) (c : ℕ) → IsIdle h → TextStep q text h a d → SoBy (NothingMore q.catalog) (WaitPrepares q.catalog) (events ++ event.Take c text a ∷ []) c (executed_of_take events text a) d a
 take_prepares q text h d (Some b) events c idle t = tt
 take_prepares q text h d None events c idle t = by (taken_as q text h d t)
   where
-    calls : List Made
-    calls = calls_of (events ++ event.Take c text None ∷ []) c (taken_said events text None)
+    calls : List StoreCall
+    calls = calls_of (events ++ event.Take c text None ∷ []) c (executed_of_take events text None)
 
     by : TakenAs q h d → TxnPrepares d.txn calls
-    by (inl z) = subst (λ (y : ClientAt). TxnPrepares y.txn calls) (sym z.left) (subst (λ (ms : List Made). CommitPrepares (work_of z.t q.now) ms (preparing (work_of z.t q.now) 0)) (sym (none_yet c events text None)) (prepares_first (work_of z.t q.now)))
+    by (inl z) = subst (λ (y : ClientAt). TxnPrepares y.txn calls) (sym z.left) (subst (λ (ms : List StoreCall). CommitPrepares (work_of z.t q.now) ms (preparing (work_of z.t q.now) 0)) (sym (none_yet c events text None)) (prepares_first (work_of z.t q.now)))
     by (inr (inl z)) = subst (λ (y : ClientAt). TxnPrepares y.txn calls) (sym z.left) (idle_prepares h.txn calls idle.still)
     by (inr (inr z)) = subst (λ (y : ClientAt). TxnPrepares y.txn calls) (sym z.left) tt
 
-goes_on_so : (x : Doing) (calls : List Made) (P : CommitAt → Type 0) → ((k : CommitAt) → P k → CommitPrepares k.work calls k.stage) → IsCommitting x P → DoingPrepares x calls
+goes_on_so : (x : Doing) (calls : List StoreCall) (P : CommitAt → Type 0) → ((k : CommitAt) → P k → CommitPrepares k.work calls k.stage) → IsCommitting x P → DoingPrepares x calls
 goes_on_so (doing.Commit k) calls P f h = f k h
 goes_on_so doing.Idle calls P f h = absurd h
 goes_on_so (doing.Read a y) calls P f h = absurd h
 goes_on_so doing.Over calls P f h = absurd h
 
-module _ (catalog : List Table) (events : List Event) (c : ℕ) (h d : ClientAt) (store : Name) (q : Request) (how : How) (r : Reply) (now : ℤ) (past : List Said) (x : Said) (so : WaitPrepares catalog events c x h) (waits : IsWaiting catalog events c (is_some h.vacuum) x) where
-  abbrev made : Made
+module _ (catalog : List Table) (events : List Event) (c : ℕ) (h d : ClientAt) (store : Name) (q : Request) (how : How) (r : Reply) (now : ℤ) (past : List Executed) (x : Executed) (so : WaitPrepares catalog events c x h) (waits : IsWaiting catalog events c (is_some h.vacuum) x) where
+  abbrev made : StoreCall
   made = made_at events store q how r
 
   older : AllByRecursion (λ m. m.at < made.at) (calls_of events c x)
@@ -107,7 +107,7 @@ pub prepares_kept : AreKept NothingMore WaitPrepares
 prepares_kept = record {
   answered = λ catalog events e c s past so. tt;
   waiting = λ catalog events e c s h still so. subst (TxnPrepares h.txn) (sym still.calls) so;
-  takes = λ w u c text a t h. take_prepares (record { catalog = w.script.catalog; now = w.clock; gate = t.gate; fresh = next_id t.seat.client }) text t.seat.client t.client a w.events c t.idle t.takes;
-  calls = λ w u c store q how r a t h k x waiting waits so. call_waits w.script.catalog w.events c t.seat.client t.client store q how r w.clock k.told x so waits a
-      (call_of w.script.catalog w.events c t.seat.client k x waiting q r w.clock a t.client t.pending (h.world.each t.place t.seat t.at).fitted t.takes);
+  takes = λ w u c text a t h. take_prepares (record { catalog = w.script.catalog; now = w.clock; gate = t.gate; fresh = next_id t.client_slot.client }) text t.client_slot.client t.client a w.events c t.idle t.takes;
+  calls = λ w u c store q how r a t h k x waiting waits so. call_waits w.script.catalog w.events c t.client_slot.client t.client store q how r w.clock k.told x so waits a
+      (call_of w.script.catalog w.events c t.client_slot.client k x waiting q r w.clock a t.client t.pending (h.world.each t.place t.client_slot t.at).fitted t.takes);
 }

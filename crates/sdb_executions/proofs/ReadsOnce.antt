@@ -18,11 +18,11 @@ use Rattle.sdb_model.specs.declared.event.Event.TheVariants as event
 use Rattle.sdb_model.specs.declared.event.How.{How}
 use Rattle.sdb_model.specs.declared.script.Script.{Script}
 use Rattle.sdb_model.specs.declared.statement.Statement.TheVariants as statement
-use Rattle.sdb_model.specs.Calls.{Made, calls_of}
-use Rattle.sdb_model.specs.Noted.{reads_rows}
+use Rattle.sdb_model.specs.Calls.{StoreCall, calls_of}
+use Rattle.sdb_model.specs.ReadSet.{reads_rows}
 use Rattle.sdb_model.specs.Rows.{Name}
 use Rattle.sdb_model.specs.Sql.{reads_begin, reads_commit, reads_rollback, reads_vacuum}
-use Rattle.sdb_model.specs.Transactions.{Said}
+use Rattle.sdb_model.specs.Transactions.{Executed}
 use Rattle.sdb_exec.specs.Plans.{Planned}
 use Rattle.sdb_phases.specs.declared.step.RecoverPhase.{RecoverPhase}
 use Rattle.sdb_phases.specs.declared.step.RecoverStep.{RecoverStep}
@@ -38,15 +38,15 @@ use Rattle.sdb_txn.specs.declared.txn.Doing.TheVariants as doing
 use Rattle.sdb_txn.specs.Txn.{TxnAt}
 use Rattle.sdb_client.specs.declared.next.Next.{Next}
 use Rattle.sdb_client.specs.declared.next.Next.TheVariants as next
-use Rattle.sdb_client.specs.Client.{CallTold, ClientAt, StageTold, after}
-use Rattle.sdb_story.specs.Telling.{taken_said}
-use Rattle.sdb_causes.specs.Tied.{IsWaiting}
+use Rattle.sdb_client.specs.Client.{CallPost, ClientAt, StagePost, after}
+use Rattle.sdb_story.specs.History.{executed_of_take}
+use Rattle.sdb_causes.specs.Invariant.{IsWaiting}
 use Rattle.sdb_causes.proofs.Calls.{made_at}
 use Rattle.sdb_causes.proofs.RolledSteps.{recovery_unread}
 use Rattle.sdb_causes.proofs.Takings.{none_yet}
 use Rattle.sdb_execution.specs.Execution.{IsExecution, IsPlayable}
 use Rattle.sdb_executions.specs.Laws.{ReadsAreFew, ReadsOnce}
-use Rattle.sdb_executions.specs.World.{hands_of}
+use Rattle.sdb_executions.specs.World.{states_of}
 use Rattle.sdb_executions.proofs.OwnPrepares.{calls_again}
 use Rattle.sdb_executions.proofs.Replies.{CallOf, CommitCall, ReadCall, SweepCall, call_of}
 use Rattle.sdb_executions.proofs.Statements.{AreKept, SoBy, calls_more, replied_said, statements_so}
@@ -56,54 +56,54 @@ abbrev BeginsOrRollsBack : List ℕ → Type 0
 BeginsOrRollsBack text = (reads_begin text ≡ true) ⊎ (reads_rollback text ≡ true)
 
 -- before its read it has made no call
-abbrev StageReads : ReadStage → List Made → Type 0
+abbrev StageReads : ReadStage → List StoreCall → Type 0
 StageReads Asking calls = calls ≡ []
 StageReads (Resolving images rec meta p left) calls = ReadsOnce calls
 StageReads (Ended s) calls = ReadsOnce calls
 
-abbrev DoingReads : Doing → List Made → Type 0
+abbrev DoingReads : Doing → List StoreCall → Type 0
 DoingReads (doing.Read a x) calls = StageReads x.stage calls
 DoingReads d calls = ReadsOnce calls
 
-abbrev TxnReads : Option TxnAt → List Made → Type 0
+abbrev TxnReads : Option TxnAt → List StoreCall → Type 0
 TxnReads None calls = ReadsOnce calls
 TxnReads (Some t) calls = DoingReads t.doing calls
 
-abbrev NoneMade : List Event → ℕ → Said → Type 0
+abbrev NoneMade : List Event → ℕ → Executed → Type 0
 NoneMade events c s = BeginsOrRollsBack s.text → calls_of events c s ≡ []
 
-abbrev AreFew : List Event → ℕ → Said → Type 0
+abbrev AreFew : List Event → ℕ → Executed → Type 0
 AreFew events c s = (reads_commit s.text ≡ false → reads_vacuum s.text ≡ false → ReadsOnce (calls_of events c s)) × NoneMade events c s
 
-abbrev WaitFew : List Event → ℕ → Said → ClientAt → Type 0
+abbrev WaitFew : List Event → ℕ → Executed → ClientAt → Type 0
 WaitFew events c s h = (reads_commit s.text ≡ false → reads_vacuum s.text ≡ false → TxnReads h.txn (calls_of events c s)) × NoneMade events c s
 
 ---- lists of calls
 
-count_push : (calls : List Made) (m : Made) → count_by reads_rows (calls ++ m ∷ []) ≡ count_by reads_rows calls + cond (reads_rows m) 1 0
-count_push calls m = fold-append (λ a (x : Made). a + cond (reads_rows x) 1 0) 0 calls (m ∷ [])
+count_push : (calls : List StoreCall) (m : StoreCall) → count_by reads_rows (calls ++ m ∷ []) ≡ count_by reads_rows calls + cond (reads_rows m) 1 0
+count_push calls m = fold-append (λ a (x : StoreCall). a + cond (reads_rows x) 1 0) 0 calls (m ∷ [])
 
 once_none : ReadsOnce []
 once_none = omega arith
 
-once_nothing : (calls : List Made) → calls ≡ [] → ReadsOnce calls
+once_nothing : (calls : List StoreCall) → calls ≡ [] → ReadsOnce calls
 once_nothing calls e = subst ReadsOnce (sym e) once_none
 
-once_one : (calls : List Made) (m : Made) → calls ≡ [] → ReadsOnce (calls ++ m ∷ [])
-once_one calls m e = by (reads_rows m) (count_push calls m ∙ ap (λ (ms : List Made). count_by reads_rows ms + cond (reads_rows m) 1 0) e)
+once_one : (calls : List StoreCall) (m : StoreCall) → calls ≡ [] → ReadsOnce (calls ++ m ∷ [])
+once_one calls m e = by (reads_rows m) (count_push calls m ∙ ap (λ (ms : List StoreCall). count_by reads_rows ms + cond (reads_rows m) 1 0) e)
   where
     by : (b : Bool) → count_by reads_rows (calls ++ m ∷ []) ≡ 0 + cond b 1 0 → ReadsOnce (calls ++ m ∷ [])
     by true k = omega (arith, k)
     by false k = omega (arith, k)
 
 -- one that reads no rows
-once_more : (calls : List Made) (m : Made) → reads_rows m ≡ false → ReadsOnce calls → ReadsOnce (calls ++ m ∷ [])
+once_more : (calls : List StoreCall) (m : StoreCall) → reads_rows m ≡ false → ReadsOnce calls → ReadsOnce (calls ++ m ∷ [])
 once_more calls m unread once = by (count_by reads_rows calls) (count_by reads_rows (calls ++ m ∷ [])) once (count_push calls m ∙ ap (λ (b : Bool). count_by reads_rows calls + cond b 1 0) unread)
   where
     by : (n k : ℕ) → n ≤ 1 → k ≡ n + 0 → k ≤ 1
     by n k l e = omega (arith, l, e)
 
-once_txn : (o : Option TxnAt) (calls : List Made) → TxnReads o calls → ReadsOnce calls
+once_txn : (o : Option TxnAt) (calls : List StoreCall) → TxnReads o calls → ReadsOnce calls
 once_txn None calls h = h
 once_txn (Some t) calls h = by t.doing h
   where
@@ -119,7 +119,7 @@ once_txn (Some t) calls h = by t.doing h
     by doing.Over z = z
 
 -- before the first call
-first_txn : (o : Option TxnAt) (calls : List Made) → calls ≡ [] → TxnReads o calls
+first_txn : (o : Option TxnAt) (calls : List StoreCall) → calls ≡ [] → TxnReads o calls
 first_txn None calls e = once_nothing calls e
 first_txn (Some t) calls e = by t.doing
   where
@@ -172,19 +172,19 @@ step_read Asking now r = answered_read r
 step_read (Resolving images rec meta p left) now r = resolved_read images rec meta left (recover_next rec meta p now r)
 step_read (Ended s) now r = λ h. h
 
-stage_so : (s : ReadStage) (calls : List Made) → Read s → ReadsOnce calls → StageReads s calls
+stage_so : (s : ReadStage) (calls : List StoreCall) → Read s → ReadsOnce calls → StageReads s calls
 stage_so Asking calls h once = absurd (h tt)
 stage_so (Resolving images rec meta p left) calls h once = once
 stage_so (Ended s) calls h once = once
 
 -- a read that goes on
-left_so : (t : TxnAt) (p : Planned) (a : Access) (x : ReadAt) (r : Reply) (now : ℤ) (n : Next) (u : TxnAt) (calls : List Made) → CallTold t p a x r now n u → n ≡ next.Call → ReadsOnce calls → DoingReads u.doing calls
-left_so t p a x r now n u calls told e once = by (read_result (read_step x.stage now r)) (subst (λ (m : Next). StageTold t p a x (read_step x.stage now r) (read_result (read_step x.stage now r)) m u) e (told.told (λ k. other (sym e ∙ k))))
+left_so : (t : TxnAt) (p : Planned) (a : Access) (x : ReadAt) (r : Reply) (now : ℤ) (n : Next) (u : TxnAt) (calls : List StoreCall) → CallPost t p a x r now n u → n ≡ next.Call → ReadsOnce calls → DoingReads u.doing calls
+left_so t p a x r now n u calls told e once = by (read_result (read_step x.stage now r)) (subst (λ (m : Next). StagePost t p a x (read_step x.stage now r) (read_result (read_step x.stage now r)) m u) e (told.told (λ k. other (sym e ∙ k))))
   where
     other : next.Call ≡ next.Answer answer.NoMemory → ⊥
     other k = cc
 
-    by : (s : ReadStep) → StageTold t p a x (read_step x.stage now r) s next.Call u → DoingReads u.doing calls
+    by : (s : ReadStep) → StagePost t p a x (read_step x.stage now r) s next.Call u → DoingReads u.doing calls
     by step.More k = subst (λ (y : TxnAt). DoingReads y.doing calls) (sym k.1) (stage_so (read_step x.stage now r) calls (step_read x.stage now r) once)
     by (step.Images images) k = absurd k
     by (step.Busy key id at) k = absurd (let z = k.0 in cc)
@@ -199,11 +199,11 @@ no_rollback : (text : List ℕ) → reads_rollback text ≡ true → (reads_comm
 no_rollback text back (inl commit) = let e = one_statement text statement.Rollback statement.Commit ((rollback_read text).0 back) ((commit_read text).0 commit) in cc
 no_rollback text back (inr sweeps) = let e = one_statement text statement.Rollback statement.Vacuum ((rollback_read text).0 back) ((vacuum_read text).0 sweeps) in cc
 
-module _ (catalog : List Table) (events : List Event) (c : ℕ) (h d : ClientAt) (store : Name) (q : Request) (how : How) (r : Reply) (now : ℤ) (told : List Said) (x : Said) (waits : IsWaiting catalog events c (is_some h.vacuum) x) (so : WaitFew events c x h) where
+module _ (catalog : List Table) (events : List Event) (c : ℕ) (h d : ClientAt) (store : Name) (q : Request) (how : How) (r : Reply) (now : ℤ) (told : List Executed) (x : Executed) (waits : IsWaiting catalog events c (is_some h.vacuum) x) (so : WaitFew events c x h) where
   abbrev E : Option Answer → List Event
   E a = events ++ event.Call c store q how r a ∷ []
 
-  abbrev made : Made
+  abbrev made : StoreCall
   made = made_at events store q how r
 
   more : (a : Option Answer) → calls_of (E a) c (replied_said events x a) ≡ calls_of events c x ++ made ∷ []
@@ -260,22 +260,22 @@ module _ (catalog : List Table) (events : List Event) (c : ℕ) (h d : ClientAt)
 
 ---- every statement
 
-take_few : (events : List Event) (c : ℕ) (text : List ℕ) (a : Option Answer) (d : ClientAt) → SoBy AreFew WaitFew (events ++ event.Take c text a ∷ []) c (taken_said events text a) d a
-take_few events c text None d = (λ e f. first_txn d.txn (calls_of (events ++ event.Take c text None ∷ []) c (taken_said events text None)) (none_yet c events text None), λ z. none_yet c events text None)
-take_few events c text (Some b) d = (λ e f. once_nothing (calls_of (events ++ event.Take c text (Some b) ∷ []) c (taken_said events text (Some b))) (none_yet c events text (Some b)), λ z. none_yet c events text (Some b))
+take_few : (events : List Event) (c : ℕ) (text : List ℕ) (a : Option Answer) (d : ClientAt) → SoBy AreFew WaitFew (events ++ event.Take c text a ∷ []) c (executed_of_take events text a) d a
+take_few events c text None d = (λ e f. first_txn d.txn (calls_of (events ++ event.Take c text None ∷ []) c (executed_of_take events text None)) (none_yet c events text None), λ z. none_yet c events text None)
+take_few events c text (Some b) d = (λ e f. once_nothing (calls_of (events ++ event.Take c text (Some b) ∷ []) c (executed_of_take events text (Some b))) (none_yet c events text (Some b)), λ z. none_yet c events text (Some b))
 
 pub few_kept : AreKept (λ catalog. AreFew) (λ catalog. WaitFew)
 few_kept = record {
   answered = λ catalog events e c s past so. (λ f g. subst ReadsOnce (sym past.calls) (so.0 f g), λ z. past.calls ∙ so.1 z);
   waiting = λ catalog events e c s h still so. (λ f g. subst (TxnReads h.txn) (sym still.calls) (so.0 f g), λ z. still.calls ∙ so.1 z);
   takes = λ w u c text a t h. take_few w.events c text a t.client;
-  calls = λ w u c store q how r a t h k x waiting waits so. call_few w.script.catalog w.events c t.seat.client t.client store q how r w.clock k.told x waits so a
-      (call_of w.script.catalog w.events c t.seat.client k x waiting q r w.clock a t.client t.pending (h.world.each t.place t.seat t.at).fitted t.takes);
+  calls = λ w u c store q how r a t h k x waiting waits so. call_few w.script.catalog w.events c t.client_slot.client t.client store q how r w.clock k.told x waits so a
+      (call_of w.script.catalog w.events c t.client_slot.client k x waiting q r w.clock a t.client t.pending (h.world.each t.place t.client_slot t.at).fitted t.takes);
 }
 
 -- A statement of an execution that reads reads rows once, and BEGIN and ROLLBACK make no call.
 pub execution_few : (script : Script) (events : List Event) → IsPlayable script → IsExecution script events → ReadsAreFew events
-execution_few script events playable x client s has = by s.answer (hands_of x.last.seats client).client (statements_so (λ catalog. AreFew) (λ catalog. WaitFew) few_kept script events playable x client s has)
+execution_few script events playable x client s has = by s.answer (states_of x.last.client_slots client).client (statements_so (λ catalog. AreFew) (λ catalog. WaitFew) few_kept script events playable x client s has)
   where
     by : (o : Option Answer) (h : ClientAt) → SoBy AreFew WaitFew events client s h o → (reads_commit s.text ≡ false → reads_vacuum s.text ≡ false → ReadsOnce (calls_of events client s)) × (BeginsOrRollsBack s.text → calls_of events client s ≡ [])
     by None h so = (λ e f. once_txn h.txn (calls_of events client s) (so.0 e f), so.1)

@@ -40,9 +40,9 @@ use Rattle.sdb_phases.specs.declared.step.RecoverPhase.{RecoverPhase}
 use Rattle.sdb_phases.specs.declared.step.RecoverPhase.TheVariants as phase
 use Rattle.sdb_phases.specs.Checks.{check_of_read, check_of_scan, checks}
 use Rattle.sdb_phases.specs.Commit.{Stage, Preparing, Checking, Deciding, Forward, Stopping, Back, Over, pending}
-use Rattle.sdb_phases.specs.Recover.{recover_back, recover_forward, recover_request_at, stands_found}
+use Rattle.sdb_phases.specs.Recover.{recover_back, recover_forward, recover_request_at, is_as_found}
 use Rattle.sdb_phases.specs.Steps.{decide_request_at}
-use Rattle.sdb_phases.specs.Work.{Work, abort_of, back_of, decide_of, forward_of, look_of, prepare_of, stands_prepared}
+use Rattle.sdb_phases.specs.Work.{Work, abort_of, back_of, decide_of, forward_of, look_of, prepare_of, is_as_prepared}
 use Rattle.sdb_turns.proofs.Lists.{each_at, each_map}
 use Rattle.sdb_steps.specs.About.{AreWritesIn, IsIn, IsRecordIn}
 use Rattle.sdb_causes.proofs.Conflicts.{mapped_at}
@@ -119,7 +119,7 @@ module _ (catalog : List Table) (apart : (k : Key) → IsIn catalog k → is_dat
   recover_writes rec meta phase.Again q is base e fits own w = absurd (read_not (look_of meta.id) refl (as_asked (look_of meta.id) q e w))
   recover_writes rec meta (phase.Abort now) q is base e fits own w = (now, refl, row_is meta.id decision.Aborted now fits own (as_asked (abort_of meta.id now) q e w), sym (some_is (abort_of meta.id now) q e))
   recover_writes rec meta (phase.Forward at) q is base e fits own w = absurd (data_not (recover_forward rec meta at) rec.key (ap Some (forward_key rec at)) is (as_asked (recover_forward rec meta at) q e w))
-  recover_writes rec meta phase.Back q is base e fits own w = absurd (data_not (recover_back rec meta) rec.key (undo_key (stands_found meta) rec.key (before_record rec) base) is (as_asked (recover_back rec meta) q e w))
+  recover_writes rec meta phase.Back q is base e fits own w = absurd (data_not (recover_back rec meta) rec.key (undo_key (is_as_found meta) rec.key (before_record rec) base) is (as_asked (recover_back rec meta) q e w))
   recover_writes rec meta phase.Ended q is base e fits own w = none_some q e
 
   -- it is the transaction's own put
@@ -150,5 +150,5 @@ module _ (catalog : List Table) (apart : (k : Key) → IsIn catalog k → is_dat
   commit_writes p (Stopping a n) q e inside writes fits own w = (row_is p.id decision.Aborted p.now fits own (as_asked (abort_of p.id p.now) q e w), decision.Aborted, sym (some_is (abort_of p.id p.now) q e))
   commit_writes p (Back a n i) q e inside writes fits own w =
       let x = mapped_at (back_of p.id) p.writes i q e in
-      absurd (data_not (back_of p.id x.0) x.0.key (undo_key (stands_prepared p.id x.0) x.0.key x.0.base (each_at IsWrite p.writes i x.0 writes x.1).base) (each_at (λ (y : Write). IsIn catalog y.key × IsRecordIn catalog y.base) p.writes i x.0 inside x.1).0 (subst Writes (sym x.2) w))
+      absurd (data_not (back_of p.id x.0) x.0.key (undo_key (is_as_prepared p.id x.0) x.0.key x.0.base (each_at IsWrite p.writes i x.0 writes x.1).base) (each_at (λ (y : Write). IsIn catalog y.key × IsRecordIn catalog y.base) p.writes i x.0 inside x.1).0 (subst Writes (sym x.2) w))
   commit_writes p (Over a) q e inside writes fits own w = none_some q e

@@ -3,8 +3,8 @@ use Rattle.std.proofs.Common.{◌≡◌, ◌≢◌, ℕ, zero, suc, Bool, true, 
 use Rattle.std.specs.Prelude.{◌==◌, slice_get}
 use Rattle.std.proofs.lemmas.Bool.{eqb-false, eqb-true, ne_eqb}
 use Rattle.sdb_laws.specs.History.{at}
-use Rattle.sdb_execution.specs.declared.seat.Seat.{Seat}
-use Rattle.sdb_executions.specs.World.{hand_in, hands_of}
+use Rattle.sdb_execution.specs.declared.slot.ClientSlot.{ClientSlot}
+use Rattle.sdb_executions.specs.World.{state_in, states_of}
 use Rattle.sdb_types.proofs.Basics.{none_some}
 
 -- at the place that is set is what was set
@@ -32,12 +32,12 @@ pub suc_is : (i j : ℕ) → suc i ≡ suc j → i ≡ j
 suc_is i j e = cc
 
 -- with one client elsewhere
-pub hands_moved : (seats : List Seat) (i : ℕ) (s t : Seat) (c : ℕ) → slice_get seats i ≡ Some s → hands_of (slice_set seats i t) c ≡ at (hands_of seats) (suc i) (record { client = t.client; stopped = t.stopped }) c
-hands_moved seats i s t zero here = rw (ne_eqb 0 (suc i) (λ e. cc)) refl
-hands_moved seats i s t (suc j) here = by (suc j == suc i) refl
+pub hands_moved : (client_slots : List ClientSlot) (i : ℕ) (s t : ClientSlot) (c : ℕ) → slice_get client_slots i ≡ Some s → states_of (slice_set client_slots i t) c ≡ at (states_of client_slots) (suc i) (record { client = t.client; stopped = t.stopped }) c
+hands_moved client_slots i s t zero here = rw (ne_eqb 0 (suc i) (λ e. cc)) refl
+hands_moved client_slots i s t (suc j) here = by (suc j == suc i) refl
   where
-    by : (b : Bool) → (suc j == suc i) ≡ b → hands_of (slice_set seats i t) (suc j) ≡ at (hands_of seats) (suc i) (record { client = t.client; stopped = t.stopped }) (suc j)
+    by : (b : Bool) → (suc j == suc i) ≡ b → states_of (slice_set client_slots i t) (suc j) ≡ at (states_of client_slots) (suc i) (record { client = t.client; stopped = t.stopped }) (suc j)
     by true e =
         let same : j ≡ i = suc_is j i (eqb-true (suc j) (suc i) e) in
-        rw e (ap (λ (k : ℕ). hand_in (slice_get (slice_set seats i t) k) (suc k)) same ∙ ap (λ (o : Option Seat). hand_in o (suc i)) (set_here seats i s t here))
-    by false e = rw e (ap (λ (o : Option Seat). hand_in o (suc j)) (set_other seats i j t (λ same. eqb-false (suc j) (suc i) e (ap suc same))))
+        rw e (ap (λ (k : ℕ). state_in (slice_get (slice_set client_slots i t) k) (suc k)) same ∙ ap (λ (o : Option ClientSlot). state_in o (suc i)) (set_here client_slots i s t here))
+    by false e = rw e (ap (λ (o : Option ClientSlot). state_in o (suc j)) (set_other client_slots i j t (λ same. eqb-false (suc j) (suc i) e (ap suc same))))

@@ -13,15 +13,15 @@ use Rattle.sdb_record.specs.declared.access.Access.TheVariants as access
 use Rattle.sdb_record.specs.declared.meta.Meta.{Meta}
 use Rattle.sdb_record.specs.Rolls.{is_tombstone}
 use Rattle.sdb_schema.specs.declared.table.Table.{Table}
-use Rattle.sdb_model.specs.Calls.{Made, records_read}
+use Rattle.sdb_model.specs.Calls.{StoreCall, records_read}
 use Rattle.sdb_model.specs.Counted.{unresolved_in}
-use Rattle.sdb_model.specs.Noted.{reads_rows}
+use Rattle.sdb_model.specs.ReadSet.{reads_rows}
 use Rattle.sdb_phases.specs.declared.step.RecoverPhase.{RecoverPhase}
 use Rattle.sdb_phases.specs.declared.step.RecoverStep.{RecoverStep}
 use Rattle.sdb_phases.specs.declared.step.RecoverStep.TheVariants as steps
 use Rattle.sdb_phases.specs.Recover.{recover_next}
 use Rattle.sdb_read.specs.Read.{Bad, Firm, Kind, Open, kind_of}
-use Rattle.sdb_vacuum.specs.Vacuum.{First, Malformed, Nothing, Over, Removing, Resolving, Scanning, Tombstone, Unresolved, VacuumAt, VacuumStage, answered, first_of, first_one, going, goes_on, next_table, pending_at, removal_answered, resolved, step_at, tombstone_or}
+use Rattle.sdb_vacuum.specs.Vacuum.{First, Malformed, Nothing, Over, Removing, Resolving, Scanning, Tombstone, Unresolved, VacuumAt, VacuumStage, answered, first_of, first_one, next_of_row, with_call, next_table, pending_at, removal_answered, resolved, step_at, tombstone_or}
 use Rattle.sdb_causes.specs.Counts.{opens, rest_at}
 use Rattle.sdb_causes.proofs.Counts.{IsNearer, calls_more, opens_first, opens_more, opens_one, recover_nearer}
 use Rattle.sdb_causes.proofs.ReadSteps.{IsDataTable}
@@ -48,7 +48,7 @@ abbrev rest_of : VacuumAt → ℕ
 rest_of v = length v.spans + rest_of_stage v.stage
 
 -- Its calls, and those that it makes at most from here on.
-abbrev pub MostLeft : List Table → List Made → VacuumAt → Type 0
+abbrev pub MostLeft : List Table → List StoreCall → VacuumAt → Type 0
 MostLeft catalog calls v = length calls + (length v.spans + rest_of_stage v.stage) ≤ length catalog + (tombstones_in calls + 5 * length (unresolved_in calls))
 
 ---- what rows come to
@@ -98,14 +98,14 @@ next_light : (ss : List Span) (n : ℕ) → rest_of (next_table ss n).0 ≤ leng
 next_light [] n = omega arith
 next_light (s ∷ ss) n = omega arith
 
-going_light : (ss : List Span) (n : ℕ) (f : First) → rest_of (going ss n f).0 ≤ first_rest f + length ss
+going_light : (ss : List Span) (n : ℕ) (f : First) → rest_of (next_of_row ss n f).0 ≤ first_rest f + length ss
 going_light ss n Nothing = let h = next_light ss n in omega arith
 going_light ss n (Tombstone b left) = omega arith
 going_light ss n (Unresolved r meta left) = omega arith
 going_light ss n (Malformed key) = omega arith
 
-on_light : (ss : List Span) (n : ℕ) (left : List Record) → rest_of (going ss n (first_of left)).0 ≤ left_calls left + length ss
-on_light ss n left = by (rest_of (going ss n (first_of left)).0) (first_rest (first_of left)) (left_calls left) (length ss) (going_light ss n (first_of left)) (first_light left)
+on_light : (ss : List Span) (n : ℕ) (left : List Record) → rest_of (next_of_row ss n (first_of left)).0 ≤ left_calls left + length ss
+on_light ss n left = by (rest_of (next_of_row ss n (first_of left)).0) (first_rest (first_of left)) (left_calls left) (length ss) (going_light ss n (first_of left)) (first_light left)
   where
     by : (a b c t : ℕ) → a ≤ b + t → b ≤ c → a ≤ c + t
     by a b c t l k = omega arith
@@ -121,7 +121,7 @@ answered_light ss n reply.NoMemory = omega arith
 image_light : (ss : List Span) (n : ℕ) (left : List Record) (b : Record) → rest_of (tombstone_or ss n left b).0 ≤ 1 + left_calls left + length ss
 image_light ss n left b = by (is_tombstone b)
   where
-    by : (t : Bool) → rest_of (if t then goes_on ss n (Removing b left) else going ss n (first_of left)).0 ≤ 1 + left_calls left + length ss
+    by : (t : Bool) → rest_of (if t then with_call ss n (Removing b left) else next_of_row ss n (first_of left)).0 ≤ 1 + left_calls left + length ss
     by true = omega arith
     by false = let h = on_light ss n left in omega arith
 
@@ -144,7 +144,7 @@ removal_light ss n left reply.NoMemory = omega arith
 
 ---- one call more
 
-module _ (catalog : List Table) (calls : List Made) (m : Made) where
+module _ (catalog : List Table) (calls : List StoreCall) (m : StoreCall) where
   abbrev Before : ℕ → Type 0
   Before left = length calls + left ≤ length catalog + (tombstones_in calls + 5 * length (unresolved_in calls))
 
@@ -152,7 +152,7 @@ module _ (catalog : List Table) (calls : List Made) (m : Made) where
   After left = length (calls ++ m ∷ []) + left ≤ length catalog + (tombstones_in (calls ++ m ∷ []) + 5 * length (unresolved_in (calls ++ m ∷ [])))
 
   dead_more : tombstones_in (calls ++ m ∷ []) ≡ tombstones_in calls + tombstones_found m
-  dead_more = fold-append (λ a (x : Made). a + tombstones_found x) 0 calls (m ∷ [])
+  dead_more = fold-append (λ a (x : StoreCall). a + tombstones_found x) 0 calls (m ∷ [])
 
   one_fewer : (n k : ℕ) → suc k ≤ n → Before n → After k
   one_fewer n k l h = by (length calls) (length (calls ++ m ∷ [])) (length catalog) (tombstones_in calls) (tombstones_in (calls ++ m ∷ [])) (length (unresolved_in calls)) (length (unresolved_in (calls ++ m ∷ []))) (tombstones_found m) (if reads_rows m then opens (records_read m.reply) else 0) (calls_more calls m) dead_more (opens_more calls m) h
@@ -216,7 +216,7 @@ module _ (catalog : List Table) (calls : List Made) (m : Made) where
       by Over f k = none_some m.request f
 
 -- of one that waits they are
-pub most_so_far : (catalog : List Table) (calls : List Made) (v : VacuumAt) → MostLeft catalog calls v → IsVacuumMost catalog calls
+pub most_so_far : (catalog : List Table) (calls : List StoreCall) (v : VacuumAt) → MostLeft catalog calls v → IsVacuumMost catalog calls
 most_so_far catalog calls v h = by (length calls) (length v.spans + rest_of_stage v.stage) (length catalog + (tombstones_in calls + 5 * length (unresolved_in calls))) h
   where
     by : (a n b : ℕ) → a + n ≤ b → a ≤ b

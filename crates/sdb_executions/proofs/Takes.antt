@@ -12,7 +12,7 @@ use Rattle.sdb_exec.specs.Plans.{Planned}
 use Rattle.sdb_exec.specs.Reads.{access_of}
 use Rattle.sdb_txn.specs.Txn.{TxnAt, committing, reading}
 use Rattle.sdb_vacuum.specs.Vacuum.{begun as sweeping}
-use Rattle.sdb_client.specs.Client.{AskTold, BeginTold, ClientAt, CommitTaken, GateTold, RollbackTold, SaidTold, StatementTold, TableTold, Taking, VacuumTold, holding, is_covered, plan_of, Takes}
+use Rattle.sdb_client.specs.Client.{AskPost, BeginPost, ClientAt, CommitStartPost, GatePost, RollbackPost, ParsedPost, StatementPost, TablePost, Taking, VacuumStartPost, holding, is_covered, plan_of, TextStep}
 
 -- its COMMIT has its first call pending
 pub record TakesCommit (q : Taking) (h d : ClientAt) : Type 0 where
@@ -38,28 +38,28 @@ abbrev pub TakenAs : Taking → ClientAt → ClientAt → Type 0
 TakenAs q h d = TakesCommit q h d ⊎ TakesSweep q h d ⊎ TakesRead q h d
 
 module _ (q : Taking) (h d : ClientAt) where
-  gate_as : (b : Bool) → GateTold b q.fresh h None d → TakenAs q h d
+  gate_as : (b : Bool) → GatePost b q.fresh h None d → TakenAs q h d
   gate_as true t = absurd (let e = t.answer in cc)
   gate_as false t = absurd (let e = t.0 in cc)
 
-  begin_as : (o : Option TxnAt) → BeginTold q.gate q.fresh h o None d → TakenAs q h d
+  begin_as : (o : Option TxnAt) → BeginPost q.gate q.fresh h o None d → TakenAs q h d
   begin_as None t = gate_as q.gate.vacuum_runs t
   begin_as (Some x) t = absurd (let e = t.answer in cc)
 
-  commit_as : (o : Option TxnAt) → CommitTaken q.now h o None d → TakenAs q h d
+  commit_as : (o : Option TxnAt) → CommitStartPost q.now h o None d → TakenAs q h d
   commit_as None t = absurd (let e = t.answer in cc)
   commit_as (Some x) t = inl (record { t = x; left = t.1 })
 
-  rollback_as : (o : Option TxnAt) → RollbackTold h o None d → TakenAs q h d
+  rollback_as : (o : Option TxnAt) → RollbackPost h o None d → TakenAs q h d
   rollback_as None t = absurd (let e = t.answer in cc)
   rollback_as (Some x) t = absurd (let e = t.0 in cc)
 
-  vacuum_as : (b : Bool) (catalog : List Table) → q.catalog ≡ catalog → VacuumTold b catalog h None d → TakenAs q h d
+  vacuum_as : (b : Bool) (catalog : List Table) → q.catalog ≡ catalog → VacuumStartPost b catalog h None d → TakenAs q h d
   vacuum_as true catalog is t = absurd (let e = t.answer in cc)
   vacuum_as false [] is t = absurd (let e = t.answer in cc)
   vacuum_as false (x ∷ xs) is t = inr (inl (record { table = x; tables = xs; catalog = is; left = t.1 }))
 
-  table_as : (st : Statement) (x : TxnAt) → TableTold q.catalog st h x None d → TakenAs q h d
+  table_as : (st : Statement) (x : TxnAt) → TablePost q.catalog st h x None d → TakenAs q h d
   table_as st x t = by_refusal (refusal_of q.catalog st) refl
     where
       by_covered : (table : Table) (b : Bool) → is_covered x.seen (access_of table st) ≡ b → refusal_of q.catalog st ≡ None → named_table q.catalog st ≡ Some table → TakenAs q h d
@@ -74,11 +74,11 @@ module _ (q : Taking) (h d : ClientAt) where
       by_refusal (Some r) f = absurd (let e = (t.refused r f).answer in cc)
       by_refusal None f = by_table (named_table q.catalog st) f refl
 
-  ask_as : (st : Statement) (o : Option TxnAt) → AskTold q.catalog st h o None d → TakenAs q h d
+  ask_as : (st : Statement) (o : Option TxnAt) → AskPost q.catalog st h o None d → TakenAs q h d
   ask_as st None t = absurd (let e = t.answer in cc)
   ask_as st (Some x) t = table_as st x t
 
-  statement_as : (st : Statement) → StatementTold q st h None d → TakenAs q h d
+  statement_as : (st : Statement) → StatementPost q st h None d → TakenAs q h d
   statement_as statement.Begin t = begin_as h.txn t
   statement_as statement.Commit t = commit_as h.txn t
   statement_as statement.Rollback t = rollback_as h.txn t
@@ -89,10 +89,10 @@ module _ (q : Taking) (h d : ClientAt) where
   statement_as (statement.Delete x) t = ask_as (statement.Delete x) h.txn t
   statement_as (statement.Select x) t = ask_as (statement.Select x) h.txn t
 
-  text_as : (x : Result Statement Refusal) → SaidTold q x h None d → TakenAs q h d
+  text_as : (x : Result Statement Refusal) → ParsedPost q x h None d → TakenAs q h d
   text_as (Ok st) t = statement_as st t
   text_as (Err r) t = absurd (let e = t.answer in cc)
 
 -- It is a COMMIT, a VACUUM over some table, or reads.
-pub taken_as : (q : Taking) (text : List ℕ) (h d : ClientAt) → Takes q text h None d → TakenAs q h d
+pub taken_as : (q : Taking) (text : List ℕ) (h d : ClientAt) → TextStep q text h None d → TakenAs q h d
 taken_as q text h d takes = let told = takes.told (λ e. cc) in text_as q h d told.0 told.2

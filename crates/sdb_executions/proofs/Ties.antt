@@ -12,7 +12,7 @@ use Rattle.sdb_model.specs.declared.event.How.{How}
 use Rattle.sdb_model.specs.Rows.{Name}
 use Rattle.sdb_model.specs.declared.event.Event.{Event}
 use Rattle.sdb_model.specs.declared.event.Event.TheVariants as event
-use Rattle.sdb_model.specs.Follows.{has_stopped, is_pending, pends_after, stops, taken_by, takes_by}
+use Rattle.sdb_model.specs.Follows.{has_stopped, is_pending, pends_after, stops, takes_of, is_take_of}
 use Rattle.sdb_types.proofs.Basics.{or_false}
 
 abbrev one_if : Bool → ℕ
@@ -25,8 +25,8 @@ counted_more p es e =
     let none : count_by p [] ≡ 0 = refl in
     both ∙ ap (λ (n : ℕ). count_by p es + n) (last ∙ ap (λ (n : ℕ). one_if (p e) + n) none ∙ omega arith)
 
-pub taken_more : (c : ℕ) (es : List Event) (e : Event) → taken_by c (es ++ e ∷ []) ≡ taken_by c es + one_if (takes_by c e)
-taken_more c es e = counted_more (takes_by c) es e
+pub taken_more : (c : ℕ) (es : List Event) (e : Event) → takes_of c (es ++ e ∷ []) ≡ takes_of c es + one_if (is_take_of c e)
+taken_more c es e = counted_more (is_take_of c) es e
 
 pub stopped_more : (c : ℕ) (es : List Event) (e : Event) → has_stopped c (es ++ e ∷ []) ≡ (has_stopped c es || stops c e)
 stopped_more c es e = list_any-append (stops c) es (e ∷ []) ∙ ap (λ (b : Bool). has_stopped c es || b) (or_false (stops c e))
@@ -38,12 +38,12 @@ pending_more c es e = fold-append (pends_after c) false es (e ∷ [])
 
 -- an event says nothing of a client
 pub record IsApart (c : ℕ) (e : Event) : Type 0 where
-  pub takes : takes_by c e ≡ false
+  pub takes : is_take_of c e ≡ false
   pub stops : stops c e ≡ false
   pub pends : (was : Bool) → pends_after c was e ≡ was
 
-pub apart_taken : (c : ℕ) (es : List Event) (e : Event) → IsApart c e → taken_by c (es ++ e ∷ []) ≡ taken_by c es
-apart_taken c es e a = taken_more c es e ∙ ap (λ (b : Bool). taken_by c es + one_if b) a.takes ∙ omega arith
+pub apart_taken : (c : ℕ) (es : List Event) (e : Event) → IsApart c e → takes_of c (es ++ e ∷ []) ≡ takes_of c es
+apart_taken c es e a = taken_more c es e ∙ ap (λ (b : Bool). takes_of c es + one_if b) a.takes ∙ omega arith
 
 pub apart_stopped : (c : ℕ) (es : List Event) (e : Event) → IsApart c e → has_stopped c (es ++ e ∷ []) ≡ has_stopped c es
 apart_stopped c es e a = stopped_more c es e ∙ ap (λ (b : Bool). has_stopped c es || b) a.stops ∙ or_false (has_stopped c es)
@@ -82,8 +82,8 @@ itself c = by (c == c) refl
 own_if : {A : Type 0} (c : ℕ) (x y : A) → cond (c == c) x y ≡ x
 own_if c x y = rw (itself c) refl
 
-pub own_take_taken : (c : ℕ) (es : List Event) (text : List ℕ) (a : Option Answer) → taken_by c (es ++ event.Take c text a ∷ []) ≡ taken_by c es + 1
-own_take_taken c es text a = taken_more c es (event.Take c text a) ∙ ap (λ (b : Bool). taken_by c es + one_if b) (itself c)
+pub own_take_taken : (c : ℕ) (es : List Event) (text : List ℕ) (a : Option Answer) → takes_of c (es ++ event.Take c text a ∷ []) ≡ takes_of c es + 1
+own_take_taken c es text a = taken_more c es (event.Take c text a) ∙ ap (λ (b : Bool). takes_of c es + one_if b) (itself c)
 
 pub own_take_stopped : (c : ℕ) (es : List Event) (text : List ℕ) (a : Option Answer) → has_stopped c (es ++ event.Take c text a ∷ []) ≡ has_stopped c es
 own_take_stopped c es text a = stopped_more c es (event.Take c text a) ∙ or_false (has_stopped c es)
@@ -91,7 +91,7 @@ own_take_stopped c es text a = stopped_more c es (event.Take c text a) ∙ or_fa
 pub own_take_pending : (c : ℕ) (es : List Event) (text : List ℕ) (a : Option Answer) → is_pending c (es ++ event.Take c text a ∷ []) ≡ is_none a
 own_take_pending c es text a = pending_more c es (event.Take c text a) ∙ own_if c (is_none a) (is_pending c es)
 
-pub own_call_taken : (c : ℕ) (es : List Event) (store : Name) (q : Request) (how : How) (r : Reply) (a : Option Answer) → taken_by c (es ++ event.Call c store q how r a ∷ []) ≡ taken_by c es
+pub own_call_taken : (c : ℕ) (es : List Event) (store : Name) (q : Request) (how : How) (r : Reply) (a : Option Answer) → takes_of c (es ++ event.Call c store q how r a ∷ []) ≡ takes_of c es
 own_call_taken c es store q how r a = taken_more c es (event.Call c store q how r a) ∙ omega arith
 
 pub own_call_stopped : (c : ℕ) (es : List Event) (store : Name) (q : Request) (how : How) (r : Reply) (a : Option Answer) → has_stopped c (es ++ event.Call c store q how r a ∷ []) ≡ has_stopped c es
@@ -100,7 +100,7 @@ own_call_stopped c es store q how r a = stopped_more c es (event.Call c store q 
 pub own_call_pending : (c : ℕ) (es : List Event) (store : Name) (q : Request) (how : How) (r : Reply) (a : Option Answer) → is_pending c (es ++ event.Call c store q how r a ∷ []) ≡ is_none a
 own_call_pending c es store q how r a = pending_more c es (event.Call c store q how r a) ∙ own_if c (is_none a) (is_pending c es)
 
-pub own_stop_taken : (c : ℕ) (es : List Event) → taken_by c (es ++ event.Stop c ∷ []) ≡ taken_by c es
+pub own_stop_taken : (c : ℕ) (es : List Event) → takes_of c (es ++ event.Stop c ∷ []) ≡ takes_of c es
 own_stop_taken c es = taken_more c es (event.Stop c) ∙ omega arith
 
 pub own_stop_stopped : (c : ℕ) (es : List Event) → has_stopped c (es ++ event.Stop c ∷ []) ≡ true

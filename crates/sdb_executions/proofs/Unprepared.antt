@@ -31,7 +31,7 @@ use Rattle.sdb_record.proofs.RollLaws.{forward-committed}
 use Rattle.sdb_record.proofs.TakenLaws.{prepared-columns, time-fits}
 use Rattle.sdb_record.proofs.WriteLaws.{marked-time, with_base}
 use Rattle.sdb_read.proofs.Images.{before_firm}
-use Rattle.sdb_model.specs.Calls.{put_by, Made}
+use Rattle.sdb_model.specs.Calls.{put_by, StoreCall}
 use Rattle.sdb_model.specs.Transactions.{prepares}
 use Rattle.sdb_phases.specs.declared.check.Check.{Check}
 use Rattle.sdb_phases.specs.declared.step.DecidePhase.{DecidePhase}
@@ -40,9 +40,9 @@ use Rattle.sdb_phases.specs.declared.step.RecoverPhase.{RecoverPhase}
 use Rattle.sdb_phases.specs.declared.step.RecoverPhase.TheVariants as phase
 use Rattle.sdb_phases.specs.Checks.{check_of_read, check_of_scan, checks}
 use Rattle.sdb_phases.specs.Commit.{Stage, Preparing, Checking, Deciding, Forward, Stopping, Back, Over, pending}
-use Rattle.sdb_phases.specs.Recover.{recover_back, recover_forward, recover_request_at, stands_found}
+use Rattle.sdb_phases.specs.Recover.{recover_back, recover_forward, recover_request_at, is_as_found}
 use Rattle.sdb_phases.specs.Steps.{decide_request_at}
-use Rattle.sdb_phases.specs.Work.{Work, abort_of, back_of, decide_of, forward_of, look_of, prepare_of, stands_prepared}
+use Rattle.sdb_phases.specs.Work.{Work, abort_of, back_of, decide_of, forward_of, look_of, prepare_of, is_as_prepared}
 use Rattle.sdb_read.specs.Read.{Asking, Ended, ReadStage, Resolving, read_pending_at, request_of}
 use Rattle.sdb_vacuum.specs.Vacuum as vacuum
 use Rattle.sdb_vacuum.specs.Vacuum.{VacuumStage, pending_at}
@@ -51,7 +51,7 @@ use Rattle.sdb_turns.proofs.Lists.{each_at, each_map}
 use Rattle.sdb_causes.proofs.Conflicts.{mapped_at, undo_unprepared}
 use Rattle.sdb_causes.proofs.ReadSteps.{open_is}
 use Rattle.sdb_causes.specs.Reads.{ReadsBy}
-use Rattle.sdb_causes.specs.Sweeps.{SweepsBy}
+use Rattle.sdb_causes.specs.Vacuums.{VacuumStageBy}
 
 -- a record that is prepared has the moment at which it was
 pub moment_of : (w : Write) (u : TxId) (now : ℤ) → is_moment now ≡ true → moment_in (prepared_record w u now).columns tx_prepared_at ≡ Some now
@@ -80,12 +80,12 @@ module _ (id : TxId) where
   recover_no rec meta phase.Look q is_open e = sym (ap (prepares id) (some_is (look_of meta.id) q e))
   recover_no rec meta (phase.Abort now) q is_open e = sym (ap (prepares id) (some_is (abort_of meta.id now) q e)) ∙ row_no meta.id decision.Aborted now condition.Absent
   recover_no rec meta phase.Again q is_open e = sym (ap (prepares id) (some_is (look_of meta.id) q e))
-  recover_no rec meta (phase.Forward at) q is_open e = sym (ap (prepares id) (some_is (recover_forward rec meta at) q e)) ∙ forward_no rec at (stands_found meta)
-  recover_no rec meta phase.Back q is_open e = sym (ap (prepares id) (some_is (recover_back rec meta) q e)) ∙ undo_unprepared id rec.key (before_record rec) (stands_found meta) (base_of rec is_open)
+  recover_no rec meta (phase.Forward at) q is_open e = sym (ap (prepares id) (some_is (recover_forward rec meta at) q e)) ∙ forward_no rec at (is_as_found meta)
+  recover_no rec meta phase.Back q is_open e = sym (ap (prepares id) (some_is (recover_back rec meta) q e)) ∙ undo_unprepared id rec.key (before_record rec) (is_as_found meta) (base_of rec is_open)
   recover_no rec meta phase.Ended q is_open e = none_some q e
 
   -- nor does a VACUUM
-  pub sweep_no : (calls : List Made) (s : VacuumStage) (q : Request) → SweepsBy calls s → pending_at s ≡ Some q → prepares id q ≡ false
+  pub sweep_no : (calls : List StoreCall) (s : VacuumStage) (q : Request) → VacuumStageBy calls s → pending_at s ≡ Some q → prepares id q ≡ false
   sweep_no calls (vacuum.Scanning span) q is e = sym (ap (prepares id) (some_is (ask.Scan span) q e))
   sweep_no calls (vacuum.Resolving rec meta p left) q is e = recover_no rec meta p q (open_is rec meta is.is_open).0 e
   sweep_no calls (vacuum.Removing b left) q is e = by (id_in b.columns) e
@@ -96,7 +96,7 @@ module _ (id : TxId) where
   sweep_no calls vacuum.Over q is e = none_some q e
 
   -- nor does a read
-  pub read_no : (calls : List Made) (a : Access) (s : ReadStage) (q : Request) → ReadsBy calls s → read_pending_at (request_of a) s ≡ Some q → prepares id q ≡ false
+  pub read_no : (calls : List StoreCall) (a : Access) (s : ReadStage) (q : Request) → ReadsBy calls s → read_pending_at (request_of a) s ≡ Some q → prepares id q ≡ false
   read_no calls (access.Get key) Asking q is e = sym (ap (prepares id) (some_is (ask.Get key) q e))
   read_no calls (access.Scan span) Asking q is e = sym (ap (prepares id) (some_is (ask.Scan span) q e))
   read_no calls a (Resolving images rec meta p left) q is e = recover_no rec meta p q (open_is rec meta is.is_open).0 e
@@ -148,9 +148,9 @@ module _ (id : TxId) where
       by None f k = none_some q k
       by (Some c) f k = clash (sym is ∙ ap (prepares id) (sym (some_is c.request q k)) ∙ each_at (λ (y : Check). prepares id y.request ≡ false) (checks p) i c (checks_no p) f)
   commit_own p (Deciding d) q r e writes fits own moment is put = clash (sym is ∙ decide_no p.id p.now d q e)
-  commit_own p (Forward i) q r e writes fits own moment is put = let x = mapped_at (forward_of p.id p.now) p.writes i q e in clash (sym is ∙ ap (prepares id) (sym x.2) ∙ forward_no (prepared_record x.0 p.id p.now) p.now (stands_prepared p.id x.0))
+  commit_own p (Forward i) q r e writes fits own moment is put = let x = mapped_at (forward_of p.id p.now) p.writes i q e in clash (sym is ∙ ap (prepares id) (sym x.2) ∙ forward_no (prepared_record x.0 p.id p.now) p.now (is_as_prepared p.id x.0))
   commit_own p (Stopping a n) q r e writes fits own moment is put = clash (sym is ∙ sym (ap (prepares id) (some_is (abort_of p.id p.now) q e)) ∙ row_no p.id decision.Aborted p.now condition.Absent)
   commit_own p (Back a n i) q r e writes fits own moment is put =
       let x = mapped_at (back_of p.id) p.writes i q e in
-      clash (sym is ∙ ap (prepares id) (sym x.2) ∙ undo_unprepared id x.0.key x.0.base (stands_prepared p.id x.0) (each_at IsWrite p.writes i x.0 writes x.1).base)
+      clash (sym is ∙ ap (prepares id) (sym x.2) ∙ undo_unprepared id x.0.key x.0.base (is_as_prepared p.id x.0) (each_at IsWrite p.writes i x.0 writes x.1).base)
   commit_own p (Over a) q r e writes fits own moment is put = none_some q e

@@ -21,19 +21,19 @@ use Rattle.sdb_record.specs.declared.access.Access.{Access}
 use Rattle.sdb_record.specs.declared.access.Access.TheVariants as access
 use Rattle.sdb_record.specs.Among.{write_among}
 use Rattle.sdb_model.specs.Access.{with_row}
-use Rattle.sdb_model.specs.Calls.{Made, records_read}
+use Rattle.sdb_model.specs.Calls.{StoreCall, records_read}
 use Rattle.sdb_model.specs.Exec.{Tables}
-use Rattle.sdb_model.specs.Noted.{meaning_of, reads_rows}
+use Rattle.sdb_model.specs.ReadSet.{meaning_of, reads_rows}
 use Rattle.sdb_read.specs.Read.{request_of}
-use Rattle.sdb_snapshot.specs.Held.{WereRead}
-use Rattle.sdb_snapshot.specs.Noted.{is_noted}
+use Rattle.sdb_snapshot.specs.Sets.{WereRead}
+use Rattle.sdb_snapshot.specs.Reads.{is_key_read}
 use Rattle.sdb_snapshot.specs.Rows.{row_found}
 use Rattle.sdb_snapshot.specs.Seen.{Seen, row_seen, row_with, tables_seen}
 use Rattle.sdb_snapshot.proofs.Shown.{get_seen}
 use Rattle.sdb_txn.specs.Txn.{TxnAt}
-use Rattle.sdb_client.specs.Client.{noting}
+use Rattle.sdb_client.specs.Client.{with_rows_read}
 use Rattle.sdb_steps.proofs.InTables.{access_table}
-use Rattle.sdb_causes.specs.Moves.{HasRead, IsRows, IsSettledAs}
+use Rattle.sdb_causes.specs.Changes.{HasRead, IsRows, IsSettledAs}
 use Rattle.sdb_causes.proofs.ReadSteps.{IsDataTable}
 use Rattle.sdb_causes.proofs.Settling.{data_read, settled_means}
 use Rattle.sdb_causes.proofs.Unfit.{at_note, found_new, noted_now, same_writes}
@@ -111,7 +111,7 @@ found_images (b ∷ bs) q = ap (λ o. cond (same_key q b.key) (Some (Some b)) o)
     by true = refl
     by false = refl
 
-module _ (calls : List Made) where
+module _ (calls : List StoreCall) where
   found_one : (a : Access) (r : Reply) (images done : List Record) → CanAnswer (request_of a) r → IsRows r → records_read r ≡ done → images ≡ filter_map (meaning_of calls) done → (q : Key) → value_at (found_in calls (request_of a) r) q ≡ found_new a images q
   found_one (access.Get k) (reply.Found None) images done can rows_found rows are q = ap (λ x. cond (same_key q k) (Some x) None) (sym (ap (λ is. slice_get is 0) (are ∙ ap (filter_map (meaning_of calls)) (sym rows))))
   found_one (access.Get k) (reply.Found (Some r)) images done can rows_found rows are q = ap (λ x. cond (same_key q k) (Some x) None) (sym (ap (λ is. slice_get is 0) (are ∙ ap (filter_map (meaning_of calls)) (sym rows)) ∙ first (meaning_of calls r)))
@@ -132,7 +132,7 @@ module _ (calls : List Made) where
   steps_mean [] all = refl
   steps_mean (e ∷ es) all = ap (cons_option e.1) (steps_mean es all.1) ∙ ap (λ o. cons_option o (filter_map (meaning_of calls) (map (λ x. x.0) es))) (sym (settled_means calls e all.0))
 
-  none_read : (ms : List Made) → AllByRecursion (λ m. reads_rows m ≡ false) ms → filter reads_rows ms ≡ []
+  none_read : (ms : List StoreCall) → AllByRecursion (λ m. reads_rows m ≡ false) ms → filter reads_rows ms ≡ []
   none_read [] all = refl
   none_read (m ∷ ms) all = ap (λ b. if b then m ∷ filter reads_rows ms else filter reads_rows ms) all.0 ∙ none_read ms all.1
 
@@ -143,7 +143,7 @@ module _ (calls : List Made) where
   -- A read finds, by its calls, what its client notes.
   pub found_now : (a : Access) (images : List Record) → HasRead (request_of a) calls images [] → IsDataTable (access_table a) → (q : Key) → value_at (found_by calls) q ≡ found_new a images q
   found_now a images h own q =
-      ap (λ ms. value_at (flat_map (λ (m : Made). found_in calls m.request m.reply) ms) q) (read_only a images h own)
+      ap (λ ms. value_at (flat_map (λ (m : StoreCall). found_in calls m.request m.reply) ms) q) (read_only a images h own)
       ∙ ap (λ es. value_at es q) (append-nil (found_in calls h.first.request h.first.reply))
       ∙ ap (λ x. value_at (found_in calls x h.first.reply) q) h.request
       ∙ found_one a h.first.reply images (map (λ e. e.0) h.steps) h.can h.told (h.rows ∙ append-nil (map (λ e. e.0) h.steps)) (h.images_are ∙ steps_mean h.steps h.settled) q
@@ -152,33 +152,33 @@ module _ (calls : List Made) where
 
 -- A view is what a transaction has read and written: something was found at the keys that were read, and the rows are those that it sees.
 pub record IsViewOf (v : View) (s : Seen) : Type 0 where
-  pub keys : (q : Key) → has_found v q ≡ is_noted s.notes q
-  pub rows : (q : Key) → get v.rows q ≡ row_seen s.notes s.writes q
+  pub keys : (q : Key) → has_found v q ≡ is_key_read s.read_set q
+  pub rows : (q : Key) → get v.rows q ≡ row_seen s.read_set s.writes q
 
 -- its rows are the tables that it sees
 pub view_tables : (v : View) (s : Seen) → IsViewOf v s → v.rows ≡ tables_seen s
-view_tables v s h = same_map key_total key_exact v.rows (tables_seen s) (λ q. h.rows q ∙ sym (get_seen s.notes s.writes q))
+view_tables v s h = same_map key_total key_exact v.rows (tables_seen s) (λ q. h.rows q ∙ sym (get_seen s.read_set s.writes q))
 
 -- A view with what a read found is what the transaction has then read.
-pub view_found : (v : View) (t : TxnAt) (a : Access) (images : List Record) (fs : List (Key × Option Record)) → IsViewOf v t.seen → WereRead t.seen.notes t.seen.writes → ((q : Key) → value_at fs q ≡ found_new a images q) → IsViewOf (with_found v fs) (noting t a images).seen
+pub view_found : (v : View) (t : TxnAt) (a : Access) (images : List Record) (fs : List (Key × Option Record)) → IsViewOf v t.seen → WereRead t.seen.read_set t.seen.writes → ((q : Key) → value_at fs q ≡ found_new a images q) → IsViewOf (with_found v fs) (with_rows_read t a images).seen
 view_found v t a images fs h kept found = record { keys = keys; rows = rows }
   where
-    keys : (q : Key) → has_found (with_found v fs) q ≡ is_noted (noting t a images).seen.notes q
+    keys : (q : Key) → has_found (with_found v fs) q ≡ is_key_read (with_rows_read t a images).seen.read_set q
     keys q =
-        (all_found v fs q).0 ∙ ap (λ x. x || is_some (value_at fs q)) (h.keys q) ∙ ap (λ o. is_noted t.seen.notes q || is_some o) (found q)
-        ∙ either (value_at t.seen.notes q) (found_new a images q) ∙ sym (ap is_some (noted_now t a images q))
+        (all_found v fs q).0 ∙ ap (λ x. x || is_some (value_at fs q)) (h.keys q) ∙ ap (λ o. is_key_read t.seen.read_set q || is_some o) (found q)
+        ∙ either (value_at t.seen.read_set q) (found_new a images q) ∙ sym (ap is_some (noted_now t a images q))
       where
         either : (x y : Option (Option Record)) → (is_some x || is_some y) ≡ is_some (or_else x y)
         either None y = refl
         either (Some x) y = refl
 
-    rows : (q : Key) → get (with_found v fs).rows q ≡ row_seen (noting t a images).seen.notes (noting t a images).seen.writes q
+    rows : (q : Key) → get (with_found v fs).rows q ≡ row_seen (with_rows_read t a images).seen.read_set (with_rows_read t a images).seen.writes q
     rows q =
-        (all_found v fs q).1 ∙ ap (λ x. laid x (value_at fs q) (get v.rows q)) (h.keys q) ∙ ap (λ o. laid (is_noted t.seen.notes q) o (get v.rows q)) (found q) ∙ ap (laid (is_noted t.seen.notes q) (found_new a images q)) (h.rows q)
-        ∙ by (value_at t.seen.notes q) (found_new a images q) refl
-        ∙ sym (ap (λ ws. row_with (write_among ws q) (at_note (value_at (noting t a images).seen.notes q))) (same_writes t a images) ∙ ap (λ x. row_with (write_among t.seen.writes q) (at_note x)) (noted_now t a images q))
+        (all_found v fs q).1 ∙ ap (λ x. laid x (value_at fs q) (get v.rows q)) (h.keys q) ∙ ap (λ o. laid (is_key_read t.seen.read_set q) o (get v.rows q)) (found q) ∙ ap (laid (is_key_read t.seen.read_set q) (found_new a images q)) (h.rows q)
+        ∙ by (value_at t.seen.read_set q) (found_new a images q) refl
+        ∙ sym (ap (λ ws. row_with (write_among ws q) (at_note (value_at (with_rows_read t a images).seen.read_set q))) (same_writes t a images) ∙ ap (λ x. row_with (write_among t.seen.writes q) (at_note x)) (noted_now t a images q))
       where
-        by : (x y : Option (Option Record)) → value_at t.seen.notes q ≡ x → laid (is_some x) y (row_with (write_among t.seen.writes q) (at_note x)) ≡ row_with (write_among t.seen.writes q) (at_note (or_else x y))
+        by : (x y : Option (Option Record)) → value_at t.seen.read_set q ≡ x → laid (is_some x) y (row_with (write_among t.seen.writes q) (at_note x)) ≡ row_with (write_among t.seen.writes q) (at_note (or_else x y))
         by (Some x) y e = refl
         by None None e = refl
         by None (Some o) e = sym (ap (λ w. row_with w o) (unwritten t.seen q kept (ap is_some e)))

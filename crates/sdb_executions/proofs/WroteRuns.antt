@@ -12,7 +12,7 @@ use Rattle.sdb_model.specs.declared.event.Event.{Event}
 use Rattle.sdb_model.specs.declared.script.Script.{Script}
 use Rattle.sdb_model.specs.Calls.{calls_of}
 use Rattle.sdb_model.specs.Sql.{reads_commit}
-use Rattle.sdb_model.specs.Transactions.{Said, client_of, commit_of, ends, from_begin, id_of, ordinal_of, rest_of, said}
+use Rattle.sdb_model.specs.Transactions.{Executed, client_of, commit_of, ends, from_begin, id_of, ordinal_of, rest_of, statements_by}
 use Rattle.sdb_model.proofs.Basics.{id_again}
 use Rattle.sdb_exec.specs.Plans.{Planned}
 use Rattle.sdb_txn.specs.declared.txn.Doing.{Doing}
@@ -20,14 +20,14 @@ use Rattle.sdb_txn.specs.declared.txn.Doing.TheVariants as doing
 use Rattle.sdb_txn.specs.Txn.{TxnAt}
 use Rattle.sdb_vacuum.specs.Vacuum.{VacuumAt}
 use Rattle.sdb_client.specs.Client.{ClientAt}
-use Rattle.sdb_story.specs.Telling.{waiting_of}
-use Rattle.sdb_causes.specs.Tied.{IsDoing, IsOpenAs, IsWaiting, Knows, StandsIn, StandsOn, begun_in}
+use Rattle.sdb_story.specs.History.{waiting_of}
+use Rattle.sdb_causes.specs.Invariant.{IsDoing, IsOpenAs, IsWaiting, Knows, DoingByHistory, ClientByHistory, begun_in}
 use Rattle.sdb_causes.specs.Rolled.{AnsweredWereSeen}
 use Rattle.sdb_causes.proofs.Noting.{each_middle, since_all, take_ends, take_open}
 use Rattle.sdb_execution.specs.Execution.{IsExecution, IsPlayable}
 use Rattle.sdb_executions.specs.Found.{answered_inside, is_answered, takes_part}
 use Rattle.sdb_executions.specs.Written.{CommitsPrepareWritten, DecisionsFollowPoints, PreparesAll, PreparesAreAsMany, keys_of}
-use Rattle.sdb_executions.specs.World.{WorldAt, hands_of}
+use Rattle.sdb_executions.specs.World.{WorldAt, states_of}
 use Rattle.sdb_executions.proofs.Finding.{NothingMore}
 use Rattle.sdb_executions.proofs.AfterPoints.{as_many, follows_point}
 use Rattle.sdb_executions.proofs.Belonging.{execution_belongs}
@@ -44,31 +44,31 @@ use Rattle.sdb_executions.proofs.WroteCommits.{CommitWrote, CommitsWrote, LastWr
 ---- the COMMIT among the statements of its transaction
 
 -- the statement that ends a transaction, among those after its BEGIN
-record IsEnd (ss : List Said) (s : Said) : Type 0 where
-  body : List Said
-  tail : List Said
+record IsEnd (ss : List Executed) (s : Executed) : Type 0 where
+  body : List Executed
+  tail : List Executed
   whole : ss ≡ body ++ s ∷ tail
   opens : AllByRecursion (λ x. ends x ≡ false) body
   over : ends s ≡ true
 
-end_found : (ss : List Said) (s : Said) → find ends ss ≡ Some s → IsEnd ss s
+end_found : (ss : List Executed) (s : Executed) → find ends ss ≡ Some s → IsEnd ss s
 end_found [] s e = none_some s e
 end_found (x ∷ xs) s e = by (ends x) refl (λ h. end_found xs s h) e
   where
     by : (b : Bool) → ends x ≡ b → (find ends xs ≡ Some s → IsEnd xs s) → (if b then Some x else find ends xs) ≡ Some s → IsEnd (x ∷ xs) s
-    by true t ih h = let same : x ≡ s = some_is x s h in record { body = []; tail = xs; whole = ap (λ (y : Said). y ∷ xs) same; opens = tt; over = ap ends (sym same) ∙ t }
+    by true t ih h = let same : x ≡ s = some_is x s h in record { body = []; tail = xs; whole = ap (λ (y : Executed). y ∷ xs) same; opens = tt; over = ap ends (sym same) ∙ t }
     by false f ih h = let r = ih h in record { body = x ∷ r.body; tail = r.tail; whole = ap (λ ys. x ∷ ys) r.whole; opens = (f, r.opens); over = r.over }
 
-commit_is : (o : Option Said) (s : Said) → option_and_then (λ (x : Said). if reads_commit x.text then Some x else None) o ≡ Some s → (o ≡ Some s) × (reads_commit s.text ≡ true)
+commit_is : (o : Option Executed) (s : Executed) → option_and_then (λ (x : Executed). if reads_commit x.text then Some x else None) o ≡ Some s → (o ≡ Some s) × (reads_commit s.text ≡ true)
 commit_is None s h = none_some s h
 commit_is (Some x) s h = test (reads_commit x.text) refl h
   where
     test : (t : Bool) → reads_commit x.text ≡ t → (if t then Some x else None) ≡ Some s → (Some x ≡ Some s) × (reads_commit s.text ≡ true)
-    test true t z = (z, ap (λ (y : Said). reads_commit y.text) (sym (some_is x s z)) ∙ t)
+    test true t z = (z, ap (λ (y : Executed). reads_commit y.text) (sym (some_is x s z)) ∙ t)
     test false t z = none_some s z
 
 -- those that run are those before it
-pub running_ended : (body : List Said) (s : Said) (tail : List Said) → AllByRecursion (λ x. ends x ≡ false) body → ends s ≡ true → running (body ++ s ∷ tail) ≡ running body
+pub running_ended : (body : List Executed) (s : Executed) (tail : List Executed) → AllByRecursion (λ x. ends x ≡ false) body → ends s ≡ true → running (body ++ s ∷ tail) ≡ running body
 running_ended body s tail opens over =
     ap (λ xs. filter is_answered (filter takes_part xs)) (take_open body (s ∷ tail) opens ∙ ap (λ xs. body ++ xs) (take_ends s tail over) ∙ sym (take_open body [] opens) ∙ ap (take_while goes_on) (append-nil body))
 
@@ -77,24 +77,24 @@ module _ (script : Script) (events : List Event) (playable : IsPlayable script) 
   catalog = script.catalog
 
   abbrev w : WorldAt
-  w = record { script = script; seats = x.last.seats; events = events; clock = x.last.clock }
+  w = record { script = script; client_slots = x.last.client_slots; events = events; clock = x.last.clock }
 
   prepared : AllSo NothingMore WaitPrepares w
   prepared = statements_so NothingMore WaitPrepares prepares_kept script events playable x
 
   module _ (c : ℕ) where
     abbrev h : ClientAt
-    h = (hands_of x.last.seats c).client
+    h = (states_of x.last.client_slots c).client
 
     abbrev k : Knows catalog events c h
     k = (execution_holds script events playable x).caused.each c
 
-    abbrev Wrote : Said → ℕ → Type 0
+    abbrev Wrote : Executed → ℕ → Type 0
     Wrote y n = CommitWrote catalog events c (running_of n k.told) (id_of c n) (calls_of events c y)
 
     -- the COMMIT that waits has prepared what was written
-    waiting_wrote : (y : Said) → k.waiting ≡ Some y → IsWaiting catalog events c (is_some h.vacuum) y → LastWrote catalog events c k.told y
-    waiting_wrote y waiting waits reads opened = by_vacuum h.vacuum (subst (λ (o : Option Said). StandsOn events c h.begun k.told o h.plan h.txn h.vacuum) waiting k.stands)
+    waiting_wrote : (y : Executed) → k.waiting ≡ Some y → IsWaiting catalog events c (is_some h.vacuum) y → LastWrote catalog events c k.told y
+    waiting_wrote y waiting waits reads opened = by_vacuum h.vacuum (subst (λ (o : Option Executed). ClientByHistory events c h.begun k.told o h.plan h.txn h.vacuum) waiting k.stands)
       where
         so : TxnPrepares h.txn (calls_of events c y)
         so = wait_so w WaitPrepares prepared c h refl k y waiting waits
@@ -105,7 +105,7 @@ module _ (script : Script) (events : List Event) (playable : IsPlayable script) 
         by_doing : (t : TxnAt) (p : Option Planned) (d : Doing) → IsOpenAs c h.begun k.told t → IsDoing events c t p (Some y) d → DoingPrepares d (calls_of events c y) → SeesIn catalog events c (running_of h.begun k.told) t.seen d → Wrote y (begun_in k.told)
         by_doing t p doing.Idle o i n s = absurd (none_is (sym i))
           where
-            none_is : ◌≡◌ {A = Option Said} None (Some y) → ⊥
+            none_is : ◌≡◌ {A = Option Executed} None (Some y) → ⊥
             none_is e = cc
         by_doing t None (doing.Read a z) o i n s = absurd i
         by_doing t (Some p) (doing.Read a z) o i n s = clash (sym reads ∙ i.inner.commit)
@@ -114,43 +114,43 @@ module _ (script : Script) (events : List Event) (playable : IsPlayable script) 
             (λ statements read. subst (λ ks. PreparesAll ks (id_of c h.begun) (calls_of events c y)) (s statements read) (subst (λ (id : TxId). PreparesAll (write_keys z.work.writes) id (calls_of events c y)) (i.same ∙ o.id) n.sofar))
         by_doing t p doing.Over o i n s = absurd i
 
-        by_txn : (o : Option TxnAt) → StandsIn events c h.begun k.told (Some y) h.plan o → TxnPrepares o (calls_of events c y) → IfSome o (SeesRun catalog events c (running_of h.begun k.told)) → Wrote y (begun_in k.told)
+        by_txn : (o : Option TxnAt) → DoingByHistory events c h.begun k.told (Some y) h.plan o → TxnPrepares o (calls_of events c y) → IfSome o (SeesRun catalog events c (running_of h.begun k.told)) → Wrote y (begun_in k.told)
         by_txn None s n v = clash (sym opened ∙ s.1)
         by_txn (Some t) s n v = by_doing t h.plan t.doing s.1 s.2 n v
 
-        by_vacuum : (v : Option VacuumAt) → StandsOn events c h.begun k.told (Some y) h.plan h.txn v → Wrote y (begun_in k.told)
+        by_vacuum : (v : Option VacuumAt) → ClientByHistory events c h.begun k.told (Some y) h.plan h.txn v → Wrote y (begun_in k.told)
         by_vacuum None s = by_txn h.txn s so sees
         by_vacuum (Some v) s = clash (sym opened ∙ s.1)
 
     -- and so have all
-    all_wrote : CommitsWrote catalog events c (said c events)
+    all_wrote : CommitsWrote catalog events c (statements_by c events)
     all_wrote = subst (CommitsWrote catalog events c) (sym k.same) (by k.waiting refl k.waits)
       where
         before : CommitsWrote catalog events c k.told
         before = subst (CommitsWrote catalog events c) (answered_of_is catalog events c h k) (all_run script events playable x c).commits
 
-        by : (o : Option Said) → k.waiting ≡ o → IfSome o (IsWaiting catalog events c (is_some h.vacuum)) → CommitsWrote catalog events c (k.told ++ waiting_of o)
+        by : (o : Option Executed) → k.waiting ≡ o → IfSome o (IsWaiting catalog events c (is_some h.vacuum)) → CommitsWrote catalog events c (k.told ++ waiting_of o)
         by None e v = subst (CommitsWrote catalog events c) (sym (append-nil k.told)) before
         by (Some y) e v = commits_more catalog events c k.told y k.counted.paired before (waiting_wrote y e v)
 
   -- it is one of its client's statements
-  commit_said : (id : TxId) (s : Said) → commit_of events id ≡ Some s → Contains (said (client_of id) events) s
-  commit_said id s e = by (from_begin (ordinal_of id) (said (client_of id) events)) refl (commit_is (find ends (rest_of (from_begin (ordinal_of id) (said (client_of id) events)))) s e)
+  commit_said : (id : TxId) (s : Executed) → commit_of events id ≡ Some s → Contains (statements_by (client_of id) events) s
+  commit_said id s e = by (from_begin (ordinal_of id) (statements_by (client_of id) events)) refl (commit_is (find ends (rest_of (from_begin (ordinal_of id) (statements_by (client_of id) events)))) s e)
     where
-      itself : AllByRecursion (Contains (said (client_of id) events)) (said (client_of id) events)
-      itself = recursion_from_All (Contains (said (client_of id) events)) (said (client_of id) events) (All-contains_itself (said (client_of id) events))
+      itself : AllByRecursion (Contains (statements_by (client_of id) events)) (statements_by (client_of id) events)
+      itself = recursion_from_All (Contains (statements_by (client_of id) events)) (statements_by (client_of id) events) (All-contains_itself (statements_by (client_of id) events))
 
-      by : (r : List Said) → from_begin (ordinal_of id) (said (client_of id) events) ≡ r → (find ends (rest_of (from_begin (ordinal_of id) (said (client_of id) events))) ≡ Some s) × (reads_commit s.text ≡ true) → Contains (said (client_of id) events) s
+      by : (r : List Executed) → from_begin (ordinal_of id) (statements_by (client_of id) events) ≡ r → (find ends (rest_of (from_begin (ordinal_of id) (statements_by (client_of id) events))) ≡ Some s) × (reads_commit s.text ≡ true) → Contains (statements_by (client_of id) events) s
       by [] from z = none_some s (sym (ap (λ ss. find ends (rest_of ss)) from) ∙ z.0)
       by (b ∷ rest) from z =
           let f = end_found rest s (sym (ap (λ ss. find ends (rest_of ss)) from) ∙ z.0) in
-          each_middle (Contains (said (client_of id) events)) f.body f.tail s (subst (AllByRecursion (Contains (said (client_of id) events))) f.whole (since_all (Contains (said (client_of id) events)) (ordinal_of id) (said (client_of id) events) b rest itself from))
+          each_middle (Contains (statements_by (client_of id) events)) f.body f.tail s (subst (AllByRecursion (Contains (statements_by (client_of id) events))) f.whole (since_all (Contains (statements_by (client_of id) events)) (ordinal_of id) (statements_by (client_of id) events) b rest itself from))
 
   -- by the COMMIT of a transaction
-  commit_wrote : (id : TxId) (s : Said) → commit_of events id ≡ Some s → CommitWrote catalog events (client_of id) (answered_inside events id) id (calls_of events (client_of id) s)
-  commit_wrote id s e = by (from_begin (ordinal_of id) (said (client_of id) events)) refl (commit_is (find ends (rest_of (from_begin (ordinal_of id) (said (client_of id) events)))) s e)
+  commit_wrote : (id : TxId) (s : Executed) → commit_of events id ≡ Some s → CommitWrote catalog events (client_of id) (answered_inside events id) id (calls_of events (client_of id) s)
+  commit_wrote id s e = by (from_begin (ordinal_of id) (statements_by (client_of id) events)) refl (commit_is (find ends (rest_of (from_begin (ordinal_of id) (statements_by (client_of id) events)))) s e)
     where
-      by : (r : List Said) → from_begin (ordinal_of id) (said (client_of id) events) ≡ r → (find ends (rest_of (from_begin (ordinal_of id) (said (client_of id) events))) ≡ Some s) × (reads_commit s.text ≡ true) → CommitWrote catalog events (client_of id) (answered_inside events id) id (calls_of events (client_of id) s)
+      by : (r : List Executed) → from_begin (ordinal_of id) (statements_by (client_of id) events) ≡ r → (find ends (rest_of (from_begin (ordinal_of id) (statements_by (client_of id) events))) ≡ Some s) × (reads_commit s.text ≡ true) → CommitWrote catalog events (client_of id) (answered_inside events id) id (calls_of events (client_of id) s)
       by [] from z = none_some s (sym (ap (λ ss. find ends (rest_of ss)) from) ∙ z.0)
       by (b ∷ rest) from z =
           let f = end_found rest s (sym (ap (λ ss. find ends (rest_of ss)) from) ∙ z.0) in
@@ -177,5 +177,5 @@ module _ (script : Script) (events : List Event) (playable : IsPlayable script) 
   pub execution_points : AnsweredWereSeen events → DecisionsFollowPoints events
   execution_points seen client s id m d =
       let run = execution_runs script events playable x id in
-      follows_point events (execution_own script events playable x) (execution_belongs script events playable x) seen client s id m d (subst (λ c. Contains (said c events) s) d.commit.0 (commit_said id s d.commit.1)) (keys_of catalog events client (answered_inside events id) run.statements)
+      follows_point events (execution_own script events playable x) (execution_belongs script events playable x) seen client s id m d (subst (λ c. Contains (statements_by c events) s) d.commit.0 (commit_said id s d.commit.1)) (keys_of catalog events client (answered_inside events id) run.statements)
       (execution_wrote client s id (record { commit = d.commit; statements = run.statements; run = run.run }))

@@ -97,15 +97,15 @@ pub record UpdateOn : Type 0 where
   pub is : on.statement ≡ statement.Update update
 
 -- a committed record that is no tombstone
-abbrev pub ShowsRow : Record → Type 0
-ShowsRow r = (is_in state.Committed r.columns ≡ true) × (is_tombstone r ≡ false)
+abbrev pub IsCommittedRow : Record → Type 0
+IsCommittedRow r = (is_in state.Committed r.columns ≡ true) × (is_tombstone r ≡ false)
 
 -- a SELECT without tests and LIMIT, and a row of its table at a key
 pub record FindsRow (f : SelectOn) (key : Key) (r : Record) : Type 0 where
   pub tests : f.select.tests ≡ []
   pub limit : f.select.limit ≡ None
   pub inside : key.table ≡ f.on.table.name
-  pub shows : ShowsRow r
+  pub shows : IsCommittedRow r
 
 -- a SELECT, and a record at a key of its table that isn't committed
 pub record FindsUnresolved (f : SelectOn) (key : Key) (r : Record) : Type 0 where
@@ -121,20 +121,20 @@ abbrev pub answered_after : StatementOn → Request → Reply → Answer → Lis
 answered_after f q r a = event.Take 1 f.begin (Some answer.Done) ∷ event.Take 1 f.text None ∷ event.Call 1 [] q Seen r (Some a) ∷ []
 
 -- A SELECT shows rows without a read.
-abbrev pub shows_unread : SelectOn → List Value → List (List Value) → List Event
-shows_unread f row rows = answered_at_once f.on (answer.Rows (row ∷ rows))
+abbrev pub answers_unread : SelectOn → List Value → List (List Value) → List Event
+answers_unread f row rows = answered_at_once f.on (answer.Rows (row ∷ rows))
 
 -- It leaves out the row that it found.
 abbrev pub leaves_out : SelectOn → Key → Record → List Event
 leaves_out f key r = answered_after f.on (ask.Get key) (reply.Found (Some r)) (answer.Rows [])
 
 -- It shows a row where it found a record, which it didn't roll.
-abbrev pub shows_unrolled : SelectOn → Key → Record → List Value → List Event
-shows_unrolled f key r row = answered_after f.on (ask.Get key) (reply.Found (Some r)) (answer.Rows (row ∷ []))
+abbrev pub answers_unrolled : SelectOn → Key → Record → List Value → List Event
+answers_unrolled f key r row = answered_after f.on (ask.Get key) (reply.Found (Some r)) (answer.Rows (row ∷ []))
 
 -- It shows two rows.
-abbrev pub shows_two : SelectOn → Request → Reply → List Value → List Value → List Event
-shows_two f q r a b = answered_after f.on q r (answer.Rows (a ∷ b ∷ []))
+abbrev pub answers_two : SelectOn → Request → Reply → List Value → List Value → List Event
+answers_two f q r a b = answered_after f.on q r (answer.Rows (a ∷ b ∷ []))
 
 -- An UPDATE counts rows without a read.
 abbrev pub counts_unread : UpdateOn → ℕ → List Event
@@ -144,7 +144,7 @@ counts_unread f n = answered_at_once f.on (answer.Count (n + 1))
 abbrev pub counts_over : InsertOn → Record → List Event
 counts_over f r = answered_after f.on (ask.Get (insert_key f)) (reply.Found (Some r)) (answer.Count 1)
 
--- An INSERT finds nothing and is counted, and so is the same one after it.
+-- An INSERT finds nothing and is counted, and the same INSERT is counted again after it.
 abbrev pub counts_twice : InsertOn → List Event
 counts_twice f = answered_after f.on (ask.Get (insert_key f)) (reply.Found None) (answer.Count 1) ++ event.Take 1 f.on.text (Some (answer.Count 1)) ∷ []
 

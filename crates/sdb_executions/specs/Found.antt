@@ -18,24 +18,24 @@ use Rattle.sdb_model.specs.declared.answer.Answer.{Answer}
 use Rattle.sdb_model.specs.declared.event.Event.{Event}
 use Rattle.sdb_model.specs.declared.statement.Statement.{Statement}
 use Rattle.sdb_model.specs.Access.{with_row}
-use Rattle.sdb_model.specs.Calls.{Made, calls_of}
+use Rattle.sdb_model.specs.Calls.{StoreCall, calls_of}
 use Rattle.sdb_model.specs.Exec.{Tables, exec}
-use Rattle.sdb_model.specs.Noted.{meaning_of, reads_rows, has_finished}
+use Rattle.sdb_model.specs.ReadSet.{meaning_of, reads_rows, has_finished}
 use Rattle.sdb_model.specs.Sql.{reads_commit, Reads}
-use Rattle.sdb_model.specs.Transactions.{Said, client_of, is_effective, statements_of, statements_inside}
+use Rattle.sdb_model.specs.Transactions.{Executed, client_of, is_effective, statements_of, statements_inside}
 use Rattle.sdb_snapshot.specs.Seen.{same_span}
 
 ---- what a statement found
 
 -- The keys at which a read of a statement found something, each with what this means: a get also finds that there is none, and a scan only
 -- finds records.
-abbrev pub found_in : List Made → Request → Reply → List (Key × Option Record)
+abbrev pub found_in : List StoreCall → Request → Reply → List (Key × Option Record)
 found_in calls (ask.Get key) (reply.Found found) = (key, option_and_then (meaning_of calls) found) ∷ []
 found_in calls (ask.Scan span) (reply.Rows rows) = map (λ (b : Record). (b.key, Some b)) (filter_map (meaning_of calls) rows)
 found_in calls q r = []
 
 -- what a statement with these calls found, in their order
-abbrev pub found_by : List Made → List (Key × Option Record)
+abbrev pub found_by : List StoreCall → List (Key × Option Record)
 found_by calls = flat_map (λ m. found_in calls m.request m.reply) (filter reads_rows calls)
 
 ---- what a transaction has found
@@ -80,15 +80,15 @@ run_on_found catalog (f ∷ fs) (s ∷ ss) v =
     ((run_one catalog s (with_found v f)).0 ++ (run_on_found catalog fs ss (run_one catalog s (with_found v f)).1).0, (run_on_found catalog fs ss (run_one catalog s (with_found v f)).1).1)
 
 -- what each of some statements of a client found
-abbrev pub finds : List Event → ℕ → List Said → List (List (Key × Option Record))
+abbrev pub finds : List Event → ℕ → List Executed → List (List (Key × Option Record))
 finds events client ss = map (λ s. found_by (calls_of events client s)) ss
 
 -- a statement that changed something runs as what its text reads as, and no other runs
-abbrev pub RunsAs : Said → Option Statement → Type 0
+abbrev pub RunsAs : Executed → Option Statement → Type 0
 RunsAs s None = is_effective s ≡ false
 RunsAs s (Some st) = (is_effective s ≡ true) × Reads s.text st
 
-abbrev pub AllRunAs : List Said → List (Option Statement) → Type 0
+abbrev pub AllRunAs : List Executed → List (Option Statement) → Type 0
 AllRunAs [] [] = Unit {0}
 AllRunAs [] (o ∷ os) = ⊥
 AllRunAs (s ∷ ss) [] = ⊥
@@ -96,30 +96,30 @@ AllRunAs (s ∷ ss) (o ∷ os) = RunsAs s o × AllRunAs ss os
 
 -- Statements that a client took run as these, which, run one after the other on what they found, give the answers that those that changed
 -- something got.
-pub record IsRunOnFound (catalog : List Table) (events : List Event) (client : ℕ) (ss : List Said) : Type 0 where
+pub record IsRunOnFound (catalog : List Table) (events : List Event) (client : ℕ) (ss : List Executed) : Type 0 where
   pub statements : List (Option Statement)
   pub run : AllRunAs ss statements
   pub answers : map (λ s. s.answer) (filter is_effective ss) ≡ map Some (run_on_found catalog (finds events client ss) statements nothing_found).0
 
-abbrev pub is_answered : Said → Bool
+abbrev pub is_answered : Executed → Bool
 is_answered s = is_some s.answer
 
 -- a statement changed something, or its read has finished
-abbrev pub takes_part : Said → Bool
+abbrev pub takes_part : Executed → Bool
 takes_part s = is_effective s || has_finished s
 
 -- the statements of a transaction that were answered and changed something, or whose reads have finished
-abbrev pub answered_inside : List Event → TxId → List Said
+abbrev pub answered_inside : List Event → TxId → List Executed
 answered_inside events id = filter is_answered (filter takes_part (statements_inside events id))
 
--- So it is of each transaction, recorded or not.
+-- This holds of each transaction, recorded or not.
 abbrev pub RunsOnFound : List Table → List Event → Type 0
 RunsOnFound catalog events = (id : TxId) → IsRunOnFound catalog events (client_of id) (answered_inside events id)
 
 ---- new reads
 
 -- the statements found something at a key
-abbrev pub was_found : List Event → ℕ → List Said → Key → Bool
+abbrev pub was_found : List Event → ℕ → List Executed → Key → Bool
 was_found events client ss key = list_any (λ (found : List (Key × Option Record)). list_any (λ e. same_key key e.0) found) (finds events client ss)
 
 abbrev pub is_scan_of : Span → Request → Bool
@@ -127,22 +127,22 @@ is_scan_of span (ask.Scan other) = same_span other span
 is_scan_of span q = false
 
 -- a read of rows among calls scans a span
-abbrev pub scans_span : Span → List Made → Bool
+abbrev pub scans_span : Span → List StoreCall → Bool
 scans_span span calls = list_any (λ m. is_scan_of span m.request) (filter reads_rows calls)
 
 -- the statements scanned a span
-abbrev pub was_scanned : List Event → ℕ → List Said → Span → Bool
+abbrev pub was_scanned : List Event → ℕ → List Executed → Span → Bool
 was_scanned events client ss span = list_any (λ s. scans_span span (calls_of events client s)) ss
 
 -- A read after statements is new: a get is of no key at which they found something, and a scan of no span that they scanned.
-abbrev pub IsNewRead : List Event → ℕ → List Said → Request → Type 0
+abbrev pub IsNewRead : List Event → ℕ → List Executed → Request → Type 0
 IsNewRead events client ss (ask.Get key) = was_found events client ss key ≡ false
 IsNewRead events client ss (ask.Scan span) = was_scanned events client ss span ≡ false
 IsNewRead events client ss q = Unit {0}
 
 -- A call of a statement of a transaction that is no COMMIT, with the statements before it, reads rows of tables.
-pub record ReadsIn (events : List Event) (id : TxId) (before : List Said) (s : Said) (m : Made) : Type 0 where
-  pub after : List Said
+pub record ReadsIn (events : List Event) (id : TxId) (before : List Executed) (s : Executed) (m : StoreCall) : Type 0 where
+  pub after : List Executed
   pub statements : statements_of events id ≡ before ++ s ∷ after
   pub no_commit : reads_commit s.text ≡ false
   pub call : Contains (calls_of events (client_of id) s) m
@@ -150,4 +150,4 @@ pub record ReadsIn (events : List Event) (id : TxId) (before : List Said) (s : S
 
 -- It is new after those before it that were answered and changed something, or whose reads have finished.
 abbrev pub ReadsAreNew : List Event → Type 0
-ReadsAreNew events = (id : TxId) (before : List Said) (s : Said) (m : Made) → ReadsIn events id before s m → IsNewRead events (client_of id) (filter is_answered (filter takes_part before)) m.request
+ReadsAreNew events = (id : TxId) (before : List Executed) (s : Executed) (m : StoreCall) → ReadsIn events id before s m → IsNewRead events (client_of id) (filter is_answered (filter takes_part before)) m.request

@@ -1,23 +1,23 @@
 -- What the stores held while an execution went on.
 use Rattle.std.specs.Prelude.{ℕ, List, take}
 use Rattle.std.specs.FinMap.{empty}
-use Rattle.sdb_model.specs.Events.{IsTrace, Shelf, moment}
-use Rattle.sdb_model.specs.Explained.{WritesStand}
+use Rattle.sdb_model.specs.Events.{IsTrace, StoreContents, moment}
+use Rattle.sdb_model.specs.Explained.{WritesPersist}
 use Rattle.sdb_spread.specs.Spread.{HoldAs}
 use Rattle.sdb_endings.specs.Stores.{AreSound}
 use Rattle.sdb_executions.specs.Laws.{ExecutionOf}
 
 -- A trace of the stores that agrees with the events of an execution, from stores that held nothing of the script's tables.
 pub record TraceOf (x : ExecutionOf) : Type 0 where
-  pub opening : List Shelf
-  pub closing : List Shelf
-  pub moments : List (List Shelf)
+  pub opening : List StoreContents
+  pub closing : List StoreContents
+  pub moments : List (List StoreContents)
   pub trace : IsTrace x.script.places x.events opening moments closing
   pub nothing : HoldAs x.script.catalog x.script.places opening empty
 
 -- After the first events of it each key that a transaction recorded by then had prepared shows what it left there, or what a later one did.
-abbrev pub WritesStandAfter : (x : ExecutionOf) → TraceOf x → ℕ → Type 0
-WritesStandAfter x t n = WritesStand x.script.catalog x.script.places (take n x.events) t.opening (take n t.moments)
+abbrev pub WritesPersistAfter : (x : ExecutionOf) → TraceOf x → ℕ → Type 0
+WritesPersistAfter x t n = WritesPersist x.script.catalog x.script.places (take n x.events) t.opening (take n t.moments)
 
 -- After them each record in the script's tables passes the checks, and each record in the coordinator's table is a well formed row.
 abbrev pub IsSoundAfter : (x : ExecutionOf) → TraceOf x → ℕ → Type 0

@@ -14,11 +14,11 @@ ghost use Rattle.sdb_execution.specs.Execution.{IsExecution};
 ghost use Rattle.sdb_model.specs.Causes.{AreCaused};
 ghost use Rattle.sdb_model.specs.Counted.{AreCounted, AreResolved};
 ghost use Rattle.sdb_spread.specs.Spread.{AreAbout};
-ghost use Rattle.sdb_executions.specs.Forged.{CommitText, FindsRow, FindsUnresolved, InsertOn, IsOfOther, IsOtherMoment, SelectOn, ShowsRow, UpdateOn, busy_at_once, counted_at_once, counts_over, counts_twice, counts_unread, decides_at_once, decides_early, decides_unapplied, decides_unprepared, duplicates_none, leaves_out, prepares_at, prepares_unwritten, reads_again, reads_and_is_done, shows_two, shows_unread, shows_unrolled};
+ghost use Rattle.sdb_executions.specs.Forged.{CommitText, FindsRow, FindsUnresolved, InsertOn, IsOfOther, IsOtherMoment, SelectOn, IsCommittedRow, UpdateOn, busy_at_once, counted_at_once, counts_over, counts_twice, counts_unread, decides_at_once, decides_early, decides_unapplied, decides_unprepared, duplicates_none, leaves_out, prepares_at, prepares_unwritten, reads_again, reads_and_is_done, answers_two, answers_unread, answers_unrolled};
 ghost use Rattle.sdb_executions.specs.Found.{ReadsAreNew, RunsOnFound};
-ghost use Rattle.sdb_executions.specs.Laws.{BusyIsOfReads, CallsAreOfStatements, DecisionsAreDue, ExecutionOf, FollowsMoves, KeepsRules, PreparesAreOwn, ReadsAreFew};
-ghost use Rattle.sdb_executions.specs.Moments.{IsSoundAfter, TraceOf, WritesStandAfter};
-ghost use Rattle.sdb_executions.specs.Vacuums.{VacuumsSweep};
+ghost use Rattle.sdb_executions.specs.Laws.{BusyIsOfReads, CallsAreOfStatements, DecisionsAreDue, ExecutionOf, FollowsMoves, RulesHold, PreparesAreOwn, ReadsAreFew};
+ghost use Rattle.sdb_executions.specs.Moments.{IsSoundAfter, TraceOf, WritesPersistAfter};
+ghost use Rattle.sdb_executions.specs.Vacuums.{VacuumsAreComplete};
 ghost use Rattle.sdb_executions.specs.Written.{CommitsPrepareWritten, DecisionsFollowPoints, PreparesAreAsMany};
 
 /// Each answer has its cause among the events, and a statement that is to be turned away is.
@@ -38,8 +38,8 @@ pub fn records_are_resolved()
 {}
 
 /// The rules of the protocol hold of the events.
-pub fn rules_are_kept()
-    ensures { (x : ExecutionOf) → KeepsRules x }
+pub fn rules_hold()
+    ensures { (x : ExecutionOf) → RulesHold x }
 {}
 
 /// No call is about another table than the script's and the coordinator's.
@@ -47,7 +47,7 @@ pub fn calls_are_of_the_catalog()
     ensures { (x : ExecutionOf) → AreAbout x.script.catalog x.events }
 {}
 
-/// Each call of a client is one of a statement that the client took: what is so of the calls of all statements is so of all calls.
+/// Each call of a client is one of a statement that the client took: what holds of the calls of all statements holds of all calls.
 pub fn calls_are_of_statements()
     ensures { (x : ExecutionOf) → CallsAreOfStatements x.events }
 {}
@@ -79,8 +79,8 @@ pub fn decisions_are_due()
 /// its rolls put. Where it is answered Count it has scanned all of them and has asked for the delete of each tombstone that its scans found;
 /// and the count is that of the deletes that were applied. It makes one scan at most for each table, one delete for each tombstone that its scans
 /// found, and five calls for each unresolved record.
-pub fn vacuums_sweep()
-    ensures { (x : ExecutionOf) → VacuumsSweep x.script.catalog x.events }
+pub fn vacuums_are_complete()
+    ensures { (x : ExecutionOf) → VacuumsAreComplete x.script.catalog x.events }
 {}
 
 /// The answered statements of each transaction's body, recorded or not, give the answers that its client got where they run one after the
@@ -109,18 +109,18 @@ pub fn decisions_follow_points()
     ensures { (x : ExecutionOf) → FollowsMoves x → DecisionsFollowPoints x.events }
 {}
 
-/// Each beginning of an execution is an execution: what is so of every execution is so after any number of its events.
+/// Each beginning of an execution is an execution: what holds of every execution holds after any number of its events.
 pub fn beginnings_are_executions()
     ensures { (x : ExecutionOf) (n : ℕ) → IsExecution x.script (take n x.events) }
 {}
 
 /// At every moment each key that a transaction recorded by then had prepared shows what it left there, or what a later one did.
-pub fn writes_stand_at_every_moment()
-    ensures { (x : ExecutionOf) (t : TraceOf x) (n : ℕ) → WritesStandAfter x t n }
+pub fn writes_persist_at_every_moment()
+    ensures { (x : ExecutionOf) (t : TraceOf x) (n : ℕ) → WritesPersistAfter x t n }
 {}
 
 /// At every moment each record in the script's tables passes the checks, and each record in the coordinator's table is a well formed row.
-pub fn records_stay_sound()
+pub fn records_are_sound_at_every_moment()
     ensures { (x : ExecutionOf) (t : TraceOf x) (n : ℕ) → IsSoundAfter x t n }
 {}
 
@@ -133,16 +133,16 @@ pub fn records_stay_sound()
 /// inserted: without any, after one that faulted, or before one.
 pub fn forged_events_are_refused()
     ensures busy { (text : List ℕ) (key : Key) (id : TxId) (at : ℤ) → reads_commit text ≡ true → BusyIsOfReads (busy_at_once text key id at) → ⊥ }
-    ensures swept { (t : Table) (text : List ℕ) → reads_vacuum text ≡ true → VacuumsSweep (t ∷ []) (counted_at_once text) → ⊥ }
+    ensures swept { (t : Table) (text : List ℕ) → reads_vacuum text ≡ true → VacuumsAreComplete (t ∷ []) (counted_at_once text) → ⊥ }
     ensures begun { (text : List ℕ) (key : Key) → reads_begin text ≡ true → ReadsAreFew (reads_and_is_done text key) → ⊥ }
     ensures prepared { (text : List ℕ) (w : Write) (id : TxId) (now : ℤ) → IsOtherMoment id now → PreparesAreOwn (prepares_at text w id now) → ⊥ }
     ensures decided { (text : List ℕ) (id : TxId) (d : Decision) (now : ℤ) → IsOfOther id → DecisionsAreDue (decides_at_once text id d now) → ⊥ }
-    ensures invented { (f : SelectOn) (row : List Value) (rows : List (List Value)) → RunsOnFound f.on.catalog (shows_unread f row rows) → ⊥ }
+    ensures invented { (f : SelectOn) (row : List Value) (rows : List (List Value)) → RunsOnFound f.on.catalog (answers_unread f row rows) → ⊥ }
     ensures left_out { (f : SelectOn) (key : Key) (r : Record) → FindsRow f key r → RunsOnFound f.on.catalog (leaves_out f key r) → ⊥ }
-    ensures unrolled { (f : SelectOn) (key : Key) (r : Record) (row : List Value) → FindsUnresolved f key r → RunsOnFound f.on.catalog (shows_unrolled f key r row) → ⊥ }
-    ensures unlimited { (f : SelectOn) (q : Request) (r : Reply) (a b : List Value) → f.select.limit ≡ Some (pos 1) → RunsOnFound f.on.catalog (shows_two f q r a b) → ⊥ }
+    ensures unrolled { (f : SelectOn) (key : Key) (r : Record) (row : List Value) → FindsUnresolved f key r → RunsOnFound f.on.catalog (answers_unrolled f key r row) → ⊥ }
+    ensures unlimited { (f : SelectOn) (q : Request) (r : Reply) (a b : List Value) → f.select.limit ≡ Some (pos 1) → RunsOnFound f.on.catalog (answers_two f q r a b) → ⊥ }
     ensures miscounted { (f : UpdateOn) (n : ℕ) → RunsOnFound f.on.catalog (counts_unread f n) → ⊥ }
-    ensures counted_over { (f : InsertOn) (r : Record) → ShowsRow r → RunsOnFound f.on.catalog (counts_over f r) → ⊥ }
+    ensures counted_over { (f : InsertOn) (r : Record) → IsCommittedRow r → RunsOnFound f.on.catalog (counts_over f r) → ⊥ }
     ensures forgotten { (f : InsertOn) → RunsOnFound f.on.catalog (counts_twice f) → ⊥ }
     ensures no_duplicate { (f : InsertOn) → RunsOnFound f.on.catalog (duplicates_none f) → ⊥ }
     ensures read_again { (f : InsertOn) → ReadsAreNew (reads_again f) → ⊥ }

@@ -18,7 +18,7 @@ use Rattle.sdb_types.specs.Order.{key_cmp}
 use Rattle.sdb_types.specs.Contents.{Contents, record_of, record_at, holds, put_reply, after, reply_to}
 use Rattle.sdb_types.proofs.KeyOrder.{key_total, key_exact}
 use Rattle.sdb_store.specs.Store.{Answers}
-use Rattle.sdb_hashed.specs.Gathered.{held, in_part, part_at, HasOwnKeys, ChangesAt}
+use Rattle.sdb_hashed.specs.Gathered.{contents_of_all, in_part, part_at, HasOwnKeys, ChangesAt}
 use Rattle.sdb_hashed.proofs.Changes.{IsLocal, nothing_local, insert_local, remove_absent}
 use Rattle.sdb_hashed.proofs.Gather.{held_get, changed_own, changed_held}
 
@@ -26,7 +26,7 @@ module _ {K V : Type 0} (same : K → K → Bool) (tells : (a b : K) → (same a
   ---- one part is found
 
   -- what one part has at its keys, all parts have
-  pub found_part : (es : List (K × V)) → IsDistinct same (keys_of es) → HasOwnKeys same part f es → (k : Key) (o : Option V) → o ≡ lookup (same (part k)) es → in_part (option_map f o) k ≡ get (held f es) k
+  pub found_part : (es : List (K × V)) → IsDistinct same (keys_of es) → HasOwnKeys same part f es → (k : Key) (o : Option V) → o ≡ lookup (same (part k)) es → in_part (option_map f o) k ≡ get (contents_of_all f es) k
   found_part es distinct own k o at = ap (λ p. in_part (option_map f p) k) at ∙ sym (held_get same tells part f es distinct own k)
 
   ---- one part changes
@@ -44,11 +44,11 @@ module _ {K V : Type 0} (same : K → K → Bool) (tells : (a b : K) → (same a
     through_own op local (Ok x) ok err = changed_own same tells part f op k local old.entries new.entries (f v) own was (changes (op (f v)) ok)
     through_own op local (Err e) ok err = changed_own same tells part f (λ m. m) k (nothing_local k) old.entries new.entries (f v) own was (changes (f v) err)
 
-    pub through_ok : {A E : Type 0} (op : Contents → Contents) → IsLocal k op → (m : Contents) → held f old.entries ≡ m → (r : Result A E) → OnOk r (f w ≡ op (f v)) → OnOk r (held f new.entries ≡ op m)
+    pub through_ok : {A E : Type 0} (op : Contents → Contents) → IsLocal k op → (m : Contents) → contents_of_all f old.entries ≡ m → (r : Result A E) → OnOk r (f w ≡ op (f v)) → OnOk r (contents_of_all f new.entries ≡ op m)
     through_ok op local m view (Ok x) ok = changed_held same tells part f op k local old.entries new.entries (f v) own was (changes (op (f v)) ok) distinct h.4 ∙ ap op view
     through_ok op local m view (Err e) ok = tt
 
-    pub through_err : {A E : Type 0} (m : Contents) → held f old.entries ≡ m → (r : Result A E) → OnErr r (f w ≡ f v) → OnErr r (held f new.entries ≡ m)
+    pub through_err : {A E : Type 0} (m : Contents) → contents_of_all f old.entries ≡ m → (r : Result A E) → OnErr r (f w ≡ f v) → OnErr r (contents_of_all f new.entries ≡ m)
     through_err m view (Ok x) err = tt
     through_err m view (Err e) err = changed_held same tells part f (λ n. n) k (nothing_local k) old.entries new.entries (f v) own was (changes (f v) err) distinct h.4 ∙ view
 
@@ -59,8 +59,8 @@ module _ {K V : Type 0} (same : K → K → Bool) (tells : (a b : K) → (same a
       pub kept_own : HasOwnKeys same part f fs
       kept_own s key foreign = ap (λ o. in_part (option_map f o) key) (agree s) ∙ own s key foreign
 
-      pub kept_held : held f fs ≡ held f es
-      kept_held = same_map key_total key_exact (held f fs) (held f es) (λ q.
+      pub kept_held : contents_of_all f fs ≡ contents_of_all f es
+      kept_held = same_map key_total key_exact (contents_of_all f fs) (contents_of_all f es) (λ q.
           held_get same tells part f fs apart kept_own q ∙ ap (λ o. in_part (option_map f o) q) (agree (part q)) ∙ sym (held_get same tells part f es distinct own q))
 
     module _ (k : Key) (v : List Pair) (none : None ≡ lookup (same (part k)) es) where
@@ -71,11 +71,11 @@ module _ {K V : Type 0} (same : K → K → Bool) (tells : (a b : K) → (same a
       added_own (Ok x) ok err = changed_own same tells part f (λ m. insert m k v) k (insert_local k v) es fs empty own blank ok
       added_own (Err e) ok err = kept_own err
 
-      pub added_held : {A E : Type 0} (m : Contents) → held f es ≡ m → (r : Result A E) → OnOk r (ChangesAt same f (part k) (insert empty k v) es fs) → OnOk r (held f fs ≡ insert m k v)
+      pub added_held : {A E : Type 0} (m : Contents) → contents_of_all f es ≡ m → (r : Result A E) → OnOk r (ChangesAt same f (part k) (insert empty k v) es fs) → OnOk r (contents_of_all f fs ≡ insert m k v)
       added_held m view (Ok x) ok = changed_held same tells part f (λ m. insert m k v) k (insert_local k v) es fs empty own blank ok distinct apart ∙ ap (λ n. insert n k v) view
       added_held m view (Err e) ok = tt
 
-    pub added_err : {A E : Type 0} (m : Contents) → held f es ≡ m → (r : Result A E) → OnErr r ((s : K) → lookup (same s) fs ≡ lookup (same s) es) → OnErr r (held f fs ≡ m)
+    pub added_err : {A E : Type 0} (m : Contents) → contents_of_all f es ≡ m → (r : Result A E) → OnErr r ((s : K) → lookup (same s) fs ≡ lookup (same s) es) → OnErr r (contents_of_all f fs ≡ m)
     added_err m view (Ok x) err = tt
     added_err m view (Err e) err = kept_held err ∙ view
 

@@ -13,7 +13,7 @@ use Rattle.sdb_types.specs.Contents.{Contents}
 use Rattle.sdb_types.specs.Exact.{equal_of}
 use Rattle.sdb_types.proofs.KeyOrder.{key_total, key_exact}
 use Rattle.sdb_types.proofs.Basics.{or_else, or_none, false_by}
-use Rattle.sdb_hashed.specs.Gathered.{gathered, held, in_part, part_at, HasOwnKeys, ChangesAt}
+use Rattle.sdb_hashed.specs.Gathered.{gathered, contents_of_all, in_part, part_at, HasOwnKeys, ChangesAt}
 use Rattle.sdb_hashed.proofs.Changes.{IsLocal}
 
 pub find_append : (q : Key) (xs ys : List (Key × List Pair)) → find key_cmp q (xs ++ ys) ≡ or_else (find key_cmp q xs) (find key_cmp q ys)
@@ -63,7 +63,7 @@ module _ {K V : Type 0} (same : K → K → Bool) (tells : (a b : K) → (same a
       ] refl
 
   -- what all parts have at a key is what the part of the key has
-  pub held_get : (es : List (K × V)) → IsDistinct same (keys_of es) → HasOwnKeys same part f es → (q : Key) → get (held f es) q ≡ in_part (part_at same f es (part q)) q
+  pub held_get : (es : List (K × V)) → IsDistinct same (keys_of es) → HasOwnKeys same part f es → (q : Key) → get (contents_of_all f es) q ≡ in_part (part_at same f es (part q)) q
   held_get es distinct own q = get-from_entries key_total (gathered f es) q ∙ find_gathered es distinct own q
 
   ---- one part changes
@@ -79,11 +79,11 @@ module _ {K V : Type 0} (same : K → K → Bool) (tells : (a b : K) → (same a
           | false ↦ λ p. own s key foreign
         ] refl
 
-    pub changed_held : IsDistinct same (keys_of es) → IsDistinct same (keys_of fs) → held f fs ≡ op (held f es)
-    changed_held distinct apart = same_map key_total key_exact (held f fs) (op (held f es)) (λ q.
+    pub changed_held : IsDistinct same (keys_of es) → IsDistinct same (keys_of fs) → contents_of_all f fs ≡ op (contents_of_all f es)
+    changed_held distinct apart = same_map key_total key_exact (contents_of_all f fs) (op (contents_of_all f es)) (λ q.
         held_get fs apart changed_own q ∙ ap (λ o. in_part o q) (changes (part q))
-        ∙ elim (same (part k) (part q)) as (λ b. same (part k) (part q) ≡ b → in_part (cond b (Some (op m)) (part_at same f es (part q))) q ≡ get (op (held f es)) q) [
-          | true ↦ λ p. local.alike m (held f es) q (sym (was q) ∙ ap (λ s. in_part (part_at same f es s) q) ((tells (part k) (part q)).0 p) ∙ sym (held_get es distinct own q))
+        ∙ elim (same (part k) (part q)) as (λ b. same (part k) (part q) ≡ b → in_part (cond b (Some (op m)) (part_at same f es (part q))) q ≡ get (op (contents_of_all f es)) q) [
+          | true ↦ λ p. local.alike m (contents_of_all f es) q (sym (was q) ∙ ap (λ s. in_part (part_at same f es s) q) ((tells (part k) (part q)).0 p) ∙ sym (held_get es distinct own q))
               (sym (was k) ∙ sym (held_get es distinct own k))
-          | false ↦ λ p. sym (held_get es distinct own q) ∙ sym (local.elsewhere (held f es) q (other_key k q p))
+          | false ↦ λ p. sym (held_get es distinct own q) ∙ sym (local.elsewhere (contents_of_all f es) q (other_key k q p))
         ] refl)

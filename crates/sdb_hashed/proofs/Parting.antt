@@ -19,8 +19,8 @@ use Rattle.sdb_types.specs.ValueLaws.{value_exact, value_total}
 use Rattle.sdb_types.specs.Contents.{Contents, record_of, in_span, is_partition, rows_in, rise}
 use Rattle.sdb_types.proofs.Bools.{and_both}
 use Rattle.sdb_types.proofs.KeyOrder.{key_total, key_exact, table_total, table_exact}
-use Rattle.sdb_hashed.specs.Bucket.{held_by}
-use Rattle.sdb_hashed.specs.Gathered.{held, in_part, part_at, HasOwnKeys, IsPartOf}
+use Rattle.sdb_hashed.specs.Bucket.{contents_of_bucket}
+use Rattle.sdb_hashed.specs.Gathered.{contents_of_all, in_part, part_at, HasOwnKeys, IsPartOf}
 use Rattle.sdb_hashed.proofs.Gather.{held_get}
 use Rattle.sdb_hashed.proofs.Inside.{table_inside, partition_inside}
 use Rattle.sdb_hashed.proofs.Sorting.{in_order, unpaired}
@@ -32,7 +32,7 @@ not_some : {A : Type 0} (o : Option A) → o ≡ None → IsSome o → {P : Type
 not_some o none some = absurd (let e : false ≡ true = sym (ap is_some none) ∙ some in cc)
 
 module _ {K V : Type 0} (same : K → K → Bool) (tells : (a b : K) → (same a b ≡ true → a ≡ b) × (a ≡ b → same a b ≡ true)) (part : Key → K) (f : V → Contents) (es : List (K × V)) (distinct : IsDistinct same (keys_of es)) (own : HasOwnKeys same part f es) (name : K) where
-  here : (o : Option V) → o ≡ lookup (same name) es → (key : Key) → part key ≡ name → in_part (option_map f o) key ≡ get (held f es) key
+  here : (o : Option V) → o ≡ lookup (same name) es → (key : Key) → part key ≡ name → in_part (option_map f o) key ≡ get (contents_of_all f es) key
   here o found key e =
       ap (λ p. in_part (option_map f p) key) found ∙ ap (λ s. in_part (part_at same f es s) key) (sym e) ∙ sym (held_get same tells part f es distinct own key)
 
@@ -43,17 +43,17 @@ module _ {K V : Type 0} (same : K → K → Bool) (tells : (a b : K) → (same a
         | false ↦ λ e. not_some (in_part (option_map f o) key) (ap (λ p. in_part (option_map f p) key) found ∙ own name key e) some
       ] refl
 
-  part_of : (v : V) → Some v ≡ lookup (same name) es → IsPartOf part name (f v) (held f es)
+  part_of : (v : V) → Some v ≡ lookup (same name) es → IsPartOf part name (f v) (contents_of_all f es)
   part_of v found = record { own = here (Some v) found; alone = only (Some v) found }
 
-  none_of : None ≡ lookup (same name) es → IsPartOf part name empty (held f es)
+  none_of : None ≡ lookup (same name) es → IsPartOf part name empty (contents_of_all f es)
   none_of found = record {
     own = λ key e. get-empty key_cmp key ∙ here None found key e;
     alone = λ key some. not_some (get {R = key_cmp} empty key) (get-empty key_cmp key) some;
   }
 
   -- the part that is lent, or none
-  pub lent : (o : Option (Bor V)) → option_copied o ≡ lookup (same name) es → IfSome o (λ v. IsPartOf part name (f v.now) (held f es)) × IfNone o (IsPartOf part name empty (held f es))
+  pub lent : (o : Option (Bor V)) → option_copied o ≡ lookup (same name) es → IfSome o (λ v. IsPartOf part name (f v.now) (contents_of_all f es)) × IfNone o (IsPartOf part name empty (contents_of_all f es))
   lent None found = (tt, none_of found)
   lent (Some v) found = (part_of v.now found, tt)
 
@@ -90,7 +90,7 @@ module _ (span : Span) (p : List Value) (named : Some p ≡ span.partition) (row
   pub rows_of_all : rows_in span rows ≡ rows_in span all
   rows_of_all = same_rows span rows all in_bucket
 
-  pub bucket_is : (rs : List Record) → rise rs ≡ true → held_by rs ≡ rows → rs ≡ rows_in span all
+  pub bucket_is : (rs : List Record) → rise rs ≡ true → contents_of_bucket rs ≡ rows → rs ≡ rows_in span all
   bucket_is rs h view =
       sym (unpaired rs) ∙ ap (map record_of) (sym (in_order rs h) ∙ ap entries view ∙ sym whole) ∙ rows_of_all
 
@@ -103,11 +103,11 @@ no_table span all one = sym (same_rows span empty all (λ q h. one.own q (table_
 
 -- the bucket that is lent has the records of the span, and there is none where none is lent
 module _ (span : Span) (p : List Value) (named : Some p ≡ span.partition) (mid all : Contents) (one : IsPartOf (λ (k : Key). k.table) span.table mid all) where
-  pub lent_bucket : (found bucket : Option (Bor (List Record))) → option_copied bucket ≡ option_copied found → IfSome bucket (λ b. rise b.now ≡ true) → IfSome found (λ rows. IsPartOf (λ (k : Key). k.partition) p (held_by rows.now) mid)
+  pub lent_bucket : (found bucket : Option (Bor (List Record))) → option_copied bucket ≡ option_copied found → IfSome bucket (λ b. rise b.now ≡ true) → IfSome found (λ rows. IsPartOf (λ (k : Key). k.partition) p (contents_of_bucket rows.now) mid)
       → IfNone found (IsPartOf (λ (k : Key). k.partition) p empty mid) → IfSome bucket (λ b. b.now ≡ rows_in span all) × IfNone bucket (rows_in span all ≡ [])
   lent_bucket None None same rising some none = (tt, none_at span p named mid all one none)
   lent_bucket (Some f) (Some b) same rising some none =
       let is : f.now ≡ b.now = cc in
-      (bucket_is span p named (held_by b.now) mid all one (subst (λ (rs : List Record). IsPartOf (λ (k : Key). k.partition) p (held_by rs) mid) is some) b.now rising refl, tt)
+      (bucket_is span p named (contents_of_bucket b.now) mid all one (subst (λ (rs : List Record). IsPartOf (λ (k : Key). k.partition) p (contents_of_bucket rs) mid) is some) b.now rising refl, tt)
   lent_bucket None (Some b) same rising some none = absurd (cc)
   lent_bucket (Some f) None same rising some none = absurd (cc)

@@ -21,7 +21,7 @@ use Rattle.sdb_types.proofs.Basics.{less_of, t_both, both_t}
 use Rattle.sdb_types.proofs.Bools.{and_first, and_second}
 use Rattle.sdb_types.proofs.KeyOrder.{key_total, key_exact, starts_trans}
 use Rattle.sdb_store.proofs.Lawful.{rises}
-use Rattle.sdb_hashed.specs.Bucket.{IsAt, IsGapFor, entries_of, held_by}
+use Rattle.sdb_hashed.specs.Bucket.{IsAt, IsGapFor, entries_of, contents_of_bucket}
 use Rattle.sdb_hashed.proofs.Changes.{remove_absent}
 
 ---- records and their entries
@@ -47,10 +47,10 @@ risen : (rs : List Record) → T (is_sorted key_cmp (entries_of rs)) → rise rs
 risen rs h = ap rise (sym (unpaired rs)) ∙ rises (entries_of rs) h
 
 -- the map of records in order has their entries
-pub in_order : (rs : List Record) → rise rs ≡ true → entries (held_by rs) ≡ entries_of rs
+pub in_order : (rs : List Record) → rise rs ≡ true → entries (contents_of_bucket rs) ≡ entries_of rs
 in_order rs h =
-    same_entries key_cmp key_total key_exact (entries (held_by rs)) (entries_of rs) (entries_sorted (held_by rs)) (sorted rs h)
-    (λ q. sym (get-entries (held_by rs) q) ∙ get-from_entries key_total (entries_of rs) q)
+    same_entries key_cmp key_total key_exact (entries (contents_of_bucket rs)) (entries_of rs) (entries_sorted (contents_of_bucket rs)) (sorted rs h)
+    (λ q. sym (get-entries (contents_of_bucket rs) q) ∙ get-from_entries key_total (entries_of rs) q)
 
 ---- the order of places
 
@@ -153,19 +153,19 @@ module _ (rs : List Record) (h : rise rs ≡ true) where
   pub inserted_rises : (i : ℕ) (r : Record) → IsGapFor rs r.key i → rise (insert_at rs i r) ≡ true
   inserted_rises i r gap = risen (insert_at rs i r) (subst (λ (es : List (Key × List Pair)). T (is_sorted key_cmp es)) (sym (inserted rs i r gap)) (is_sorted-put key_cmp key_total r.key r.columns (entries_of rs) (sorted rs h)))
 
-  pub inserted_holds : (i : ℕ) (r : Record) → IsGapFor rs r.key i → held_by (insert_at rs i r) ≡ insert (held_by rs) r.key r.columns
+  pub inserted_holds : (i : ℕ) (r : Record) → IsGapFor rs r.key i → contents_of_bucket (insert_at rs i r) ≡ insert (contents_of_bucket rs) r.key r.columns
   inserted_holds i r gap = ap (λ (es : List (Key × List Pair)). from_entries es) (inserted rs i r gap) ∙ after_put (entries_of rs) r.key r.columns
 
   pub replaced_rises : (i : ℕ) (r : Record) → IsAt rs r.key i → rise (slice_set rs i r) ≡ true
   replaced_rises i r at = risen (slice_set rs i r) (subst (λ (es : List (Key × List Pair)). T (is_sorted key_cmp es)) (sym (replaced rs i r h at)) (is_sorted-put key_cmp key_total r.key r.columns (entries_of rs) (sorted rs h)))
 
-  pub replaced_holds : (i : ℕ) (r : Record) → IsAt rs r.key i → held_by (slice_set rs i r) ≡ insert (held_by rs) r.key r.columns
+  pub replaced_holds : (i : ℕ) (r : Record) → IsAt rs r.key i → contents_of_bucket (slice_set rs i r) ≡ insert (contents_of_bucket rs) r.key r.columns
   replaced_holds i r at = ap (λ (es : List (Key × List Pair)). from_entries es) (replaced rs i r h at) ∙ after_put (entries_of rs) r.key r.columns
 
   pub cut_rises : (i : ℕ) (k : Key) → IsAt rs k i → rise (remove_at rs i) ≡ true
   cut_rises i k at = risen (remove_at rs i) (subst (λ (es : List (Key × List Pair)). T (is_sorted key_cmp es)) (sym (cut rs i k h at)) (is_sorted-where_key key_cmp (other k) (entries_of rs) (sorted rs h)))
 
-  pub cut_holds : (i : ℕ) (k : Key) → IsAt rs k i → held_by (remove_at rs i) ≡ remove (held_by rs) k
+  pub cut_holds : (i : ℕ) (k : Key) → IsAt rs k i → contents_of_bucket (remove_at rs i) ≡ remove (contents_of_bucket rs) k
   cut_holds i k at = ap (λ (es : List (Key × List Pair)). from_entries es) (cut rs i k h at) ∙ after_cut (entries_of rs) k
 
 ---- what is at a key, and in a span
@@ -191,10 +191,10 @@ met (x ∷ rs) k (suc i) d h at =
     ap (λ o. cond (is_eq o) (Some x.columns) (find key_cmp k (entries_of rs))) more
     ∙ met rs k i d (and_second (starts_after x.key rs) (rise rs) h) (at_rest x rs k i at)
 
-pub no_record : (rs : List Record) (k : Key) (i : ℕ) → IsGapFor rs k i → None ≡ record_at (held_by rs) k
+pub no_record : (rs : List Record) (k : Key) (i : ℕ) → IsGapFor rs k i → None ≡ record_at (contents_of_bucket rs) k
 no_record rs k i gap = sym (ap (λ (o : Option (List Pair)). option_map (λ columns. record_of (k, columns)) o) (get-from_entries key_total (entries_of rs) k ∙ missed rs k i gap))
 
-pub own_record : (rs : List Record) (k : Key) (i : ℕ) (d : Record) → rise rs ≡ true → IsAt rs k i → Some (get_or rs i d) ≡ record_at (held_by rs) k
+pub own_record : (rs : List Record) (k : Key) (i : ℕ) (d : Record) → rise rs ≡ true → IsAt rs k i → Some (get_or rs i d) ≡ record_at (contents_of_bucket rs) k
 own_record rs k i d h at =
     sym (ap (λ (o : Option (List Pair)). option_map (λ columns. record_of (k, columns)) o) (get-from_entries key_total (entries_of rs) k ∙ met rs k i d h at)
     ∙ ap (λ (q : Key). Some (record_of (q, (get_or rs i d).columns))) (sym (at.own d)))
@@ -207,16 +207,16 @@ inside_span span (r ∷ rs) =
     [ true ↦ ap (λ xs. r ∷ xs) rest | false ↦ rest ]
 
 -- the records of a span are those that pass its test
-pub rows_are : (span : Span) (rs : List Record) → rise rs ≡ true → rows_in span (held_by rs) ≡ filter (λ r. in_span span r.key) rs
+pub rows_are : (span : Span) (rs : List Record) → rise rs ≡ true → rows_in span (contents_of_bucket rs) ≡ filter (λ r. in_span span r.key) rs
 rows_are span rs h = ap (λ es. map record_of (where_key key_cmp (in_span span) es)) (in_order rs h) ∙ inside_span span rs
 
 -- the record that is lent at the place of a key
-pub at_record : (rs : List Record) (k : Key) (i : ℕ) (r : Option (Bor Record)) → rise rs ≡ true → IsAt rs k i → IsItemAt rs i r → option_copied r ≡ record_at (held_by rs) k
+pub at_record : (rs : List Record) (k : Key) (i : ℕ) (r : Option (Bor Record)) → rise rs ≡ true → IsAt rs k i → IsItemAt rs i r → option_copied r ≡ record_at (contents_of_bucket rs) k
 at_record rs k i None h at item = absurd (let e : false ≡ true = item.2 at.inside in cc)
 at_record rs k i (Some x) h at item = ap Some item.1 ∙ own_record rs k i x.now h at
 
-pub nothing_at : (rs : List Record) (k : Key) (i : ℕ) → IsGapFor rs k i → held_by rs ≡ remove (held_by rs) k
-nothing_at rs k i gap = sym (remove_absent (held_by rs) k (get-from_entries key_total (entries_of rs) k ∙ missed rs k i gap))
+pub nothing_at : (rs : List Record) (k : Key) (i : ℕ) → IsGapFor rs k i → contents_of_bucket rs ≡ remove (contents_of_bucket rs) k
+nothing_at rs k i gap = sym (remove_absent (contents_of_bucket rs) k (get-from_entries key_total (entries_of rs) k ∙ missed rs k i gap))
 
 ---- an edit that may find no memory
 

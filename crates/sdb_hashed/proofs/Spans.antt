@@ -20,7 +20,7 @@ use Rattle.std.specs.FinMap.{empty, len-entries, len-empty, get-empty}
 use Rattle.std.proofs.Common.{length, append_assoc, arith}
 use Rattle.std.specs.Option.{option_map}
 use Rattle.std.specs.FinMap.{get-from_entries}
-use Rattle.sdb_hashed.specs.Gathered.{gathered, held, in_part, HasOwnKeys}
+use Rattle.sdb_hashed.specs.Gathered.{gathered, contents_of_all, in_part, HasOwnKeys}
 use Rattle.sdb_hashed.proofs.Gather.{find_append, held_get}
 use Rattle.std.proofs.lemmas.List.{append-nil as append_nil}
 use Rattle.sdb_types.proofs.Basics.{or_else}
@@ -70,15 +70,15 @@ no_rows span = ap (λ es. map record_of (filter (λ e. in_span span e.0) es)) (n
 
 module _ {K V : Type 0} (same : K → K → Bool) (tells : (a b : K) → (same a b ≡ true → a ≡ b) × (a ≡ b → same a b ≡ true)) (part : Key → K) (f : V → Contents) (es : List (K × V)) (distinct : IsDistinct same (keys_of es)) (own : HasOwnKeys same part f es) (span : Span) where
   -- inside one part all parts have what it has
-  inside : (x : K) (o : Option V) → ((q : Key) → in_span span q ≡ true → part q ≡ x) → o ≡ lookup (same x) es → (q : Key) → in_span span q ≡ true → in_part (option_map f o) q ≡ get (held f es) q
+  inside : (x : K) (o : Option V) → ((q : Key) → in_span span q ≡ true → part q ≡ x) → o ≡ lookup (same x) es → (q : Key) → in_span span q ≡ true → in_part (option_map f o) q ≡ get (contents_of_all f es) q
   inside x o within found q h =
       ap (λ p. in_part (option_map f p) q) (found ∙ ap (λ s. lookup (same s) es) (sym (within q h))) ∙ sym (held_get same tells part f es distinct own q)
 
-  pub part_rows : (x : K) (v : V) → ((q : Key) → in_span span q ≡ true → part q ≡ x) → Some v ≡ lookup (same x) es → rows_in span (f v) ≡ rows_in span (held f es)
-  part_rows x v within found = same_rows span (f v) (held f es) (inside x (Some v) within found)
+  pub part_rows : (x : K) (v : V) → ((q : Key) → in_span span q ≡ true → part q ≡ x) → Some v ≡ lookup (same x) es → rows_in span (f v) ≡ rows_in span (contents_of_all f es)
+  part_rows x v within found = same_rows span (f v) (contents_of_all f es) (inside x (Some v) within found)
 
-  pub no_part : (x : K) → ((q : Key) → in_span span q ≡ true → part q ≡ x) → None ≡ lookup (same x) es → [] ≡ rows_in span (held f es)
-  no_part x within found = sym (no_rows span) ∙ same_rows span empty (held f es) (λ q h. get-empty key_cmp q ∙ inside x None within found q h)
+  pub no_part : (x : K) → ((q : Key) → in_span span q ≡ true → part q ≡ x) → None ≡ lookup (same x) es → [] ≡ rows_in span (contents_of_all f es)
+  no_part x within found = sym (no_rows span) ∙ same_rows span empty (contents_of_all f es) (λ q h. get-empty key_cmp q ∙ inside x None within found q h)
 
 pub rows_along : {E : Type 0} (r : Result (List Record) E) (a b : List Record) → a ≡ b → IfOk r (λ rows. rows ≡ a) → IfOk r (λ rows. rows ≡ b)
 rows_along r a b e h = subst (λ (rs : List Record). IfOk r (λ rows. rows ≡ rs)) e h
@@ -101,6 +101,6 @@ module _ {K V : Type 0} (f : V → Contents) where
   gather_more span m n xs e so is q h =
       ap (λ o. get o q) is ∙ put_rows span (f e.1) m q h ∙ ap (or_else (get (f e.1) q)) (so q h) ∙ sym (find_more xs e q)
 
-  pub gathered_all : (span : Span) (m : Contents) (xs es : List (K × V)) → xs ≡ es → HasGathered span m xs → (q : Key) → in_span span q ≡ true → get m q ≡ get (held f es) q
+  pub gathered_all : (span : Span) (m : Contents) (xs es : List (K × V)) → xs ≡ es → HasGathered span m xs → (q : Key) → in_span span q ≡ true → get m q ≡ get (contents_of_all f es) q
   gathered_all span m xs es all so q h =
       so q h ∙ ap (λ ys. find key_cmp q (gathered f ys)) all ∙ sym (get-from_entries key_total (gathered f es) q)

@@ -13,8 +13,8 @@ abbrev pub entries_of : List Record → List (Key × List Pair)
 entries_of records = map (λ r. (r.key, r.columns)) records
 
 -- what records hold
-abbrev pub held_by : List Record → Contents
-held_by records = from_entries (entries_of records)
+abbrev pub contents_of_bucket : List Record → Contents
+contents_of_bucket records = from_entries (entries_of records)
 
 -- The record at that place has the key.
 pub record IsAt (records : List Record) (key : Key) (i : ℕ) : Type 0 where

@@ -14,8 +14,8 @@ gathered f [] = []
 gathered f (e ∷ es) = gathered f es ++ entries (f e.1)
 
 -- the map of all entries
-abbrev pub held : {K V : Type 0} → (V → Contents) → List (K × V) → Contents
-held f es = from_entries {R = key_cmp} (gathered f es)
+abbrev pub contents_of_all : {K V : Type 0} → (V → Contents) → List (K × V) → Contents
+contents_of_all f es = from_entries {R = key_cmp} (gathered f es)
 
 -- what a part has at a key, which is nothing where there is no such part
 abbrev pub in_part : Option Contents → Key → Option (List Pair)

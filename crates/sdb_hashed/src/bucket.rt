@@ -3,7 +3,7 @@ ghost use Rattle.std.specs.Prelude.{◌≡◌, true, filter, length, IfOk, IfErr
 ghost use Rattle.std.specs.Option.{option_copied};
 ghost use Rattle.std.specs.Slice.{IsItemAt};
 ghost use Rattle.sdb_types.specs.Contents.{in_span, record_at, rise};
-ghost use Rattle.sdb_hashed.specs.Bucket.{IsAt, IsGapFor, held_by};
+ghost use Rattle.sdb_hashed.specs.Bucket.{IsAt, IsGapFor, contents_of_bucket};
 
 use sdb_store::Rows;
 use sdb_types::{Duplicate, Key, NoMemory, Record, Records, Seq, Span};
@@ -73,7 +73,7 @@ impl Bucket {
 
     // The record of a key.
     fn record(&self, key: &Key) -> Option<&Record>
-        ensures { option_copied result ≡ record_at (held_by self.now) key.now }
+        ensures { option_copied result ≡ record_at (contents_of_bucket self.now) key.now }
     {
         match self.search(key) {
             Ok(i) => self.records.at(i),
@@ -96,7 +96,7 @@ fn records_in(alloc: Global, span: &Span, records: &[Record]) -> Result<Records,
 }
 
 impl Rows for Bucket {
-    ghost contents = { λ b. held_by b };
+    ghost contents = { λ b. contents_of_bucket b };
 
     fn new(alloc: Global) -> Bucket {
         Bucket {

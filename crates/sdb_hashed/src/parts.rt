@@ -4,7 +4,7 @@ ghost use Rattle.std.specs.FinMap as map;
 ghost use Rattle.std.specs.HashMap.{IsUnique, get};
 ghost use Rattle.sdb_types.specs.declared.key.Key.{Key};
 ghost use Rattle.sdb_types.specs.Contents.{in_span, rows_in, put_reply};
-ghost use Rattle.sdb_hashed.specs.Gathered.{held, HasOwnKeys, ChangesAt, IsPartOf};
+ghost use Rattle.sdb_hashed.specs.Gathered.{contents_of_all, HasOwnKeys, ChangesAt, IsPartOf};
 ghost use Rattle.sdb_hashed.specs.Put.{with_rows};
 
 use crate::part::Part;
@@ -32,13 +32,13 @@ impl<K: Part, R: Rows> Model for Parts<K, R> {
     ghost use Rattle.std.specs.HashMap.{IsUnique};
     ghost use Rattle.sdb_types.specs.Contents.{Contents};
     ghost use Rattle.sdb_store.specs.HeldCode.{coded_contents};
-    ghost use Rattle.sdb_hashed.specs.Gathered.{held, HasOwnKeys};
+    ghost use Rattle.sdb_hashed.specs.Gathered.{contents_of_all, HasOwnKeys};
 
     ghost Value = { Contents };
 
     ghost coded = { coded_contents };
 
-    ghost view = { λ p. held R.contents p.rows.entries };
+    ghost view = { λ p. contents_of_all R.contents p.rows.entries };
 
     ghost invariant = { λ p. IsUnique K.eq p.rows × HasOwnKeys K.eq K.part R.contents p.rows.entries };
 }
@@ -150,7 +150,7 @@ fn gather<K: Part, R: Rows>(
     parts: &HashMap<K, R>,
     span: &Span,
 ) -> Result<Tree, NoMemory>
-    ensures { IfOk result (λ all. (q : Key) → in_span span.now q ≡ true → map.get all q ≡ map.get (held R.contents parts.now.entries) q) }
+    ensures { IfOk result (λ all. (q : Key) → in_span span.now q ≡ true → map.get all q ≡ map.get (contents_of_all R.contents parts.now.entries) q) }
 {
     let mut all = Tree::new(alloc);
     for (_, rows) in parts {

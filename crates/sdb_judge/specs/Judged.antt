@@ -6,11 +6,11 @@ use Rattle.sdb_model.specs.Causes.{AreCaused}
 use Rattle.sdb_model.specs.Counted.{AreCounted, AreResolved}
 use Rattle.sdb_model.specs.Plain.{IsPlain}
 use Rattle.sdb_model.specs.Report.{report_text_of}
-use Rattle.sdb_model.specs.Shown.{AreShown}
+use Rattle.sdb_model.specs.DirtyReads.{NoDirtyReads}
 use Rattle.sdb_execution.specs.Execution.{IsExecution}
 use Rattle.sdb_script.specs.Whole.{IsScript}
 use Rattle.sdb_runs.specs.declared.stores.Stores.{Stores}
-use Rattle.sdb_runs.specs.Values.{all_moments, all_shelves}
+use Rattle.sdb_runs.specs.Values.{all_moments, all_contents}
 use Rattle.sdb_judge.specs.declared.promises.Promise.{Promise}
 use Rattle.sdb_judge.specs.declared.promises.Promise.TheVariants as promise
 use Rattle.sdb_judge.specs.declared.promises.Verdict.{Verdict}
@@ -22,17 +22,17 @@ own_stores = codes "ordered" ∷ codes "hashed" ∷ codes "sqlite" ∷ []
 
 -- What is promised of events whatever the stores reply: they are an execution of the script's clients, each answer has its cause, calls are
 -- counted, and unresolved records were rolled before an answer.
-pub record KeepsProtocol (script : Script) (o : Outcome) : Type 0 where
+pub record FollowsProtocol (script : Script) (o : Outcome) : Type 0 where
   pub executed : IsExecution script o.events
   pub caused : AreCaused script.catalog o.events
   pub counted : AreCounted script.catalog o.events
   pub resolved : AreResolved o.events
 
 -- Rows that answers show were committed, or the transaction's own, by what stores contain.
-abbrev pub ShowsCommitted : Script → Outcome → Stores → Type 0
-ShowsCommitted script o x = AreShown script.catalog x.places o.events (all_shelves x.opening) (all_moments x.moments)
+abbrev pub ReadsAreCommitted : Script → Outcome → Stores → Type 0
+ReadsAreCommitted script o x = NoDirtyReads script.catalog x.places o.events (all_contents x.opening) (all_moments x.moments)
 
--- A promise of the events that fails. Whether events are an execution is decided soundly alone, so nothing is said where that one fails; nor
+-- A promise of the events that fails. Whether events are an execution is decided soundly alone, so the verdict says nothing where that one fails; nor
 -- where one fails that is checked without a contract.
 abbrev pub Fails : Script → Outcome → Promise → Type 0
 Fails script o promise.Causes = AreCaused script.catalog o.events → ⊥
@@ -41,9 +41,9 @@ Fails script o promise.Resolved = AreResolved o.events → ⊥
 Fails script o _ = Unit {0}
 
 -- What a verdict says of an outcome of a script.
-abbrev pub Says : Script → Outcome → Verdict → Type 0
-Says script o verdict.AsPromised = KeepsProtocol script o
-Says script o (verdict.Fails p) = Fails script o p
+abbrev pub IsVerdictOf : Script → Outcome → Verdict → Type 0
+IsVerdictOf script o verdict.AsPromised = FollowsProtocol script o
+IsVerdictOf script o (verdict.Fails p) = Fails script o p
 
 -- A text is that of a script and the report of an outcome after it, and the verdict is on these.
 pub record IsJudged (text : List ℕ) (v : Verdict) : Type 0 where
@@ -53,4 +53,4 @@ pub record IsJudged (text : List ℕ) (v : Verdict) : Type 0 where
   pub split : text ≡ before ++ report_text_of outcome
   pub is_script : IsScript own_stores before script
   pub is_plain : IsPlain outcome
-  pub says : Says script outcome v
+  pub says : IsVerdictOf script outcome v

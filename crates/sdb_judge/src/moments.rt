@@ -3,19 +3,19 @@
 use crate::contents::{copied, performed};
 use sdb_model::{Event, How, Place, Places};
 use sdb_plain::PlainTables;
-use sdb_runs::{Shelf, Shelves, Stores};
+use sdb_runs::{Shelves, StoreContents, Stores};
 use sdb_types::{Duplicate, Name, NoMemory, Reply, Request, Seq};
 use std::alloc::Global;
 
-fn shelf_copied(alloc: Global, shelf: &Shelf) -> Result<Shelf, NoMemory> {
-    Ok(Shelf {
+fn shelf_copied(alloc: Global, shelf: &StoreContents) -> Result<StoreContents, NoMemory> {
+    Ok(StoreContents {
         name: shelf.name.copy()?,
         rows: copied(alloc, &shelf.rows)?,
     })
 }
 
 /// The same contents of each store.
-pub fn shelves_copied(alloc: Global, shelves: &[Shelf]) -> Result<Shelves, NoMemory> {
+pub fn contents_copied(alloc: Global, shelves: &[StoreContents]) -> Result<Shelves, NoMemory> {
     let mut all = Seq::new(alloc);
     for shelf in shelves {
         all.push(shelf_copied(alloc, shelf)?)?;
@@ -25,16 +25,16 @@ pub fn shelves_copied(alloc: Global, shelves: &[Shelf]) -> Result<Shelves, NoMem
 
 fn shelf_with(
     alloc: Global,
-    shelf: &Shelf,
+    shelf: &StoreContents,
     name: &Name,
     rows: &PlainTables,
-) -> Result<Shelf, NoMemory> {
+) -> Result<StoreContents, NoMemory> {
     let kept = if shelf.name.cmp(name).is_eq() {
         rows
     } else {
         &shelf.rows
     };
-    Ok(Shelf {
+    Ok(StoreContents {
         name: shelf.name.copy()?,
         rows: copied(alloc, kept)?,
     })
@@ -43,7 +43,7 @@ fn shelf_with(
 // With other contents in the store of a name.
 fn shelves_with(
     alloc: Global,
-    shelves: &[Shelf],
+    shelves: &[StoreContents],
     name: &Name,
     rows: &PlainTables,
 ) -> Result<Shelves, NoMemory> {
@@ -64,7 +64,11 @@ fn place_of<'a>(places: &'a [Place], ns: &Name) -> Option<&'a Place> {
 }
 
 /// The name of the store of a namespace: where it is placed, or else the first; none where there is no store.
-pub fn store_of<'a>(places: &'a [Place], shelves: &'a [Shelf], ns: &Name) -> Option<&'a Name> {
+pub fn store_of<'a>(
+    places: &'a [Place],
+    shelves: &'a [StoreContents],
+    ns: &Name,
+) -> Option<&'a Name> {
     match place_of(places, ns) {
         Some(place) => Some(&place.store),
         None => match shelves.first() {
@@ -75,7 +79,7 @@ pub fn store_of<'a>(places: &'a [Place], shelves: &'a [Shelf], ns: &Name) -> Opt
 }
 
 /// What the store of a name contains.
-pub fn rows_of<'a>(shelves: &'a [Shelf], name: &Name) -> Option<&'a PlainTables> {
+pub fn rows_of<'a>(shelves: &'a [StoreContents], name: &Name) -> Option<&'a PlainTables> {
     for shelf in shelves {
         if shelf.name.cmp(name).is_eq() {
             return Some(&shelf.rows);
@@ -93,7 +97,12 @@ fn namespace_of(request: &Request) -> &Name {
     }
 }
 
-fn is_own_store(places: &[Place], shelves: &[Shelf], store: &Name, request: &Request) -> bool {
+fn is_own_store(
+    places: &[Place],
+    shelves: &[StoreContents],
+    store: &Name,
+    request: &Request,
+) -> bool {
     match store_of(places, shelves, namespace_of(request)) {
         Some(own) => own.cmp(store).is_eq(),
         None => false,
@@ -103,7 +112,7 @@ fn is_own_store(places: &[Place], shelves: &[Shelf], store: &Name, request: &Req
 // What the stores contain after a call, or none where none of them replies so.
 fn called(
     alloc: Global,
-    before: &[Shelf],
+    before: &[StoreContents],
     store: &Name,
     request: &Request,
     how: How,
@@ -123,10 +132,10 @@ fn shelves_after(
     alloc: Global,
     places: &[Place],
     event: &Event,
-    before: &[Shelf],
+    before: &[StoreContents],
 ) -> Result<Option<Shelves>, NoMemory> {
     let Event::Call(_, store, request, how, reply, _) = event else {
-        return Ok(Some(shelves_copied(alloc, before)?));
+        return Ok(Some(contents_copied(alloc, before)?));
     };
     if !is_own_store(places, before, store, request) {
         return Ok(None);
@@ -139,7 +148,7 @@ fn add_moments(
     alloc: Global,
     places: &[Place],
     events: &[Event],
-    before: &[Shelf],
+    before: &[StoreContents],
     moments: &mut Seq<Shelves>,
 ) -> Result<bool, NoMemory> {
     let Some((first, rest)) = events.split_first() else {
@@ -148,12 +157,12 @@ fn add_moments(
     let Some(now) = shelves_after(alloc, places, first, before)? else {
         return Ok(false);
     };
-    moments.push(shelves_copied(alloc, now.as_slice())?)?;
+    moments.push(contents_copied(alloc, now.as_slice())?)?;
     add_moments(alloc, places, rest, now.as_slice(), moments)
 }
 
-fn empty_shelf(alloc: Global, name: &Name) -> Result<Shelf, NoMemory> {
-    Ok(Shelf {
+fn empty_shelf(alloc: Global, name: &Name) -> Result<StoreContents, NoMemory> {
+    Ok(StoreContents {
         name: name.copy()?,
         rows: PlainTables::new(alloc),
     })
@@ -194,7 +203,7 @@ pub fn stores_of(
 }
 
 /// What the stores contain in the end.
-pub fn closing_of(stores: &Stores) -> &[Shelf] {
+pub fn closing_of(stores: &Stores) -> &[StoreContents] {
     match stores.moments.last() {
         Some(last) => last.as_slice(),
         None => stores.opening.as_slice(),

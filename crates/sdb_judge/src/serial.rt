@@ -1,7 +1,7 @@
 //! The recorded transactions run whole, one after the other.
 use sdb_caused::statement_in;
 use sdb_model::{Answer, Event, Outcome, Point, Rows, Select, Statement, TableDump, TableRows};
-use sdb_order::{Said, statements_said};
+use sdb_order::{Executed, statements_by};
 use sdb_plain::{
     Answers, PlainTables, client_of, exec, inside_of, is_effective, ordinal_of, run_body,
 };
@@ -17,11 +17,11 @@ struct Run {
 }
 
 // Adds an effective statement that was answered. Whether it is one.
-fn add_statement(alloc: Global, run: &mut Run, said: &Said) -> Result<bool, NoMemory> {
-    let Some(statement) = statement_in(alloc, &said.text)? else {
+fn add_statement(alloc: Global, run: &mut Run, executed: &Executed) -> Result<bool, NoMemory> {
+    let Some(statement) = statement_in(alloc, &executed.text)? else {
         return Ok(false);
     };
-    let Some(answer) = &said.answer else {
+    let Some(answer) = &executed.answer else {
         return Ok(false);
     };
     run.body.push(statement)?;
@@ -29,13 +29,13 @@ fn add_statement(alloc: Global, run: &mut Run, said: &Said) -> Result<bool, NoMe
     Ok(true)
 }
 
-fn run_of(alloc: Global, inside: &[Said]) -> Result<Option<Run>, NoMemory> {
+fn run_of(alloc: Global, inside: &[Executed]) -> Result<Option<Run>, NoMemory> {
     let mut run = Run {
         body: Seq::new(alloc),
         answers: Seq::new(alloc),
     };
-    for said in inside {
-        if is_effective(said) && !add_statement(alloc, &mut run, said)? {
+    for executed in inside {
+        if is_effective(executed) && !add_statement(alloc, &mut run, executed)? {
             return Ok(None);
         }
     }
@@ -43,8 +43,8 @@ fn run_of(alloc: Global, inside: &[Said]) -> Result<Option<Run>, NoMemory> {
 }
 
 fn run_at(alloc: Global, events: &[Event], point: &Point) -> Result<Option<Run>, NoMemory> {
-    let said = statements_said(alloc, client_of(point.id), events)?;
-    let inside = inside_of(alloc, said.as_slice(), ordinal_of(point.id))?;
+    let executed = statements_by(alloc, client_of(point.id), events)?;
+    let inside = inside_of(alloc, executed.as_slice(), ordinal_of(point.id))?;
     run_of(alloc, inside)
 }
 

@@ -1,6 +1,6 @@
 //! A script and the report of it, judged.
 ghost use Rattle.std.specs.Prelude.{◌≡◌, IfOk, IfSome, None};
-ghost use Rattle.sdb_judge.specs.Judged.{Fails, IsJudged, KeepsProtocol, Says, ShowsCommitted, own_stores};
+ghost use Rattle.sdb_judge.specs.Judged.{Fails, IsJudged, FollowsProtocol, IsVerdictOf, ReadsAreCommitted, own_stores};
 
 use crate::input::split;
 use crate::moments::stores_of;
@@ -12,7 +12,7 @@ use sdb_caused::answers_have_causes;
 use sdb_executed::is_execution;
 use sdb_model::{Outcome, Script};
 use sdb_report::read_report;
-use sdb_runs::{Stores, calls_are_counted, records_are_resolved, rows_are_shown};
+use sdb_runs::{Stores, calls_are_counted, have_no_dirty_reads, records_are_resolved};
 use sdb_script::read_script;
 use sdb_types::{Name, Names, NoMemory};
 use std::alloc::Global;
@@ -43,7 +43,7 @@ fn fault_of_events(
     script: &Script,
     outcome: &Outcome,
 ) -> Result<Option<Promise>, NoMemory>
-    ensures kept { IfOk result (λ fault. fault ≡ None → KeepsProtocol script.now outcome.now) }
+    ensures kept { IfOk result (λ fault. fault ≡ None → FollowsProtocol script.now outcome.now) }
     ensures fails { IfOk result (λ fault. IfSome fault (Fails script.now outcome.now)) }
 {
     let events = outcome.events.as_slice();
@@ -69,11 +69,11 @@ fn fault_on_stores(
     outcome: &Outcome,
     stores: &Stores,
 ) -> Result<Option<Promise>, NoMemory>
-    ensures shown { IfOk result (λ fault. fault ≡ None → ShowsCommitted script.now outcome.now stores.now) }
+    ensures shown { IfOk result (λ fault. fault ≡ None → ReadsAreCommitted script.now outcome.now stores.now) }
     ensures fails { IfOk result (λ fault. IfSome fault (Fails script.now outcome.now)) }
 {
     let events = outcome.events.as_slice();
-    if !rows_are_shown(alloc, &script.catalog, events, stores)? {
+    if !have_no_dirty_reads(alloc, &script.catalog, events, stores)? {
         return Ok(Some(Promise::Shown));
     }
     if !is_in_order(alloc, events, &outcome.order, stores)? {
@@ -91,7 +91,7 @@ fn verdict_of(
     script: &Script,
     outcome: &Outcome,
 ) -> Result<Verdict, NoMemory>
-    ensures { IfOk result (Says script.now outcome.now) }
+    ensures { IfOk result (IsVerdictOf script.now outcome.now) }
 {
     if let Some(promise) = fault_of_events(alloc, script, outcome)? {
         return Ok(Verdict::Fails(promise));

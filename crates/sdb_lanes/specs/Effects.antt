@@ -26,7 +26,7 @@ use Rattle.sdb_lanes.specs.declared.effect.Verdict.TheVariants as verdict
 
 ---- whether a write took effect
 
--- A store that was heard says so.
+-- Where the store's reply was seen, the effect is that reply's.
 abbrev pub effect_seen : Reply → Effect
 effect_seen (reply.Found found) = effect.Nothing
 effect_seen (reply.Rows rows) = effect.Nothing

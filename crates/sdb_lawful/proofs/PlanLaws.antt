@@ -10,16 +10,16 @@ use Rattle.sdb_types.specs.Contents.{in_span}
 use Rattle.sdb_record.specs.declared.access.Read.{Read}
 use Rattle.sdb_record.specs.declared.access.Scan.{Scan}
 use Rattle.sdb_record.specs.declared.write.Write.{Write}
-use Rattle.sdb_record.specs.Meta.{is_in, is_taken}
+use Rattle.sdb_record.specs.Meta.{is_in, is_transactional}
 use Rattle.sdb_record.specs.Moved.{version_of}
 use Rattle.sdb_record.specs.Rolls.{IsWrite, IsBaseOf, is_change}
 use Rattle.sdb_record.specs.Among.{version_among, write_among}
-use Rattle.sdb_laws.specs.Plan.{write_at, written, noted, number_of}
-use Rattle.sdb_model.specs.Noted.{version_noted}
+use Rattle.sdb_laws.specs.Plan.{write_at, written, version_read_at, number_of}
+use Rattle.sdb_model.specs.ReadSet.{version_read}
 use Rattle.sdb_said.specs.declared.plan.Plan.{Plan}
-use Rattle.sdb_said.specs.declared.plan.Note.{Note}
-use Rattle.sdb_said.specs.declared.plan.Note.TheVariants as note
-use Rattle.sdb_said.specs.Values.{note_of, plan_in, writes_in, notes_in}
+use Rattle.sdb_said.specs.declared.plan.ReadItem.{ReadItem}
+use Rattle.sdb_said.specs.declared.plan.ReadItem.TheVariants as note
+use Rattle.sdb_said.specs.Values.{item_of, plan_in, writes_in, items_in}
 use Rattle.sdb_lawful.specs.Rules.{is_base, is_sound}
 use Rattle.sdb_said.proofs.Lists.{none_some, right, In, found_in, got_map}
 use Rattle.sdb_types.proofs.Basics.{some_is}
@@ -35,15 +35,15 @@ sound_is w h = record { base = by w.base (left (option_map_or (is_base w.key) w.
     by : (o : Option Record) → option_map_or (is_base w.key) o true ≡ true → IfSome o (IsBaseOf w.key)
     by None e = tt
     by (Some b) e =
-        let rest = right (same_key b.key w.key) (is_taken b && is_in state.Committed b.columns) e in
-        (same_key_exact b.key w.key (left (same_key b.key w.key) (is_taken b && is_in state.Committed b.columns) e), left (is_taken b) (is_in state.Committed b.columns) rest, right (is_taken b) (is_in state.Committed b.columns) rest)
+        let rest = right (same_key b.key w.key) (is_transactional b && is_in state.Committed b.columns) e in
+        (same_key_exact b.key w.key (left (same_key b.key w.key) (is_transactional b && is_in state.Committed b.columns) e), left (is_transactional b) (is_in state.Committed b.columns) rest, right (is_transactional b) (is_in state.Committed b.columns) rest)
 
 pub is_sound_of : (w : Write) → IsWrite w → is_sound w ≡ true
 is_sound_of w s = both (option_map_or (is_base w.key) w.base true) (is_change w.change) (by w.base s.base) s.change
   where
     by : (o : Option Record) → IfSome o (IsBaseOf w.key) → option_map_or (is_base w.key) o true ≡ true
     by None e = refl
-    by (Some b) e = both (same_key b.key w.key) (is_taken b && is_in state.Committed b.columns) (same_key_of b.key w.key e.0) (both (is_taken b) (is_in state.Committed b.columns) e.1 e.2)
+    by (Some b) e = both (same_key b.key w.key) (is_transactional b && is_in state.Committed b.columns) (same_key_of b.key w.key e.0) (both (is_transactional b) (is_in state.Committed b.columns) e.1 e.2)
 
 pub write_is : (plans : List Plan) (t : ℕ) (k : Key) → write_at (plan_in plans t) k ≡ write_among (writes_in plans t) k
 unfolding write_at
@@ -61,52 +61,52 @@ pub written_at : (plans : List Plan) (t : ℕ) (k : Key) → written (plan_in pl
 unfolding written write_at
 written_at plans t k = refl
 
----- notes
+---- read items
 
 -- what the i-th noted read says of a key
-pub record Says (ns : List Note) (i : ℕ) (k : Key) (v : Option ℕ) : Type 0 where
-  pub n : Note
+pub record Says (ns : List ReadItem) (i : ℕ) (k : Key) (v : Option ℕ) : Type 0 where
+  pub n : ReadItem
   pub at : slice_get ns i ≡ Some n
   pub version : Option TxId
-  pub noted : version_noted (note_of n) k ≡ Some version
+  pub as_read : version_read (item_of n) k ≡ Some version
   pub number : number_of version ≡ v
 
-says_by : (ns : List Note) (i : ℕ) (k : Key) (v : Option ℕ) (o : Option Note) → slice_get ns i ≡ o → option_map number_of (option_and_then (λ (n : Rattle.sdb_model.specs.Noted.Note). version_noted n k) (option_map note_of o)) ≡ Some v → Says ns i k v
+says_by : (ns : List ReadItem) (i : ℕ) (k : Key) (v : Option ℕ) (o : Option ReadItem) → slice_get ns i ≡ o → option_map number_of (option_and_then (λ (n : Rattle.sdb_model.specs.ReadSet.Note). version_read n k) (option_map item_of o)) ≡ Some v → Says ns i k v
 says_by ns i k v None e h = none_some h
-says_by ns i k v (Some n) e h = by (version_noted (note_of n) k) refl h
+says_by ns i k v (Some n) e h = by (version_read (item_of n) k) refl h
   where
-    by : (o : Option (Option TxId)) → version_noted (note_of n) k ≡ o → option_map number_of o ≡ Some v → Says ns i k v
+    by : (o : Option (Option TxId)) → version_read (item_of n) k ≡ o → option_map number_of o ≡ Some v → Says ns i k v
     by None f h = none_some h
-    by (Some version) f h = record { n = n; at = e; version = version; noted = f; number = some_is (number_of version) v h }
+    by (Some version) f h = record { n = n; at = e; version = version; as_read = f; number = some_is (number_of version) v h }
 
-pub noted_says : (plans : List Plan) (t i : ℕ) (k : Key) (v : Option ℕ) → noted (plan_in plans t) i k ≡ Some v → Says (notes_in plans t) i k v
-unfolding noted
+pub noted_says : (plans : List Plan) (t i : ℕ) (k : Key) (v : Option ℕ) → version_read_at (plan_in plans t) i k ≡ Some v → Says (items_in plans t) i k v
+unfolding version_read_at
 noted_says plans t i k v h =
-    says_by (notes_in plans t) i k v (slice_get (notes_in plans t) i) refl (ap (λ o. option_map number_of (option_and_then (λ (n : Rattle.sdb_model.specs.Noted.Note). version_noted n k) o)) (sym (got_map note_of (notes_in plans t) i)) ∙ h)
+    says_by (items_in plans t) i k v (slice_get (items_in plans t) i) refl (ap (λ o. option_map number_of (option_and_then (λ (n : Rattle.sdb_model.specs.ReadSet.Note). version_read n k) o)) (sym (got_map item_of (items_in plans t) i)) ∙ h)
 
-pub says_noted : (plans : List Plan) (t i : ℕ) (k : Key) (n : Note) (version : Option TxId) → slice_get (notes_in plans t) i ≡ Some n → version_noted (note_of n) k ≡ Some version → noted (plan_in plans t) i k ≡ Some (number_of version)
-unfolding noted
+pub says_noted : (plans : List Plan) (t i : ℕ) (k : Key) (n : ReadItem) (version : Option TxId) → slice_get (items_in plans t) i ≡ Some n → version_read (item_of n) k ≡ Some version → version_read_at (plan_in plans t) i k ≡ Some (number_of version)
+unfolding version_read_at
 says_noted plans t i k n version at says =
-    ap (λ o. option_map number_of (option_and_then (λ (n : Rattle.sdb_model.specs.Noted.Note). version_noted n k) o)) (got_map note_of (notes_in plans t) i ∙ ap (option_map note_of) at) ∙ ap (option_map number_of) says
+    ap (λ o. option_map number_of (option_and_then (λ (n : Rattle.sdb_model.specs.ReadSet.Note). version_read n k) o)) (got_map item_of (items_in plans t) i ∙ ap (option_map item_of) at) ∙ ap (option_map number_of) says
 
-pub got_says : (read : Read) (k : Key) (version : Option TxId) → version_noted (note_of (note.Got read)) k ≡ Some version → (read.key ≡ k) × (version ≡ read.version)
+pub got_says : (read : Read) (k : Key) (version : Option TxId) → version_read (item_of (item.Got read)) k ≡ Some version → (read.key ≡ k) × (version ≡ read.version)
 got_says read k version h = by (same_key read.key k) refl h
   where
     by : (b : Bool) → same_key read.key k ≡ b → (if b then Some read.version else None) ≡ Some version → (read.key ≡ k) × (version ≡ read.version)
     by true e f = (same_key_exact read.key k e, sym (some_is read.version version f))
     by false e f = none_some f
 
-pub says_got : (read : Read) → version_noted (note_of (note.Got read)) read.key ≡ Some read.version
+pub says_got : (read : Read) → version_read (item_of (item.Got read)) read.key ≡ Some read.version
 says_got read = ap (λ b. if b then Some read.version else None) (same_key_of read.key read.key refl)
 
-pub scan_says : (scan : Scan) (k : Key) (version : Option TxId) → version_noted (note_of (note.Scanned scan)) k ≡ Some version → (in_span scan.span k ≡ true) × (version ≡ version_among scan.found k)
+pub scan_says : (scan : Scan) (k : Key) (version : Option TxId) → version_read (item_of (item.Scanned scan)) k ≡ Some version → (in_span scan.span k ≡ true) × (version ≡ version_among scan.found k)
 scan_says scan k version h = by (in_span scan.span k) refl h
   where
     by : (b : Bool) → in_span scan.span k ≡ b → (if b then Some (version_among scan.found k) else None) ≡ Some version → (in_span scan.span k ≡ true) × (version ≡ version_among scan.found k)
     by true e f = (e, sym (some_is (version_among scan.found k) version f))
     by false e f = none_some f
 
-pub says_scan : (scan : Scan) (k : Key) → in_span scan.span k ≡ true → version_noted (note_of (note.Scanned scan)) k ≡ Some (version_among scan.found k)
+pub says_scan : (scan : Scan) (k : Key) → in_span scan.span k ≡ true → version_read (item_of (item.Scanned scan)) k ≡ Some (version_among scan.found k)
 says_scan scan k h = ap (λ b. if b then Some (version_among scan.found k) else None) h
 
 -- a version that a scan found is that of one of its reads

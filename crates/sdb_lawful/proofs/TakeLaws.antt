@@ -28,17 +28,17 @@ use Rattle.sdb_model.specs.declared.answer.Answer.TheVariants as answer
 use Rattle.sdb_model.specs.declared.event.Event.{Event}
 use Rattle.sdb_model.specs.declared.event.Event.TheVariants as event
 use Rattle.sdb_model.specs.Sql.{reads_begin, reads_commit}
-use Rattle.sdb_laws.specs.Plan.{write_at, noted, number_of}
-use Rattle.sdb_model.specs.Noted.{version_noted}
-use Rattle.sdb_laws.specs.Lawful.{id, talk, IsSettled, MayBegin, MayTake}
+use Rattle.sdb_laws.specs.Plan.{write_at, version_read_at, number_of}
+use Rattle.sdb_model.specs.ReadSet.{version_read}
+use Rattle.sdb_laws.specs.Lawful.{id, protocol_state, IsSettled, MayBegin, MayTake}
 use Rattle.sdb_said.specs.declared.plan.Plan.{Plan}
-use Rattle.sdb_said.specs.declared.plan.Note.{Note}
-use Rattle.sdb_said.specs.declared.plan.Note.TheVariants as note
-use Rattle.sdb_said.specs.declared.played.Played.{Played}
-use Rattle.sdb_said.specs.Values.{all_played, note_of, plan_in, writes_in, notes_in, moment_in}
-use Rattle.sdb_said.specs.Said.{begun_in, taken_in, open_in, owner_of, stopped_in}
-use Rattle.sdb_said.specs.Shown.{shown, is_settled}
-use Rattle.sdb_lawful.specs.Rules.{is_sound, is_fine_write, is_fine_key, are_fine_writes, is_fine_version, is_fine_found, is_fine_note, begins_well, takes_well}
+use Rattle.sdb_said.specs.declared.plan.ReadItem.{ReadItem}
+use Rattle.sdb_said.specs.declared.plan.ReadItem.TheVariants as note
+use Rattle.sdb_said.specs.declared.labelled.Labelled.{Labelled}
+use Rattle.sdb_said.specs.Values.{all_labelled, item_of, plan_in, writes_in, items_in, moment_in}
+use Rattle.sdb_said.specs.Started.{begun_in, commit_started_in, open_in, owner_of, stopped_in}
+use Rattle.sdb_said.specs.Observed.{observed, is_settled}
+use Rattle.sdb_lawful.specs.Rules.{is_sound, is_valid_write, is_valid_key, are_valid_writes, is_valid_version, is_valid_found, is_valid_item, begins_well, starts_well}
 use Rattle.sdb_said.proofs.Lists.{none_some, right, or_left, not_true, true_not, not_both, all_each, each_all, got_in, in_got}
 use Rattle.sdb_said.proofs.SaidLaws.{is_zero, zero_is, begun_is, taken_is, open_is, owner_is, stopped_is}
 use Rattle.sdb_said.proofs.ShownLaws.{number_is, is_number}
@@ -69,17 +69,17 @@ done_is (Some answer.Vacuuming) h = clash (sym h)
 done_is (Some answer.OpenTransactions) h = clash (sym h)
 done_is (Some answer.NoMemory) h = clash (sym h)
 
-fresh_is : (past : List Played) (t : ℕ) → not (begun_in past t) ≡ true → (talk (all_played past)).begun t ≡ 0
-fresh_is past t h = zero_is ((talk (all_played past)).begun t) (twice (is_zero ((talk (all_played past)).begun t)) (ap not (begun_is past t) ∙ h))
+fresh_is : (past : List Labelled) (t : ℕ) → not (begun_in past t) ≡ true → (protocol_state (all_labelled past)).begun t ≡ 0
+fresh_is past t h = zero_is ((protocol_state (all_labelled past)).begun t) (twice (is_zero ((protocol_state (all_labelled past)).begun t)) (ap not (begun_is past t) ∙ h))
   where
     twice : (b : Bool) → not (not b) ≡ true → b ≡ true
     twice true h = refl
     twice false h = h
 
-is_fresh : (past : List Played) (t : ℕ) → (talk (all_played past)).begun t ≡ 0 → not (begun_in past t) ≡ true
+is_fresh : (past : List Labelled) (t : ℕ) → (protocol_state (all_labelled past)).begun t ≡ 0 → not (begun_in past t) ≡ true
 is_fresh past t h = ap not (sym (begun_is past t) ∙ ap (λ n. not (is_zero n)) h)
 
-pub begin_is : (past : List Played) (e : Event) (t c : ℕ) → begins_well past e t c ≡ true → MayBegin (all_played past) e t c
+pub begin_is : (past : List Labelled) (e : Event) (t c : ℕ) → begins_well past e t c ≡ true → MayBegin (all_labelled past) e t c
 begin_is past (event.Take client text answered) t c h =
     let one = right (client == c) (reads_begin text && (is_done answered && (not (begun_in past t) && nat_lt t (2 ^ 128)))) h in
     let two = right (reads_begin text) (is_done answered && (not (begun_in past t) && nat_lt t (2 ^ 128))) one in
@@ -98,7 +98,7 @@ begin_is past (event.Stop client) t c h = clash (sym h)
 begin_is past (event.Clock moment) t c h = clash (sym h)
 begin_is past (event.Idle client) t c h = clash (sym h)
 
-pub is_begin : (past : List Played) (e : Event) (t c : ℕ) → MayBegin (all_played past) e t c → begins_well past e t c ≡ true
+pub is_begin : (past : List Labelled) (e : Event) (t c : ℕ) → MayBegin (all_labelled past) e t c → begins_well past e t c ≡ true
 is_begin past e t c m =
     ap (λ x. begins_well past x t c) m.take
     ∙ both (c == c) (reads_begin m.text && (true && (not (begun_in past t) && nat_lt t (2 ^ 128)))) (is_number c c refl)
@@ -128,112 +128,112 @@ is_within span clustering = both (is_eq (table_cmp span.table span.table)) (is_p
 
 ---- the taking of a COMMIT
 
-module _ (past : List Played) (plans : List Plan) (t : ℕ) where
-  fine_key_is : are_fine_writes (shown past) (writes_in plans t) (writes_in plans t) ≡ true → (k : Key) (w : Write) → write_among (writes_in plans t) k ≡ Some w → is_fine_write (shown past) k w ≡ true
+module _ (past : List Labelled) (plans : List Plan) (t : ℕ) where
+  fine_key_is : are_valid_writes (observed past) (writes_in plans t) (writes_in plans t) ≡ true → (k : Key) (w : Write) → write_among (writes_in plans t) k ≡ Some w → is_valid_write (observed past) k w ≡ true
   fine_key_is h k w e =
       let i = write_in_is (writes_in plans t) k w e in
-      subst (λ x. is_fine_write (shown past) x w ≡ true) i.1 (ap (λ o. option_map_or (is_fine_write (shown past) w.key) o true) (sym (write_own (writes_in plans t) k w e)) ∙ all_each (is_fine_key (shown past) (writes_in plans t)) (writes_in plans t) h w i.0)
+      subst (λ x. is_valid_write (observed past) x w ≡ true) i.1 (ap (λ o. option_map_or (is_valid_write (observed past) w.key) o true) (sym (write_own (writes_in plans t) k w e)) ∙ all_each (is_valid_key (observed past) (writes_in plans t)) (writes_in plans t) h w i.0)
 
-  writes_are : are_fine_writes (shown past) (writes_in plans t) (writes_in plans t) ≡ true → (k : Key) (w : Write) → write_at (plan_in plans t) k ≡ Some w → IsWrite w × (is_data k ≡ true)
+  writes_are : are_valid_writes (observed past) (writes_in plans t) (writes_in plans t) ≡ true → (k : Key) (w : Write) → write_at (plan_in plans t) k ≡ Some w → IsWrite w × (is_data k ≡ true)
   writes_are h k w e =
       let f = fine_key_is h k w (sym (write_is plans t k) ∙ e) in
-      let rest = right (is_sound w) (is_data k && option_map_or (is_settled (shown past) k) w.base true) f in
-      (sound_is w (left (is_sound w) (is_data k && option_map_or (is_settled (shown past) k) w.base true) f), left (is_data k) (option_map_or (is_settled (shown past) k) w.base true) rest)
+      let rest = right (is_sound w) (is_data k && option_map_or (is_settled (observed past) k) w.base true) f in
+      (sound_is w (left (is_sound w) (is_data k && option_map_or (is_settled (observed past) k) w.base true) f), left (is_data k) (option_map_or (is_settled (observed past) k) w.base true) rest)
 
-  bases_are : are_fine_writes (shown past) (writes_in plans t) (writes_in plans t) ≡ true → (k : Key) (w : Write) (b : Record) → write_at (plan_in plans t) k ≡ Some w → w.base ≡ Some b → IsSettled (all_played past) k b
+  bases_are : are_valid_writes (observed past) (writes_in plans t) (writes_in plans t) ≡ true → (k : Key) (w : Write) (b : Record) → write_at (plan_in plans t) k ≡ Some w → w.base ≡ Some b → IsSettled (all_labelled past) k b
   bases_are h k w b e base =
       let f = fine_key_is h k w (sym (write_is plans t k) ∙ e) in
-      let rest = right (is_sound w) (is_data k && option_map_or (is_settled (shown past) k) w.base true) f in
-      settled_is past k b (ap (λ o. option_map_or (is_settled (shown past) k) o true) (sym base) ∙ right (is_data k) (option_map_or (is_settled (shown past) k) w.base true) rest)
+      let rest = right (is_sound w) (is_data k && option_map_or (is_settled (observed past) k) w.base true) f in
+      settled_is past k b (ap (λ o. option_map_or (is_settled (observed past) k) o true) (sym base) ∙ right (is_data k) (option_map_or (is_settled (observed past) k) w.base true) rest)
 
-  are_writes : ((k : Key) (w : Write) → write_at (plan_in plans t) k ≡ Some w → IsWrite w × (is_data k ≡ true)) → ((k : Key) (w : Write) (b : Record) → write_at (plan_in plans t) k ≡ Some w → w.base ≡ Some b → IsSettled (all_played past) k b)
-      → are_fine_writes (shown past) (writes_in plans t) (writes_in plans t) ≡ true
-  are_writes ws bs = each_all (is_fine_key (shown past) (writes_in plans t)) (writes_in plans t) (λ w i. by w.key (write_among (writes_in plans t) w.key) refl)
+  are_writes : ((k : Key) (w : Write) → write_at (plan_in plans t) k ≡ Some w → IsWrite w × (is_data k ≡ true)) → ((k : Key) (w : Write) (b : Record) → write_at (plan_in plans t) k ≡ Some w → w.base ≡ Some b → IsSettled (all_labelled past) k b)
+      → are_valid_writes (observed past) (writes_in plans t) (writes_in plans t) ≡ true
+  are_writes ws bs = each_all (is_valid_key (observed past) (writes_in plans t)) (writes_in plans t) (λ w i. by w.key (write_among (writes_in plans t) w.key) refl)
     where
-      base : (k : Key) (w : Write) → write_among (writes_in plans t) k ≡ Some w → (o : Option Record) → w.base ≡ o → option_map_or (is_settled (shown past) k) o true ≡ true
+      base : (k : Key) (w : Write) → write_among (writes_in plans t) k ≡ Some w → (o : Option Record) → w.base ≡ o → option_map_or (is_settled (observed past) k) o true ≡ true
       base k w e None f = refl
       base k w e (Some b) f = is_settled_of past k b (bs k w b (write_is plans t k ∙ e) f)
 
-      by : (k : Key) (o : Option Write) → write_among (writes_in plans t) k ≡ o → option_map_or (is_fine_write (shown past) k) o true ≡ true
+      by : (k : Key) (o : Option Write) → write_among (writes_in plans t) k ≡ o → option_map_or (is_valid_write (observed past) k) o true ≡ true
       by k None e = refl
       by k (Some w) e =
           let a = ws k w (write_is plans t k ∙ e) in
-          both (is_sound w) (is_data k && option_map_or (is_settled (shown past) k) w.base true) (is_sound_of w a.0) (both (is_data k) (option_map_or (is_settled (shown past) k) w.base true) a.1 (base k w e w.base refl))
+          both (is_sound w) (is_data k && option_map_or (is_settled (observed past) k) w.base true) (is_sound_of w a.0) (both (is_data k) (option_map_or (is_settled (observed past) k) w.base true) a.1 (base k w e w.base refl))
 
   abbrev Noted : Type 0
-  Noted = (i : ℕ) (k : Key) (u : ℕ) → noted (plan_in plans t) i k ≡ Some (Some u) → (b : Record) × IsSettled (all_played past) k b × (id_in b.columns ≡ Some (id u))
+  Noted = (i : ℕ) (k : Key) (u : ℕ) → version_read_at (plan_in plans t) i k ≡ Some (Some u) → (b : Record) × IsSettled (all_labelled past) k b × (id_in b.columns ≡ Some (id u))
 
   abbrev InTables : Type 0
-  InTables = (i : ℕ) (k : Key) (version : Option ℕ) → noted (plan_in plans t) i k ≡ Some version → is_data k ≡ true
+  InTables = (i : ℕ) (k : Key) (version : Option ℕ) → version_read_at (plan_in plans t) i k ≡ Some version → is_data k ≡ true
 
-  version_is : (k : Key) (o : Option TxId) (u : ℕ) → number_of o ≡ Some u → is_fine_version (shown past) k o ≡ true → HasSettled past k u
+  version_is : (k : Key) (o : Option TxId) (u : ℕ) → number_of o ≡ Some u → is_valid_version (observed past) k o ≡ true → HasSettled past k u
   version_is k None u e h = none_some e
   version_is k (Some v) u e h = subst (λ x. HasSettled past k x) (some_is v.0 u e) (settles_is past k v.0 h)
 
-  note_version : (n : Note) (k : Key) (version : Option TxId) → is_fine_note (shown past) n ≡ true → version_noted (note_of n) k ≡ Some version → is_fine_version (shown past) k version ≡ true
-  note_version (note.Got read) k version h s =
+  note_version : (n : ReadItem) (k : Key) (version : Option TxId) → is_valid_item (observed past) n ≡ true → version_read (item_of n) k ≡ Some version → is_valid_version (observed past) k version ≡ true
+  note_version (item.Got read) k version h s =
       let g = got_says read k version s in
-      subst (λ x. is_fine_version (shown past) x version ≡ true) g.0 (subst (λ x. is_fine_version (shown past) read.key x ≡ true) (sym g.1) (right (is_data read.key) (is_fine_version (shown past) read.key read.version) h))
-  note_version (note.Scanned scan) k version h s =
+      subst (λ x. is_valid_version (observed past) x version ≡ true) g.0 (subst (λ x. is_valid_version (observed past) read.key x ≡ true) (sym g.1) (right (is_data read.key) (is_valid_version (observed past) read.key read.version) h))
+  note_version (item.Scanned scan) k version h s =
       let g = scan_says scan k version s in
-      subst (λ x. is_fine_version (shown past) k x ≡ true) (sym g.1) (by (version_among scan.found k) refl g.0)
+      subst (λ x. is_valid_version (observed past) k x ≡ true) (sym g.1) (by (version_among scan.found k) refl g.0)
     where
-      by : (o : Option TxId) → version_among scan.found k ≡ o → in_span scan.span k ≡ true → is_fine_version (shown past) k o ≡ true
+      by : (o : Option TxId) → version_among scan.found k ≡ o → in_span scan.span k ≡ true → is_valid_version (observed past) k o ≡ true
       by None e within = refl
       by (Some v) e within =
           let r = among_is scan.found k v e in
-          let f = all_each (is_fine_found (shown past) scan) scan.found (right (not (is_coordinator_table scan.span.table)) (list_all (is_fine_found (shown past) scan) scan.found) h) r.0 r.1 in
-          subst (λ x. is_fine_version (shown past) k x ≡ true) e
-          (subst (λ x. is_fine_version (shown past) x (version_among scan.found x) ≡ true) r.2
-          (elim (either (not (in_span scan.span r.0.key)) (is_fine_version (shown past) r.0.key (version_among scan.found r.0.key)) f) [
+          let f = all_each (is_valid_found (observed past) scan) scan.found (right (not (is_coordinator_table scan.span.table)) (list_all (is_valid_found (observed past) scan) scan.found) h) r.0 r.1 in
+          subst (λ x. is_valid_version (observed past) k x ≡ true) e
+          (subst (λ x. is_valid_version (observed past) x (version_among scan.found x) ≡ true) r.2
+          (elim (either (not (in_span scan.span r.0.key)) (is_valid_version (observed past) r.0.key (version_among scan.found r.0.key)) f) [
             | inl out ↦ not_both (in_span scan.span r.0.key) (ap (in_span scan.span) r.2 ∙ within) (not_true (in_span scan.span r.0.key) out)
             | inr a ↦ a
           ]))
 
-  note_table : (n : Note) (k : Key) (version : Option TxId) → is_fine_note (shown past) n ≡ true → version_noted (note_of n) k ≡ Some version → is_data k ≡ true
-  note_table (note.Got read) k version h s = subst (λ x. is_data x ≡ true) (got_says read k version s).0 (left (is_data read.key) (is_fine_version (shown past) read.key read.version) h)
-  note_table (note.Scanned scan) k version h s = span_table scan.span k (scan_says scan k version s).0 ∙ left (not (is_coordinator_table scan.span.table)) (list_all (is_fine_found (shown past) scan) scan.found) h
+  note_table : (n : ReadItem) (k : Key) (version : Option TxId) → is_valid_item (observed past) n ≡ true → version_read (item_of n) k ≡ Some version → is_data k ≡ true
+  note_table (item.Got read) k version h s = subst (λ x. is_data x ≡ true) (got_says read k version s).0 (left (is_data read.key) (is_valid_version (observed past) read.key read.version) h)
+  note_table (item.Scanned scan) k version h s = span_table scan.span k (scan_says scan k version s).0 ∙ left (not (is_coordinator_table scan.span.table)) (list_all (is_valid_found (observed past) scan) scan.found) h
 
-  notes_are : list_all (is_fine_note (shown past)) (notes_in plans t) ≡ true → Noted
+  notes_are : list_all (is_valid_item (observed past)) (items_in plans t) ≡ true → Noted
   notes_are h i k u e =
       let s = noted_says plans t i k (Some u) e in
-      let f = all_each (is_fine_note (shown past)) (notes_in plans t) h s.n (got_in (notes_in plans t) i s.n s.at) in
-      let b = version_is k s.version u s.number (note_version s.n k s.version f s.noted) in
+      let f = all_each (is_valid_item (observed past)) (items_in plans t) h s.n (got_in (items_in plans t) i s.n s.at) in
+      let b = version_is k s.version u s.number (note_version s.n k s.version f s.as_read) in
       (b.b, b.settled, b.writer)
 
-  tables_are : list_all (is_fine_note (shown past)) (notes_in plans t) ≡ true → InTables
+  tables_are : list_all (is_valid_item (observed past)) (items_in plans t) ≡ true → InTables
   tables_are h i k v e =
       let s = noted_says plans t i k v e in
-      note_table s.n k s.version (all_each (is_fine_note (shown past)) (notes_in plans t) h s.n (got_in (notes_in plans t) i s.n s.at)) s.noted
+      note_table s.n k s.version (all_each (is_valid_item (observed past)) (items_in plans t) h s.n (got_in (items_in plans t) i s.n s.at)) s.as_read
 
-  fine_version : Noted → (i : ℕ) (n : Note) → slice_get (notes_in plans t) i ≡ Some n → (k : Key) (o : Option TxId) → version_noted (note_of n) k ≡ Some o → is_fine_version (shown past) k o ≡ true
+  fine_version : Noted → (i : ℕ) (n : ReadItem) → slice_get (items_in plans t) i ≡ Some n → (k : Key) (o : Option TxId) → version_read (item_of n) k ≡ Some o → is_valid_version (observed past) k o ≡ true
   fine_version f i n at k None s = refl
   fine_version f i n at k (Some v) s = let b = f i k v.0 (says_noted plans t i k n (Some v) at s) in settles_of past k v.0 (record { b = b.0; settled = b.1; writer = b.2 })
 
-  are_notes : Noted → InTables → list_all (is_fine_note (shown past)) (notes_in plans t) ≡ true
-  are_notes f g = each_all (is_fine_note (shown past)) (notes_in plans t) (λ n i. let a = in_got (notes_in plans t) n i in by n a.0 a.1)
+  are_notes : Noted → InTables → list_all (is_valid_item (observed past)) (items_in plans t) ≡ true
+  are_notes f g = each_all (is_valid_item (observed past)) (items_in plans t) (λ n i. let a = in_got (items_in plans t) n i in by n a.0 a.1)
     where
-      by : (n : Note) (i : ℕ) → slice_get (notes_in plans t) i ≡ Some n → is_fine_note (shown past) n ≡ true
-      by (note.Got read) i at =
-          both (is_data read.key) (is_fine_version (shown past) read.key read.version) (g i read.key (number_of read.version) (says_noted plans t i read.key (note.Got read) read.version at (says_got read))) (fine_version f i (note.Got read) at read.key read.version (says_got read))
-      by (note.Scanned scan) i at =
+      by : (n : ReadItem) (i : ℕ) → slice_get (items_in plans t) i ≡ Some n → is_valid_item (observed past) n ≡ true
+      by (item.Got read) i at =
+          both (is_data read.key) (is_valid_version (observed past) read.key read.version) (g i read.key (number_of read.version) (says_noted plans t i read.key (item.Got read) read.version at (says_got read))) (fine_version f i (item.Got read) at read.key read.version (says_got read))
+      by (item.Scanned scan) i at =
           let k = key_within scan.span [] in
-          both (not (is_coordinator_table scan.span.table)) (list_all (is_fine_found (shown past) scan) scan.found)
-          (sym (span_table scan.span k (is_within scan.span [])) ∙ g i k (number_of (version_among scan.found k)) (says_noted plans t i k (note.Scanned scan) (version_among scan.found k) at (says_scan scan k (is_within scan.span []))))
-          (each_all (is_fine_found (shown past) scan) scan.found (λ r j. elim (decide (in_span scan.span r.key)) [
-            | inl within ↦ or_right (not (in_span scan.span r.key)) (is_fine_version (shown past) r.key (version_among scan.found r.key)) (fine_version f i (note.Scanned scan) at r.key (version_among scan.found r.key) (says_scan scan r.key within))
-            | inr out ↦ or_left (not (in_span scan.span r.key)) (is_fine_version (shown past) r.key (version_among scan.found r.key)) (true_not (in_span scan.span r.key) out)
+          both (not (is_coordinator_table scan.span.table)) (list_all (is_valid_found (observed past) scan) scan.found)
+          (sym (span_table scan.span k (is_within scan.span [])) ∙ g i k (number_of (version_among scan.found k)) (says_noted plans t i k (item.Scanned scan) (version_among scan.found k) at (says_scan scan k (is_within scan.span []))))
+          (each_all (is_valid_found (observed past) scan) scan.found (λ r j. elim (decide (in_span scan.span r.key)) [
+            | inl within ↦ or_right (not (in_span scan.span r.key)) (is_valid_version (observed past) r.key (version_among scan.found r.key)) (fine_version f i (item.Scanned scan) at r.key (version_among scan.found r.key) (says_scan scan r.key within))
+            | inr out ↦ or_left (not (in_span scan.span r.key)) (is_valid_version (observed past) r.key (version_among scan.found r.key)) (true_not (in_span scan.span r.key) out)
           ]))
 
-pub take_is : (past : List Played) (plans : List Plan) (e : Event) (t : ℕ) → takes_well (shown past) past plans e t ≡ true → MayTake (plan_in plans) (all_played past) e t
+pub take_is : (past : List Labelled) (plans : List Plan) (e : Event) (t : ℕ) → starts_well (observed past) past plans e t ≡ true → MayTake (plan_in plans) (all_labelled past) e t
 take_is past plans (event.Take client text answered) t h =
-    let ws = are_fine_writes (shown past) (writes_in plans t) (writes_in plans t) in
-    let ns = list_all (is_fine_note (shown past)) (notes_in plans t) in
+    let ws = are_valid_writes (observed past) (writes_in plans t) (writes_in plans t) in
+    let ns = list_all (is_valid_item (observed past)) (items_in plans t) in
     let own = owner_of past t == client in
     let opened = open_in past t in
     let on = not (stopped_in past client) in
     let moment = is_moment (moment_in plans t) in
-    let new = not (taken_in past t) in
+    let new = not (commit_started_in past t) in
     let one = right (reads_commit text) ((own && (opened && on)) && (new && (moment && (ws && ns)))) h in
     let live = left (own && (opened && on)) (new && (moment && (ws && ns))) one in
     let two = right (own && (opened && on)) (new && (moment && (ws && ns))) one in
@@ -248,11 +248,11 @@ take_is past plans (event.Take client text answered) t h =
       owner = owner_is past t ∙ number_is (owner_of past t) client (left own (opened && on) live);
       is_open = open_is past t ∙ left opened on (right own (opened && on) live);
       goes_on = stopped_is past client ∙ not_true (stopped_in past client) (right opened on (right own (opened && on) live));
-      fresh = taken_is past t ∙ not_true (taken_in past t) (left new (moment && (ws && ns)) two);
+      fresh = taken_is past t ∙ not_true (commit_started_in past t) (left new (moment && (ws && ns)) two);
       moment = left moment (ws && ns) three;
       writes = writes_are past plans t (left ws ns four);
       bases = bases_are past plans t (left ws ns four);
-      notes = notes_are past plans t (right ws ns four);
+      read_set = notes_are past plans t (right ws ns four);
       tables = tables_are past plans t (right ws ns four);
     }
 take_is past plans (event.Call client store q how r answered) t h = clash (sym h)
@@ -260,17 +260,17 @@ take_is past plans (event.Stop client) t h = clash (sym h)
 take_is past plans (event.Clock moment) t h = clash (sym h)
 take_is past plans (event.Idle client) t h = clash (sym h)
 
-pub is_take : (past : List Played) (plans : List Plan) (e : Event) (t : ℕ) → MayTake (plan_in plans) (all_played past) e t → takes_well (shown past) past plans e t ≡ true
+pub is_take : (past : List Labelled) (plans : List Plan) (e : Event) (t : ℕ) → MayTake (plan_in plans) (all_labelled past) e t → starts_well (observed past) past plans e t ≡ true
 is_take past plans e t m =
-    let ws = are_fine_writes (shown past) (writes_in plans t) (writes_in plans t) in
-    let ns = list_all (is_fine_note (shown past)) (notes_in plans t) in
+    let ws = are_valid_writes (observed past) (writes_in plans t) (writes_in plans t) in
+    let ns = list_all (is_valid_item (observed past)) (items_in plans t) in
     let own = owner_of past t == m.client in
     let opened = open_in past t in
     let on = not (stopped_in past m.client) in
     let moment = is_moment (moment_in plans t) in
-    let new = not (taken_in past t) in
-    ap (λ x. takes_well (shown past) past plans x t) m.take
+    let new = not (commit_started_in past t) in
+    ap (λ x. starts_well (observed past) past plans x t) m.take
     ∙ both (reads_commit m.text) ((own && (opened && on)) && (new && (moment && (ws && ns)))) m.commit
     (both (own && (opened && on)) (new && (moment && (ws && ns)))
     (both own (opened && on) (is_number (owner_of past t) m.client (sym (owner_is past t) ∙ m.owner)) (both opened on (sym (open_is past t) ∙ m.is_open) (true_not (stopped_in past m.client) (sym (stopped_is past m.client) ∙ m.goes_on))))
-    (both new (moment && (ws && ns)) (true_not (taken_in past t) (sym (taken_is past t) ∙ m.fresh)) (both moment (ws && ns) m.moment (both ws ns (are_writes past plans t m.writes m.bases) (are_notes past plans t m.notes m.tables)))))
+    (both new (moment && (ws && ns)) (true_not (commit_started_in past t) (sym (taken_is past t) ∙ m.fresh)) (both moment (ws && ns) m.moment (both ws ns (are_writes past plans t m.writes m.bases) (are_notes past plans t m.read_set m.tables)))))

@@ -7,13 +7,13 @@ use Rattle.sdb_laws.specs.Lawful as lawful
 use Rattle.sdb_laws.specs.Lawful.{IsLawful, MayPrepare, MayRollBy}
 use Rattle.sdb_laws.specs.Plan as law
 use Rattle.sdb_said.specs.declared.plan.Plan.{Plan}
-use Rattle.sdb_said.specs.declared.played.Played.{Played}
-use Rattle.sdb_said.specs.declared.played.Word.{Word}
-use Rattle.sdb_said.specs.Values.{all_played, plan_in, word_of}
+use Rattle.sdb_said.specs.declared.labelled.Labelled.{Labelled}
+use Rattle.sdb_said.specs.declared.labelled.Ack.{Ack}
+use Rattle.sdb_said.specs.Values.{all_labelled, plan_in, ack_of}
 
 -- An event, with the events before it, newest first, and the plans.
 pub record NextEvent : Type 0 where
-  pub past : List Played
+  pub past : List Labelled
   pub plans : List Plan
   pub event : Event
 
@@ -22,16 +22,16 @@ abbrev pub plan_of : NextEvent → ℕ → law.Plan
 plan_of n = plan_in n.plans
 
 -- the events before it, as the rules speak of them
-abbrev pub past_of : NextEvent → List lawful.Played
-past_of n = all_played n.past
+abbrev pub past_of : NextEvent → List lawful.Labelled
+past_of n = all_labelled n.past
 
 -- the events before it keep the rules
 abbrev pub IsAfterLawful : NextEvent → Type 0
 IsAfterLawful n = IsLawful (plan_of n) (past_of n)
 
 -- It may prepare a key of a transaction, with that outcome.
-abbrev pub MayPrepareKey : NextEvent → ℕ → Key → Word → Type 0
-MayPrepareKey n t k w = MayPrepare (plan_of n) (past_of n) n.event t k (word_of w)
+abbrev pub MayPrepareKey : NextEvent → ℕ → Key → Ack → Type 0
+MayPrepareKey n t k w = MayPrepare (plan_of n) (past_of n) n.event t k (ack_of w)
 
 -- It may roll a record of a transaction by that decision.
 abbrev pub MayRollKey : NextEvent → ℕ → Key → Decision → Type 0

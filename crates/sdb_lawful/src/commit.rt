@@ -1,4 +1,4 @@
-//! Whether a COMMIT may be taken: its writes and notes against what was shown.
+//! Whether a COMMIT may be taken: its write set and its read set against what was observed.
 ghost use Rattle.std.specs.Prelude.{◌≡◌, ◌&&◌, if◌then◌else◌, IfOk};
 ghost use Rattle.std.specs.Option.{option_copied, option_map_or};
 ghost use Rattle.std.specs.List.{list_all};
@@ -6,14 +6,14 @@ ghost use Rattle.sdb_record.specs.Moved.{is_unchanged as is_unchanged_lem};
 ghost use Rattle.sdb_record.specs.Names.{is_user};
 ghost use Rattle.sdb_record.specs.Parts.{are_user_columns as are_user_columns_lem, is_column_name};
 ghost use Rattle.sdb_record.specs.Rolls.{is_change as is_change_lem, prepared_record};
-ghost use Rattle.sdb_said.specs.Shown.{is_settled as is_settled_lem};
-ghost use Rattle.sdb_lawful.specs.Rules.{is_base as is_base_lem, is_sound as is_sound_lem, is_fine_write as is_fine_write_lem, is_fine_key as is_fine_key_lem, are_fine_writes as are_fine_writes_lem, is_fine_version as is_fine_version_lem, is_fine_found as is_fine_found_lem, is_fine_note as is_fine_note_lem, prepared_by as prepared_by_lem};
+ghost use Rattle.sdb_said.specs.Observed.{is_settled as is_settled_lem};
+ghost use Rattle.sdb_lawful.specs.Rules.{is_base as is_base_lem, is_sound as is_sound_lem, is_valid_write as is_valid_write_lem, is_valid_key as is_valid_key_lem, are_valid_writes as are_valid_writes_lem, is_valid_version as is_valid_version_lem, is_valid_found as is_valid_found_lem, is_valid_item as is_valid_item_lem, prepared_by as prepared_by_lem};
 ghost use Rattle.sdb_model.specs.Tables.{is_data as is_data_lem};
 
 use sdb_record::{
     Change, MetaRefused, Read, Scan, Write, is_coordinator, is_user_name, meta_of, prepared,
 };
-use sdb_said::{Note, is_same_key, is_settled, settles, version_among, write_of};
+use sdb_said::{ReadItem, is_same_key, is_settled, settles, version_among, write_of};
 use sdb_types::{Key, NoMemory, Pair, Record, TxId, is_identifier_text};
 use std::alloc::Global;
 
@@ -111,7 +111,7 @@ fn is_fine_write(
     key: &Key,
     write: &Write,
 ) -> Result<bool, NoMemory>
-    ensures { IfOk result (λ fine. fine ≡ is_fine_write_lem shown.now key.now write.now) }
+    ensures { IfOk result (λ valid. valid ≡ is_valid_write_lem shown.now key.now write.now) }
 {
     if !is_sound(alloc, write) || !is_data(key) {
         return Ok(false);
@@ -128,7 +128,7 @@ fn is_fine_key(
     writes: &[Write],
     write: &Write,
 ) -> Result<bool, NoMemory>
-    ensures { IfOk result (λ fine. fine ≡ is_fine_key_lem shown.now writes.now write.now) }
+    ensures { IfOk result (λ valid. valid ≡ is_valid_key_lem shown.now writes.now write.now) }
 {
     match write_of(writes, &write.key) {
         Some(first) => is_fine_write(alloc, shown, &write.key, first),
@@ -137,8 +137,8 @@ fn is_fine_key(
 }
 
 /// Whether each key is written as a transaction may, over a committed record that a read came to.
-pub fn are_fine_writes(alloc: Global, shown: &[Record], writes: &[Write]) -> Result<bool, NoMemory>
-    ensures { IfOk result (λ fine. fine ≡ are_fine_writes_lem shown.now writes.now writes.now) }
+pub fn are_valid_writes(alloc: Global, shown: &[Record], writes: &[Write]) -> Result<bool, NoMemory>
+    ensures { IfOk result (λ valid. valid ≡ are_valid_writes_lem shown.now writes.now writes.now) }
 {
     for write in writes {
         if !is_fine_key(alloc, shown, writes, write)? {
@@ -154,7 +154,7 @@ fn is_fine_version(
     key: &Key,
     version: Option<TxId>,
 ) -> Result<bool, NoMemory>
-    ensures { IfOk result (λ fine. fine ≡ is_fine_version_lem shown.now key.now version) }
+    ensures { IfOk result (λ valid. valid ≡ is_valid_version_lem shown.now key.now version) }
 {
     match version {
         Some(id) => settles(alloc, shown, key, id),
@@ -168,7 +168,7 @@ fn is_fine_found(
     scan: &Scan,
     read: &Read,
 ) -> Result<bool, NoMemory>
-    ensures { IfOk result (λ fine. fine ≡ is_fine_found_lem shown.now scan.now read.now) }
+    ensures { IfOk result (λ valid. valid ≡ is_valid_found_lem shown.now scan.now read.now) }
 {
     if !scan.span.contains(&read.key) {
         return Ok(true);
@@ -178,7 +178,7 @@ fn is_fine_found(
 }
 
 fn is_fine_scan(alloc: Global, shown: &[Record], scan: &Scan) -> Result<bool, NoMemory>
-    ensures { IfOk result (λ fine. fine ≡ list_all (is_fine_found_lem shown.now scan.now) scan.now.found) }
+    ensures { IfOk result (λ valid. valid ≡ list_all (is_valid_found_lem shown.now scan.now) scan.now.found) }
 {
     let found = scan.found.as_slice();
     for read in found {
@@ -189,17 +189,17 @@ fn is_fine_scan(alloc: Global, shown: &[Record], scan: &Scan) -> Result<bool, No
     Ok(true)
 }
 
-fn is_fine_note(alloc: Global, shown: &[Record], note: &Note) -> Result<bool, NoMemory>
-    ensures { IfOk result (λ fine. fine ≡ is_fine_note_lem shown.now note.now) }
+fn is_fine_note(alloc: Global, shown: &[Record], item: &ReadItem) -> Result<bool, NoMemory>
+    ensures { IfOk result (λ valid. valid ≡ is_valid_item_lem shown.now item.now) }
 {
-    match note {
-        Note::Got(read) => {
+    match item {
+        ReadItem::Got(read) => {
             if !is_data(&read.key) {
                 return Ok(false);
             }
             is_fine_version(alloc, shown, &read.key, read.version)
         }
-        Note::Scanned(scan) => {
+        ReadItem::Scanned(scan) => {
             if is_coordinator(&scan.span.table) {
                 return Ok(false);
             }
@@ -208,12 +208,16 @@ fn is_fine_note(alloc: Global, shown: &[Record], note: &Note) -> Result<bool, No
     }
 }
 
-/// Whether each version noted is that of a committed record that a read came to.
-pub fn are_fine_notes(alloc: Global, shown: &[Record], notes: &[Note]) -> Result<bool, NoMemory>
-    ensures { IfOk result (λ fine. fine ≡ list_all (is_fine_note_lem shown.now) notes.now) }
+/// Whether each version read is that of a committed record that a read came to.
+pub fn are_valid_items(
+    alloc: Global,
+    shown: &[Record],
+    read_set: &[ReadItem],
+) -> Result<bool, NoMemory>
+    ensures { IfOk result (λ valid. valid ≡ list_all (is_valid_item_lem shown.now) read_set.now) }
 {
-    for note in notes {
-        if !is_fine_note(alloc, shown, note)? {
+    for item in read_set {
+        if !is_fine_note(alloc, shown, item)? {
             return Ok(false);
         }
     }

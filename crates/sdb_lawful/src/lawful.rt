@@ -1,89 +1,91 @@
 //! The law decided on a list of events.
 ghost use Rattle.std.specs.Prelude.{◌≡◌, ◌&&◌, ◌↔◌, IsTrue, IfOk};
 ghost use Rattle.sdb_laws.specs.Lawful.{IsLawful};
-ghost use Rattle.sdb_said.specs.Values.{plan_in, all_played};
-ghost use Rattle.sdb_lawful.specs.Rules.{plays_well, answers_well, keeps_rules};
-ghost use Rattle.sdb_said.specs.Shown.{shown as shown_lem};
+ghost use Rattle.sdb_said.specs.Values.{plan_in, all_labelled};
+ghost use Rattle.sdb_lawful.specs.Rules.{acts_well, answers_well, obeys_rules};
+ghost use Rattle.sdb_said.specs.Observed.{observed as observed_lem};
 
 use crate::rolls::{answers_truly, may_remove, may_roll};
 use crate::rules::{
     is_quiet, may_abort, may_begin, may_check, may_decide, may_prepare, may_stop, may_take,
 };
 use sdb_model::Event;
-use sdb_said::{Plan, Played, Role, shown};
+use sdb_said::{Action, Labelled, Plan, observed};
 use sdb_types::{NoMemory, Record};
 use std::alloc::Global;
 
 fn may_play(
     alloc: Global,
     shown: &[Record],
-    past: &[Played],
+    past: &[Labelled],
     plans: &[Plan],
     event: &Event,
-    role: &Role,
+    action: &Action,
 ) -> Result<bool, NoMemory>
-    ensures { IfOk result (λ well. well ≡ plays_well shown.now past.now plans.now event.now role.now) }
+    ensures { IfOk result (λ well. well ≡ acts_well shown.now past.now plans.now event.now action.now) }
 {
-    match role {
-        Role::Other => Ok(is_quiet(event)),
-        Role::Begins(id, client) => may_begin(alloc, past, event, *id, *client),
-        Role::Takes(id) => may_take(alloc, shown, past, plans, event, *id),
-        Role::Prepares(id, key, word) => { may_prepare(alloc, past, plans, event, *id, key, *word) }
-        Role::Checks(id, i) => Ok(may_check(past, plans, event, *id, *i)),
-        Role::Decides(id, word) => may_decide(alloc, past, plans, event, *id, *word),
-        Role::Aborts(id, moment, word) => may_abort(alloc, event, *id, *moment, *word),
-        Role::Rolls(id, key, decision) => {
+    match action {
+        Action::Other => Ok(is_quiet(event)),
+        Action::Begins(id, client) => may_begin(alloc, past, event, *id, *client),
+        Action::Takes(id) => may_take(alloc, shown, past, plans, event, *id),
+        Action::Prepares(id, key, word) => {
+            may_prepare(alloc, past, plans, event, *id, key, *word)
+        }
+        Action::Checks(id, i) => Ok(may_check(past, plans, event, *id, *i)),
+        Action::Decides(id, word) => may_decide(alloc, past, plans, event, *id, *word),
+        Action::Aborts(id, moment, word) => may_abort(alloc, event, *id, *moment, *word),
+        Action::Rolls(id, key, decision) => {
             may_roll(alloc, shown, past, plans, event, *id, key, *decision)
         }
-        Role::Removes(key, id) => may_remove(alloc, shown, past, event, key, *id),
-        Role::Ends(_) => Ok(false),
-        Role::Stops(client) => Ok(may_stop(event, *client)),
+        Action::Removes(key, id) => may_remove(alloc, shown, past, event, key, *id),
+        Action::Ends(_) => Ok(false),
+        Action::Stops(client) => Ok(may_stop(event, *client)),
     }
 }
 
 fn may_follow(
     alloc: Global,
     plans: &[Plan],
-    whole: &[Played],
-    past: &[Played],
-    played: &Played,
+    whole: &[Labelled],
+    past: &[Labelled],
+    labelled: &Labelled,
 ) -> Result<bool, NoMemory>
-    ensures { IfOk result (λ well. well ≡ (plays_well (shown_lem past.now) past.now plans.now played.now.event played.now.role && answers_well (shown_lem whole.now) whole.now past.now played.now)) }
+    ensures { IfOk result (λ well. well ≡ (acts_well (observed_lem past.now) past.now plans.now labelled.now.event labelled.now.action && answers_well (observed_lem whole.now) whole.now past.now labelled.now)) }
 {
-    let before = shown(alloc, past)?;
+    let before = observed(alloc, past)?;
     if !may_play(
         alloc,
         before.as_slice(),
         past,
         plans,
-        &played.event,
-        &played.role,
+        &labelled.event,
+        &labelled.action,
     )? {
         return Ok(false);
     }
-    let after = shown(alloc, whole)?;
-    answers_truly(alloc, after.as_slice(), whole, past, played)
+    let after = observed(alloc, whole)?;
+    answers_truly(alloc, after.as_slice(), whole, past, labelled)
 }
 
-fn all_follow(alloc: Global, plans: &[Plan], past: &[Played]) -> Result<bool, NoMemory>
-    ensures { IfOk result (λ well. well ≡ keeps_rules plans.now past.now) }
+fn all_follow(alloc: Global, plans: &[Plan], past: &[Labelled]) -> Result<bool, NoMemory>
+    ensures { IfOk result (λ well. well ≡ obeys_rules plans.now past.now) }
 {
     match past.split_first() {
         None => Ok(true),
-        Some((played, before)) => {
+        Some((labelled, before)) => {
             if !all_follow(alloc, plans, before)? {
                 return Ok(false);
             }
-            may_follow(alloc, plans, past, before, played)
+            may_follow(alloc, plans, past, before, labelled)
         }
     }
 }
 
 /// Whether a list of events, newest first, keeps the rules of the protocol, where transactions go into their COMMITs with these
-/// plans. One that has no plan writes and notes nothing. Slow: each event is tested against all those before it, several times
+/// plans. One that has no plan writes and reads nothing. Slow: each event is tested against all those before it, several times
 /// over.
-pub fn is_lawful(alloc: Global, plans: &[Plan], past: &[Played]) -> Result<bool, NoMemory>
-    ensures { IfOk result (λ lawful. IsTrue lawful ↔ IsLawful (plan_in plans.now) (all_played past.now)) }
+pub fn is_lawful(alloc: Global, plans: &[Plan], past: &[Labelled]) -> Result<bool, NoMemory>
+    ensures { IfOk result (λ lawful. IsTrue lawful ↔ IsLawful (plan_in plans.now) (all_labelled past.now)) }
 {
     all_follow(alloc, plans, past)
 }

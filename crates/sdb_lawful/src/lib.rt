@@ -1,4 +1,4 @@
-//! Whether a list of events keeps the rules of the protocol: the law's definition decided, slowly, by search.
+//! Whether a list of events obeys the rules of the protocol: the law's definition decided, slowly, by search.
 #![tactic(auto)]
 
 mod commit;

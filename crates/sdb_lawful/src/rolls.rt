@@ -4,8 +4,8 @@ ghost use Rattle.std.specs.Option.{option_copied, option_map_or};
 ghost use Rattle.std.specs.List.{list_any};
 ghost use Rattle.sdb_record.specs.Meta.{is_committed as is_committed_lem};
 ghost use Rattle.sdb_laws.specs.Lawful.{answer_of as answer_of_lem, is_denial as is_denial_lem};
-ghost use Rattle.sdb_said.specs.Shown.{is_held_by as is_held_by_lem, is_forward as is_forward_lem};
-ghost use Rattle.sdb_lawful.specs.Rules.{is_known_committed as is_known_committed_lem, is_known_aborted as is_known_aborted_lem, own as own_lem, with_own, has_own_moment as has_own_moment_lem, known_moments as known_moments_lem, any_held_forward as any_held_forward_lem, is_rolled_forward as is_rolled_forward_lem, rolls_open as rolls_open_lem, rolls_forward, is_kept as is_kept_lem, is_back as is_back_lem, undoes as undoes_lem, rolls_back, rolls_well, removes_version as removes_version_lem, removes_well, denies as denies_lem, may_tell as may_tell_lem, may_deny as may_deny_lem, answers_well};
+ghost use Rattle.sdb_said.specs.Observed.{is_prepared_by as is_prepared_by_lem, is_forward as is_forward_lem};
+ghost use Rattle.sdb_lawful.specs.Rules.{is_known_committed as is_known_committed_lem, is_known_aborted as is_known_aborted_lem, own as own_lem, with_own, has_own_moment as has_own_moment_lem, known_moments as known_moments_lem, any_prepared_forward as any_prepared_forward_lem, is_rolled_forward as is_rolled_forward_lem, rolls_open as rolls_open_lem, rolls_forward, has_before_or_none as has_before_or_none_lem, is_back as is_back_lem, undoes as undoes_lem, rolls_back, rolls_well, removes_version as removes_version_lem, removes_well, denies as denies_lem, may_answer as may_answer_lem, may_deny as may_deny_lem, answers_well};
 ghost use Rattle.sdb_model.specs.Transactions.{is_committed_answer as is_committed_answer_lem};
 
 use crate::commit::{is_data, prepared_by};
@@ -13,18 +13,18 @@ use crate::rules::are_shut;
 use sdb_model::{Answer, Event};
 use sdb_record::{Decision, coordinator_key};
 use sdb_said::{
-    Plan, Played, is_asked, is_dead, is_forward, is_held_by, is_kept_in, is_met_once, is_risked,
+    Labelled, Plan, is_asked, is_dead, is_forward, is_held_by, is_kept_in, is_met_once, is_risked,
     is_same_key, is_taken, is_won, keeps_none, moment_of, moments, settles_gone, shows_abort,
     shows_bad_row, shows_commit, write_of, writes_of,
 };
 use sdb_types::{Condition, Key, NoMemory, Record, Request, Seq, State, TxId};
 use std::alloc::Global;
 
-/// Whether a transaction is known to be committed: it won, or its row was shown.
+/// Whether a transaction is known to be committed: it won, or its row was observed.
 pub fn is_known_committed(
     alloc: Global,
     shown: &[Record],
-    past: &[Played],
+    past: &[Labelled],
     id: TxId,
 ) -> Result<bool, NoMemory>
     ensures { IfOk result (λ known. known ≡ is_known_committed_lem shown.now past.now id.0) }
@@ -33,14 +33,14 @@ pub fn is_known_committed(
         return Ok(true);
     }
     let row = coordinator_key(alloc, id)?;
-    Ok(shows_commit(alloc, shown, &row))
+    Ok(observes_commit(alloc, shown, &row))
 }
 
 /// Whether it is known to be aborted.
 pub fn is_known_aborted(
     alloc: Global,
     shown: &[Record],
-    past: &[Played],
+    past: &[Labelled],
     id: TxId,
 ) -> Result<bool, NoMemory>
     ensures { IfOk result (λ known. known ≡ is_known_aborted_lem shown.now past.now id.0) }
@@ -49,13 +49,13 @@ pub fn is_known_aborted(
         return Ok(true);
     }
     let row = coordinator_key(alloc, id)?;
-    Ok(shows_abort(alloc, shown, &row))
+    Ok(observes_abort(alloc, shown, &row))
 }
 
 // What a transaction has prepared itself at a key.
 fn own(
     alloc: Global,
-    past: &[Played],
+    past: &[Labelled],
     plans: &[Plan],
     id: TxId,
     key: &Key,
@@ -81,7 +81,7 @@ fn add_own(found: &mut Seq<i64>, won: bool, moment: i64) -> Result<(), NoMemory>
 fn has_own_moment(
     alloc: Global,
     shown: &[Record],
-    past: &[Played],
+    past: &[Labelled],
     id: TxId,
 ) -> Result<bool, NoMemory>
     ensures { IfOk result (λ own. own ≡ has_own_moment_lem shown.now past.now id.0) }
@@ -89,17 +89,17 @@ fn has_own_moment(
     if is_won(past, id) {
         return Ok(true);
     }
-    if !is_taken(past, id) {
+    if !is_commit_started(past, id) {
         return Ok(false);
     }
     let row = coordinator_key(alloc, id)?;
-    Ok(shows_commit(alloc, shown, &row))
+    Ok(observes_commit(alloc, shown, &row))
 }
 
 fn known_moments(
     alloc: Global,
     shown: &[Record],
-    past: &[Played],
+    past: &[Labelled],
     plans: &[Plan],
     id: TxId,
 ) -> Result<Seq<i64>, NoMemory>
@@ -120,10 +120,10 @@ fn any_held_forward(
     key: &Key,
     target: &Record,
 ) -> Result<bool, NoMemory>
-    ensures { IfOk result (λ found. found ≡ any_held_forward_lem shown.now moments.now id.0 key.now target.now) }
+    ensures { IfOk result (λ found. found ≡ any_prepared_forward_lem shown.now moments.now id.0 key.now target.now) }
 {
     for rec in shown {
-        if is_held_by(rec, key, id) && is_forward(alloc, rec, moments, target)? {
+        if is_prepared_by(rec, key, id) && is_forward(alloc, rec, moments, target)? {
             return Ok(true);
         }
     }
@@ -163,7 +163,7 @@ fn rolls_open(condition: Condition, id: TxId) -> bool
 pub fn may_roll_forward(
     alloc: Global,
     shown: &[Record],
-    past: &[Played],
+    past: &[Labelled],
     plans: &[Plan],
     event: &Event,
     id: TxId,
@@ -189,16 +189,16 @@ pub fn may_roll_forward(
 
 // Whether a record keeps this one as its before image, or keeps none.
 fn is_kept(rec: &Record, base: Option<&Record>) -> bool
-    ensures { result ≡ is_kept_lem (option_copied base.entry) rec.now }
+    ensures { result ≡ has_before_or_none_lem (option_copied base.entry) rec.now }
 {
     match base {
-        Some(base) => is_kept_in(rec, base),
-        None => keeps_none(rec),
+        Some(base) => is_before_image_of(rec, base),
+        None => has_no_before(rec),
     }
 }
 
 fn own_keeps(own: &Option<Record>, base: Option<&Record>) -> bool
-    ensures { result ≡ option_map_or (is_kept_lem (option_copied base.entry)) own.now false }
+    ensures { result ≡ option_map_or (has_before_or_none_lem (option_copied base.entry)) own.now false }
 {
     match own {
         Some(rec) => is_kept(rec, base),
@@ -207,10 +207,10 @@ fn own_keeps(own: &Option<Record>, base: Option<&Record>) -> bool
 }
 
 fn any_keeps(shown: &[Record], id: TxId, key: &Key, base: Option<&Record>) -> bool
-    ensures { result ≡ list_any (λ r. is_held_by_lem id.0 key.now r && is_kept_lem (option_copied base.entry) r) shown.now }
+    ensures { result ≡ list_any (λ r. is_prepared_by_lem id.0 key.now r && has_before_or_none_lem (option_copied base.entry) r) shown.now }
 {
     for rec in shown {
-        if is_held_by(rec, key, id) && is_kept(rec, base) {
+        if is_prepared_by(rec, key, id) && is_kept(rec, base) {
             return true;
         }
     }
@@ -250,7 +250,7 @@ fn undoes(shown: &[Record], own: &Option<Record>, request: &Request, id: TxId, k
 pub fn may_roll_back(
     alloc: Global,
     shown: &[Record],
-    past: &[Played],
+    past: &[Labelled],
     plans: &[Plan],
     event: &Event,
     id: TxId,
@@ -274,7 +274,7 @@ pub fn may_roll_back(
 pub fn may_roll(
     alloc: Global,
     shown: &[Record],
-    past: &[Played],
+    past: &[Labelled],
     plans: &[Plan],
     event: &Event,
     id: TxId,
@@ -302,7 +302,7 @@ fn removes_version(condition: Condition, id: TxId) -> bool
 pub fn may_remove(
     alloc: Global,
     shown: &[Record],
-    past: &[Played],
+    past: &[Labelled],
     event: &Event,
     key: &Key,
     id: TxId,
@@ -317,7 +317,7 @@ pub fn may_remove(
             if !is_data(key) || !are_shut(past) {
                 return Ok(false);
             }
-            settles_gone(alloc, shown, key, id)
+            settles_removed(alloc, shown, key, id)
         }
         _ => Ok(false),
     }
@@ -357,19 +357,19 @@ fn denies(answer: Option<&Answer>) -> bool
 }
 
 /// Committed may be answered.
-pub fn may_tell(
+pub fn may_answer(
     alloc: Global,
     shown: &[Record],
-    whole: &[Played],
-    past: &[Played],
+    whole: &[Labelled],
+    past: &[Labelled],
     ends: Option<TxId>,
 ) -> Result<bool, NoMemory>
-    ensures { IfOk result (λ well. well ≡ may_tell_lem shown.now whole.now past.now ends) }
+    ensures { IfOk result (λ well. well ≡ may_answer_lem shown.now whole.now past.now ends) }
 {
     match ends {
         None => Ok(false),
         Some(id) => {
-            if !is_taken(past, id) {
+            if !is_commit_started(past, id) {
                 return Ok(false);
             }
             is_known_committed(alloc, shown, whole, id)
@@ -381,8 +381,8 @@ pub fn may_tell(
 pub fn may_deny(
     alloc: Global,
     shown: &[Record],
-    whole: &[Played],
-    past: &[Played],
+    whole: &[Labelled],
+    past: &[Labelled],
     ends: Option<TxId>,
 ) -> Result<bool, NoMemory>
     ensures { IfOk result (λ well. well ≡ may_deny_lem shown.now whole.now past.now ends) }
@@ -390,14 +390,14 @@ pub fn may_deny(
     match ends {
         None => Ok(true),
         Some(id) => {
-            if !is_taken(past, id) || is_known_aborted(alloc, shown, whole, id)? {
+            if !is_commit_started(past, id) || is_known_aborted(alloc, shown, whole, id)? {
                 return Ok(true);
             }
             if !is_risked(whole, id) {
                 return Ok(true);
             }
             let row = coordinator_key(alloc, id)?;
-            Ok(shows_bad_row(alloc, shown, &row))
+            Ok(observes_bad_row(alloc, shown, &row))
         }
     }
 }
@@ -406,18 +406,18 @@ pub fn may_deny(
 pub fn answers_truly(
     alloc: Global,
     shown: &[Record],
-    whole: &[Played],
-    past: &[Played],
-    played: &Played,
+    whole: &[Labelled],
+    past: &[Labelled],
+    labelled: &Labelled,
 ) -> Result<bool, NoMemory>
-    ensures { IfOk result (λ well. well ≡ answers_well shown.now whole.now past.now played.now) }
+    ensures { IfOk result (λ well. well ≡ answers_well shown.now whole.now past.now labelled.now) }
 {
-    let answer = answer_of(&played.event);
-    if is_committed_answer(answer) && !may_tell(alloc, shown, whole, past, played.ends)? {
+    let answer = answer_of(&labelled.event);
+    if is_committed_answer(answer) && !may_answer(alloc, shown, whole, past, labelled.ends)? {
         return Ok(false);
     }
     if denies(answer) {
-        return may_deny(alloc, shown, whole, past, played.ends);
+        return may_deny(alloc, shown, whole, past, labelled.ends);
     }
     Ok(true)
 }

@@ -10,18 +10,18 @@ ghost use Rattle.sdb_record.specs.Meta.{is_moment as is_moment_lem};
 ghost use Rattle.sdb_record.specs.Moved.{is_unchanged as is_unchanged_lem};
 ghost use Rattle.sdb_model.specs.Sql.{reads_word as reads_word_lem};
 ghost use Rattle.sdb_laws.specs.Lawful.{is_quiet as is_quiet_lem};
-ghost use Rattle.sdb_said.specs.Values.{note_of, same_request};
-ghost use Rattle.sdb_said.specs.Said.{told_in, open_in, stopped_in, owner_of};
-ghost use Rattle.sdb_lawful.specs.Rules.{fits_reply as fits_reply_lem, in_commit as in_commit_lem, begins_well, commits_well as commits_well_lem, takes_well, is_put as is_put_lem, puts_write as puts_write_lem, prepares_well, is_as_noted as is_as_noted_lem, are_as_noted as are_as_noted_lem, finds_noted as finds_noted_lem, checks_well, same_noted as same_noted_lem, agrees_at as agrees_at_lem, agrees as agrees_lem, is_note_checked as is_note_checked_lem, is_ready as is_ready_lem, decides_well, aborts_well, stops_well, are_shut as are_shut_lem, is_shut as is_shut_lem, is_left as is_left_lem};
+ghost use Rattle.sdb_said.specs.Values.{item_of, same_request};
+ghost use Rattle.sdb_said.specs.Started.{acknowledged_in, open_in, stopped_in, owner_of};
+ghost use Rattle.sdb_lawful.specs.Rules.{matches_reply as matches_reply_lem, in_commit as in_commit_lem, begins_well, commits_well as commits_well_lem, starts_well, is_put as is_put_lem, puts_write as puts_write_lem, prepares_well, is_as_read as is_as_read_lem, are_as_read as are_as_read_lem, finds_read as finds_read_lem, checks_well, same_read as same_read_lem, agrees_at as agrees_at_lem, agrees as agrees_lem, is_item_checked as is_item_checked_lem, is_ready as is_ready_lem, decides_well, aborts_well, stops_well, are_shut as are_shut_lem, is_shut as is_shut_lem, is_left as is_left_lem};
 
-use crate::commit::{are_fine_notes, are_fine_writes, prepared_by};
+use crate::commit::{are_valid_items, are_valid_writes, prepared_by};
 use sdb_model::{Answer, Event, Keyword};
 use sdb_record::{
     Decision, Read, Scan, Write, condition_of, coordinator_row, has_version, is_same_version,
     version_of,
 };
 use sdb_said::{
-    Note, Plan, Played, Role, Word, is_asked, is_begun, is_checked, is_deciding, is_open,
+    Ack, Action, Labelled, Plan, ReadItem, is_asked, is_begun, is_checked, is_deciding, is_open,
     is_past_prepares, is_same_key, is_same_request, is_same_span, is_stopped, is_taken, is_told,
     moment_of, notes_of, owner, record_among, version_among, version_noted, write_of, writes_of,
 };
@@ -57,31 +57,31 @@ fn fits(id: TxId) -> bool
     true
 }
 
-fn fits_reply(word: Word, reply: &Reply) -> bool
-    ensures { result ≡ fits_reply_lem word reply.now }
+fn fits_reply(word: Ack, reply: &Reply) -> bool
+    ensures { result ≡ matches_reply_lem word reply.now }
 {
     match (word, reply) {
-        (Word::Yes, Reply::Applied) => true,
-        (Word::No, Reply::NotMet(_)) => true,
-        (Word::Wanting, Reply::NoMemory) => true,
-        (Word::Silence, Reply::Found(_)) => true,
-        (Word::Silence, Reply::Rows(_)) => true,
-        (Word::Silence, Reply::Fault) => true,
+        (Ack::Yes, Reply::Applied) => true,
+        (Ack::No, Reply::NotMet(_)) => true,
+        (Ack::OutOfMemory, Reply::NoMemory) => true,
+        (Ack::NoAck, Reply::Found(_)) => true,
+        (Ack::NoAck, Reply::Rows(_)) => true,
+        (Ack::NoAck, Reply::Fault) => true,
         _ => false,
     }
 }
 
-fn in_commit(past: &[Played], client: u32, id: TxId) -> bool
+fn in_commit(past: &[Labelled], client: u32, id: TxId) -> bool
     ensures { result ≡ in_commit_lem past.now client id.0 }
 {
-    is_taken(past, id)
+    is_commit_started(past, id)
         && (is_open(past, id) && (owner(past, id) == client && !is_stopped(past, client)))
 }
 
 /// BEGIN: it is answered, and the id is new.
 pub fn may_begin(
     alloc: Global,
-    past: &[Played],
+    past: &[Labelled],
     event: &Event,
     id: TxId,
     client: u32,
@@ -101,31 +101,31 @@ pub fn may_begin(
 fn commits_well(
     alloc: Global,
     shown: &[Record],
-    past: &[Played],
+    past: &[Labelled],
     plans: &[Plan],
     id: TxId,
 ) -> Result<bool, NoMemory>
     ensures { IfOk result (λ well. well ≡ commits_well_lem shown.now past.now plans.now id.0) }
 {
-    if is_taken(past, id) || !is_moment(moment_of(plans, id)) {
+    if is_commit_started(past, id) || !is_moment(moment_of(plans, id)) {
         return Ok(false);
     }
-    if !are_fine_writes(alloc, shown, writes_of(plans, id))? {
+    if !are_valid_writes(alloc, shown, writes_of(plans, id))? {
         return Ok(false);
     }
-    are_fine_notes(alloc, shown, notes_of(plans, id))
+    are_valid_items(alloc, shown, items_of(plans, id))
 }
 
-/// The taking of a COMMIT: the transaction is open and has no other, and what it read was shown.
+/// The taking of a COMMIT: the transaction is open and has no other, and what it read was observed.
 pub fn may_take(
     alloc: Global,
     shown: &[Record],
-    past: &[Played],
+    past: &[Labelled],
     plans: &[Plan],
     event: &Event,
     id: TxId,
 ) -> Result<bool, NoMemory>
-    ensures { IfOk result (λ well. well ≡ takes_well shown.now past.now plans.now event.now id.0) }
+    ensures { IfOk result (λ well. well ≡ starts_well shown.now past.now plans.now event.now id.0) }
 {
     match event {
         Event::Take(by, text, _) => {
@@ -172,12 +172,12 @@ fn puts_write(
 /// A prepare: of a write, where its base is still there, once, and before any check.
 pub fn may_prepare(
     alloc: Global,
-    past: &[Played],
+    past: &[Labelled],
     plans: &[Plan],
     event: &Event,
     id: TxId,
     key: &Key,
-    word: Word,
+    word: Ack,
 ) -> Result<bool, NoMemory>
     ensures { IfOk result (λ well. well ≡ prepares_well past.now plans.now event.now id.0 key.now word) }
 {
@@ -208,7 +208,7 @@ fn is_unmoved(found: Option<&Record>, version: Option<TxId>) -> bool
 }
 
 fn is_as_noted(writes: &[Write], scan: &Scan, rows: &[Record], key: &Key) -> bool
-    ensures { result ≡ is_as_noted_lem writes.now scan.now rows.now key.now }
+    ensures { result ≡ is_as_read_lem writes.now scan.now rows.now key.now }
 {
     !scan.span.contains(key)
         || (write_of(writes, key).is_some()
@@ -219,7 +219,7 @@ fn is_as_noted(writes: &[Write], scan: &Scan, rows: &[Record], key: &Key) -> boo
 }
 
 fn rows_as_noted(writes: &[Write], scan: &Scan, rows: &[Record]) -> bool
-    ensures { result ≡ list_all (λ r. is_as_noted_lem writes.now scan.now rows.now r.key) rows.now }
+    ensures { result ≡ list_all (λ r. is_as_read_lem writes.now scan.now rows.now r.key) rows.now }
 {
     for row in rows {
         if !is_as_noted(writes, scan, rows, &row.key) {
@@ -230,7 +230,7 @@ fn rows_as_noted(writes: &[Write], scan: &Scan, rows: &[Record]) -> bool
 }
 
 fn found_as_noted(writes: &[Write], scan: &Scan, rows: &[Record], found: &[Read]) -> bool
-    ensures { result ≡ list_all (λ r. is_as_noted_lem writes.now scan.now rows.now r.key) found.now }
+    ensures { result ≡ list_all (λ r. is_as_read_lem writes.now scan.now rows.now r.key) found.now }
 {
     for read in found {
         if !is_as_noted(writes, scan, rows, &read.key) {
@@ -241,121 +241,128 @@ fn found_as_noted(writes: &[Write], scan: &Scan, rows: &[Record], found: &[Read]
 }
 
 fn are_as_noted(writes: &[Write], scan: &Scan, rows: &[Record]) -> bool
-    ensures { result ≡ are_as_noted_lem writes.now scan.now rows.now }
+    ensures { result ≡ are_as_read_lem writes.now scan.now rows.now }
 {
     rows_as_noted(writes, scan, rows) && found_as_noted(writes, scan, rows, scan.found.as_slice())
 }
 
-fn finds_noted(writes: &[Write], note: &Note, request: &Request, reply: &Reply) -> bool
-    ensures { result ≡ finds_noted_lem writes.now note.now request.now reply.now }
+fn finds_noted(writes: &[Write], item: &ReadItem, request: &Request, reply: &Reply) -> bool
+    ensures { result ≡ finds_read_lem writes.now item.now request.now reply.now }
 {
-    match (note, request, reply) {
-        (Note::Got(read), Request::Get(key), Reply::Found(found)) => {
+    match (item, request, reply) {
+        (ReadItem::Got(read), Request::Get(key), Reply::Found(found)) => {
             is_same_key(key, &read.key) && sdb_record::is_unchanged(found, read.version)
         }
-        (Note::Scanned(scan), Request::Scan(span), Reply::Rows(rows)) => {
+        (ReadItem::Scanned(scan), Request::Scan(span), Reply::Rows(rows)) => {
             is_same_span(span, &scan.span) && are_as_noted(writes, scan, rows.as_slice())
         }
         _ => false,
     }
 }
 
-fn finds(notes: &[Note], i: usize, writes: &[Write], request: &Request, reply: &Reply) -> bool
-    ensures { result ≡ option_map_or (λ n. finds_noted_lem writes.now n request.now reply.now) (slice_get notes.now i) false }
+fn finds(
+    read_set: &[ReadItem],
+    i: usize,
+    writes: &[Write],
+    request: &Request,
+    reply: &Reply,
+) -> bool
+    ensures { result ≡ option_map_or (λ n. finds_read_lem writes.now n request.now reply.now) (slice_get read_set.now i) false }
 {
-    match notes.get(i) {
-        Some(note) => finds_noted(writes, note, request, reply),
+    match read_set.get(i) {
+        Some(item) => finds_noted(writes, item, request, reply),
         None => false,
     }
 }
 
-/// A check: it reads again what was noted and finds all as it was, before the put of COMMITTED.
-pub fn may_check(past: &[Played], plans: &[Plan], event: &Event, id: TxId, i: usize) -> bool
+/// A check: it reads again what was read and finds all as it was, before the put of COMMITTED.
+pub fn may_check(past: &[Labelled], plans: &[Plan], event: &Event, id: TxId, i: usize) -> bool
     ensures { result ≡ checks_well past.now plans.now event.now id.0 i }
 {
     match event {
         Event::Call(client, _, request, _, reply, _) => {
             in_commit(past, *client, id)
                 && (!is_deciding(past, id)
-                    && finds(notes_of(plans, id), i, writes_of(plans, id), request, reply))
+                    && finds(items_of(plans, id), i, writes_of(plans, id), request, reply))
         }
         _ => false,
     }
 }
 
-fn same_noted(noted: Option<Option<TxId>>, base: Option<TxId>) -> bool
-    ensures { result ≡ same_noted_lem noted base }
+fn same_noted(as_read: Option<Option<TxId>>, base: Option<TxId>) -> bool
+    ensures { result ≡ same_read_lem as_read base }
 {
-    match noted {
+    match as_read {
         None => true,
         Some(version) => is_same_version(version, base),
     }
 }
 
-fn agrees_at(writes: &[Write], note: &Note, write: &Write) -> bool
-    ensures { result ≡ agrees_at_lem writes.now note.now write.now }
+fn agrees_at(writes: &[Write], item: &ReadItem, write: &Write) -> bool
+    ensures { result ≡ agrees_at_lem writes.now item.now write.now }
 {
     match write_of(writes, &write.key) {
-        Some(first) => same_noted(version_noted(note, &write.key), version_of(&first.base)),
+        Some(first) => same_noted(version_read(item, &write.key), version_of(&first.base)),
         None => true,
     }
 }
 
-fn agrees(writes: &[Write], note: &Note) -> bool
-    ensures { result ≡ agrees_lem writes.now note.now }
+fn agrees(writes: &[Write], item: &ReadItem) -> bool
+    ensures { result ≡ agrees_lem writes.now item.now }
 {
     for write in writes {
-        if !agrees_at(writes, note, write) {
+        if !agrees_at(writes, item, write) {
             return false;
         }
     }
     true
 }
 
-fn is_note_checked(past: &[Played], id: TxId, writes: &[Write], i: usize, note: &Note) -> bool
-    ensures { result ≡ is_note_checked_lem past.now id.0 writes.now i note.now }
+fn is_note_checked(past: &[Labelled], id: TxId, writes: &[Write], i: usize, item: &ReadItem) -> bool
+    ensures { result ≡ is_item_checked_lem past.now id.0 writes.now i item.now }
 {
-    match note {
-        Note::Got(read) => write_of(writes, &read.key).is_some() || is_checked(past, id, i),
-        Note::Scanned(_) => is_checked(past, id, i),
+    match item {
+        ReadItem::Got(read) => write_of(writes, &read.key).is_some() || is_checked(past, id, i),
+        ReadItem::Scanned(_) => is_checked(past, id, i),
     }
 }
 
-fn all_told(past: &[Played], id: TxId, writes: &[Write]) -> bool
-    ensures { result ≡ list_all (λ w. told_in past.now id.0 w.key) writes.now }
+fn all_told(past: &[Labelled], id: TxId, writes: &[Write]) -> bool
+    ensures { result ≡ list_all (λ w. acknowledged_in past.now id.0 w.key) writes.now }
 {
     for write in writes {
-        if !is_told(past, id, &write.key) {
+        if !is_acknowledged(past, id, &write.key) {
             return false;
         }
     }
     true
 }
 
-fn all_agree(writes: &[Write], notes: &[Note]) -> bool
-    ensures { result ≡ list_all (agrees_lem writes.now) notes.now }
+fn all_agree(writes: &[Write], read_set: &[ReadItem]) -> bool
+    ensures { result ≡ list_all (agrees_lem writes.now) read_set.now }
 {
-    for note in notes {
-        if !agrees(writes, note) {
+    for item in read_set {
+        if !agrees(writes, item) {
             return false;
         }
     }
     true
 }
 
-fn all_checked(past: &[Played], id: TxId, writes: &[Write], notes: &[Note]) -> bool
-    ensures { result ≡ list_all (λ e. is_note_checked_lem past.now id.0 writes.now e.0 e.1) (enumerate_from 0 notes.now) }
+fn all_checked(past: &[Labelled], id: TxId, writes: &[Write], read_set: &[ReadItem]) -> bool
+    ensures { result ≡ list_all (λ e. is_item_checked_lem past.now id.0 writes.now e.0 e.1) (enumerate_from 0 read_set.now) }
 {
-    notes
+    read_set
         .iter()
         .enumerate()
-        .all(|(i, note)| is_note_checked(past, id, writes, i, note))
+        .all(|(i, item)| is_note_checked(past, id, writes, i, item))
 }
 
-fn is_ready(past: &[Played], id: TxId, writes: &[Write], notes: &[Note]) -> bool
-    ensures { result ≡ is_ready_lem past.now id.0 writes.now notes.now }
+fn is_ready(past: &[Labelled], id: TxId, writes: &[Write], read_set: &[ReadItem]) -> bool
+    ensures { result ≡ is_ready_lem past.now id.0 writes.now read_set.now }
 {
-    all_told(past, id, writes) && (all_agree(writes, notes) && all_checked(past, id, writes, notes))
+    all_told(past, id, writes)
+        && (all_agree(writes, read_set) && all_checked(past, id, writes, read_set))
 }
 
 // Whether a request puts this row, where there is none.
@@ -373,14 +380,14 @@ fn puts_row(
     Ok(is_same_request(request, &put))
 }
 
-/// The put of COMMITTED: each write was prepared and each noted read checked.
+/// The put of COMMITTED: each write was prepared and each read of the read set checked.
 pub fn may_decide(
     alloc: Global,
-    past: &[Played],
+    past: &[Labelled],
     plans: &[Plan],
     event: &Event,
     id: TxId,
-    word: Word,
+    word: Ack,
 ) -> Result<bool, NoMemory>
     ensures { IfOk result (λ well. well ≡ decides_well past.now plans.now event.now id.0 word) }
 {
@@ -398,7 +405,7 @@ pub fn may_decide(
             )? {
                 return Ok(false);
             }
-            Ok(is_ready(past, id, writes_of(plans, id), notes_of(plans, id)))
+            Ok(is_ready(past, id, writes_of(plans, id), items_of(plans, id)))
         }
         _ => Ok(false),
     }
@@ -410,7 +417,7 @@ pub fn may_abort(
     event: &Event,
     id: TxId,
     moment: i64,
-    word: Word,
+    word: Ack,
 ) -> Result<bool, NoMemory>
     ensures { IfOk result (λ well. well ≡ aborts_well event.now id.0 moment word) }
 {
@@ -455,7 +462,7 @@ pub fn is_quiet(event: &Event) -> bool
 
 // It is not open, or its client has stopped.
 #[tactic(auto, unfolding(crate::specs::Rules::is_left))]
-fn is_left(past: &[Played], id: TxId) -> bool
+fn is_left(past: &[Labelled], id: TxId) -> bool
     ensures { result ≡ is_left_lem past.now id.0 }
 {
     if !is_open(past, id) {
@@ -465,21 +472,21 @@ fn is_left(past: &[Played], id: TxId) -> bool
     is_stopped(past, client)
 }
 
-fn is_shut(past: &[Played], role: &Role) -> bool
-    ensures { result ≡ is_shut_lem past.now role.now }
+fn is_shut(past: &[Labelled], action: &Action) -> bool
+    ensures { result ≡ is_shut_lem past.now action.now }
 {
-    match role {
-        Role::Begins(id, _) => is_left(past, *id),
+    match action {
+        Action::Begins(id, _) => is_left(past, *id),
         _ => true,
     }
 }
 
 /// Whether no transaction is open of a client that goes on.
-pub fn are_shut(past: &[Played]) -> bool
+pub fn are_shut(past: &[Labelled]) -> bool
     ensures { result ≡ are_shut_lem past.now }
 {
-    for played in past {
-        if !is_shut(past, &played.role) {
+    for labelled in past {
+        if !is_shut(past, &labelled.action) {
             return false;
         }
     }

@@ -20,23 +20,23 @@ use Rattle.sdb_record.proofs.ImageLaws.{prepared-version, prepared-unsettled, ve
 use Rattle.sdb_record.proofs.RollLaws.{forward-committed, forward-writer}
 use Rattle.sdb_laws.specs.Plan.{Plan}
 use Rattle.sdb_laws.specs.Lawful.{id}
-use Rattle.sdb_laws.specs.Records.{held_record, firm_record, write_there}
+use Rattle.sdb_laws.specs.Records.{record_prepared_by, record_left_by, write_there}
 
-pub held_writer : (plan : ℕ → Plan) (t : ℕ) (k : Key) → t < 2 ^ 128 → id_in (held_record plan t k).columns ≡ Some (id t)
-unfolding held_record
-held_writer plan t k fits = version-writer (held_record plan t k) (id t) (state_of_change (write_there (plan t) k).change) fits (prepared-version (write_there (plan t) k) (id t) (plan t).now)
+pub held_writer : (plan : ℕ → Plan) (t : ℕ) (k : Key) → t < 2 ^ 128 → id_in (record_prepared_by plan t k).columns ≡ Some (id t)
+unfolding record_prepared_by
+held_writer plan t k fits = version-writer (record_prepared_by plan t k) (id t) (state_of_change (write_there (plan t) k).change) fits (prepared-version (write_there (plan t) k) (id t) (plan t).now)
 
-pub held_open : (plan : ℕ → Plan) (t : ℕ) (k : Key) → is_in state.Committed (held_record plan t k).columns ≡ false
-unfolding held_record
+pub held_open : (plan : ℕ → Plan) (t : ℕ) (k : Key) → is_in state.Committed (record_prepared_by plan t k).columns ≡ false
+unfolding record_prepared_by
 held_open plan t k = prepared-unsettled (write_there (plan t) k) (id t) (plan t).now
 
-pub firm_writer : (plan : ℕ → Plan) (t : ℕ) (k : Key) → t < 2 ^ 128 → id_in (firm_record plan t k).columns ≡ Some (id t)
-unfolding firm_record
-firm_writer plan t k fits = forward-writer (held_record plan t k) (plan t).now ∙ held_writer plan t k fits
+pub firm_writer : (plan : ℕ → Plan) (t : ℕ) (k : Key) → t < 2 ^ 128 → id_in (record_left_by plan t k).columns ≡ Some (id t)
+unfolding record_left_by
+firm_writer plan t k fits = forward-writer (record_prepared_by plan t k) (plan t).now ∙ held_writer plan t k fits
 
-pub firm_committed : (plan : ℕ → Plan) (t : ℕ) (k : Key) → is_in state.Committed (firm_record plan t k).columns ≡ true
-unfolding firm_record
-firm_committed plan t k = forward-committed (held_record plan t k) (plan t).now
+pub firm_committed : (plan : ℕ → Plan) (t : ℕ) (k : Key) → is_in state.Committed (record_left_by plan t k).columns ≡ true
+unfolding record_left_by
+firm_committed plan t k = forward-committed (record_prepared_by plan t k) (plan t).now
 
 ---- versions
 

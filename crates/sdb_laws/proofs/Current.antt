@@ -29,20 +29,20 @@ use Rattle.sdb_model.specs.declared.event.How.{How}
 use Rattle.sdb_stores.specs.declared.place.Place.{Place}
 use Rattle.sdb_model.specs.Rows.{Name}
 use Rattle.sdb_model.specs.Exec.{find_table}
-use Rattle.sdb_model.specs.Events.{Shelf, Effect, standing, moment}
+use Rattle.sdb_model.specs.Events.{StoreContents, Effect, standing, moment}
 use Rattle.sdb_model.specs.Images.{image_at}
-use Rattle.sdb_model.specs.Noted.{Note, version_noted}
+use Rattle.sdb_model.specs.ReadSet.{ReadItem, version_read}
 use Rattle.sdb_model.specs.Transactions.{Recorded, begun, point}
 use Rattle.sdb_model.specs.Explained as model
-use Rattle.sdb_model.specs.Explained.{IsTableKey, IsPreparedAfter, Shows, UnchangedResolved, IsOfOrLater, WritesStand, IsLastBefore, ReadsCurrent, closing_of}
-use Rattle.sdb_laws.specs.Plan.{Plan, written, deletes, is_delete, noted, number_of}
-use Rattle.sdb_laws.specs.History.{Role, Other, Begins, Takes, Prepares, Checks, Decides, Aborts, Rolls, Removes, Ends, Stops, Talk, History, IsWriter, happens, heard}
-use Rattle.sdb_laws.specs.Lawful.{Played, MayPlay, IsLawful, id, talk, ended}
+use Rattle.sdb_model.specs.Explained.{IsTableKey, IsPreparedAfter, Observes, UnchangedResolved, IsOfOrLater, WritesPersist, IsLastBefore, ReadsCurrent, closing_of}
+use Rattle.sdb_laws.specs.Plan.{Plan, written, deletes, is_delete, version_read_at, number_of}
+use Rattle.sdb_laws.specs.History.{Action, Other, Begins, Takes, Prepares, Checks, Decides, Aborts, Rolls, Removes, Ends, Stops, ProtocolState, History, IsWriter, happens, state_after_event}
+use Rattle.sdb_laws.specs.Lawful.{Labelled, IsEnabled, IsLawful, id, protocol_state, ended}
 use Rattle.sdb_laws.specs.Trace.{closing, history}
-use Rattle.sdb_laws.specs.Records.{held_record, write_there}
+use Rattle.sdb_laws.specs.Records.{record_prepared_by, write_there}
 use Rattle.sdb_laws.specs.Explained.{IsRunOf, IsLastWriter, ImageOf, IsAsFound, newest_first, events_of}
 use Rattle.sdb_laws.specs.Explained as laws
-use Rattle.sdb_laws.specs.Faithful.{AreNoted, IsFaithful}
+use Rattle.sdb_laws.specs.Faithful.{AreReadSets, IsFaithful}
 use Rattle.sdb_laws.proofs.Canon.{firm_writer, version_state, not_firm_version}
 use Rattle.sdb_laws.proofs.Allowed.{Allowed}
 use Rattle.sdb_laws.proofs.Small.{any_key, row_kept, decided_kept}
@@ -63,8 +63,8 @@ use Rattle.sdb_model.specs.Tables.{is_data}
 some_none : {A : Type 0} (a : A) → Some a ≡ None → ⊥
 some_none a e = cc
 
-lengths : (places : List Place) (opening : List Shelf) (plan : ℕ → Plan) (played : List Played) (moments : List (List Shelf)) → IsRunOf plan places opening (newest_first played) (newest_first moments) → length (events_of played) ≡ length moments
-lengths places opening plan played moments r = length-map played (λ (y : Played). y.event) ∙ sym (turned_length played) ∙ trace_length places opening (newest_first played) (newest_first moments) r.traced ∙ turned_length moments
+lengths : (places : List Place) (opening : List StoreContents) (plan : ℕ → Plan) (labelled : List Labelled) (moments : List (List StoreContents)) → IsRunOf plan places opening (newest_first labelled) (newest_first moments) → length (events_of labelled) ≡ length moments
+lengths places opening plan labelled moments r = length-map labelled (λ (y : Labelled). y.event) ∙ sym (turned_length labelled) ∙ trace_length places opening (newest_first labelled) (newest_first moments) r.traced ∙ turned_length moments
 
 ---- what was found unchanged
 
@@ -119,7 +119,7 @@ open_changed : (x : Record) (version : Option TxId) → is_in state.Committed x.
 open_changed x None h e = clash (sym e)
 open_changed x (Some v) h e = clash (sym e ∙ not_firm_version v x h)
 
-shows_stands : (places : List Place) (client : ℕ) (store : Name) (q : Request) (how : How) (r : Reply) (answer : Option Answer) (before now : List Shelf) (key : Key) (found : Option Record) → Effect places (event.Call client store q how r answer) before now → Shows q r key found → found ≡ standing places before key
+shows_stands : (places : List Place) (client : ℕ) (store : Name) (q : Request) (how : How) (r : Reply) (answer : Option Answer) (before now : List StoreContents) (key : Key) (found : Option Record) → Effect places (event.Call client store q how r answer) before now → Observes q r key found → found ≡ standing places before key
 shows_stands places client store (ask.Get k) how (reply.Found x) answer before now key found c (same, is) = sym is ∙ get_reply places k (reply.Found x) x before now (at_call places store (ask.Get k) how (reply.Found x) before now c) refl ∙ ap (standing places before) same
 shows_stands places client store (ask.Scan span) how (reply.Rows rows) answer before now key found c (inside, is) =
     sym is ∙ scan_reply places span (reply.Rows rows) rows before now (at_call places store (ask.Scan span) how (reply.Rows rows) before now c) refl key inside
@@ -137,23 +137,23 @@ shows_stands places client store (ask.PutIf rec condition) how r answer before n
 shows_stands places client store (ask.DeleteIf k condition) how r answer before now key found c h = absurd h
 
 -- the effect of an event of a run, from the moment before it
-effect_at : (plan : ℕ → Plan) (places : List Place) (opening : List Shelf) (played : List Played) (moments : List (List Shelf)) (front back : List Event) (e : Event) → IsRunOf plan places opening (newest_first played) (newest_first moments) → events_of played ≡ front ++ e ∷ back
-    → (now : List Shelf) × Effect places e (moment opening moments (length front)) now
-effect_at plan places opening played moments front back e r parts = (m.x, subst (λ s. Effect places e s m.x) (sym before) (subst (λ y. Effect places y (closing opening (newest_first m.early)) m.x) p.is run.traced.1))
+effect_at : (plan : ℕ → Plan) (places : List Place) (opening : List StoreContents) (labelled : List Labelled) (moments : List (List StoreContents)) (front back : List Event) (e : Event) → IsRunOf plan places opening (newest_first labelled) (newest_first moments) → events_of labelled ≡ front ++ e ∷ back
+    → (now : List StoreContents) × Effect places e (moment opening moments (length front)) now
+effect_at plan places opening labelled moments front back e r parts = (m.x, subst (λ s. Effect places e s m.x) (sym before) (subst (λ y. Effect places y (closing opening (newest_first m.early)) m.x) p.is run.traced.1))
   where
-    p : IsSplit Played Event (λ (y : Played). y.event) played front back e
-    p = split (λ (y : Played). y.event) played front back e parts
+    p : IsSplit Labelled Event (λ (y : Labelled). y.event) labelled front back e
+    p = split (λ (y : Labelled). y.event) labelled front back e parts
 
     sizes : length moments ≡ length front + suc (length p.late)
-    sizes = sym (lengths places opening plan played moments r) ∙ length-map played (λ (y : Played). y.event) ∙ ap length p.parts ∙ length-append p.early (p.x ∷ p.late) ∙ ap (λ n. n + suc (length p.late)) (sym (length-map p.early (λ (y : Played). y.event)) ∙ ap length p.front_is)
+    sizes = sym (lengths places opening plan labelled moments r) ∙ length-map labelled (λ (y : Labelled). y.event) ∙ ap length p.parts ∙ length-append p.early (p.x ∷ p.late) ∙ ap (λ n. n + suc (length p.late)) (sym (length-map p.early (λ (y : Labelled). y.event)) ∙ ap length p.front_is)
 
-    m : IsHalved (List Shelf) moments (length front) (length p.late)
+    m : IsHalved (List StoreContents) moments (length front) (length p.late)
     m = halved moments (length front) (length p.late) sizes
 
     whole : IsRunOf plan places opening (newest_first ((p.early ++ p.x ∷ []) ++ p.late)) (newest_first ((m.early ++ m.x ∷ []) ++ m.late))
     whole =
         subst (λ y. IsRunOf plan places opening (newest_first y) (newest_first ((m.early ++ m.x ∷ []) ++ m.late))) (p.parts ∙ sym (append_assoc p.early (p.x ∷ []) p.late))
-        (subst (λ y. IsRunOf plan places opening (newest_first played) (newest_first y)) (m.parts ∙ sym (append_assoc m.early (m.x ∷ []) m.late)) r)
+        (subst (λ y. IsRunOf plan places opening (newest_first labelled) (newest_first y)) (m.parts ∙ sym (append_assoc m.early (m.x ∷ []) m.late)) r)
 
     run : IsRunOf plan places opening (p.x ∷ newest_first p.early) (m.x ∷ newest_first m.early)
     run =
@@ -164,29 +164,29 @@ effect_at plan places opening played moments front back e r parts = (m.x, subst 
     before : moment opening moments (length front) ≡ closing opening (newest_first m.early)
     before = ap (moment opening moments) (sym m.size) ∙ ap (λ y. moment opening y (length m.early)) m.parts ∙ moment_at opening m.early (m.x ∷ m.late)
 
-pub unchanged_at : (plan : ℕ → Plan) (places : List Place) (opening : List Shelf) (played : List Played) (moments : List (List Shelf)) (catalog : List Table) → IsRunOf plan places opening (newest_first played) (newest_first moments) → find_table catalog coordinator_table ≡ None → UnchangedResolved catalog places (events_of played) opening moments
-unchanged_at plan places opening played moments catalog r none front back client store q how reply answer key found version parts shows same table id x before fits at early p no_row =
+pub unchanged_at : (plan : ℕ → Plan) (places : List Place) (opening : List StoreContents) (labelled : List Labelled) (moments : List (List StoreContents)) (catalog : List Table) → IsRunOf plan places opening (newest_first labelled) (newest_first moments) → find_table catalog coordinator_table ≡ None → UnchangedResolved catalog places (events_of labelled) opening moments
+unchanged_at plan places opening labelled moments catalog r none front back client store q how reply answer key found version parts shows same table id x before fits at early p no_row =
     open_changed x version (open_put id x p.put.prepare) (subst (λ o. is_unchanged o version ≡ true) (stood ∙ ap (standing places (moment opening moments (length front))) (sym at) ∙ stands) same)
   where
-    effect : (now : List Shelf) × Effect places (event.Call client store q how reply answer) (moment opening moments (length front)) now
-    effect = effect_at plan places opening played moments front back (event.Call client store q how reply answer) r parts
+    effect : (now : List StoreContents) × Effect places (event.Call client store q how reply answer) (moment opening moments (length front)) now
+    effect = effect_at plan places opening labelled moments front back (event.Call client store q how reply answer) r parts
 
     stood : found ≡ standing places (moment opening moments (length front)) key
     stood = shows_stands places client store q how reply answer (moment opening moments (length front)) effect.0 key found effect.1 shows
 
     below : length front ≤ length moments
-    below = less (length front) (length back) (length moments) (sym (lengths places opening plan played moments r) ∙ ap length parts ∙ length-append front (event.Call client store q how reply answer ∷ back))
+    below = less (length front) (length back) (length moments) (sym (lengths places opening plan labelled moments r) ∙ ap length parts ∙ length-append front (event.Call client store q how reply answer ∷ back))
       where
         less : (a b n : ℕ) → n ≡ a + suc b → a ≤ n
         less a b n e = omega (arith, e)
 
     stands : standing places (moment opening moments (length front)) x.key ≡ Some x
-    stands = stands_at plan places opening played moments catalog (length front) r none below id x before fits (subst (IsTableKey catalog) (sym at) table) early p no_row
+    stands = stands_at plan places opening labelled moments catalog (length front) r none below id x before fits (subst (IsTableKey catalog) (sym at) table) early p no_row
 
 ---- who wrote a key
 
-deleted_in : (plan : ℕ → Plan) (u : ℕ) (k : Key) → written (plan u) k ≢ None → deletes (plan u) k ≡ true → is_in state.Deleted (held_record plan u k).columns ≡ true
-unfolding held_record deletes
+deleted_in : (plan : ℕ → Plan) (u : ℕ) (k : Key) → written (plan u) k ≢ None → deletes (plan u) k ≡ true → is_in state.Deleted (record_prepared_by plan u k).columns ≡ true
+unfolding record_prepared_by deletes
 deleted_in plan u k some h = version_state (id u) state.Deleted (prepared_record (write_there (plan u) k) (id u) (plan u).now) (by (write_there (plan u) k).change refl d)
   where
     d : is_delete (write_there (plan u) k).change ≡ true
@@ -197,10 +197,10 @@ deleted_in plan u k some h = version_state (id u) state.Deleted (prepared_record
     by (change.Row columns) e x = clash (sym x)
 
 -- Who was recorded by the end, and decided by one of the first events, was recorded after them.
-decided_now : (plan : ℕ → Plan) (w : History) (r : Role) (done : Bool) (u : ℕ) → (happens plan w r done).row u ≡ Some Committed → w.row u ≡ None → (happens plan w r done).decided_at u ≡ w.talk.now + 1
+decided_now : (plan : ℕ → Plan) (w : History) (r : Action) (done : Bool) (u : ℕ) → (happens plan w r done).row u ≡ Some Committed → w.row u ≡ None → (happens plan w r done).decided_at u ≡ w.protocol.now + 1
 decided_now plan w r done u h n = grind (arith, tests)
 
-ticks : (plan : ℕ → Plan) (past : List Played) (e : Event) (r : Role) → MayPlay plan past e r → (heard (talk past) r).now ≡ (talk past).now + 1
+ticks : (plan : ℕ → Plan) (past : List Labelled) (e : Event) (r : Action) → IsEnabled plan past e r → (state_after_event (protocol_state past) r).now ≡ (protocol_state past).now + 1
 ticks plan past e Other m = refl
 ticks plan past e (Begins t c) m = refl
 ticks plan past e (Takes t) m = refl
@@ -214,24 +214,24 @@ ticks plan past e (Ends t) m = absurd m
 ticks plan past e (Stops c) m = refl
 
 -- the law's clock counts the events
-pub now_is : (plan : ℕ → Plan) (past : List Played) → IsLawful plan past → (talk past).now ≡ length past
+pub now_is : (plan : ℕ → Plan) (past : List Labelled) → IsLawful plan past → (protocol_state past).now ≡ length past
 now_is plan [] l = refl
-now_is plan (p ∷ past) l = over p.ends (next (ticks plan past p.event p.role l.1) (now_is plan past l.0))
+now_is plan (p ∷ past) l = over p.ends (next (ticks plan past p.event p.action l.1) (now_is plan past l.0))
   where
     next : {a b n : ℕ} → a ≡ b + 1 → b ≡ n → a ≡ suc n
     next e f = omega (arith, e, f)
 
-    over : (ends : Option ℕ) → (heard (talk past) p.role).now ≡ suc (length past) → (ended (heard (talk past) p.role) ends).now ≡ suc (length past)
+    over : (ends : Option ℕ) → (state_after_event (protocol_state past) p.action).now ≡ suc (length past) → (ended (state_after_event (protocol_state past) p.action) ends).now ≡ suc (length past)
     over None e = e
     over (Some t) e = e
 
-now_stays : (plan : ℕ → Plan) (w : History) (r : Role) (done : Bool) (n : ℕ) → n ≤ w.talk.now → n ≤ (happens plan w r done).talk.now
+now_stays : (plan : ℕ → Plan) (w : History) (r : Action) (done : Bool) (n : ℕ) → n ≤ w.protocol.now → n ≤ (happens plan w r done).protocol.now
 now_stays plan w r done n l = grind (arith, tests)
 
 abbrev DecidedAfter : History → ℕ → ℕ → Type 0
-DecidedAfter w u n = (w.row u ≡ Some Committed → n < w.decided_at u) × (n ≤ w.talk.now)
+DecidedAfter w u n = (w.row u ≡ Some Committed → n < w.decided_at u) × (n ≤ w.protocol.now)
 
-after_kept : (plan : ℕ → Plan) (u n : ℕ) (w : History) (r : Role) (done : Bool) → Holds plan w → Allowed plan w r done → DecidedAfter w u n → DecidedAfter (happens plan w r done) u n
+after_kept : (plan : ℕ → Plan) (u n : ℕ) (w : History) (r : Action) (done : Bool) → Holds plan w → Allowed plan w r done → DecidedAfter w u n → DecidedAfter (happens plan w r done) u n
 after_kept plan u n w r done i a (f, low) = (by (w.row u) refl, now_stays plan w r done n low)
   where
     by : (o : Option Decision) → w.row u ≡ o → (happens plan w r done).row u ≡ Some Committed → n < (happens plan w r done).decided_at u
@@ -242,67 +242,67 @@ after_kept plan u n w r done i a (f, low) = (by (w.row u) refl, now_stays plan w
         apart z = absurd (cc)
     by None e h = subst (λ m. n < m) (sym (decided_now plan w r done u h e)) (more low)
       where
-        more : n ≤ w.talk.now → n < w.talk.now + 1
+        more : n ≤ w.protocol.now → n < w.protocol.now + 1
         more l = omega (arith, l)
 
 ---- at the end of a run
 
-module _ (plan : ℕ → Plan) (places : List Place) (opening : List Shelf) (played : List Played) (moments : List (List Shelf)) (catalog : List Table) (r : IsRunOf plan places opening (newest_first played) (newest_first moments)) (apart : IsApart catalog) where
+module _ (plan : ℕ → Plan) (places : List Place) (opening : List StoreContents) (labelled : List Labelled) (moments : List (List StoreContents)) (catalog : List Table) (r : IsRunOf plan places opening (newest_first labelled) (newest_first moments)) (apart : IsApart catalog) where
   abbrev events : List Event
-  events = events_of played
+  events = events_of labelled
 
-  abbrev past : List Played
-  past = newest_first played
+  abbrev past : List Labelled
+  past = newest_first labelled
 
   abbrev w : History
-  w = history plan places opening (newest_first played) (newest_first moments)
+  w = history plan places opening (newest_first labelled) (newest_first moments)
 
-  abbrev shelves : List Shelf
+  abbrev shelves : List StoreContents
   shelves = closing opening (newest_first moments)
 
-  i : Whole plan places (history plan places opening (newest_first played) (newest_first moments)) (newest_first played) (closing opening (newest_first moments))
-  i = whole_of plan places opening (newest_first played) (newest_first moments) r
+  i : Whole plan places (history plan places opening (newest_first labelled) (newest_first moments)) (newest_first labelled) (closing opening (newest_first moments))
+  i = whole_of plan places opening (newest_first labelled) (newest_first moments) r
 
   ends : closing_of events opening moments ≡ shelves
-  ends = ap (moment opening moments) (lengths places opening plan played moments r) ∙ ap (λ y. moment opening y (length moments)) (sym (append-nil moments)) ∙ moment_at opening moments []
+  ends = ap (moment opening moments) (lengths places opening plan labelled moments r) ∙ ap (λ y. moment opening y (length moments)) (sym (append-nil moments)) ∙ moment_at opening moments []
 
   -- the last events after the first of a number
   was_decided : (u n : ℕ) → n ≤ length moments → w.row u ≡ Some Committed → w.decided_at u ≤ n → u < 2 ^ 128 → Recorded places (moment opening moments n) (id u)
-  was_decided u n most row low fits = subst (λ s. Recorded places s (id u)) (sym (at_cut opening moments n c.size)) (row_recorded plan places (history plan places opening (newest_first (take n played)) (newest_first (take n moments))) (newest_first (take n played)) (closing opening (newest_first (take n moments))) u first fits (by ((history plan places opening (newest_first (take n played)) (newest_first (take n moments))).row u) refl))
+  was_decided u n most row low fits = subst (λ s. Recorded places s (id u)) (sym (at_cut opening moments n c.size)) (row_recorded plan places (history plan places opening (newest_first (take n labelled)) (newest_first (take n moments))) (newest_first (take n labelled)) (closing opening (newest_first (take n moments))) u first fits (by ((history plan places opening (newest_first (take n labelled)) (newest_first (take n moments))).row u) refl))
     where
-      c : IsCut plan places opening played moments n
-      c = cut plan places opening played moments n r most
+      c : IsCut plan places opening labelled moments n
+      c = cut plan places opening labelled moments n r most
 
-      first_run : IsRunOf plan places opening (newest_first (take n played)) (newest_first (take n moments))
-      first_run = early_run plan places opening (take n played) (drop n played) (take n moments) (drop n moments) c.same c.whole
+      first_run : IsRunOf plan places opening (newest_first (take n labelled)) (newest_first (take n moments))
+      first_run = early_run plan places opening (take n labelled) (drop n labelled) (take n moments) (drop n moments) c.same c.whole
 
-      first : Whole plan places (history plan places opening (newest_first (take n played)) (newest_first (take n moments))) (newest_first (take n played)) (closing opening (newest_first (take n moments)))
-      first = whole_of plan places opening (newest_first (take n played)) (newest_first (take n moments)) first_run
+      first : Whole plan places (history plan places opening (newest_first (take n labelled)) (newest_first (take n moments))) (newest_first (take n labelled)) (closing opening (newest_first (take n moments)))
+      first = whole_of plan places opening (newest_first (take n labelled)) (newest_first (take n moments)) first_run
 
-      now : (history plan places opening (newest_first (take n played)) (newest_first (take n moments))).talk.now ≡ n
-      now = ap (λ (x : Talk). x.now) (sym first.knows.talks) ∙ now_is plan (newest_first (take n played)) first_run.lawful ∙ turned_length (take n played) ∙ c.even ∙ c.size
+      now : (history plan places opening (newest_first (take n labelled)) (newest_first (take n moments))).protocol.now ≡ n
+      now = ap (λ (x : ProtocolState). x.now) (sym first.knows.talks) ∙ now_is plan (newest_first (take n labelled)) first_run.lawful ∙ turned_length (take n labelled) ∙ c.even ∙ c.size
 
-      late : ((history plan places opening (newest_first (take n played)) (newest_first (take n moments))).row u ≡ Some Committed → ⊥) → ⊥
+      late : ((history plan places opening (newest_first (take n labelled)) (newest_first (take n moments))).row u ≡ Some Committed → ⊥) → ⊥
       late none = less n (w.decided_at u) low (all.0 row)
         where
           less : (a b : ℕ) → b ≤ a → a < b → ⊥
           less a b l g = omega (arith, l, g)
 
-          turned : IsRunOf plan places opening (newest_first (drop n played) ++ newest_first (take n played)) (newest_first (drop n moments) ++ newest_first (take n moments))
-          turned = subst (λ y. IsRunOf plan places opening y (newest_first (drop n moments) ++ newest_first (take n moments))) (turned_append (take n played) (drop n played)) (subst (λ y. IsRunOf plan places opening (newest_first (take n played ++ drop n played)) y) (turned_append (take n moments) (drop n moments)) c.whole)
+          turned : IsRunOf plan places opening (newest_first (drop n labelled) ++ newest_first (take n labelled)) (newest_first (drop n moments) ++ newest_first (take n moments))
+          turned = subst (λ y. IsRunOf plan places opening y (newest_first (drop n moments) ++ newest_first (take n moments))) (turned_append (take n labelled) (drop n labelled)) (subst (λ y. IsRunOf plan places opening (newest_first (take n labelled ++ drop n labelled)) y) (turned_append (take n moments) (drop n moments)) c.whole)
 
-          all : DecidedAfter (history plan places opening (newest_first played) (newest_first moments)) u n
+          all : DecidedAfter (history plan places opening (newest_first labelled) (newest_first moments)) u n
           all =
-              subst (λ y. DecidedAfter (history plan places opening (newest_first y) (newest_first moments)) u n) (take-append-drop n played)
-              (subst (λ y. DecidedAfter (history plan places opening (newest_first (take n played ++ drop n played)) (newest_first y)) u n) (take-append-drop n moments)
-              (subst (λ y. DecidedAfter (history plan places opening y (newest_first (take n moments ++ drop n moments))) u n) (sym (turned_append (take n played) (drop n played)))
-              (subst (λ y. DecidedAfter (history plan places opening (newest_first (drop n played) ++ newest_first (take n played)) y) u n) (sym (turned_append (take n moments) (drop n moments)))
-              (lasts plan places opening (newest_first (drop n played)) (newest_first (take n played)) (newest_first (drop n moments)) (newest_first (take n moments)) (λ x. DecidedAfter x u n) (after_kept plan u n) (λ w v h. h) (turned_length (drop n played) ∙ c.same ∙ sym (turned_length (drop n moments))) turned (λ h. absurd (none h), same now)))))
+              subst (λ y. DecidedAfter (history plan places opening (newest_first y) (newest_first moments)) u n) (take-append-drop n labelled)
+              (subst (λ y. DecidedAfter (history plan places opening (newest_first (take n labelled ++ drop n labelled)) (newest_first y)) u n) (take-append-drop n moments)
+              (subst (λ y. DecidedAfter (history plan places opening y (newest_first (take n moments ++ drop n moments))) u n) (sym (turned_append (take n labelled) (drop n labelled)))
+              (subst (λ y. DecidedAfter (history plan places opening (newest_first (drop n labelled) ++ newest_first (take n labelled)) y) u n) (sym (turned_append (take n moments) (drop n moments)))
+              (lasts plan places opening (newest_first (drop n labelled)) (newest_first (take n labelled)) (newest_first (drop n moments)) (newest_first (take n moments)) (λ x. DecidedAfter x u n) (after_kept plan u n) (λ w v h. h) (turned_length (drop n labelled) ∙ c.same ∙ sym (turned_length (drop n moments))) turned (λ h. absurd (none h), same now)))))
             where
               same : {m : ℕ} → m ≡ n → n ≤ m
               same e = omega (arith, e)
 
-      by : (o : Option Decision) → (history plan places opening (newest_first (take n played)) (newest_first (take n moments))).row u ≡ o → (history plan places opening (newest_first (take n played)) (newest_first (take n moments))).row u ≡ Some Committed
+      by : (o : Option Decision) → (history plan places opening (newest_first (take n labelled)) (newest_first (take n moments))).row u ≡ o → (history plan places opening (newest_first (take n labelled)) (newest_first (take n moments))).row u ≡ Some Committed
       by (Some Committed) e = e
       by (Some Aborted) e = absurd (late (λ h. other (sym e ∙ h)))
         where
@@ -313,54 +313,54 @@ module _ (plan : ℕ → Plan) (places : List Place) (opening : List Shelf) (pla
   fits_of : (key : Key) (u : ℕ) → IsWriter plan w key u → u < 2 ^ 128
   fits_of key u h = taken_fits w u i.all.one.begun i.knows.fits (writer_taken plan w key u i.all.one.taken h)
 
-  to_held : (key : Key) (u : TxId) → is_data key ≡ true → (x : model.IsWriter places events opening moments key u) → (w.took u.0 key ≡ true) × (x.r ≡ held_record plan u.0 key)
+  to_held : (key : Key) (u : TxId) → is_data key ≡ true → (x : model.IsWriter places events opening moments key u) → (w.took_effect u.0 key ≡ true) × (x.r ≡ record_prepared_by plan u.0 key)
   to_held key u kept x =
-      let t = took_of plan places opening played moments u x.r x.front r x.fits (subst (λ k. is_data k ≡ true) (sym x.at) kept) x.prepared in
-      (subst (λ k. w.took u.0 k ≡ true) x.at t.0, t.1 ∙ ap (held_record plan u.0) x.at)
+      let t = took_of plan places opening labelled moments u x.r x.front r x.fits (subst (λ k. is_data k ≡ true) (sym x.at) kept) x.prepared in
+      (subst (λ k. w.took_effect u.0 k ≡ true) x.at t.0, t.1 ∙ ap (record_prepared_by plan u.0) x.at)
 
   to_writer : (key : Key) (u : TxId) → is_data key ≡ true → model.IsWriter places events opening moments key u → IsWriter plan w key u.0
   to_writer key u kept x =
-      (recorded_row plan places w past shelves u.0 i x.fits (subst (λ s. Recorded places s u) ends x.recorded), i.all.one.asked u.0 key ((i.all.one.took u.0 key).0 (to_held key u kept x).0).0)
+      (recorded_row plan places w past shelves u.0 i x.fits (subst (λ s. Recorded places s u) ends x.recorded), i.all.one.asked u.0 key ((i.all.one.took_effect u.0 key).0 (to_held key u kept x).0).0)
 
-  put_whole : (u : ℕ) (key : Key) → w.took u key ≡ true → (before : List Event) × IsPreparedAfter places events opening moments (id u) (held_record plan u key) before
-  put_whole u key took = (p.0, subst (λ y. IsPreparedAfter places (events_of y) opening moments (id u) (held_record plan u key) p.0) (append-nil played) (subst (λ y. IsPreparedAfter places (events_of (played ++ [])) opening y (id u) (held_record plan u key) p.0) (append-nil moments) p.2))
+  put_whole : (u : ℕ) (key : Key) → w.took_effect u key ≡ true → (before : List Event) × IsPreparedAfter places events opening moments (id u) (record_prepared_by plan u key) before
+  put_whole u key took_effect = (p.0, subst (λ y. IsPreparedAfter places (events_of y) opening moments (id u) (record_prepared_by plan u key) p.0) (append-nil labelled) (subst (λ y. IsPreparedAfter places (events_of (labelled ++ [])) opening y (id u) (record_prepared_by plan u key) p.0) (append-nil moments) p.2))
     where
-      run : IsRunOf plan places opening (newest_first (played ++ [])) (newest_first (moments ++ []))
-      run = subst (λ y. IsRunOf plan places opening (newest_first y) (newest_first (moments ++ []))) (sym (append-nil played)) (subst (λ y. IsRunOf plan places opening (newest_first played) (newest_first y)) (sym (append-nil moments)) r)
+      run : IsRunOf plan places opening (newest_first (labelled ++ [])) (newest_first (moments ++ []))
+      run = subst (λ y. IsRunOf plan places opening (newest_first y) (newest_first (moments ++ []))) (sym (append-nil labelled)) (subst (λ y. IsRunOf plan places opening (newest_first labelled) (newest_first y)) (sym (append-nil moments)) r)
 
-      p : (before : List Event) × (length before < length moments) × IsPreparedAfter places (events_of (played ++ [])) opening (moments ++ []) (id u) (held_record plan u key) before
-      p = put_after plan places opening played [] moments [] u key refl run took
+      p : (before : List Event) × (length before < length moments) × IsPreparedAfter places (events_of (labelled ++ [])) opening (moments ++ []) (id u) (record_prepared_by plan u key) before
+      p = put_after plan places opening labelled [] moments [] u key refl run took_effect
 
-  from_writer : (key : Key) (u : ℕ) → IsWriter plan w key u → (x : model.IsWriter places events opening moments key (id u)) × (x.r ≡ held_record plan u key)
+  from_writer : (key : Key) (u : ℕ) → IsWriter plan w key u → (x : model.IsWriter places events opening moments key (id u)) × (x.r ≡ record_prepared_by plan u key)
   from_writer key u h = (
     record {
       fits = fits_of key u h;
       recorded = subst (λ s. Recorded places s (id u)) (sym ends) (row_recorded plan places w past shelves u i (fits_of key u h) h.0);
-      r = held_record plan u key;
-      front = (put_whole u key took).0;
+      r = record_prepared_by plan u key;
+      front = (put_whole u key took_effect).0;
       at = held_key plan u key h.1;
-      prepared = (put_whole u key took).1;
+      prepared = (put_whole u key took_effect).1;
     },
     refl,
   )
     where
-      took : w.took u key ≡ true
-      took = ((i.all.one.took u key).1 ((i.all.one.decided u h.0).told key h.1)).0
+      took_effect : w.took_effect u key ≡ true
+      took_effect = ((i.all.one.took_effect u key).1 ((i.all.one.decided u h.0).told key h.1)).0
 
   module _ (faithful : IsFaithful events past) where
-    taken : (u : ℕ) → w.row u ≡ Some Committed → w.talk.taken u ≡ true
+    taken : (u : ℕ) → w.row u ≡ Some Committed → w.protocol.taken u ≡ true
     taken u h = grind (arith, i.all.one.taken u any_key 0)
 
     -- the point of a recorded transaction is the law's
-    point_is : (u : TxId) → u.0 < 2 ^ 128 → w.row u.0 ≡ Some Committed → point events u ≡ w.talk.point u.0
+    point_is : (u : TxId) → u.0 < 2 ^ 128 → w.row u.0 ≡ Some Committed → point events u ≡ w.protocol.point u.0
     point_is u fits h =
-        point_of plan places opening played (newest_first moments) u.0 r faithful fits (subst (λ (x : Talk). x.taken u.0 ≡ true) (sym i.knows.talks) (taken u.0 h)) ∙ ap (λ (x : Talk). x.point u.0) i.knows.talks
+        point_of plan places opening labelled (newest_first moments) u.0 r faithful fits (subst (λ (x : ProtocolState). x.taken u.0 ≡ true) (sym i.knows.talks) (taken u.0 h)) ∙ ap (λ (x : ProtocolState). x.point u.0) i.knows.talks
 
-    less_of : (t u : TxId) → t.0 < 2 ^ 128 → u.0 < 2 ^ 128 → w.row t.0 ≡ Some Committed → w.row u.0 ≡ Some Committed → w.talk.point t.0 < w.talk.point u.0 → point events t < point events u
-    less_of t u ft fu ht hu l = subst (λ n. n < point events u) (sym (point_is t ft ht)) (subst (λ n. w.talk.point t.0 < n) (sym (point_is u fu hu)) l)
+    less_of : (t u : TxId) → t.0 < 2 ^ 128 → u.0 < 2 ^ 128 → w.row t.0 ≡ Some Committed → w.row u.0 ≡ Some Committed → w.protocol.point t.0 < w.protocol.point u.0 → point events t < point events u
+    less_of t u ft fu ht hu l = subst (λ n. n < point events u) (sym (point_is t ft ht)) (subst (λ n. w.protocol.point t.0 < n) (sym (point_is u fu hu)) l)
 
-    of_less : (t u : TxId) → t.0 < 2 ^ 128 → u.0 < 2 ^ 128 → w.row t.0 ≡ Some Committed → w.row u.0 ≡ Some Committed → point events t < point events u → w.talk.point t.0 < w.talk.point u.0
-    of_less t u ft fu ht hu l = subst (λ n. n < w.talk.point u.0) (point_is t ft ht) (subst (λ n. point events t < n) (point_is u fu hu) l)
+    of_less : (t u : TxId) → t.0 < 2 ^ 128 → u.0 < 2 ^ 128 → w.row t.0 ≡ Some Committed → w.row u.0 ≡ Some Committed → point events t < point events u → w.protocol.point t.0 < w.protocol.point u.0
+    of_less t u ft fu ht hu l = subst (λ n. n < w.protocol.point u.0) (point_is t ft ht) (subst (λ n. point events t < n) (point_is u fu hu) l)
 
     later_of : (key : Key) (t : TxId) (u : ℕ) → is_data key ≡ true → model.IsWriter places events opening moments key t → IsLastWriter plan w key u → (id u ≡ t) ⊎ (point events t < point events (id u))
     later_of key t u kept x last =
@@ -376,8 +376,8 @@ module _ (plan : ℕ → Plan) (places : List Place) (opening : List Shelf) (pla
         record { u = id u; writer = (from_writer key u last.writer).0; later = later_of key t u kept x last; left = ap (λ (y : Record). id_in y.columns) same ∙ firm_writer plan u key (fits_of key u last.writer) }
 
     -- the last writer before a point, as the law and as the model has it
-    last_before : (key : Key) (t u : TxId) → is_data key ≡ true → t.0 < 2 ^ 128 → w.row t.0 ≡ Some Committed → (h : IsWriter plan w key u.0) → w.talk.point u.0 < w.talk.point t.0 → ((v : ℕ) → v ≢ t.0 → IsWriter plan w key v → w.talk.point v < w.talk.point t.0 → (u.0 ≡ v) ⊎ (w.talk.point v < w.talk.point u.0))
-        → (l : IsLastBefore places events opening moments key t u) × (l.writer.r ≡ held_record plan u.0 key)
+    last_before : (key : Key) (t u : TxId) → is_data key ≡ true → t.0 < 2 ^ 128 → w.row t.0 ≡ Some Committed → (h : IsWriter plan w key u.0) → w.protocol.point u.0 < w.protocol.point t.0 → ((v : ℕ) → v ≢ t.0 → IsWriter plan w key v → w.protocol.point v < w.protocol.point t.0 → (u.0 ≡ v) ⊎ (w.protocol.point v < w.protocol.point u.0))
+        → (l : IsLastBefore places events opening moments key t u) × (l.writer.r ≡ record_prepared_by plan u.0 key)
     last_before key t u kept fits row h below last = (
       record {
         writer = (from_writer key u.0 h).0;
@@ -390,8 +390,8 @@ module _ (plan : ℕ → Plan) (places : List Place) (opening : List Shelf) (pla
       (from_writer key u.0 h).1,
     )
       where
-        apart_from_self : (a b : ℕ) → w.talk.point a < w.talk.point b → a ≢ b
-        apart_from_self a b l e = irrefl (w.talk.point b) (subst (λ n. w.talk.point n < w.talk.point b) e l)
+        apart_from_self : (a b : ℕ) → w.protocol.point a < w.protocol.point b → a ≢ b
+        apart_from_self a b l e = irrefl (w.protocol.point b) (subst (λ n. w.protocol.point n < w.protocol.point b) e l)
           where
             irrefl : (n : ℕ) → n < n → ⊥
             irrefl n l = omega (arith, l)
@@ -399,7 +399,7 @@ module _ (plan : ℕ → Plan) (places : List Place) (opening : List Shelf) (pla
     current_is : (key : Key) (t : TxId) (version : Option TxId) → is_data key ≡ true → t.0 < 2 ^ 128 → w.row t.0 ≡ Some Committed → laws.IsCurrent plan w t.0 key (number_of version) → model.IsCurrent places events opening moments key t version
     current_is key t (Some u) kept fits row c =
         let h = c.writer u.0 c.as_found in
-        (last_before key t u kept fits row h.0 h.1 (λ v ne x l. let f = c.last v ne x l in subst (λ n. (n ≡ v) ⊎ (w.talk.point v < w.talk.point n)) (some_is f.0 u.0 (sym f.1 ∙ c.as_found)) f.2)).0
+        (last_before key t u kept fits row h.0 h.1 (λ v ne x l. let f = c.last v ne x l in subst (λ n. (n ≡ v) ⊎ (w.protocol.point v < w.protocol.point n)) (some_is f.0 u.0 (sym f.1 ∙ c.as_found)) f.2)).0
     current_is key t None kept fits row c = by c.x refl c.as_found
       where
         by : (x : Option ℕ) → c.x ≡ x → IsAsFound plan w t.0 key None x → model.IsCurrent places events opening moments key t None
@@ -408,14 +408,14 @@ module _ (plan : ℕ → Plan) (places : List Place) (opening : List Shelf) (pla
             let less = of_less v t x.fits fits g.0 row l in
             some_none ((c.last v.0 (other v.0 t.0 less) g less).0) (sym (c.last v.0 (other v.0 t.0 less) g less).1 ∙ e))
           where
-            other : (a b : ℕ) → w.talk.point a < w.talk.point b → a ≢ b
-            other a b l e = irrefl (w.talk.point b) (subst (λ n. w.talk.point n < w.talk.point b) e l)
+            other : (a b : ℕ) → w.protocol.point a < w.protocol.point b → a ≢ b
+            other a b l e = irrefl (w.protocol.point b) (subst (λ n. w.protocol.point n < w.protocol.point b) e l)
               where
                 irrefl : (n : ℕ) → n < n → ⊥
                 irrefl n l = omega (arith, l)
         by (Some u) e (gone, early) =
             let h = c.writer u e in
-            let l = last_before key t (id u) kept fits row h.0 h.1 (λ v ne x m. let f = c.last v ne x m in subst (λ n. (n ≡ v) ⊎ (w.talk.point v < w.talk.point n)) (some_is f.0 u (sym f.1 ∙ e)) f.2) in
+            let l = last_before key t (id u) kept fits row h.0 h.1 (λ v ne x m. let f = c.last v ne x m in subst (λ n. (n ≡ v) ⊎ (w.protocol.point v < w.protocol.point n)) (some_is f.0 u (sym f.1 ∙ e)) f.2) in
             inr (record {
               u = id u;
               last = l.0;
@@ -423,45 +423,45 @@ module _ (plan : ℕ → Plan) (places : List Place) (opening : List Shelf) (pla
               recorded = λ n began. was_decided u n (most n began) h.0.0 (low n began early) (fits_of key u h.0);
             })
           where
-            begun_is : (n : ℕ) → begun events t ≡ Some n → w.talk.begun t.0 ≡ n
-            begun_is n began = ap (λ (x : Talk). x.begun t.0) (sym i.knows.talks) ∙ faithful.begun t.0 n fits began
+            begun_is : (n : ℕ) → begun events t ≡ Some n → w.protocol.begun t.0 ≡ n
+            begun_is n began = ap (λ (x : ProtocolState). x.begun t.0) (sym i.knows.talks) ∙ faithful.begun t.0 n fits began
 
-            low : (n : ℕ) → begun events t ≡ Some n → w.decided_at u < w.talk.begun t.0 → w.decided_at u ≤ n
-            low n began l = under (w.decided_at u) (w.talk.begun t.0) n (begun_is n began) l
+            low : (n : ℕ) → begun events t ≡ Some n → w.decided_at u < w.protocol.begun t.0 → w.decided_at u ≤ n
+            low n began l = under (w.decided_at u) (w.protocol.begun t.0) n (begun_is n began) l
               where
                 under : (a b n : ℕ) → b ≡ n → a < b → a ≤ n
                 under a b n e l = omega (arith, e, l)
 
             most : (n : ℕ) → begun events t ≡ Some n → n ≤ length moments
-            most n began = under n (w.talk.begun t.0) w.talk.now (length moments) (begun_is n began) (i.all.one.point t.0).1 counted
+            most n began = under n (w.protocol.begun t.0) w.protocol.now (length moments) (begun_is n began) (i.all.one.point t.0).1 counted
               where
-                counted : w.talk.now ≡ length moments
-                counted = ap (λ (x : Talk). x.now) (sym i.knows.talks) ∙ now_is plan past r.lawful ∙ trace_length places opening past (newest_first moments) r.traced ∙ turned_length moments
+                counted : w.protocol.now ≡ length moments
+                counted = ap (λ (x : ProtocolState). x.now) (sym i.knows.talks) ∙ now_is plan past r.lawful ∙ trace_length places opening past (newest_first moments) r.traced ∙ turned_length moments
 
                 under : (n b m l : ℕ) → b ≡ n → b ≤ m → m ≡ l → n ≤ l
                 under n b m l e f g = omega (arith, e, f, g)
 
-noted_at : (plan : Plan) (i : ℕ) (key : Key) (note : Note) (version : Option TxId) → slice_get plan.notes i ≡ Some note → version_noted note key ≡ Some version → noted plan i key ≡ Some (number_of version)
-unfolding noted
-noted_at plan i key note version at says = ap (λ o. option_map number_of (option_and_then (λ n. version_noted n key) o)) at ∙ ap (option_map number_of) says
+noted_at : (plan : Plan) (i : ℕ) (key : Key) (item : ReadItem) (version : Option TxId) → slice_get plan.read_set i ≡ Some item → version_read item key ≡ Some version → version_read_at plan i key ≡ Some (number_of version)
+unfolding version_read_at
+noted_at plan i key item version at says = ap (λ o. option_map number_of (option_and_then (λ n. version_read n key) o)) at ∙ ap (option_map number_of) says
 
-pub stand_at : (plan : ℕ → Plan) (places : List Place) (opening : List Shelf) (played : List Played) (moments : List (List Shelf)) (catalog : List Table) → IsRunOf plan places opening (newest_first played) (newest_first moments) → find_table catalog coordinator_table ≡ None → IsFaithful (events_of played) (newest_first played) → WritesStand catalog places (events_of played) opening moments
-stand_at plan places opening played moments catalog r none faithful key t table x =
+pub stand_at : (plan : ℕ → Plan) (places : List Place) (opening : List StoreContents) (labelled : List Labelled) (moments : List (List StoreContents)) (catalog : List Table) → IsRunOf plan places opening (newest_first labelled) (newest_first moments) → find_table catalog coordinator_table ≡ None → IsFaithful (events_of labelled) (newest_first labelled) → WritesPersist catalog places (events_of labelled) opening moments
+stand_at plan places opening labelled moments catalog r none faithful key t table x =
     let apart = apart_from catalog none in
     let kept = apart.outside key table in
-    subst (λ s. IsOfOrLater places (events_of played) opening moments key t (image_at places s key)) (sym (ends plan places opening played moments catalog r apart))
-    (stands_on plan places opening played moments catalog r apart faithful key t (image_at places (closing opening (newest_first moments)) key) kept x
-    (image_is_last_writer plan places (history plan places opening (newest_first played) (newest_first moments)) (newest_first played) (closing opening (newest_first moments)) (whole_of plan places opening (newest_first played) (newest_first moments) r) key kept))
+    subst (λ s. IsOfOrLater places (events_of labelled) opening moments key t (image_at places s key)) (sym (ends plan places opening labelled moments catalog r apart))
+    (stands_on plan places opening labelled moments catalog r apart faithful key t (image_at places (closing opening (newest_first moments)) key) kept x
+    (image_is_last_writer plan places (history plan places opening (newest_first labelled) (newest_first moments)) (newest_first labelled) (closing opening (newest_first moments)) (whole_of plan places opening (newest_first labelled) (newest_first moments) r) key kept))
 
-pub current_at : (plan : ℕ → Plan) (places : List Place) (opening : List Shelf) (played : List Played) (moments : List (List Shelf)) (catalog : List Table) → IsRunOf plan places opening (newest_first played) (newest_first moments) → find_table catalog coordinator_table ≡ None → IsFaithful (events_of played) (newest_first played) → AreNoted plan (events_of played) (newest_first played)
-    → ReadsCurrent catalog places (events_of played) opening moments
-current_at plan places opening played moments catalog r none faithful are t note key version fits recorded inside says table =
+pub current_at : (plan : ℕ → Plan) (places : List Place) (opening : List StoreContents) (labelled : List Labelled) (moments : List (List StoreContents)) (catalog : List Table) → IsRunOf plan places opening (newest_first labelled) (newest_first moments) → find_table catalog coordinator_table ≡ None → IsFaithful (events_of labelled) (newest_first labelled) → AreReadSets plan (events_of labelled) (newest_first labelled)
+    → ReadsCurrent catalog places (events_of labelled) opening moments
+current_at plan places opening labelled moments catalog r none faithful are t item key version fits recorded inside says table =
     let apart = apart_from catalog none in
-    let w = history plan places opening (newest_first played) (newest_first moments) in
-    let i = whole_of plan places opening (newest_first played) (newest_first moments) r in
+    let w = history plan places opening (newest_first labelled) (newest_first moments) in
+    let i = whole_of plan places opening (newest_first labelled) (newest_first moments) r in
     let kept = apart.outside key table in
-    let row = recorded_row plan places w (newest_first played) (closing opening (newest_first moments)) t.0 i fits (subst (λ s. Recorded places s t) (ends plan places opening played moments catalog r apart) recorded) in
-    let told = subst (λ (x : Talk). x.taken t.0 ≡ true) (sym i.knows.talks) (taken plan places opening played moments catalog r apart faithful t.0 row) in
-    let at = (are t.0 told note).1 inside in
-    current_is plan places opening played moments catalog r apart faithful key t version kept fits row
-    (reads_current plan w i.all t.0 at.0 key (number_of version) row (noted_at (plan t.0) at.0 key note version (got (plan t.0).notes note at.0 at.1 at.2) says))
+    let row = recorded_row plan places w (newest_first labelled) (closing opening (newest_first moments)) t.0 i fits (subst (λ s. Recorded places s t) (ends plan places opening labelled moments catalog r apart) recorded) in
+    let told = subst (λ (x : ProtocolState). x.taken t.0 ≡ true) (sym i.knows.talks) (taken plan places opening labelled moments catalog r apart faithful t.0 row) in
+    let at = (are t.0 told item).1 inside in
+    current_is plan places opening labelled moments catalog r apart faithful key t version kept fits row
+    (reads_current plan w i.all t.0 at.0 key (number_of version) row (noted_at (plan t.0) at.0 key item version (got (plan t.0).read_set item at.0 at.1 at.2) says))

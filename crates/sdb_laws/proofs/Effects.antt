@@ -19,7 +19,7 @@ use Rattle.sdb_model.specs.declared.event.How.{How}
 use Rattle.sdb_model.specs.declared.event.How.TheVariants.{Seen, Lost, Discarded, Broken}
 use Rattle.sdb_stores.specs.declared.place.Place.{Place}
 use Rattle.sdb_model.specs.Rows.{Name, same_name}
-use Rattle.sdb_model.specs.Events.{Shelf, held_by, with_contents, store_of, first_name, standing, table_asked, IsPerformed, IsCall}
+use Rattle.sdb_model.specs.Events.{StoreContents, contents_under, with_contents, store_of, first_name, standing, table_asked, IsPerformed, IsCall}
 
 ---- contents
 
@@ -54,11 +54,11 @@ after_delete key c m k = by (holds c (record_at m key))
 
 ---- shelves
 
-pub first_same : (shelves : List Shelf) (name : Name) (c : Contents) → first_name (with_contents shelves name c) ≡ first_name shelves
+pub first_same : (shelves : List StoreContents) (name : Name) (c : Contents) → first_name (with_contents shelves name c) ≡ first_name shelves
 first_same [] name c = refl
 first_same (s ∷ ss) name c = elim (same_name s.name name) as (λ b. (if b then record { name = s.name; contents = c } else s).name ≡ s.name) [ true ↦ refl | false ↦ refl ]
 
-pub store_same : (places : List Place) (shelves : List Shelf) (name : Name) (c : Contents) (ns : Name) → store_of places (with_contents shelves name c) ns ≡ store_of places shelves ns
+pub store_same : (places : List Place) (shelves : List StoreContents) (name : Name) (c : Contents) (ns : Name) → store_of places (with_contents shelves name c) ns ≡ store_of places shelves ns
 store_same places shelves name c ns = ap (λ x. option_map_or (λ (p : Place). p.store) (find (λ p. same_name p.ns ns) places) x) (first_same shelves name c)
 
 same_name_is : (a b : Name) → same_name a b ≡ true → a ≡ b
@@ -68,20 +68,20 @@ same_name_self : (a : Name) → same_name a a ≡ true
 same_name_self a = same_name-itself a
 
 -- the store of the call
-pub held_there : (shelves : List Shelf) (name : Name) (c held : Contents) → held_by shelves name ≡ Some held → held_by (with_contents shelves name c) name ≡ Some c
+pub held_there : (shelves : List StoreContents) (name : Name) (c held : Contents) → contents_under shelves name ≡ Some held → contents_under (with_contents shelves name c) name ≡ Some c
 held_there [] name c held h = absurd (cc)
 held_there (s ∷ ss) name c held h = by (held_there ss name c held) (same_name s.name name) refl h
   where
-    by : (held_by ss name ≡ Some held → held_by (with_contents ss name c) name ≡ Some c) → (b : Bool) → same_name s.name name ≡ b → option_map (λ (x : Shelf). x.contents) (cond b (Some s) (find (λ x. same_name x.name name) ss)) ≡ Some held → held_by (with_contents (s ∷ ss) name c) name ≡ Some c
+    by : (contents_under ss name ≡ Some held → contents_under (with_contents ss name c) name ≡ Some c) → (b : Bool) → same_name s.name name ≡ b → option_map (λ (x : StoreContents). x.contents) (cond b (Some s) (find (λ x. same_name x.name name) ss)) ≡ Some held → contents_under (with_contents (s ∷ ss) name c) name ≡ Some c
     by rest true e f = rw e (rw e refl)
     by rest false e f = rw e (rw e (rest f))
 
 -- every other store
-pub held_elsewhere : (shelves : List Shelf) (name other : Name) (c : Contents) → (name ≢ other) → held_by (with_contents shelves name c) other ≡ held_by shelves other
+pub held_elsewhere : (shelves : List StoreContents) (name other : Name) (c : Contents) → (name ≢ other) → contents_under (with_contents shelves name c) other ≡ contents_under shelves other
 held_elsewhere [] name other c n = refl
 held_elsewhere (s ∷ ss) name other c n = by (held_elsewhere ss name other c n) (same_name s.name name) refl (same_name s.name other) refl
   where
-    by : held_by (with_contents ss name c) other ≡ held_by ss other → (b : Bool) → same_name s.name name ≡ b → (d : Bool) → same_name s.name other ≡ d → held_by (with_contents (s ∷ ss) name c) other ≡ held_by (s ∷ ss) other
+    by : contents_under (with_contents ss name c) other ≡ contents_under ss other → (b : Bool) → same_name s.name name ≡ b → (d : Bool) → same_name s.name other ≡ d → contents_under (with_contents (s ∷ ss) name c) other ≡ contents_under (s ∷ ss) other
     by rest true e true f = absurd (n (sym (same_name_is s.name name e) ∙ same_name_is s.name other f))
     by rest true e false f = rw e (rw f rest)
     by rest false e true f = rw e (rw f refl)
@@ -104,7 +104,7 @@ moved q Broken r held left p = elim p.1 [
 ]
 
 -- what is at a key is what the call's store has there, before and after, or the call leaves it as it was
-pub record AtCall (places : List Place) (q : Request) (r : Reply) (before now : List Shelf) : Type 0 where
+pub record AtCall (places : List Place) (q : Request) (r : Reply) (before now : List StoreContents) : Type 0 where
   pub held : Contents
   pub left : Contents
   pub moved : ((left ≡ after q held) × ((r ≡ reply_to q held) ⊎ (r ≡ reply.Fault))) ⊎ ((left ≡ held) × ((r ≡ reply.NoMemory) ⊎ (r ≡ reply.Fault)))
@@ -121,27 +121,27 @@ same_name_tells a b = by (same_name a b) refl
         no : false ≡ true → ⊥
         no x = absurd (cc)
 
-now_at : (places : List Place) (store : Name) (q : Request) (how : How) (r : Reply) (before now : List Shelf) (c : IsCall places store q how r before now) (k : Key) → standing places now k ≡ option_map_or (λ m. record_at m k) (held_by (with_contents before store c.left) (store_of places before k.table.ns)) None
-now_at places store q how r before now c k = ap (λ s. standing places s k) c.others ∙ ap (λ n. option_map_or (λ m. record_at m k) (held_by (with_contents before store c.left) n) None) (store_same places before store c.left k.table.ns)
+now_at : (places : List Place) (store : Name) (q : Request) (how : How) (r : Reply) (before now : List StoreContents) (c : IsCall places store q how r before now) (k : Key) → standing places now k ≡ option_map_or (λ m. record_at m k) (contents_under (with_contents before store c.left) (store_of places before k.table.ns)) None
+now_at places store q how r before now c k = ap (λ s. standing places s k) c.others ∙ ap (λ n. option_map_or (λ m. record_at m k) (contents_under (with_contents before store c.left) n) None) (store_same places before store c.left k.table.ns)
 
 -- in the call's store
-pub stands_in_store : (places : List Place) (store : Name) (q : Request) (how : How) (r : Reply) (before now : List Shelf) (c : IsCall places store q how r before now) (k : Key) → store ≡ store_of places before k.table.ns → (standing places before k ≡ record_at c.held k) × (standing places now k ≡ record_at c.left k)
+pub stands_in_store : (places : List Place) (store : Name) (q : Request) (how : How) (r : Reply) (before now : List StoreContents) (c : IsCall places store q how r before now) (k : Key) → store ≡ store_of places before k.table.ns → (standing places before k ≡ record_at c.held k) × (standing places now k ≡ record_at c.left k)
 stands_in_store places store q how r before now c k e = (
-  ap (λ (n : Name). option_map_or (λ m. record_at m k) (held_by before n) None) (sym e) ∙ ap (λ (x : Option Contents). option_map_or (λ m. record_at m k) x None) c.found,
-  now_at places store q how r before now c k ∙ ap (λ (n : Name). option_map_or (λ m. record_at m k) (held_by (with_contents before store c.left) n) None) (sym e) ∙ ap (λ (x : Option Contents). option_map_or (λ m. record_at m k) x None) (held_there before store c.left c.held c.found),
+  ap (λ (n : Name). option_map_or (λ m. record_at m k) (contents_under before n) None) (sym e) ∙ ap (λ (x : Option Contents). option_map_or (λ m. record_at m k) x None) c.found,
+  now_at places store q how r before now c k ∙ ap (λ (n : Name). option_map_or (λ m. record_at m k) (contents_under (with_contents before store c.left) n) None) (sym e) ∙ ap (λ (x : Option Contents). option_map_or (λ m. record_at m k) x None) (held_there before store c.left c.held c.found),
 )
 
-stands_elsewhere : (places : List Place) (store : Name) (q : Request) (how : How) (r : Reply) (before now : List Shelf) (c : IsCall places store q how r before now) (k : Key) → store ≢ store_of places before k.table.ns → standing places now k ≡ standing places before k
+stands_elsewhere : (places : List Place) (store : Name) (q : Request) (how : How) (r : Reply) (before now : List StoreContents) (c : IsCall places store q how r before now) (k : Key) → store ≢ store_of places before k.table.ns → standing places now k ≡ standing places before k
 stands_elsewhere places store q how r before now c k n = now_at places store q how r before now c k ∙ ap (λ (x : Option Contents). option_map_or (λ m. record_at m k) x None) (held_elsewhere before store (store_of places before k.table.ns) c.left n)
 
 -- in the call's store, or in another
-pub stands_anywhere : (places : List Place) (store : Name) (q : Request) (how : How) (r : Reply) (before now : List Shelf) (c : IsCall places store q how r before now) (k : Key) → ((standing places before k ≡ record_at c.held k) × (standing places now k ≡ record_at c.left k)) ⊎ ((standing places now k ≡ standing places before k) × (k.table.ns ≢ (table_asked q).ns))
+pub stands_anywhere : (places : List Place) (store : Name) (q : Request) (how : How) (r : Reply) (before now : List StoreContents) (c : IsCall places store q how r before now) (k : Key) → ((standing places before k ≡ record_at c.held k) × (standing places now k ≡ record_at c.left k)) ⊎ ((standing places now k ≡ standing places before k) × (k.table.ns ≢ (table_asked q).ns))
 stands_anywhere places store q how r before now c k = elim (same_name_tells store (store_of places before k.table.ns)) [
   | inl e ↦ inl (stands_in_store places store q how r before now c k e)
   | inr n ↦ inr (stands_elsewhere places store q how r before now c k n, λ e. n (c.placed ∙ ap (store_of places before) (sym e)))
 ]
 
-pub at_call : (places : List Place) (store : Name) (q : Request) (how : How) (r : Reply) (before now : List Shelf) → IsCall places store q how r before now → AtCall places q r before now
+pub at_call : (places : List Place) (store : Name) (q : Request) (how : How) (r : Reply) (before now : List StoreContents) → IsCall places store q how r before now → AtCall places q r before now
 at_call places store q how r before now c = record {
   held = c.held;
   left = c.left;

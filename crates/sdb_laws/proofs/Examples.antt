@@ -23,10 +23,10 @@ use Rattle.sdb_model.specs.declared.answer.Answer.{Answer}
 use Rattle.sdb_model.specs.declared.event.Event.TheVariants as event
 use Rattle.sdb_model.specs.declared.event.How.{How}
 use Rattle.sdb_model.specs.Transactions.{rest_of}
-use Rattle.sdb_laws.specs.Plan.{Plan, write_at, written, noted, number_of}
-use Rattle.sdb_model.specs.Noted.{Note, Got}
-use Rattle.sdb_laws.specs.Lawful.{Played, id, IsLawful, IsShown, IsRowShown, IsHeldShown, IsSettled, Itself, Forward, InReply, IsUnchanged, is_denial, talk}
-use Rattle.sdb_laws.specs.Worked.{account, one, two, three, inserts, updates, deletes_it, prepared, forward, read_at, plan_with, first_run, second_run, lost_decision, recovery, vacuumed, decided_early, prepared_twice, rolled_blindly, checked_moved, removed_while_open, update_text, delete_text, row}
+use Rattle.sdb_laws.specs.Plan.{Plan, write_at, written, version_read_at, number_of}
+use Rattle.sdb_model.specs.ReadSet.{ReadItem, KeyRead}
+use Rattle.sdb_laws.specs.Lawful.{Labelled, id, IsLawful, IsObserved, IsRowObserved, IsPreparedObserved, IsSettled, Itself, Forward, InReply, IsUnchanged, is_denial, protocol_state}
+use Rattle.sdb_laws.specs.Worked.{account, one, two, three, inserts, updates, deletes_it, prepared, forward, read_at, plan_with, first_run, second_run, lost_decision, recovery, vacuumed, decided_early, prepared_twice, rolled_blindly, checked_changed, removed_while_open, update_text, delete_text, row}
 use Rattle.sdb_laws.proofs.Canon.{version_state, not_firm_version}
 use Rattle.sdb_laws.proofs.Reading.{noted_got}
 use Rattle.sdb_laws.proofs.Texts.{begin_begins, commit_commits}
@@ -59,10 +59,10 @@ only_written plan x k e h = by (write_at plan k) refl
     by None f = absurd (h (ap (option_map (λ w. number_of (version_of w.base))) f))
     by (Some w) f = (only_write plan x k w e f).1
 
-only_note : (plan : Plan) (read : Read) (i : ℕ) (k : Key) (v : Option ℕ) → plan.notes ≡ Got read ∷ [] → noted plan i k ≡ Some v → (i ≡ 0) × (read.key ≡ k) × (v ≡ number_of read.version)
-unfolding noted
+only_note : (plan : Plan) (read : Read) (i : ℕ) (k : Key) (v : Option ℕ) → plan.read_set ≡ KeyRead read ∷ [] → version_read_at plan i k ≡ Some v → (i ≡ 0) × (read.key ≡ k) × (v ≡ number_of read.version)
+unfolding version_read_at
 only_note plan read zero k v e h = let x = noted_got plan 0 read k v (ap (λ ns. slice_get ns 0) e) h in (refl, x.0, x.1)
-only_note plan read (suc i) k v e h = absurd (none (sym (ap (λ ns. option_map number_of (Rattle.std.specs.Option.option_and_then (λ n. Rattle.sdb_model.specs.Noted.version_noted n k) (slice_get ns (suc i)))) e) ∙ h))
+only_note plan read (suc i) k v e h = absurd (none (sym (ap (λ ns. option_map number_of (Rattle.std.specs.Option.option_and_then (λ n. Rattle.sdb_model.specs.ReadSet.version_noted n k) (slice_get ns (suc i)))) e) ∙ h))
   where
     none : ◌≡◌ {A = Option (Option ℕ)} None (Some v) → ⊥
     none x = cc
@@ -147,7 +147,7 @@ first_lawful w = (
           moment = refl;
           writes = λ k x h. let o = only_write (plan_with w one) inserts k x refl h in (subst (λ y. IsWrite y) (sym o.0) is_inserts, subst (λ y. is_data y ≡ true) (sym o.1) refl);
           bases = λ k x b h f. let o = only_write (plan_with w one) inserts k x refl h in absurd (none b (sym (ap (λ (y : Write). y.base) o.0) ∙ f));
-          notes = λ i k u h. no_read u (only_note (plan_with w one) _ i k (Some u) refl h).2;
+          read_set = λ i k u h. no_read u (only_note (plan_with w one) _ i k (Some u) refl h).2;
           tables = λ i k v h. let o = only_note (plan_with w one) _ i k v refl h in subst (λ y. is_data y ≡ true) o.1 refl;
         },
         λ e. absurd (cc),
@@ -196,7 +196,7 @@ first_lawful w = (
 ---- the second transaction, up to its prepare
 
 -- a committed record that was shown
-itself : (past : List Played) (r b : Record) (k : Key) → IsShown past r → r ≡ b → r.key ≡ k → is_in state.Committed r.columns ≡ true → IsSettled past k b
+itself : (past : List Labelled) (r b : Record) (k : Key) → IsObserved past r → r ≡ b → r.key ≡ k → is_in state.Committed r.columns ≡ true → IsSettled past k b
 itself past r b k shown same key firm = subst (λ y. IsSettled past k y) same (Itself shown key firm)
 
 -- its base is what the first left, as it was found there
@@ -234,7 +234,7 @@ second_lawful w text is key base = (
       writes = λ k x h. let o = only_write (plan_with w two) w k x refl h in (subst (λ y. IsWrite y) (sym o.0) is, subst (λ y. is_data y ≡ true) (sym key ∙ sym o.1) refl);
       bases = λ k x b h f. let o = only_write (plan_with w two) w k x refl h in
           itself _ (forward inserts one) b k (inl refl) (some_is (forward inserts one) b (sym base ∙ ap (λ (y : Write). y.base) (sym o.0) ∙ f)) (forward_key inserts one ∙ sym key ∙ sym o.1) (forward-committed (prepared inserts one) (pos 0));
-      notes = λ i k u h. let o = only_note (plan_with w two) _ i k (Some u) refl h in
+      read_set = λ i k u h. let o = only_note (plan_with w two) _ i k (Some u) refl h in
           (forward inserts one, itself _ (forward inserts one) (forward inserts one) k (inl refl) refl (forward_key inserts one ∙ o.1) (forward-committed (prepared inserts one) (pos 0)), forward_id inserts one (omega arith) ∙ ap (λ y. option_map id y) (sym o.2));
       tables = λ i k v h. let o = only_note (plan_with w two) _ i k v refl h in subst (λ y. is_data y ≡ true) o.1 refl;
     },
@@ -375,7 +375,7 @@ recovery_lawful = (
         moment = refl;
         writes = λ k x h. absurd (no_write k x h);
         bases = λ k x b h f. absurd (no_write k x h);
-        notes = λ i k u h. let o = only_note (plan_with updates three) _ i k (Some u) refl h in
+        read_set = λ i k u h. let o = only_note (plan_with updates three) _ i k (Some u) refl h in
             (forward updates two, settled _ k (inr (inr (inl refl))) (record { row = row two; shown = inr (inl refl); key = refl; says = row_two }) o.1, forward_id updates two (omega arith) ∙ ap (λ y. option_map id y) (sym o.2));
         tables = λ i k v h. let o = only_note (plan_with updates three) _ i k v refl h in subst (λ y. is_data y ≡ true) o.1 refl;
       },
@@ -384,7 +384,7 @@ recovery_lawful = (
     ),
     record {
       client = 3;
-      note = _;
+      item = _;
       q = _;
       r = _;
       within = record { taken = refl; is_open = refl; owner = refl; goes_on = refl };
@@ -419,10 +419,10 @@ recovery_lawful = (
     some : {b : Option ℕ} → ◌≡◌ {A = Option (Option ℕ)} None (Some b) → ⊥
     some e = cc
 
-    held : (past : List Played) → IsShown past (prepared updates two) → IsHeldShown past two account (prepared updates two)
+    held : (past : List Labelled) → IsObserved past (prepared updates two) → IsPreparedObserved past two account (prepared updates two)
     held past shown = record { shown = shown; key = prepared-key updates (id two) (pos 0); held = prepared-unsettled updates (id two) (pos 0); writer = version-writer (prepared updates two) (id two) state.Prepared (omega arith) (prepared-version updates (id two) (pos 0)) }
 
-    settled : (past : List Played) (k : Key) → IsShown past (prepared updates two) → IsRowShown past two Committed (pos 0) → account ≡ k → IsSettled past k (forward updates two)
+    settled : (past : List Labelled) (k : Key) → IsObserved past (prepared updates two) → IsRowObserved past two Committed (pos 0) → account ≡ k → IsSettled past k (forward updates two)
     settled past k shown row e = subst (λ y. IsSettled past y (forward updates two)) e (Forward two (prepared updates two) (pos 0) (held past shown) row refl)
 
 tombstone : is_tombstone (forward deletes_it two) ≡ true
@@ -491,7 +491,7 @@ vacuumed_lawful = (
   λ a e d t f. absurd (cc),
 )
   where
-    closed : (u : ℕ) → (talk (rest_of vacuumed)).is_open u ≡ true → ⊥
+    closed : (u : ℕ) → (protocol_state (rest_of vacuumed)).is_open u ≡ true → ⊥
     closed u h = closed_by (u == two) (u == one) h
 
 ---- and those that aren't
@@ -504,11 +504,11 @@ pub prepared_twice_refused : IsLawful (plan_with updates) prepared_twice → ⊥
 unfolding same_key
 prepared_twice_refused l = clash l.1.once
 
-pub checked_moved_refused : (past : List Played) → IsLawful (plan_with updates) (checked_moved past) → ⊥
-checked_moved_refused past l = moved (subst (λ n. IsUnchanged (plan_with updates three) n l.1.q l.1.r) (note l.1.note l.1.at) l.1.unchanged) (called l.1.call.call)
+pub checked_moved_refused : (past : List Labelled) → IsLawful (plan_with updates) (checked_changed past) → ⊥
+checked_moved_refused past l = moved (subst (λ n. IsUnchanged (plan_with updates three) n l.1.q l.1.r) (item l.1.item l.1.at) l.1.unchanged) (called l.1.call.call)
   where
-    note : (n : Note) → Some (Got (read_at (Some two))) ≡ Some n → n ≡ Got (read_at (Some two))
-    note n e = cc
+    item : (n : ReadItem) → Some (KeyRead (read_at (Some two))) ≡ Some n → n ≡ KeyRead (read_at (Some two))
+    item n e = cc
 
     found_is : (x : Option Record) → reply.Found (Some (prepared updates two)) ≡ reply.Found x → Some (prepared updates two) ≡ x
     found_is x e = cc
@@ -516,7 +516,7 @@ checked_moved_refused past l = moved (subst (λ n. IsUnchanged (plan_with update
     called : {c d : ℕ} {s t : List ℕ} {q p : Request} {h g : How} {r x : Reply} {a b : Option Answer} → event.Call c s q h r a ≡ event.Call d t p g x b → r ≡ x
     called e = cc
 
-    moved : IsUnchanged (plan_with updates three) (Got (read_at (Some two))) l.1.q l.1.r → reply.Found (Some (prepared updates two)) ≡ l.1.r → ⊥
+    moved : IsUnchanged (plan_with updates three) (KeyRead (read_at (Some two))) l.1.q l.1.r → reply.Found (Some (prepared updates two)) ≡ l.1.r → ⊥
     moved u e = clash (sym u.3 ∙ ap (λ (x : Option Record). is_unchanged x (Some (id two))) (sym (found_is u.0 (e ∙ u.2))) ∙ not_firm_version (id two) (prepared updates two) (prepared-unsettled updates (id two) (pos 0)))
 
 pub rolled_blindly_refused : IsLawful (plan_with updates) rolled_blindly → ⊥
@@ -529,7 +529,7 @@ rolled_blindly_refused l = elim l.1.known [
   ]
 ]
   where
-    only : (x : Record) → IsShown (rest_of rolled_blindly) x → x ≡ forward inserts one
+    only : (x : Record) → IsObserved (rest_of rolled_blindly) x → x ≡ forward inserts one
     only x (inl h) = absurd h
     only x (inr (inl h)) = absurd h
     only x (inr (inr (inl h))) = absurd h

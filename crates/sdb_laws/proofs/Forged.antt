@@ -8,20 +8,20 @@ use Rattle.sdb_model.specs.declared.event.Point.{Point}
 use Rattle.sdb_model.specs.declared.event.TableDump.{TableDump}
 use Rattle.sdb_model.specs.declared.script.Script.{Script}
 use Rattle.sdb_model.specs.Sql.{reads_begin, reads_commit}
-use Rattle.sdb_model.specs.Events.{Shelf}
-use Rattle.sdb_model.specs.Transactions.{Said, said, ends, from_begin, rest_of, ordinal_of}
-use Rattle.sdb_model.specs.Told.{IsRun}
+use Rattle.sdb_model.specs.Events.{StoreContents}
+use Rattle.sdb_model.specs.Transactions.{Executed, statements_by, ends, from_begin, rest_of, ordinal_of}
+use Rattle.sdb_model.specs.Serial.{IsRun}
 use Rattle.sdb_laws.specs.Forged.{liar, twice}
 use Rattle.sdb_laws.proofs.Texts.{begin_begins, commit_begins_not, rollback_begins_not, rollback_commits_not, rollback_rolls}
 
 -- the COMMIT of the n-th transaction among what a client said
-abbrev commit_among : ℕ → List Said → Option Said
-commit_among n ss = option_and_then (λ (s : Said). if reads_commit s.text then Some s else None) (find ends (rest_of (from_begin n ss)))
+abbrev commit_among : ℕ → List Executed → Option Executed
+commit_among n ss = option_and_then (λ (s : Executed). if reads_commit s.text then Some s else None) (find ends (rest_of (from_begin n ss)))
 
-no_some : (s : Said) → None ≡ Some s → ⊥
+no_some : (s : Executed) → None ≡ Some s → ⊥
 no_some s e = absurd (cc)
 
-liar_none : (n : ℕ) → commit_among n (said 1 liar) ≡ None
+liar_none : (n : ℕ) → commit_among n (statements_by 1 liar) ≡ None
 liar_none zero = refl
 liar_none (suc n) = rw (not_done (reads_begin (codes "BEGIN")), not_done (reads_begin (codes "INSERT INTO bank.account (id, balance) VALUES (1, 100)")), not_done (reads_begin (codes "COMMIT"))) refl
   where
@@ -29,12 +29,12 @@ liar_none (suc n) = rw (not_done (reads_begin (codes "BEGIN")), not_done (reads_
     not_done true = refl
     not_done false = refl
 
-pub liar_is_no_run : (script : Script) (opening closing : List Shelf) (order : List Point) (tables : List TableDump) → IsRun script opening closing (record { events = liar; order = order; tables = tables }) → ⊥
+pub liar_is_no_run : (script : Script) (opening closing : List StoreContents) (order : List Point) (tables : List TableDump) → IsRun script opening closing (record { events = liar; order = order; tables = tables }) → ⊥
 liar_is_no_run script opening closing order tables run =
     let o = run.told.owned 1 (record { taken = 3; text = codes "COMMIT"; answer = Some answer.Committed; reached = 3 }) (2, omega arith, refl) refl in
-    no_some _ (sym (ap (λ c. commit_among (ordinal_of o.id) (said c liar)) o.owner ∙ liar_none (ordinal_of o.id)) ∙ o.commit)
+    no_some _ (sym (ap (λ c. commit_among (ordinal_of o.id) (statements_by c liar)) o.owner ∙ liar_none (ordinal_of o.id)) ∙ o.commit)
 
-twice_none : (n : ℕ) → commit_among n (said 1 twice) ≡ None
+twice_none : (n : ℕ) → commit_among n (statements_by 1 twice) ≡ None
 twice_none zero = refl
 twice_none (suc zero) = rw (begin_begins, rollback_commits_not, rollback_rolls, rollback_commits_not) refl
 twice_none (suc (suc n)) = rw (begin_begins, apart n, rollback_begins_not, commit_begins_not) refl
@@ -42,7 +42,7 @@ twice_none (suc (suc n)) = rw (begin_begins, apart n, rollback_begins_not, commi
     apart : (n : ℕ) → (suc n == 0) ≡ false
     apart n = grind (arith, nat_tests)
 
-pub twice_is_no_run : (script : Script) (opening closing : List Shelf) (order : List Point) (tables : List TableDump) → IsRun script opening closing (record { events = twice; order = order; tables = tables }) → ⊥
+pub twice_is_no_run : (script : Script) (opening closing : List StoreContents) (order : List Point) (tables : List TableDump) → IsRun script opening closing (record { events = twice; order = order; tables = tables }) → ⊥
 twice_is_no_run script opening closing order tables run =
     let o = run.told.owned 1 (record { taken = 3; text = codes "COMMIT"; answer = Some answer.Committed; reached = 3 }) (2, omega arith, refl) refl in
-    no_some _ (sym (ap (λ c. commit_among (ordinal_of o.id) (said c twice)) o.owner ∙ twice_none (ordinal_of o.id)) ∙ o.commit)
+    no_some _ (sym (ap (λ c. commit_among (ordinal_of o.id) (statements_by c twice)) o.owner ∙ twice_none (ordinal_of o.id)) ∙ o.commit)

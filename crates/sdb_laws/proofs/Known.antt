@@ -19,12 +19,12 @@ use Rattle.sdb_record.proofs.ImageLaws.{row-decision}
 use Rattle.sdb_record.proofs.TakenLaws.{prepared-base, prepared-key}
 use Rattle.sdb_record.proofs.RollLaws.{forward-key}
 use Rattle.sdb_stores.specs.declared.place.Place.{Place}
-use Rattle.sdb_model.specs.Events.{Shelf, standing}
-use Rattle.sdb_laws.specs.Plan.{Plan, write_at, written, number_of, noted}
-use Rattle.sdb_laws.specs.History.{Role, History, Standing, Firm, Held, base_of, happens, IsWriter}
-use Rattle.sdb_laws.specs.Lawful.{Played, id, IsShown, IsRowShown}
+use Rattle.sdb_model.specs.Events.{StoreContents, standing}
+use Rattle.sdb_laws.specs.Plan.{Plan, write_at, written, number_of, version_read_at}
+use Rattle.sdb_laws.specs.History.{Action, History, Standing, Final, Held, base_of, happens, IsWriter}
+use Rattle.sdb_laws.specs.Lawful.{Labelled, id, IsObserved, IsRowObserved}
 use Rattle.sdb_laws.specs.Trace.{after_end}
-use Rattle.sdb_laws.specs.Records.{write_there, held_record, firm_record, record_for, row_for, IsHeld}
+use Rattle.sdb_laws.specs.Records.{write_there, record_prepared_by, record_left_by, record_for, row_for, ContainsHistory}
 use Rattle.sdb_laws.proofs.Allowed.{Allowed}
 use Rattle.sdb_laws.proofs.Small.{TakenOk, TookOk, BegunOk, writer_kept}
 use Rattle.sdb_laws.proofs.Cover.{Inv}
@@ -36,8 +36,8 @@ use Rattle.sdb_model.specs.Tables.{is_data}
 pub record IsPlanned (plan : ℕ → Plan) (t : ℕ) : Type 0 where
   pub moment : is_moment (plan t).now ≡ true
   pub write : (k : Key) (w : Write) → write_at (plan t) k ≡ Some w → IsWrite w × (is_data k ≡ true)
-  pub base : (k : Key) (w : Write) → write_at (plan t) k ≡ Some w → w.base ≡ option_map (λ u. firm_record plan u k) (base_of (written (plan t) k))
-  pub tables : (i : ℕ) (k : Key) (version : Option ℕ) → noted (plan t) i k ≡ Some version → is_data k ≡ true
+  pub base : (k : Key) (w : Write) → write_at (plan t) k ≡ Some w → w.base ≡ option_map (λ u. record_left_by plan u k) (base_of (written (plan t) k))
+  pub tables : (i : ℕ) (k : Key) (version : Option ℕ) → version_read_at (plan t) i k ≡ Some version → is_data k ≡ true
 
 found_holds : {X : Type 0} (p : X → Bool) (xs : List X) (x : X) → find p xs ≡ Some x → p x ≡ true
 found_holds {X = X} p [] x e = absurd (cc)
@@ -74,32 +74,32 @@ pub written_some : (plan : Plan) (k : Key) (w : Write) → write_at plan k ≡ S
 written_some plan k w e = grind (arith, written_is plan k w e)
 
 -- a record that was prepared is rolled back to the one record that the base's writer leaves
-pub held_before : (plan : ℕ → Plan) (t : ℕ) (k : Key) → IsPlanned plan t → written (plan t) k ≢ None → before_record (held_record plan t k) ≡ option_map (λ u. firm_record plan u k) (base_of (written (plan t) k))
-unfolding held_record
+pub held_before : (plan : ℕ → Plan) (t : ℕ) (k : Key) → IsPlanned plan t → written (plan t) k ≢ None → before_record (record_prepared_by plan t k) ≡ option_map (λ u. record_left_by plan u k) (base_of (written (plan t) k))
+unfolding record_prepared_by
 held_before plan t k planned h =
     let e = writes_it (plan t) k h in
     prepared-base (write_there (plan t) k) (id t) (plan t).now (planned.write k (write_there (plan t) k) e).0 ∙ planned.base k (write_there (plan t) k) e
 
-pub held_key : (plan : ℕ → Plan) (t : ℕ) (k : Key) → written (plan t) k ≢ None → (held_record plan t k).key ≡ k
-unfolding held_record
+pub held_key : (plan : ℕ → Plan) (t : ℕ) (k : Key) → written (plan t) k ≢ None → (record_prepared_by plan t k).key ≡ k
+unfolding record_prepared_by
 held_key plan t k h = prepared-key (write_there (plan t) k) (id t) (plan t).now ∙ write_key (plan t) k (write_there (plan t) k) (writes_it (plan t) k h)
 
-pub firm_key : (plan : ℕ → Plan) (t : ℕ) (k : Key) → written (plan t) k ≢ None → (firm_record plan t k).key ≡ k
-unfolding firm_record
-firm_key plan t k h = forward-key (held_record plan t k) (plan t).now ∙ held_key plan t k h
+pub firm_key : (plan : ℕ → Plan) (t : ℕ) (k : Key) → written (plan t) k ≢ None → (record_left_by plan t k).key ≡ k
+unfolding record_left_by
+firm_key plan t k h = forward-key (record_prepared_by plan t k) (plan t).now ∙ held_key plan t k h
 
 ---- what is known of a record that was shown
 
 pub record IsFirmOf (plan : ℕ → Plan) (w : History) (k : Key) (r : Record) : Type 0 where
   pub t : ℕ
-  pub same : r ≡ firm_record plan t k
+  pub same : r ≡ record_left_by plan t k
   pub writer : IsWriter plan w k t
   pub fits : t < 2 ^ 128
 
 pub record IsHeldOf (plan : ℕ → Plan) (w : History) (k : Key) (r : Record) : Type 0 where
   pub t : ℕ
-  pub same : r ≡ held_record plan t k
-  pub took : w.took t k ≡ true
+  pub same : r ≡ record_prepared_by plan t k
+  pub took_effect : w.took_effect t k ≡ true
   pub fits : t < 2 ^ 128
 
 pub record Known (plan : ℕ → Plan) (w : History) (r : Record) : Type 0 where
@@ -108,10 +108,10 @@ pub record Known (plan : ℕ → Plan) (w : History) (r : Record) : Type 0 where
 
 ---- it stays known
 
-pub took_stays : (plan : ℕ → Plan) (w : History) (r : Role) (done : Bool) (t : ℕ) (k : Key) → TookOk w → Allowed plan w r done → w.took t k ≡ true → (happens plan w r done).took t k ≡ true
+pub took_stays : (plan : ℕ → Plan) (w : History) (r : Action) (done : Bool) (t : ℕ) (k : Key) → TookOk w → Allowed plan w r done → w.took_effect t k ≡ true → (happens plan w r done).took_effect t k ≡ true
 took_stays plan w r done t k ok a h = grind (arith, tests, ok t k)
 
-pub moment_stays : (plan : ℕ → Plan) (w : History) (r : Role) (done : Bool) (t : ℕ) → Allowed plan w r done → w.row t ≢ None → ((happens plan w r done).moment t ≡ w.moment t) × ((happens plan w r done).row t ≡ w.row t)
+pub moment_stays : (plan : ℕ → Plan) (w : History) (r : Action) (done : Bool) (t : ℕ) → Allowed plan w r done → w.row t ≢ None → ((happens plan w r done).moment t ≡ w.moment t) × ((happens plan w r done).row t ≡ w.row t)
 moment_stays plan w r done t a h = grind (arith, tests)
 
 pub row_stays : (w v : History) (t : ℕ) (r : Record) → (w.row t ≢ None → (v.moment t ≡ w.moment t) × (v.row t ≡ w.row t)) → row_for w t ≡ Some r → row_for v t ≡ Some r
@@ -124,11 +124,11 @@ row_stays w v t r stays e = by (w.row t) refl (stays) e
         some : {x : Option Decision} → x ≡ Some d → x ≢ None
         some h n = absurd (cc)
 
-pub known_kept : (plan : ℕ → Plan) (w : History) (r : Role) (done : Bool) (x : Record) → Inv plan w → Allowed plan w r done → Known plan w x → Known plan (happens plan w r done) x
+pub known_kept : (plan : ℕ → Plan) (w : History) (r : Action) (done : Bool) (x : Record) → Inv plan w → Allowed plan w r done → Known plan w x → Known plan (happens plan w r done) x
 known_kept plan w r done x i a known = record {
   put = λ outside. elim (known.put outside) [
     | inl f ↦ inl (record { t = f.t; same = f.same; writer = writer_kept plan w r done x.key f.t a f.writer; fits = f.fits })
-    | inr h ↦ inr (record { t = h.t; same = h.same; took = took_stays plan w r done h.t x.key i.took a h.took; fits = h.fits })
+    | inr h ↦ inr (record { t = h.t; same = h.same; took_effect = took_stays plan w r done h.t x.key i.took_effect a h.took_effect; fits = h.fits })
   ];
   row = λ t fits e. row_stays w (happens plan w r done) t x (moment_stays plan w r done t a) (known.row t fits e);
 }
@@ -138,23 +138,23 @@ pub known_closed : (plan : ℕ → Plan) (w : History) (t : ℕ) (x : Record) �
 known_closed plan w t x known = record {
   put = λ outside. elim (known.put outside) [
     | inl f ↦ inl (record { t = f.t; same = f.same; writer = f.writer; fits = f.fits })
-    | inr h ↦ inr (record { t = h.t; same = h.same; took = h.took; fits = h.fits })
+    | inr h ↦ inr (record { t = h.t; same = h.same; took_effect = h.took_effect; fits = h.fits })
   ];
   row = known.row;
 }
 
 ---- it is known when it is shown
 
-pub taken_fits : (w : History) (t : ℕ) → BegunOk w → ((u : ℕ) → w.talk.begun u ≢ 0 → u < 2 ^ 128) → w.talk.taken t ≡ true → t < 2 ^ 128
+pub taken_fits : (w : History) (t : ℕ) → BegunOk w → ((u : ℕ) → w.protocol.begun u ≢ 0 → u < 2 ^ 128) → w.protocol.taken t ≡ true → t < 2 ^ 128
 taken_fits w t begun fits h = fits t ((begun t).1 h).0
 
-pub writer_taken : (plan : ℕ → Plan) (w : History) (k : Key) (t : ℕ) → TakenOk w → IsWriter plan w k t → w.talk.taken t ≡ true
+pub writer_taken : (plan : ℕ → Plan) (w : History) (k : Key) (t : ℕ) → TakenOk w → IsWriter plan w k t → w.protocol.taken t ≡ true
 writer_taken plan w k t taken h = grind (arith, taken t k 0, h)
 
-pub took_is_taken : (w : History) (t : ℕ) (k : Key) → TakenOk w → w.took t k ≡ true → w.talk.taken t ≡ true
+pub took_is_taken : (w : History) (t : ℕ) (k : Key) → TakenOk w → w.took_effect t k ≡ true → w.protocol.taken t ≡ true
 took_is_taken w t k taken h = grind (arith, taken t k 0)
 
-pub known_now : (plan : ℕ → Plan) (places : List Place) (w : History) (shelves : List Shelf) (r : Record) → Inv plan w → ((u : ℕ) → w.talk.begun u ≢ 0 → u < 2 ^ 128) → IsHeld plan places w shelves → standing places shelves r.key ≡ Some r → Known plan w r
+pub known_now : (plan : ℕ → Plan) (places : List Place) (w : History) (shelves : List StoreContents) (r : Record) → Inv plan w → ((u : ℕ) → w.protocol.begun u ≢ 0 → u < 2 ^ 128) → ContainsHistory plan places w shelves → standing places shelves r.key ≡ Some r → Known plan w r
 known_now plan places w shelves r i fits held here = record {
   put = λ outside. by (w.rows r.key) refl (sym (held.records r.key outside) ∙ here);
   row = λ t fit e. sym (held.rows t fit) ∙ ap (standing places shelves) (sym e) ∙ here;
@@ -165,8 +165,8 @@ known_now plan places w shelves r i fits held here = record {
 
     by : (s : Option Standing) → w.rows r.key ≡ s → option_map (record_for plan r.key) s ≡ Some r → IsFirmOf plan w r.key r ⊎ IsHeldOf plan w r.key r
     by None h e = absurd (cc)
-    by (Some (Firm t)) h e = let writer = i.firm r.key t h in inl (record { t = t; same = some_is (firm_record plan t r.key) r e; writer = writer; fits = taken_fits w t i.begun fits (writer_taken plan w r.key t i.taken writer) })
-    by (Some (Held t)) h e = let took = i.held r.key t h in inr (record { t = t; same = some_is (held_record plan t r.key) r e; took = took; fits = taken_fits w t i.begun fits (took_is_taken w t r.key i.taken took) })
+    by (Some (Final t)) h e = let writer = i.firm r.key t h in inl (record { t = t; same = some_is (record_left_by plan t r.key) r e; writer = writer; fits = taken_fits w t i.begun fits (writer_taken plan w r.key t i.taken writer) })
+    by (Some (Held t)) h e = let took_effect = i.held r.key t h in inr (record { t = t; same = some_is (record_prepared_by plan t r.key) r e; took_effect = took_effect; fits = taken_fits w t i.begun fits (took_is_taken w t r.key i.taken took_effect) })
 
 ---- what follows from it
 
@@ -179,7 +179,7 @@ ok_is : (a b : Decided) → ◌≡◌ {A = Result Decided (List ℕ)} (Ok a) (Ok
 ok_is a b e = cc
 
 -- a row that was shown is the transaction's row
-pub row_known : (plan : ℕ → Plan) (w : History) (past : List Played) (t : ℕ) (d : Decision) (m : ℤ) → ((r : Record) → IsShown past r → Known plan w r) → AreMoments plan w t → t < 2 ^ 128 → IsRowShown past t d m → (w.row t ≡ Some d) × (m ≡ w.moment t)
+pub row_known : (plan : ℕ → Plan) (w : History) (past : List Labelled) (t : ℕ) (d : Decision) (m : ℤ) → ((r : Record) → IsObserved past r → Known plan w r) → AreMoments plan w t → t < 2 ^ 128 → IsRowObserved past t d m → (w.row t ≡ Some d) × (m ≡ w.moment t)
 row_known plan w past t d m known moments fits shown = by (w.row t) refl ((known shown.row shown.shown).row t fits shown.key)
   where
     some_is : (a b : Record) → Some a ≡ Some b → b ≡ a

@@ -9,11 +9,11 @@ use Rattle.sdb_record.specs.declared.write.Change.TheVariants as change
 use Rattle.sdb_record.specs.declared.write.Write.{Write}
 use Rattle.sdb_record.specs.Rolls.{row_of_change, row_of_image}
 use Rattle.sdb_stores.specs.declared.place.Place.{Place}
-use Rattle.sdb_model.specs.Events.{Shelf}
+use Rattle.sdb_model.specs.Events.{StoreContents}
 use Rattle.sdb_model.specs.Images.{image_at}
 use Rattle.sdb_laws.specs.Plan.{Plan, write_at, written, deletes, is_delete}
 use Rattle.sdb_laws.specs.History.{History, or_else}
-use Rattle.sdb_laws.specs.Lawful.{Played}
+use Rattle.sdb_laws.specs.Lawful.{Labelled}
 use Rattle.sdb_laws.specs.Records.{write_there}
 use Rattle.sdb_laws.specs.Explained.{IsLastWriter, IsNeverWritten, ImageOf, IsAsFound}
 use Rattle.sdb_laws.specs.Serial.{IsIn, AllAbove, IsRising, IsOrdered, if_written, last_writer, row_left, ReadsSerial, RowsSerial}
@@ -24,22 +24,22 @@ use Rattle.sdb_laws.proofs.Whole.{Whole}
 
 ---- the last writer of a list
 
-above : (w : History) (n : ℕ) (us : List ℕ) → AllAbove w n us → (u : ℕ) → IsIn u us → n < w.talk.point u
+above : (w : History) (n : ℕ) (us : List ℕ) → AllAbove w n us → (u : ℕ) → IsIn u us → n < w.protocol.point u
 above w n [] a u m = absurd m
-above w n (v ∷ us) a u (inl e) = subst (λ x. n < w.talk.point x) (sym e) a.0
+above w n (v ∷ us) a u (inl e) = subst (λ x. n < w.protocol.point x) (sym e) a.0
 above w n (v ∷ us) a u (inr m) = above w n us a.1 u m
 
 -- none writes it, or it is one of them that writes it, and each other that writes it has a smaller point
 abbrev IsNewest : (ℕ → Plan) → History → Key → List ℕ → Option ℕ → Type 0
 IsNewest plan w k us None = (u : ℕ) → IsIn u us → written (plan u) k ≡ None
-IsNewest plan w k us (Some t) = IsIn t us × (written (plan t) k ≢ None) × ((u : ℕ) → IsIn u us → written (plan u) k ≢ None → (u ≡ t) ⊎ (w.talk.point u < w.talk.point t))
+IsNewest plan w k us (Some t) = IsIn t us × (written (plan t) k ≢ None) × ((u : ℕ) → IsIn u us → written (plan u) k ≢ None → (u ≡ t) ⊎ (w.protocol.point u < w.protocol.point t))
 
-newest_more : (plan : ℕ → Plan) (w : History) (k : Key) (t : ℕ) (ts : List ℕ) (x : Option ℕ) → ((u : ℕ) → IsIn u ts → w.talk.point t < w.talk.point u) → IsNewest plan w k ts x → IsNewest plan w k (t ∷ ts) (or_else x (if_written t (written (plan t) k)))
+newest_more : (plan : ℕ → Plan) (w : History) (k : Key) (t : ℕ) (ts : List ℕ) (x : Option ℕ) → ((u : ℕ) → IsIn u ts → w.protocol.point t < w.protocol.point u) → IsNewest plan w k ts x → IsNewest plan w k (t ∷ ts) (or_else x (if_written t (written (plan t) k)))
 newest_more plan w k t ts (Some y) low n = (
   inr n.0,
   n.1,
   λ u m h. elim m [
-    | inl e ↦ inr (subst (λ z. w.talk.point z < w.talk.point y) (sym e) (low y n.0))
+    | inl e ↦ inr (subst (λ z. w.protocol.point z < w.protocol.point y) (sym e) (low y n.0))
     | inr rest ↦ n.2 u rest h
   ],
 )
@@ -64,7 +64,7 @@ newest_more plan w k t ts None low n = by (written (plan t) k) refl
 
 newest : (plan : ℕ → Plan) (w : History) (k : Key) (ts : List ℕ) → IsRising w ts → IsNewest plan w k ts (last_writer plan k ts)
 newest plan w k [] r = λ u m. absurd m
-newest plan w k (t ∷ ts) r = newest_more plan w k t ts (last_writer plan k ts) (above w (w.talk.point t) ts r.0) (newest plan w k ts r.1)
+newest plan w k (t ∷ ts) r = newest_more plan w k t ts (last_writer plan k ts) (above w (w.protocol.point t) ts r.0) (newest plan w k ts r.1)
 
 ---- the prefix of the order
 
@@ -89,17 +89,17 @@ front_rising : (w : History) (front : List ℕ) (t : ℕ) (back : List ℕ) → 
 front_rising w [] t back r = tt
 front_rising w (v ∷ front) t back r = (front_above (front) r.0, front_rising w front t back r.1)
   where
-    front_above : (f : List ℕ) → AllAbove w (w.talk.point v) (f ++ t ∷ back) → AllAbove w (w.talk.point v) f
+    front_above : (f : List ℕ) → AllAbove w (w.protocol.point v) (f ++ t ∷ back) → AllAbove w (w.protocol.point v) f
     front_above [] a = tt
     front_above (x ∷ f) a = (a.0, front_above f a.1)
 
-below_middle : (w : History) (front : List ℕ) (t : ℕ) (back : List ℕ) → IsRising w (front ++ t ∷ back) → (u : ℕ) → IsIn u front → w.talk.point u < w.talk.point t
+below_middle : (w : History) (front : List ℕ) (t : ℕ) (back : List ℕ) → IsRising w (front ++ t ∷ back) → (u : ℕ) → IsIn u front → w.protocol.point u < w.protocol.point t
 below_middle w [] t back r u m = absurd m
-below_middle w (v ∷ front) t back r u (inl e) = subst (λ x. w.talk.point x < w.talk.point t) (sym e) (above w (w.talk.point v) (front ++ t ∷ back) r.0 t (in_middle front t back))
+below_middle w (v ∷ front) t back r u (inl e) = subst (λ x. w.protocol.point x < w.protocol.point t) (sym e) (above w (w.protocol.point v) (front ++ t ∷ back) r.0 t (in_middle front t back))
 below_middle w (v ∷ front) t back r u (inr m) = below_middle w front t back r.1 u m
 
-above_middle : (w : History) (front : List ℕ) (t : ℕ) (back : List ℕ) → IsRising w (front ++ t ∷ back) → (u : ℕ) → IsIn u back → w.talk.point t < w.talk.point u
-above_middle w [] t back r u m = above w (w.talk.point t) back r.0 u m
+above_middle : (w : History) (front : List ℕ) (t : ℕ) (back : List ℕ) → IsRising w (front ++ t ∷ back) → (u : ℕ) → IsIn u back → w.protocol.point t < w.protocol.point u
+above_middle w [] t back r u m = above w (w.protocol.point t) back r.0 u m
 above_middle w (v ∷ front) t back r u m = above_middle w front t back r.1 u m
 
 ---- reads
@@ -125,7 +125,7 @@ found_row plan w t k None (Some u) e = sym (deleted_row plan u k e.0)
 -- the writer that was current is the last one of the prefix
 same_writer : (plan : ℕ → Plan) (w : History) (k : Key) (front : List ℕ) (x y : Option ℕ)
     → ((u : ℕ) → IsIn u front → (w.row u ≡ Some Committed)) → ((u : ℕ) → x ≡ Some u → IsIn u front × (written (plan u) k ≢ None))
-    → ((v : ℕ) → IsIn v front → written (plan v) k ≢ None → (u : ℕ) × (x ≡ Some u) × ((u ≡ v) ⊎ (w.talk.point v < w.talk.point u)))
+    → ((v : ℕ) → IsIn v front → written (plan v) k ≢ None → (u : ℕ) × (x ≡ Some u) × ((u ≡ v) ⊎ (w.protocol.point v < w.protocol.point u)))
     → IsNewest plan w k front y → x ≡ y
 same_writer plan w k front None None recorded among last n = refl
 same_writer plan w k front None (Some v) recorded among last n = absurd (none (last v n.0 n.1).1)
@@ -141,20 +141,20 @@ same_writer plan w k front (Some u) (Some v) recorded among last n = by (last v 
     cross : (a b : ℕ) → a < b → b < a → ⊥
     cross a b l m = omega arith
 
-    by : ((y : ℕ) × (Some u ≡ Some y) × ((y ≡ v) ⊎ (w.talk.point v < w.talk.point y))) → ((u ≡ v) ⊎ (w.talk.point u < w.talk.point v)) → Some u ≡ Some v
+    by : ((y : ℕ) × (Some u ≡ Some y) × ((y ≡ v) ⊎ (w.protocol.point v < w.protocol.point y))) → ((u ≡ v) ⊎ (w.protocol.point u < w.protocol.point v)) → Some u ≡ Some v
     by l (inl e) = ap (λ z. Some z) e
     by l (inr lt) = elim l.2 [
       | inl e ↦ l.1 ∙ ap (λ z. Some z) e
-      | inr gt ↦ absurd (cross (w.talk.point u) (w.talk.point v) lt (subst (λ z. w.talk.point v < w.talk.point z) (sym (some_is u l.0 l.1)) gt))
+      | inr gt ↦ absurd (cross (w.protocol.point u) (w.protocol.point v) lt (subst (λ z. w.protocol.point v < w.protocol.point z) (sym (some_is u l.0 l.1)) gt))
     ]
 
-pub reads_serial : (plan : ℕ → Plan) (places : List Place) (w : History) (past : List Played) (shelves : List Shelf) (order : List ℕ) → Whole plan places w past shelves → IsOrdered w order → ReadsSerial plan w order
+pub reads_serial : (plan : ℕ → Plan) (places : List Place) (w : History) (past : List Labelled) (shelves : List StoreContents) (order : List ℕ) → Whole plan places w past shelves → IsOrdered w order → ReadsSerial plan w order
 reads_serial plan places w past shelves order i o front t back split j k found n =
     let c = reads_current plan w i.all t j k found recorded n in
     found_row plan w t k found c.x c.as_found ∙ ap (row_left plan k) (same_writer plan w k front c.x (last_writer plan k front)
     (λ u m. member u (in_front front t back u m))
     (λ u e. (front_of u (c.writer u e).0.0 (c.writer u e).1, (c.writer u e).0.1))
-    (λ v m h. c.last v (λ e. irrefl (w.talk.point t) (subst (λ x. w.talk.point x < w.talk.point t) e (below_middle w front t back rising v m))) (member v (in_front front t back v m), h) (below_middle w front t back rising v m))
+    (λ v m h. c.last v (λ e. irrefl (w.protocol.point t) (subst (λ x. w.protocol.point x < w.protocol.point t) e (below_middle w front t back rising v m))) (member v (in_front front t back v m), h) (below_middle w front t back rising v m))
     (newest plan w k front (front_rising w front t back rising)))
   where
     rising : IsRising w (front ++ t ∷ back)
@@ -172,12 +172,12 @@ reads_serial plan places w past shelves order i o front t back split j k found n
     cross : (a b : ℕ) → a < b → b < a → ⊥
     cross a b l m = omega arith
 
-    front_of : (u : ℕ) → w.row u ≡ Some Committed → w.talk.point u < w.talk.point t → IsIn u front
+    front_of : (u : ℕ) → w.row u ≡ Some Committed → w.protocol.point u < w.protocol.point t → IsIn u front
     front_of u r l = elim (where_in front t back u (subst (IsIn u) split ((o.recorded u).0 r))) [
       | inl a ↦ a
       | inr b ↦ elim b [
-        | inl e ↦ absurd (irrefl (w.talk.point t) (subst (λ x. w.talk.point x < w.talk.point t) e l))
-        | inr m ↦ absurd (cross (w.talk.point u) (w.talk.point t) l (above_middle w front t back rising u m))
+        | inl e ↦ absurd (irrefl (w.protocol.point t) (subst (λ x. w.protocol.point x < w.protocol.point t) e l))
+        | inr m ↦ absurd (cross (w.protocol.point u) (w.protocol.point t) l (above_middle w front t back rising u m))
       ]
     ]
 
@@ -192,11 +192,11 @@ last_of_all plan w k order u y o l n = same_writer plan w k order (Some u) y (λ
     among : (v : ℕ) → u ≡ v → IsIn v order × (written (plan v) k ≢ None)
     among v e = subst (λ x. IsIn x order × (written (plan x) k ≢ None)) e ((o.recorded u).0 l.writer.0, l.writer.1)
 
-    turn : (v : ℕ) → (v ≡ u) ⊎ (w.talk.point v < w.talk.point u) → (u ≡ v) ⊎ (w.talk.point v < w.talk.point u)
+    turn : (v : ℕ) → (v ≡ u) ⊎ (w.protocol.point v < w.protocol.point u) → (u ≡ v) ⊎ (w.protocol.point v < w.protocol.point u)
     turn v (inl e) = inl (sym e)
     turn v (inr m) = inr m
 
-pub rows_serial : (plan : ℕ → Plan) (places : List Place) (w : History) (past : List Played) (shelves : List Shelf) (order : List ℕ) → Whole plan places w past shelves → IsOrdered w order → RowsSerial plan places shelves order
+pub rows_serial : (plan : ℕ → Plan) (places : List Place) (w : History) (past : List Labelled) (shelves : List StoreContents) (order : List ℕ) → Whole plan places w past shelves → IsOrdered w order → RowsSerial plan places shelves order
 rows_serial plan places w past shelves order i o k outside = by (image_at places shelves k) (image_is_last_writer plan places w past shelves i k outside) (last_writer plan k order) (newest plan w k order o.rising)
   where
     never : (y : Option ℕ) → IsNewest plan w k order y → IsNeverWritten plan w k → None ≡ row_left plan k y

@@ -33,13 +33,13 @@ use Rattle.sdb_model.specs.declared.event.Event.TheVariants as event
 use Rattle.sdb_model.specs.declared.event.How.{How}
 use Rattle.sdb_model.specs.declared.event.How.TheVariants.{Seen, Lost, Discarded, Broken}
 use Rattle.sdb_stores.specs.declared.place.Place.{Place}
-use Rattle.sdb_model.specs.Events.{Shelf, Effect, IsPerformed, IsCall}
+use Rattle.sdb_model.specs.Events.{StoreContents, Effect, IsPerformed, IsCall}
 use Rattle.sdb_model.specs.Transactions.{prepares, is_prepared_by, last_prepare}
 use Rattle.sdb_laws.specs.Plan.{Plan, written}
-use Rattle.sdb_model.specs.Noted.{Got, Scanned, Note}
-use Rattle.sdb_laws.specs.History.{Role, Other, Begins, Takes, Prepares, Checks, Decides, Aborts, Rolls, Removes, Ends, Stops, is_yes, Talk, History, heard, base_of}
-use Rattle.sdb_laws.specs.Lawful.{Played, talk, ended, id, word_of, is_quiet, IsCallOf, IsUnchanged, MayPlay, MayRollBack}
-use Rattle.sdb_laws.specs.Records.{write_there, held_record, firm_record}
+use Rattle.sdb_model.specs.ReadSet.{KeyRead, SpanRead, ReadItem}
+use Rattle.sdb_laws.specs.History.{Action, Other, Begins, Takes, Prepares, Checks, Decides, Aborts, Rolls, Removes, Ends, Stops, is_yes, ProtocolState, History, state_after_event, base_of}
+use Rattle.sdb_laws.specs.Lawful.{Labelled, protocol_state, ended, id, ack_of, is_quiet, IsCallOf, IsUnchanged, IsEnabled, MayRollBack}
+use Rattle.sdb_laws.specs.Records.{write_there, record_prepared_by, record_left_by}
 use Rattle.sdb_laws.specs.Trace.{closing, history}
 use Rattle.sdb_laws.specs.Explained.{IsRunOf, newest_first, events_of}
 use Rattle.sdb_laws.proofs.Canon.{held_writer, firm_committed, not_open_version, same_writer}
@@ -84,11 +84,11 @@ or_version t r change.Delete h = ap (λ b. is_version t state.Prepared r || b) h
     true_right true = refl
     true_right false = refl
 
-held_version : (plan : ℕ → Plan) (u : ℕ) (k : Key) → is_version (id u) (state_of_change (write_there (plan u) k).change) (held_record plan u k) ≡ true
-unfolding held_record
+held_version : (plan : ℕ → Plan) (u : ℕ) (k : Key) → is_version (id u) (state_of_change (write_there (plan u) k).change) (record_prepared_by plan u k) ≡ true
+unfolding record_prepared_by
 held_version plan u k = prepared-version (write_there (plan u) k) (id u) (plan u).now
 
-pub held_prepares : (plan : ℕ → Plan) (t u : ℕ) (k : Key) (c : Condition) → t < 2 ^ 128 → u < 2 ^ 128 → prepares (id t) (ask.PutIf (held_record plan u k) c) ≡ (t == u)
+pub held_prepares : (plan : ℕ → Plan) (t u : ℕ) (k : Key) (c : Condition) → t < 2 ^ 128 → u < 2 ^ 128 → prepares (id t) (ask.PutIf (record_prepared_by plan u k) c) ≡ (t == u)
 held_prepares plan t u k c a b = by (t == u) refl
   where
     same : (t == u) ≡ true → t ≡ u
@@ -97,13 +97,13 @@ held_prepares plan t u k c a b = by (t == u) refl
     equal : t ≡ u → (t == u) ≡ true
     equal e = grind (arith, tests)
 
-    apart : (s : State) (x : Bool) → is_version (id t) s (held_record plan u k) ≡ x → (t == u) ≡ false → x ≡ false
-    apart s true f e = clash (sym (equal (same_writer (held_record plan u k) t u (version-writer (held_record plan u k) (id t) s a f) (held_writer plan u k b))) ∙ e)
+    apart : (s : State) (x : Bool) → is_version (id t) s (record_prepared_by plan u k) ≡ x → (t == u) ≡ false → x ≡ false
+    apart s true f e = clash (sym (equal (same_writer (record_prepared_by plan u k) t u (version-writer (record_prepared_by plan u k) (id t) s a f) (held_writer plan u k b))) ∙ e)
     apart s false f e = refl
 
-    by : (x : Bool) → (t == u) ≡ x → prepares (id t) (ask.PutIf (held_record plan u k) c) ≡ (t == u)
-    by true e = rw e (rw (same e) (or_version (id u) (held_record plan u k) (write_there (plan u) k).change (held_version plan u k)))
-    by false e = rw e (ap (λ y. y || is_version (id t) state.Deleted (held_record plan u k)) (apart state.Prepared (is_version (id t) state.Prepared (held_record plan u k)) refl e) ∙ apart state.Deleted (is_version (id t) state.Deleted (held_record plan u k)) refl e)
+    by : (x : Bool) → (t == u) ≡ x → prepares (id t) (ask.PutIf (record_prepared_by plan u k) c) ≡ (t == u)
+    by true e = rw e (rw (same e) (or_version (id u) (record_prepared_by plan u k) (write_there (plan u) k).change (held_version plan u k)))
+    by false e = rw e (ap (λ y. y || is_version (id t) state.Deleted (record_prepared_by plan u k)) (apart state.Prepared (is_version (id t) state.Prepared (record_prepared_by plan u k)) refl e) ∙ apart state.Deleted (is_version (id t) state.Deleted (record_prepared_by plan u k)) refl e)
 
 -- what a reply was seen as
 seen_applied : (q : Request) (how : How) (held left : Contents) → IsPerformed q how reply.Applied held left → how ≡ Seen
@@ -122,7 +122,7 @@ seen_applied q Broken held left p = absurd (fault p.0)
     fault e = cc
 
 abbrev is_applied : Reply → Bool
-is_applied r = is_yes (word_of r)
+is_applied r = is_yes (ack_of r)
 
 -- a call that wasn't seen and applied
 unseen : (t : TxId) (client : ℕ) (store : List ℕ) (q : Request) (how : How) (r : Reply) (a : Option Answer) → is_applied r ≡ false → is_prepared_by t (event.Call client store q how r a) ≡ false
@@ -144,7 +144,7 @@ applied_is (reply.Found found) h = clash (sym h)
 applied_is (reply.Rows rows) h = clash (sym h)
 applied_is reply.Fault h = clash (sym h)
 
-told_prepare : (places : List Place) (t : TxId) (client : ℕ) (store : List ℕ) (q : Request) (how : How) (r : Reply) (a : Option Answer) (before now : List Shelf) (b : Bool) → prepares t q ≡ b → IsCall places store q how r before now → is_prepared_by t (event.Call client store q how r a) ≡ (b && is_yes (word_of r))
+told_prepare : (places : List Place) (t : TxId) (client : ℕ) (store : List ℕ) (q : Request) (how : How) (r : Reply) (a : Option Answer) (before now : List StoreContents) (b : Bool) → prepares t q ≡ b → IsCall places store q how r before now → is_prepared_by t (event.Call client store q how r a) ≡ (b && is_yes (ack_of r))
 told_prepare places t client store q how r a before now b h c = by (is_applied r) refl
   where
     false_right : (b : Bool) → (b && false) ≡ false
@@ -155,7 +155,7 @@ told_prepare places t client store q how r a before now b h c = by (is_applied r
     true_right true = refl
     true_right false = refl
 
-    by : (x : Bool) → is_applied r ≡ x → is_prepared_by t (event.Call client store q how r a) ≡ (b && is_yes (word_of r))
+    by : (x : Bool) → is_applied r ≡ x → is_prepared_by t (event.Call client store q how r a) ≡ (b && is_yes (ack_of r))
     by false e = unseen t client store q how r a e ∙ sym (ap (λ x. b && x) e ∙ false_right b)
     by true e =
         let applied = applied_is r e in
@@ -164,7 +164,7 @@ told_prepare places t client store q how r a before now b h c = by (is_applied r
         ∙ h ∙ sym (ap (λ x. b && x) e ∙ true_right b)
 
 -- the part of a told prepare of t
-abbrev tells_prepare : ℕ → Role → Bool
+abbrev tells_prepare : ℕ → Action → Bool
 tells_prepare t (Prepares u k word) = (t == u) && is_yes word
 tells_prepare t _ = false
 
@@ -178,17 +178,17 @@ quiet_no t (event.Stop client) h = refl
 quiet_no t (event.Clock moment) h = refl
 quiet_no t (event.Idle client) h = refl
 
-note_no : (plan : Plan) (t : TxId) (note : Note) (q : Request) (r : Reply) → IsUnchanged plan note q r → prepares t q ≡ false
-note_no plan t (Got read) q r u = ap (prepares t) u.1
-note_no plan t (Scanned scan) q r u = ap (prepares t) u.1
+note_no : (plan : Plan) (t : TxId) (item : ReadItem) (q : Request) (r : Reply) → IsUnchanged plan item q r → prepares t q ≡ false
+note_no plan t (KeyRead read) q r u = ap (prepares t) u.1
+note_no plan t (SpanRead scan) q r u = ap (prepares t) u.1
 
-back_no : (plan : ℕ → Plan) (t : TxId) (k : Key) (u : ℕ) (s : State) (v : Option ℕ) → prepares t (undo (condition.Version (id u) s) k (option_map (λ x. firm_record plan x k) v)) ≡ false
+back_no : (plan : ℕ → Plan) (t : TxId) (k : Key) (u : ℕ) (s : State) (v : Option ℕ) → prepares t (undo (condition.Version (id u) s) k (option_map (λ x. record_left_by plan x k) v)) ≡ false
 back_no plan t k u s None = refl
-back_no plan t k u s (Some x) = firm_no t (firm_record plan x k) (condition.Version (id u) s) (firm_committed plan x k)
+back_no plan t k u s (Some x) = firm_no t (record_left_by plan x k) (condition.Version (id u) s) (firm_committed plan x k)
 
-prepared_by : (plan : ℕ → Plan) (places : List Place) (w : History) (past : List Played) (e : Event) (before now : List Shelf) (r : Role) (t : ℕ) → Knows plan w past → Effect places e before now → MayPlay plan past e r → t < 2 ^ 128 → is_prepared_by (id t) e ≡ tells_prepare t r
+prepared_by : (plan : ℕ → Plan) (places : List Place) (w : History) (past : List Labelled) (e : Event) (before now : List StoreContents) (r : Action) (t : ℕ) → Knows plan w past → Effect places e before now → IsEnabled plan past e r → t < 2 ^ 128 → is_prepared_by (id t) e ≡ tells_prepare t r
 prepared_by plan places w past e before now (Prepares u k word) t knows effect m fits =
-    let taken : w.talk.taken u ≡ true = subst (λ (x : Talk). x.taken u ≡ true) knows.talks m.within.taken in
+    let taken : w.protocol.taken u ≡ true = subst (λ (x : ProtocolState). x.taken u ≡ true) knows.talks m.within.taken in
     let c = condition_of (version_of m.write.base) in
     ap (is_prepared_by (id t)) m.call.call
     ∙ told_prepare places (id t) m.client m.call.store (ask.PutIf (prepared_record m.write (id u) (plan u).now) c) m.call.how m.r m.call.answer before now (t == u) (ap (λ x. prepares (id t) (ask.PutIf x c)) (held_is plan u k m.write m.at) ∙ held_prepares plan t u k c fits (taken_fits w u knows.inv.begun knows.fits taken)) (subst (λ x. Effect places x before now) m.call.call effect)
@@ -196,7 +196,7 @@ prepared_by plan places w past e before now (Prepares u k word) t knows effect m
 prepared_by plan places w past e before now Other t knows effect m fits = quiet_no (id t) e m
 prepared_by plan places w past e before now (Begins u c) t knows effect m fits = ap (is_prepared_by (id t)) m.take
 prepared_by plan places w past e before now (Takes u) t knows effect m fits = ap (is_prepared_by (id t)) m.take
-prepared_by plan places w past e before now (Checks u i) t knows effect m fits = no_call (id t) e m.client m.q m.r m.call (note_no (plan u) (id t) m.note m.q m.r m.unchanged)
+prepared_by plan places w past e before now (Checks u i) t knows effect m fits = no_call (id t) e m.client m.q m.r m.call (note_no (plan u) (id t) m.item m.q m.r m.unchanged)
 prepared_by plan places w past e before now (Decides u word) t knows effect m fits = no_call (id t) e m.client _ m.r m.call (row_no (id t) u Committed (plan u).now condition.Absent)
 prepared_by plan places w past e before now (Aborts u moment word) t knows effect m fits = no_call (id t) e m.client _ m.r m.call (row_no (id t) u Aborted moment condition.Absent)
 prepared_by plan places w past e before now (Rolls u k Committed) t knows effect m fits = no_call (id t) e m.roll.client _ m.roll.r m.call (firm_no (id t) (forward_record m.roll.rolled m.moment) (condition.Version (id u) m.roll.s) (forward-committed m.roll.rolled m.moment))
@@ -211,7 +211,7 @@ prepared_by plan places w past e before now (Stops c) t knows effect m fits = ap
 ---- counting
 
 -- the events in order
-abbrev in_order : List Played → List Event
+abbrev in_order : List Labelled → List Event
 in_order [] = []
 in_order (p ∷ past) = in_order past ++ p.event ∷ []
 
@@ -229,19 +229,19 @@ last_snoc : (es : List Event) (e : Event) (t : TxId) → last_prepare (es ++ e �
 last_snoc es e t = ap (fold (λ (found : Option ℕ) (x : ℕ × Event). if is_prepared_by t x.1 then Some x.0 else found) None) (enumerate_snoc 1 es e) ∙ fold-append (λ (found : Option ℕ) (x : ℕ × Event). if is_prepared_by t x.1 then Some x.0 else found) None (enumerate_from 1 es) ((1 + length es, e) ∷ [])
 
 -- what is counted at one moment
-record Counted (h : Talk) (es : List Event) (t : ℕ) : Type 0 where
+record Counted (h : ProtocolState) (es : List Event) (t : ℕ) : Type 0 where
   now : h.now ≡ length es
   none : h.taken t ≡ false → last_prepare es (id t) ≡ None
   point : h.taken t ≡ true → h.point t ≡ unwrap_or (last_prepare es (id t)) (h.taken_at t)
 
-abbrev Asks : Talk → Role → Type 0
+abbrev Asks : ProtocolState → Action → Type 0
 Asks h (Takes u) = h.taken u ≡ false
 Asks h (Prepares u k word) = h.taken u ≡ true
 Asks h (Ends u) = ⊥
 Asks h _ = Unit {0}
 
-count : (h : Talk) (r : Role) (t : ℕ) (last next : Option ℕ) → Asks h r → next ≡ (if tells_prepare t r then Some (1 + h.now) else last) → (h.taken t ≡ false → last ≡ None) → (h.taken t ≡ true → h.point t ≡ unwrap_or last (h.taken_at t))
-    → ((heard h r).now ≡ h.now + 1) × ((heard h r).taken t ≡ false → next ≡ None) × ((heard h r).taken t ≡ true → (heard h r).point t ≡ unwrap_or next ((heard h r).taken_at t))
+count : (h : ProtocolState) (r : Action) (t : ℕ) (last next : Option ℕ) → Asks h r → next ≡ (if tells_prepare t r then Some (1 + h.now) else last) → (h.taken t ≡ false → last ≡ None) → (h.taken t ≡ true → h.point t ≡ unwrap_or last (h.taken_at t))
+    → ((state_after_event h r).now ≡ h.now + 1) × ((state_after_event h r).taken t ≡ false → next ≡ None) × ((state_after_event h r).taken t ≡ true → (state_after_event h r).point t ≡ unwrap_or next ((state_after_event h r).taken_at t))
 count h (Takes u) t last next a e none point = grind (arith, tests)
 count h (Prepares u k word) t last next a e none point = grind (arith, tests)
 count h (Ends u) t last next a e none point = absurd a
@@ -254,7 +254,7 @@ count h (Rolls u k d) t last next a e none point = grind (arith, tests)
 count h (Removes k u) t last next a e none point = grind (arith, tests)
 count h (Stops c) t last next a e none point = grind (arith, tests)
 
-asks : (plan : ℕ → Plan) (past : List Played) (e : Event) (r : Role) → MayPlay plan past e r → Asks (talk past) r
+asks : (plan : ℕ → Plan) (past : List Labelled) (e : Event) (r : Action) → IsEnabled plan past e r → Asks (protocol_state past) r
 asks plan past e (Takes u) m = m.fresh
 asks plan past e (Prepares u k word) m = m.within.taken
 asks plan past e (Ends u) m = m
@@ -274,47 +274,47 @@ length_snoc (x ∷ es) e = more (length (es ++ e ∷ [])) (length es) (length_sn
     more : (a b : ℕ) → a ≡ b + 1 → suc a ≡ suc b + 1
     more a b e = omega arith
 
-count_more : (plan : ℕ → Plan) (places : List Place) (opening : List Shelf) (p : Played) (past : List Played) (s : List Shelf) (ss : List (List Shelf)) (t : ℕ) → t < 2 ^ 128 → IsRunOf plan places opening (p ∷ past) (s ∷ ss) → Counted (talk past) (in_order past) t → Counted (talk (p ∷ past)) (in_order past ++ p.event ∷ []) t
+count_more : (plan : ℕ → Plan) (places : List Place) (opening : List StoreContents) (p : Labelled) (past : List Labelled) (s : List StoreContents) (ss : List (List StoreContents)) (t : ℕ) → t < 2 ^ 128 → IsRunOf plan places opening (p ∷ past) (s ∷ ss) → Counted (protocol_state past) (in_order past) t → Counted (protocol_state (p ∷ past)) (in_order past ++ p.event ∷ []) t
 count_more plan places opening p past s ss t fits r c = over p.ends
   where
     before : Whole plan places (history plan places opening past ss) past (closing opening ss)
     before = whole plan places opening past ss r.empty r.lawful.0 r.traced.0
 
-    next : last_prepare (in_order past ++ p.event ∷ []) (id t) ≡ (if tells_prepare t p.role then Some (1 + (talk past).now) else last_prepare (in_order past) (id t))
+    next : last_prepare (in_order past ++ p.event ∷ []) (id t) ≡ (if tells_prepare t p.action then Some (1 + (protocol_state past).now) else last_prepare (in_order past) (id t))
     next = last_snoc (in_order past) p.event (id t)
-        ∙ ap (λ b. if b then Some (1 + length (in_order past)) else last_prepare (in_order past) (id t)) (prepared_by plan places (history plan places opening past ss) past p.event (closing opening ss) s p.role t before.knows r.traced.1 r.lawful.1 fits)
-        ∙ ap (λ n. if tells_prepare t p.role then Some (1 + n) else last_prepare (in_order past) (id t)) (sym c.now)
+        ∙ ap (λ b. if b then Some (1 + length (in_order past)) else last_prepare (in_order past) (id t)) (prepared_by plan places (history plan places opening past ss) past p.event (closing opening ss) s p.action t before.knows r.traced.1 r.lawful.1 fits)
+        ∙ ap (λ n. if tells_prepare t p.action then Some (1 + n) else last_prepare (in_order past) (id t)) (sym c.now)
 
-    x : ((heard (talk past) p.role).now ≡ (talk past).now + 1) × ((heard (talk past) p.role).taken t ≡ false → last_prepare (in_order past ++ p.event ∷ []) (id t) ≡ None) × ((heard (talk past) p.role).taken t ≡ true → (heard (talk past) p.role).point t ≡ unwrap_or (last_prepare (in_order past ++ p.event ∷ []) (id t)) ((heard (talk past) p.role).taken_at t))
-    x = count (talk past) p.role t (last_prepare (in_order past) (id t)) (last_prepare (in_order past ++ p.event ∷ []) (id t)) (asks plan past p.event p.role r.lawful.1) next c.none c.point
+    x : ((state_after_event (protocol_state past) p.action).now ≡ (protocol_state past).now + 1) × ((state_after_event (protocol_state past) p.action).taken t ≡ false → last_prepare (in_order past ++ p.event ∷ []) (id t) ≡ None) × ((state_after_event (protocol_state past) p.action).taken t ≡ true → (state_after_event (protocol_state past) p.action).point t ≡ unwrap_or (last_prepare (in_order past ++ p.event ∷ []) (id t)) ((state_after_event (protocol_state past) p.action).taken_at t))
+    x = count (protocol_state past) p.action t (last_prepare (in_order past) (id t)) (last_prepare (in_order past ++ p.event ∷ []) (id t)) (asks plan past p.event p.action r.lawful.1) next c.none c.point
 
-    numbered_now : (heard (talk past) p.role).now ≡ length (in_order past ++ p.event ∷ [])
+    numbered_now : (state_after_event (protocol_state past) p.action).now ≡ length (in_order past ++ p.event ∷ [])
     numbered_now = x.0 ∙ ap (λ n. n + 1) c.now ∙ sym (length_snoc (in_order past) p.event)
 
-    over : (ends : Option ℕ) → Counted (ended (heard (talk past) p.role) ends) (in_order past ++ p.event ∷ []) t
+    over : (ends : Option ℕ) → Counted (ended (state_after_event (protocol_state past) p.action) ends) (in_order past ++ p.event ∷ []) t
     over None = record { now = numbered_now; none = x.1; point = x.2 }
     over (Some u) = record { now = numbered_now; none = x.1; point = x.2 }
 
-counted : (plan : ℕ → Plan) (places : List Place) (opening : List Shelf) (past : List Played) (ss : List (List Shelf)) (t : ℕ) → t < 2 ^ 128 → IsRunOf plan places opening past ss → Counted (talk past) (in_order past) t
+counted : (plan : ℕ → Plan) (places : List Place) (opening : List StoreContents) (past : List Labelled) (ss : List (List StoreContents)) (t : ℕ) → t < 2 ^ 128 → IsRunOf plan places opening past ss → Counted (protocol_state past) (in_order past) t
 counted plan places opening [] ss t fits r = record { now = refl; none = λ e. refl; point = λ e. absurd (cc) }
 counted plan places opening (p ∷ past) [] t fits r = absurd r.traced
 counted plan places opening (p ∷ past) (s ∷ ss) t fits r = count_more plan places opening p past s ss t fits r (counted plan places opening past ss t fits (record { empty = r.empty; lawful = r.lawful.0; traced = r.traced.0 }))
 
 ---- in order
 
-order_onto : (acc played : List Played) → in_order (fold (λ newer x. x ∷ newer) acc played) ≡ in_order acc ++ events_of played
+order_onto : (acc labelled : List Labelled) → in_order (fold (λ newer x. x ∷ newer) acc labelled) ≡ in_order acc ++ events_of labelled
 order_onto acc [] = sym (nil (in_order acc))
   where
     nil : (es : List Event) → es ++ [] ≡ es
     nil [] = refl
     nil (e ∷ es) = ap (λ x. e ∷ x) (nil es)
-order_onto acc (p ∷ played) = order_onto (p ∷ acc) played ∙ assoc (in_order acc) p.event (events_of played)
+order_onto acc (p ∷ labelled) = order_onto (p ∷ acc) labelled ∙ assoc (in_order acc) p.event (events_of labelled)
   where
     assoc : (xs : List Event) (e : Event) (ys : List Event) → (xs ++ e ∷ []) ++ ys ≡ xs ++ e ∷ ys
     assoc [] e ys = refl
     assoc (x ∷ xs) e ys = ap (λ z. x ∷ z) (assoc xs e ys)
 
-pub point_is_last : (plan : ℕ → Plan) (places : List Place) (opening : List Shelf) (played : List Played) (ss : List (List Shelf)) (t : ℕ) → IsRunOf plan places opening (newest_first played) ss → t < 2 ^ 128 → (talk (newest_first played)).taken t ≡ true → (talk (newest_first played)).point t ≡ unwrap_or (last_prepare (events_of played) (id t)) ((talk (newest_first played)).taken_at t)
-point_is_last plan places opening played ss t r fits taken =
-    (counted plan places opening (newest_first played) ss t fits r).point taken
-    ∙ ap (λ es. unwrap_or (last_prepare es (id t)) ((talk (newest_first played)).taken_at t)) (order_onto [] played)
+pub point_is_last : (plan : ℕ → Plan) (places : List Place) (opening : List StoreContents) (labelled : List Labelled) (ss : List (List StoreContents)) (t : ℕ) → IsRunOf plan places opening (newest_first labelled) ss → t < 2 ^ 128 → (protocol_state (newest_first labelled)).taken t ≡ true → (protocol_state (newest_first labelled)).point t ≡ unwrap_or (last_prepare (events_of labelled) (id t)) ((protocol_state (newest_first labelled)).taken_at t)
+point_is_last plan places opening labelled ss t r fits taken =
+    (counted plan places opening (newest_first labelled) ss t fits r).point taken
+    ∙ ap (λ es. unwrap_or (last_prepare es (id t)) ((protocol_state (newest_first labelled)).taken_at t)) (order_onto [] labelled)

@@ -10,9 +10,9 @@ use Rattle.sdb_record.specs.Meta.{id_in, is_in}
 use Rattle.sdb_record.specs.Parts.{before_record}
 use Rattle.sdb_record.specs.Rolls.{forward_record}
 use Rattle.sdb_laws.specs.Plan.{Plan, written}
-use Rattle.sdb_laws.specs.History.{History, Talk, base_of, IsWriter}
-use Rattle.sdb_laws.specs.Lawful.{Played, talk, IsShown, IsHeldShown, IsSettled, Itself, Forward, Back, IsPreparedThere, prepared_at, IsKnownCommitted, IsKnownAborted}
-use Rattle.sdb_laws.specs.Records.{held_record, firm_record}
+use Rattle.sdb_laws.specs.History.{History, ProtocolState, base_of, IsWriter}
+use Rattle.sdb_laws.specs.Lawful.{Labelled, protocol_state, IsObserved, IsPreparedObserved, IsSettled, Itself, Forward, Back, IsPreparedThere, prepared_at, IsKnownCommitted, IsKnownAborted}
+use Rattle.sdb_laws.specs.Records.{record_prepared_by, record_left_by}
 use Rattle.sdb_laws.proofs.Cover.{Inv}
 use Rattle.sdb_laws.proofs.Canon.{held_writer, held_open, firm_committed, same_writer}
 use Rattle.sdb_laws.proofs.Known.{IsPlanned, IsFirmOf, IsHeldOf, Known, AreMoments, row_known, held_before, took_is_taken, taken_fits, writer_taken, writes_it}
@@ -20,22 +20,22 @@ use Rattle.sdb_types.proofs.Basics.{clash}
 use Rattle.sdb_model.specs.Tables.{is_data}
 
 -- What holds at a moment, over what was shown up to then.
-pub record Knows (plan : ℕ → Plan) (w : History) (past : List Played) : Type 0 where
+pub record Knows (plan : ℕ → Plan) (w : History) (past : List Labelled) : Type 0 where
   pub inv : Inv plan w
-  pub talks : talk past ≡ w.talk
-  pub shown : (r : Record) → IsShown past r → Known plan w r
-  pub fits : (t : ℕ) → w.talk.begun t ≢ 0 → t < 2 ^ 128
-  pub planned : (t : ℕ) → w.talk.taken t ≡ true → IsPlanned plan t
+  pub talks : protocol_state past ≡ w.protocol
+  pub shown : (r : Record) → IsObserved past r → Known plan w r
+  pub fits : (t : ℕ) → w.protocol.begun t ≢ 0 → t < 2 ^ 128
+  pub planned : (t : ℕ) → w.protocol.taken t ≡ true → IsPlanned plan t
   pub moments : (t : ℕ) → AreMoments plan w t
 
 -- a record that was shown unresolved is what its transaction prepared there
 pub record IsOwn (plan : ℕ → Plan) (w : History) (t : ℕ) (k : Key) (r : Record) : Type 0 where
-  pub same : r ≡ held_record plan t k
-  pub taken : w.talk.taken t ≡ true
+  pub same : r ≡ record_prepared_by plan t k
+  pub taken : w.protocol.taken t ≡ true
   pub writes : written (plan t) k ≢ None
   pub fits : t < 2 ^ 128
 
-pub held_shown : (plan : ℕ → Plan) (w : History) (past : List Played) (t : ℕ) (k : Key) (r : Record) → Knows plan w past → is_data k ≡ true → IsHeldShown past t k r → IsOwn plan w t k r
+pub held_shown : (plan : ℕ → Plan) (w : History) (past : List Labelled) (t : ℕ) (k : Key) (r : Record) → Knows plan w past → is_data k ≡ true → IsPreparedObserved past t k r → IsOwn plan w t k r
 held_shown plan w past t k r knows outside h = elim ((knows.shown r h.shown).put (subst (λ x. is_data x ≡ true) (sym h.key) outside)) [
   | inl f ↦ absurd (firm f)
   | inr x ↦ own x
@@ -46,27 +46,27 @@ held_shown plan w past t k r knows outside h = elim ((knows.shown r h.shown).put
 
     own : IsHeldOf plan w r.key r → IsOwn plan w t k r
     own x =
-        let at : r ≡ held_record plan x.t k = x.same ∙ ap (held_record plan x.t) h.key in
+        let at : r ≡ record_prepared_by plan x.t k = x.same ∙ ap (record_prepared_by plan x.t) h.key in
         let e : t ≡ x.t = same_writer r t x.t h.writer (ap (λ y. id_in y.columns) at ∙ held_writer plan x.t k x.fits) in
-        let took : w.took x.t k ≡ true = subst (λ y. w.took x.t y ≡ true) h.key x.took in
+        let took_effect : w.took_effect x.t k ≡ true = subst (λ y. w.took_effect x.t y ≡ true) h.key x.took_effect in
         record {
           same = rw e at;
-          taken = rw e (took_is_taken w x.t k knows.inv.taken took);
-          writes = rw e (knows.inv.asked x.t k ((knows.inv.took x.t k).0 took).0);
+          taken = rw e (took_is_taken w x.t k knows.inv.taken took_effect);
+          writes = rw e (knows.inv.asked x.t k ((knows.inv.took_effect x.t k).0 took_effect).0);
           fits = rw e x.fits;
         }
 
-pub forward_at : (plan : ℕ → Plan) (t : ℕ) (k : Key) (m : ℤ) → m ≡ (plan t).now → forward_record (held_record plan t k) m ≡ firm_record plan t k
-unfolding firm_record
-forward_at plan t k m e = ap (forward_record (held_record plan t k)) e
+pub forward_at : (plan : ℕ → Plan) (t : ℕ) (k : Key) (m : ℤ) → m ≡ (plan t).now → forward_record (record_prepared_by plan t k) m ≡ record_left_by plan t k
+unfolding record_left_by
+forward_at plan t k m e = ap (forward_record (record_prepared_by plan t k)) e
 
-prepared_is : (plan : ℕ → Plan) (t : ℕ) (k : Key) → written (plan t) k ≢ None → prepared_at plan t k ≡ Some (held_record plan t k)
-unfolding held_record
+prepared_is : (plan : ℕ → Plan) (t : ℕ) (k : Key) → written (plan t) k ≢ None → prepared_at plan t k ≡ Some (record_prepared_by plan t k)
+unfolding record_prepared_by
 prepared_is plan t k writes = rw (writes_it (plan t) k writes) refl
 
-pub firm_of : (plan : ℕ → Plan) (w : History) (past : List Played) (k : Key) (b : Record) → Knows plan w past → is_data k ≡ true → IsSettled past k b → IsFirmOf plan w k b
+pub firm_of : (plan : ℕ → Plan) (w : History) (past : List Labelled) (k : Key) (b : Record) → Knows plan w past → is_data k ≡ true → IsSettled past k b → IsFirmOf plan w k b
 firm_of plan w past k b knows outside (Itself shown key firm) = elim ((knows.shown b shown).put (subst (λ x. is_data x ≡ true) (sym key) outside)) [
-  | inl f ↦ record { t = f.t; same = f.same ∙ ap (firm_record plan f.t) key; writer = subst (λ x. IsWriter plan w x f.t) key f.writer; fits = f.fits }
+  | inl f ↦ record { t = f.t; same = f.same ∙ ap (record_left_by plan f.t) key; writer = subst (λ x. IsWriter plan w x f.t) key f.writer; fits = f.fits }
   | inr h ↦ absurd (held h)
 ]
   where
@@ -83,38 +83,38 @@ firm_of plan w past k b knows outside (Back t r held same) =
     some_is : (x y : Record) → Some x ≡ Some y → x ≡ y
     some_is x y e = cc
 
-    by : (t : ℕ) → w.talk.taken t ≡ true → (v : Option ℕ) → base_of (written (plan t) k) ≡ v → Some b ≡ option_map (λ u. firm_record plan u k) v → IsFirmOf plan w k b
+    by : (t : ℕ) → w.protocol.taken t ≡ true → (v : Option ℕ) → base_of (written (plan t) k) ≡ v → Some b ≡ option_map (λ u. record_left_by plan u k) v → IsFirmOf plan w k b
     by t taken None h e = absurd (cc)
-    by t taken (Some u) h e = let writer = knows.inv.base t k u taken h in record { t = u; same = some_is b (firm_record plan u k) e; writer = writer; fits = taken_fits w u knows.inv.begun knows.fits (writer_taken plan w k u knows.inv.taken writer) }
+    by t taken (Some u) h e = let writer = knows.inv.base t k u taken h in record { t = u; same = some_is b (record_left_by plan u k) e; writer = writer; fits = taken_fits w u knows.inv.begun knows.fits (writer_taken plan w k u knows.inv.taken writer) }
 
 -- what is rolled is what was prepared there
-pub prepared_there : (plan : ℕ → Plan) (w : History) (past : List Played) (t : ℕ) (k : Key) (r : Record) → Knows plan w past → is_data k ≡ true → IsPreparedThere plan past t k r → IsOwn plan w t k r
+pub prepared_there : (plan : ℕ → Plan) (w : History) (past : List Labelled) (t : ℕ) (k : Key) (r : Record) → Knows plan w past → is_data k ≡ true → IsPreparedThere plan past t k r → IsOwn plan w t k r
 prepared_there plan w past t k r knows outside (inl h) = held_shown plan w past t k r knows outside h
 prepared_there plan w past t k r knows outside (inr h) =
-    let asked : w.talk.asked t k ≡ true = subst (λ (x : Talk). x.asked t k ≡ true) knows.talks h.0 in
+    let asked : w.protocol.asked t k ≡ true = subst (λ (x : ProtocolState). x.asked t k ≡ true) knows.talks h.0 in
     let taken = asked_taken asked in
     let writes = knows.inv.asked t k asked in
-    record { same = some_is r (held_record plan t k) (sym h.1 ∙ prepared_is plan t k writes); taken = taken; writes = writes; fits = taken_fits w t knows.inv.begun knows.fits taken }
+    record { same = some_is r (record_prepared_by plan t k) (sym h.1 ∙ prepared_is plan t k writes); taken = taken; writes = writes; fits = taken_fits w t knows.inv.begun knows.fits taken }
   where
     some_is : (x y : Record) → Some x ≡ Some y → x ≡ y
     some_is x y e = cc
 
-    asked_taken : w.talk.asked t k ≡ true → w.talk.taken t ≡ true
+    asked_taken : w.protocol.asked t k ≡ true → w.protocol.taken t ≡ true
     asked_taken a = grind (arith, knows.inv.taken t k 0)
 
 ---- decisions
 
-pub committed_of : (plan : ℕ → Plan) (w : History) (past : List Played) (t : ℕ) (m : ℤ) → Knows plan w past → t < 2 ^ 128 → IsKnownCommitted plan past t m → (w.row t ≡ Some Committed) × (m ≡ (plan t).now)
+pub committed_of : (plan : ℕ → Plan) (w : History) (past : List Labelled) (t : ℕ) (m : ℤ) → Knows plan w past → t < 2 ^ 128 → IsKnownCommitted plan past t m → (w.row t ≡ Some Committed) × (m ≡ (plan t).now)
 committed_of plan w past t m knows fits (inl row) = let x = row_known plan w past t Committed m knows.shown (knows.moments t) fits row in (x.0, x.1 ∙ (knows.moments t).committed x.0)
-committed_of plan w past t m knows fits (inr (inl won)) = ((knows.inv.heard t).0 (subst (λ (x : Talk). x.won t ≡ true) knows.talks won.0), won.1)
+committed_of plan w past t m knows fits (inr (inl won)) = ((knows.inv.heard t).0 (subst (λ (x : ProtocolState). x.won t ≡ true) knows.talks won.0), won.1)
 committed_of plan w past t m knows fits (inr (inr own)) = ((row_known plan w past t Committed own.1.0 knows.shown (knows.moments t) fits own.1.1).0, own.2)
 
-pub aborted_of : (plan : ℕ → Plan) (w : History) (past : List Played) (t : ℕ) → Knows plan w past → t < 2 ^ 128 → IsKnownAborted past t → w.row t ≡ Some Aborted
+pub aborted_of : (plan : ℕ → Plan) (w : History) (past : List Labelled) (t : ℕ) → Knows plan w past → t < 2 ^ 128 → IsKnownAborted past t → w.row t ≡ Some Aborted
 aborted_of plan w past t knows fits (inl row) = (row_known plan w past t Aborted row.0 knows.shown (knows.moments t) fits row.1).0
-aborted_of plan w past t knows fits (inr (inl dead)) = (knows.inv.heard t).1 (subst (λ (x : Talk). x.dead t ≡ true) knows.talks dead)
+aborted_of plan w past t knows fits (inr (inl dead)) = (knows.inv.heard t).1 (subst (λ (x : ProtocolState). x.dead t ≡ true) knows.talks dead)
 aborted_of plan w past t knows fits (inr (inr met)) = by (w.row t) refl
   where
     by : (o : Option Decision) → w.row t ≡ o → w.row t ≡ Some Aborted
-    by None e = absurd ((knows.inv.heard t).2 (subst (λ (x : Talk). x.met t ≡ true) knows.talks met.0) e)
-    by (Some Committed) e = clash (sym (knows.inv.decided t e).risked ∙ subst (λ (x : Talk). x.risked t ≡ false) knows.talks met.1)
+    by None e = absurd ((knows.inv.heard t).2 (subst (λ (x : ProtocolState). x.met t ≡ true) knows.talks met.0) e)
+    by (Some Committed) e = clash (sym (knows.inv.decided t e).risked ∙ subst (λ (x : ProtocolState). x.risked t ≡ false) knows.talks met.1)
     by (Some Aborted) e = e

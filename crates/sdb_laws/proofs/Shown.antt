@@ -24,7 +24,7 @@ use Rattle.sdb_types.proofs.Keys.{same_key_tells}
 use Rattle.sdb_model.specs.declared.event.Event.{Event}
 use Rattle.sdb_model.specs.declared.event.Event.TheVariants as event
 use Rattle.sdb_stores.specs.declared.place.Place.{Place}
-use Rattle.sdb_model.specs.Events.{Shelf, Effect, standing, table_asked}
+use Rattle.sdb_model.specs.Events.{StoreContents, Effect, standing, table_asked}
 use Rattle.sdb_laws.specs.Lawful.{InReply, InEvent}
 use Rattle.sdb_laws.proofs.Effects.{AtCall, at_call}
 
@@ -73,7 +73,7 @@ row_within span k x (d ∷ es) e = by (row_within span k x es) (in_span span d.0
 
 ---- replies
 
-found_stood : (places : List Place) (q : Request) (r : Reply) (before now : List Shelf) (a : AtCall places q r before now) (key : Key) (x : Record) → key.table.ns ≡ (table_asked q).ns → record_at a.held key ≡ Some x → standing places before x.key ≡ Some x
+found_stood : (places : List Place) (q : Request) (r : Reply) (before now : List StoreContents) (a : AtCall places q r before now) (key : Key) (x : Record) → key.table.ns ≡ (table_asked q).ns → record_at a.held key ≡ Some x → standing places before x.key ≡ Some x
 found_stood places q r before now a key x ns e = ap (standing places before) same ∙ (a.here key ns).0 ∙ e
   where
     own : (o : Option Record) → record_at a.held key ≡ o → IfSome o (λ y. y.key ≡ key) → o ≡ Some x → x.key ≡ key
@@ -101,7 +101,7 @@ in_unmet c o x h = by (holds c o) h
     by true h = absurd h
     by false h = unmet o h
 
-shown_by : (places : List Place) (q : Request) (r : Reply) (before now : List Shelf) (a : AtCall places q r before now) (x : Record) → InReply (reply_to q a.held) x → standing places before x.key ≡ Some x
+shown_by : (places : List Place) (q : Request) (r : Reply) (before now : List StoreContents) (a : AtCall places q r before now) (x : Record) → InReply (reply_to q a.held) x → standing places before x.key ≡ Some x
 shown_by places (ask.Get key) r before now a x h = found_stood places (ask.Get key) r before now a key x refl (in_found (record_at a.held key) x h)
 shown_by places (ask.Scan span) r before now a x h =
     let within = row_within span x.key x (entries a.held) h in
@@ -109,7 +109,7 @@ shown_by places (ask.Scan span) r before now a x h =
 shown_by places (ask.PutIf rec c) r before now a x h = found_stood places (ask.PutIf rec c) r before now a rec.key x refl (in_unmet c (record_at a.held rec.key) x h)
 shown_by places (ask.DeleteIf key c) r before now a x h = found_stood places (ask.DeleteIf key c) r before now a key x refl (in_unmet c (record_at a.held key) x h)
 
-shown_call : (places : List Place) (q : Request) (r : Reply) (before now : List Shelf) → AtCall places q r before now → (x : Record) → InReply r x → standing places before x.key ≡ Some x
+shown_call : (places : List Place) (q : Request) (r : Reply) (before now : List StoreContents) → AtCall places q r before now → (x : Record) → InReply r x → standing places before x.key ≡ Some x
 shown_call places q r before now a x h = elim a.moved [
   | inl m ↦ elim m.1 [
     | inl e ↦ shown_by places q r before now a x (subst (λ y. InReply y x) e h)
@@ -121,7 +121,7 @@ shown_call places q r before now a x h = elim a.moved [
   ]
 ]
 
-pub stood : (places : List Place) (e : Event) (before now : List Shelf) (x : Record) → Effect places e before now → InEvent e x → standing places before x.key ≡ Some x
+pub stood : (places : List Place) (e : Event) (before now : List StoreContents) (x : Record) → Effect places e before now → InEvent e x → standing places before x.key ≡ Some x
 stood places (event.Call client store q how r answer) before now x c h = shown_call places q r before now (at_call places store q how r before now c) x h
 stood places (event.Take client text answer) before now x c h = absurd h
 stood places (event.Stop client) before now x c h = absurd h
@@ -130,7 +130,7 @@ stood places (event.Idle client) before now x c h = absurd h
 
 ---- reads
 
-pub get_reply : (places : List Place) (key : Key) (r : Reply) (found : Option Record) (before now : List Shelf) → AtCall places (ask.Get key) r before now → r ≡ reply.Found found → found ≡ standing places before key
+pub get_reply : (places : List Place) (key : Key) (r : Reply) (found : Option Record) (before now : List StoreContents) → AtCall places (ask.Get key) r before now → r ≡ reply.Found found → found ≡ standing places before key
 get_reply places key r found before now a e = elim a.moved [
   | inl m ↦ elim m.1 [
     | inl x ↦ some (sym e ∙ x) ∙ sym (a.here key refl).0
@@ -148,7 +148,7 @@ get_reply places key r found before now a e = elim a.moved [
     wanting : reply.Found found ≡ reply.NoMemory → ⊥
     wanting x = cc
 
-pub scan_reply : (places : List Place) (span : Span) (r : Reply) (rows : List Record) (before now : List Shelf) → AtCall places (ask.Scan span) r before now → r ≡ reply.Rows rows → (k : Key) → in_span span k ≡ true → record_among rows k ≡ standing places before k
+pub scan_reply : (places : List Place) (span : Span) (r : Reply) (rows : List Record) (before now : List StoreContents) → AtCall places (ask.Scan span) r before now → r ≡ reply.Rows rows → (k : Key) → in_span span k ≡ true → record_among rows k ≡ standing places before k
 scan_reply places span r rows before now a e k h = elim a.moved [
   | inl m ↦ elim m.1 [
     | inl x ↦ ap (λ z. record_among z k) (some (sym e ∙ x)) ∙ row_there span k a.held h ∙ sym (a.here k (span_table span k h)).0
@@ -167,7 +167,7 @@ scan_reply places span r rows before now a e k h = elim a.moved [
     wanting x = cc
 
 -- a read leaves everything as it was
-pub read_leaves : (places : List Place) (q : Request) (r : Reply) (before now : List Shelf) → AtCall places q r before now → ((m : Contents) → after q m ≡ m) → (k : Key) → standing places now k ≡ standing places before k
+pub read_leaves : (places : List Place) (q : Request) (r : Reply) (before now : List StoreContents) → AtCall places q r before now → ((m : Contents) → after q m ≡ m) → (k : Key) → standing places now k ≡ standing places before k
 read_leaves places q r before now a same k = elim (a.there k) [
   | inl x ↦ x.1 ∙ ap (λ m. record_at m k) (left a.moved) ∙ sym x.0
   | inr x ↦ x.0

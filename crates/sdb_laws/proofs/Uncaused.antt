@@ -10,8 +10,8 @@ use Rattle.sdb_schema.specs.declared.table.Table.{Table}
 use Rattle.sdb_record.specs.declared.access.Image.{Image}
 use Rattle.sdb_model.specs.declared.answer.Answer.TheVariants as answer
 use Rattle.sdb_stores.specs.declared.place.Place.{Place}
-use Rattle.sdb_model.specs.Events.{Shelf}
-use Rattle.sdb_model.specs.Transactions.{Said, ends, id_of, statements_of, through_end}
+use Rattle.sdb_model.specs.Events.{StoreContents}
+use Rattle.sdb_model.specs.Transactions.{Executed, ends, id_of, statements_of, through_end}
 use Rattle.sdb_model.specs.declared.statement.Statement.{Statement}
 use Rattle.sdb_model.specs.declared.statement.Statement.TheVariants as statement
 use Rattle.sdb_model.specs.declared.token.Keyword.{Keyword}
@@ -21,7 +21,7 @@ use Rattle.sdb_model.specs.declared.token.Token.{Token}
 use Rattle.sdb_model.specs.declared.token.Token.TheVariants.{Word, Name, Overlong, Number, Text, Blob, Sign as Mark}
 use Rattle.sdb_model.specs.Sql.{Reads, Tokens, statement_tokens, tokens_of}
 use Rattle.sdb_model.specs.Causes.{AreCaused, IsConflict, IsCounted}
-use Rattle.sdb_model.specs.Shown.{AreShown}
+use Rattle.sdb_model.specs.DirtyReads.{NoDirtyReads}
 use Rattle.sdb_laws.specs.Worked.{account}
 use Rattle.sdb_laws.specs.Forged.{oracle, accused, broken, counting}
 use Rattle.sdb_laws.proofs.Texts.{begin_begins, vacuum_tokens}
@@ -31,14 +31,14 @@ in_none x h = let low = h.1 in omega arith
 
 ---- a row that no call found
 
-through_one : (s : Said) → through_end (s ∷ []) ≡ s ∷ []
+through_one : (s : Executed) → through_end (s ∷ []) ≡ s ∷ []
 through_one s = by (ends s) refl
   where
     by : (b : Bool) → ends s ≡ b → through_end (s ∷ []) ≡ s ∷ []
     by true e = rw e refl
     by false e = rw e refl
 
-abbrev selected : Said
+abbrev selected : Executed
 selected = record { taken = 2; text = codes "SELECT balance FROM bank.account WHERE id = 1"; answer = Some (answer.Rows ((value.Int (pos 42) ∷ []) ∷ [])); reached = 2 }
 
 is_taken : statements_of oracle (id_of 1 1) ≡ selected ∷ []
@@ -48,14 +48,14 @@ no_image : {P : Image → Type 0} (f : Image → List Value) (row : List Value) 
 no_image f row [] e all never = absurd cc
 no_image f row (i ∷ is) e all never = never i all.0
 
-pub oracle_not_shown : (catalog : List Table) (places : List Place) (opening : List Shelf) (moments : List (List Shelf)) → AreShown catalog places oracle opening moments → ⊥
+pub oracle_not_shown : (catalog : List Table) (places : List Place) (opening : List StoreContents) (moments : List (List StoreContents)) → NoDirtyReads catalog places oracle opening moments → ⊥
 oracle_not_shown catalog places opening moments shown =
     let s = shown (id_of 1 1) selected (answer.Rows ((value.Int (pos 42) ∷ []) ∷ [])) (subst (λ ss. Contains ss selected) (sym is_taken) (0, omega arith, refl)) refl in
     no_image _ (value.Int (pos 42) ∷ []) s.2 s.5 s.6 (λ image has. in_none has.shown.call has.shown.read.0)
 
 ---- answers without a call
 
-abbrev ended : Said
+abbrev ended : Executed
 ended = record { taken = 2; text = codes "COMMIT"; answer = Some (answer.Conflict account None); reached = 2 }
 
 pub accused_not_caused : (catalog : List Table) → AreCaused catalog accused → ⊥
@@ -69,7 +69,7 @@ accused_not_caused catalog all =
       | inr at ↦ let m = at.2 in in_none m.0 m.3
     ]
 
-abbrev failed : Said
+abbrev failed : Executed
 failed = record { taken = 1; text = codes "BEGIN"; answer = Some answer.Faulted; reached = 1 }
 
 pub broken_not_caused : (catalog : List Table) → AreCaused catalog broken → ⊥
@@ -109,7 +109,7 @@ vacuum_first st (ps, lexes, whole, spells) = elim spells [
     first : first_word (tokens_of ps) ≡ Some word.Vacuum
     first = ap first_word tokens
 
-abbrev counted : Said
+abbrev counted : Executed
 counted = record { taken = 1; text = codes "VACUUM"; answer = Some (answer.Count 7); reached = 1 }
 
 pub counting_not_caused : (catalog : List Table) → AreCaused catalog counting → ⊥

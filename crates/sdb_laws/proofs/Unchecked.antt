@@ -5,10 +5,10 @@ use Rattle.std.specs.Prelude.{Contains}
 use Rattle.std.specs.Option.{option_map, option_and_then}
 use Rattle.std.specs.List.{slice_get}
 use Rattle.sdb_model.specs.declared.event.Event.{Event}
-use Rattle.sdb_model.specs.Noted.{Note, Got, noted_in, version_noted}
-use Rattle.sdb_laws.specs.Plan.{Plan, noted, number_of, written}
+use Rattle.sdb_model.specs.ReadSet.{ReadItem, KeyRead, read_set_of, version_read}
+use Rattle.sdb_laws.specs.Plan.{Plan, version_read_at, number_of, written}
 use Rattle.sdb_laws.specs.Explained.{newest_first, events_of}
-use Rattle.sdb_laws.specs.Faithful.{AreNoted}
+use Rattle.sdb_laws.specs.Faithful.{AreReadSets}
 use Rattle.sdb_laws.specs.Forged.{unchecked}
 use Rattle.sdb_laws.specs.Lawful.{IsLawful, id}
 use Rattle.sdb_laws.specs.Worked.{account, one, read_at}
@@ -19,15 +19,15 @@ abbrev told : List Event
 told = newest_first (events_of unchecked)
 
 -- the transaction noted that there was no account
-note_is : noted_in told (id one) ≡ Got (read_at None) ∷ []
+note_is : read_set_of told (id one) ≡ KeyRead (read_at None) ∷ []
 note_is = rw (begin_begins, select_commits_not, select_rolls_not, commit_commits) refl
 
-noted_so : (plan : Plan) (i : ℕ) → slice_get plan.notes i ≡ Some (Got (read_at None)) → noted plan i account ≡ Some None
-unfolding noted same_key
-noted_so plan i h = ap (λ (o : Option Note). option_map number_of (option_and_then (λ n. version_noted n account) o)) h
+noted_so : (plan : Plan) (i : ℕ) → slice_get plan.read_set i ≡ Some (KeyRead (read_at None)) → version_read_at plan i account ≡ Some None
+unfolding version_read_at same_key
+noted_so plan i h = ap (λ (o : Option ReadItem). option_map number_of (option_and_then (λ n. version_read n account) o)) h
 
 -- an item of a list is got at its place
-pub got : (ns : List Note) (x : Note) (i : ℕ) → i < length ns → get_or ns i x ≡ x → slice_get ns i ≡ Some x
+pub got : (ns : List ReadItem) (x : ReadItem) (i : ℕ) → i < length ns → get_or ns i x ≡ x → slice_get ns i ≡ Some x
 got [] x i low at = absurd (omega (arith, low))
 got (n ∷ ns) x zero low at = ap Some at
 got (n ∷ ns) x (suc i) low at = got ns x i (omega (arith, low)) at
@@ -38,12 +38,12 @@ false_true e = absurd (cc)
 some_none : {X : Type 0} (x : X) → Some x ≡ None → ⊥
 some_none x e = absurd (cc)
 
-pub unchecked_refused : (plan : ℕ → Plan) → AreNoted plan told unchecked → IsLawful plan unchecked → ⊥
+pub unchecked_refused : (plan : ℕ → Plan) → AreReadSets plan told unchecked → IsLawful plan unchecked → ⊥
 unfolding same_key
 unchecked_refused plan noted_all lawful =
-    let there : Contains (plan one).notes (Got (read_at None)) = (noted_all one refl (Got (read_at None))).1 (subst (λ ns. Contains ns (Got (read_at None))) (sym note_is) (0, omega arith, refl)) in
+    let there : Contains (plan one).read_set (KeyRead (read_at None)) = (noted_all one refl (KeyRead (read_at None))).1 (subst (λ ns. Contains ns (KeyRead (read_at None))) (sym note_is) (0, omega arith, refl)) in
     let decides = lawful.1 in
-    let says = noted_so (plan one) there.0 (got (plan one).notes (Got (read_at None)) there.0 there.1 there.2) in
+    let says = noted_so (plan one) there.0 (got (plan one).read_set (KeyRead (read_at None)) there.0 there.1 there.2) in
     elim (written (plan one) account) as (λ w. written (plan one) account ≡ w → ⊥) [
       | None ↦ λ free. false_true (decides.checked there.0 account None says free)
       | Some b ↦ λ wrote. false_true (decides.prepared account (λ e. some_none b (sym wrote ∙ e)))

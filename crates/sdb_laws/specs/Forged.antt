@@ -8,15 +8,15 @@ use Rattle.sdb_model.specs.declared.event.Point.{Point}
 use Rattle.sdb_model.specs.declared.event.TableDump.{TableDump}
 use Rattle.sdb_stores.specs.declared.place.Place.{Place}
 use Rattle.sdb_model.specs.declared.script.Script.{Script}
-use Rattle.sdb_model.specs.Events.{Shelf}
-use Rattle.sdb_model.specs.Shown.{AreShown}
-use Rattle.sdb_model.specs.Told.{IsRun}
+use Rattle.sdb_model.specs.Events.{StoreContents}
+use Rattle.sdb_model.specs.DirtyReads.{NoDirtyReads}
+use Rattle.sdb_model.specs.Serial.{IsRun}
 use Rattle.sdb_schema.specs.declared.table.Table.{Table}
 use Rattle.sdb_types.specs.declared.record.Request.TheVariants as ask
 use Rattle.sdb_types.specs.declared.record.Reply.TheVariants as reply
 use Rattle.sdb_laws.specs.History.{Other, Begins, Takes, Decides, Yes}
-use Rattle.sdb_laws.specs.Lawful.{Played, ends_with as ending, plays}
-use Rattle.sdb_laws.specs.Worked.{account, call, one, put_row, taken}
+use Rattle.sdb_laws.specs.Lawful.{Labelled, ends_with as ending, labelled_with}
+use Rattle.sdb_laws.specs.Worked.{account, call, one, put_row, take_of}
 
 -- BEGIN is refused, and what follows is answered as if it were not: no call is made, and nothing is stored.
 abbrev pub liar : List Event
@@ -34,7 +34,7 @@ twice =
     ∷ event.Take 1 (codes "COMMIT") (Some answer.Committed)
     ∷ []
 
--- A row is shown that no call found.
+-- An answer has a row that no call found.
 abbrev pub oracle : List Event
 oracle =
     event.Take 1 (codes "BEGIN") (Some answer.Done)
@@ -57,19 +57,19 @@ abbrev pub counting : List Event
 counting = event.Take 1 (codes "VACUUM") (Some (answer.Count 7)) ∷ []
 
 -- A transaction reads an account, and commits without reading it again: newest first, with the parts that the events play.
-abbrev pub unchecked : List Played
+abbrev pub unchecked : List Labelled
 unchecked =
     ending one (Decides one Yes) (call 1 (put_row one) reply.Applied (Some answer.Committed))
-    ∷ plays (Takes one) (taken 1 (codes "COMMIT") None)
-    ∷ plays Other (call 1 (ask.Get account) (reply.Found None) (Some (answer.Rows [])))
-    ∷ plays Other (taken 1 (codes "SELECT balance FROM bank.account WHERE id = 1") None)
-    ∷ plays (Begins one 1) (taken 1 (codes "BEGIN") (Some answer.Done))
+    ∷ labelled_with (Takes one) (take_of 1 (codes "COMMIT") None)
+    ∷ labelled_with Other (call 1 (ask.Get account) (reply.Found None) (Some (answer.Rows [])))
+    ∷ labelled_with Other (take_of 1 (codes "SELECT balance FROM bank.account WHERE id = 1") None)
+    ∷ labelled_with (Begins one 1) (take_of 1 (codes "BEGIN") (Some answer.Done))
     ∷ []
 
 -- A report of these events is the report of no run, whatever its script, stores, order and rows.
 abbrev pub AreOfNoRun : List Event → Type 0
-AreOfNoRun events = (script : Script) (opening closing : List Shelf) (order : List Point) (tables : List TableDump) → IsRun script opening closing (record { events = events; order = order; tables = tables }) → ⊥
+AreOfNoRun events = (script : Script) (opening closing : List StoreContents) (order : List Point) (tables : List TableDump) → IsRun script opening closing (record { events = events; order = order; tables = tables }) → ⊥
 
 -- The calls of these events show no cause of their answers, whatever the catalog, the places and the stores.
-abbrev pub AreNeverShown : List Event → Type 0
-AreNeverShown events = (catalog : List Table) (places : List Place) (opening : List Shelf) (moments : List (List Shelf)) → AreShown catalog places events opening moments → ⊥
+abbrev pub HaveNoCause : List Event → Type 0
+HaveNoCause events = (catalog : List Table) (places : List Place) (opening : List StoreContents) (moments : List (List StoreContents)) → NoDirtyReads catalog places events opening moments → ⊥

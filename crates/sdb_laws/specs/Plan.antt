@@ -8,13 +8,13 @@ use Rattle.sdb_record.specs.declared.write.Change.TheVariants as change
 use Rattle.sdb_record.specs.declared.write.Write.{Write}
 use Rattle.sdb_record.specs.Moved.{version_of}
 use Rattle.sdb_record.specs.Among.{write_among}
-use Rattle.sdb_model.specs.Noted.{Note, version_noted}
+use Rattle.sdb_model.specs.ReadSet.{ReadItem, version_read}
 
--- What a transaction goes into its COMMIT with: its writes, its noted reads, in the order in which they are checked, and
+-- What a transaction goes into its COMMIT with: its writes, its read set, in the order in which they are checked, and
 -- the moment of the COMMIT.
 pub record Plan : Type 0 where
   pub writes : List Write
-  pub notes : List Note
+  pub read_set : List ReadItem
   pub now : ℤ
 
 -- the write of a key
@@ -37,6 +37,6 @@ is_delete (change.Row columns) = false
 unfoldable pub deletes : Plan → Key → Bool
 deletes plan key = option_map_or (λ w. is_delete w.change) (write_at plan key) false
 
--- what the i-th noted read of a transaction says of a key
-unfoldable pub noted : Plan → ℕ → Key → Option (Option ℕ)
-noted plan i key = option_map number_of (option_and_then (λ n. version_noted n key) (slice_get plan.notes i))
+-- what the i-th read of the read set of a transaction says of a key
+unfoldable pub version_read_at : Plan → ℕ → Key → Option (Option ℕ)
+version_read_at plan i key = option_map number_of (option_and_then (λ n. version_read n key) (slice_get plan.read_set i))

@@ -7,13 +7,13 @@ use Rattle.sdb_types.specs.declared.key.Key.{Key}
 use Rattle.sdb_model.specs.declared.event.Event.{Event}
 use Rattle.sdb_model.specs.declared.event.Point.{Point}
 use Rattle.sdb_stores.specs.declared.place.Place.{Place}
-use Rattle.sdb_model.specs.Events.{IsTrace, Shelf, moment}
+use Rattle.sdb_model.specs.Events.{IsTrace, StoreContents, moment}
 use Rattle.sdb_model.specs.Exec.{find_table}
 use Rattle.sdb_model.specs.Transactions.{IsOrder}
-use Rattle.sdb_laws.specs.Explained.{IsRunOf, IsTold, events_of, newest_first}
-use Rattle.sdb_laws.specs.Faithful.{AreNoted, IsFaithful}
-use Rattle.sdb_laws.specs.History.{Begins, History, Prepares, Talk, Word}
-use Rattle.sdb_laws.specs.Lawful.{Played, talk}
+use Rattle.sdb_laws.specs.Explained.{IsRunOf, IsAnsweredCommitted, events_of, newest_first}
+use Rattle.sdb_laws.specs.Faithful.{AreReadSets, IsFaithful}
+use Rattle.sdb_laws.specs.History.{Begins, History, Prepares, ProtocolState, Ack}
+use Rattle.sdb_laws.specs.Lawful.{Labelled, protocol_state}
 use Rattle.sdb_laws.specs.Plan.{Plan}
 use Rattle.sdb_laws.specs.Trace.{closing, has_effect, history}
 
@@ -23,9 +23,9 @@ use Rattle.sdb_laws.specs.Trace.{closing, has_effect, history}
 pub record LawfulRun : Type 0 where
   pub plan : ℕ → Plan
   pub places : List Place
-  pub opening : List Shelf
-  pub past : List Played
-  pub moments : List (List Shelf)
+  pub opening : List StoreContents
+  pub past : List Labelled
+  pub moments : List (List StoreContents)
   pub run : IsRunOf plan places opening past moments
 
 -- what its events did
@@ -33,8 +33,8 @@ abbrev pub history_of : LawfulRun → History
 history_of r = history r.plan r.places r.opening r.past r.moments
 
 -- what the stores hold after its events
-abbrev pub shelves_of : LawfulRun → List Shelf
-shelves_of r = closing r.opening r.moments
+abbrev pub contents_of_run : LawfulRun → List StoreContents
+contents_of_run r = closing r.opening r.moments
 
 ---- in order
 
@@ -42,68 +42,68 @@ shelves_of r = closing r.opening r.moments
 pub record RunInOrder : Type 0 where
   pub plan : ℕ → Plan
   pub places : List Place
-  pub opening : List Shelf
-  pub played : List Played
-  pub moments : List (List Shelf)
-  pub run : IsRunOf plan places opening (newest_first played) (newest_first moments)
+  pub opening : List StoreContents
+  pub labelled : List Labelled
+  pub moments : List (List StoreContents)
+  pub run : IsRunOf plan places opening (newest_first labelled) (newest_first moments)
 
 -- the same, newest first
 abbrev pub turned : RunInOrder → LawfulRun
-turned r = record { plan = r.plan; places = r.places; opening = r.opening; past = newest_first r.played; moments = newest_first r.moments; run = r.run }
+turned r = record { plan = r.plan; places = r.places; opening = r.opening; past = newest_first r.labelled; moments = newest_first r.moments; run = r.run }
 
 -- its events, without the parts that they play
 abbrev pub events_in : RunInOrder → List Event
-events_in r = events_of r.played
+events_in r = events_of r.labelled
 
 -- what its events say
-abbrev pub talk_in : RunInOrder → Talk
-talk_in r = talk (newest_first r.played)
+abbrev pub protocol_state_in : RunInOrder → ProtocolState
+protocol_state_in r = protocol_state (newest_first r.labelled)
 
 -- what its events did
 abbrev pub history_in : RunInOrder → History
 history_in r = history_of (turned r)
 
 -- what the stores hold after its events
-abbrev pub last_shelves : RunInOrder → List Shelf
-last_shelves r = shelves_of (turned r)
+abbrev pub final_contents : RunInOrder → List StoreContents
+final_contents r = contents_of_run (turned r)
 
 -- a run has a moment before its events and one after each
 abbrev pub IsMomentOf : RunInOrder → ℕ → Type 0
 IsMomentOf r n = n ≤ length r.moments
 
 -- what the stores hold at a moment of it
-abbrev pub shelves_at : RunInOrder → ℕ → List Shelf
-shelves_at r n = moment r.opening r.moments n
+abbrev pub contents_at : RunInOrder → ℕ → List StoreContents
+contents_at r n = moment r.opening r.moments n
 
 -- The parts that its events play are those that their texts say.
 abbrev pub IsFaithfulRun : RunInOrder → Type 0
-IsFaithfulRun r = IsFaithful (events_in r) (newest_first r.played)
+IsFaithfulRun r = IsFaithful (events_in r) (newest_first r.labelled)
 
--- The notes of its plans are what the statements noted.
-abbrev pub IsNotedRun : RunInOrder → Type 0
-IsNotedRun r = AreNoted r.plan (events_in r) (newest_first r.played)
+-- The read sets of its plans are what the statements read.
+abbrev pub HasReadSets : RunInOrder → Type 0
+HasReadSets r = AreReadSets r.plan (events_in r) (newest_first r.labelled)
 
 -- The COMMIT of a transaction was taken, and its id has 128 bits.
-pub record IsTakenIn (r : RunInOrder) (t : ℕ) : Type 0 where
+pub record IsCommitStarted (r : RunInOrder) (t : ℕ) : Type 0 where
   pub fits : t < 2 ^ 128
-  pub taken : (talk_in r).taken t ≡ true
+  pub taken : (protocol_state_in r).taken t ≡ true
 
 -- an order of the transactions that are recorded after its events
 abbrev pub IsOrderOf : RunInOrder → List Point → Type 0
-IsOrderOf r order = IsOrder r.places (events_in r) (last_shelves r) order
+IsOrderOf r order = IsOrder r.places (events_in r) (final_contents r) order
 
 -- the ids of its transactions have 128 bits
 abbrev pub AreOfIds : List Point → Type 0
 AreOfIds order = All (λ (p : Point). p.id.0 < 2 ^ 128) order
 
--- A trace of events that are played, in their order.
+-- A trace of events with their actions, in their order.
 pub record TraceInOrder : Type 0 where
   pub places : List Place
-  pub opening : List Shelf
-  pub played : List Played
-  pub moments : List (List Shelf)
-  pub end : List Shelf
-  pub trace : IsTrace places (events_of played) opening moments end
+  pub opening : List StoreContents
+  pub labelled : List Labelled
+  pub moments : List (List StoreContents)
+  pub end : List StoreContents
+  pub trace : IsTrace places (events_of labelled) opening moments end
 
 -- The tables of a catalog without the coordinator's.
 pub record DataTables : Type 0 where
@@ -116,11 +116,11 @@ pub record DataTables : Type 0 where
 pub record LongerRun : Type 0 where
   pub plan : ℕ → Plan
   pub places : List Place
-  pub opening : List Shelf
-  pub past : List Played
-  pub moments : List (List Shelf)
-  pub later : List Played
-  pub more : List (List Shelf)
+  pub opening : List StoreContents
+  pub past : List Labelled
+  pub moments : List (List StoreContents)
+  pub later : List Labelled
+  pub more : List (List StoreContents)
   pub even : length later ≡ length more
   pub run : IsRunOf plan places opening (later ++ past) (more ++ moments)
 
@@ -128,13 +128,13 @@ pub record LongerRun : Type 0 where
 pub record EventInRun : Type 0 where
   pub plan : ℕ → Plan
   pub places : List Place
-  pub opening : List Shelf
-  pub past : List Played
-  pub moments : List (List Shelf)
-  pub event : Played
-  pub after : List Shelf
-  pub later : List Played
-  pub more : List (List Shelf)
+  pub opening : List StoreContents
+  pub past : List Labelled
+  pub moments : List (List StoreContents)
+  pub event : Labelled
+  pub after : List StoreContents
+  pub later : List Labelled
+  pub more : List (List StoreContents)
   pub even : length later ≡ length more
   pub run : IsRunOf plan places opening (later ++ event ∷ past) (more ++ after ∷ moments)
 
@@ -143,18 +143,18 @@ abbrev pub run_with : EventInRun → LawfulRun
 run_with e = record { plan = e.plan; places = e.places; opening = e.opening; past = e.later ++ e.event ∷ e.past; moments = e.more ++ e.after ∷ e.moments; run = e.run }
 
 -- what the stores hold before the event
-abbrev pub shelves_before : EventInRun → List Shelf
-shelves_before e = closing e.opening e.moments
+abbrev pub contents_before : EventInRun → List StoreContents
+contents_before e = closing e.opening e.moments
 
 -- The event is a transaction's prepare of a key, and took effect.
 pub record PreparesKey (e : EventInRun) (t : ℕ) (k : Key) : Type 0 where
-  pub word : Word
-  pub prepares : e.event.role ≡ Prepares t k word
+  pub word : Ack
+  pub prepares : e.event.action ≡ Prepares t k word
   pub done : has_effect e.places e.event.event (closing e.opening e.moments) e.after ≡ true
 
--- The event begins a transaction that is recorded after the run. Another was told Committed before it.
-pub record BeginsAfterTold (e : EventInRun) (told begun : ℕ) : Type 0 where
+-- The event begins a transaction that is recorded after the run. Another was answered Committed before it.
+pub record BeginsAfterAnswered (e : EventInRun) (told begun : ℕ) : Type 0 where
   pub client : ℕ
-  pub tells : IsTold e.past told
-  pub begins : e.event.role ≡ Begins begun client
+  pub tells : IsAnsweredCommitted e.past told
+  pub begins : e.event.action ≡ Begins begun client
   pub recorded : (history_of (run_with e)).row begun ≡ Some Committed

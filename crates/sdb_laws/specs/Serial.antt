@@ -5,9 +5,9 @@ use Rattle.sdb_types.specs.declared.pair.Pair.{Pair}
 use Rattle.sdb_record.specs.declared.coordinator.Decision.TheVariants.{Committed}
 use Rattle.sdb_record.specs.Rolls.{row_of_change}
 use Rattle.sdb_stores.specs.declared.place.Place.{Place}
-use Rattle.sdb_model.specs.Events.{Shelf}
+use Rattle.sdb_model.specs.Events.{StoreContents}
 use Rattle.sdb_model.specs.Images.{row_at}
-use Rattle.sdb_laws.specs.Plan.{Plan, written, noted}
+use Rattle.sdb_laws.specs.Plan.{Plan, written, version_read_at}
 use Rattle.sdb_laws.specs.History.{History, or_else}
 use Rattle.sdb_laws.specs.Records.{write_there}
 use Rattle.sdb_model.specs.Tables.{is_data}
@@ -19,11 +19,11 @@ IsIn t (u ∷ us) = (t ≡ u) ⊎ IsIn t us
 -- each has a point above n
 abbrev pub AllAbove : History → ℕ → List ℕ → Type 0
 AllAbove w n [] = Unit {0}
-AllAbove w n (u ∷ us) = (n < w.talk.point u) × AllAbove w n us
+AllAbove w n (u ∷ us) = (n < w.protocol.point u) × AllAbove w n us
 
 abbrev pub IsRising : History → List ℕ → Type 0
 IsRising w [] = Unit {0}
-IsRising w (t ∷ ts) = AllAbove w (w.talk.point t) ts × IsRising w ts
+IsRising w (t ∷ ts) = AllAbove w (w.protocol.point t) ts × IsRising w ts
 
 -- The order: the recorded transactions, each once, by rising point.
 pub record IsOrdered (w : History) (order : List ℕ) : Type 0 where
@@ -44,10 +44,10 @@ abbrev pub row_left : (ℕ → Plan) → Key → Option ℕ → Option (List Pai
 row_left plan k None = None
 row_left plan k (Some t) = row_of_change (write_there (plan t) k).change
 
--- What each transaction of the order noted of a key is the row that those before it left there.
+-- What each transaction of the order read at a key is the row that those before it left there.
 abbrev pub ReadsSerial : (ℕ → Plan) → History → List ℕ → Type 0
-ReadsSerial plan w order = (front : List ℕ) (t : ℕ) (back : List ℕ) → order ≡ front ++ t ∷ back → (i : ℕ) (k : Key) (found : Option ℕ) → noted (plan t) i k ≡ Some found → row_left plan k found ≡ row_left plan k (last_writer plan k front)
+ReadsSerial plan w order = (front : List ℕ) (t : ℕ) (back : List ℕ) → order ≡ front ++ t ∷ back → (i : ℕ) (k : Key) (found : Option ℕ) → version_read_at (plan t) i k ≡ Some found → row_left plan k found ≡ row_left plan k (last_writer plan k front)
 
--- The row shown at each key is the one that the whole order left there.
-abbrev pub RowsSerial : (ℕ → Plan) → List Place → List Shelf → List ℕ → Type 0
+-- The row at each key is the one that the whole order left there.
+abbrev pub RowsSerial : (ℕ → Plan) → List Place → List StoreContents → List ℕ → Type 0
 RowsSerial plan places shelves order = (k : Key) → is_data k ≡ true → row_at places shelves k ≡ row_left plan k (last_writer plan k order)

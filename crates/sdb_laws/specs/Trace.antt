@@ -8,47 +8,47 @@ use Rattle.sdb_types.specs.declared.record.Request.TheVariants as ask
 use Rattle.sdb_types.specs.Contents.{holds}
 use Rattle.sdb_model.specs.declared.event.Event.{Event}
 use Rattle.sdb_stores.specs.declared.place.Place.{Place}
-use Rattle.sdb_model.specs.Events.{Shelf, Effect, contact_of, standing}
+use Rattle.sdb_model.specs.Events.{StoreContents, Effect, contact_of, standing}
 use Rattle.sdb_laws.specs.Plan.{Plan}
-use Rattle.sdb_laws.specs.History.{Ends, History, start, happens, says}
-use Rattle.sdb_laws.specs.Lawful.{Played}
+use Rattle.sdb_laws.specs.History.{Ends, History, start, happens, state_after}
+use Rattle.sdb_laws.specs.Lawful.{Labelled}
 
 -- what the stores held last
-abbrev pub closing : List Shelf → List (List Shelf) → List Shelf
+abbrev pub closing : List StoreContents → List (List StoreContents) → List StoreContents
 closing opening [] = opening
 closing opening (s ∷ ss) = s
 
 -- What the stores hold after each event is made by the event's effect from what they held before.
-abbrev pub IsTraced : List Place → List Shelf → List Played → List (List Shelf) → Type 0
+abbrev pub IsTraced : List Place → List StoreContents → List Labelled → List (List StoreContents) → Type 0
 IsTraced places opening [] [] = Unit {0}
 IsTraced places opening [] (s ∷ ss) = ⊥
 IsTraced places opening (p ∷ past) [] = ⊥
 IsTraced places opening (p ∷ past) (s ∷ ss) = IsTraced places opening past ss × Effect places p.event (closing opening ss) s
 
 -- nothing is at any key
-abbrev pub StartsEmpty : List Place → List Shelf → Type 0
+abbrev pub StartsEmpty : List Place → List StoreContents → Type 0
 StartsEmpty places opening = (k : Key) → standing places opening k ≡ None
 
 -- A write took effect where its condition held before it and fails after it: what the protocol puts or removes never meets
 -- the condition of its own put.
-abbrev pub took_at : List Place → Key → Condition → List Shelf → List Shelf → Bool
-took_at places k c before now = holds c (standing places before k) && not (holds c (standing places now k))
+abbrev pub takes_effect_at : List Place → Key → Condition → List StoreContents → List StoreContents → Bool
+takes_effect_at places k c before now = holds c (standing places before k) && not (holds c (standing places now k))
 
-abbrev pub took_effect : List Place → Request → List Shelf → List Shelf → Bool
-took_effect places (ask.Get key) before now = false
-took_effect places (ask.Scan span) before now = false
-took_effect places (ask.PutIf r c) before now = took_at places r.key c before now
-took_effect places (ask.DeleteIf key c) before now = took_at places key c before now
+abbrev pub takes_effect : List Place → Request → List StoreContents → List StoreContents → Bool
+takes_effect places (ask.Get key) before now = false
+takes_effect places (ask.Scan span) before now = false
+takes_effect places (ask.PutIf r c) before now = takes_effect_at places r.key c before now
+takes_effect places (ask.DeleteIf key c) before now = takes_effect_at places key c before now
 
-abbrev pub has_effect : List Place → Event → List Shelf → List Shelf → Bool
-has_effect places e before now = option_map_or (λ c. took_effect places c.request before now) (contact_of e) false
+abbrev pub has_effect : List Place → Event → List StoreContents → List StoreContents → Bool
+has_effect places e before now = option_map_or (λ c. takes_effect places c.request before now) (contact_of e) false
 
 abbrev pub after_end : (ℕ → Plan) → History → Option ℕ → History
 after_end plan w None = w
-after_end plan w (Some t) = record w { talk = says w.talk (Ends t) }
+after_end plan w (Some t) = record w { protocol = state_after w.protocol (Ends t) }
 
 -- what the events did, over a trace
-abbrev pub history : (ℕ → Plan) → List Place → List Shelf → List Played → List (List Shelf) → History
+abbrev pub history : (ℕ → Plan) → List Place → List StoreContents → List Labelled → List (List StoreContents) → History
 history plan places opening [] ss = start
 history plan places opening (p ∷ past) [] = start
-history plan places opening (p ∷ past) (s ∷ ss) = after_end plan (happens plan (history plan places opening past ss) p.role (has_effect places p.event (closing opening ss) s)) p.ends
+history plan places opening (p ∷ past) (s ∷ ss) = after_end plan (happens plan (history plan places opening past ss) p.action (has_effect places p.event (closing opening ss) s)) p.ends

@@ -1,11 +1,11 @@
 //! Laws of images and of the order of writers.
 ghost use Rattle.sdb_laws.specs.Explained.{EarlierPrepareHadRow, ImageIsLastWriter, PointsDiffer, RemovedBeforeBegin, WritersInOrder};
-ghost use Rattle.sdb_laws.specs.Runs.{LawfulRun, history_of, shelves_of};
+ghost use Rattle.sdb_laws.specs.Runs.{LawfulRun, history_of, contents_of_run};
 
 /// The committed image of each key is what the last recorded writer by point left; there is none where nobody recorded wrote it,
 /// or where the last one deleted the row and VACUUM removed the tombstone.
 pub fn image_is_last_writer()
-    ensures { (r : LawfulRun) → ImageIsLastWriter r.plan r.places (history_of r) (shelves_of r) }
+    ensures { (r : LawfulRun) → ImageIsLastWriter r.plan r.places (history_of r) (contents_of_run r) }
 {}
 
 /// Whose tombstone was removed was recorded before each open transaction of a client that goes on began.

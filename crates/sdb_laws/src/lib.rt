@@ -1,6 +1,6 @@
-//! The law of the protocol over events: what is so at every moment of a run whose events follow the protocol's rules.
+//! The law of the protocol over events: what holds at every moment of a run whose events follow the protocol's rules.
 //!
-//! It speaks of lists of events, of what replies said in them, and of a trace of the stores; of no machine and no store. Each
+//! It speaks of lists of events, of the replies in them, and of a trace of the stores; of no machine and no store. Each
 //! law is the contract of a function with an empty body.
 #![tactic(auto)]
 

@@ -3,7 +3,7 @@ ghost use Rattle.sdb_laws.specs.Explained.{CheckSaw, Middle, PrepareSaw, ReadsCu
 ghost use Rattle.sdb_laws.specs.Runs.{LawfulRun, history_of};
 
 /// A check that found all unchanged, at each key that its transaction doesn't write: every other transaction that prepared the key
-/// before had its row by then, and the version noted is of the last writer recorded by then.
+/// before had its row by then, and the version read is of the last writer recorded by then.
 pub fn check_saw()
     ensures { (r : LawfulRun) → CheckSaw r.plan (history_of r) }
 {}
@@ -13,7 +13,7 @@ pub fn prepare_saw()
     ensures { (r : LawfulRun) → PrepareSaw r.plan (history_of r) }
 {}
 
-/// What a recorded transaction noted is of the last recorded writer before it, at every moment after.
+/// What a recorded transaction read is of the last recorded writer before it, at every moment after.
 pub fn reads_current()
     ensures { (r : LawfulRun) → ReadsCurrent r.plan (history_of r) }
 {}

@@ -1,28 +1,28 @@
-//! Laws in the words of the model, where the parts that are played are those that the texts of the events say.
+//! Laws in the words of the model, where the actions are those that the texts of the events say.
 ghost use Rattle.std.specs.Prelude.{◌≡◌, ◌≤◌, List, Some, length, map, ℕ};
 ghost use Rattle.sdb_record.specs.declared.coordinator.Decision.TheVariants.{Committed};
 ghost use Rattle.sdb_model.specs.declared.event.Point.{Point};
-ghost use Rattle.sdb_model.specs.Told.{TransactionsInRealTime};
-ghost use Rattle.sdb_laws.specs.Faithful.{AnswersAreTrue, IsToldAt};
-ghost use Rattle.sdb_laws.specs.Lawful.{IsLawful, Played, talk};
+ghost use Rattle.sdb_model.specs.Serial.{TransactionsInRealTime};
+ghost use Rattle.sdb_laws.specs.Faithful.{AnswersAreTrue, IsAnsweredCommittedAt};
+ghost use Rattle.sdb_laws.specs.Lawful.{IsLawful, Labelled, protocol_state};
 ghost use Rattle.sdb_laws.specs.Plan.{Plan};
-ghost use Rattle.sdb_laws.specs.Runs.{AreOfIds, IsFaithfulRun, IsOrderOf, LawfulRun, RunInOrder, events_in, history_in, history_of, last_shelves};
+ghost use Rattle.sdb_laws.specs.Runs.{AreOfIds, IsFaithfulRun, IsOrderOf, LawfulRun, RunInOrder, events_in, history_in, history_of, final_contents};
 ghost use Rattle.sdb_laws.specs.Serial.{IsOrdered};
 
-/// The clock of what was said counts events, and not the parts that they play.
+/// The clock of the protocol's state counts events, and not their actions.
 pub fn clock_counts_events()
-    ensures { (plan : ℕ → Plan) (past : List Played) → IsLawful plan past → (talk past).now ≡ length past }
+    ensures { (plan : ℕ → Plan) (past : List Labelled) → IsLawful plan past → (protocol_state past).now ≡ length past }
 {}
 
-/// Who was told Committed by an event was recorded by then.
-pub fn told_was_decided()
-    ensures recorded { (r : LawfulRun) (t n : ℕ) → IsToldAt r.past t n → (history_of r).row t ≡ Some Committed }
-    ensures by_then { (r : LawfulRun) (t n : ℕ) → IsToldAt r.past t n → (history_of r).decided_at t ≤ n }
+/// Who was answered Committed by an event was recorded by then.
+pub fn answered_was_decided()
+    ensures recorded { (r : LawfulRun) (t n : ℕ) → IsAnsweredCommittedAt r.past t n → (history_of r).row t ≡ Some Committed }
+    ensures by_then { (r : LawfulRun) (t n : ℕ) → IsAnsweredCommittedAt r.past t n → (history_of r).decided_at t ≤ n }
 {}
 
 /// The order of the recorded transactions keeps real time.
-pub fn keeps_real_time()
-    ensures { (r : RunInOrder) (order : List Point) → IsFaithfulRun r → IsOrderOf r order → TransactionsInRealTime r.places (events_in r) (last_shelves r) order }
+pub fn respects_real_time()
+    ensures { (r : RunInOrder) (order : List Point) → IsFaithfulRun r → IsOrderOf r order → TransactionsInRealTime r.places (events_in r) (final_contents r) order }
 {}
 
 /// The order of the model is the order that the laws of the order speak of.
@@ -32,5 +32,5 @@ pub fn order_is_by_point()
 
 /// What a COMMIT was answered is true.
 pub fn answers_are_true()
-    ensures { (r : RunInOrder) → IsFaithfulRun r → AnswersAreTrue r.places (events_in r) (last_shelves r) }
+    ensures { (r : RunInOrder) → IsFaithfulRun r → AnswersAreTrue r.places (events_in r) (final_contents r) }
 {}

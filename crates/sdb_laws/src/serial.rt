@@ -1,6 +1,6 @@
 //! Laws of the order of recorded transactions.
 ghost use Rattle.std.specs.Prelude.{List, ℕ};
-ghost use Rattle.sdb_laws.specs.Runs.{LawfulRun, history_of, shelves_of};
+ghost use Rattle.sdb_laws.specs.Runs.{LawfulRun, history_of, contents_of_run};
 ghost use Rattle.sdb_laws.specs.Serial.{IsOrdered, ReadsSerial, RowsSerial};
 
 /// Each recorded transaction read what those with earlier points left, one after the other.
@@ -10,5 +10,5 @@ pub fn reads_are_serial()
 
 /// The rows that the stores show are those that the recorded transactions left, one after the other.
 pub fn rows_are_serial()
-    ensures { (r : LawfulRun) (order : List ℕ) → IsOrdered (history_of r) order → RowsSerial r.plan r.places (shelves_of r) order }
+    ensures { (r : LawfulRun) (order : List ℕ) → IsOrdered (history_of r) order → RowsSerial r.plan r.places (contents_of_run r) order }
 {}

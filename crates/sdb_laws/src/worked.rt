@@ -6,12 +6,12 @@ ghost use Rattle.sdb_record.specs.declared.write.Write.{Write};
 ghost use Rattle.sdb_schema.specs.declared.table.Table.{Table};
 ghost use Rattle.sdb_model.specs.Causes.{AreCaused};
 ghost use Rattle.sdb_laws.specs.Plan.{Plan};
-ghost use Rattle.sdb_laws.specs.Faithful.{AreNoted};
-ghost use Rattle.sdb_laws.specs.Forged.{AreNeverShown, AreOfNoRun, accused, broken, counting, liar, oracle, twice, unchecked};
-ghost use Rattle.sdb_laws.specs.Lawful.{Played, IsLawful};
+ghost use Rattle.sdb_laws.specs.Faithful.{AreReadSets};
+ghost use Rattle.sdb_laws.specs.Forged.{HaveNoCause, AreOfNoRun, accused, broken, counting, liar, oracle, twice, unchecked};
+ghost use Rattle.sdb_laws.specs.Lawful.{Labelled, IsLawful};
 ghost use Rattle.sdb_laws.specs.Trace.{history};
 ghost use Rattle.sdb_laws.specs.Explained.{IsRunOf, events_of, newest_first};
-ghost use Rattle.sdb_laws.specs.Worked.{one, store_with, first_run, first_moments, updates, deletes_it, plan_with, lost_decision, recovery, vacuumed, decided_early, prepared_twice, rolled_blindly, checked_moved, removed_while_open};
+ghost use Rattle.sdb_laws.specs.Worked.{one, store_with, first_run, first_moments, updates, deletes_it, plan_with, lost_decision, recovery, vacuumed, decided_early, prepared_twice, rolled_blindly, checked_changed, removed_while_open};
 
 /// There are runs: one client inserts a record into an empty store, and its transaction is recorded.
 pub fn a_run_exists()
@@ -33,7 +33,7 @@ pub fn other_runs_are_refused()
     ensures decided_early { (w : Write) → IsLawful (plan_with w) decided_early → ⊥ }
     ensures prepared_twice { IsLawful (plan_with updates) prepared_twice → ⊥ }
     ensures rolled_blindly { IsLawful (plan_with updates) rolled_blindly → ⊥ }
-    ensures checked_moved { (past : List Played) → IsLawful (plan_with updates) (checked_moved past) → ⊥ }
+    ensures checked_changed { (past : List Labelled) → IsLawful (plan_with updates) (checked_changed past) → ⊥ }
     ensures removed_while_open { IsLawful (plan_with deletes_it) removed_while_open → ⊥ }
 {}
 
@@ -47,13 +47,13 @@ pub fn forged_reports_are_no_runs()
 /// Answers that no call explains have no cause, whatever the catalog, the places and the stores: a row that was not found, a Conflict
 /// without a read, a fault without a call, and a count of tombstones that were not removed.
 pub fn forged_answers_have_no_cause()
-    ensures oracle { AreNeverShown oracle }
+    ensures oracle { HaveNoCause oracle }
     ensures accused { (catalog : List Table) → AreCaused catalog accused → ⊥ }
     ensures broken { (catalog : List Table) → AreCaused catalog broken → ⊥ }
     ensures counting { (catalog : List Table) → AreCaused catalog counting → ⊥ }
 {}
 
-/// A COMMIT that does not check what its transaction noted is lawful under no plan that has what was noted.
+/// A COMMIT that does not check what its transaction read is lawful under no plan that has what was read.
 pub fn unchecked_reads_are_refused()
-    ensures { (plan : ℕ → Plan) → AreNoted plan (newest_first (events_of unchecked)) unchecked → IsLawful plan unchecked → ⊥ }
+    ensures { (plan : ℕ → Plan) → AreReadSets plan (newest_first (events_of unchecked)) unchecked → IsLawful plan unchecked → ⊥ }
 {}

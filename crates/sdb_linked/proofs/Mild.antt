@@ -4,10 +4,10 @@ use Rattle.std.specs.Prelude.{◌&&◌, ◌||◌, not}
 use Rattle.std.specs.Option.{option_map_or}
 use Rattle.sdb_model.specs.declared.answer.Answer.{Answer}
 use Rattle.sdb_model.specs.declared.answer.Answer.TheVariants as answer
-use Rattle.sdb_model.specs.Noted.{read_finished}
+use Rattle.sdb_model.specs.ReadSet.{read_finished}
 use Rattle.sdb_model.specs.Sql.{reads_begin, reads_commit, reads_rollback}
-use Rattle.sdb_model.specs.Transactions.{Said, begins, changes_nothing, ends, is_answered_from_rows, is_conflict, is_done, is_effective}
-use Rattle.sdb_linked.specs.Going.{IsMild}
+use Rattle.sdb_model.specs.Transactions.{Executed, begins, changes_nothing, ends, is_answered_from_rows, is_conflict, is_done, is_effective}
+use Rattle.sdb_linked.specs.Invariant.{IsMild}
 use Rattle.sdb_types.proofs.Basics.{clash, some_is, and_false as no_second}
 
 ---- answers that neither begin nor end a transaction
@@ -67,14 +67,14 @@ rows_finish (answer.Expired i) n = clash (sym n)
 rows_finish (answer.Unknown i) n = clash (sym n)
 rows_finish answer.Vacuuming n = clash (sym n)
 
-pub mild_begins : (s : Said) (a : Answer) → s.answer ≡ Some a → IsMild a → begins s ≡ false
+pub mild_begins : (s : Executed) (a : Answer) → s.answer ≡ Some a → IsMild a → begins s ≡ false
 mild_begins s a e m = ap (λ o. reads_begin s.text && is_done o) e ∙ ap (λ b. reads_begin s.text && b) m.undone ∙ no_second (reads_begin s.text)
 
-pub mild_ends : (s : Said) (a : Answer) → s.answer ≡ Some a → IsMild a → reads_commit s.text ≡ false → ends s ≡ false
+pub mild_ends : (s : Executed) (a : Answer) → s.answer ≡ Some a → IsMild a → reads_commit s.text ≡ false → ends s ≡ false
 mild_ends s a e m c = ap (λ b. b || is_conflict s.answer || (reads_rollback s.text && is_done s.answer)) c ∙ ap (λ o. is_conflict o || (reads_rollback s.text && is_done o)) e ∙ ap (λ b. b || (reads_rollback s.text && is_done (Some a))) m.agrees ∙ ap (λ b. reads_rollback s.text && b) m.undone ∙ no_second (reads_rollback s.text)
 
 pub uncommitted : (o : Option Answer) (a : Answer) → o ≡ Some a → IsMild a → o ≢ Some answer.Committed
 uncommitted o a e m k = m.other (some_is a answer.Committed (sym e ∙ k))
 
-pub effective_by : (s : Said) (a : Answer) (b : Bool) → s.answer ≡ Some a → changes_nothing a ≡ b → is_effective s ≡ not b
+pub effective_by : (s : Executed) (a : Answer) (b : Bool) → s.answer ≡ Some a → changes_nothing a ≡ b → is_effective s ≡ not b
 effective_by s a b e n = ap (λ o. not (option_map_or changes_nothing o false)) e ∙ ap not n

@@ -4,13 +4,13 @@ use Rattle.std.specs.Prelude.{◌==◌, if◌then◌else◌}
 use Rattle.std.proofs.lemmas.Bool.Decides.{nat_tests}
 use Rattle.sdb_model.specs.declared.statement.Statement.{Statement}
 use Rattle.sdb_model.specs.Sql.{Reads, reads_commit}
-use Rattle.sdb_model.specs.Transactions.{Said}
-use Rattle.sdb_laws.specs.History.{Begins, Talk, heard}
+use Rattle.sdb_model.specs.Transactions.{Executed}
+use Rattle.sdb_laws.specs.History.{Begins, ProtocolState, state_after_event}
 use Rattle.sdb_snapshot.specs.Seen.{nothing}
 use Rattle.sdb_turns.specs.System.{ClientAt, SystemAt, with_client}
 use Rattle.sdb_story.specs.Filed.{number}
 use Rattle.sdb_story.specs.Left.{Execution}
-use Rattle.sdb_linked.specs.Going.{IsCommitting, IsInner, IsRunning, IsWaiting}
+use Rattle.sdb_linked.specs.Invariant.{IsCommitting, IsInner, IsRunning, IsWaiting}
 
 -- no two transactions of a client have one number
 pub numbers_same : (c j k : ℕ) → number c j ≡ number c k → j ≡ k
@@ -26,20 +26,20 @@ less_apart j k l e = absurd (omega (arith, l, e))
 abbrev pub nothing_ran : Execution
 nothing_ran = record { seen = nothing; now = pos 0; body = []; answers = [] }
 
-pub begins_untaken : (h : Talk) (t c : ℕ) → (heard h (Begins t c)).taken t ≡ h.taken t
+pub begins_untaken : (h : ProtocolState) (t c : ℕ) → (state_after_event h (Begins t c)).taken t ≡ h.taken t
 begins_untaken h t c = grind (arith, nat_tests)
 
 ---- the statement that waits
 
-pub committing_as : (o : Option Said) → IsCommitting o → (w : Said) × (o ≡ Some w) × (reads_commit w.text ≡ true)
+pub committing_as : (o : Option Executed) → IsCommitting o → (w : Executed) × (o ≡ Some w) × (reads_commit w.text ≡ true)
 committing_as None h = absurd h
 committing_as (Some w) h = (w, refl, h)
 
-pub waiting_as : (o : Option Said) → IsWaiting o → (w : Said) × (o ≡ Some w)
+pub waiting_as : (o : Option Executed) → IsWaiting o → (w : Executed) × (o ≡ Some w)
 waiting_as None h = absurd h
 waiting_as (Some w) h = (w, refl)
 
-pub running_as : (st : Statement) (o : Option Said) → IsRunning (Some st) o → (w : Said) × (o ≡ Some w) × Reads w.text st × IsInner w.text
+pub running_as : (st : Statement) (o : Option Executed) → IsRunning (Some st) o → (w : Executed) × (o ≡ Some w) × Reads w.text st × IsInner w.text
 running_as st None h = absurd h
 running_as st (Some w) h = (w, refl, h.0, h.1)
 

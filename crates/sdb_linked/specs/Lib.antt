@@ -1,3 +1,3 @@
-pub mod Going
-pub mod Noted
+pub mod Invariant
+pub mod ReadSets
 pub mod Progress

@@ -13,11 +13,11 @@ use Rattle.sdb_model.specs.declared.event.Point.{Point}
 use Rattle.sdb_model.specs.declared.event.TableDump.{TableDump}
 use Rattle.sdb_model.specs.declared.script.Script.{Script}
 use Rattle.sdb_model.specs.declared.statement.Statement.{Statement}
-use Rattle.sdb_model.specs.Events.{IsTrace, Shelf}
+use Rattle.sdb_model.specs.Events.{IsTrace, StoreContents}
 use Rattle.sdb_model.specs.Exec.{Tables}
 use Rattle.sdb_model.specs.Follows.{Follows}
 use Rattle.sdb_model.specs.Sql.{Reads, reads_commit}
-use Rattle.sdb_model.specs.Noted.{read_finished}
+use Rattle.sdb_model.specs.ReadSet.{read_finished}
 use Rattle.sdb_model.specs.Transactions.{IsOrder, changes_nothing, is_answered_from_rows}
 use Rattle.sdb_laws.specs.History.{at}
 use Rattle.sdb_laws.specs.Trace.{StartsEmpty}
@@ -25,13 +25,13 @@ use Rattle.sdb_phases.specs.Commit.{preparing}
 use Rattle.sdb_read.specs.Read.{Kind}
 use Rattle.sdb_snapshot.specs.Seen.{Seen, with_written}
 use Rattle.sdb_snapshot.specs.Written.{AreChanges}
-use Rattle.sdb_turns.specs.Noted.{MayNote, with_read, work_of}
+use Rattle.sdb_turns.specs.Reads.{MayRecord, with_read, work_of}
 use Rattle.sdb_turns.specs.ReadAt.{AreKinds, Done, IsOfData, ReadAt, read_pending, read_step}
-use Rattle.sdb_turns.specs.Sweep.{SweepAt, sweep_pending, sweep_step}
-use Rattle.sdb_turns.specs.System.{ClientAt, ClientCall, IsReplyTo, Open, Reading, Sweeping, SystemAt, call_event, commit_left, with_client}
+use Rattle.sdb_turns.specs.Vacuum.{VacuumModel, vacuum_call, vacuum_model_step}
+use Rattle.sdb_turns.specs.System.{ClientAt, ClientCall, IsReplyTo, Open, Reading, RunsVacuum, SystemAt, call_event, commit_left, with_client}
 use Rattle.sdb_story.specs.Body.{AnswersOn, IsCovered}
 use Rattle.sdb_story.specs.Left.{IsFitting}
-use Rattle.sdb_linked.specs.Going.{IsGoing, IsInner}
+use Rattle.sdb_linked.specs.Invariant.{RunInvariant, IsInner}
 
 -- The events so far over a catalog, the clients as they are and the statements that they run, and what ties these together.
 pub record Progress : Type 0 where
@@ -40,15 +40,15 @@ pub record Progress : Type 0 where
   pub events : List Event
   pub sys : SystemAt
   pub doing : ℕ → Option Statement
-  pub going : IsGoing catalog fit events sys doing
+  pub going : RunInvariant catalog fit events sys doing
 
 -- The events so far are tied to these clients too.
-abbrev pub GoesAs : Progress → SystemAt → (ℕ → Option Statement) → Type 0
-GoesAs p sys doing = IsGoing p.catalog p.fit p.events sys doing
+abbrev pub IsPreservedAs : Progress → SystemAt → (ℕ → Option Statement) → Type 0
+IsPreservedAs p sys doing = RunInvariant p.catalog p.fit p.events sys doing
 
--- After one more event it is so of clients in these states, where one of them runs that statement.
+-- After one more event it holds of clients in these states, where one of them runs that statement.
 abbrev pub After : Progress → ℕ → Event → SystemAt → Option Statement → Type 0
-After p c e sys st = IsGoing p.catalog p.fit (p.events ++ e ∷ []) sys (at p.doing c st)
+After p c e sys st = RunInvariant p.catalog p.fit (p.events ++ e ∷ []) sys (at p.doing c st)
 
 -- A text of a client was taken and was answered so, or waits; and then the client is in this state and runs that statement.
 abbrev pub AfterTake : Progress → ℕ → List ℕ → Option Answer → ClientAt → Option Statement → Type 0
@@ -100,7 +100,7 @@ pub record FromRows (p : Progress) (seen : Seen) (a : Access) : Type 0 where
   pub from_rows : is_answered_from_rows answer ≡ true
   pub covered : IsCovered seen a
   pub answers : AnswersOn p.catalog p.fit seen statement a answer changes
-  pub are_changes : AreChanges seen.notes changes
+  pub are_changes : AreChanges seen.read_set changes
 
 -- It is answered at once, from what was read before.
 pub record AskedRows (p : Progress) : Type 0 where
@@ -137,7 +137,7 @@ pub record DoneReply (p : Progress) : Type 0 where
   pub reply : ReadReply p
   pub images : List Record
   pub done : read_next reply ≡ Done images
-  pub may_note : MayNote reply.seen reply.asked images
+  pub may_note : MayRecord reply.seen reply.asked images
   pub answer : Answer
   pub nothing : changes_nothing answer ≡ true
   pub finishes : read_finished answer ≡ true
@@ -152,7 +152,7 @@ pub record LastReply (p : Progress) : Type 0 where
   pub reply : ReadReply p
   pub images : List Record
   pub done : read_next reply ≡ Done images
-  pub may_note : MayNote reply.seen reply.asked images
+  pub may_note : MayRecord reply.seen reply.asked images
   pub answered : FromRows p (with_read reply.seen reply.asked images) reply.asked
   pub runs : p.doing reply.call.client ≡ Some answered.statement
 
@@ -160,18 +160,18 @@ pub record LastReply (p : Progress) : Type 0 where
 abbrev pub seen_after : {p : Progress} → LastReply p → Seen
 seen_after r = with_written (with_read r.reply.seen r.reply.asked r.images) r.answered.changes
 
--- A reply to the pending call of a sweep.
-pub record SweepReply (p : Progress) : Type 0 where
+-- A reply to the pending call of a VACUUM.
+pub record VacuumReplied (p : Progress) : Type 0 where
   pub kind : Record → Kind
   pub kinds : AreKinds kind
   pub call : ClientCall
-  pub stage : SweepAt
-  pub sweeps : p.sys.clients call.client ≡ Sweeping stage
-  pub replies : IsReplyTo (sweep_pending stage) call
+  pub stage : VacuumModel
+  pub sweeps : p.sys.clients call.client ≡ RunsVacuum stage
+  pub replies : IsReplyTo (vacuum_call stage) call
 
--- where it takes the sweep to
-abbrev pub sweep_next : {p : Progress} → SweepReply p → SweepAt
-sweep_next r = sweep_step r.kind r.stage r.call.now r.call.reply
+-- where it takes the VACUUM to
+abbrev pub vacuum_next_at : {p : Progress} → VacuumReplied p → VacuumModel
+vacuum_next_at r = vacuum_model_step r.kind r.stage r.call.now r.call.reply
 
 ---- the end of the events
 
@@ -182,12 +182,12 @@ pub record Ending (script : Script) : Type 0 where
   pub events : List Event
   pub sys : SystemAt
   pub doing : ℕ → Option Statement
-  pub opening : List Shelf
-  pub closing : List Shelf
-  pub moments : List (List Shelf)
+  pub opening : List StoreContents
+  pub closing : List StoreContents
+  pub moments : List (List StoreContents)
   pub order : List Point
   pub fitting : IsFitting script.catalog fit
-  pub going : IsGoing script.catalog fit events sys doing
+  pub going : RunInvariant script.catalog fit events sys doing
   pub follows : Follows script events
   pub traced : IsTrace script.places events opening moments closing
   pub empty : StartsEmpty script.places opening

@@ -19,7 +19,7 @@ use Rattle.sdb_types.proofs.Bools.{and_first, and_both}
 use Rattle.sdb_types.proofs.KeyOrder.{by_text}
 use Rattle.sdb_record.specs.Parts.{is_column_name}
 use Rattle.sdb_record.proofs.NameLemmas.{name_of_column}
-use Rattle.sdb_schema.specs.Catalog.{rises, stands_above}
+use Rattle.sdb_schema.specs.Catalog.{rises, is_above_name}
 use Rattle.sdb_loader.specs.Words.{is_open, names_table, table_named}
 use Rattle.sdb_loader.specs.Described.{bad_name, named, table_of}
 use Rattle.sdb_types.proofs.Basics.{some_is, at_byte}
@@ -84,11 +84,11 @@ in_order_of a b t u h k l =
 pub named_is : (text : List ℕ) (d : Data) (ms : Members) (t : TableName) → table_named text ≡ Some t → named (member text d ms) ≡ (t, d) ∷ named ms
 named_is text d ms t h = rw h refl
 
-above_next : (a : List ℕ) (t : TableName) (es : List Entry) → table_named a ≡ Some t → AllByRecursion (λ y. slice_cmp nat_cmp a (string_bytes y) ≡ Less) (texts es) → bad_name (members_view es) ≡ None → stands_above t (map table_of (named (members_view es))) ≡ true
+above_next : (a : List ℕ) (t : TableName) (es : List Entry) → table_named a ≡ Some t → AllByRecursion (λ y. slice_cmp nat_cmp a (string_bytes y) ≡ Less) (texts es) → bad_name (members_view es) ≡ None → is_above_name t (map table_of (named (members_view es))) ≡ true
 above_next a t [] h l g = refl
 above_next a t (e ∷ es) h l g =
     let first = good_first (string_bytes e.0) (view e.1) (members_view es) g in
-    ap (λ ts. stands_above t (map table_of ts)) (named_is (string_bytes e.0) (view e.1) (members_view es) first.name first.is)
+    ap (λ ts. is_above_name t (map table_of ts)) (named_is (string_bytes e.0) (view e.1) (members_view es) first.name first.is)
     ∙ in_order_of a (string_bytes e.0) t first.name h first.is l.0
 
 -- the names of the tables rise as the members' do
@@ -97,4 +97,4 @@ tables_rise [] s g = refl
 tables_rise (e ∷ es) s g =
     let first = good_first (string_bytes e.0) (view e.1) (members_view es) g in
     ap (λ ts. rises (map table_of ts)) (named_is (string_bytes e.0) (view e.1) (members_view es) first.name first.is)
-    ∙ and_both (stands_above first.name (map table_of (named (members_view es)))) _ (above_next (string_bytes e.0) first.name es first.is (sorted_head string_cmp e.0 (texts es) s) first.rest) (tables_rise es (sorted_tail string_cmp e.0 (texts es) s) first.rest)
+    ∙ and_both (is_above_name first.name (map table_of (named (members_view es)))) _ (above_next (string_bytes e.0) first.name es first.is (sorted_head string_cmp e.0 (texts es) s) first.rest) (tables_rise es (sorted_tail string_cmp e.0 (texts es) s) first.rest)

@@ -8,13 +8,13 @@ use Rattle.sdb_types.specs.Order.{table_cmp}
 use Rattle.sdb_types.proofs.Bools.{and_first, and_second, and_both}
 use Rattle.sdb_types.proofs.KeyOrder.{table_total}
 use Rattle.sdb_schema.specs.declared.table.Table.{Table}
-use Rattle.sdb_schema.specs.Catalog.{has_table, with_table, stands_above, rises}
+use Rattle.sdb_schema.specs.Catalog.{has_table, with_table, is_above_name, rises}
 use Rattle.sdb_types.proofs.Basics.{less_of}
 
 lower : (t u v : TableName) → is_lt (table_cmp t u) ≡ true → is_lt (table_cmp u v) ≡ true → is_lt (table_cmp t v) ≡ true
 lower t u v h k = ap is_lt (table_total.trans t u v (less_of _ h) (less_of _ k))
 
-starts : (name : TableName) (ts : List Table) (t : Table) (rest : List Table) → stands_above name (ts ++ t ∷ rest) ≡ true → stands_above name (ts ++ t ∷ []) ≡ true
+starts : (name : TableName) (ts : List Table) (t : Table) (rest : List Table) → is_above_name name (ts ++ t ∷ rest) ≡ true → is_above_name name (ts ++ t ∷ []) ≡ true
 starts name [] t rest h = h
 starts name (u ∷ us) t rest h = h
 
@@ -22,22 +22,22 @@ starts name (u ∷ us) t rest h = h
 pub rises-front : (ts : List Table) (t : Table) (rest : List Table) → rises (ts ++ t ∷ rest) ≡ true → rises (ts ++ t ∷ []) ≡ true
 rises-front [] t rest h = refl
 rises-front (u ∷ us) t rest h =
-    and_both (stands_above u.name (us ++ t ∷ [])) _ (starts u.name us t rest (and_first (stands_above u.name (us ++ t ∷ rest)) (rises (us ++ t ∷ rest)) h)) (rises-front us t rest (and_second (stands_above u.name (us ++ t ∷ rest)) (rises (us ++ t ∷ rest)) h))
+    and_both (is_above_name u.name (us ++ t ∷ [])) _ (starts u.name us t rest (and_first (is_above_name u.name (us ++ t ∷ rest)) (rises (us ++ t ∷ rest)) h)) (rises-front us t rest (and_second (is_above_name u.name (us ++ t ∷ rest)) (rises (us ++ t ∷ rest)) h))
 
-last_above : (name : TableName) (ts : List Table) (t : Table) → rises (ts ++ t ∷ []) ≡ true → stands_above name (ts ++ t ∷ []) ≡ true → is_lt (table_cmp name t.name) ≡ true
+last_above : (name : TableName) (ts : List Table) (t : Table) → rises (ts ++ t ∷ []) ≡ true → is_above_name name (ts ++ t ∷ []) ≡ true → is_lt (table_cmp name t.name) ≡ true
 last_above name [] t r h = h
 last_above name (u ∷ us) t r h =
-    lower name u.name t.name h (last_above u.name us t (and_second (stands_above u.name (us ++ t ∷ [])) (rises (us ++ t ∷ [])) r) (and_first (stands_above u.name (us ++ t ∷ [])) (rises (us ++ t ∷ [])) r))
+    lower name u.name t.name h (last_above u.name us t (and_second (is_above_name u.name (us ++ t ∷ [])) (rises (us ++ t ∷ [])) r) (and_first (is_above_name u.name (us ++ t ∷ [])) (rises (us ++ t ∷ [])) r))
 
 below_last : (u : Table) (us : List Table) (t : Table) → rises (u ∷ (us ++ t ∷ [])) ≡ true → is_lt (table_cmp u.name t.name) ≡ true
 below_last u us t r =
-    last_above u.name us t (and_second (stands_above u.name (us ++ t ∷ [])) (rises (us ++ t ∷ [])) r) (and_first (stands_above u.name (us ++ t ∷ [])) (rises (us ++ t ∷ [])) r)
+    last_above u.name us t (and_second (is_above_name u.name (us ++ t ∷ [])) (rises (us ++ t ∷ [])) r) (and_first (is_above_name u.name (us ++ t ∷ [])) (rises (us ++ t ∷ [])) r)
 
 -- a table whose name is above all others goes to the end
 pub with_table-end : (ts : List Table) (t : Table) → rises (ts ++ t ∷ []) ≡ true → with_table t ts ≡ ts ++ t ∷ []
 with_table-end [] t r = refl
 with_table-end (u ∷ us) t r =
-    simp (below_last u us t r) (ap (λ l. u ∷ l) (with_table-end us t (and_second (stands_above u.name (us ++ t ∷ [])) (rises (us ++ t ∷ [])) r)))
+    simp (below_last u us t r) (ap (λ l. u ∷ l) (with_table-end us t (and_second (is_above_name u.name (us ++ t ∷ [])) (rises (us ++ t ∷ [])) r)))
 
 not_equal : (r : Ordering) → is_lt r ≡ true → is_eq r ≡ false
 not_equal Less h = refl
@@ -48,7 +48,7 @@ not_equal Greater h = refl
 pub has_table-end : (ts : List Table) (t : Table) → rises (ts ++ t ∷ []) ≡ true → has_table ts t.name ≡ false
 has_table-end [] t r = refl
 has_table-end (u ∷ us) t r =
-    simp (not_equal _ (below_last u us t r)) (has_table-end us t (and_second (stands_above u.name (us ++ t ∷ [])) (rises (us ++ t ∷ [])) r))
+    simp (not_equal _ (below_last u us t r)) (has_table-end us t (and_second (is_above_name u.name (us ++ t ∷ [])) (rises (us ++ t ∷ [])) r))
 
 pub not_known : (ts : List Table) (t : Table) → rises (ts ++ t ∷ []) ≡ true → has_table ts t.name ≡ true → ⊥
 not_known ts t r h = let new = has_table-end ts t r in cc

@@ -16,7 +16,7 @@ use Rattle.sdb_record.specs.Parts.{is_column_name}
 use Rattle.sdb_schema.specs.declared.table.Kind.{Kind}
 use Rattle.sdb_schema.specs.declared.table.Column.{Column}
 use Rattle.sdb_schema.specs.Table.{are_short}
-use Rattle.sdb_loader.specs.Fields.{list_of, columns, columns_among, columns_in, kind_said}
+use Rattle.sdb_loader.specs.Fields.{list_of, columns, columns_among, columns_in, kind_given}
 use Rattle.sdb_loader.specs.Described.{json_of}
 
 -- the entries of an array of values
@@ -41,8 +41,8 @@ kept_short name (Some k) rest h r = and_both (nat_le (length name) 64) (are_shor
 columns_short : (ms : Members) → are_short (columns_among ms) ≡ true
 columns_short no_members = refl
 columns_short (member k d ms) =
-    elim (is_column_name k) as (λ b. is_column_name k ≡ b → are_short (cons_option (cond b (option_map (λ (kd : Kind). record { name = k; kind = kd }) (kind_said d)) None) (columns_among ms)) ≡ true) [
-      | true ↦ λ q. kept_short k (kind_said d) (columns_among ms) (and_first (nat_le (length k) 64) (is_identifier k) q) (columns_short ms)
+    elim (is_column_name k) as (λ b. is_column_name k ≡ b → are_short (cons_option (cond b (option_map (λ (kd : Kind). record { name = k; kind = kd }) (kind_given d)) None) (columns_among ms)) ≡ true) [
+      | true ↦ λ q. kept_short k (kind_given d) (columns_among ms) (and_first (nat_le (length k) 64) (is_identifier k) q) (columns_short ms)
       | false ↦ λ q. columns_short ms
     ] refl
 

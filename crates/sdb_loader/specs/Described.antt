@@ -60,10 +60,10 @@ bad_table t = option_map (λ r. (t.0, r)) (refusal_in (checked_table (table_of t
 
 ---- the first fault
 
--- what is said of the first table of which something is said
-abbrev pub first_said : {A B : Type 0} → (A → Option B) → List A → Option B
-first_said said [] = None
-first_said said (t ∷ ts) = option_or (said t) (first_said said ts)
+-- what is given of the first table of which something is given
+abbrev pub first_given : {A B : Type 0} → (A → Option B) → List A → Option B
+first_given said [] = None
+first_given said (t ∷ ts) = option_or (said t) (first_given said ts)
 
 abbrev pub refuse : {A B : Type 0} → Option A → (A → SchemaFault) → Result B SchemaFault → Result B SchemaFault
 refuse None refusal next = next
@@ -77,10 +77,10 @@ within_limit ts = if nat_le (length ts) 64 then Ok ts else Err fault.TooManyTabl
 -- table that is refused, each of the first table that has it; more than 64 tables.
 unfoldable pub described_tables : List (TableName × Data) → Result (List Table) SchemaFault
 described_tables ts =
-    refuse (first_said untransactional ts) fault.NonTransactional
-    (refuse (first_said bad_field ts) (λ f. fault.BadField f.0 f.1)
-    (refuse (first_said unknown_type ts) (λ f. fault.UnknownType f.0 f.1)
-    (refuse (first_said bad_table ts) (λ f. fault.BadTable f.0 f.1)
+    refuse (first_given untransactional ts) fault.NonTransactional
+    (refuse (first_given bad_field ts) (λ f. fault.BadField f.0 f.1)
+    (refuse (first_given unknown_type ts) (λ f. fault.UnknownType f.0 f.1)
+    (refuse (first_given bad_table ts) (λ f. fault.BadTable f.0 f.1)
     (within_limit (map table_of ts)))))
 
 -- the same of the members of a schema, whose names are tables'

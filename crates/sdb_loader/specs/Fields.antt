@@ -31,16 +31,16 @@ transaction = codes "transaction"
 ---- what single values say
 
 -- the column that a string names
-abbrev pub name_said : Data → Option (List ℕ)
-name_said d = option_and_then column_named (as_str d)
+abbrev pub name_given : Data → Option (List ℕ)
+name_given d = option_and_then column_named (as_str d)
 
 -- the clustering column that a string is
-abbrev pub order_said : Data → Option Order
-order_said d = option_and_then order_named (as_str d)
+abbrev pub order_given : Data → Option Order
+order_given d = option_and_then order_named (as_str d)
 
 -- the kind that a string names
-abbrev pub kind_said : Data → Option Kind
-kind_said d = option_and_then kind_named (as_str d)
+abbrev pub kind_given : Data → Option Kind
+kind_given d = option_and_then kind_named (as_str d)
 
 ---- members of their form
 
@@ -64,8 +64,8 @@ abbrev pub is_flag : Data → Bool
 is_flag d = is_some (as_bool d)
 
 -- a member is of its form, where a missing one counts as given
-abbrev pub is_kept : (Data → Bool) → Bool → List ℕ → Data → Bool
-is_kept test missing key d = option_map_or test (get key d) missing
+abbrev pub is_of_form : (Data → Bool) → Bool → List ℕ → Data → Bool
+is_of_form test missing key d = option_map_or test (get key d) missing
 
 abbrev pub unless : {A : Type 0} → Bool → A → Option A → Option A
 unless true a next = next
@@ -74,11 +74,11 @@ unless false a next = Some a
 -- the first member, in the order of names, that is missing or isn't of its form
 unfoldable pub bad_member : Data → Option (List ℕ)
 bad_member d =
-    unless (is_kept (is_array_of order_said) true clustering_key d) clustering_key
-    (unless (is_kept is_column_object false columns d) columns
-    (unless (is_kept (is_array_of name_said) false partition_key d) partition_key
-    (unless (is_kept (is_array_of name_said) true secondary_index d) secondary_index
-    (unless (is_kept is_flag true transaction d) transaction None))))
+    unless (is_of_form (is_array_of order_given) true clustering_key d) clustering_key
+    (unless (is_of_form is_column_object false columns d) columns
+    (unless (is_of_form (is_array_of name_given) false partition_key d) partition_key
+    (unless (is_of_form (is_array_of name_given) true secondary_index d) secondary_index
+    (unless (is_of_form is_flag true transaction d) transaction None))))
 
 -- `transaction` is there, and false
 abbrev pub is_untransactional : Data → Bool
@@ -96,25 +96,25 @@ entries_at key d = option_map_or list_of (option_and_then as_array (get key d)) 
 
 -- the columns that an array lists
 abbrev pub names_at : List ℕ → Data → List (List ℕ)
-names_at key d = filter_map name_said (entries_at key d)
+names_at key d = filter_map name_given (entries_at key d)
 
 -- the clustering columns that an array lists
 abbrev pub orders_at : List ℕ → Data → List Order
-orders_at key d = filter_map order_said (entries_at key d)
+orders_at key d = filter_map order_given (entries_at key d)
 
-abbrev pub column_said : List ℕ → Data → Option Column
-column_said name d = if is_column_name name then option_map (λ k. record { name = name; kind = k }) (kind_said d) else None
+abbrev pub column_given : List ℕ → Data → Option Column
+column_given name d = if is_column_name name then option_map (λ k. record { name = name; kind = k }) (kind_given d) else None
 
 abbrev pub columns_among : Members → List Column
 columns_among no_members = []
-columns_among (member k d ms) = cons_option (column_said k d) (columns_among ms)
+columns_among (member k d ms) = cons_option (column_given k d) (columns_among ms)
 
 -- the columns with their kinds
 abbrev pub columns_in : Data → List Column
 columns_in d = option_map_or columns_among (option_and_then as_object (get columns d)) []
 
 abbrev pub is_unknown : List ℕ → Data → Bool
-is_unknown name d = is_column_name name && is_none (kind_said d)
+is_unknown name d = is_column_name name && is_none (kind_given d)
 
 abbrev pub unknown_among : Members → Option (List ℕ)
 unknown_among no_members = None

@@ -1,5 +1,5 @@
 pub mod Words
 pub mod Fields
 pub mod Described
-pub mod Shown
+pub mod NamedData
 pub mod Directed

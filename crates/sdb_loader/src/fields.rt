@@ -4,14 +4,14 @@ ghost use Rattle.std.specs.Option.{option_map, option_and_then};
 ghost use Rattle.sdb_record.specs.Parts.{is_column_name};
 ghost use Rattle.serde_json.specs.Find.{get, as_object, as_array};
 ghost use Rattle.serde_json.specs.View.{view, members_view, items_view};
-ghost use Rattle.sdb_loader.specs.Fields.{name_said, order_said, kind_said as kind_said_lem, is_unknown as is_unknown_lem, each_item, is_array_of, each_named as each_named_lem, is_column_object as is_column_object_lem, is_flag as is_flag_lem, is_kept, bad_member as bad_member_lem, is_untransactional as is_untransactional_lem, unknown_among as unknown_among_lem, unknown_column as unknown_column_lem, columns, transaction};
+ghost use Rattle.sdb_loader.specs.Fields.{name_given, order_given, kind_given as kind_given_lem, is_unknown as is_unknown_lem, each_item, is_array_of, each_named as each_named_lem, is_column_object as is_column_object_lem, is_flag as is_flag_lem, is_of_form, bad_member as bad_member_lem, is_untransactional as is_untransactional_lem, unknown_among as unknown_among_lem, unknown_column as unknown_column_lem, columns, transaction};
 
 use crate::words::{is_order, is_short_name, kind_named};
 use sdb_schema::Kind;
 use serde_json::{Map, Value};
 
 fn says_name(value: &Value) -> bool
-    ensures { result ≡ is_some (name_said (view value.now)) }
+    ensures { result ≡ is_some (name_given (view value.now)) }
 {
     match value.as_str() {
         Some(text) => is_short_name(text),
@@ -20,7 +20,7 @@ fn says_name(value: &Value) -> bool
 }
 
 fn says_order(value: &Value) -> bool
-    ensures { result ≡ is_some (order_said (view value.now)) }
+    ensures { result ≡ is_some (order_given (view value.now)) }
 {
     match value.as_str() {
         Some(text) => is_order(text),
@@ -29,8 +29,8 @@ fn says_order(value: &Value) -> bool
 }
 
 /// The kind that a string names.
-pub fn kind_said(value: &Value) -> Option<Kind>
-    ensures { result ≡ kind_said_lem (view value.now) }
+pub fn kind_given(value: &Value) -> Option<Kind>
+    ensures { result ≡ kind_given_lem (view value.now) }
 {
     match value.as_str() {
         Some(text) => kind_named(text),
@@ -39,7 +39,7 @@ pub fn kind_said(value: &Value) -> Option<Kind>
 }
 
 fn all_say_names(items: &[Value]) -> bool
-    ensures { result ≡ each_item (λ e. is_some (name_said e)) (items_view items.now) }
+    ensures { result ≡ each_item (λ e. is_some (name_given e)) (items_view items.now) }
 {
     for item in items {
         if !says_name(item) {
@@ -50,7 +50,7 @@ fn all_say_names(items: &[Value]) -> bool
 }
 
 fn all_say_orders(items: &[Value]) -> bool
-    ensures { result ≡ each_item (λ e. is_some (order_said e)) (items_view items.now) }
+    ensures { result ≡ each_item (λ e. is_some (order_given e)) (items_view items.now) }
 {
     for item in items {
         if !says_order(item) {
@@ -62,7 +62,7 @@ fn all_say_orders(items: &[Value]) -> bool
 
 // An array of names of columns.
 fn is_name_array(value: &Value) -> bool
-    ensures { result ≡ is_array_of name_said (view value.now) }
+    ensures { result ≡ is_array_of name_given (view value.now) }
 {
     match value.as_array() {
         Some(items) => all_say_names(items.as_slice()),
@@ -72,7 +72,7 @@ fn is_name_array(value: &Value) -> bool
 
 // An array of clustering columns.
 fn is_order_array(value: &Value) -> bool
-    ensures { result ≡ is_array_of order_said (view value.now) }
+    ensures { result ≡ is_array_of order_given (view value.now) }
 {
     match value.as_array() {
         Some(items) => all_say_orders(items.as_slice()),
@@ -101,7 +101,7 @@ fn is_column_object(value: &Value) -> bool
 }
 
 fn has_order_array(value: &Value, member: &str) -> bool
-    ensures { result ≡ is_kept (is_array_of order_said) true member.now (view value.now) }
+    ensures { result ≡ is_of_form (is_array_of order_given) true member.now (view value.now) }
 {
     match value.get(member) {
         Some(orders) => is_order_array(orders),
@@ -111,7 +111,7 @@ fn has_order_array(value: &Value, member: &str) -> bool
 
 // A member that is an array of names of columns, where a missing one counts as given.
 fn has_name_array(value: &Value, member: &str, missing: bool) -> bool
-    ensures { result ≡ is_kept (is_array_of name_said) missing member.now (view value.now) }
+    ensures { result ≡ is_of_form (is_array_of name_given) missing member.now (view value.now) }
 {
     match value.get(member) {
         Some(names) => is_name_array(names),
@@ -120,7 +120,7 @@ fn has_name_array(value: &Value, member: &str, missing: bool) -> bool
 }
 
 fn has_columns(value: &Value) -> bool
-    ensures { result ≡ is_kept is_column_object_lem false columns (view value.now) }
+    ensures { result ≡ is_of_form is_column_object_lem false columns (view value.now) }
 {
     match value.get("columns") {
         Some(columns) => is_column_object(columns),
@@ -129,7 +129,7 @@ fn has_columns(value: &Value) -> bool
 }
 
 fn has_flag(value: &Value) -> bool
-    ensures { result ≡ is_kept is_flag_lem true transaction (view value.now) }
+    ensures { result ≡ is_of_form is_flag_lem true transaction (view value.now) }
 {
     match value.get("transaction") {
         Some(flag) => flag.as_bool().is_some(),
@@ -173,7 +173,7 @@ pub fn is_untransactional(value: &Value) -> bool
 fn is_unknown(name: &str, kind: &Value) -> bool
     ensures { result ≡ is_unknown_lem name.now (view kind.now) }
 {
-    is_short_name(name) && kind_said(kind).is_none()
+    is_short_name(name) && kind_given(kind).is_none()
 }
 
 fn unknown_among(members: &Map<String, Value>) -> Option<&str>

@@ -4,9 +4,9 @@ ghost use Rattle.std.specs.List.{filter_map};
 ghost use Rattle.std.specs.Option.{option_map, option_and_then};
 ghost use Rattle.serde_json.specs.Find.{get, as_array};
 ghost use Rattle.serde_json.specs.View.{view, members_view, items_view};
-ghost use Rattle.sdb_loader.specs.Fields.{name_said as name_said_lem, order_said as order_said_lem, column_said as column_said_lem, entries_at as entries_at_lem, names_at as names_at_lem, orders_at as orders_at_lem, columns_among as columns_among_lem, columns_in as columns_in_lem};
+ghost use Rattle.sdb_loader.specs.Fields.{name_given as name_given_lem, order_given as order_given_lem, column_given as column_given_lem, entries_at as entries_at_lem, names_at as names_at_lem, orders_at as orders_at_lem, columns_among as columns_among_lem, columns_in as columns_in_lem};
 
-use crate::fields::{columns_of, kind_said};
+use crate::fields::{columns_of, kind_given};
 use crate::words::{column_named, order_named};
 use sdb_schema::{Column, ColumnList, Order, Orders};
 use sdb_types::{Name, Names, NoMemory, Seq};
@@ -15,7 +15,7 @@ use std::alloc::Global;
 
 // The column that a string names.
 fn name_said(alloc: Global, value: &Value) -> Result<Option<Name>, NoMemory>
-    ensures { IfOk result (λ name. name ≡ name_said_lem (view value.now)) }
+    ensures { IfOk result (λ name. name ≡ name_given_lem (view value.now)) }
 {
     match value.as_str() {
         Some(text) => column_named(alloc, text),
@@ -25,7 +25,7 @@ fn name_said(alloc: Global, value: &Value) -> Result<Option<Name>, NoMemory>
 
 // The clustering column that a string is.
 fn order_said(alloc: Global, value: &Value) -> Result<Option<Order>, NoMemory>
-    ensures { IfOk result (λ order. order ≡ order_said_lem (view value.now)) }
+    ensures { IfOk result (λ order. order ≡ order_given_lem (view value.now)) }
 {
     match value.as_str() {
         Some(text) => order_named(alloc, text),
@@ -53,7 +53,7 @@ fn entries_at<'a>(value: &'a Value, member: &str) -> &'a [Value]
 }
 
 fn names_among(alloc: Global, items: &[Value]) -> Result<Names, NoMemory>
-    ensures { IfOk result (λ names. names ≡ filter_map name_said_lem (map view items.now)) }
+    ensures { IfOk result (λ names. names ≡ filter_map name_given_lem (map view items.now)) }
 {
     let mut names = Seq::new(alloc);
     for item in items {
@@ -65,7 +65,7 @@ fn names_among(alloc: Global, items: &[Value]) -> Result<Names, NoMemory>
 }
 
 fn orders_among(alloc: Global, items: &[Value]) -> Result<Orders, NoMemory>
-    ensures { IfOk result (λ orders. orders ≡ filter_map order_said_lem (map view items.now)) }
+    ensures { IfOk result (λ orders. orders ≡ filter_map order_given_lem (map view items.now)) }
 {
     let mut orders = Seq::new(alloc);
     for item in items {
@@ -92,10 +92,10 @@ pub fn orders_at(alloc: Global, value: &Value, member: &str) -> Result<Orders, N
 
 // The column of a member that has a column's name and a kind.
 fn column_said(alloc: Global, name: &str, value: &Value) -> Result<Option<Column>, NoMemory>
-    ensures { IfOk result (λ column. column ≡ column_said_lem name.now (view value.now)) }
+    ensures { IfOk result (λ column. column ≡ column_given_lem name.now (view value.now)) }
 {
     match column_named(alloc, name)? {
-        Some(name) => Ok(kind_said(value).map(|kind| Column { name, kind })),
+        Some(name) => Ok(kind_given(value).map(|kind| Column { name, kind })),
         None => Ok(None),
     }
 }

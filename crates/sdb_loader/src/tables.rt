@@ -6,8 +6,8 @@ ghost use Rattle.std.specs.List.{list_all};
 ghost use Rattle.serde_json.specs.View.{view, members_view};
 ghost use Rattle.sdb_record.specs.Parts.{is_column_name};
 ghost use Rattle.sdb_schema.specs.Table.{checked_table, is_table, Refuses};
-ghost use Rattle.sdb_loader.specs.Described.{Faults, bad_name, named, table_of, untransactional, bad_field, unknown_type, bad_table, first_said, described_members, described_tables, within_limit};
-ghost use Rattle.sdb_loader.specs.Shown.{shown, IsRefusedAs};
+ghost use Rattle.sdb_loader.specs.Described.{Faults, bad_name, named, table_of, untransactional, bad_field, unknown_type, bad_table, first_given, described_members, described_tables, within_limit};
+ghost use Rattle.sdb_loader.specs.NamedData.{named_data, IsRefusedAs};
 
 use crate::fault::SchemaFault;
 use crate::fields::{bad_member, is_untransactional, unknown_column};
@@ -31,7 +31,7 @@ pub fn named_tables(
     alloc: Global,
     members: &Map<String, Value>,
 ) -> Result<Seq<Named<'_>>, SchemaFault>
-    ensures named { IfOk result (λ ts. map shown ts ≡ named (members_view members.now.entries)) }
+    ensures named { IfOk result (λ ts. map named_data ts ≡ named (members_view members.now.entries)) }
     ensures good { OnOk result (bad_name (members_view members.now.entries) ≡ None) }
     ensures ordered { OnOk result (IsOrdered string_cmp members.now) }
     ensures fault { IfErr result (Faults (described_members (members_view members.now.entries))) }
@@ -47,7 +47,7 @@ pub fn named_tables(
 }
 
 fn find_untransactional<'a>(tables: &'a [Named<'_>]) -> Option<&'a TableName>
-    ensures { option_copied result ≡ first_said untransactional (map shown tables.now) }
+    ensures { option_copied result ≡ first_given untransactional (map named_data tables.now) }
 {
     for table in tables {
         if is_untransactional(table.value) {
@@ -58,7 +58,7 @@ fn find_untransactional<'a>(tables: &'a [Named<'_>]) -> Option<&'a TableName>
 }
 
 fn find_bad_field<'a>(tables: &'a [Named<'_>]) -> Option<(&'a TableName, &'static str)>
-    ensures { option_map (λ f. (f.0.now, f.1.now)) result ≡ first_said bad_field (map shown tables.now) }
+    ensures { option_map (λ f. (f.0.now, f.1.now)) result ≡ first_given bad_field (map named_data tables.now) }
 {
     for table in tables {
         if let Some(member) = bad_member(table.value) {
@@ -69,7 +69,7 @@ fn find_bad_field<'a>(tables: &'a [Named<'_>]) -> Option<(&'a TableName, &'stati
 }
 
 fn find_unknown_type<'a>(tables: &'a [Named<'_>]) -> Option<(&'a TableName, &'a str)>
-    ensures column { option_map (λ f. (f.0.now, f.1.now)) result ≡ first_said unknown_type (map shown tables.now) }
+    ensures column { option_map (λ f. (f.0.now, f.1.now)) result ≡ first_given unknown_type (map named_data tables.now) }
     ensures named { IfSome result (λ f. is_column_name f.1.now ≡ true) }
 {
     for table in tables {
@@ -82,9 +82,9 @@ fn find_unknown_type<'a>(tables: &'a [Named<'_>]) -> Option<(&'a TableName, &'a 
 
 // The table that a value describes.
 fn made(alloc: Global, table: &Named<'_>) -> Result<Table, TableRefused>
-    ensures ok { IfOk result (λ t. t ≡ table_of (shown table.now)) }
+    ensures ok { IfOk result (λ t. t ≡ table_of (named_data table.now)) }
     ensures table { IfOk result (λ t. is_table t ≡ true) }
-    ensures refused { IfErr result (Refuses (checked_table (table_of (shown table.now)))) }
+    ensures refused { IfErr result (Refuses (checked_table (table_of (named_data table.now)))) }
 {
     let name = table.name.copy()?;
     let columns = columns_in(alloc, table.value)?;
@@ -96,10 +96,10 @@ fn made(alloc: Global, table: &Named<'_>) -> Result<Table, TableRefused>
 
 // The same, with its refusal as a fault of the schema.
 fn table_made(alloc: Global, table: &Named<'_>) -> Result<Table, SchemaFault>
-    ensures ok { IfOk result (λ t. t ≡ table_of (shown table.now)) }
+    ensures ok { IfOk result (λ t. t ≡ table_of (named_data table.now)) }
     ensures table { IfOk result (λ t. is_table t ≡ true) }
-    ensures good { OnOk result (bad_table (shown table.now) ≡ None) }
-    ensures refused { IfErr result (IsRefusedAs (bad_table (shown table.now))) }
+    ensures good { OnOk result (bad_table (named_data table.now) ≡ None) }
+    ensures refused { IfErr result (IsRefusedAs (bad_table (named_data table.now))) }
 {
     match made(alloc, table) {
         Ok(made) => Ok(made),
@@ -109,10 +109,10 @@ fn table_made(alloc: Global, table: &Named<'_>) -> Result<Table, SchemaFault>
 }
 
 fn all_made(alloc: Global, tables: &[Named<'_>]) -> Result<Seq<Table>, SchemaFault>
-    ensures made { IfOk result (λ ts. ts ≡ map table_of (map shown tables.now)) }
+    ensures made { IfOk result (λ ts. ts ≡ map table_of (map named_data tables.now)) }
     ensures tables { IfOk result (λ ts. list_all is_table ts ≡ true) }
-    ensures good { OnOk result (first_said bad_table (map shown tables.now) ≡ None) }
-    ensures refused { IfErr result (IsRefusedAs (first_said bad_table (map shown tables.now))) }
+    ensures good { OnOk result (first_given bad_table (map named_data tables.now) ≡ None) }
+    ensures refused { IfErr result (IsRefusedAs (first_given bad_table (map named_data tables.now))) }
 {
     let mut made = Seq::new(alloc);
     for table in tables {
@@ -124,10 +124,10 @@ fn all_made(alloc: Global, tables: &[Named<'_>]) -> Result<Seq<Table>, SchemaFau
 // The fault of the first table that is refused before tables are made of the values.
 #[tactic(auto, unfolding(crate::specs::Described::described_tables))]
 fn fault_before(alloc: Global, tables: &[Named<'_>]) -> Result<(), SchemaFault>
-    ensures transactional { OnOk result (first_said untransactional (map shown tables.now) ≡ None) }
-    ensures fields { OnOk result (first_said bad_field (map shown tables.now) ≡ None) }
-    ensures types { OnOk result (first_said unknown_type (map shown tables.now) ≡ None) }
-    ensures fault { IfErr result (Faults (described_tables (map shown tables.now))) }
+    ensures transactional { OnOk result (first_given untransactional (map named_data tables.now) ≡ None) }
+    ensures fields { OnOk result (first_given bad_field (map named_data tables.now) ≡ None) }
+    ensures types { OnOk result (first_given unknown_type (map named_data tables.now) ≡ None) }
+    ensures fault { IfErr result (Faults (described_tables (map named_data tables.now))) }
 {
     if let Some(name) = find_untransactional(tables) {
         return Err(SchemaFault::NonTransactional(name.copy()?));
@@ -144,10 +144,10 @@ fn fault_before(alloc: Global, tables: &[Named<'_>]) -> Result<(), SchemaFault>
 /// The tables that the values describe, or the first fault.
 #[tactic(auto, unfolding(crate::specs::Described::described_tables))]
 pub fn tables_of(alloc: Global, tables: &[Named<'_>]) -> Result<Seq<Table>, SchemaFault>
-    ensures made { IfOk result (λ ts. ts ≡ map table_of (map shown tables.now)) }
+    ensures made { IfOk result (λ ts. ts ≡ map table_of (map named_data tables.now)) }
     ensures tables { IfOk result (λ ts. list_all is_table ts ≡ true) }
-    ensures good { IfOk result (λ ts. described_tables (map shown tables.now) ≡ within_limit ts) }
-    ensures fault { IfErr result (Faults (described_tables (map shown tables.now))) }
+    ensures good { IfOk result (λ ts. described_tables (map named_data tables.now) ≡ within_limit ts) }
+    ensures fault { IfErr result (Faults (described_tables (map named_data tables.now))) }
 {
     fault_before(alloc, tables)?;
     all_made(alloc, tables)

@@ -2,11 +2,11 @@
 use Rattle.sdb_model.specs.declared.event.Event.{Event}
 use Rattle.sdb_model.specs.declared.event.Point.{Point}
 use Rattle.sdb_stores.specs.declared.place.Place.{Place}
-use Rattle.sdb_model.specs.Events.{Shelf}
-use Rattle.sdb_model.specs.Told.{CommittedIsOwned, KeepsRealTime, TransactionsInRealTime}
+use Rattle.sdb_model.specs.Events.{StoreContents}
+use Rattle.sdb_model.specs.Serial.{CommittedIsOwned, RespectsRealTime, TransactionsInRealTime}
 use Rattle.std.specs.Prelude.{List}
 
-pub statements_in_time : (places : List Place) (events : List Event) (closing : List Shelf) (order : List Point) → CommittedIsOwned places events closing → TransactionsInRealTime places events closing order → KeepsRealTime places events closing order
+pub statements_in_time : (places : List Place) (events : List Event) (closing : List StoreContents) (order : List Point) → CommittedIsOwned places events closing → TransactionsInRealTime places events closing order → RespectsRealTime places events closing order
 statements_in_time places events closing order owned k client s among told late small recorded m n at began behind =
     let o = owned client s among told in
     (o.id, o.commit, k o.id late o.fits small s o.commit told recorded m n at began behind)

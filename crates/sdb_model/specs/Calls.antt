@@ -22,40 +22,40 @@ use Rattle.sdb_model.specs.declared.event.Event.TheVariants as event
 use Rattle.sdb_model.specs.declared.event.How.{How}
 use Rattle.sdb_model.specs.Requests.{keys_asked, only_of, records_put, shown_by}
 use Rattle.sdb_model.specs.Rows.{Name}
-use Rattle.sdb_model.specs.Transactions.{Said, numbered}
+use Rattle.sdb_model.specs.Transactions.{Executed, numbered}
 use Rattle.sdb_record.specs.Parts.{are_stored}
 
 ---- calls
 
 -- A call that a client made, with the number of its event.
-pub record Made : Type 0 where
+pub record StoreCall : Type 0 where
   pub at : ℕ
   pub store : Name
   pub request : Request
   pub how : How
   pub reply : Reply
 
-abbrev pub made_by : ℕ → ℕ × Event → Option Made
+abbrev pub made_by : ℕ → ℕ × Event → Option StoreCall
 made_by client (n, event.Call c store q how r answer) = if c == client then Some (record { at = n; store = store; request = q; how = how; reply = r }) else None
 made_by client (n, e) = None
 
 -- the calls of a client, in order
-abbrev pub calls_by : List Event → ℕ → List Made
+abbrev pub calls_by : List Event → ℕ → List StoreCall
 calls_by events client = filter_map (made_by client) (numbered events)
 
 -- the number of the event that answered a statement, or of the last event where none did
-abbrev pub end_of : List Event → Said → ℕ
+abbrev pub end_of : List Event → Executed → ℕ
 end_of events s = if is_some s.answer then s.reached else length events
 
 -- A statement's calls: its client's after its Take, up to its answer, or to the end where it has none.
-abbrev pub calls_of : List Event → ℕ → Said → List Made
+abbrev pub calls_of : List Event → ℕ → Executed → List StoreCall
 calls_of events client s = filter (λ m. nat_lt s.taken m.at && nat_le m.at (end_of events s)) (calls_by events client)
 
 -- the calls after one of them, or before it
-abbrev pub calls_after : ℕ → List Made → List Made
+abbrev pub calls_after : ℕ → List StoreCall → List StoreCall
 calls_after n calls = filter (λ m. nat_lt n m.at) calls
 
-abbrev pub calls_before : ℕ → List Made → List Made
+abbrev pub calls_before : ℕ → List StoreCall → List StoreCall
 calls_before n calls = filter (λ m. nat_lt m.at n) calls
 
 ---- the clock
@@ -103,34 +103,34 @@ records_read (reply.Rows rows) = rows
 records_read r = []
 
 -- all records that a reply shows
-abbrev pub records_shown : Reply → List Record
-records_shown (reply.NotMet (Some r)) = r ∷ []
-records_shown r = records_read r
+abbrev pub records_observed : Reply → List Record
+records_observed (reply.NotMet (Some r)) = r ∷ []
+records_observed r = records_read r
 
 -- what a reply says is at the one key that its request names
-abbrev pub standing_said : Request → Reply → Option (Option Record)
-standing_said q r = option_map (λ s. s.1) (only_of (shown_by q r))
+abbrev pub record_at_key : Request → Reply → Option (Option Record)
+record_at_key q r = option_map (λ s. s.1) (only_of (shown_by q r))
 
 -- the row that a reply says is at that key, or that was put there
-abbrev pub row_said : Request → Reply → Option Record
-row_said q r = if is_applied r then put_by q else option_and_then (λ found. found) (standing_said q r)
+abbrev pub row_observed : Request → Reply → Option Record
+row_observed q r = if is_applied r then put_by q else option_and_then (λ found. found) (record_at_key q r)
 
 -- the decision that a call on a transaction's row showed: that of the row found, or of the row that was put
-abbrev pub decision_said : Request → Reply → Option Decided
-decision_said q r = option_and_then (λ row. result_ok (decision_in row)) (row_said q r)
+abbrev pub decision_in_reply : Request → Reply → Option Decided
+decision_in_reply q r = option_and_then (λ row. result_ok (decision_in row)) (row_observed q r)
 
-abbrev pub decision_shown : TxId → Made → Option Decided
-decision_shown id m = if is_of_row id m.request then decision_said m.request m.reply else None
+abbrev pub decision_observed : TxId → StoreCall → Option Decided
+decision_observed id m = if is_of_row id m.request then decision_in_reply m.request m.reply else None
 
 -- the decision in the row that a call found, and did not put
-abbrev pub decision_found : TxId → Made → Option Decided
-decision_found id m = if is_of_row id m.request then option_and_then (λ found. option_and_then (λ row. result_ok (decision_in row)) found) (standing_said m.request m.reply) else None
+abbrev pub decision_found : TxId → StoreCall → Option Decided
+decision_found id m = if is_of_row id m.request then option_and_then (λ found. option_and_then (λ row. result_ok (decision_in row)) found) (record_at_key m.request m.reply) else None
 
 -- the decision on a transaction that calls showed first
-abbrev pub decision_learned : List Made → TxId → Option Decided
+abbrev pub decision_learned : List StoreCall → TxId → Option Decided
 decision_learned [] id = None
-decision_learned (m ∷ ms) id = if is_some (decision_shown id m) then decision_shown id m else decision_learned ms id
+decision_learned (m ∷ ms) id = if is_some (decision_observed id m) then decision_observed id m else decision_learned ms id
 
 -- each record that a reply shows has its columns as a record holds them: in order, each with a name
-abbrev pub shows_stored : Reply → Bool
-shows_stored r = list_all (λ x. are_stored x.columns) (records_shown r)
+abbrev pub is_stored_reply : Reply → Bool
+is_stored_reply r = list_all (λ x. are_stored x.columns) (records_observed r)

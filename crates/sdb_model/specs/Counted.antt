@@ -28,9 +28,9 @@ use Rattle.sdb_model.specs.declared.event.Event.TheVariants as event
 use Rattle.sdb_model.specs.declared.event.How.{How}
 use Rattle.sdb_model.specs.declared.event.How.TheVariants.{Seen, Lost, Discarded, Broken}
 use Rattle.sdb_model.specs.Sql.{reads_commit, reads_vacuum}
-use Rattle.sdb_model.specs.Transactions.{Said, said, client_of, commit_of, prepares}
-use Rattle.sdb_model.specs.Calls.{Made, calls_of, calls_after, decision_shown, is_removal, key_asked, records_read}
-use Rattle.sdb_model.specs.Noted.{Note, Got, Scanned, noted_in, read_finished, reads_rows}
+use Rattle.sdb_model.specs.Transactions.{Executed, statements_by, client_of, commit_of, prepares}
+use Rattle.sdb_model.specs.Calls.{StoreCall, calls_of, calls_after, decision_observed, is_removal, key_asked, records_read}
+use Rattle.sdb_model.specs.ReadSet.{ReadItem, KeyRead, SpanRead, read_set_of, read_finished, reads_rows}
 use Rattle.sdb_model.specs.Causes.{IsEarly}
 use Rattle.sdb_types.specs.Replies.{is_answered}
 
@@ -43,53 +43,53 @@ is_seen Discarded = false
 is_seen Broken = false
 
 -- its prepares
-abbrev pub prepares_in : TxId → List Made → List Made
+abbrev pub prepares_in : TxId → List StoreCall → List StoreCall
 prepares_in id calls = filter (λ m. prepares id m.request) calls
 
-abbrev pub is_key_of : Key → Made → Bool
+abbrev pub is_key_of : Key → StoreCall → Bool
 is_key_of key m = option_map_or (λ k. is_eq (key_cmp k key)) (key_asked m.request) false
 
--- a noted get of a key that isn't prepared
-abbrev pub is_checked_get : List Made → Note → Bool
-is_checked_get prepared (Got read) = not (list_any (is_key_of read.key) prepared)
-is_checked_get prepared (Scanned scan) = false
+-- a get of the read set of a key that isn't prepared
+abbrev pub is_checked_get : List StoreCall → ReadItem → Bool
+is_checked_get prepared (KeyRead read) = not (list_any (is_key_of read.key) prepared)
+is_checked_get prepared (SpanRead scan) = false
 
-abbrev pub is_scan : Note → Bool
-is_scan (Got read) = false
-is_scan (Scanned scan) = true
+abbrev pub is_scan : ReadItem → Bool
+is_scan (KeyRead read) = false
+is_scan (SpanRead scan) = true
 
--- Two for each key that was prepared, one for each noted get of another key, and one for each noted scan.
-abbrev pub calls_wanted : List Event → TxId → List Made → ℕ
-calls_wanted events id calls = 2 * length (prepares_in id calls) + (count_by (is_checked_get (prepares_in id calls)) (noted_in events id) + count_by is_scan (noted_in events id))
+-- Two for each key that was prepared, one for each get of the read set of another key, and one for each scan of the read set.
+abbrev pub calls_wanted : List Event → TxId → List StoreCall → ℕ
+calls_wanted events id calls = 2 * length (prepares_in id calls) + (count_by (is_checked_get (prepares_in id calls)) (read_set_of events id) + count_by is_scan (read_set_of events id))
 
 -- A COMMIT that was answered Committed, all of whose replies were seen, made one call more than that; any other made at most four
 -- more.
-pub record IsCommitCounted (events : List Event) (id : TxId) (s : Said) (calls : List Made) : Type 0 where
+pub record IsCommitCounted (events : List Event) (id : TxId) (s : Executed) (calls : List StoreCall) : Type 0 where
   pub exact : s.answer ≡ Some answer.Committed → All (λ m. is_seen m.how ≡ true) calls → length calls ≡ calls_wanted events id calls + 1
   pub most : length calls ≤ calls_wanted events id calls + 4
 
 ---- the calls of other statements
 
-abbrev pub unresolved_in : List Made → List Record
+abbrev pub unresolved_in : List StoreCall → List Record
 unresolved_in calls = filter is_unresolved (flat_map (λ m. records_read m.reply) (filter reads_rows calls))
 
 -- A statement makes one read at most, and four calls more for each unresolved record that it found.
-abbrev pub IsReadCounted : List Made → Type 0
+abbrev pub IsReadCounted : List StoreCall → Type 0
 IsReadCounted calls = length calls ≤ 1 + 4 * length (unresolved_in calls)
 
-abbrev pub removals_in : List Made → ℕ
+abbrev pub removals_in : List StoreCall → ℕ
 removals_in calls = count_by (λ m. is_removal m.request) calls
 
 -- VACUUM makes one scan at most for each table of the catalog, one delete for each tombstone, and five calls at most for each unresolved
 -- record.
-abbrev pub IsVacuumCounted : List Table → List Made → Type 0
+abbrev pub IsVacuumCounted : List Table → List StoreCall → Type 0
 IsVacuumCounted catalog calls = length calls ≤ length catalog + (removals_in calls + 5 * length (unresolved_in calls))
 
 -- The calls of all statements are counted.
 pub record AreCounted (catalog : List Table) (events : List Event) : Type 0 where
-  pub commits : (id : TxId) (s : Said) → commit_of events id ≡ Some s → IsCommitCounted events id s (calls_of events (client_of id) s)
-  pub reads : (client : ℕ) (s : Said) → Contains (said client events) s → reads_commit s.text ≡ false → reads_vacuum s.text ≡ false → IsReadCounted (calls_of events client s)
-  pub vacuums : (client : ℕ) (s : Said) → Contains (said client events) s → reads_vacuum s.text ≡ true → IsVacuumCounted catalog (calls_of events client s)
+  pub commits : (id : TxId) (s : Executed) → commit_of events id ≡ Some s → IsCommitCounted events id s (calls_of events (client_of id) s)
+  pub reads : (client : ℕ) (s : Executed) → Contains (statements_by client events) s → reads_commit s.text ≡ false → reads_vacuum s.text ≡ false → IsReadCounted (calls_of events client s)
+  pub vacuums : (client : ℕ) (s : Executed) → Contains (statements_by client events) s → reads_vacuum s.text ≡ true → IsVacuumCounted catalog (calls_of events client s)
 
 ---- rolls
 
@@ -108,24 +108,24 @@ roll_by r found d = if is_committed d.decision then ask.PutIf (forward_record r 
 
 -- A read that was answered from an unresolved record had it rolled: a call showed the decision on its transaction, and a later one
 -- put what that decision makes of the record, on condition of what was found, and was seen and answered.
-pub record IsResolved (calls : List Made) (read : Made) (r : Record) : Type 0 where
+pub record IsResolved (calls : List StoreCall) (read : StoreCall) (r : Record) : Type 0 where
   pub id : TxId
   pub state : State
   pub decided : Decided
-  pub look : Made
-  pub roll : Made
+  pub look : StoreCall
+  pub roll : StoreCall
   pub writer : (id_in r.columns ≡ Some id) × (state_in r.columns ≡ Some state)
-  pub looks : Contains (calls_after read.at calls) look × (decision_shown id look ≡ Some decided)
+  pub looks : Contains (calls_after read.at calls) look × (decision_observed id look ≡ Some decided)
   pub rolls : Contains (calls_after look.at calls) roll × (roll.request ≡ roll_by r (condition.Version id state) decided)
   pub answered : (roll.how ≡ Seen) × (is_answered roll.reply ≡ true)
 
 -- VACUUM passes over a record that may not be given up yet.
-abbrev pub IsPassedOver : List Event → Said → List Made → Made → Record → Type 0
+abbrev pub IsPassedOver : List Event → Executed → List StoreCall → StoreCall → Record → Type 0
 IsPassedOver events s calls read r = (id : TxId) × (at : ℤ) × (reads_vacuum s.text ≡ true) × IsEarly events calls read r id at
 
 -- Whoever has finished a read had each unresolved record that was found rolled first.
 abbrev pub AreResolved : List Event → Type 0
-AreResolved events = (client : ℕ) (s : Said) (a : Answer) (m : Made) (r : Record) → Contains (said client events) s → s.answer ≡ Some a → read_finished a ≡ true
+AreResolved events = (client : ℕ) (s : Executed) (a : Answer) (m : StoreCall) (r : Record) → Contains (statements_by client events) s → s.answer ≡ Some a → read_finished a ≡ true
     → Contains (calls_of events client s) m → reads_rows m ≡ true → Contains (records_read m.reply) r → is_unresolved r ≡ true → IsResolved (calls_of events client s) m r ⊎ IsPassedOver events s (calls_of events client s) m r
 
 ---- stores that fail

@@ -22,29 +22,29 @@ abbrev pub catalog_at : List Table → List Event → ℕ → List Table
 catalog_at catalog events n = catalog
 
 -- What one attached store holds, under the store's name.
-pub record Shelf : Type 0 where
+pub record StoreContents : Type 0 where
   pub name : Name
   pub contents : Contents
 
 -- what the store of a name holds
-abbrev pub held_by : List Shelf → Name → Option Contents
-held_by shelves name = option_map (λ s. s.contents) (find (λ s. same_name s.name name) shelves)
+abbrev pub contents_under : List StoreContents → Name → Option Contents
+contents_under shelves name = option_map (λ s. s.contents) (find (λ s. same_name s.name name) shelves)
 
 -- with other contents in the store of a name, and every other store as it was
-abbrev pub with_contents : List Shelf → Name → Contents → List Shelf
+abbrev pub with_contents : List StoreContents → Name → Contents → List StoreContents
 with_contents shelves name contents = map (λ s. if same_name s.name name then record { name = s.name; contents = contents } else s) shelves
 
-abbrev pub first_name : List Shelf → Name
+abbrev pub first_name : List StoreContents → Name
 first_name [] = []
 first_name (s ∷ ss) = s.name
 
 -- The store of a namespace: the one where it is placed, or else the first that was attached.
-abbrev pub store_of : List Place → List Shelf → Name → Name
+abbrev pub store_of : List Place → List StoreContents → Name → Name
 store_of places shelves ns = option_map_or (λ p. p.store) (find (λ p. same_name p.ns ns) places) (first_name shelves)
 
 -- the record at a key, in the store of the key's table
-abbrev pub standing : List Place → List Shelf → Key → Option Record
-standing places shelves key = option_map_or (λ m. record_at m key) (held_by shelves (store_of places shelves key.table.ns)) None
+abbrev pub standing : List Place → List StoreContents → Key → Option Record
+standing places shelves key = option_map_or (λ m. record_at m key) (contents_under shelves (store_of places shelves key.table.ns)) None
 
 abbrev pub table_asked : Request → TableName
 table_asked (ask.Get key) = key.table
@@ -63,11 +63,11 @@ IsPerformed q Broken r before now = (r ≡ reply.Fault) × ((now ≡ before) ⊎
 
 -- One call: it goes to the store of its table, does to it what its request, how and reply say, and leaves every other
 -- store as it was.
-pub record IsCall (places : List Place) (store : Name) (q : Request) (how : How) (r : Reply) (before now : List Shelf) : Type 0 where
+pub record IsCall (places : List Place) (store : Name) (q : Request) (how : How) (r : Reply) (before now : List StoreContents) : Type 0 where
   pub held : Contents
   pub left : Contents
   pub placed : store ≡ store_of places before (table_asked q).ns
-  pub found : held_by before store ≡ Some held
+  pub found : contents_under before store ≡ Some held
   pub performed : IsPerformed q how r held left
   pub others : now ≡ with_contents before store left
 
@@ -87,24 +87,24 @@ contact_of (event.Clock moment) = None
 contact_of (event.Idle client) = None
 
 -- The effect of a contact on what the stores hold: without one they hold what they held.
-abbrev pub EffectOf : List Place → Option Contact → List Shelf → List Shelf → Type 0
+abbrev pub EffectOf : List Place → Option Contact → List StoreContents → List StoreContents → Type 0
 EffectOf places None before now = now ≡ before
 EffectOf places (Some c) before now = IsCall places c.store c.request c.how c.reply before now
 
 -- the effect of an event: that of its contact
-abbrev pub Effect : List Place → Event → List Shelf → List Shelf → Type 0
+abbrev pub Effect : List Place → Event → List StoreContents → List StoreContents → Type 0
 Effect places e before now = EffectOf places (contact_of e) before now
 
 -- A trace: what the stores hold after each event, one moment made from the one before by the event's effect, from the
 -- opening to the closing.
-abbrev pub IsTrace : List Place → List Event → List Shelf → List (List Shelf) → List Shelf → Type 0
+abbrev pub IsTrace : List Place → List Event → List StoreContents → List (List StoreContents) → List StoreContents → Type 0
 IsTrace places [] opening [] closing = closing ≡ opening
 IsTrace places [] opening (m ∷ ms) closing = ⊥
 IsTrace places (e ∷ es) opening [] closing = ⊥
 IsTrace places (e ∷ es) opening (m ∷ ms) closing = Effect places e opening m × IsTrace places es m ms closing
 
 -- What the stores hold at a moment: moment 0 is the opening, and moment i is after event i.
-abbrev pub moment : List Shelf → List (List Shelf) → ℕ → List Shelf
+abbrev pub moment : List StoreContents → List (List StoreContents) → ℕ → List StoreContents
 moment opening ms zero = opening
 moment opening [] (suc i) = opening
 moment opening (m ∷ ms) (suc i) = moment m ms i

@@ -110,12 +110,12 @@ cut None rs = rs
 cut (Some n) rs = take (nat_of n) rs
 
 -- the columns that a SELECT names, for `*` all in name order
-abbrev pub shown_names : Table → Option (List Name) → List Name
-shown_names t None = column_names t
-shown_names t (Some names) = names
+abbrev pub projected_names : Table → Option (List Name) → List Name
+projected_names t None = column_names t
+projected_names t (Some names) = names
 
-abbrev pub shown : Table → Option (List Name) → Image → List Value
-shown t columns r = map (value_of t r) (shown_names t columns)
+abbrev pub projected : Table → Option (List Name) → Image → List Value
+projected t columns r = map (value_of t r) (projected_names t columns)
 
 ---- exec: by filter and map over all rows
 
@@ -137,7 +137,7 @@ answer_of t (statement.Insert s) d = if is_some (get d (key_of t s)) then answer
 answer_of t (statement.Upsert s) d = answer.Count 1
 answer_of t (statement.Update s) d = answer.Count (length (passing t s.tests d))
 answer_of t (statement.Delete s) d = answer.Count (length (passing t s.tests d))
-answer_of t (statement.Select s) d = answer.Rows (map (shown t s.columns) (cut s.limit (sorted t (passing t s.tests d))))
+answer_of t (statement.Select s) d = answer.Rows (map (projected t s.columns) (cut s.limit (sorted t (passing t s.tests d))))
 answer_of t statement.Begin d = not_a_table
 answer_of t statement.Commit d = not_a_table
 answer_of t statement.Rollback d = not_a_table

@@ -18,17 +18,17 @@ use Rattle.sdb_types.specs.Replies.{is_fault}
 
 ---- where a client is after the events so far
 
-abbrev pub takes_by : ℕ → Event → Bool
-takes_by client (event.Take c text answer) = c == client
-takes_by client _ = false
+abbrev pub is_take_of : ℕ → Event → Bool
+is_take_of client (event.Take c text answer) = c == client
+is_take_of client _ = false
 
 abbrev pub stops : ℕ → Event → Bool
 stops client (event.Stop c) = c == client
 stops client _ = false
 
 -- how many statements a client has taken
-abbrev pub taken_by : ℕ → List Event → ℕ
-taken_by client past = count_by (takes_by client) past
+abbrev pub takes_of : ℕ → List Event → ℕ
+takes_of client past = count_by (is_take_of client) past
 
 -- whether a client has stopped
 abbrev pub has_stopped : ℕ → List Event → Bool
@@ -50,12 +50,12 @@ texts_of clients zero = []
 texts_of clients (suc i) = option_map_or (λ c. c.statements) (slice_get clients i) []
 
 abbrev pub has_work : List ScriptClient → ℕ → List Event → Bool
-has_work clients client past = not (has_stopped client past) && (is_pending client past || nat_lt (taken_by client past) (length (texts_of clients client)))
+has_work clients client past = not (has_stopped client past) && (is_pending client past || nat_lt (takes_of client past) (length (texts_of clients client)))
 
 ---- one step
 
 -- Which hows a call of an act may have, and with which replies. A step's reply is seen, unless it is a fault: then the store
--- itself failed. A lost reply is lost, and its client has a fault, unless the store itself fails or wants memory. A discarded
+-- itself failed. A lost reply is lost, and its client has a fault, unless the store itself fails or is out of memory. A discarded
 -- call is never made, and its client has a fault.
 abbrev pub IsHowOfStep : How → Reply → Type 0
 IsHowOfStep Seen r = is_fault r ≡ false
@@ -79,7 +79,7 @@ IsCallOf client allowed _ = ⊥
 
 -- The event is the taking of the client's next statement.
 abbrev pub IsTakeOf : List ScriptClient → ℕ → List Event → Event → Type 0
-IsTakeOf clients client past (event.Take c text answer) = (c ≡ client) × (slice_get (texts_of clients client) (taken_by client past) ≡ Some text)
+IsTakeOf clients client past (event.Take c text answer) = (c ≡ client) × (slice_get (texts_of clients client) (takes_of client past) ≡ Some text)
 IsTakeOf clients client past _ = ⊥
 
 -- A step of a client: Idle where it is stopped or has no work, one call where a call is pending, and otherwise the taking
@@ -133,16 +133,16 @@ IsRest clients from past (e ∷ es) =
     (client : ℕ) × IsTurn clients past from client × IsStep clients client IsHowOfStep past e × IsRest clients (client + 1) (past ++ e ∷ []) es
 
 -- The events are those of one move.
-abbrev pub IsMoved : List ScriptClient → Move → List Event → List Event → Type 0
-IsMoved clients (move.Act a) past es = (e : Event) × (es ≡ e ∷ []) × IsActed clients a past e
-IsMoved clients (move.Repeat client times) past es = (length es ≡ times) × AreStepsOf clients client past es
-IsMoved clients move.Rest past es = IsRest clients 1 past es
+abbrev pub IsOfMove : List ScriptClient → Move → List Event → List Event → Type 0
+IsOfMove clients (move.Act a) past es = (e : Event) × (es ≡ e ∷ []) × IsActed clients a past e
+IsOfMove clients (move.Repeat client times) past es = (length es ≡ times) × AreStepsOf clients client past es
+IsOfMove clients move.Rest past es = IsRest clients 1 past es
 
-abbrev pub AreMoved : List ScriptClient → List Move → List Event → List Event → Type 0
-AreMoved clients [] past es = es ≡ []
-AreMoved clients (m ∷ ms) past es =
-    (front : List Event) × (back : List Event) × (es ≡ front ++ back) × IsMoved clients m past front × AreMoved clients ms (past ++ front) back
+abbrev pub AreOfMoves : List ScriptClient → List Move → List Event → List Event → Type 0
+AreOfMoves clients [] past es = es ≡ []
+AreOfMoves clients (m ∷ ms) past es =
+    (front : List Event) × (back : List Event) × (es ≡ front ++ back) × IsOfMove clients m past front × AreOfMoves clients ms (past ++ front) back
 
 -- The events are, in order, those of a script's moves.
 abbrev pub Follows : Script → List Event → Type 0
-Follows script events = AreMoved script.clients script.moves [] events
+Follows script events = AreOfMoves script.clients script.moves [] events

@@ -25,5 +25,5 @@ abbrev pub is_client_name : List ℕ → Bool
 is_client_name name = nat_le (length name) 64 && is_identifier name
 
 -- a script with these places
-abbrev pub placed_script : Script → List Place → Script
-placed_script script places = record { places = places; catalog = script.catalog; clients = script.clients; moves = script.moves }
+abbrev pub script_with_places : Script → List Place → Script
+script_with_places script places = record { places = places; catalog = script.catalog; clients = script.clients; moves = script.moves }

@@ -9,10 +9,10 @@ pub mod Follows
 pub mod Images
 pub mod Transactions
 pub mod Calls
-pub mod Noted
-pub mod Told
+pub mod ReadSet
+pub mod Serial
 pub mod Causes
-pub mod Shown
+pub mod DirtyReads
 pub mod Counted
 pub mod Explained
 pub mod Form

@@ -38,39 +38,39 @@ use Rattle.sdb_model.specs.declared.script.Script.{Script}
 abbrev pub is_counted : {X : Type 0} → List X → Type 0
 is_counted xs = length xs < 2 ^ 64
 
-abbrev pub id_fits : TxId → Type 0
-id_fits id = id.0 < 2 ^ 128
+abbrev pub id_is_plain : TxId → Type 0
+id_is_plain id = id.0 < 2 ^ 128
 
-pub record table_fits (t : TableName) : Type 0 where
+pub record table_is_plain (t : TableName) : Type 0 where
   pub ns : is_name t.ns ≡ true
   pub table : is_name t.table ≡ true
 
-abbrev pub values_fit : List Value → Type 0
-values_fit vs = All value_fits vs
+abbrev pub values_are_plain : List Value → Type 0
+values_are_plain vs = All value_fits vs
 
-pub record span_fits (s : Span) : Type 0 where
-  pub table : table_fits s.table
-  pub partition : IfSome s.partition values_fit
+pub record span_is_plain (s : Span) : Type 0 where
+  pub table : table_is_plain s.table
+  pub partition : IfSome s.partition values_are_plain
 
-abbrev pub condition_fits : Condition → Type 0
-condition_fits Absent = Unit {0}
-condition_fits (Version id state) = id_fits id
+abbrev pub condition_is_plain : Condition → Type 0
+condition_is_plain Absent = Unit {0}
+condition_is_plain (Version id state) = id_is_plain id
 
-abbrev pub request_fits : Request → Type 0
-request_fits (ask.Get key) = key_fits key
-request_fits (ask.Scan span) = span_fits span
-request_fits (ask.PutIf r condition) = record_fits r × condition_fits condition
-request_fits (ask.DeleteIf key condition) = key_fits key × condition_fits condition
+abbrev pub request_is_plain : Request → Type 0
+request_is_plain (ask.Get key) = key_fits key
+request_is_plain (ask.Scan span) = span_is_plain span
+request_is_plain (ask.PutIf r condition) = record_fits r × condition_is_plain condition
+request_is_plain (ask.DeleteIf key condition) = key_fits key × condition_is_plain condition
 
-abbrev pub reply_fits : Reply → Type 0
-reply_fits (reply.Found found) = IfSome found record_fits
-reply_fits (reply.Rows rows) = is_counted rows × All record_fits rows
-reply_fits reply.Applied = Unit {0}
-reply_fits (reply.NotMet found) = IfSome found record_fits
-reply_fits reply.Fault = Unit {0}
-reply_fits reply.NoMemory = Unit {0}
+abbrev pub reply_is_plain : Reply → Type 0
+reply_is_plain (reply.Found found) = IfSome found record_fits
+reply_is_plain (reply.Rows rows) = is_counted rows × All record_fits rows
+reply_is_plain reply.Applied = Unit {0}
+reply_is_plain (reply.NotMet found) = IfSome found record_fits
+reply_is_plain reply.Fault = Unit {0}
+reply_is_plain reply.NoMemory = Unit {0}
 
-pub record refusal_fits (refusal : Refusal) : Type 0 where
+pub record refusal_is_plain (refusal : Refusal) : Type 0 where
   pub kind : refusal.kind < 2 ^ 8
   pub place : refusal.place < 2 ^ 32
 
@@ -82,18 +82,18 @@ pub record IsFoundAt (key : Key) (r : Record) : Type 0 where
   pub key_is : r.key ≡ key
 
 abbrev pub IsPlainAnswer : Answer → Type 0
-IsPlainAnswer (answer.Rows rows) = is_counted rows × All values_fit rows
+IsPlainAnswer (answer.Rows rows) = is_counted rows × All values_are_plain rows
 IsPlainAnswer (answer.Count n) = n < 2 ^ 64
 IsPlainAnswer answer.Done = Unit {0}
 IsPlainAnswer answer.Committed = Unit {0}
 IsPlainAnswer (answer.Duplicate key) = key_fits key
-IsPlainAnswer (answer.Busy key id at) = key_fits key × id_fits id × FitsSigned w64 at
+IsPlainAnswer (answer.Busy key id at) = key_fits key × id_is_plain id × FitsSigned w64 at
 IsPlainAnswer (answer.Conflict key found) = key_fits key × IfSome found (IsFoundAt key)
-IsPlainAnswer (answer.Expired id) = id_fits id
+IsPlainAnswer (answer.Expired id) = id_is_plain id
 IsPlainAnswer answer.Faulted = Unit {0}
-IsPlainAnswer (answer.Unknown id) = id_fits id
+IsPlainAnswer (answer.Unknown id) = id_is_plain id
 IsPlainAnswer (answer.BadRecord key) = key_fits key
-IsPlainAnswer (answer.Refused refusal) = refusal_fits refusal
+IsPlainAnswer (answer.Refused refusal) = refusal_is_plain refusal
 IsPlainAnswer answer.Vacuuming = Unit {0}
 IsPlainAnswer answer.OpenTransactions = Unit {0}
 IsPlainAnswer answer.NoMemory = Unit {0}
@@ -107,7 +107,7 @@ IsPlainGiven given = IfSome given IsPlainAnswer
 abbrev pub HasPlainParts : Event → Type 0
 HasPlainParts (event.Take client text given) = (client < 2 ^ 32) × IsUtf8 text × IsPlainGiven given
 HasPlainParts (event.Call client store request how reply given) =
-    (client < 2 ^ 32) × (is_name store ≡ true) × request_fits request × reply_fits reply × IsPlainGiven given
+    (client < 2 ^ 32) × (is_name store ≡ true) × request_is_plain request × reply_is_plain reply × IsPlainGiven given
 HasPlainParts (event.Stop client) = client < 2 ^ 32
 HasPlainParts (event.Clock moment) = FitsSigned w64 moment
 HasPlainParts (event.Idle client) = client < 2 ^ 32
@@ -127,16 +127,16 @@ pub record IsPlainEvent (e : Event) : Type 0 where
 ---- order and tables
 
 pub record IsPlainPoint (p : Point) : Type 0 where
-  pub id : id_fits p.id
+  pub id : id_is_plain p.id
   pub event : p.event < 2 ^ 64
 
 -- No text in the row has an LF.
 pub record IsPlainRow (row : List Value) : Type 0 where
-  pub fits : values_fit row
+  pub fits : values_are_plain row
   pub one_line : is_one_line (row_text_of row) ≡ true
 
 pub record IsPlainDump (t : TableDump) : Type 0 where
-  pub name : table_fits t.name
+  pub name : table_is_plain t.name
   pub counted : is_counted t.rows
   pub rows : All IsPlainRow t.rows
 

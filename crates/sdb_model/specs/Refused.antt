@@ -53,7 +53,7 @@ written statement.Commit = []
 written statement.Rollback = []
 written statement.Vacuum = []
 
--- those of the columns that are shown or tested
+-- those of the columns that are selected or tested
 abbrev pub looked_at : Statement → List Mention
 looked_at (statement.Insert s) = []
 looked_at (statement.Upsert s) = []

@@ -11,5 +11,5 @@ abbrev pub is_data : Key → Bool
 is_data key = not (is_coordinator_table key.table)
 
 -- the tables that a run is about: those of its catalog, and the coordinator's
-abbrev pub is_played : List Table → TableName → Bool
-is_played catalog table = is_some (find_table catalog table) || is_coordinator_table table
+abbrev pub is_table_of_run : List Table → TableName → Bool
+is_table_of_run catalog table = is_some (find_table catalog table) || is_coordinator_table table

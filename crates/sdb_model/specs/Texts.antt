@@ -43,7 +43,7 @@ value_text_of (value.Blob bytes) = codes "X'" ++ encode_upper bytes ++ codes "'"
 abbrev pub values_text_of : List Value → List ℕ
 values_text_of vs = join_by value_text_of (codes ",") vs
 
--- the values shown of a row: `(1,'a')`
+-- the values of a row: `(1,'a')`
 abbrev pub row_text_of : List Value → List ℕ
 row_text_of vs = codes "(" ++ values_text_of vs ++ codes ")"
 

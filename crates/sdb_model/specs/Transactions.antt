@@ -16,7 +16,7 @@ use Rattle.sdb_model.specs.declared.event.Event.TheVariants as event
 use Rattle.sdb_model.specs.declared.event.How.TheVariants.{Seen}
 use Rattle.sdb_model.specs.declared.event.Point.{Point}
 use Rattle.sdb_stores.specs.declared.place.Place.{Place}
-use Rattle.sdb_model.specs.Events.{Shelf}
+use Rattle.sdb_model.specs.Events.{StoreContents}
 use Rattle.sdb_model.specs.Images.{decision_at}
 use Rattle.sdb_model.specs.Requests.{any_of, records_put}
 use Rattle.sdb_model.specs.Sql.{reads_begin, reads_commit, reads_rollback}
@@ -30,31 +30,31 @@ numbered events = enumerate_from 1 events
 
 -- A statement that a client took: the number of its Take, its text, its answer, if it has one, and the number of the event
 -- that it has reached: of its answer, or of its Take where it has none.
-pub record Said : Type 0 where
+pub record Executed : Type 0 where
   pub taken : ℕ
   pub text : List ℕ
   pub answer : Option Answer
   pub reached : ℕ
 
 -- the number of the event that answered a statement: none without an answer
-abbrev pub answered : Said → Option ℕ
+abbrev pub answered : Executed → Option ℕ
 answered s = option_map (λ a. s.reached) s.answer
 
 -- the last statement, answered by an event
-abbrev pub with_answer : List Said → ℕ → Answer → List Said
+abbrev pub with_answer : List Executed → ℕ → Answer → List Executed
 with_answer [] n a = []
 with_answer (s ∷ []) n a = record { taken = s.taken; text = s.text; answer = Some a; reached = n } ∷ []
 with_answer (s ∷ t ∷ ss) n a = s ∷ with_answer (t ∷ ss) n a
 
-abbrev pub said_after : ℕ → List Said → ℕ × Event → List Said
-said_after client ss (n, event.Take c text answer) = if c == client then ss ++ record { taken = n; text = text; answer = answer; reached = n } ∷ [] else ss
-said_after client ss (n, event.Call c store q how r (Some a)) = if c == client then with_answer ss n a else ss
-said_after client ss _ = ss
+abbrev pub statements_after : ℕ → List Executed → ℕ × Event → List Executed
+statements_after client ss (n, event.Take c text answer) = if c == client then ss ++ record { taken = n; text = text; answer = answer; reached = n } ∷ [] else ss
+statements_after client ss (n, event.Call c store q how r (Some a)) = if c == client then with_answer ss n a else ss
+statements_after client ss _ = ss
 
 -- A client's statements, in order. The answer to a statement is in its Take, or in the first later event of that
 -- client that has an answer.
-abbrev pub said : ℕ → List Event → List Said
-said client events = fold (said_after client) [] (numbered events)
+abbrev pub statements_by : ℕ → List Event → List Executed
+statements_by client events = fold (statements_after client) [] (numbered events)
 
 ---- one transaction
 
@@ -77,16 +77,16 @@ is_conflict (Some (answer.Conflict key found)) = true
 is_conflict _ = false
 
 -- A transaction begins with a statement that reads as BEGIN and is answered Done.
-abbrev pub begins : Said → Bool
+abbrev pub begins : Executed → Bool
 begins s = reads_begin s.text && is_done s.answer
 
 -- A transaction that is open ends with the first statement that reads as COMMIT, or is answered Conflict, or reads as
 -- ROLLBACK and is answered Done.
-abbrev pub ends : Said → Bool
+abbrev pub ends : Executed → Bool
 ends s = reads_commit s.text || is_conflict s.answer || (reads_rollback s.text && is_done s.answer)
 
 -- the BEGIN of the k-th transaction, k from 1, and the statements after it
-abbrev pub from_begin : ℕ → List Said → List Said
+abbrev pub from_begin : ℕ → List Executed → List Executed
 from_begin zero ss = []
 from_begin (suc k) [] = []
 from_begin (suc k) (s ∷ ss) = if begins s then (if k == 0 then s ∷ ss else from_begin k ss) else from_begin (suc k) ss
@@ -102,43 +102,43 @@ rest_of (x ∷ xs) = xs
 ---- of what a client said from a transaction's BEGIN on
 
 -- the statement that ended it, if one did
-abbrev pub ending_in : List Said → Option Said
+abbrev pub ending_in : List Executed → Option Executed
 ending_in ss = find ends (rest_of ss)
 
 -- its COMMIT: the statement that ended it, where that reads as COMMIT
-abbrev pub commit_in : List Said → Option Said
+abbrev pub commit_in : List Executed → Option Executed
 commit_in ss = option_and_then (λ s. if reads_commit s.text then Some s else None) (ending_in ss)
 
 -- statements up to the first that ends the transaction, that one included
-abbrev pub through_end : List Said → List Said
+abbrev pub through_end : List Executed → List Executed
 through_end [] = []
 through_end (s ∷ ss) = if ends s then s ∷ [] else s ∷ through_end ss
 
 -- its statements after the BEGIN, with the one that ended it
-abbrev pub statements_in : List Said → List Said
+abbrev pub statements_in : List Executed → List Executed
 statements_in ss = through_end (rest_of ss)
 
 ---- by its id
 
--- a transaction's BEGIN and what its client said since
-abbrev pub said_since : List Event → TxId → List Said
-said_since events id = from_begin (ordinal_of id) (said (client_of id) events)
+-- a transaction's BEGIN and its client's statements since
+abbrev pub statements_since : List Event → TxId → List Executed
+statements_since events id = from_begin (ordinal_of id) (statements_by (client_of id) events)
 
 -- the number of the event at which a transaction began
 abbrev pub begun : List Event → TxId → Option ℕ
-begun events id = option_map (λ s. s.taken) (first_of (said_since events id))
+begun events id = option_map (λ s. s.taken) (first_of (statements_since events id))
 
 -- the statement that ended a transaction, if one did
-abbrev pub ending : List Event → TxId → Option Said
-ending events id = ending_in (said_since events id)
+abbrev pub ending : List Event → TxId → Option Executed
+ending events id = ending_in (statements_since events id)
 
 -- A transaction's COMMIT: the statement that ended it, where that reads as COMMIT.
-abbrev pub commit_of : List Event → TxId → Option Said
-commit_of events id = commit_in (said_since events id)
+abbrev pub commit_of : List Event → TxId → Option Executed
+commit_of events id = commit_in (statements_since events id)
 
 -- all statements of a transaction after its BEGIN, with the one that ended it
-abbrev pub statements_of : List Event → TxId → List Said
-statements_of events id = statements_in (said_since events id)
+abbrev pub statements_of : List Event → TxId → List Executed
+statements_of events id = statements_in (statements_since events id)
 
 -- Some answers say that a statement changed nothing of its transaction, and left it open.
 abbrev pub changes_nothing : Answer → Bool
@@ -161,22 +161,22 @@ abbrev pub is_committed_answer : Option Answer → Bool
 is_committed_answer (Some answer.Committed) = true
 is_committed_answer a = false
 
-abbrev pub is_effective : Said → Bool
+abbrev pub is_effective : Executed → Bool
 is_effective s = not (option_map_or changes_nothing s.answer false)
 
 -- A transaction's statements between its BEGIN and its end, of what its client said from the BEGIN on.
-abbrev pub inside_in : List Said → List Said
+abbrev pub inside_in : List Executed → List Executed
 inside_in ss = take_while (λ s. not (ends s)) (rest_of ss)
 
 -- its body: these, but for those that changed nothing
-abbrev pub body_in : List Said → List Said
+abbrev pub body_in : List Executed → List Executed
 body_in ss = filter is_effective (inside_in ss)
 
-abbrev pub statements_inside : List Event → TxId → List Said
-statements_inside events id = inside_in (said_since events id)
+abbrev pub statements_inside : List Event → TxId → List Executed
+statements_inside events id = inside_in (statements_since events id)
 
-abbrev pub body : List Event → TxId → List Said
-body events id = body_in (said_since events id)
+abbrev pub body : List Event → TxId → List Executed
+body events id = body_in (statements_since events id)
 
 ---- its place in the order
 
@@ -213,12 +213,12 @@ ArePointsApart events ids = (id other : TxId) → Contains ids id → Contains i
 
 -- A transaction is recorded where the coordinator's table holds its row, well formed, with the decision that it is
 -- committed.
-abbrev pub Recorded : List Place → List Shelf → TxId → Type 0
+abbrev pub Recorded : List Place → List StoreContents → TxId → Type 0
 Recorded places shelves id = IsSomeAnd (decision_at places shelves id) (λ d. d.decision ≡ decision.Committed)
 
 -- The order: the recorded transactions, each once, by rising point, each with its point. Each is one that a client began,
 -- and whose COMMIT was taken.
-pub record IsOrder (places : List Place) (events : List Event) (closing : List Shelf) (order : List Point) : Type 0 where
+pub record IsOrder (places : List Place) (events : List Event) (closing : List StoreContents) (order : List Point) : Type 0 where
   pub recorded : (id : TxId) → id.0 < 2 ^ 128 → Contains (map (λ p. p.id) order) id ↔ Recorded places closing id
   pub points : All (λ p. p.event ≡ point events p.id) order
   pub rising : IsStrictlyIncreasing (map (λ p. p.event) order)

@@ -3,7 +3,7 @@ ghost use Rattle.std.specs.Prelude.{◌≡◌, IfOk};
 
 use sdb_types::{Duplicate, Key, NoMemory, Record, Seq, TxId, Values};
 
-/// Rows that are shown: the values of the columns asked for.
+/// Rows that were selected: the values of the columns asked for.
 pub type Rows = Seq<Values>;
 
 /// Why a statement is refused: the number of the kind, and the place in the statement.
@@ -31,7 +31,7 @@ pub enum Answer {
     Conflict(Key, Option<Record>),
     /// Another client has aborted the transaction.
     Expired(TxId),
-    /// A store failed; a COMMIT answered so is not recorded.
+    /// A store failed; a COMMIT with this answer is not recorded.
     Faulted,
     /// It is not known whether the COMMIT is recorded.
     Unknown(TxId),

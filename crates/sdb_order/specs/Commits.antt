@@ -1,24 +1,24 @@
 -- When the COMMITs of a client's transactions were taken.
 use Rattle.std.specs.Prelude.{ℕ, zero, suc, if◌then◌else◌, List, [], ◌∷◌, map, unwrap_or, slice_get}
 use Rattle.sdb_model.specs.Sql.{reads_commit}
-use Rattle.sdb_model.specs.Transactions.{Said as SaidOf, begins, ends}
-use Rattle.sdb_order.specs.declared.said.Said.{Said}
+use Rattle.sdb_model.specs.Transactions.{Executed as SaidOf, begins, ends}
+use Rattle.sdb_order.specs.declared.executed.Executed.{Executed}
 
--- a statement that was said, as the definitions have it
-abbrev pub said_of : Said → SaidOf
-said_of s = record { taken = s.taken; text = s.text; answer = s.answer; reached = s.reached }
+-- a executed statement, as the definitions have it
+abbrev pub executed_of : Executed → SaidOf
+executed_of s = record { taken = s.taken; text = s.text; answer = s.answer; reached = s.reached }
 
-abbrev pub all_said : List Said → List SaidOf
-all_said = map said_of
+abbrev pub all_executed : List Executed → List SaidOf
+all_executed = map executed_of
 
 -- the event that took the COMMIT by which an open transaction ends, where one more statement comes before the others
-abbrev pub taken_where : SaidOf → ℕ → ℕ
-taken_where s later = if ends s then (if reads_commit s.text then s.taken else 0) else later
+abbrev pub take_where : SaidOf → ℕ → ℕ
+take_where s later = if ends s then (if reads_commit s.text then s.taken else 0) else later
 
 -- the event that took the COMMIT by which an open transaction ends, and 0 where it has none
 unfoldable pub first_commit : List SaidOf → ℕ
 first_commit [] = 0
-first_commit (s ∷ ss) = taken_where s (first_commit ss)
+first_commit (s ∷ ss) = take_where s (first_commit ss)
 
 -- of each transaction that begins, in order, the event that took its COMMIT, and 0 where it has none
 unfoldable pub commits_of : List SaidOf → List ℕ

@@ -1,48 +1,53 @@
 //! When the COMMITs of a client's transactions were taken.
 ghost use Rattle.std.specs.Prelude.{◌≡◌, ◌++◌, ◌∷◌, [], if◌then◌else◌, IfOk, OnOk};
-ghost use Rattle.sdb_model.specs.Transactions.{begins as begins_lem, said as said_lem};
-ghost use Rattle.sdb_order.specs.Commits.{said_of, all_said, commits_of, commit_at as commit_at_lem, taken_where};
+ghost use Rattle.sdb_model.specs.Transactions.{begins as begins_lem, statements_by as statements_by_lem};
+ghost use Rattle.sdb_order.specs.Commits.{executed_of, all_executed, commits_of, commit_at as commit_at_lem, take_where};
 
-use crate::said::{Said, begins, ends, is_word, statements_said};
+use crate::executed::{Executed, begins, ends, is_word, statements_by};
 use sdb_model::{Event, Keyword};
 use sdb_types::{NoMemory, Seq};
 use std::alloc::Global;
 
 // The event that took the COMMIT by which an open transaction ends, with one more statement before the others.
-fn taken(alloc: Global, said: &Said, later: u64) -> Result<u64, NoMemory>
-    ensures { IfOk result (λ n. n ≡ taken_where (said_of said.now) later) }
+fn taken(alloc: Global, executed: &Executed, later: u64) -> Result<u64, NoMemory>
+    ensures { IfOk result (λ n. n ≡ take_where (executed_of executed.now) later) }
 {
-    if !ends(alloc, said)? {
+    if !ends(alloc, executed)? {
         return Ok(later);
     }
-    if is_word(alloc, said, Keyword::Commit)? {
-        Ok(said.taken)
+    if is_word(alloc, executed, Keyword::Commit)? {
+        Ok(executed.taken)
     } else {
         Ok(0)
     }
 }
 
-// Notes a statement before others, whose transactions are noted last to first.
-fn note(alloc: Global, found: &mut Vec<u64>, said: &Said, first: u64) -> Result<(), NoMemory>
-    ensures { OnOk result (found.new.items ≡ (if begins_lem (said_of said.now) then found.old.items ++ first ∷ [] else found.old.items)) }
+// Adds a statement before others, whose transactions were added last to first.
+fn add_prepare(
+    alloc: Global,
+    found: &mut Vec<u64>,
+    executed: &Executed,
+    first: u64,
+) -> Result<(), NoMemory>
+    ensures { OnOk result (found.new.items ≡ (if begins_lem (executed_of executed.now) then found.old.items ++ first ∷ [] else found.old.items)) }
 {
-    if begins(alloc, said)? {
+    if begins(alloc, executed)? {
         found.push(first)?;
     }
     Ok(())
 }
 
 // Of each transaction that began among a client's statements, in order, the event that took its COMMIT, and 0 where it has none.
-fn commits_among(alloc: Global, said: &[Said]) -> Result<Vec<u64>, NoMemory>
-    ensures { IfOk result (λ found. found.items ≡ commits_of (all_said said.now)) }
+fn commits_among(alloc: Global, executed: &[Executed]) -> Result<Vec<u64>, NoMemory>
+    ensures { IfOk result (λ found. found.items ≡ commits_of (all_executed executed.now)) }
 {
     let mut found = Vec::new(alloc);
     let mut first = 0;
-    let mut i = said.len();
+    let mut i = executed.len();
     while i > 0 {
         i -= 1;
-        note(alloc, &mut found, &said[i], first)?;
-        first = taken(alloc, &said[i], first)?;
+        add_prepare(alloc, &mut found, &executed[i], first)?;
+        first = taken(alloc, &executed[i], first)?;
     }
     found.reverse();
     Ok(found)
@@ -50,10 +55,10 @@ fn commits_among(alloc: Global, said: &[Said]) -> Result<Vec<u64>, NoMemory>
 
 /// Of each transaction of a client, in order, the event that took its COMMIT, and 0 where it has none.
 pub fn commits_by(alloc: Global, client: u64, events: &[Event]) -> Result<Seq<u64>, NoMemory>
-    ensures { IfOk result (λ found. found ≡ commits_of (said_lem client events.now)) }
+    ensures { IfOk result (λ found. found ≡ commits_of (statements_by_lem client events.now)) }
 {
-    let said = statements_said(alloc, client, events)?;
-    let found = commits_among(alloc, said.as_slice())?;
+    let executed = statements_by(alloc, client, events)?;
+    let found = commits_among(alloc, executed.as_slice())?;
     Ok(Seq::from_vec(found))
 }
 

@@ -2,9 +2,9 @@
 #![tactic(auto)]
 
 mod commits;
+mod executed;
 mod order;
 mod prepares;
-mod said;
 
+pub use executed::{Executed, begins, ends, is_word, statements_by};
 pub use order::order_of;
-pub use said::{Said, begins, ends, is_word, statements_said};

@@ -4,7 +4,7 @@ ghost use Rattle.std.specs.List.Sorted.{IsNonDecreasingBy, IsPermutation, IsStri
 ghost use Rattle.std.specs.Ordering.{nat_cmp};
 ghost use Rattle.std.specs.BTreeMap.{get};
 ghost use Rattle.sdb_types.specs.declared.txid.TxId.{TxId};
-ghost use Rattle.sdb_model.specs.Transactions.{client_of as client_of_lem, last_prepare, ordinal_of as ordinal_of_lem, point, said as said_lem, ArePointsApart, point_at};
+ghost use Rattle.sdb_model.specs.Transactions.{client_of as client_of_lem, last_prepare, ordinal_of as ordinal_of_lem, point, statements_by as statements_by_lem, ArePointsApart, point_at};
 ghost use Rattle.sdb_order.specs.Commits.{commits_of};
 ghost use Rattle.sdb_order.specs.Order.{rising_from};
 
@@ -41,8 +41,8 @@ fn turn_to(
     known: &mut Commits,
     client: u64,
 ) -> Result<(), NoMemory>
-    requires { known.old.taken ≡ commits_of (said_lem known.old.client events.now) }
-    ensures known { OnOk result (known.new.taken ≡ commits_of (said_lem client events.now)) }
+    requires { known.old.taken ≡ commits_of (statements_by_lem known.old.client events.now) }
+    ensures known { OnOk result (known.new.taken ≡ commits_of (statements_by_lem client events.now)) }
     ensures client { OnOk result (known.new.client ≡ client) }
 {
     if known.client != client {
@@ -61,9 +61,9 @@ fn event_of(
     id: TxId,
 ) -> Result<u64, NoMemory>
     requires prepared { (id : TxId) → id.0 < 2 ^ 128 → get nat_cmp prepared.now id.0 ≡ last_prepare events.now id }
-    requires known { known.old.taken ≡ commits_of (said_lem known.old.client events.now) }
+    requires known { known.old.taken ≡ commits_of (statements_by_lem known.old.client events.now) }
     ensures point { IfOk result (λ n. n ≡ point events.now id) }
-    ensures known { OnOk result (known.new.taken ≡ commits_of (said_lem known.new.client events.now)) }
+    ensures known { OnOk result (known.new.taken ≡ commits_of (statements_by_lem known.new.client events.now)) }
 {
     if let Some(number) = prepared.get(&id.0) {
         return Ok(*number);

@@ -71,7 +71,7 @@ fn prepared_by(event: &Event) -> Option<TxId>
     }
 }
 
-fn note(found: &mut BTreeMap<u128, u64>, number: u64, event: &Event) -> Result<(), NoMemory>
+fn add_prepare(found: &mut BTreeMap<u128, u64>, number: u64, event: &Event) -> Result<(), NoMemory>
     ensures { OnOk result ((id : TxId) → id.0 < 2 ^ 128 → get nat_cmp found.new id.0 ≡ (if is_prepared_by id event.now then Some number else get nat_cmp found.old id.0)) }
 {
     if let Some(id) = prepared_by(event) {
@@ -87,7 +87,7 @@ pub fn last_prepares(alloc: Global, events: &[Event]) -> Result<BTreeMap<u128, u
     let mut found = BTreeMap::new(alloc);
     let mut i = 0;
     while i < events.len() {
-        note(&mut found, i as u64 + 1, &events[i])?;
+        add_prepare(&mut found, i as u64 + 1, &events[i])?;
         i += 1;
     }
     Ok(found)

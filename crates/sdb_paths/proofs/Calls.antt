@@ -11,8 +11,8 @@ use Rattle.sdb_record.specs.declared.coordinator.Decision.TheVariants as decisio
 use Rattle.sdb_phases.specs.Work.{Work}
 use Rattle.sdb_phases.specs.Steps.{CanGet}
 use Rattle.sdb_phases.specs.Commit.{Stage, after, pending, preparing, step}
-use Rattle.sdb_phases.specs.CommitLaws.{Played, seen, tells}
-use Rattle.sdb_paths.specs.Paths.{Call, Makes, calls_of_path, replies_of, was_told, with_call}
+use Rattle.sdb_phases.specs.CommitLaws.{AreReplies, seen, observes_decision}
+use Rattle.sdb_paths.specs.Paths.{Call, Makes, calls_of_path, replies_of, was_observed, with_call}
 use Rattle.sdb_paths.proofs.Lists.{reverse_more}
 use Rattle.sdb_types.proofs.Basics.{all_last}
 
@@ -21,13 +21,13 @@ pub at_call : (P : List Call → Type 0) (o : Option Request) (r : Reply) (calls
 at_call P None r calls gets f = absurd gets
 at_call P (Some q) r calls gets f = f q refl gets
 
-pub replies_are : (p : Work) (past : List Reply) → Played p past → replies_of (calls_of_path p past) ≡ reverse past
+pub replies_are : (p : Work) (past : List Reply) → AreReplies p past → replies_of (calls_of_path p past) ≡ reverse past
 replies_are p [] played = refl
 replies_are p (r ∷ past) played =
     at_call (λ cs. replies_of cs ≡ reverse (r ∷ past)) (pending p (after p past)) r (calls_of_path p past) played.1
     (λ q e fits. map-append (λ (c : Call). c.reply) (calls_of_path p past) (record { request = q; reply = r } ∷ []) ∙ ap (λ rs. rs ++ r ∷ []) (replies_are p past played.0) ∙ sym (reverse_more r past))
 
-calls_fit : (p : Work) (past : List Reply) → Played p past → AllByRecursion (λ c. CanAnswer c.request c.reply) (calls_of_path p past)
+calls_fit : (p : Work) (past : List Reply) → AreReplies p past → AllByRecursion (λ c. CanAnswer c.request c.reply) (calls_of_path p past)
 calls_fit p [] played = tt
 calls_fit p (r ∷ past) played =
     at_call (AllByRecursion (λ c. CanAnswer c.request c.reply)) (pending p (after p past)) r (calls_of_path p past) played.1
@@ -47,7 +47,7 @@ made_more p calls s r m gets = record {
   stands = ap (λ x. step p x r) m.stands;
 }
 
-pub calls_long : (p : Work) (past : List Reply) → Played p past → length (calls_of_path p past) ≡ length past
+pub calls_long : (p : Work) (past : List Reply) → AreReplies p past → length (calls_of_path p past) ≡ length past
 calls_long p [] played = refl
 calls_long p (r ∷ past) played =
     at_call (λ cs. length cs ≡ length (r ∷ past)) (pending p (after p past)) r (calls_of_path p past) played.1
@@ -64,16 +64,16 @@ any_more t (d ∷ cs) c = ap (λ b. t d || b) (any_more t cs c) ∙ turn (t d) (
     turn true false x = refl
     turn false b x = refl
 
-told_more : (p : Work) (d : Decision) (o : Option Request) (r : Reply) (cs : List Call) (b : Bool) → CanGet o r → b ≡ was_told p d cs → (tells p.id d o r || b) ≡ was_told p d (with_call o r cs)
+told_more : (p : Work) (d : Decision) (o : Option Request) (r : Reply) (cs : List Call) (b : Bool) → CanGet o r → b ≡ was_observed p d cs → (observes_decision p.id d o r || b) ≡ was_observed p d (with_call o r cs)
 told_more p d None r cs b gets e = absurd gets
-told_more p d (Some q) r cs b gets e = ap (λ x. tells p.id d (Some q) r || x) e ∙ sym (any_more (λ c. tells p.id d (Some c.request) c.reply) cs (record { request = q; reply = r }))
+told_more p d (Some q) r cs b gets e = ap (λ x. observes_decision p.id d (Some q) r || x) e ∙ sym (any_more (λ c. observes_decision p.id d (Some c.request) c.reply) cs (record { request = q; reply = r }))
 
-pub learned_committed : (p : Work) (past : List Reply) → Played p past → (seen p past).committed ≡ was_told p decision.Committed (calls_of_path p past)
+pub learned_committed : (p : Work) (past : List Reply) → AreReplies p past → (seen p past).committed ≡ was_observed p decision.Committed (calls_of_path p past)
 learned_committed p [] played = refl
 learned_committed p (r ∷ past) played =
     told_more p decision.Committed (pending p (after p past)) r (calls_of_path p past) (seen p past).committed played.1 (learned_committed p past played.0)
 
-pub learned_aborted : (p : Work) (past : List Reply) → Played p past → (seen p past).aborted ≡ was_told p decision.Aborted (calls_of_path p past)
+pub learned_aborted : (p : Work) (past : List Reply) → AreReplies p past → (seen p past).aborted ≡ was_observed p decision.Aborted (calls_of_path p past)
 learned_aborted p [] played = refl
 learned_aborted p (r ∷ past) played =
     told_more p decision.Aborted (pending p (after p past)) r (calls_of_path p past) (seen p past).aborted played.1 (learned_aborted p past played.0)

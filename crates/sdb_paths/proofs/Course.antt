@@ -19,9 +19,9 @@ use Rattle.sdb_phases.specs.Checks.{checks, difference_in}
 use Rattle.sdb_phases.specs.Steps as small
 use Rattle.sdb_phases.specs.Steps.{CanGet}
 use Rattle.sdb_phases.specs.Commit.{Stage, Preparing, Checking, Deciding, Forward, Stopping, Back, Over, after, pending, step, preparing, checking, forward, after_prepare, after_check}
-use Rattle.sdb_phases.specs.CommitLaws.{Played, exact_calls, reads_of, writes_of}
+use Rattle.sdb_phases.specs.CommitLaws.{AreReplies, exact_calls, reads_of, writes_of}
 use Rattle.sdb_paths.specs.Paths.{Call, calls_of_path, is_over, with_call}
-use Rattle.sdb_paths.specs.Ends.{GoesWell, MakesWell, calls_before, is_served, is_unmet}
+use Rattle.sdb_paths.specs.Ends.{HasNoFailure, MakesWell, calls_before, is_served, is_unmet}
 use Rattle.sdb_paths.proofs.Lists.{get_front, get_last}
 use Rattle.sdb_paths.proofs.Calls.{calls_long}
 use Rattle.sdb_paths.proofs.Steps.{one}
@@ -53,30 +53,30 @@ begins p = by_stage p 0 (nat_lt 0 (length p.writes)) (Preparing 0) (checking p 0
 
 ---- the newest call went well
 
-well_before : (p : Work) (calls : List Call) (c : Call) → GoesWell p (calls ++ c ∷ []) → GoesWell p calls
+well_before : (p : Work) (calls : List Call) (c : Call) → HasNoFailure p (calls ++ c ∷ []) → HasNoFailure p calls
 well_before p calls c w = record {
   served = λ i d h l. w.served i d (get_front calls (c ∷ []) i d h) l;
   met = λ i d h l. w.met i d (get_front calls (c ∷ []) i d h) l;
   same = λ i k d g h. w.same i k d g (get_front calls (c ∷ []) (writes_of p + i) d h);
 }
 
-last_seen : (p : Work) (calls : List Call) (q : Request) (r : Reply) → GoesWell p (calls ++ one q r ∷ []) → length calls ≤ writes_of p + reads_of p → is_served r ≡ true
+last_seen : (p : Work) (calls : List Call) (q : Request) (r : Reply) → HasNoFailure p (calls ++ one q r ∷ []) → length calls ≤ writes_of p + reads_of p → is_served r ≡ true
 last_seen p calls q r w l = w.served (length calls) (one q r) (get_last calls (one q r)) l
 
-last_met : (p : Work) (calls : List Call) (q : Request) (r : Reply) → GoesWell p (calls ++ one q r ∷ []) → length calls ≤ writes_of p + reads_of p → is_unmet r ≡ false
+last_met : (p : Work) (calls : List Call) (q : Request) (r : Reply) → HasNoFailure p (calls ++ one q r ∷ []) → length calls ≤ writes_of p + reads_of p → is_unmet r ≡ false
 last_met p calls q r w l = w.met (length calls) (one q r) (get_last calls (one q r)) l
 
-last_same : (p : Work) (calls : List Call) (i : ℕ) (k : Check) (q : Request) (r : Reply) → GoesWell p (calls ++ one q r ∷ []) → length calls ≡ writes_of p + i → slice_get (checks p) i ≡ Some k → difference_in k r ≡ None
+last_same : (p : Work) (calls : List Call) (i : ℕ) (k : Check) (q : Request) (r : Reply) → HasNoFailure p (calls ++ one q r ∷ []) → length calls ≡ writes_of p + i → slice_get (checks p) i ≡ Some k → difference_in k r ≡ None
 last_same p calls i k q r w e h = w.same i k (one q r) h (ap (slice_get (calls ++ one q r ∷ [])) (sym e) ∙ get_last calls (one q r))
 
 abbrev Next : Work → List Call → Stage → Reply → Type 0
-Next p calls s r = CanGet (pending p s) r → GoesWell p (with_call (pending p s) r calls) → Course p (length calls + 1) (step p s r)
+Next p calls s r = CanGet (pending p s) r → HasNoFailure p (with_call (pending p s) r calls) → Course p (length calls + 1) (step p s r)
 
 goes_on : (p : Work) (n i : ℕ) (q : Option Request) (more : Bool) → n ≡ i → i < writes_of p → more ≡ nat_lt (i + 1) (length p.writes) → Course p (n + 1) (after_prepare p i (i + 1) (small.prepare_step more q reply.Applied))
 goes_on p n i q true e l is = (omega arith, grind (arith, nat_tests))
 goes_on p n i q false e l is = to_checks p (n + 1) (grind (arith, nat_tests))
 
-prepare_next : (p : Work) (calls : List Call) (i : ℕ) (o : Option Write) (r : Reply) → length calls ≡ i → i < writes_of p → CanGet (option_map (prepare_of p.id p.now) o) r → GoesWell p (with_call (option_map (prepare_of p.id p.now) o) r calls)
+prepare_next : (p : Work) (calls : List Call) (i : ℕ) (o : Option Write) (r : Reply) → length calls ≡ i → i < writes_of p → CanGet (option_map (prepare_of p.id p.now) o) r → HasNoFailure p (with_call (option_map (prepare_of p.id p.now) o) r calls)
     → Course p (length calls + 1) (after_prepare p i (small.touched_after i r) (small.prepare_step (nat_lt (i + 1) (length p.writes)) (option_map (prepare_of p.id p.now) o) r))
 prepare_next p calls i None r e l gets w = absurd gets
 prepare_next p calls i (Some v) reply.Applied e l gets w = goes_on p (length calls) i (Some (prepare_of p.id p.now v)) (nat_lt (i + 1) (length p.writes)) e l refl
@@ -88,7 +88,7 @@ prepare_next p calls i (Some v) (reply.Rows rows) e l gets w = absurd gets
 
 prepared : (p : Work) (calls : List Call) (i : ℕ) (r : Reply) → length calls ≡ i → i < writes_of p → Next p calls (Preparing i) r
 prepared p calls i r e l =
-    subst (λ o. CanGet o r → GoesWell p (with_call o r calls) → Course p (length calls + 1) (after_prepare p i (small.touched_after i r) (small.prepare_step (nat_lt (i + 1) (length p.writes)) o r)))
+    subst (λ o. CanGet o r → HasNoFailure p (with_call o r calls) → Course p (length calls + 1) (after_prepare p i (small.touched_after i r) (small.prepare_step (nat_lt (i + 1) (length p.writes)) o r)))
     (sym (slice_get-map (prepare_of p.id p.now) p.writes i)) (prepare_next p calls i (slice_get p.writes i) r e l)
 
 judged : (p : Work) (n i : ℕ) (d : Option (Key × Option Record)) (more : Bool) → n ≡ writes_of p + i → i < reads_of p → d ≡ None → more ≡ nat_lt (i + 1) (length (checks p)) → Course p (n + 1) (after_check p i (small.judged more d))
@@ -96,7 +96,7 @@ judged p n i None true e l same is = (omega arith, grind (arith, nat_tests))
 judged p n i None false e l same is = grind (arith, nat_tests)
 judged p n i (Some d) more e l same is = absurd (cc)
 
-check_next : (p : Work) (calls : List Call) (i : ℕ) (o : Option Check) (r : Reply) → slice_get (checks p) i ≡ o → length calls ≡ writes_of p + i → i < reads_of p → CanGet (option_map (λ (c : Check). c.request) o) r → GoesWell p (with_call (option_map (λ (c : Check). c.request) o) r calls)
+check_next : (p : Work) (calls : List Call) (i : ℕ) (o : Option Check) (r : Reply) → slice_get (checks p) i ≡ o → length calls ≡ writes_of p + i → i < reads_of p → CanGet (option_map (λ (c : Check). c.request) o) r → HasNoFailure p (with_call (option_map (λ (c : Check). c.request) o) r calls)
     → Course p (length calls + 1) (after_check p i (small.validate_step (nat_lt (i + 1) (length (checks p))) o r))
 check_next p calls i None r h e l gets w = absurd gets
 check_next p calls i (Some k) reply.Fault h e l gets w = let s = last_seen p calls k.request reply.Fault w (omega arith) in absurd (cc)
@@ -127,11 +127,11 @@ next p calls (Stopping a m) r e = absurd e
 next p calls (Back a m i) r e = absurd e
 next p calls (Over a) r e = λ gets w. absurd gets
 
-before : (p : Work) (calls : List Call) (o : Option Request) (r : Reply) → CanGet o r → GoesWell p (with_call o r calls) → GoesWell p calls
+before : (p : Work) (calls : List Call) (o : Option Request) (r : Reply) → CanGet o r → HasNoFailure p (with_call o r calls) → HasNoFailure p calls
 before p calls None r gets w = absurd gets
 before p calls (Some q) r gets w = well_before p calls (one q r) w
 
-course_calls : (p : Work) (past : List Reply) → Played p past → GoesWell p (calls_of_path p past) → Course p (length past) (after p past)
+course_calls : (p : Work) (past : List Reply) → AreReplies p past → HasNoFailure p (calls_of_path p past) → Course p (length past) (after p past)
 course_calls p [] played w = begins p
 course_calls p (r ∷ past) played w =
     let long = calls_long p past played.0 in
@@ -209,7 +209,7 @@ committed p n outcome.NoMemory e = absurd e
 course_made : (p : Work) (calls : List Call) (s : Stage) → MakesWell p calls s → Course p (length calls) s
 course_made p calls s k =
     let m = k.makes in
-    let at = course_calls p m.past m.played (subst (GoesWell p) (sym m.made) k.well) in
+    let at = course_calls p m.past m.played (subst (HasNoFailure p) (sym m.made) k.well) in
     subst (λ n. Course p n s) (sym (calls_long p m.past m.played) ∙ ap length m.made) (subst (Course p (length m.past)) m.stands at)
 
 pub puts_decision : (p : Work) (calls : List Call) (s : Stage) → MakesWell p calls s → length calls ≡ calls_before p → pending p s ≡ Some (decide_of p.id p.now)

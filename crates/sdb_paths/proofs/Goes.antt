@@ -19,7 +19,7 @@ use Rattle.sdb_phases.specs.Checks.{checks, difference_in}
 use Rattle.sdb_phases.specs.Commit.{Stage, Preparing, Checking, Deciding, Forward, Stopping, Back, Over}
 use Rattle.sdb_phases.specs.CommitLaws.{IsLost, writes_of, reads_of}
 use Rattle.sdb_paths.specs.Paths.{Call, Asks, Begins, IsForRow, requests_of, check_requests}
-use Rattle.sdb_paths.specs.Ends.{IsGivenUp, IsLearned, IsPassed, IsPrepareMoved, IsPutStarved, IsUndecided, IsUndone}
+use Rattle.sdb_paths.specs.Ends.{IsGivenUp, IsLearned, IsPassed, IsPrepareChanged, IsPutOutOfMemory, IsUndecided, IsUndone}
 use Rattle.sdb_paths.proofs.Lists.{take_next}
 use Rattle.sdb_paths.proofs.Rows.{NoRow}
 use Rattle.sdb_paths.proofs.Touches.{Touches, applied}
@@ -108,12 +108,12 @@ pub record IsCheckMoved (p : Work) (c : Call) (key : Key) (found : Option Record
   pub differs : difference_in check c.reply ≡ Some (key, found)
 
 abbrev pub Moves : Work → Key → Option Record → Call → Type 0
-Moves p key found c = IsPrepareMoved p c key found ⊎ IsCheckMoved p c key found
+Moves p key found c = IsPrepareChanged p c key found ⊎ IsCheckMoved p c key found
 
 abbrev pub Caused : Work → List Call → Outcome → Type 0
 Caused p calls (outcome.Conflict key found) = (c : Call) × Contains calls c × Moves p key found c × IsUndecided p calls
 Caused p calls (outcome.Expired id) = (id ≡ p.id) × IsGivenUp p calls × Leads p calls
-Caused p calls outcome.NoMemory = IsPutStarved p calls
+Caused p calls outcome.NoMemory = IsPutOutOfMemory p calls
 Caused p calls a = Unit {0}
 
 given_more : (p : Work) (calls : List Call) (c : Call) → IsGivenUp p calls → IsGivenUp p (calls ++ c ∷ [])

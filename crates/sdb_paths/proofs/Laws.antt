@@ -19,10 +19,10 @@ use Rattle.sdb_phases.specs.declared.step.DecidePhase.TheVariants as phase
 use Rattle.sdb_phases.specs.Work.{Work, prepares, prepare_of, forwards, forward_of, backs, back_of, decide_of}
 use Rattle.sdb_phases.specs.Checks.{checks}
 use Rattle.sdb_phases.specs.Commit.{Stage, Preparing, Checking, Deciding, Forward, Stopping, Back, Over, after, pending}
-use Rattle.sdb_phases.specs.CommitLaws.{IsLost, Played, writes_of, reads_of}
+use Rattle.sdb_phases.specs.CommitLaws.{IsLost, AreReplies, writes_of, reads_of}
 use Rattle.sdb_phases.proofs.DecidingPut.{asks_deciding_put}
 use Rattle.sdb_paths.specs.Paths.{Call, Asks, Begins, IsAsked, Makes, calls_of_path, is_over, undone}
-use Rattle.sdb_paths.specs.Ends.{HasMoved, HasPassed, IsApplied, IsGivenUp, IsLearned, IsPassed, IsPutStarved, IsReady, IsUndecided, IsUndone, has_committed, is_checked, is_prepared}
+use Rattle.sdb_paths.specs.Ends.{HasChangedBy, HasPassed, IsApplied, IsGivenUp, IsLearned, IsPassed, IsPutOutOfMemory, IsReady, IsUndecided, IsUndone, has_committed, is_checked, is_prepared}
 use Rattle.sdb_paths.proofs.Lists.{get_behind, get_front, get_some, get_take, zip_at}
 use Rattle.sdb_paths.proofs.Calls.{at_call}
 use Rattle.sdb_paths.proofs.Touches.{applied, begins_front, begins_here, touches_all}
@@ -76,7 +76,7 @@ next_back p calls a n i m =
 
 ---- causes
 
-pub conflict_shown : (p : Work) (calls : List Call) (key : Key) (found : Option Record) → Makes p calls (Over (outcome.Conflict key found)) → HasMoved p calls key found
+pub conflict_shown : (p : Work) (calls : List Call) (key : Key) (found : Option Record) → Makes p calls (Over (outcome.Conflict key found)) → HasChangedBy p calls key found
 conflict_shown p calls key found m =
     let at = goes_made p calls (Over (outcome.Conflict key found)) m in has_moved p calls key found at.caused.0 at.caused.1 at.caused.2
 
@@ -86,7 +86,7 @@ expired_given p calls id m = let at = goes_made p calls (Over (outcome.Expired i
 pub conflict_unput : (p : Work) (calls : List Call) (key : Key) (found : Option Record) → Makes p calls (Over (outcome.Conflict key found)) → IsUndecided p calls
 conflict_unput p calls key found m = let at = goes_made p calls (Over (outcome.Conflict key found)) m in at.caused.3
 
-pub starved_put : (p : Work) (calls : List Call) → Makes p calls (Over outcome.NoMemory) → IsPutStarved p calls
+pub starved_put : (p : Work) (calls : List Call) → Makes p calls (Over outcome.NoMemory) → IsPutOutOfMemory p calls
 starved_put p calls m = let at = goes_made p calls (Over outcome.NoMemory) m in at.caused
 
 ---- how the calls begin
@@ -215,7 +215,7 @@ ready_before : (p : Work) (calls : List Call) (s : Stage) (q : Request) (r : Rep
 ready_before p calls s q r c at asked same is =
     ready_put p calls (subst (Goes p calls) (asks_deciding_put p s (asked ∙ ap (λ (d : Call). Some d.request) same ∙ ap Some is)) at)
 
-ready_past : (p : Work) (past : List Reply) (c : Call) → Played p past → Contains (calls_of_path p past) c → c.request ≡ decide_of p.id p.now → IsReady p (calls_of_path p past)
+ready_past : (p : Work) (past : List Reply) (c : Call) → AreReplies p past → Contains (calls_of_path p past) c → c.request ≡ decide_of p.id p.now → IsReady p (calls_of_path p past)
 ready_past p [] c played = λ among is. none_in among.0 among.1
   where
     none_in : (k : ℕ) → k < 0 → IsReady p []

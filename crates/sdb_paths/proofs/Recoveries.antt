@@ -21,33 +21,33 @@ use Rattle.sdb_phases.specs.declared.step.RecoverPhase.{RecoverPhase}
 use Rattle.sdb_phases.specs.declared.step.RecoverPhase.TheVariants as phase
 use Rattle.sdb_phases.specs.Steps.{CanGet}
 use Rattle.sdb_phases.specs.CommitLaws.{is_malformed, holds_malformed}
-use Rattle.sdb_phases.specs.Recover.{Heard, RecoverPlayed, recover_after, recover_answer, recover_next, recover_pending, recover_request_at, roll_to, stands_found}
-use Rattle.sdb_phases.specs.RecoverLaws.{RecoverStands, found_pending, heard_fault}
+use Rattle.sdb_phases.specs.Recover.{Received, AreRecoverReplies, recover_after, recover_answer, recover_next, recover_pending, recover_request_at, roll_to, is_as_found}
+use Rattle.sdb_phases.specs.RecoverLaws.{RecoverInvariant, found_pending, received_fault}
 use Rattle.sdb_phases.proofs.Stands.{row_malformed}
 use Rattle.sdb_phases.proofs.RecoverStands.{recover_stands}
 use Rattle.sdb_types.proofs.Basics.{clash}
 use Rattle.sdb_paths.specs.Ends.{is_served}
 use Rattle.sdb_paths.proofs.Lists.{reverse_more}
-use Rattle.sdb_paths.specs.Recoveries.{AllFine, Plays, PlaysFine, Resolves, Told, calls_of_recovery, heard_of, with_told}
+use Rattle.sdb_paths.specs.Recoveries.{HaveNoFailure, RecoveryRun, RecoveryRunsWell, Resolves, RecoverCall, calls_of_recovery, received_of, with_recover_call}
 
 ---- the calls
 
-told_more : (o : Option Request) (c : Heard) (calls : List Told) (rest : List Heard) → CanGet o c.reply → map heard_of calls ≡ rest → map heard_of (with_told o c calls) ≡ rest ++ c ∷ []
+told_more : (o : Option Request) (c : Received) (calls : List RecoverCall) (rest : List Received) → CanGet o c.reply → map received_of calls ≡ rest → map received_of (with_recover_call o c calls) ≡ rest ++ c ∷ []
 told_more None c calls rest gets e = absurd gets
-told_more (Some q) c calls rest gets e = map-append heard_of calls (record { request = q; reply = c.reply; now = c.now } ∷ []) ∙ ap (λ hs. hs ++ c ∷ []) e
+told_more (Some q) c calls rest gets e = map-append received_of calls (record { request = q; reply = c.reply; now = c.now } ∷ []) ∙ ap (λ hs. hs ++ c ∷ []) e
 
-pub told_are : (rec : Record) (meta : Meta) (past : List Heard) → RecoverPlayed rec meta past → map heard_of (calls_of_recovery rec meta past) ≡ reverse past
+pub told_are : (rec : Record) (meta : Meta) (past : List Received) → AreRecoverReplies rec meta past → map received_of (calls_of_recovery rec meta past) ≡ reverse past
 told_are rec meta [] played = refl
 told_are rec meta (c ∷ past) played =
     told_more (recover_pending rec meta past) c (calls_of_recovery rec meta past) (reverse past) played.1 (told_are rec meta past played.0) ∙ sym (reverse_more c past)
 
 ---- fine calls
 
-fine_last : (meta : Meta) (calls : List Told) (t : Told) → AllFine meta (calls ++ t ∷ []) → AllFine meta calls × ((is_served t.reply ≡ true) × (holds_malformed meta.id t.reply ≡ false))
+fine_last : (meta : Meta) (calls : List RecoverCall) (t : RecoverCall) → HaveNoFailure meta (calls ++ t ∷ []) → HaveNoFailure meta calls × ((is_served t.reply ≡ true) × (holds_malformed meta.id t.reply ≡ false))
 fine_last meta [] t all = (tt, all.0)
 fine_last meta (u ∷ calls) t all = let rest = fine_last meta calls t all.1 in ((all.0, rest.0), rest.1)
 
-fine_told : (meta : Meta) (o : Option Request) (c : Heard) (calls : List Told) → CanGet o c.reply → AllFine meta (with_told o c calls) → AllFine meta calls × ((is_served c.reply ≡ true) × (holds_malformed meta.id c.reply ≡ false))
+fine_told : (meta : Meta) (o : Option Request) (c : Received) (calls : List RecoverCall) → CanGet o c.reply → HaveNoFailure meta (with_recover_call o c calls) → HaveNoFailure meta calls × ((is_served c.reply ≡ true) × (holds_malformed meta.id c.reply ≡ false))
 fine_told meta None c calls gets all = absurd gets
 fine_told meta (Some q) c calls gets all = fine_last meta calls (record { request = q; reply = c.reply; now = c.now }) all
 
@@ -63,22 +63,22 @@ neither : (a b : Bool) → a ≡ false → b ≡ false → (a || b) ≡ false
 neither true b p q = cc
 neither false b p q = q
 
-faultless : (rec : Record) (meta : Meta) (past : List Heard) → RecoverPlayed rec meta past → AllFine meta (calls_of_recovery rec meta past) → heard_fault past ≡ false
+faultless : (rec : Record) (meta : Meta) (past : List Received) → AreRecoverReplies rec meta past → HaveNoFailure meta (calls_of_recovery rec meta past) → received_fault past ≡ false
 faultless rec meta [] played all = refl
 faultless rec meta (c ∷ past) played all =
-    let (rest, fine) = fine_told meta (recover_pending rec meta past) c (calls_of_recovery rec meta past) played.1 all in
-    neither (is_fault c.reply) (heard_fault past) (no_fault c.reply fine.0) (faultless rec meta past played.0 rest)
+    let (rest, valid) = fine_told meta (recover_pending rec meta past) c (calls_of_recovery rec meta past) played.1 all in
+    neither (is_fault c.reply) (received_fault past) (no_fault c.reply valid.0) (faultless rec meta past played.0 rest)
 
 ---- steps
 
 -- it asks at that phase, or ends so
-abbrev By : Record → Meta → List Heard → RecoverPhase → RecoverStep → Type 0
+abbrev By : Record → Meta → List Received → RecoverPhase → RecoverStep → Type 0
 By rec meta past p steps.More = is_some (recover_request_at rec meta p) ≡ true
 By rec meta past p (steps.Image image) = Unit {0}
 By rec meta past p (steps.Busy id prepared_at) = found_pending meta past ≡ true
 By rec meta past p a = ⊥
 
-as_resolved : (rec : Record) (meta : Meta) (past : List Heard) (s : RecoverStep) → By rec meta past (recover_after rec meta past) s → Resolves rec meta past s
+as_resolved : (rec : Record) (meta : Meta) (past : List Received) (s : RecoverStep) → By rec meta past (recover_after rec meta past) s → Resolves rec meta past s
 as_resolved rec meta past steps.More by = by
 as_resolved rec meta past (steps.Image image) by = tt
 as_resolved rec meta past (steps.Busy id prepared_at) by = by
@@ -86,19 +86,19 @@ as_resolved rec meta past steps.Faulted by = absurd by
 as_resolved rec meta past (steps.BadRecord key) by = absurd by
 as_resolved rec meta past steps.NoMemory by = absurd by
 
-follows_one : (rec : Record) (meta : Meta) (past : List Heard) (e : Decision) (d : Decided)
+follows_one : (rec : Record) (meta : Meta) (past : List Received) (e : Decision) (d : Decided)
     → By rec meta past (elim e as (λ _. RecoverPhase × RecoverStep) [ decision.Committed ↦ (phase.Forward d.created_at, steps.More) | decision.Aborted ↦ (phase.Back, steps.More) ]).0 (elim e as (λ _. RecoverPhase × RecoverStep) [ decision.Committed ↦ (phase.Forward d.created_at, steps.More) | decision.Aborted ↦ (phase.Back, steps.More) ]).1
 follows_one rec meta past decision.Committed d = refl
 follows_one rec meta past decision.Aborted d = refl
 
-follows : (rec : Record) (meta : Meta) (past : List Heard) (v : Result Decided (List ℕ)) → (is_err v ≡ true → ⊥) → By rec meta past (roll_to meta v).0 (roll_to meta v).1
+follows : (rec : Record) (meta : Meta) (past : List Received) (v : Result Decided (List ℕ)) → (is_err v ≡ true → ⊥) → By rec meta past (roll_to meta v).0 (roll_to meta v).1
 follows rec meta past (Err column) formed = absurd (formed refl)
 follows rec meta past (Ok d) formed = follows_one rec meta past d.decision d
 
-row_follows : (rec : Record) (meta : Meta) (past : List Heard) (row : Record) → row.key ≡ coordinator_key_of meta.id → is_malformed meta.id row ≡ false → By rec meta past (roll_to meta (decision_in row)).0 (roll_to meta (decision_in row)).1
+row_follows : (rec : Record) (meta : Meta) (past : List Received) (row : Record) → row.key ≡ coordinator_key_of meta.id → is_malformed meta.id row ≡ false → By rec meta past (roll_to meta (decision_in row)).0 (roll_to meta (decision_in row)).1
 row_follows rec meta past row key formed = follows rec meta past (decision_in row) (λ is. clash (sym (row_malformed meta.id row key is) ∙ formed))
 
-waits : (rec : Record) (meta : Meta) (past : List Heard) (n : ℤ) (b : Bool) → length past ≡ 0 → is_expired meta.prepared_at n ≡ b
+waits : (rec : Record) (meta : Meta) (past : List Received) (n : ℤ) (b : Bool) → length past ≡ 0 → is_expired meta.prepared_at n ≡ b
     → By rec meta (record { reply = reply.Found None; now = n } ∷ past) (cond {A = RecoverPhase × RecoverStep} b (phase.Abort n, steps.More) (phase.Ended, steps.Busy meta.id meta.prepared_at)).0 (cond {A = RecoverPhase × RecoverStep} b (phase.Abort n, steps.More) (phase.Ended, steps.Busy meta.id meta.prepared_at)).1
 waits rec meta past n true none is = refl
 waits rec meta [] n false none is = ap not is
@@ -110,18 +110,18 @@ waits rec meta (c ∷ past) n false none is = absurd (none_left (length past) no
 no_read : (rec : Record) (meta : Meta) (o : Option Record) → CanGet (recover_request_at rec meta phase.Back) (reply.Found o) → ⊥
 no_read rec meta o gets = by (before_record rec) gets
   where
-    by : (b : Option Record) → CanGet (Some (undo (stands_found meta) rec.key b)) (reply.Found o) → ⊥
+    by : (b : Option Record) → CanGet (Some (undo (is_as_found meta) rec.key b)) (reply.Found o) → ⊥
     by None gets = gets
     by (Some r) gets = gets
 
 no_rows : (rec : Record) (meta : Meta) (rows : List Record) → CanGet (recover_request_at rec meta phase.Back) (reply.Rows rows) → ⊥
 no_rows rec meta rows gets = by (before_record rec) gets
   where
-    by : (b : Option Record) → CanGet (Some (undo (stands_found meta) rec.key b)) (reply.Rows rows) → ⊥
+    by : (b : Option Record) → CanGet (Some (undo (is_as_found meta) rec.key b)) (reply.Rows rows) → ⊥
     by None gets = gets
     by (Some r) gets = gets
 
-resolves_step : (rec : Record) (meta : Meta) (past : List Heard) (d : RecoverPhase) (r : Reply) (n : ℤ) → RecoverStands rec meta past d → CanGet (recover_request_at rec meta d) r → is_served r ≡ true → holds_malformed meta.id r ≡ false → heard_fault past ≡ false
+resolves_step : (rec : Record) (meta : Meta) (past : List Received) (d : RecoverPhase) (r : Reply) (n : ℤ) → RecoverInvariant rec meta past d → CanGet (recover_request_at rec meta d) r → is_served r ≡ true → holds_malformed meta.id r ≡ false → received_fault past ≡ false
     → By rec meta (record { reply = r; now = n } ∷ past) (recover_next rec meta d n r).0 (recover_next rec meta d n r).1
 resolves_step rec meta past phase.Look (reply.Found (Some row)) n s gets seen formed none = row_follows rec meta (record { reply = reply.Found (Some row); now = n } ∷ past) row gets formed
 resolves_step rec meta past phase.Look (reply.Found None) n s gets seen formed none = waits rec meta past n (is_expired meta.prepared_at n) s refl
@@ -152,15 +152,15 @@ resolves_step rec meta past phase.Back (reply.Found o) n s gets seen formed none
 resolves_step rec meta past phase.Back (reply.Rows rows) n s gets seen formed none = absurd (no_rows rec meta rows gets)
 resolves_step rec meta past phase.Ended r n s gets seen formed none = absurd gets
 
-resolves_by : (rec : Record) (meta : Meta) (past : List Heard) → meta.id.0 < 2 ^ 128 → RecoverPlayed rec meta past → AllFine meta (calls_of_recovery rec meta past) → Resolves rec meta past (recover_answer rec meta past)
+resolves_by : (rec : Record) (meta : Meta) (past : List Received) → meta.id.0 < 2 ^ 128 → AreRecoverReplies rec meta past → HaveNoFailure meta (calls_of_recovery rec meta past) → Resolves rec meta past (recover_answer rec meta past)
 resolves_by rec meta [] small played all = refl
 resolves_by rec meta (c ∷ past) small played all =
-    let (rest, fine) = fine_told meta (recover_pending rec meta past) c (calls_of_recovery rec meta past) played.1 all in
+    let (rest, valid) = fine_told meta (recover_pending rec meta past) c (calls_of_recovery rec meta past) played.1 all in
     as_resolved rec meta (c ∷ past) (recover_answer rec meta (c ∷ past))
-    (resolves_step rec meta past (recover_after rec meta past) c.reply c.now (recover_stands rec meta past small played.0) played.1 fine.0 fine.1 (faultless rec meta past played.0 rest))
+    (resolves_step rec meta past (recover_after rec meta past) c.reply c.now (recover_stands rec meta past small played.0) played.1 valid.0 valid.1 (faultless rec meta past played.0 rest))
 
-pub resolves_so : (rec : Record) (meta : Meta) (past : List Heard) → PlaysFine rec meta past → Resolves rec meta past (recover_answer rec meta past)
-resolves_so rec meta past g = resolves_by rec meta past g.plays.small g.plays.played g.fine
+pub resolves_so : (rec : Record) (meta : Meta) (past : List Received) → RecoveryRunsWell rec meta past → Resolves rec meta past (recover_answer rec meta past)
+resolves_so rec meta past g = resolves_by rec meta past g.plays.small g.plays.played g.valid
 
 ---- any answer ends it
 
@@ -225,18 +225,18 @@ has_ended p steps.Faulted ends not = ends
 has_ended p (steps.BadRecord key) ends not = ends
 has_ended p steps.NoMemory ends not = ends
 
-pub ended_so : (rec : Record) (meta : Meta) (past : List Heard) → recover_answer rec meta past ≢ steps.More → recover_after rec meta past ≡ phase.Ended
+pub ended_so : (rec : Record) (meta : Meta) (past : List Received) → recover_answer rec meta past ≢ steps.More → recover_after rec meta past ≡ phase.Ended
 ended_so rec meta [] not = absurd (not refl)
 ended_so rec meta (c ∷ past) not =
     has_ended (recover_after rec meta (c ∷ past)) (recover_answer rec meta (c ∷ past)) (ends_step rec meta (recover_after rec meta past) c.now c.reply) not
 
-four_end : (rec : Record) (meta : Meta) (past : List Heard) (d : RecoverPhase) → RecoverStands rec meta past d → length past ≡ 4 → d ≡ phase.Ended
+four_end : (rec : Record) (meta : Meta) (past : List Received) (d : RecoverPhase) → RecoverInvariant rec meta past d → length past ≡ 4 → d ≡ phase.Ended
 four_end rec meta past phase.Look s four = absurd (omega arith)
-four_end rec meta past (phase.Abort now) (calls, expired, here, fine) four = absurd (omega arith)
+four_end rec meta past (phase.Abort now) (calls, expired, here, valid) four = absurd (omega arith)
 four_end rec meta past phase.Again (calls, expired, faulted) four = absurd (omega arith)
 four_end rec meta past (phase.Forward at) (few, some, learned) four = absurd (omega arith)
 four_end rec meta past phase.Back (few, some, learned) four = absurd (omega arith)
 four_end rec meta past phase.Ended s four = refl
 
-pub fourth_ends : (rec : Record) (meta : Meta) (past : List Heard) → Plays rec meta past → length past ≡ 4 → recover_after rec meta past ≡ phase.Ended
+pub fourth_ends : (rec : Record) (meta : Meta) (past : List Received) → RecoveryRun rec meta past → length past ≡ 4 → recover_after rec meta past ≡ phase.Ended
 fourth_ends rec meta past plays four = four_end rec meta past (recover_after rec meta past) (recover_stands rec meta past plays.small plays.played) four

@@ -34,9 +34,9 @@ use Rattle.sdb_phases.specs.Checks.{checks, difference_in}
 use Rattle.sdb_phases.specs.Steps as small
 use Rattle.sdb_phases.specs.Steps.{CanGet}
 use Rattle.sdb_phases.specs.Commit.{Stage, Preparing, Checking, Deciding, Forward, Stopping, Back, Over, pending, step, after, preparing, checking, forward, back, after_prepare, after_check, after_decide}
-use Rattle.sdb_phases.specs.CommitLaws.{IsLost, Played, writes_of, reads_of}
+use Rattle.sdb_phases.specs.CommitLaws.{IsLost, AreReplies, writes_of, reads_of}
 use Rattle.sdb_paths.specs.Paths.{Call, IsForRow, Makes, calls_of_path, check_requests, undone, with_call}
-use Rattle.sdb_paths.specs.Ends.{IsGivenUp, IsLearned, IsPassed, IsPrepareMoved, IsPutStarved, IsUndecided, ShowsRow, is_served}
+use Rattle.sdb_paths.specs.Ends.{IsGivenUp, IsLearned, IsPassed, IsPrepareChanged, IsPutOutOfMemory, IsUndecided, ObservesRow, is_served}
 use Rattle.sdb_paths.proofs.Lists.{contains_at, take_next}
 use Rattle.sdb_paths.proofs.Rows.{NoRow, no_row_prepare, no_row_check, no_put_back, abort_no_put, put_no_abort, look_no_abort}
 use Rattle.sdb_paths.proofs.Touches.{Touches, applied, touches_more, touches_all, touches_fault, touches_stop, begins_here, writes_here}
@@ -46,7 +46,7 @@ use Rattle.sdb_types.proofs.Basics.{all_each, all_last}
 abbrev pub one : Request → Reply → Call
 one q r = record { request = q; reply = r }
 
-starved_clear : (p : Work) (calls : List Call) → Clear p calls → IsPutStarved p calls
+starved_clear : (p : Work) (calls : List Call) → Clear p calls → IsPutOutOfMemory p calls
 starved_clear p calls clear = all_each (λ (c : Call). NoRow p c.request) (λ (c : Call). c.request ≡ decide_of p.id p.now → c.reply ≡ reply.NoMemory) calls (λ c n e. absurd (n.no_put e)) clear
 
 undecided_clear : (p : Work) (calls : List Call) → Clear p calls → IsUndecided p calls
@@ -112,7 +112,7 @@ prepare_goes : (p : Work) (calls : List Call) (i : ℕ) (o : Option Write) (r : 
 prepare_goes p calls i None r h at gets = absurd gets
 prepare_goes p calls i (Some w) reply.Applied h at gets = prepared p calls i (prepare_of p.id p.now w) (nat_lt (i + 1) (length p.writes)) at (at_prepare p i w h) refl
 prepare_goes p calls i (Some w) (reply.NotMet found) h at gets =
-    let moved : IsPrepareMoved p (one (prepare_of p.id p.now w) (reply.NotMet found)) (prepared_record w p.id p.now).key found = record { write = w; among = contains_at p.writes i w h; same = sym (prepared-key w p.id p.now); asked = refl; shown = refl; moved = gets.1 } in
+    let moved : IsPrepareChanged p (one (prepare_of p.id p.now w) (reply.NotMet found)) (prepared_record w p.id p.now).key found = record { write = w; among = contains_at p.writes i w h; same = sym (prepared-key w p.id p.now); asked = refl; shown = refl; moved = gets.1 } in
     stopped p calls i i (prepare_of p.id p.now w) (reply.NotMet found) (outcome.Conflict (prepared_record w p.id p.now).key found) at (at_prepare p i w h) tt
     (touches_stop p calls i w (reply.NotMet found) at.whole at.within h (λ rest. refl) (λ e. cc))
     (one (prepare_of p.id p.now w) (reply.NotMet found), Contains-push calls (one (prepare_of p.id p.now w) (reply.NotMet found)), inl moved, undecided_clear p (calls ++ one (prepare_of p.id p.now w) (reply.NotMet found) ∷ []) (clear_more p calls (prepare_of p.id p.now w) (reply.NotMet found) at.clear (no_row_prepare p i (prepare_of p.id p.now w) (at_prepare p i w h))))
@@ -259,7 +259,7 @@ follows_one p calls d a v decision.Committed is f =
     forwarding p calls 0 (record { leads = f.row.leads; row = f.row.row; asks = f.row.asks; learned = f.committed v.created_at (ap (λ x. Ok (record { decision = x; created_at = v.created_at })) is) }) (omega arith)
 follows_one p calls d a v decision.Aborted is f = backs_all p calls d a f.row (f.aborted v.created_at (ap (λ x. Ok (record { decision = x; created_at = v.created_at })) is))
 
-follows : (p : Work) (calls : List Call) (d : DecidePhase) (a : DecideStep) (v : Result Decided (List ℕ)) → Follows p calls a v → Goes p calls (after_decide p d (small.told p.id a v))
+follows : (p : Work) (calls : List Call) (d : DecidePhase) (a : DecideStep) (v : Result Decided (List ℕ)) → Follows p calls a v → Goes p calls (after_decide p d (small.step_of_row p.id a v))
 follows p calls d a (Err column) f = f.row
 follows p calls d a (Ok v) f = follows_one p calls d a v v.decision refl f
 
@@ -269,15 +269,15 @@ put_row p calls r at = record { leads = leads_all p calls (one (decide_of p.id p
 row_more : (p : Work) (calls : List Call) (q : Request) (r : Reply) → AtRow p calls → IsForRow p q → AtRow p (calls ++ one q r ∷ [])
 row_more p calls q r at is = record { leads = leads_more p calls (one q r) at.leads; row = at.row ++ q ∷ []; asks = asks_row p calls (writes_of p) (reads_of p) at.row q r at.asks is }
 
-learned_row : (p : Work) (calls : List Call) (q : Request) (r : Reply) (at : ℤ) → IsForRow p q → ShowsRow p.id decision.Committed at r → IsLearned p (calls ++ one q r ∷ [])
+learned_row : (p : Work) (calls : List Call) (q : Request) (r : Reply) (at : ℤ) → IsForRow p q → ObservesRow p.id decision.Committed at r → IsLearned p (calls ++ one q r ∷ [])
 learned_row p calls q r at is shown = record { call = one q r; among = Contains-push calls (one q r); for_row = is; learned = inr (at, shown) }
 
-given_row : (p : Work) (calls : List Call) (q : Request) (r : Reply) (at : ℤ) → IsForRow p q → NotOwn p calls → ShowsRow p.id decision.Aborted at r → IsGivenUp p (calls ++ one q r ∷ [])
+given_row : (p : Work) (calls : List Call) (q : Request) (r : Reply) (at : ℤ) → IsForRow p q → NotOwn p calls → ObservesRow p.id decision.Aborted at r → IsGivenUp p (calls ++ one q r ∷ [])
 given_row p calls q r at is none shown = record { before = calls; call = one q r; later = []; whole = refl; for_row = is; at = at; shown = shown; not_own = none }
 
 -- a call that found a row, before any own put of ABORTED
 found_row : (p : Work) (calls : List Call) (q : Request) (r : Reply) (row : Record) → AtRow p (calls ++ one q r ∷ []) → IsForRow p q → NotOwn p calls → row.key ≡ coordinator_key_of p.id → (r ≡ reply.Found (Some row)) ⊎ (r ≡ reply.NotMet (Some row))
-    → Goes p (calls ++ one q r ∷ []) (after_decide p phase.Ended (small.told p.id (steps.Expired p.id) (decision_in row)))
+    → Goes p (calls ++ one q r ∷ []) (after_decide p phase.Ended (small.step_of_row p.id (steps.Expired p.id) (decision_in row)))
 unfolding IsAborted
 found_row p calls q r row at is none key shown =
     follows p (calls ++ one q r ∷ []) phase.Ended (steps.Expired p.id) (decision_in row) (record {
@@ -289,7 +289,7 @@ found_row p calls q r row at is none key shown =
 own_more : (p : Work) (calls : List Call) (q : Request) (r : Reply) → NotOwn p calls → q ≢ abort_of p.id p.now → NotOwn p (calls ++ one q r ∷ [])
 own_more p calls q r none other = all_last (λ (c : Call). c.request ≢ abort_of p.id p.now) calls (one q r) none other
 
-put_starved : (p : Work) (calls : List Call) → Clear p calls → IsPutStarved p (calls ++ one (decide_of p.id p.now) reply.NoMemory ∷ [])
+put_starved : (p : Work) (calls : List Call) → Clear p calls → IsPutOutOfMemory p (calls ++ one (decide_of p.id p.now) reply.NoMemory ∷ [])
 put_starved p calls clear = all_last (λ (c : Call). c.request ≡ decide_of p.id p.now → c.reply ≡ reply.NoMemory) calls (one (decide_of p.id p.now) reply.NoMemory) (starved_clear p calls clear) (λ e. refl)
 
 decide_step : (p : Work) (calls : List Call) (d : DecidePhase) (r : Reply) → Goes p calls (Deciding d) → CanGet (pending p (Deciding d)) r → Goes p (with_call (pending p (Deciding d)) r calls) (step p (Deciding d) r)
@@ -403,7 +403,7 @@ goes_step p calls (Stopping a n) r at gets = stop_step p calls a n r at gets
 goes_step p calls (Back a n i) r at gets = back_step p calls a n i (slice_get (backs p) i) r refl at gets
 goes_step p calls (Over a) r at gets = absurd gets
 
-pub goes : (p : Work) (past : List Reply) → Played p past → Goes p (calls_of_path p past) (after p past)
+pub goes : (p : Work) (past : List Reply) → AreReplies p past → Goes p (calls_of_path p past) (after p past)
 goes p [] played = begins p
 goes p (r ∷ past) played = goes_step p (calls_of_path p past) (after p past) r (goes p past played.0) played.1
 

@@ -15,7 +15,7 @@ use Rattle.sdb_record.specs.declared.coordinator.Decision.{Decision}
 use Rattle.sdb_record.specs.declared.coordinator.Decision.TheVariants as decision
 use Rattle.sdb_record.specs.declared.write.Write.{Write}
 use Rattle.sdb_record.specs.Coordinator.{coordinator_key_of, decision_in}
-use Rattle.sdb_record.specs.Moved.{Moved, version_of, same_version}
+use Rattle.sdb_record.specs.Moved.{IsChanged, version_of, same_version}
 use Rattle.sdb_record.specs.Among.{is_written, version_among}
 use Rattle.sdb_validate.specs.Rescan.{base_in, reads_rise}
 use Rattle.sdb_phases.specs.declared.check.Check.{Check}
@@ -43,56 +43,56 @@ IsUndone p calls = Asks p calls (undone p calls) ⊎ (IsAbortFailed p calls × A
 ---- conflicts
 
 -- the prepare of a write of the key was not met: what is there is no longer its base
-pub record IsPrepareMoved (p : Work) (c : Call) (key : Key) (found : Option Record) : Type 0 where
+pub record IsPrepareChanged (p : Work) (c : Call) (key : Key) (found : Option Record) : Type 0 where
   pub write : Write
   pub among : Contains p.writes write
   pub same : write.key ≡ key
   pub asked : c.request ≡ prepare_of p.id p.now write
   pub shown : c.reply ≡ reply.NotMet found
-  pub moved : Moved found (version_of write.base)
+  pub moved : IsChanged found (version_of write.base)
 
 -- the get of a key that was read, and isn't written, found another version
-pub record IsGetMoved (p : Work) (c : Call) (key : Key) (found : Option Record) : Type 0 where
+pub record IsGetChanged (p : Work) (c : Call) (key : Key) (found : Option Record) : Type 0 where
   pub read : Read
   pub among : Contains p.reads read
   pub same : read.key ≡ key
   pub unwritten : is_written p.writes key ≡ false
   pub asked : c.request ≡ ask.Get key
   pub shown : c.reply ≡ reply.Found found
-  pub moved : Moved found read.version
+  pub moved : IsChanged found read.version
 
 -- what is at a key has moved; at a written key of the span, the base isn't the version that the scan found
-abbrev pub HasMovedThere : Option (Option TxId) → Option Record → Option TxId → Type 0
-HasMovedThere None found version = Moved found version
-HasMovedThere (Some base) found version = same_version base version ≡ false
+abbrev pub HasChangedThere : Option (Option TxId) → Option Record → Option TxId → Type 0
+HasChangedThere None found version = IsChanged found version
+HasChangedThere (Some base) found version = same_version base version ≡ false
 
 -- the rescan found something else at a key than the scan, which found its rows in key order
-pub record IsRescanMoved (p : Work) (c : Call) (key : Key) (found : Option Record) : Type 0 where
+pub record IsRescanChanged (p : Work) (c : Call) (key : Key) (found : Option Record) : Type 0 where
   pub scan : Scan
   pub rows : List Record
   pub among : Contains p.scans scan
   pub asked : c.request ≡ ask.Scan scan.span
   pub shown : c.reply ≡ reply.Rows rows
   pub there : found ≡ record_among rows key
-  pub moved : reads_rise scan.found ≡ true → HasMovedThere (base_in scan.span p.writes key) found (version_among scan.found key)
+  pub moved : reads_rise scan.found ≡ true → HasChangedThere (base_in scan.span p.writes key) found (version_among scan.found key)
 
 -- A call of a prepare or of a check showed this at a key, and it isn't what was read there.
-abbrev pub ShowsMoved : Work → Key → Option Record → Call → Type 0
-ShowsMoved p key found c = IsPrepareMoved p c key found ⊎ (IsGetMoved p c key found ⊎ IsRescanMoved p c key found)
+abbrev pub ObservesChange : Work → Key → Option Record → Call → Type 0
+ObservesChange p key found c = IsPrepareChanged p c key found ⊎ (IsGetChanged p c key found ⊎ IsRescanChanged p c key found)
 
-abbrev pub HasMoved : Work → List Call → Key → Option Record → Type 0
-HasMoved p calls key found = (c : Call) × Contains calls c × ShowsMoved p key found c
+abbrev pub HasChangedBy : Work → List Call → Key → Option Record → Type 0
+HasChangedBy p calls key found = (c : Call) × Contains calls c × ObservesChange p key found c
 
 ---- the row
 
 -- the reply shows the transaction's row, with that decision of that moment
-pub record ShowsRow (id : TxId) (d : Decision) (at : ℤ) (r : Reply) : Type 0 where
+pub record ObservesRow (id : TxId) (d : Decision) (at : ℤ) (r : Reply) : Type 0 where
   pub row : Record
   pub key : row.key ≡ coordinator_key_of id
   pub says : decision_in row ≡ Ok (record { decision = d; created_at = at })
   pub shown : (r ≡ reply.Found (Some row)) ⊎ (r ≡ reply.NotMet (Some row))
 
--- a call for the row was shown it ABORTED, and none before it had put that
+-- a call for the row observed it ABORTED, and none before it had put that
 pub record IsGivenUp (p : Work) (calls : List Call) : Type 0 where
   pub before : List Call
   pub call : Call
@@ -100,19 +100,19 @@ pub record IsGivenUp (p : Work) (calls : List Call) : Type 0 where
   pub whole : calls ≡ before ++ call ∷ later
   pub for_row : IsForRow p call.request
   pub at : ℤ
-  pub shown : ShowsRow p.id decision.Aborted at call.reply
+  pub shown : ObservesRow p.id decision.Aborted at call.reply
   pub not_own : AllByRecursion (λ c. c.request ≢ abort_of p.id p.now) before
 
--- the deciding put was applied, or a call for the row was shown it COMMITTED, of a moment
+-- the deciding put was applied, or a call for the row observed it COMMITTED, of a moment
 pub record IsLearned (p : Work) (calls : List Call) : Type 0 where
   pub call : Call
   pub among : Contains calls call
   pub for_row : IsForRow p call.request
-  pub learned : ((call.request ≡ decide_of p.id p.now) × (call.reply ≡ reply.Applied)) ⊎ ((at : ℤ) × ShowsRow p.id decision.Committed at call.reply)
+  pub learned : ((call.request ≡ decide_of p.id p.now) × (call.reply ≡ reply.Applied)) ⊎ ((at : ℤ) × ObservesRow p.id decision.Committed at call.reply)
 
 -- the deciding put, where it was asked, was out of memory
-abbrev pub IsPutStarved : Work → List Call → Type 0
-IsPutStarved p calls = AllByRecursion (λ c. c.request ≡ decide_of p.id p.now → c.reply ≡ reply.NoMemory) calls
+abbrev pub IsPutOutOfMemory : Work → List Call → Type 0
+IsPutOutOfMemory p calls = AllByRecursion (λ c. c.request ≡ decide_of p.id p.now → c.reply ≡ reply.NoMemory) calls
 
 -- the deciding put was not asked
 abbrev pub IsUndecided : Work → List Call → Type 0
@@ -184,8 +184,8 @@ is_unmet (reply.NotMet found) = true
 is_unmet r = false
 
 -- No prepare, no check and no deciding put faulted, was out of memory or not met, and each check found what it is to find.
--- Nothing is said of the rolls.
-pub record GoesWell (p : Work) (calls : List Call) : Type 0 where
+-- The rolls are not part of it.
+pub record HasNoFailure (p : Work) (calls : List Call) : Type 0 where
   pub served : (i : ℕ) (c : Call) → slice_get calls i ≡ Some c → i ≤ calls_before p → is_served c.reply ≡ true
   pub met : (i : ℕ) (c : Call) → slice_get calls i ≡ Some c → i ≤ calls_before p → is_unmet c.reply ≡ false
   pub same : (i : ℕ) (k : Check) (c : Call) → slice_get (checks p) i ≡ Some k → slice_get calls (writes_of p + i) ≡ Some c → difference_in k c.reply ≡ None
@@ -193,4 +193,4 @@ pub record GoesWell (p : Work) (calls : List Call) : Type 0 where
 -- A COMMIT makes these calls, all of them well, and is then at that stage.
 pub record MakesWell (p : Work) (calls : List Call) (s : Stage) : Type 0 where
   pub makes : Makes p calls s
-  pub well : GoesWell p calls
+  pub well : HasNoFailure p calls

@@ -11,7 +11,7 @@ use Rattle.sdb_phases.specs.declared.step.Outcome.{Outcome}
 use Rattle.sdb_phases.specs.Work.{Work, prepares, prepare_of, back_of, decide_of, abort_of, look_of}
 use Rattle.sdb_phases.specs.Checks.{checks}
 use Rattle.sdb_phases.specs.Commit.{Stage, Over, pending, after}
-use Rattle.sdb_phases.specs.CommitLaws.{Played, tells}
+use Rattle.sdb_phases.specs.CommitLaws.{AreReplies, observes_decision}
 
 -- a call: what was asked, and the reply
 pub record Call : Type 0 where
@@ -32,7 +32,7 @@ calls_of_path p (r ∷ past) = with_call (pending p (after p past)) r (calls_of_
 -- A COMMIT makes these calls, over replies that they can get, and is then at that stage.
 pub record Makes (p : Work) (calls : List Call) (s : Stage) : Type 0 where
   pub past : List Reply
-  pub played : Played p past
+  pub played : AreReplies p past
   pub made : calls_of_path p past ≡ calls
   pub stands : after p past ≡ s
 
@@ -56,8 +56,8 @@ abbrev pub replies_of : List Call → List Reply
 replies_of calls = map (λ c. c.reply) calls
 
 -- a reply showed that the transaction's row says that
-abbrev pub was_told : Work → Decision → List Call → Bool
-was_told p d calls = list_any (λ c. tells p.id d (Some c.request) c.reply) calls
+abbrev pub was_observed : Work → Decision → List Call → Bool
+was_observed p d calls = list_any (λ c. observes_decision p.id d (Some c.request) c.reply) calls
 
 ---- what is asked
 

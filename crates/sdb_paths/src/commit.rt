@@ -12,9 +12,9 @@ ghost use Rattle.sdb_phases.specs.declared.step.Outcome.TheVariants as outcome;
 ghost use Rattle.sdb_phases.specs.Work.{Work, forwards, decide_of};
 ghost use Rattle.sdb_phases.specs.Steps.{CanGet};
 ghost use Rattle.sdb_phases.specs.Commit.{Stage, Forward, Back, Over, after, pending, preparing, step};
-ghost use Rattle.sdb_phases.specs.CommitLaws.{Played, seen, IsLost, exact_calls};
-ghost use Rattle.sdb_paths.specs.Paths.{Call, Asks, Begins, EndsIn, IsAsked, Makes, calls_of_path, is_over, replies_of, undone, was_told, with_call};
-ghost use Rattle.sdb_paths.specs.Ends.{HasMoved, HasPassed, IsApplied, IsGivenUp, IsLearned, IsPutStarved, IsReady, IsUndecided, IsUndone, MakesWell, calls_before, has_committed, is_checked, is_prepared};
+ghost use Rattle.sdb_phases.specs.CommitLaws.{AreReplies, seen, IsLost, exact_calls};
+ghost use Rattle.sdb_paths.specs.Paths.{Call, Asks, Begins, EndsIn, IsAsked, Makes, calls_of_path, is_over, replies_of, undone, was_observed, with_call};
+ghost use Rattle.sdb_paths.specs.Ends.{HasChangedBy, HasPassed, IsApplied, IsGivenUp, IsLearned, IsPutOutOfMemory, IsReady, IsUndecided, IsUndone, MakesWell, calls_before, has_committed, is_checked, is_prepared};
 
 /// A COMMIT makes its calls one after the other, from none on, and has one pending until it ends.
 pub fn made()
@@ -26,11 +26,11 @@ pub fn made()
 /// The calls hold the replies, each in its turn, and each reply is one that its call can get. The first calls are the
 /// prepares, each after the one before was applied. What was learned of the row is what they say.
 pub fn path()
-    ensures replies { (p : Work) (past : List Reply) → Played p past → replies_of (calls_of_path p past) ≡ reverse past }
+    ensures replies { (p : Work) (past : List Reply) → AreReplies p past → replies_of (calls_of_path p past) ≡ reverse past }
     ensures fits { (p : Work) (calls : List Call) (s : Stage) → Makes p calls s → AllByRecursion (λ c. CanAnswer c.request c.reply) calls }
     ensures begins { (p : Work) (calls : List Call) (s : Stage) → Makes p calls s → Begins p calls }
-    ensures committed { (p : Work) (past : List Reply) → Played p past → (seen p past).committed ≡ was_told p decision.Committed (calls_of_path p past) }
-    ensures aborted { (p : Work) (past : List Reply) → Played p past → (seen p past).aborted ≡ was_told p decision.Aborted (calls_of_path p past) }
+    ensures committed { (p : Work) (past : List Reply) → AreReplies p past → (seen p past).committed ≡ was_observed p decision.Committed (calls_of_path p past) }
+    ensures aborted { (p : Work) (past : List Reply) → AreReplies p past → (seen p past).aborted ≡ was_observed p decision.Aborted (calls_of_path p past) }
 {}
 
 /// A COMMIT that is answered Committed rolls each write forward, once and in order, and none back. One that is answered
@@ -51,19 +51,19 @@ pub fn rolling()
     ensures next { (p : Work) (calls : List Call) (a : Outcome) (n i : ℕ) → Makes p calls (Back a n i) → pending p (Back a n i) ≡ slice_get (undone p calls) i }
 {}
 
-/// A conflict is shown by the reply to a prepare or a check of its key, which isn't what was read there, and the deciding put
-/// was not asked. Expired is answered only where a call for the row was shown it ABORTED and none before had put that. Out of
+/// A conflict is observed in the reply to a prepare or a check of its key, which isn't what was read there, and the deciding put
+/// was not asked. Expired is answered only where a call for the row observed it ABORTED and none before had put that. Out of
 /// memory ends a COMMIT that asked for its deciding put only where that put was out of memory.
 pub fn causes()
-    ensures conflict { (p : Work) (calls : List Call) (key : Key) (found : Option Record) → EndsIn p calls (outcome.Conflict key found) → HasMoved p calls key found }
+    ensures conflict { (p : Work) (calls : List Call) (key : Key) (found : Option Record) → EndsIn p calls (outcome.Conflict key found) → HasChangedBy p calls key found }
     ensures undecided { (p : Work) (calls : List Call) (key : Key) (found : Option Record) → EndsIn p calls (outcome.Conflict key found) → IsUndecided p calls }
     ensures expired { (p : Work) (calls : List Call) (id : TxId) → EndsIn p calls (outcome.Expired id) → (id ≡ p.id) × IsGivenUp p calls }
-    ensures starved { (p : Work) (calls : List Call) → EndsIn p calls outcome.NoMemory → IsPutStarved p calls }
+    ensures out_of_memory { (p : Work) (calls : List Call) → EndsIn p calls outcome.NoMemory → IsPutOutOfMemory p calls }
 {}
 
 /// Each prepare that it went on from was the call in its place, and was applied; each check that it went on from was the call
 /// in its place after them, and found what it was to find. So did all of them where the deciding put was asked. Where it
-/// rolls forward, or is answered Committed, that put was applied or the row was shown COMMITTED.
+/// rolls forward, or is answered Committed, that put was applied or the row was observed COMMITTED.
 pub fn places()
     ensures prepared { (p : Work) (calls : List Call) (s : Stage) (i : ℕ) → Makes p calls s → is_prepared i s ≡ true → IsApplied p calls i }
     ensures checked { (p : Work) (calls : List Call) (s : Stage) (i : ℕ) → Makes p calls s → is_checked i s ≡ true → HasPassed p calls i }

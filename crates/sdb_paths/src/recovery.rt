@@ -3,22 +3,22 @@ ghost use Rattle.std.specs.Prelude.{◌≡◌, ◌≢◌, List, length, map, rev
 ghost use Rattle.sdb_types.specs.declared.record.Record.{Record};
 ghost use Rattle.sdb_record.specs.declared.meta.Meta.{Meta};
 ghost use Rattle.sdb_phases.specs.declared.step.RecoverStep.TheVariants as recover_step;
-ghost use Rattle.sdb_phases.specs.Recover.{Heard, RecoverPlayed, recover_answer};
-ghost use Rattle.sdb_paths.specs.Recoveries.{HasEnded, Plays, PlaysFine, Resolves, calls_of_recovery, heard_of};
+ghost use Rattle.sdb_phases.specs.Recover.{Received, AreRecoverReplies, recover_answer};
+ghost use Rattle.sdb_paths.specs.Recoveries.{HasEnded, RecoveryRun, RecoveryRunsWell, Resolves, calls_of_recovery, received_of};
 
 /// The calls hold the replies, each in its turn.
-pub fn told()
-    ensures { (rec : Record) (meta : Meta) (past : List Heard) → RecoverPlayed rec meta past → map heard_of (calls_of_recovery rec meta past) ≡ reverse past }
+pub fn recoveries_are_decided()
+    ensures { (rec : Record) (meta : Meta) (past : List Received) → AreRecoverReplies rec meta past → map received_of (calls_of_recovery rec meta past) ≡ reverse past }
 {}
 
-/// A recovery none of whose calls faulted, was out of memory or was shown a malformed row goes on, or ends with the record's
+/// A recovery none of whose calls faulted, was out of memory or was observed a malformed row goes on, or ends with the record's
 /// image, or is busy, and that only where its look found no row before the record has expired.
 pub fn resolves()
-    ensures { (rec : Record) (meta : Meta) (past : List Heard) → PlaysFine rec meta past → Resolves rec meta past (recover_answer rec meta past) }
+    ensures { (rec : Record) (meta : Meta) (past : List Received) → RecoveryRunsWell rec meta past → Resolves rec meta past (recover_answer rec meta past) }
 {}
 
 /// Any answer ends a recovery, out of memory too, and so does the fourth reply.
 pub fn ended()
-    ensures answered { (rec : Record) (meta : Meta) (past : List Heard) → recover_answer rec meta past ≢ recover_step.More → HasEnded rec meta past }
-    ensures fourth { (rec : Record) (meta : Meta) (past : List Heard) → Plays rec meta past → length past ≡ 4 → HasEnded rec meta past }
+    ensures answered { (rec : Record) (meta : Meta) (past : List Received) → recover_answer rec meta past ≢ recover_step.More → HasEnded rec meta past }
+    ensures fourth { (rec : Record) (meta : Meta) (past : List Received) → RecoveryRun rec meta past → length past ≡ 4 → HasEnded rec meta past }
 {}

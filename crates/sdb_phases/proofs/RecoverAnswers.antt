@@ -20,34 +20,34 @@ use Rattle.sdb_phases.specs.declared.step.RecoverPhase.{RecoverPhase}
 use Rattle.sdb_phases.specs.declared.step.RecoverPhase.TheVariants as phase
 use Rattle.sdb_phases.specs.Steps.{CanGet}
 use Rattle.sdb_phases.specs.CommitLaws.{is_malformed, holds_malformed}
-use Rattle.sdb_phases.specs.Recover.{Heard, RecoverPlayed, recover_after, recover_answer, recover_request_at, recover_next, roll_to}
-use Rattle.sdb_phases.specs.RecoverLaws.{RecoverStands, RecoverEnds, WasRolled, RollsTo, found_pending, heard_fault, heard_malformed}
+use Rattle.sdb_phases.specs.Recover.{Received, AreRecoverReplies, recover_after, recover_answer, recover_request_at, recover_next, roll_to}
+use Rattle.sdb_phases.specs.RecoverLaws.{RecoverInvariant, RecoverEnds, WasRolled, RollsTo, found_pending, received_fault, received_malformed}
 use Rattle.sdb_phases.proofs.Stands.{row_malformed}
 use Rattle.sdb_phases.proofs.RecoverStands.{recover_stands}
 
 -- a row that was found is followed, or isn't well formed
-follow_ends : (rec : Record) (meta : Meta) (past : List Heard) (v : Result Decided (List ℕ)) → (is_err v ≡ true → heard_malformed meta past ≡ true) → RecoverEnds rec meta past (roll_to meta v).1
+follow_ends : (rec : Record) (meta : Meta) (past : List Received) (v : Result Decided (List ℕ)) → (is_err v ≡ true → received_malformed meta past ≡ true) → RecoverEnds rec meta past (roll_to meta v).1
 follow_ends rec meta past (Err column) malformed = (refl, malformed refl)
 follow_ends rec meta past (Ok d) malformed = by_decision d.decision d where
   by_decision : (e : Decision) (d : Decided) → RecoverEnds rec meta past (elim e as (λ _. RecoverPhase × RecoverStep) [ decision.Committed ↦ (phase.Forward d.created_at, steps.More) | decision.Aborted ↦ (phase.Back, steps.More) ]).1
   by_decision decision.Committed d = tt
   by_decision decision.Aborted d = tt
 
-row_ends : (rec : Record) (meta : Meta) (past : List Heard) (c : Heard) (row : Record) → row.key ≡ coordinator_key_of meta.id → holds_malformed meta.id c.reply ≡ is_malformed meta.id row → RecoverEnds rec meta (c ∷ past) (roll_to meta (decision_in row)).1
+row_ends : (rec : Record) (meta : Meta) (past : List Received) (c : Received) (row : Record) → row.key ≡ coordinator_key_of meta.id → holds_malformed meta.id c.reply ≡ is_malformed meta.id row → RecoverEnds rec meta (c ∷ past) (roll_to meta (decision_in row)).1
 row_ends rec meta past c row key holds =
     follow_ends rec meta (c ∷ past) (decision_in row) (λ is. holds ∙ row_malformed meta.id row key is)
 
 -- without a row it is busy until the record expires
-waits : (rec : Record) (meta : Meta) (past : List Heard) (n : ℤ) (b : Bool) → length past ≡ 0 → is_expired meta.prepared_at n ≡ b
+waits : (rec : Record) (meta : Meta) (past : List Received) (n : ℤ) (b : Bool) → length past ≡ 0 → is_expired meta.prepared_at n ≡ b
     → RecoverEnds rec meta (record { reply = reply.Found None; now = n } ∷ past) (cond {A = RecoverPhase × RecoverStep} b (phase.Abort n, steps.More) (phase.Ended, steps.Busy meta.id meta.prepared_at)).1
 waits rec meta past n true none is = tt
 waits rec meta [] n false none is = (refl, refl, ap not is)
 waits rec meta (c ∷ past) n false none is = absurd (omega arith)
 
-roll_ends : (rec : Record) (meta : Meta) (past : List Heard) (d : RecoverPhase) (image : Option Record) → recover_after rec meta past ≡ d → RollsTo rec meta past d image → RollsTo rec meta past (recover_after rec meta past) image
+roll_ends : (rec : Record) (meta : Meta) (past : List Received) (d : RecoverPhase) (image : Option Record) → recover_after rec meta past ≡ d → RollsTo rec meta past d image → RollsTo rec meta past (recover_after rec meta past) image
 roll_ends rec meta past d image e rolls = subst (λ x. RollsTo rec meta past x image) (sym e) rolls
 
-ends : (rec : Record) (meta : Meta) (past : List Heard) (d : RecoverPhase) (r : Reply) (n : ℤ) → recover_after rec meta past ≡ d → RecoverStands rec meta past d → CanGet (recover_request_at rec meta d) r
+ends : (rec : Record) (meta : Meta) (past : List Received) (d : RecoverPhase) (r : Reply) (n : ℤ) → recover_after rec meta past ≡ d → RecoverInvariant rec meta past d → CanGet (recover_request_at rec meta d) r
     → RecoverEnds rec meta (record { reply = r; now = n } ∷ past) (recover_next rec meta d n r).1
 ends rec meta past phase.Look (reply.Found (Some row)) n e s gets = row_ends rec meta past (record { reply = reply.Found (Some row); now = n }) row gets refl
 ends rec meta past phase.Look (reply.Found None) n e s gets = waits rec meta past n (is_expired meta.prepared_at n) s refl
@@ -84,22 +84,22 @@ ends rec meta past phase.Back (reply.Found o) n e s gets = tt
 ends rec meta past phase.Back (reply.Rows rows) n e s gets = tt
 ends rec meta past phase.Ended r n e s gets = absurd gets
 
-recover_so : (rec : Record) (meta : Meta) (past : List Heard) → meta.id.0 < 2 ^ 128 → RecoverPlayed rec meta past → RecoverEnds rec meta past (recover_answer rec meta past)
+recover_so : (rec : Record) (meta : Meta) (past : List Received) → meta.id.0 < 2 ^ 128 → AreRecoverReplies rec meta past → RecoverEnds rec meta past (recover_answer rec meta past)
 recover_so rec meta [] small played = tt
 recover_so rec meta (c ∷ past) small (played, gets, moment) =
     ends rec meta past (recover_after rec meta past) c.reply c.now refl (recover_stands rec meta past small played) gets
 
-answers_at : (rec : Record) (meta : Meta) (past : List Heard) (a : RecoverStep) → meta.id.0 < 2 ^ 128 → RecoverPlayed rec meta past → recover_answer rec meta past ≡ a → RecoverEnds rec meta past a
+answers_at : (rec : Record) (meta : Meta) (past : List Received) (a : RecoverStep) → meta.id.0 < 2 ^ 128 → AreRecoverReplies rec meta past → recover_answer rec meta past ≡ a → RecoverEnds rec meta past a
 answers_at rec meta past a small played e = subst (RecoverEnds rec meta past) e (recover_so rec meta past small played)
 
-pub busy_pending : (rec : Record) (meta : Meta) (past : List Heard) (id : TxId) (prepared_at : ℤ) → meta.id.0 < 2 ^ 128 → RecoverPlayed rec meta past → recover_answer rec meta past ≡ steps.Busy id prepared_at → (id ≡ meta.id) × (prepared_at ≡ meta.prepared_at) × (found_pending meta past ≡ true)
+pub busy_pending : (rec : Record) (meta : Meta) (past : List Received) (id : TxId) (prepared_at : ℤ) → meta.id.0 < 2 ^ 128 → AreRecoverReplies rec meta past → recover_answer rec meta past ≡ steps.Busy id prepared_at → (id ≡ meta.id) × (prepared_at ≡ meta.prepared_at) × (found_pending meta past ≡ true)
 busy_pending rec meta past id prepared_at = answers_at rec meta past (steps.Busy id prepared_at)
 
-pub image_rolled : (rec : Record) (meta : Meta) (past : List Heard) (image : Option Record) → meta.id.0 < 2 ^ 128 → RecoverPlayed rec meta past → recover_answer rec meta past ≡ steps.Image image → WasRolled rec meta past image
+pub image_rolled : (rec : Record) (meta : Meta) (past : List Received) (image : Option Record) → meta.id.0 < 2 ^ 128 → AreRecoverReplies rec meta past → recover_answer rec meta past ≡ steps.Image image → WasRolled rec meta past image
 image_rolled rec meta past image = answers_at rec meta past (steps.Image image)
 
-pub faulted_fault : (rec : Record) (meta : Meta) (past : List Heard) → meta.id.0 < 2 ^ 128 → RecoverPlayed rec meta past → recover_answer rec meta past ≡ steps.Faulted → heard_fault past ≡ true
+pub faulted_fault : (rec : Record) (meta : Meta) (past : List Received) → meta.id.0 < 2 ^ 128 → AreRecoverReplies rec meta past → recover_answer rec meta past ≡ steps.Faulted → received_fault past ≡ true
 faulted_fault rec meta past = answers_at rec meta past steps.Faulted
 
-pub bad_malformed : (rec : Record) (meta : Meta) (past : List Heard) (key : Key) → meta.id.0 < 2 ^ 128 → RecoverPlayed rec meta past → recover_answer rec meta past ≡ steps.BadRecord key → (key ≡ coordinator_key_of meta.id) × (heard_malformed meta past ≡ true)
+pub bad_malformed : (rec : Record) (meta : Meta) (past : List Received) (key : Key) → meta.id.0 < 2 ^ 128 → AreRecoverReplies rec meta past → recover_answer rec meta past ≡ steps.BadRecord key → (key ≡ coordinator_key_of meta.id) × (received_malformed meta past ≡ true)
 bad_malformed rec meta past key = answers_at rec meta past (steps.BadRecord key)

@@ -19,13 +19,13 @@ use Rattle.sdb_phases.specs.declared.step.RecoverPhase.{RecoverPhase}
 use Rattle.sdb_phases.specs.declared.step.RecoverPhase.TheVariants as phase
 use Rattle.sdb_phases.specs.Work.{abort_of}
 use Rattle.sdb_phases.specs.Steps.{CanGet}
-use Rattle.sdb_phases.specs.CommitLaws.{tells, is_decision}
-use Rattle.sdb_phases.specs.Recover.{Heard, RecoverPlayed, recover_after, recover_pending, recover_request_at, recover_next, roll_to}
-use Rattle.sdb_phases.specs.RecoverLaws.{RecoverStands, learned_committed, learned_aborted, found_expired, was_committed_at, tells_committed_at}
+use Rattle.sdb_phases.specs.CommitLaws.{observes_decision, is_decision}
+use Rattle.sdb_phases.specs.Recover.{Received, AreRecoverReplies, recover_after, recover_pending, recover_request_at, recover_next, roll_to}
+use Rattle.sdb_phases.specs.RecoverLaws.{RecoverInvariant, learned_committed, learned_aborted, found_expired, was_committed_at, observes_committed_at}
 use Rattle.sdb_phases.proofs.Stands.{row_says, left}
 
 -- The list of what was heard, seen from outside: what was learned by it.
-pub record Knows (rec : Record) (meta : Meta) (past : List Heard) (v : Result Decided (List ℕ)) : Type 0 where
+pub record Knows (rec : Record) (meta : Meta) (past : List Received) (v : Result Decided (List ℕ)) : Type 0 where
   some : 0 < length past
   few : length past ≤ 3
   committed : (at : ℤ) → was_committed_at at v ≡ true → learned_committed rec meta at past ≡ true
@@ -34,8 +34,8 @@ pub record Knows (rec : Record) (meta : Meta) (past : List Heard) (v : Result De
 int_eq_itself : (n : ℤ) → int_eq n n ≡ true
 int_eq_itself n = search rules
 
-rolls_one : (rec : Record) (meta : Meta) (past : List Heard) (e : Decision) (d : Decided) → d.decision ≡ e → Knows rec meta past (Ok d)
-    → RecoverStands rec meta past (elim e as (λ _. RecoverPhase × RecoverStep) [ decision.Committed ↦ (phase.Forward d.created_at, steps.More) | decision.Aborted ↦ (phase.Back, steps.More) ]).0
+rolls_one : (rec : Record) (meta : Meta) (past : List Received) (e : Decision) (d : Decided) → d.decision ≡ e → Knows rec meta past (Ok d)
+    → RecoverInvariant rec meta past (elim e as (λ _. RecoverPhase × RecoverStep) [ decision.Committed ↦ (phase.Forward d.created_at, steps.More) | decision.Aborted ↦ (phase.Back, steps.More) ]).0
 rolls_one rec meta past decision.Committed d is k =
     let same : was_committed_at d.created_at (Ok d) ≡ true = rw is (int_eq_itself d.created_at) in
     (k.few, k.some, k.committed d.created_at same)
@@ -43,25 +43,25 @@ rolls_one rec meta past decision.Aborted d is k =
     let same : is_decision decision.Aborted (Ok d) ≡ true = rw is refl in
     (k.few, k.some, k.aborted same)
 
-rolls : (rec : Record) (meta : Meta) (past : List Heard) (v : Result Decided (List ℕ)) → Knows rec meta past v → RecoverStands rec meta past (roll_to meta v).0
+rolls : (rec : Record) (meta : Meta) (past : List Received) (v : Result Decided (List ℕ)) → Knows rec meta past v → RecoverInvariant rec meta past (roll_to meta v).0
 rolls rec meta past (Err column) k = let few = k.few in omega arith
 rolls rec meta past (Ok d) k = rolls_one rec meta past d.decision d refl k
 
 ---- steps
 
-learns_committed : (rec : Record) (meta : Meta) (past : List Heard) (d : RecoverPhase) (c : Heard) (at : ℤ) → recover_after rec meta past ≡ d → tells_committed_at at (recover_request_at rec meta d) c.reply ≡ true → learned_committed rec meta at (c ∷ past) ≡ true
+learns_committed : (rec : Record) (meta : Meta) (past : List Received) (d : RecoverPhase) (c : Received) (at : ℤ) → recover_after rec meta past ≡ d → observes_committed_at at (recover_request_at rec meta d) c.reply ≡ true → learned_committed rec meta at (c ∷ past) ≡ true
 learns_committed rec meta past d c at e h =
-    left (tells_committed_at at (recover_pending rec meta past) c.reply) (learned_committed rec meta at past) (ap (λ x. tells_committed_at at (recover_request_at rec meta x) c.reply) e ∙ h)
+    left (observes_committed_at at (recover_pending rec meta past) c.reply) (learned_committed rec meta at past) (ap (λ x. observes_committed_at at (recover_request_at rec meta x) c.reply) e ∙ h)
 
-learns_aborted : (rec : Record) (meta : Meta) (past : List Heard) (d : RecoverPhase) (c : Heard) → recover_after rec meta past ≡ d → tells meta.id decision.Aborted (recover_request_at rec meta d) c.reply ≡ true → learned_aborted rec meta (c ∷ past) ≡ true
+learns_aborted : (rec : Record) (meta : Meta) (past : List Received) (d : RecoverPhase) (c : Received) → recover_after rec meta past ≡ d → observes_decision meta.id decision.Aborted (recover_request_at rec meta d) c.reply ≡ true → learned_aborted rec meta (c ∷ past) ≡ true
 learns_aborted rec meta past d c e h =
-    left (tells meta.id decision.Aborted (recover_pending rec meta past) c.reply) (learned_aborted rec meta past) (ap (λ x. tells meta.id decision.Aborted (recover_request_at rec meta x) c.reply) e ∙ h)
+    left (observes_decision meta.id decision.Aborted (recover_pending rec meta past) c.reply) (learned_aborted rec meta past) (ap (λ x. observes_decision meta.id decision.Aborted (recover_request_at rec meta x) c.reply) e ∙ h)
 
 -- a row that was found at a phase is followed
-row_rolls : (rec : Record) (meta : Meta) (past : List Heard) (d : RecoverPhase) (c : Heard) (row : Record) → recover_after rec meta past ≡ d → length past ≤ 2 → row.key ≡ coordinator_key_of meta.id
-    → ((at : ℤ) → tells_committed_at at (recover_request_at rec meta d) c.reply ≡ was_committed_at at (decision_in row))
-    → (is_decision decision.Aborted (decision_in row) ≡ true → tells meta.id decision.Aborted (recover_request_at rec meta d) c.reply ≡ true)
-    → RecoverStands rec meta (c ∷ past) (roll_to meta (decision_in row)).0
+row_rolls : (rec : Record) (meta : Meta) (past : List Received) (d : RecoverPhase) (c : Received) (row : Record) → recover_after rec meta past ≡ d → length past ≤ 2 → row.key ≡ coordinator_key_of meta.id
+    → ((at : ℤ) → observes_committed_at at (recover_request_at rec meta d) c.reply ≡ was_committed_at at (decision_in row))
+    → (is_decision decision.Aborted (decision_in row) ≡ true → observes_decision meta.id decision.Aborted (recover_request_at rec meta d) c.reply ≡ true)
+    → RecoverInvariant rec meta (c ∷ past) (roll_to meta (decision_in row)).0
 row_rolls rec meta past d c row e few key committed aborted =
     rolls rec meta (c ∷ past) (decision_in row) (record {
       some = omega arith;
@@ -70,22 +70,22 @@ row_rolls rec meta past d c row e few key committed aborted =
       aborted = λ h. learns_aborted rec meta past d c e (aborted h);
     })
 
-expires : (rec : Record) (meta : Meta) (past : List Heard) (n : ℤ) (b : Bool) → length past ≡ 0 → is_moment n ≡ true → is_expired meta.prepared_at n ≡ b
-    → RecoverStands rec meta (record { reply = reply.Found None; now = n } ∷ past) (cond {A = RecoverPhase × RecoverStep} b (phase.Abort n, steps.More) (phase.Ended, steps.Busy meta.id meta.prepared_at)).0
+expires : (rec : Record) (meta : Meta) (past : List Received) (n : ℤ) (b : Bool) → length past ≡ 0 → is_moment n ≡ true → is_expired meta.prepared_at n ≡ b
+    → RecoverInvariant rec meta (record { reply = reply.Found None; now = n } ∷ past) (cond {A = RecoverPhase × RecoverStep} b (phase.Abort n, steps.More) (phase.Ended, steps.Busy meta.id meta.prepared_at)).0
 expires rec meta [] n true none moment is = (refl, is, is, moment)
 expires rec meta [] n false none moment is = omega arith
 expires rec meta (c ∷ past) n b none moment is = absurd (omega arith)
 
-still_expired : (meta : Meta) (c : Heard) (past : List Heard) → 0 < length past → found_expired meta past ≡ true → found_expired meta (c ∷ past) ≡ true
+still_expired : (meta : Meta) (c : Received) (past : List Received) → 0 < length past → found_expired meta past ≡ true → found_expired meta (c ∷ past) ≡ true
 still_expired meta c [] some h = absurd (omega arith)
 still_expired meta c (d ∷ past) some h = h
 
-own_aborted_says : (id : TxId) (now : ℤ) → id.0 < 2 ^ 128 → is_moment now ≡ true → tells id decision.Aborted (Some (abort_of id now)) reply.Applied ≡ true
+own_aborted_says : (id : TxId) (now : ℤ) → id.0 < 2 ^ 128 → is_moment now ≡ true → observes_decision id decision.Aborted (Some (abort_of id now)) reply.Applied ≡ true
 own_aborted_says id now small moment =
     row_says id decision.Aborted (coordinator_row_of id decision.Aborted now) (row-key id decision.Aborted now) (ap (is_decision decision.Aborted) (row-decision id decision.Aborted now small moment))
 
-step : (rec : Record) (meta : Meta) (past : List Heard) (d : RecoverPhase) (r : Reply) (n : ℤ) → meta.id.0 < 2 ^ 128 → is_moment n ≡ true → recover_after rec meta past ≡ d → RecoverStands rec meta past d → CanGet (recover_request_at rec meta d) r
-    → RecoverStands rec meta (record { reply = r; now = n } ∷ past) (recover_next rec meta d n r).0
+step : (rec : Record) (meta : Meta) (past : List Received) (d : RecoverPhase) (r : Reply) (n : ℤ) → meta.id.0 < 2 ^ 128 → is_moment n ≡ true → recover_after rec meta past ≡ d → RecoverInvariant rec meta past d → CanGet (recover_request_at rec meta d) r
+    → RecoverInvariant rec meta (record { reply = r; now = n } ∷ past) (recover_next rec meta d n r).0
 step rec meta past phase.Look (reply.Found (Some row)) n small moment e s gets =
     row_rolls rec meta past phase.Look (record { reply = reply.Found (Some row); now = n }) row e (omega arith) gets (λ at. refl) (row_says meta.id decision.Aborted row gets)
 step rec meta past phase.Look (reply.Found None) n small moment e s gets = expires rec meta past n (is_expired meta.prepared_at n) s moment refl
@@ -94,15 +94,15 @@ step rec meta past phase.Look reply.NoMemory n small moment e s gets = omega ari
 step rec meta past phase.Look reply.Applied n small moment e s gets = absurd gets
 step rec meta past phase.Look (reply.NotMet o) n small moment e s gets = absurd gets
 step rec meta past phase.Look (reply.Rows rows) n small moment e s gets = absurd gets
-step rec meta past (phase.Abort now) reply.Applied n small moment e (calls, expired, here, fine) gets =
-    (omega arith, omega arith, learns_aborted rec meta past (phase.Abort now) (record { reply = reply.Applied; now = n }) e (own_aborted_says meta.id now small fine))
-step rec meta past (phase.Abort now) (reply.NotMet (Some row)) n small moment e (calls, expired, here, fine) gets =
+step rec meta past (phase.Abort now) reply.Applied n small moment e (calls, expired, here, valid) gets =
+    (omega arith, omega arith, learns_aborted rec meta past (phase.Abort now) (record { reply = reply.Applied; now = n }) e (own_aborted_says meta.id now small valid))
+step rec meta past (phase.Abort now) (reply.NotMet (Some row)) n small moment e (calls, expired, here, valid) gets =
     let key : row.key ≡ coordinator_key_of meta.id = gets.0 ∙ row-key meta.id decision.Aborted now in
     row_rolls rec meta past (phase.Abort now) (record { reply = reply.NotMet (Some row); now = n }) row e (omega arith) key (λ at. refl) (row_says meta.id decision.Aborted row key)
 step rec meta past (phase.Abort now) (reply.NotMet None) n small moment e s gets = cc (gets.1)
-step rec meta past (phase.Abort now) reply.Fault n small moment e (calls, expired, here, fine) gets =
+step rec meta past (phase.Abort now) reply.Fault n small moment e (calls, expired, here, valid) gets =
     (omega arith, still_expired meta (record { reply = reply.Fault; now = n }) past (omega arith) expired, refl)
-step rec meta past (phase.Abort now) reply.NoMemory n small moment e (calls, expired, here, fine) gets = omega arith
+step rec meta past (phase.Abort now) reply.NoMemory n small moment e (calls, expired, here, valid) gets = omega arith
 step rec meta past (phase.Abort now) (reply.Found o) n small moment e s gets = absurd gets
 step rec meta past (phase.Abort now) (reply.Rows rows) n small moment e s gets = absurd gets
 step rec meta past phase.Again (reply.Found (Some row)) n small moment e (calls, expired, faulted) gets =
@@ -127,33 +127,33 @@ step rec meta past phase.Back (reply.Found o) n small moment e (few, some, learn
 step rec meta past phase.Back (reply.Rows rows) n small moment e (few, some, learned) gets = omega arith
 step rec meta past phase.Ended r n small moment e s gets = absurd gets
 
-pub recover_stands : (rec : Record) (meta : Meta) (past : List Heard) → meta.id.0 < 2 ^ 128 → RecoverPlayed rec meta past → RecoverStands rec meta past (recover_after rec meta past)
+pub recover_stands : (rec : Record) (meta : Meta) (past : List Received) → meta.id.0 < 2 ^ 128 → AreRecoverReplies rec meta past → RecoverInvariant rec meta past (recover_after rec meta past)
 recover_stands rec meta [] small played = refl
 recover_stands rec meta (c ∷ past) small (played, gets, moment) =
     step rec meta past (recover_after rec meta past) c.reply c.now small moment refl (recover_stands rec meta past small played) gets
 
-stands_at : (rec : Record) (meta : Meta) (past : List Heard) (d : RecoverPhase) → meta.id.0 < 2 ^ 128 → RecoverPlayed rec meta past → recover_after rec meta past ≡ d → RecoverStands rec meta past d
-stands_at rec meta past d small played e = subst (RecoverStands rec meta past) e (recover_stands rec meta past small played)
+stands_at : (rec : Record) (meta : Meta) (past : List Received) (d : RecoverPhase) → meta.id.0 < 2 ^ 128 → AreRecoverReplies rec meta past → recover_after rec meta past ≡ d → RecoverInvariant rec meta past d
+stands_at rec meta past d small played e = subst (RecoverInvariant rec meta past) e (recover_stands rec meta past small played)
 
-few_calls : (rec : Record) (meta : Meta) (past : List Heard) (d : RecoverPhase) → RecoverStands rec meta past d → length past ≤ 4
+few_calls : (rec : Record) (meta : Meta) (past : List Received) (d : RecoverPhase) → RecoverInvariant rec meta past d → length past ≤ 4
 few_calls rec meta past phase.Look s = omega arith
-few_calls rec meta past (phase.Abort now) (calls, expired, here, fine) = omega arith
+few_calls rec meta past (phase.Abort now) (calls, expired, here, valid) = omega arith
 few_calls rec meta past phase.Again (calls, expired, faulted) = omega arith
 few_calls rec meta past (phase.Forward at) (few, some, learned) = omega arith
 few_calls rec meta past phase.Back (few, some, learned) = omega arith
 few_calls rec meta past phase.Ended s = s
 
-pub recovers_in_four : (rec : Record) (meta : Meta) (past : List Heard) → meta.id.0 < 2 ^ 128 → RecoverPlayed rec meta past → length past ≤ 4
+pub recovers_in_four : (rec : Record) (meta : Meta) (past : List Received) → meta.id.0 < 2 ^ 128 → AreRecoverReplies rec meta past → length past ≤ 4
 recovers_in_four rec meta past small played = few_calls rec meta past (recover_after rec meta past) (recover_stands rec meta past small played)
 
-pub aborts_expired : (rec : Record) (meta : Meta) (past : List Heard) (now : ℤ) → meta.id.0 < 2 ^ 128 → RecoverPlayed rec meta past → recover_after rec meta past ≡ phase.Abort now → (length past ≡ 1) × (found_expired meta past ≡ true)
+pub aborts_expired : (rec : Record) (meta : Meta) (past : List Received) (now : ℤ) → meta.id.0 < 2 ^ 128 → AreRecoverReplies rec meta past → recover_after rec meta past ≡ phase.Abort now → (length past ≡ 1) × (found_expired meta past ≡ true)
 aborts_expired rec meta past now small played e =
-    let (calls, expired, here, fine) = stands_at rec meta past (phase.Abort now) small played e in (calls, expired)
+    let (calls, expired, here, valid) = stands_at rec meta past (phase.Abort now) small played e in (calls, expired)
 
-pub forwards_committed : (rec : Record) (meta : Meta) (past : List Heard) (at : ℤ) → meta.id.0 < 2 ^ 128 → RecoverPlayed rec meta past → recover_after rec meta past ≡ phase.Forward at → learned_committed rec meta at past ≡ true
+pub forwards_committed : (rec : Record) (meta : Meta) (past : List Received) (at : ℤ) → meta.id.0 < 2 ^ 128 → AreRecoverReplies rec meta past → recover_after rec meta past ≡ phase.Forward at → learned_committed rec meta at past ≡ true
 forwards_committed rec meta past at small played e =
     let (few, some, learned) = stands_at rec meta past (phase.Forward at) small played e in learned
 
-pub backs_aborted : (rec : Record) (meta : Meta) (past : List Heard) → meta.id.0 < 2 ^ 128 → RecoverPlayed rec meta past → recover_after rec meta past ≡ phase.Back → learned_aborted rec meta past ≡ true
+pub backs_aborted : (rec : Record) (meta : Meta) (past : List Received) → meta.id.0 < 2 ^ 128 → AreRecoverReplies rec meta past → recover_after rec meta past ≡ phase.Back → learned_aborted rec meta past ≡ true
 backs_aborted rec meta past small played e =
     let (few, some, learned) = stands_at rec meta past phase.Back small played e in learned

@@ -27,9 +27,9 @@ use Rattle.sdb_phases.specs.declared.step.DecidePhase.TheVariants as phase
 use Rattle.sdb_phases.specs.Work.{Work, prepares}
 use Rattle.sdb_phases.specs.Checks.{checks, difference_in}
 use Rattle.sdb_phases.specs.Steps as small
-use Rattle.sdb_phases.specs.Steps.{CanGet, told}
+use Rattle.sdb_phases.specs.Steps.{CanGet, step_of_row}
 use Rattle.sdb_phases.specs.Commit.{Stage, Preparing, Checking, Deciding, Forward, Stopping, Back, Over, pending, step, after, preparing, checking, forward, back, after_prepare, after_check, after_decide}
-use Rattle.sdb_phases.specs.CommitLaws.{IsWork, Seen, seen, note, nothing_seen, Played, Stands, IsCaused, is_unrecorded, may_undo, without_effect, is_more, is_decision, says, tells, is_malformed, holds_malformed, writes_of, reads_of, most_calls}
+use Rattle.sdb_phases.specs.CommitLaws.{IsWork, Seen, seen, item, nothing_seen, AreReplies, StageInvariant, IsCaused, is_unrecorded, may_undo, without_effect, is_more, is_decision, is_row_with, observes_decision, is_malformed, holds_malformed, writes_of, reads_of, most_calls}
 use Rattle.sdb_types.proofs.Basics.{or_second as right, fails_second}
 use Rattle.sdb_types.specs.Replies.{is_fault}
 use Rattle.sdb_types.proofs.Bools.{and_both}
@@ -50,7 +50,7 @@ fails_first : (a b : Bool) → a ≡ false → (a && b) ≡ false
 fails_first true b h = cc
 fails_first false b h = refl
 
-by_test : (p : Work) (h : Seen) (b : Bool) (x y : Stage) → (b ≡ true → Stands p h x) → (b ≡ false → Stands p h y) → Stands p h (cond b x y)
+by_test : (p : Work) (h : Seen) (b : Bool) (x y : Stage) → (b ≡ true → StageInvariant p h x) → (b ≡ false → StageInvariant p h y) → StageInvariant p h (cond b x y)
 by_test p h true x y t f = t refl
 by_test p h false x y t f = f refl
 
@@ -59,20 +59,20 @@ by_test p h false x y t f = f refl
 pub at_key : (r : Record) (id : TxId) → r.key ≡ coordinator_key_of id → same_key r.key (coordinator_key_of id) ≡ true
 at_key r id e = ap (λ k. same_key k (coordinator_key_of id)) e ∙ same_key_self (coordinator_key_of id)
 
-pub row_says : (id : TxId) (d : Decision) (row : Record) → row.key ≡ coordinator_key_of id → is_decision d (decision_in row) ≡ true → says id d row ≡ true
+pub row_says : (id : TxId) (d : Decision) (row : Record) → row.key ≡ coordinator_key_of id → is_decision d (decision_in row) ≡ true → is_row_with id d row ≡ true
 row_says id d row key is = and_both (same_key row.key (coordinator_key_of id)) (is_decision d (decision_in row)) (at_key row id key) is
 
 pub row_malformed : (id : TxId) (row : Record) → row.key ≡ coordinator_key_of id → is_err (decision_in row) ≡ true → is_malformed id row ≡ true
 row_malformed id row key is = and_both (same_key row.key (coordinator_key_of id)) (is_err (decision_in row)) (at_key row id key) is
 
 -- what is put is what is learned
-pub own_row_says : (p : Work) (d : Decision) → IsWork p → says p.id d (coordinator_row_of p.id d p.now) ≡ true
+pub own_row_says : (p : Work) (d : Decision) → IsWork p → is_row_with p.id d (coordinator_row_of p.id d p.now) ≡ true
 own_row_says p d is =
     row_says p.id d (coordinator_row_of p.id d p.now) (row-key p.id d p.now) (ap (is_decision d) (row-decision p.id d p.now is.id is.now) ∙ decision_itself d)
 
 ---- stages
 
-over : (p : Work) (h : Seen) (a : Outcome) → IsCaused p h a → is_unrecorded h ≡ true → h.calls ≤ most_calls p → Stands p h (Over a)
+over : (p : Work) (h : Seen) (a : Outcome) → IsCaused p h a → is_unrecorded h ≡ true → h.calls ≤ most_calls p → StageInvariant p h (Over a)
 over p h (outcome.Conflict key found) caused safe most = (safe, most, caused)
 over p h (outcome.Expired id) caused safe most = (safe, most, caused)
 over p h outcome.Faulted caused safe most = (safe, most, caused)
@@ -82,37 +82,37 @@ over p h (outcome.Unknown id) caused safe most = absurd caused
 over p h (outcome.BadRecord key) caused safe most = absurd caused
 
 -- a cause stays one
-caused_still : (p : Work) (h : Seen) (s : Stage) (r : Reply) (a : Outcome) → IsCaused p h a → IsCaused p (note p s h r) a
+caused_still : (p : Work) (h : Seen) (s : Stage) (r : Reply) (a : Outcome) → IsCaused p h a → IsCaused p (item p s h r) a
 caused_still p h s r (outcome.Conflict key found) caused = fails_second _ h.passed caused
-caused_still p h s r (outcome.Expired id) (same, gone) = (same, right (tells p.id decision.Aborted (pending p s) r) h.aborted gone)
+caused_still p h s r (outcome.Expired id) (same, gone) = (same, right (observes_decision p.id decision.Aborted (pending p s) r) h.aborted gone)
 caused_still p h s r outcome.Faulted caused = right (is_fault r) h.faulted caused
 caused_still p h s r outcome.NoMemory caused = tt
 caused_still p h s r outcome.Committed caused = absurd caused
 caused_still p h s r (outcome.Unknown id) caused = absurd caused
 caused_still p h s r (outcome.BadRecord key) caused = absurd caused
 
-begins_checking : (p : Work) (h : Seen) → h.calls ≡ writes_of p → h.passed ≡ true → h.put ≡ None → Stands p h (checking p 0)
+begins_checking : (p : Work) (h : Seen) → h.calls ≡ writes_of p → h.passed ≡ true → h.put ≡ None → StageInvariant p h (checking p 0)
 begins_checking p h calls passed put =
     by_test p h (nat_lt 0 (length (checks p))) (Checking 0) (Deciding phase.Put) (λ t. (omega arith, grind (arith, nat_tests), passed, put)) (λ f. (grind (arith, nat_tests), passed, put))
 
-begins : (p : Work) → Stands p nothing_seen (preparing p 0)
+begins : (p : Work) → StageInvariant p nothing_seen (preparing p 0)
 begins p =
     by_test p nothing_seen (nat_lt 0 (length p.writes)) (Preparing 0) (checking p 0) (λ t. (refl, grind (arith, nat_tests), refl, refl)) (λ f. begins_checking p nothing_seen (grind (arith, nat_tests)) refl refl)
 
-prepared : (p : Work) (h : Seen) (i : ℕ) (more : Bool) (q : Option Request) → Stands p h (Preparing i) → more ≡ nat_lt (i + 1) (length p.writes) → Stands p (note p (Preparing i) h reply.Applied) (after_prepare p i (i + 1) (small.prepare_step more q reply.Applied))
+prepared : (p : Work) (h : Seen) (i : ℕ) (more : Bool) (q : Option Request) → StageInvariant p h (Preparing i) → more ≡ nat_lt (i + 1) (length p.writes) → StageInvariant p (item p (Preparing i) h reply.Applied) (after_prepare p i (i + 1) (small.prepare_step more q reply.Applied))
 prepared p h i true q (calls, within, passed, put) is = (omega arith, grind (arith, nat_tests), passed, put)
-prepared p h i false q (calls, within, passed, put) is = begins_checking p (note p (Preparing i) h reply.Applied) (grind (arith, nat_tests)) passed put
+prepared p h i false q (calls, within, passed, put) is = begins_checking p (item p (Preparing i) h reply.Applied) (grind (arith, nat_tests)) passed put
 
-refuses : (p : Work) (h : Seen) (i n : ℕ) (q : Option Request) (found : Option Record) → h.put ≡ None → h.passed ≡ false → n ≤ writes_of p → h.calls ≤ writes_of p + reads_of p + 1 → Stands p h (after_prepare p i n (small.refused q found))
+refuses : (p : Work) (h : Seen) (i n : ℕ) (q : Option Request) (found : Option Record) → h.put ≡ None → h.passed ≡ false → n ≤ writes_of p → h.calls ≤ writes_of p + reads_of p + 1 → StageInvariant p h (after_prepare p i n (small.refused q found))
 refuses p h i n (Some (ask.PutIf rec condition)) found put failed within most = (ap without_effect put, failed, within, most)
 refuses p h i n (Some (ask.Get key)) found put failed within most = (ap without_effect put, tt, within, most)
 refuses p h i n (Some (ask.Scan span)) found put failed within most = (ap without_effect put, tt, within, most)
 refuses p h i n (Some (ask.DeleteIf key condition)) found put failed within most = (ap without_effect put, tt, within, most)
 refuses p h i n None found put failed within most = (ap without_effect put, tt, within, most)
 
-prepare_step : (p : Work) (h : Seen) (i : ℕ) (r : Reply) → Stands p h (Preparing i) → Stands p (note p (Preparing i) h r) (step p (Preparing i) r)
+prepare_step : (p : Work) (h : Seen) (i : ℕ) (r : Reply) → StageInvariant p h (Preparing i) → StageInvariant p (item p (Preparing i) h r) (step p (Preparing i) r)
 prepare_step p h i reply.Applied stands = prepared p h i (nat_lt (i + 1) (length p.writes)) (slice_get (prepares p) i) stands refl
-prepare_step p h i (reply.NotMet found) (calls, within, passed, put) = refuses p (note p (Preparing i) h (reply.NotMet found)) i i (slice_get (prepares p) i) found put refl (omega arith) (omega arith)
+prepare_step p h i (reply.NotMet found) (calls, within, passed, put) = refuses p (item p (Preparing i) h (reply.NotMet found)) i i (slice_get (prepares p) i) found put refl (omega arith) (omega arith)
 prepare_step p h i reply.Fault (calls, within, passed, put) = (ap without_effect put, refl, omega arith, omega arith)
 prepare_step p h i reply.NoMemory (calls, within, passed, put) = (ap without_effect put, tt, omega arith, omega arith)
 prepare_step p h i (reply.Found found) (calls, within, passed, put) = (ap without_effect put, tt, omega arith, omega arith)
@@ -145,17 +145,17 @@ passes more (Some c) (reply.Found found) = judges more (reply.Found found) (diff
 passes more (Some c) (reply.Rows rows) = judges more (reply.Rows rows) (difference_in c (reply.Rows rows))
 passes more (Some c) (reply.NotMet found) = judges more (reply.NotMet found) (difference_in c (reply.NotMet found))
 
-checked : (p : Work) (h : Seen) (i : ℕ) (r : Reply) (s : ValidateStep) → Stands p h (Checking i) → Passes (nat_lt (i + 1) (length (checks p))) r s (small.validate_step true (slice_get (checks p) i) r) → Stands p (note p (Checking i) h r) (after_check p i s)
+checked : (p : Work) (h : Seen) (i : ℕ) (r : Reply) (s : ValidateStep) → StageInvariant p h (Checking i) → Passes (nat_lt (i + 1) (length (checks p))) r s (small.validate_step true (slice_get (checks p) i) r) → StageInvariant p (item p (Checking i) h r) (after_check p i s)
 checked p h i r validate.More (calls, within, passed, put) so = let (more, ok) = so.goes_on refl in (omega arith, grind (arith, nat_tests), and_both _ _ ok passed, put)
 checked p h i r validate.Valid (calls, within, passed, put) so = let (more, ok) = so.ends refl in (grind (arith, nat_tests), and_both _ _ ok passed, put)
 checked p h i r (validate.Conflict key found) (calls, within, passed, put) so = (ap without_effect put, fails_first _ _ (so.fails key found refl), omega arith, omega arith)
 checked p h i r validate.Faulted (calls, within, passed, put) so = (ap without_effect put, left _ _ (so.faults refl), omega arith, omega arith)
 checked p h i r validate.NoMemory (calls, within, passed, put) so = (ap without_effect put, tt, omega arith, omega arith)
 
-check_step : (p : Work) (h : Seen) (i : ℕ) (r : Reply) → Stands p h (Checking i) → Stands p (note p (Checking i) h r) (step p (Checking i) r)
+check_step : (p : Work) (h : Seen) (i : ℕ) (r : Reply) → StageInvariant p h (Checking i) → StageInvariant p (item p (Checking i) h r) (step p (Checking i) r)
 check_step p h i r stands = checked p h i r (small.validate_step (nat_lt (i + 1) (length (checks p))) (slice_get (checks p) i) r) stands (passes (nat_lt (i + 1) (length (checks p))) (slice_get (checks p) i) r)
 
-forwarding : (p : Work) (h : Seen) (i : ℕ) → i ≤ writes_of p → h.committed ≡ true → h.calls ≤ writes_of p + reads_of p + 4 + i → (h.faulted ≡ false → h.calls ≡ writes_of p + reads_of p + 1 + i) → Stands p h (forward p i)
+forwarding : (p : Work) (h : Seen) (i : ℕ) → i ≤ writes_of p → h.committed ≡ true → h.calls ≤ writes_of p + reads_of p + 4 + i → (h.faulted ≡ false → h.calls ≡ writes_of p + reads_of p + 1 + i) → StageInvariant p h (forward p i)
 forwarding p h i within learned most exact =
     by_test p h (nat_lt i (length p.writes)) (Forward i) (Over outcome.Committed) (λ t. (grind (arith, nat_tests), learned, most, exact)) (λ f. (learned, grind (arith, nat_tests), λ none. let e = exact none in grind (arith, nat_tests)))
 
@@ -167,7 +167,7 @@ safe_undo h may = by_flags h.aborted h.stopped (without_effect h.put) may where
   by_flags false true w may = left w false may
   by_flags false false w may = cc
 
-backing : (p : Work) (h : Seen) (a : Outcome) (n i : ℕ) → may_undo h ≡ true → IsCaused p h a → i ≤ n → n ≤ writes_of p → h.calls ≤ writes_of p + reads_of p + 4 + i → Stands p h (back a n i)
+backing : (p : Work) (h : Seen) (a : Outcome) (n i : ℕ) → may_undo h ≡ true → IsCaused p h a → i ≤ n → n ≤ writes_of p → h.calls ≤ writes_of p + reads_of p + 4 + i → StageInvariant p h (back a n i)
 backing p h a n i may caused in_n within most =
     by_test p h (nat_lt i n) (Back a n i) (Over a) (λ t. (may, caused, grind (arith, nat_tests), within, most)) (λ f. over p h a caused (safe_undo h may) (grind (arith, nat_tests)))
 
@@ -177,7 +177,7 @@ IsAborted p h (steps.Expired id) = id ≡ p.id
 IsAborted p h steps.Faulted = h.faulted ≡ true
 IsAborted p h s = ⊥
 
-backs_all : (p : Work) (h : Seen) (d : DecidePhase) (a : DecideStep) → IsAborted p h a → h.aborted ≡ true → h.calls ≤ writes_of p + reads_of p + 4 → Stands p h (after_decide p d a)
+backs_all : (p : Work) (h : Seen) (d : DecidePhase) (a : DecideStep) → IsAborted p h a → h.aborted ≡ true → h.calls ≤ writes_of p + reads_of p + 4 → StageInvariant p h (after_decide p d a)
 unfolding IsAborted
 backs_all p h d (steps.Expired id) is gone most = backing p h (outcome.Expired id) (length p.writes) 0 (left h.aborted _ gone) (is, gone) (omega arith) (omega arith) (omega arith)
 backs_all p h d steps.Faulted is gone most = backing p h outcome.Faulted (length p.writes) 0 (left h.aborted _ gone) is (omega arith) (omega arith) (omega arith)
@@ -195,17 +195,17 @@ pub record Follows (p : Work) (h : Seen) (v : Result Decided (List ℕ)) : Type 
   exact : h.faulted ≡ false → h.calls ≡ writes_of p + reads_of p + 1
 
 follows_one : (p : Work) (h : Seen) (e : Decision) (d : DecidePhase) (a : DecideStep) → IsAborted p h a → (same_decision decision.Committed e ≡ true → h.committed ≡ true) → (same_decision decision.Aborted e ≡ true → h.aborted ≡ true) → h.calls ≤ writes_of p + reads_of p + 4 → (h.faulted ≡ false → h.calls ≡ writes_of p + reads_of p + 1)
-    → Stands p h (after_decide p d (elim e [ decision.Committed ↦ steps.Committed | decision.Aborted ↦ a ]))
+    → StageInvariant p h (after_decide p d (elim e [ decision.Committed ↦ steps.Committed | decision.Aborted ↦ a ]))
 follows_one p h decision.Committed d a is learned gone most exact = forwarding p h 0 (omega arith) (learned refl) (omega arith) (λ none. let e = exact none in omega arith)
 follows_one p h decision.Aborted d a is learned gone most exact = backs_all p h d a is (gone refl) most
 
-follows : (p : Work) (h : Seen) (v : Result Decided (List ℕ)) (d : DecidePhase) (a : DecideStep) → IsAborted p h a → Follows p h v → Stands p h (after_decide p d (told p.id a v))
+follows : (p : Work) (h : Seen) (v : Result Decided (List ℕ)) (d : DecidePhase) (a : DecideStep) → IsAborted p h a → Follows p h v → StageInvariant p h (after_decide p d (step_of_row p.id a v))
 follows p h (Err column) d a is f = let most = f.most in (refl, f.malformed refl, omega arith)
 follows p h (Ok v) d a is f = follows_one p h v.decision d a is f.forward f.gone f.most f.exact
 
 -- the row that a look or a put found
-found_row : (p : Work) (s : Stage) (h : Seen) (r : Reply) (row : Record) → row.key ≡ coordinator_key_of p.id → tells p.id decision.Committed (pending p s) r ≡ says p.id decision.Committed row → tells p.id decision.Aborted (pending p s) r ≡ says p.id decision.Aborted row → holds_malformed p.id r ≡ is_malformed p.id row → h.calls + 1 ≤ writes_of p + reads_of p + 4 → ((is_fault r || h.faulted) ≡ false → h.calls + 1 ≡ writes_of p + reads_of p + 1)
-    → Follows p (note p s h r) (decision_in row)
+found_row : (p : Work) (s : Stage) (h : Seen) (r : Reply) (row : Record) → row.key ≡ coordinator_key_of p.id → observes_decision p.id decision.Committed (pending p s) r ≡ is_row_with p.id decision.Committed row → observes_decision p.id decision.Aborted (pending p s) r ≡ is_row_with p.id decision.Aborted row → holds_malformed p.id r ≡ is_malformed p.id row → h.calls + 1 ≤ writes_of p + reads_of p + 4 → ((is_fault r || h.faulted) ≡ false → h.calls + 1 ≡ writes_of p + reads_of p + 1)
+    → Follows p (item p s h r) (decision_in row)
 found_row p s h r row key committed aborted malformed most exact =
     record {
       forward = λ is. left _ _ (committed ∙ row_says p.id decision.Committed row key is);
@@ -215,18 +215,18 @@ found_row p s h r row key committed aborted malformed most exact =
       exact = exact;
     }
 
-decide_step : (p : Work) (h : Seen) (d : DecidePhase) (r : Reply) → IsWork p → Stands p h (Deciding d) → CanGet (pending p (Deciding d)) r → Stands p (note p (Deciding d) h r) (step p (Deciding d) r)
+decide_step : (p : Work) (h : Seen) (d : DecidePhase) (r : Reply) → IsWork p → StageInvariant p h (Deciding d) → CanGet (pending p (Deciding d)) r → StageInvariant p (item p (Deciding d) h r) (step p (Deciding d) r)
 unfolding IsAborted
-decide_step p h phase.Put reply.Applied is (calls, passed, put) gets = forwarding p (note p (Deciding phase.Put) h reply.Applied) 0 (omega arith) (left _ _ (own_row_says p decision.Committed is)) (omega arith) (λ none. omega arith)
+decide_step p h phase.Put reply.Applied is (calls, passed, put) gets = forwarding p (item p (Deciding phase.Put) h reply.Applied) 0 (omega arith) (left _ _ (own_row_says p decision.Committed is)) (omega arith) (λ none. omega arith)
 decide_step p h phase.Put (reply.NotMet (Some row)) is (calls, passed, put) gets =
-    follows p (note p (Deciding phase.Put) h (reply.NotMet (Some row))) (decision_in row) phase.Ended (steps.Expired p.id) refl (found_row p (Deciding phase.Put) h (reply.NotMet (Some row)) row (gets.0 ∙ row-key p.id decision.Committed p.now) refl refl refl (omega arith) (λ none. omega arith))
+    follows p (item p (Deciding phase.Put) h (reply.NotMet (Some row))) (decision_in row) phase.Ended (steps.Expired p.id) refl (found_row p (Deciding phase.Put) h (reply.NotMet (Some row)) row (gets.0 ∙ row-key p.id decision.Committed p.now) refl refl refl (omega arith) (λ none. omega arith))
 decide_step p h phase.Put (reply.NotMet None) is stands gets = cc (gets.1)
 decide_step p h phase.Put reply.Fault is (calls, passed, put) gets = (omega arith, refl, refl)
 decide_step p h phase.Put reply.NoMemory is (calls, passed, put) gets = (refl, tt, omega arith, omega arith)
 decide_step p h phase.Put (reply.Found o) is stands gets = absurd gets
 decide_step p h phase.Put (reply.Rows rows) is stands gets = absurd gets
 decide_step p h phase.Look (reply.Found (Some row)) is (calls, faulted, put) gets =
-    follows p (note p (Deciding phase.Look) h (reply.Found (Some row))) (decision_in row) phase.Ended (steps.Expired p.id) refl (found_row p (Deciding phase.Look) h (reply.Found (Some row)) row gets refl refl refl (omega arith) (λ none. cc))
+    follows p (item p (Deciding phase.Look) h (reply.Found (Some row))) (decision_in row) phase.Ended (steps.Expired p.id) refl (found_row p (Deciding phase.Look) h (reply.Found (Some row)) row gets refl refl refl (omega arith) (λ none. cc))
 decide_step p h phase.Look (reply.Found None) is (calls, faulted, put) gets = (omega arith, faulted, put)
 decide_step p h phase.Look reply.Fault is (calls, faulted, put) gets = (refl, put, refl, omega arith)
 decide_step p h phase.Look reply.NoMemory is (calls, faulted, put) gets = (refl, put, refl, omega arith)
@@ -234,16 +234,16 @@ decide_step p h phase.Look reply.Applied is stands gets = absurd gets
 decide_step p h phase.Look (reply.NotMet o) is stands gets = absurd gets
 decide_step p h phase.Look (reply.Rows rows) is stands gets = absurd gets
 decide_step p h phase.Abort reply.Applied is (calls, faulted, put) gets =
-    backing p (note p (Deciding phase.Abort) h reply.Applied) outcome.Faulted (length p.writes) 0 (left _ _ (left _ _ (own_row_says p decision.Aborted is))) faulted (omega arith) (omega arith) (omega arith)
+    backing p (item p (Deciding phase.Abort) h reply.Applied) outcome.Faulted (length p.writes) 0 (left _ _ (left _ _ (own_row_says p decision.Aborted is))) faulted (omega arith) (omega arith) (omega arith)
 decide_step p h phase.Abort (reply.NotMet (Some row)) is (calls, faulted, put) gets =
-    follows p (note p (Deciding phase.Abort) h (reply.NotMet (Some row))) (decision_in row) phase.Ended (steps.Expired p.id) refl (found_row p (Deciding phase.Abort) h (reply.NotMet (Some row)) row (gets.0 ∙ row-key p.id decision.Aborted p.now) refl refl refl (omega arith) (λ none. cc))
+    follows p (item p (Deciding phase.Abort) h (reply.NotMet (Some row))) (decision_in row) phase.Ended (steps.Expired p.id) refl (found_row p (Deciding phase.Abort) h (reply.NotMet (Some row)) row (gets.0 ∙ row-key p.id decision.Aborted p.now) refl refl refl (omega arith) (λ none. cc))
 decide_step p h phase.Abort (reply.NotMet None) is stands gets = cc (gets.1)
 decide_step p h phase.Abort reply.Fault is (calls, faulted, put) gets = (omega arith, refl, put, refl)
 decide_step p h phase.Abort reply.NoMemory is (calls, faulted, put) gets = (refl, put, refl, omega arith)
 decide_step p h phase.Abort (reply.Found o) is stands gets = absurd gets
 decide_step p h phase.Abort (reply.Rows rows) is stands gets = absurd gets
 decide_step p h phase.Again (reply.Found (Some row)) is (calls, faulted, put, failed) gets =
-    follows p (note p (Deciding phase.Again) h (reply.Found (Some row))) (decision_in row) phase.Ended steps.Faulted faulted (found_row p (Deciding phase.Again) h (reply.Found (Some row)) row gets refl refl refl (omega arith) (λ none. cc))
+    follows p (item p (Deciding phase.Again) h (reply.Found (Some row))) (decision_in row) phase.Ended steps.Faulted faulted (found_row p (Deciding phase.Again) h (reply.Found (Some row)) row gets refl refl refl (omega arith) (λ none. cc))
 decide_step p h phase.Again (reply.Found None) is (calls, faulted, put, failed) gets = (refl, put, failed, omega arith)
 decide_step p h phase.Again reply.Fault is (calls, faulted, put, failed) gets = (refl, put, refl, omega arith)
 decide_step p h phase.Again reply.NoMemory is (calls, faulted, put, failed) gets = (refl, put, refl, omega arith)
@@ -252,28 +252,28 @@ decide_step p h phase.Again (reply.NotMet o) is stands gets = absurd gets
 decide_step p h phase.Again (reply.Rows rows) is stands gets = absurd gets
 decide_step p h phase.Ended r is stands gets = absurd stands
 
-forward_step : (p : Work) (h : Seen) (i : ℕ) (r : Reply) → Stands p h (Forward i) → Stands p (note p (Forward i) h r) (step p (Forward i) r)
+forward_step : (p : Work) (h : Seen) (i : ℕ) (r : Reply) → StageInvariant p h (Forward i) → StageInvariant p (item p (Forward i) h r) (step p (Forward i) r)
 forward_step p h i r (within, learned, most, exact) =
-    forwarding p (note p (Forward i) h r) (i + 1) (omega arith) (right (tells p.id decision.Committed (pending p (Forward i)) r) h.committed learned) (omega arith) (λ none. let e : h.calls ≡ writes_of p + reads_of p + 1 + i = exact (no_left (is_fault r) h.faulted none) in omega arith)
+    forwarding p (item p (Forward i) h r) (i + 1) (omega arith) (right (observes_decision p.id decision.Committed (pending p (Forward i)) r) h.committed learned) (omega arith) (λ none. let e : h.calls ≡ writes_of p + reads_of p + 1 + i = exact (no_left (is_fault r) h.faulted none) in omega arith)
 
-stop_step : (p : Work) (h : Seen) (a : Outcome) (n : ℕ) (r : Reply) → Stands p h (Stopping a n) → CanGet (pending p (Stopping a n)) r → Stands p (note p (Stopping a n) h r) (step p (Stopping a n) r)
-stop_step p h a n reply.Applied (safe, caused, within, most) gets = backing p (note p (Stopping a n) h reply.Applied) a n 0 (right _ _ safe) (caused_still p h (Stopping a n) reply.Applied a caused) (omega arith) within (omega arith)
-stop_step p h a n (reply.NotMet found) (safe, caused, within, most) gets = backing p (note p (Stopping a n) h (reply.NotMet found)) a n 0 (right _ _ safe) (caused_still p h (Stopping a n) (reply.NotMet found) a caused) (omega arith) within (omega arith)
-stop_step p h a n reply.Fault (safe, caused, within, most) gets = over p (note p (Stopping a n) h reply.Fault) a (caused_still p h (Stopping a n) reply.Fault a caused) (left _ _ safe) (omega arith)
-stop_step p h a n reply.NoMemory (safe, caused, within, most) gets = over p (note p (Stopping a n) h reply.NoMemory) a (caused_still p h (Stopping a n) reply.NoMemory a caused) (left _ _ safe) (omega arith)
+stop_step : (p : Work) (h : Seen) (a : Outcome) (n : ℕ) (r : Reply) → StageInvariant p h (Stopping a n) → CanGet (pending p (Stopping a n)) r → StageInvariant p (item p (Stopping a n) h r) (step p (Stopping a n) r)
+stop_step p h a n reply.Applied (safe, caused, within, most) gets = backing p (item p (Stopping a n) h reply.Applied) a n 0 (right _ _ safe) (caused_still p h (Stopping a n) reply.Applied a caused) (omega arith) within (omega arith)
+stop_step p h a n (reply.NotMet found) (safe, caused, within, most) gets = backing p (item p (Stopping a n) h (reply.NotMet found)) a n 0 (right _ _ safe) (caused_still p h (Stopping a n) (reply.NotMet found) a caused) (omega arith) within (omega arith)
+stop_step p h a n reply.Fault (safe, caused, within, most) gets = over p (item p (Stopping a n) h reply.Fault) a (caused_still p h (Stopping a n) reply.Fault a caused) (left _ _ safe) (omega arith)
+stop_step p h a n reply.NoMemory (safe, caused, within, most) gets = over p (item p (Stopping a n) h reply.NoMemory) a (caused_still p h (Stopping a n) reply.NoMemory a caused) (left _ _ safe) (omega arith)
 stop_step p h a n (reply.Found o) stands gets = absurd gets
 stop_step p h a n (reply.Rows rows) stands gets = absurd gets
 
-undo_stays : (p : Work) (h : Seen) (a : Outcome) (n i : ℕ) (r : Reply) → may_undo h ≡ true → may_undo (note p (Back a n i) h r) ≡ true
-undo_stays p h a n i r may = by_flags (tells p.id decision.Aborted (pending p (Back a n i)) r) h.aborted h.stopped (without_effect h.put) may where
+undo_stays : (p : Work) (h : Seen) (a : Outcome) (n i : ℕ) (r : Reply) → may_undo h ≡ true → may_undo (item p (Back a n i) h r) ≡ true
+undo_stays p h a n i r may = by_flags (observes_decision p.id decision.Aborted (pending p (Back a n i)) r) h.aborted h.stopped (without_effect h.put) may where
   by_flags : (t a s w : Bool) → (a || (s && w)) ≡ true → ((t || a) || (s && w)) ≡ true
   by_flags true a s w may = refl
   by_flags false a s w may = may
 
-back_step : (p : Work) (h : Seen) (a : Outcome) (n i : ℕ) (r : Reply) → Stands p h (Back a n i) → Stands p (note p (Back a n i) h r) (step p (Back a n i) r)
-back_step p h a n i r (may, caused, in_n, within, most) = backing p (note p (Back a n i) h r) a n (i + 1) (undo_stays p h a n i r may) (caused_still p h (Back a n i) r a caused) (omega arith) within (omega arith)
+back_step : (p : Work) (h : Seen) (a : Outcome) (n i : ℕ) (r : Reply) → StageInvariant p h (Back a n i) → StageInvariant p (item p (Back a n i) h r) (step p (Back a n i) r)
+back_step p h a n i r (may, caused, in_n, within, most) = backing p (item p (Back a n i) h r) a n (i + 1) (undo_stays p h a n i r may) (caused_still p h (Back a n i) r a caused) (omega arith) within (omega arith)
 
-stands_step : (p : Work) (h : Seen) (s : Stage) (r : Reply) → IsWork p → Stands p h s → CanGet (pending p s) r → Stands p (note p s h r) (step p s r)
+stands_step : (p : Work) (h : Seen) (s : Stage) (r : Reply) → IsWork p → StageInvariant p h s → CanGet (pending p s) r → StageInvariant p (item p s h r) (step p s r)
 stands_step p h (Preparing i) r is stands gets = prepare_step p h i r stands
 stands_step p h (Checking i) r is stands gets = check_step p h i r stands
 stands_step p h (Deciding d) r is stands gets = decide_step p h d r is stands gets
@@ -282,6 +282,6 @@ stands_step p h (Stopping a n) r is stands gets = stop_step p h a n r stands get
 stands_step p h (Back a n i) r is stands gets = back_step p h a n i r stands
 stands_step p h (Over a) r is stands gets = absurd gets
 
-pub stands : (p : Work) (past : List Reply) → IsWork p → Played p past → Stands p (seen p past) (after p past)
+pub stands : (p : Work) (past : List Reply) → IsWork p → AreReplies p past → StageInvariant p (seen p past) (after p past)
 stands p [] is played = begins p
 stands p (r ∷ past) is played = stands_step p (seen p past) (after p past) r is (stands p past is played.0) played.1

@@ -5,9 +5,9 @@ use Rattle.sdb_types.specs.declared.record.Reply.{Reply}
 use Rattle.sdb_types.specs.declared.record.Reply.TheVariants as reply
 use Rattle.sdb_phases.specs.declared.step.Outcome.{Outcome}
 use Rattle.sdb_phases.specs.Work.{Work}
-use Rattle.sdb_phases.specs.Commit.{Stage, Preparing, Checking, Deciding, Forward, Stopping, Back, Over, pending, step, starved, starved_answer, back, has_stopped}
+use Rattle.sdb_phases.specs.Commit.{Stage, Preparing, Checking, Deciding, Forward, Stopping, Back, Over, pending, step, out_of_memory, out_of_memory_answer, back, has_stopped}
 
-pub starved-pending : (p : Work) (s : Stage) → pending p (starved s) ≡ pending p s
+pub starved-pending : (p : Work) (s : Stage) → pending p (out_of_memory s) ≡ pending p s
 starved-pending p (Preparing i) = refl
 starved-pending p (Checking i) = refl
 starved-pending p (Deciding d) = refl
@@ -16,14 +16,14 @@ starved-pending p (Stopping a n) = refl
 starved-pending p (Back a n i) = refl
 starved-pending p (Over a) = refl
 
-starved-choice : (b : Bool) (x y : Stage) → cond b (starved x) (starved y) ≡ starved (cond b x y)
+starved-choice : (b : Bool) (x y : Stage) → cond b (out_of_memory x) (out_of_memory y) ≡ out_of_memory (cond b x y)
 starved-choice true x y = refl
 starved-choice false x y = refl
 
-starved-back : (a : Outcome) (n i : ℕ) → back (starved_answer a) n i ≡ starved (back a n i)
+starved-back : (a : Outcome) (n i : ℕ) → back (out_of_memory_answer a) n i ≡ out_of_memory (back a n i)
 starved-back a n i = starved-choice (nat_lt i n) (Back a n i) (Over a)
 
-pub starved-step : (p : Work) (s : Stage) (r : Reply) → has_stopped s ≡ true → step p (starved s) r ≡ starved (step p s r)
+pub starved-step : (p : Work) (s : Stage) (r : Reply) → has_stopped s ≡ true → step p (out_of_memory s) r ≡ out_of_memory (step p s r)
 starved-step p (Preparing i) r is = cc
 starved-step p (Checking i) r is = cc
 starved-step p (Deciding d) r is = cc

@@ -18,8 +18,8 @@ use Rattle.sdb_record.specs.declared.access.Scan.{Scan}
 use Rattle.sdb_record.specs.declared.write.Write.{Write}
 use Rattle.sdb_record.specs.Moved.{version_of, same_version, is_unchanged}
 use Rattle.sdb_record.specs.Among.{is_written}
-use Rattle.sdb_phases.specs.declared.check.Wish.{Wish}
-use Rattle.sdb_phases.specs.declared.check.Wish.TheVariants as wish
+use Rattle.sdb_phases.specs.declared.check.Expected.{Expected}
+use Rattle.sdb_phases.specs.declared.check.Expected.TheVariants as wish
 use Rattle.sdb_phases.specs.declared.check.Wanted.{Wanted}
 use Rattle.sdb_phases.specs.declared.check.Target.{Target}
 use Rattle.sdb_phases.specs.declared.check.Target.TheVariants as target
@@ -35,18 +35,18 @@ base_of (w ∷ ws) key = if same_key key w.key then Some (version_of w.base) els
 
 -- A key that isn't written is to have the version that the scan found. A written key is left out of the rescan, on
 -- condition that its base has the version that the scan found.
-abbrev pub is_granted : Wish → Option Record → Bool
+abbrev pub is_granted : Expected → Option Record → Bool
 is_granted (wish.Unchanged version) found = is_unchanged found version
 is_granted (wish.Based same) found = same
 
 -- a base has the version that is wished
-abbrev pub wished_version : Option Wish → Option TxId → Bool
+abbrev pub wished_version : Option Expected → Option TxId → Bool
 wished_version None base = is_none base
 wished_version (Some (wish.Unchanged version)) base = same_version base version
 wished_version (Some (wish.Based same)) base = same
 
 abbrev pub Wishes : Type 0
-Wishes = FinMap key_cmp Wish
+Wishes = FinMap key_cmp Expected
 
 abbrev pub with_reads : List Read → Wishes → Wishes
 with_reads [] m = m
@@ -64,24 +64,24 @@ with_writes span (w ∷ ws) m = with_writes span ws (with_write span w m)
 abbrev pub wishes : List Write → Scan → Wishes
 wishes own scan = with_writes scan.span own (with_reads scan.found empty)
 
-abbrev pub wanted_of : Key × Wish → Wanted
+abbrev pub wanted_of : Key × Expected → Wanted
 wanted_of e = record { key = e.0; wish = e.1 }
 
 abbrev pub wanted : List Write → Scan → List Wanted
 wanted own scan = map wanted_of (entries (wishes own scan))
 
-abbrev pub wish_at : List Wanted → Key → Option Wish
-wish_at [] key = None
-wish_at (w ∷ ws) key = if same_key key w.key then Some w.wish else wish_at ws key
+abbrev pub expected_at : List Wanted → Key → Option Expected
+expected_at [] key = None
+expected_at (w ∷ ws) key = if same_key key w.key then Some w.wish else expected_at ws key
 
 -- a key at which nothing is wanted is to have no record
-abbrev pub is_fulfilled : Option Wish → Option Record → Bool
+abbrev pub is_fulfilled : Option Expected → Option Record → Bool
 is_fulfilled None found = is_none found
 is_fulfilled (Some w) found = is_granted w found
 
 -- at that key the rows are not what is wanted
 abbrev pub differs : List Wanted → List Record → Key → Bool
-differs ws rows key = not (is_fulfilled (wish_at ws key) (record_among rows key))
+differs ws rows key = not (is_fulfilled (expected_at ws key) (record_among rows key))
 
 abbrev pub lesser : Key → Option Key → Key
 lesser key None = key

@@ -103,16 +103,16 @@ after p (r ∷ past) = step p (after p past) r
 
 ---- out of memory in place of a conflict
 
-abbrev pub starved_answer : Outcome → Outcome
-starved_answer (outcome.Conflict key found) = outcome.NoMemory
-starved_answer a = a
+abbrev pub out_of_memory_answer : Outcome → Outcome
+out_of_memory_answer (outcome.Conflict key found) = outcome.NoMemory
+out_of_memory_answer a = a
 
 -- The same stage, but that a conflict that a check found is answered as out of memory. Its calls are the same.
-abbrev pub starved : Stage → Stage
-starved (Stopping a n) = Stopping (starved_answer a) n
-starved (Back a n i) = Back (starved_answer a) n i
-starved (Over a) = Over (starved_answer a)
-starved s = s
+abbrev pub out_of_memory : Stage → Stage
+out_of_memory (Stopping a n) = Stopping (out_of_memory_answer a) n
+out_of_memory (Back a n i) = Back (out_of_memory_answer a) n i
+out_of_memory (Over a) = Over (out_of_memory_answer a)
+out_of_memory s = s
 
 -- it has stopped, and rolls back or has ended
 abbrev pub has_stopped : Stage → Bool

@@ -1,4 +1,4 @@
--- What is so of a COMMIT after any replies.
+-- What holds of a COMMIT after any replies.
 use Rattle.std.specs.Prelude.{◌≡◌, ◌<◌, ◌≤◌, ◌^◌, ℕ, ◌+◌, ◌*◌, ◌&&◌, ◌||◌, Bool, true, false, List, [], ◌∷◌, length, Option, Some, None, Result, Ok, Err, is_err, slice_get}
 use Rattle.sdb_types.specs.declared.txid.TxId.{TxId}
 use Rattle.sdb_types.specs.declared.record.Record.{Record}
@@ -29,9 +29,9 @@ pub record IsWork (p : Work) : Type 0 where
   pub now : is_moment p.now ≡ true
 
 -- each reply is one that the call pending could get
-abbrev pub Played : Work → List Reply → Type 0
-Played p [] = Unit {0}
-Played p (r ∷ past) = Played p past × CanGet (pending p (after p past)) r
+abbrev pub AreReplies : Work → List Reply → Type 0
+AreReplies p [] = Unit {0}
+AreReplies p (r ∷ past) = AreReplies p past × CanGet (pending p (after p past)) r
 
 ---- what was learned of a transaction's row
 
@@ -40,16 +40,16 @@ is_decision d (Err column) = false
 is_decision d (Ok decided) = same_decision d decided.decision
 
 -- a record is the transaction's row, and says that
-abbrev pub says : TxId → Decision → Record → Bool
-says id d row = same_key row.key (coordinator_key_of id) && is_decision d (decision_in row)
+abbrev pub is_row_with : TxId → Decision → Record → Bool
+is_row_with id d row = same_key row.key (coordinator_key_of id) && is_decision d (decision_in row)
 
 -- The reply to a call shows that the transaction's row says that: a get found it, a put of it was applied, or a put was not
 -- met and found it.
-abbrev pub tells : TxId → Decision → Option Request → Reply → Bool
-tells id d (Some (ask.Get key)) (reply.Found (Some row)) = says id d row
-tells id d (Some (ask.PutIf rec condition)) reply.Applied = says id d rec
-tells id d (Some (ask.PutIf rec condition)) (reply.NotMet (Some row)) = says id d row
-tells id d q r = false
+abbrev pub observes_decision : TxId → Decision → Option Request → Reply → Bool
+observes_decision id d (Some (ask.Get key)) (reply.Found (Some row)) = is_row_with id d row
+observes_decision id d (Some (ask.PutIf rec condition)) reply.Applied = is_row_with id d rec
+observes_decision id d (Some (ask.PutIf rec condition)) (reply.NotMet (Some row)) = is_row_with id d row
+observes_decision id d q r = false
 
 -- a record is at the transaction's coordinator key, and isn't a well formed row
 abbrev pub is_malformed : TxId → Record → Bool
@@ -61,7 +61,7 @@ holds_malformed id (reply.Found (Some row)) = is_malformed id row
 holds_malformed id (reply.NotMet (Some row)) = is_malformed id row
 holds_malformed id r = false
 
----- what the replies so far said
+---- what the replies so far show
 
 pub record Seen : Type 0 where
   -- how many they are
@@ -109,12 +109,12 @@ fails_later (Deciding d) reply.Fault = true
 fails_later (Deciding d) reply.NoMemory = true
 fails_later s r = false
 
-abbrev pub note : Work → Stage → Seen → Reply → Seen
-note p s h r = record {
+abbrev pub item : Work → Stage → Seen → Reply → Seen
+item p s h r = record {
   calls = h.calls + 1;
   passed = as_wished p s r && h.passed;
-  committed = tells p.id decision.Committed (pending p s) r || h.committed;
-  aborted = tells p.id decision.Aborted (pending p s) r || h.aborted;
+  committed = observes_decision p.id decision.Committed (pending p s) r || h.committed;
+  aborted = observes_decision p.id decision.Aborted (pending p s) r || h.aborted;
   put = put_after s r h.put;
   faulted = is_fault r || h.faulted;
   stopped = is_stop s r || h.stopped;
@@ -128,7 +128,7 @@ nothing_seen =
 
 abbrev pub seen : Work → List Reply → Seen
 seen p [] = nothing_seen
-seen p (r ∷ past) = note p (after p past) (seen p past) r
+seen p (r ∷ past) = item p (after p past) (seen p past) r
 
 -- the deciding put was not made, or had no effect: out of memory changes nothing
 abbrev pub without_effect : Option Reply → Bool
@@ -185,16 +185,16 @@ IsLost outcome.Faulted = Unit {0}
 IsLost outcome.NoMemory = Unit {0}
 IsLost a = ⊥
 
--- What is so at a stage, by what the replies said.
-abbrev pub Stands : Work → Seen → Stage → Type 0
-Stands p h (Preparing i) = (h.calls ≡ i) × (i < writes_of p) × (h.passed ≡ true) × (h.put ≡ None)
-Stands p h (Checking i) = (h.calls ≡ writes_of p + i) × (i < reads_of p) × (h.passed ≡ true) × (h.put ≡ None)
-Stands p h (Deciding phase.Put) = (h.calls ≡ writes_of p + reads_of p) × (h.passed ≡ true) × (h.put ≡ None)
-Stands p h (Deciding phase.Look) = (h.calls ≡ writes_of p + reads_of p + 1) × (h.faulted ≡ true) × (h.put ≡ Some reply.Fault)
-Stands p h (Deciding phase.Abort) = (h.calls ≡ writes_of p + reads_of p + 2) × (h.faulted ≡ true) × (h.put ≡ Some reply.Fault)
-Stands p h (Deciding phase.Again) = (h.calls ≡ writes_of p + reads_of p + 3) × (h.faulted ≡ true) × (h.put ≡ Some reply.Fault) × (h.failed ≡ true)
-Stands p h (Deciding phase.Ended) = ⊥
-Stands p h (Forward i) = (i < writes_of p) × (h.committed ≡ true) × (h.calls ≤ writes_of p + reads_of p + 4 + i) × (h.faulted ≡ false → h.calls ≡ writes_of p + reads_of p + 1 + i)
-Stands p h (Stopping a n) = (without_effect h.put ≡ true) × IsCaused p h a × (n ≤ writes_of p) × (h.calls ≤ writes_of p + reads_of p + 1)
-Stands p h (Back a n i) = (may_undo h ≡ true) × IsCaused p h a × (i < n) × (n ≤ writes_of p) × (h.calls ≤ writes_of p + reads_of p + 4 + i)
-Stands p h (Over a) = EndsSo p h a
+-- What holds at a stage, by what the replies show.
+abbrev pub StageInvariant : Work → Seen → Stage → Type 0
+StageInvariant p h (Preparing i) = (h.calls ≡ i) × (i < writes_of p) × (h.passed ≡ true) × (h.put ≡ None)
+StageInvariant p h (Checking i) = (h.calls ≡ writes_of p + i) × (i < reads_of p) × (h.passed ≡ true) × (h.put ≡ None)
+StageInvariant p h (Deciding phase.Put) = (h.calls ≡ writes_of p + reads_of p) × (h.passed ≡ true) × (h.put ≡ None)
+StageInvariant p h (Deciding phase.Look) = (h.calls ≡ writes_of p + reads_of p + 1) × (h.faulted ≡ true) × (h.put ≡ Some reply.Fault)
+StageInvariant p h (Deciding phase.Abort) = (h.calls ≡ writes_of p + reads_of p + 2) × (h.faulted ≡ true) × (h.put ≡ Some reply.Fault)
+StageInvariant p h (Deciding phase.Again) = (h.calls ≡ writes_of p + reads_of p + 3) × (h.faulted ≡ true) × (h.put ≡ Some reply.Fault) × (h.failed ≡ true)
+StageInvariant p h (Deciding phase.Ended) = ⊥
+StageInvariant p h (Forward i) = (i < writes_of p) × (h.committed ≡ true) × (h.calls ≤ writes_of p + reads_of p + 4 + i) × (h.faulted ≡ false → h.calls ≡ writes_of p + reads_of p + 1 + i)
+StageInvariant p h (Stopping a n) = (without_effect h.put ≡ true) × IsCaused p h a × (n ≤ writes_of p) × (h.calls ≤ writes_of p + reads_of p + 1)
+StageInvariant p h (Back a n i) = (may_undo h ≡ true) × IsCaused p h a × (i < n) × (n ≤ writes_of p) × (h.calls ≤ writes_of p + reads_of p + 4 + i)
+StageInvariant p h (Over a) = EndsSo p h a

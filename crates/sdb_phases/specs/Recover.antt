@@ -28,15 +28,15 @@ pub record Recovers : Type 0 where
   pub phase : RecoverPhase
 
 -- the record is still as it was found
-abbrev pub stands_found : Meta → Condition
-stands_found meta = condition.Version meta.id meta.state
+abbrev pub is_as_found : Meta → Condition
+is_as_found meta = condition.Version meta.id meta.state
 
 -- the record that it is rolled to: the row's moment is that of the commit
 abbrev pub recover_forward : Record → Meta → ℤ → Request
-recover_forward rec meta created_at = ask.PutIf (forward_record rec created_at) (stands_found meta)
+recover_forward rec meta created_at = ask.PutIf (forward_record rec created_at) (is_as_found meta)
 
 abbrev pub recover_back : Record → Meta → Request
-recover_back rec meta = undo (stands_found meta) rec.key (before_record rec)
+recover_back rec meta = undo (is_as_found meta) rec.key (before_record rec)
 
 abbrev pub recover_request_at : Record → Meta → RecoverPhase → Option Request
 recover_request_at rec meta phase.Look = Some (look_of meta.id)
@@ -102,25 +102,25 @@ Gives want p s = (p ≡ want.0) × (s ≡ want.1)
 ---- after any replies
 
 -- a reply, with the moment at which it is digested
-pub record Heard : Type 0 where
+pub record Received : Type 0 where
   pub reply : Reply
   pub now : ℤ
 
 -- where the replies lead, the newest first
-abbrev pub recover_after : Record → Meta → List Heard → RecoverPhase
+abbrev pub recover_after : Record → Meta → List Received → RecoverPhase
 recover_after rec meta [] = phase.Look
 recover_after rec meta (c ∷ past) = (recover_next rec meta (recover_after rec meta past) c.now c.reply).0
 
-abbrev pub recover_pending : Record → Meta → List Heard → Option Request
+abbrev pub recover_pending : Record → Meta → List Received → Option Request
 recover_pending rec meta past = recover_request_at rec meta (recover_after rec meta past)
 
 -- what it answers to the newest reply
-abbrev pub recover_answer : Record → Meta → List Heard → RecoverStep
+abbrev pub recover_answer : Record → Meta → List Received → RecoverStep
 recover_answer rec meta [] = steps.More
 recover_answer rec meta (c ∷ past) = (recover_next rec meta (recover_after rec meta past) c.now c.reply).1
 
 -- each reply is one that the call pending could get, and each moment is from 0 to 2^53
-abbrev pub RecoverPlayed : Record → Meta → List Heard → Type 0
-RecoverPlayed rec meta [] = Unit {0}
-RecoverPlayed rec meta (c ∷ past) =
-    RecoverPlayed rec meta past × CanGet (recover_pending rec meta past) c.reply × (is_moment c.now ≡ true)
+abbrev pub AreRecoverReplies : Record → Meta → List Received → Type 0
+AreRecoverReplies rec meta [] = Unit {0}
+AreRecoverReplies rec meta (c ∷ past) =
+    AreRecoverReplies rec meta past × CanGet (recover_pending rec meta past) c.reply × (is_moment c.now ≡ true)

@@ -7,15 +7,15 @@ use Rattle.sdb_phases.specs.declared.step.RecoverPhase.{RecoverPhase}
 use Rattle.sdb_phases.specs.declared.step.RecoverStep.{RecoverStep}
 use Rattle.sdb_phases.specs.Work.{Work}
 use Rattle.sdb_phases.specs.Commit.{Stage, after}
-use Rattle.sdb_phases.specs.CommitLaws.{IsWork, Played, Seen, seen}
-use Rattle.sdb_phases.specs.Recover.{Heard, RecoverPlayed, recover_after, recover_answer}
+use Rattle.sdb_phases.specs.CommitLaws.{IsWork, AreReplies, Seen, seen}
+use Rattle.sdb_phases.specs.Recover.{Received, AreRecoverReplies, recover_after, recover_answer}
 
 -- A COMMIT of a transaction's work, and replies that its calls could get, newest first.
 pub record CommitRun : Type 0 where
   pub work : Work
   pub past : List Reply
   pub sound : IsWork work
-  pub played : Played work past
+  pub played : AreReplies work past
 
 -- where the replies lead it
 abbrev pub stage_after : CommitRun → Stage
@@ -29,9 +29,9 @@ seen_in r = seen r.work r.past
 pub record RecoverRun : Type 0 where
   pub found : Record
   pub meta : Meta
-  pub past : List Heard
+  pub past : List Received
   pub fits : meta.id.0 < 2 ^ 128
-  pub played : RecoverPlayed found meta past
+  pub played : AreRecoverReplies found meta past
 
 -- where the replies lead it
 abbrev pub phase_after : RecoverRun → RecoverPhase

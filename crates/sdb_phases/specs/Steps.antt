@@ -128,13 +128,13 @@ decide_request_at id now phase.Ended = None
 abbrev pub decide_request : Decides → Option Request
 decide_request d = decide_request_at d.id d.moment d.phase
 
-abbrev pub told : TxId → DecideStep → Result Decided (List ℕ) → DecideStep
-told id aborted (Err column) = decide.BadRecord (coordinator_key_of id)
-told id aborted (Ok d) = elim d.decision [ decision.Committed ↦ decide.Committed | decision.Aborted ↦ aborted ]
+abbrev pub step_of_row : TxId → DecideStep → Result Decided (List ℕ) → DecideStep
+step_of_row id aborted (Err column) = decide.BadRecord (coordinator_key_of id)
+step_of_row id aborted (Ok d) = elim d.decision [ decision.Committed ↦ decide.Committed | decision.Aborted ↦ aborted ]
 
 -- what a coordinator row says, where ABORTED gives that answer
 abbrev pub followed : TxId → DecideStep → Record → DecideStep
-followed id aborted row = told id aborted (decision_in row)
+followed id aborted row = step_of_row id aborted (decision_in row)
 
 -- Where the deciding put is applied, or a row says COMMITTED, the transaction is committed, and where a row says ABORTED it
 -- is not. Where the put faulted the row is looked for, and where there is none ABORTED is put; where that faulted too it is

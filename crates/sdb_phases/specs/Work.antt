@@ -27,16 +27,16 @@ abbrev pub prepare_of : TxId → ℤ → Write → Request
 prepare_of id now w = ask.PutIf (prepared_record w id now) (condition_of (version_of w.base))
 
 -- a write's record is still as it was prepared
-abbrev pub stands_prepared : TxId → Write → Condition
-stands_prepared id w = condition.Version id (state_of_change w.change)
+abbrev pub is_as_prepared : TxId → Write → Condition
+is_as_prepared id w = condition.Version id (state_of_change w.change)
 
 -- Roll forward: the committed record is put, on condition that the record is as it was prepared.
 abbrev pub forward_of : TxId → ℤ → Write → Request
-forward_of id now w = ask.PutIf (forward_record (prepared_record w id now) now) (stands_prepared id w)
+forward_of id now w = ask.PutIf (forward_record (prepared_record w id now) now) (is_as_prepared id w)
 
 -- Roll back: the base again, on condition that the record is as it was prepared.
 abbrev pub back_of : TxId → Write → Request
-back_of id w = undo (stands_prepared id w) w.key w.base
+back_of id w = undo (is_as_prepared id w) w.key w.base
 
 -- The deciding put: the coordinator's row COMMITTED, on condition that there is none.
 abbrev pub decide_of : TxId → ℤ → Request

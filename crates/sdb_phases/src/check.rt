@@ -3,7 +3,7 @@ use sdb_types::{Key, Request, Seq, TxId};
 
 /// What a rescan is to find at a key.
 #[derive(Clone, Copy)]
-pub enum Wish {
+pub enum Expected {
     /// The key isn't written: the version that the scan found, or no record.
     Unchanged(Option<TxId>),
     /// The key is written, and left out: whether its base has the version that the scan found.
@@ -13,7 +13,7 @@ pub enum Wish {
 /// A key, with what a rescan is to find there.
 pub struct Wanted {
     pub key: Key,
-    pub wish: Wish,
+    pub wish: Expected,
 }
 
 // By hand: each drop is then one call, where a derived one is written out at each exit, with a call for each field.
@@ -23,14 +23,14 @@ impl Drop for Wanted {
     }
 }
 
-pub type Wants = Seq<Wanted>;
+pub type Expectations = Seq<Wanted>;
 
 /// What an extra read is to find.
 pub enum Target {
     /// The version that a get found, or no record.
     Version(Option<TxId>),
     /// What is here, in key order, and no other record.
-    Rows(Wants),
+    Rows(Expectations),
 }
 
 // By hand: each drop is then one call, where a derived one is written out at each exit, with a call for each field.

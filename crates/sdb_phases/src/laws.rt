@@ -12,9 +12,9 @@ ghost use Rattle.sdb_phases.specs.declared.step.DecidePhase.TheVariants as phase
 ghost use Rattle.sdb_phases.specs.declared.step.RecoverPhase.TheVariants as recovering;
 ghost use Rattle.sdb_phases.specs.declared.step.RecoverStep.TheVariants as recover_step;
 ghost use Rattle.sdb_phases.specs.Work.{Work, decide_of};
-ghost use Rattle.sdb_phases.specs.Commit.{Stage, Preparing, Checking, Deciding, Forward, Back, Over, step, pending, starved, has_stopped};
+ghost use Rattle.sdb_phases.specs.Commit.{Stage, Preparing, Checking, Deciding, Forward, Back, Over, step, pending, out_of_memory, has_stopped};
 ghost use Rattle.sdb_phases.specs.CommitLaws.{may_undo, IsLost, is_unrecorded, writes_of, reads_of, exact_calls, most_calls};
-ghost use Rattle.sdb_phases.specs.RecoverLaws.{learned_committed, learned_aborted, found_expired, found_pending, WasRolled, heard_fault, heard_malformed};
+ghost use Rattle.sdb_phases.specs.RecoverLaws.{learned_committed, learned_aborted, found_expired, found_pending, WasRolled, received_fault, received_malformed};
 ghost use Rattle.sdb_phases.specs.Run.{CommitRun, RecoverRun, answer_of, phase_after, seen_in, stage_after};
 
 /// A COMMIT asks for its prepares in order, each after all before it were applied, and then for its checks in order, each
@@ -58,9 +58,9 @@ pub fn commit_calls()
 {}
 
 /// A COMMIT that answers out of memory in place of a conflict makes the same calls, to the end.
-pub fn starved_like()
-    ensures calls { (p : Work) (s : Stage) → pending p (starved s) ≡ pending p s }
-    ensures steps { (p : Work) (s : Stage) (r : Reply) → has_stopped s ≡ true → step p (starved s) r ≡ starved (step p s r) }
+pub fn out_of_memory_like()
+    ensures calls { (p : Work) (s : Stage) → pending p (out_of_memory s) ≡ pending p s }
+    ensures steps { (p : Work) (s : Stage) (r : Reply) → has_stopped s ≡ true → step p (out_of_memory s) r ≡ out_of_memory (step p s r) }
     ensures stays { (p : Work) (s : Stage) (r : Reply) → has_stopped s ≡ true → has_stopped (step p s r) ≡ true }
 {}
 
@@ -80,6 +80,6 @@ pub fn recovers()
 pub fn recover_ends()
     ensures busy { (r : RecoverRun) (id : TxId) (at : ℤ) → answer_of r ≡ recover_step.Busy id at → (id ≡ r.meta.id) × (at ≡ r.meta.prepared_at) × (found_pending r.meta r.past ≡ true) }
     ensures image { (r : RecoverRun) (image : Option Record) → answer_of r ≡ recover_step.Image image → WasRolled r.found r.meta r.past image }
-    ensures faulted { (r : RecoverRun) → answer_of r ≡ recover_step.Faulted → heard_fault r.past ≡ true }
-    ensures bad { (r : RecoverRun) (key : Key) → answer_of r ≡ recover_step.BadRecord key → (key ≡ coordinator_key_of r.meta.id) × (heard_malformed r.meta r.past ≡ true) }
+    ensures faulted { (r : RecoverRun) → answer_of r ≡ recover_step.Faulted → received_fault r.past ≡ true }
+    ensures bad { (r : RecoverRun) (key : Key) → answer_of r ≡ recover_step.BadRecord key → (key ≡ coordinator_key_of r.meta.id) × (received_malformed r.meta r.past ≡ true) }
 {}

@@ -6,7 +6,7 @@ pub mod laws;
 mod request;
 mod step;
 
-pub use check::{Check, Checks, Target, Wanted, Wants, Wish};
+pub use check::{Check, Checks, Expectations, Expected, Target, Wanted};
 pub use request::{abort_row, back, decide_row, forward, look, prepare};
 pub use step::{
     AbortPhase, DecidePhase, DecideStep, Outcome, PrepareStep, RecoverPhase, RecoverStep,

@@ -1,7 +1,7 @@
 //! The calls of a COMMIT, made from what it writes.
 ghost use Rattle.std.specs.Prelude.{◌≡◌, IfOk};
 ghost use Rattle.sdb_record.specs.Rolls.{IsWrite, state_of_change};
-ghost use Rattle.sdb_phases.specs.Work.{prepare_of, forward_of, back_of, decide_of, abort_of, look_of, stands_prepared};
+ghost use Rattle.sdb_phases.specs.Work.{prepare_of, forward_of, back_of, decide_of, abort_of, look_of, is_as_prepared};
 
 use sdb_record::{
     Change, Decision, Write, condition_of, coordinator_key, coordinator_row, prepared,
@@ -21,7 +21,7 @@ fn state_left(change: &Change) -> State
 }
 
 fn as_prepared(write: &Write, id: TxId) -> Condition
-    ensures { result ≡ stands_prepared id write.now }
+    ensures { result ≡ is_as_prepared id write.now }
 {
     Condition::Version(id, state_left(&write.change))
 }

@@ -134,7 +134,7 @@ pub record Group : Type 0 where
   pub title : List ℕ
   pub marks : List Mark
 
--- what is said of an event: the statement that is taken, or what a call asks for
+-- the label of an event: the statement that is taken, or what a call asks for
 abbrev pub event_text : Event → List ℕ
 event_text (event.Take client text given) = text
 event_text (event.Call client store request how reply given) = asked_text request

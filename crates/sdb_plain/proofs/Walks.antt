@@ -12,12 +12,12 @@ use Rattle.sdb_record.specs.Coordinator.{coordinator_key_of}
 use Rattle.sdb_model.specs.declared.event.Event.{Event}
 use Rattle.sdb_model.specs.Calls as calls
 use Rattle.sdb_model.specs.Calls.{calls_of, decision_learned, put_by}
-use Rattle.sdb_model.specs.Noted.{Note, note_of, notes_in, reads_rows, rolls, has_finished}
-use Rattle.sdb_model.specs.Transactions.{Said}
-use Rattle.sdb_order.specs.declared.said.Said as plain
-use Rattle.sdb_order.specs.Commits.{all_said, said_of}
+use Rattle.sdb_model.specs.ReadSet.{ReadItem, read_item_of, read_items, reads_rows, rolls, has_finished}
+use Rattle.sdb_model.specs.Transactions.{Executed}
+use Rattle.sdb_order.specs.declared.executed.Executed as plain
+use Rattle.sdb_order.specs.Commits.{all_executed, executed_of}
 use Rattle.sdb_plain.specs.declared.made.Made.{Made}
-use Rattle.sdb_plain.specs.Values.{all_made, decision_at, decision_learned_at, made_of, notes_by, said_notes}
+use Rattle.sdb_plain.specs.Values.{all_made, decision_at, decision_learned_at, made_of, items_by, items_of_statement}
 
 pub taken_again : {X : Type 0} (n : ℕ) (xs : List X) → take (length (take n xs)) xs ≡ take n xs
 taken_again zero [] = refl
@@ -52,44 +52,44 @@ learned_is id (m ∷ ms) = by (learned_is id ms) (decision_at (coordinator_key_o
 ---- what records mean
 
 -- the first call that rolled a record puts the same in the words of the model
-pub roll_put : (r : Record) (ms : List Made) → option_and_then (λ (m : calls.Made). put_by m.request) (find (rolls r) (all_made ms)) ≡ option_and_then (λ (m : Made). put_by m.request) (find (λ m. rolls r (made_of m)) ms)
+pub roll_put : (r : Record) (ms : List Made) → option_and_then (λ (m : calls.StoreCall). put_by m.request) (find (rolls r) (all_made ms)) ≡ option_and_then (λ (m : Made). put_by m.request) (find (λ m. rolls r (made_of m)) ms)
 roll_put r [] = refl
 roll_put r (m ∷ ms) = by (rolls r (made_of m)) (roll_put r ms)
   where
-    by : (b : Bool) → option_and_then (λ (x : calls.Made). put_by x.request) (find (rolls r) (all_made ms)) ≡ option_and_then (λ (x : Made). put_by x.request) (find (λ x. rolls r (made_of x)) ms)
-        → option_and_then (λ (x : calls.Made). put_by x.request) (if b then Some (made_of m) else find (rolls r) (all_made ms)) ≡ option_and_then (λ (x : Made). put_by x.request) (if b then Some m else find (λ x. rolls r (made_of x)) ms)
+    by : (b : Bool) → option_and_then (λ (x : calls.StoreCall). put_by x.request) (find (rolls r) (all_made ms)) ≡ option_and_then (λ (x : Made). put_by x.request) (find (λ x. rolls r (made_of x)) ms)
+        → option_and_then (λ (x : calls.StoreCall). put_by x.request) (if b then Some (made_of m) else find (rolls r) (all_made ms)) ≡ option_and_then (λ (x : Made). put_by x.request) (if b then Some m else find (λ x. rolls r (made_of x)) ms)
     by true more = refl
     by false more = more
 
----- notes
+---- read items
 
-pub notes_are : (all ms : List calls.Made) → flat_map (notes_by all) ms ≡ filter_map (λ m. note_of all m.request m.reply) (filter reads_rows ms)
+pub notes_are : (all ms : List calls.StoreCall) → flat_map (items_by all) ms ≡ filter_map (λ m. read_item_of all m.request m.reply) (filter reads_rows ms)
 notes_are all [] = refl
 notes_are all (m ∷ ms) = by (reads_rows m) (notes_are all ms)
   where
-    with_option : (o : Option Note) (xs : List Note) → cons_option o [] ++ xs ≡ cons_option o xs
+    with_option : (o : Option ReadItem) (xs : List ReadItem) → cons_option o [] ++ xs ≡ cons_option o xs
     with_option None xs = refl
     with_option (Some x) xs = refl
 
-    by : (b : Bool) → flat_map (notes_by all) ms ≡ filter_map (λ m. note_of all m.request m.reply) (filter reads_rows ms)
-        → (if b then cons_option (note_of all m.request m.reply) [] else []) ++ flat_map (notes_by all) ms ≡ filter_map (λ m. note_of all m.request m.reply) (if b then m ∷ filter reads_rows ms else filter reads_rows ms)
-    by true more = ap (λ xs. cons_option (note_of all m.request m.reply) [] ++ xs) more ∙ with_option (note_of all m.request m.reply) (filter_map (λ m. note_of all m.request m.reply) (filter reads_rows ms))
+    by : (b : Bool) → flat_map (items_by all) ms ≡ filter_map (λ m. read_item_of all m.request m.reply) (filter reads_rows ms)
+        → (if b then cons_option (read_item_of all m.request m.reply) [] else []) ++ flat_map (items_by all) ms ≡ filter_map (λ m. read_item_of all m.request m.reply) (if b then m ∷ filter reads_rows ms else filter reads_rows ms)
+    by true more = ap (λ xs. cons_option (read_item_of all m.request m.reply) [] ++ xs) more ∙ with_option (read_item_of all m.request m.reply) (filter_map (λ m. read_item_of all m.request m.reply) (filter reads_rows ms))
     by false more = more
 
-said_notes_are : (events : List Event) (client : ℕ) (ss : List Said) → flat_map (said_notes events client) ss ≡ flat_map (λ s. notes_in (calls_of events client s)) (filter has_finished ss)
+said_notes_are : (events : List Event) (client : ℕ) (ss : List Executed) → flat_map (items_of_statement events client) ss ≡ flat_map (λ s. read_items (calls_of events client s)) (filter has_finished ss)
 said_notes_are events client [] = refl
 said_notes_are events client (s ∷ ss) = by (has_finished s) (said_notes_are events client ss)
   where
-    all : List Said → List Note
-    all = flat_map (λ s. notes_in (calls_of events client s))
+    all : List Executed → List ReadItem
+    all = flat_map (λ s. read_items (calls_of events client s))
 
-    by : (b : Bool) → flat_map (said_notes events client) ss ≡ all (filter has_finished ss) → (if b then notes_in (calls_of events client s) else []) ++ flat_map (said_notes events client) ss ≡ all (if b then s ∷ filter has_finished ss else filter has_finished ss)
-    by true more = ap (λ xs. notes_in (calls_of events client s) ++ xs) more
+    by : (b : Bool) → flat_map (items_of_statement events client) ss ≡ all (filter has_finished ss) → (if b then read_items (calls_of events client s) else []) ++ flat_map (items_of_statement events client) ss ≡ all (if b then s ∷ filter has_finished ss else filter has_finished ss)
+    by true more = ap (λ xs. read_items (calls_of events client s) ++ xs) more
     by false more = more
 
-composed : (events : List Event) (client : ℕ) (ss : List plain.Said) → flat_map (λ s. said_notes events client (said_of s)) ss ≡ flat_map (said_notes events client) (all_said ss)
+composed : (events : List Event) (client : ℕ) (ss : List plain.Said) → flat_map (λ s. items_of_statement events client (executed_of s)) ss ≡ flat_map (items_of_statement events client) (all_executed ss)
 composed events client [] = refl
-composed events client (s ∷ ss) = ap (λ xs. said_notes events client (said_of s) ++ xs) (composed events client ss)
+composed events client (s ∷ ss) = ap (λ xs. items_of_statement events client (executed_of s) ++ xs) (composed events client ss)
 
-pub all_noted : (events : List Event) (client : ℕ) (ss : List plain.Said) → flat_map (λ s. said_notes events client (said_of s)) ss ≡ flat_map (λ s. notes_in (calls_of events client s)) (filter has_finished (all_said ss))
-all_noted events client ss = composed events client ss ∙ said_notes_are events client (all_said ss)
+pub all_noted : (events : List Event) (client : ℕ) (ss : List plain.Said) → flat_map (λ s. items_of_statement events client (executed_of s)) ss ≡ flat_map (λ s. read_items (calls_of events client s)) (filter has_finished (all_executed ss))
+all_noted events client ss = composed events client ss ∙ said_notes_are events client (all_executed ss)

@@ -1,5 +1,5 @@
-//! Plain tables, and what a client did for one statement: the calls that it made, what they showed, and what a transaction noted. Slow
-//! functions that say in code what the definitions say in words, for tests to compare.
+//! Plain tables, and what a client did for one statement: the calls that it made, what they observed, and what a transaction read. Slow
+//! functions that compute the definitions, for tests to compare.
 #![tactic(auto)]
 
 mod clock;
@@ -18,13 +18,13 @@ mod transaction;
 pub use clock::{clock_at, prefix};
 pub use made::{Made, calls_of, end_of};
 pub use meaning::meaning_of;
-pub use noted::noted_in;
+pub use noted::read_set_of;
 pub use open::{Work, has_stopped, is_open, runs_vacuum, someone_does, taker};
 pub use order::{Answers, Bodies, Body, run_body, serial};
 pub use points::{
     first_ending, from_begin, is_prepare, is_prepared_record, last_prepare, order_of, point,
 };
-pub use reply::{decision_at, decision_found_at, decision_learned_at, standing_said};
+pub use reply::{decision_at, decision_found_at, decision_learned_at, record_at_key};
 pub use request::{asks_row, is_read, is_removal, key_asked, put_by, reads_rows};
 pub use statement::exec;
 pub use tables::PlainTables;

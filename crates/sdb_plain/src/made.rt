@@ -3,11 +3,11 @@ ghost use Rattle.std.specs.Prelude.{◌≡◌, ◌++◌, [], IfOk, OnOk, filter}
 ghost use Rattle.std.specs.Option.{option_map};
 ghost use Rattle.std.specs.List.{cons_option};
 ghost use Rattle.sdb_model.specs.Calls.{made_by as made_by_lem, calls_of as calls_of_lem, end_of as end_of_lem};
-ghost use Rattle.sdb_order.specs.Commits.{said_of};
+ghost use Rattle.sdb_order.specs.Commits.{executed_of};
 ghost use Rattle.sdb_plain.specs.Values.{made_of, all_made, is_within};
 
 use sdb_model::{Event, How};
-use sdb_order::Said;
+use sdb_order::Executed;
 use sdb_types::{Duplicate, Name, NoMemory, Reply, Request, Seq};
 use std::alloc::Global;
 
@@ -55,11 +55,11 @@ fn made_by(client: u64, number: u64, event: &Event) -> Result<Option<Made>, NoMe
 }
 
 /// The number of the event that answered a statement, or of the last event where none did.
-pub fn end_of(events: &[Event], said: &Said) -> u64
-    ensures { result ≡ end_of_lem events.now (said_of said.now) }
+pub fn end_of(events: &[Event], executed: &Executed) -> u64
+    ensures { result ≡ end_of_lem events.now (executed_of executed.now) }
 {
-    match said.answer {
-        Some(_) => said.reached,
+    match executed.answer {
+        Some(_) => executed.reached,
         None => events.len() as u64,
     }
 }
@@ -96,18 +96,18 @@ pub fn calls_of(
     alloc: Global,
     events: &[Event],
     client: u64,
-    said: &Said,
+    executed: &Executed,
 ) -> Result<Seq<Made>, NoMemory>
-    ensures { IfOk result (λ calls. all_made calls ≡ calls_of_lem events.now client (said_of said.now)) }
+    ensures { IfOk result (λ calls. all_made calls ≡ calls_of_lem events.now client (executed_of executed.now)) }
 {
-    let end = end_of(events, said);
+    let end = end_of(events, executed);
     let mut calls = Seq::new(alloc);
     let mut i = 0;
     while i < events.len() {
         add_call(
             &mut calls,
             client,
-            said.taken,
+            executed.taken,
             end,
             i as u64 + 1,
             &events[i],

@@ -2,7 +2,7 @@
 ghost use Rattle.std.specs.Prelude.{◌≡◌, Some, false, find};
 ghost use Rattle.std.specs.Option.{option_copied, option_map_or};
 ghost use Rattle.sdb_types.specs.Contents.{holds as holds_lem};
-ghost use Rattle.sdb_model.specs.Noted.{condition_asked as condition_asked_lem, meaning_of as meaning_of_lem, rolls as rolls_lem};
+ghost use Rattle.sdb_model.specs.ReadSet.{condition_asked as condition_asked_lem, meaning_of as meaning_of_lem, rolls as rolls_lem};
 ghost use Rattle.sdb_plain.specs.Values.{all_made, made_of};
 
 use crate::made::Made;

@@ -1,22 +1,22 @@
-//! What the statements of a transaction noted.
+//! The read sets of transactions.
 ghost use Rattle.std.specs.Prelude.{◌≡◌, ◌++◌, [], IfOk, OnOk, Some};
 ghost use Rattle.std.specs.Option.{option_and_then, option_map};
 ghost use Rattle.std.specs.List.{cons_option, flat_map};
 ghost use Rattle.sdb_record.specs.Meta.{id_in};
 ghost use Rattle.sdb_record.specs.Moved.{version_of};
-ghost use Rattle.sdb_model.specs.Noted.{Got, Scanned, meaning_of as meaning_of_lem, read_of, reads_of as reads_of_lem, note_of as note_of_lem, notes_in as notes_in_lem, noted_in as noted_in_lem};
-ghost use Rattle.sdb_order.specs.Commits.{said_of};
-ghost use Rattle.sdb_said.specs.Values.{note_of as noted_of};
-ghost use Rattle.sdb_plain.specs.Values.{all_made, made_of, all_notes, notes_by, said_notes};
+ghost use Rattle.sdb_model.specs.ReadSet.{KeyRead, SpanRead, meaning_of as meaning_of_lem, read_of, reads_of as reads_of_lem, read_item_of as read_item_of_lem, read_items as read_items_lem, read_set_of as read_set_of_lem};
+ghost use Rattle.sdb_order.specs.Commits.{executed_of};
+ghost use Rattle.sdb_said.specs.Values.{item_of as noted_of};
+ghost use Rattle.sdb_plain.specs.Values.{all_made, made_of, all_items, items_by, items_of_statement};
 
 use crate::made::{Made, calls_of};
 use crate::meaning::meaning_of;
 use crate::request::reads_rows;
 use crate::transaction::{client_of, has_finished, inside_of, ordinal_of};
 use sdb_model::Event;
-use sdb_order::{Said, statements_said};
+use sdb_order::{Executed, statements_by};
 use sdb_record::{Read, Reads, Scan};
-use sdb_said::{Note, writer};
+use sdb_said::{ReadItem, writer};
 use sdb_types::{Duplicate, Key, NoMemory, Record, Reply, Request, Seq, Span, TxId};
 use std::alloc::Global;
 
@@ -61,27 +61,32 @@ fn version_found(calls: &[Made], found: &Option<Record>) -> Option<TxId>
     }
 }
 
-fn get_noted(calls: &[Made], key: &Key, found: &Option<Record>) -> Result<Note, NoMemory>
-    ensures { IfOk result (λ note. noted_of note ≡ Got (read_of key.now (option_and_then (meaning_of_lem (all_made calls.now)) found.now))) }
+fn get_noted(calls: &[Made], key: &Key, found: &Option<Record>) -> Result<ReadItem, NoMemory>
+    ensures { IfOk result (λ item. noted_of item ≡ KeyRead (read_of key.now (option_and_then (meaning_of_lem (all_made calls.now)) found.now))) }
 {
-    Ok(Note::Got(Read {
+    Ok(ReadItem::KeyRead(Read {
         key: key.copy()?,
         version: version_found(calls, found),
     }))
 }
 
-fn scan_noted(alloc: Global, calls: &[Made], span: &Span, rows: &[Record]) -> Result<Note, NoMemory>
-    ensures { IfOk result (λ note. noted_of note ≡ Scanned (record { span = span.now; found = reads_of_lem (all_made calls.now) rows.now })) }
+fn scan_noted(
+    alloc: Global,
+    calls: &[Made],
+    span: &Span,
+    rows: &[Record],
+) -> Result<ReadItem, NoMemory>
+    ensures { IfOk result (λ item. noted_of item ≡ SpanRead (record { span = span.now; found = reads_of_lem (all_made calls.now) rows.now })) }
 {
     let found = reads_of(alloc, calls, rows)?;
-    Ok(Note::Scanned(Scan {
+    Ok(ReadItem::SpanRead(Scan {
         span: span.copy()?,
         found,
     }))
 }
 
-fn note_of(alloc: Global, calls: &[Made], made: &Made) -> Result<Option<Note>, NoMemory>
-    ensures { IfOk result (λ note. option_map noted_of note ≡ note_of_lem (all_made calls.now) made.now.request made.now.reply) }
+fn note_of(alloc: Global, calls: &[Made], made: &Made) -> Result<Option<ReadItem>, NoMemory>
+    ensures { IfOk result (λ item. option_map noted_of item ≡ read_item_of_lem (all_made calls.now) made.now.request made.now.reply) }
 {
     match (&made.request, &made.reply) {
         (Request::Get(key), Reply::Found(found)) => { Ok(Some(get_noted(calls, key, found)?)) }
@@ -94,72 +99,72 @@ fn note_of(alloc: Global, calls: &[Made], made: &Made) -> Result<Option<Note>, N
 
 fn add_note(
     alloc: Global,
-    notes: &mut Seq<Note>,
+    read_set: &mut Seq<ReadItem>,
     calls: &[Made],
     made: &Made,
 ) -> Result<(), NoMemory>
-    ensures { OnOk result (all_notes notes.new ≡ all_notes notes.old ++ notes_by (all_made calls.now) (made_of made.now)) }
+    ensures { OnOk result (all_items read_set.new ≡ all_items read_set.old ++ items_by (all_made calls.now) (made_of made.now)) }
 {
     if !reads_rows(made) {
         return Ok(());
     }
     match note_of(alloc, calls, made)? {
-        Some(note) => notes.push(note),
+        Some(item) => read_set.push(item),
         None => Ok(()),
     }
 }
 
 #[tactic(auto, using(crate::proofs::Walks::notes_are))]
-fn add_notes(alloc: Global, notes: &mut Seq<Note>, calls: &[Made]) -> Result<(), NoMemory>
-    ensures { OnOk result (all_notes notes.new ≡ all_notes notes.old ++ notes_in_lem (all_made calls.now)) }
+fn add_notes(alloc: Global, read_set: &mut Seq<ReadItem>, calls: &[Made]) -> Result<(), NoMemory>
+    ensures { OnOk result (all_items read_set.new ≡ all_items read_set.old ++ read_items_lem (all_made calls.now)) }
 {
     for made in calls {
-        add_note(alloc, notes, calls, made)?;
+        add_note(alloc, read_set, calls, made)?;
     }
     Ok(())
 }
 
-// Adds what one statement of a transaction noted.
+// Adds what one statement of a transaction read.
 fn add_said(
     alloc: Global,
-    notes: &mut Seq<Note>,
+    read_set: &mut Seq<ReadItem>,
     events: &[Event],
     client: u64,
-    said: &Said,
+    executed: &Executed,
 ) -> Result<(), NoMemory>
-    ensures { OnOk result (all_notes notes.new ≡ all_notes notes.old ++ said_notes events.now client (said_of said.now)) }
+    ensures { OnOk result (all_items read_set.new ≡ all_items read_set.old ++ items_of_statement events.now client (executed_of executed.now)) }
 {
-    if !has_finished(said) {
+    if !has_finished(executed) {
         return Ok(());
     }
-    let calls = calls_of(alloc, events, client, said)?;
-    add_notes(alloc, notes, calls.as_slice())
+    let calls = calls_of(alloc, events, client, executed)?;
+    add_notes(alloc, read_set, calls.as_slice())
 }
 
 fn add_all_said(
     alloc: Global,
-    notes: &mut Seq<Note>,
+    read_set: &mut Seq<ReadItem>,
     events: &[Event],
     client: u64,
-    all: &[Said],
+    all: &[Executed],
 ) -> Result<(), NoMemory>
-    ensures { OnOk result (all_notes notes.new ≡ all_notes notes.old ++ flat_map (λ s. said_notes events.now client (said_of s)) all.now) }
+    ensures { OnOk result (all_items read_set.new ≡ all_items read_set.old ++ flat_map (λ s. items_of_statement events.now client (executed_of s)) all.now) }
 {
-    for said in all {
-        add_said(alloc, notes, events, client, said)?;
+    for executed in all {
+        add_said(alloc, read_set, events, client, executed)?;
     }
     Ok(())
 }
 
 /// What the statements of a transaction noted, in order: what the records mean that those read whose reads have finished.
 #[tactic(auto, using(crate::proofs::Walks::all_noted))]
-pub fn noted_in(alloc: Global, events: &[Event], id: TxId) -> Result<Seq<Note>, NoMemory>
-    ensures { IfOk result (λ notes. all_notes notes ≡ noted_in_lem events.now id) }
+pub fn read_set_of(alloc: Global, events: &[Event], id: TxId) -> Result<Seq<ReadItem>, NoMemory>
+    ensures { IfOk result (λ read_set. all_items read_set ≡ read_set_of_lem events.now id) }
 {
     let client = client_of(id);
-    let all = statements_said(alloc, client, events)?;
+    let all = statements_by(alloc, client, events)?;
     let inside = inside_of(alloc, all.as_slice(), ordinal_of(id))?;
-    let mut notes = Seq::new(alloc);
-    add_all_said(alloc, &mut notes, events, client, inside)?;
-    Ok(notes)
+    let mut read_set = Seq::new(alloc);
+    add_all_said(alloc, &mut read_set, events, client, inside)?;
+    Ok(read_set)
 }

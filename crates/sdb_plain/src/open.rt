@@ -4,11 +4,11 @@ ghost use Rattle.std.specs.Option.{option_map_or};
 ghost use Rattle.sdb_model.specs.Sql.{reads_vacuum};
 ghost use Rattle.sdb_model.specs.Follows.{has_stopped as has_stopped_lem, stops as stops_lem};
 ghost use Rattle.sdb_model.specs.Causes.{is_open as is_open_lem, is_open_after as is_open_after_lem, runs_vacuum as runs_vacuum_lem};
-ghost use Rattle.sdb_order.specs.Commits.{said_of};
+ghost use Rattle.sdb_order.specs.Commits.{executed_of};
 ghost use Rattle.sdb_plain.specs.Values.{is_doing as is_doing_lem, is_client_doing as is_client_doing_lem, taker as taker_lem, someone_does as someone_does_lem};
 
 use sdb_model::{Event, Keyword};
-use sdb_order::{Said, begins, ends, is_word, statements_said};
+use sdb_order::{Executed, begins, ends, is_word, statements_by};
 use sdb_types::NoMemory;
 use std::alloc::Global;
 
@@ -19,13 +19,13 @@ pub enum Work {
     Vacuum,
 }
 
-fn is_open_after(alloc: Global, was: bool, said: &Said) -> Result<bool, NoMemory>
-    ensures { IfOk result (λ is. is ≡ is_open_after_lem was (said_of said.now)) }
+fn is_open_after(alloc: Global, was: bool, executed: &Executed) -> Result<bool, NoMemory>
+    ensures { IfOk result (λ is. is ≡ is_open_after_lem was (executed_of executed.now)) }
 {
-    if begins(alloc, said)? {
+    if begins(alloc, executed)? {
         return Ok(true);
     }
-    if ends(alloc, said)? && said.answer.is_some() {
+    if ends(alloc, executed)? && executed.answer.is_some() {
         return Ok(false);
     }
     Ok(was)
@@ -35,27 +35,27 @@ fn is_open_after(alloc: Global, was: bool, said: &Said) -> Result<bool, NoMemory
 pub fn is_open(alloc: Global, past: &[Event], client: u64) -> Result<bool, NoMemory>
     ensures { IfOk result (λ is. is ≡ is_open_lem past.now client) }
 {
-    let said = statements_said(alloc, client, past)?;
+    let executed = statements_by(alloc, client, past)?;
     let mut now = false;
-    for s in said.as_slice() {
+    for s in executed.as_slice() {
         now = is_open_after(alloc, now, s)?;
     }
     Ok(now)
 }
 
-fn is_vacuuming(alloc: Global, said: &Said) -> Result<bool, NoMemory>
-    ensures { IfOk result (λ runs. runs ≡ (reads_vacuum said.now.text && is_none said.now.answer)) }
+fn is_vacuuming(alloc: Global, executed: &Executed) -> Result<bool, NoMemory>
+    ensures { IfOk result (λ runs. runs ≡ (reads_vacuum executed.now.text && is_none executed.now.answer)) }
 {
-    Ok(is_word(alloc, said, Keyword::Vacuum)? && said.answer.is_none())
+    Ok(is_word(alloc, executed, Keyword::Vacuum)? && executed.answer.is_none())
 }
 
 /// Whether a client's VACUUM has no answer yet.
 pub fn runs_vacuum(alloc: Global, past: &[Event], client: u64) -> Result<bool, NoMemory>
     ensures { IfOk result (λ runs. runs ≡ runs_vacuum_lem past.now client) }
 {
-    let said = statements_said(alloc, client, past)?;
+    let executed = statements_by(alloc, client, past)?;
     let mut runs = false;
-    for s in said.as_slice() {
+    for s in executed.as_slice() {
         runs = is_vacuuming(alloc, s)?;
     }
     Ok(runs)

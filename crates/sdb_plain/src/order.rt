@@ -1,6 +1,6 @@
 //! Whole transactions on plain tables, one after the other.
 ghost use Rattle.std.specs.Prelude.{◌≡◌, IfOk};
-ghost use Rattle.sdb_model.specs.Told.{run_body as run_body_lem, serial as serial_lem};
+ghost use Rattle.sdb_model.specs.Serial.{run_body as run_body_lem, serial as serial_lem};
 
 use crate::statement::exec;
 use crate::tables::PlainTables;

@@ -1,12 +1,12 @@
 //! Transactions among the events of a run, and their order.
 ghost use Rattle.std.specs.Prelude.{◌≡◌, ◌<◌, [], IfOk, OnOk, Some, None, map, fold, length, option_map, find, take_while, nat_le};
 ghost use Rattle.sdb_model.specs.Transactions.{from_begin as from_begin_lem, ends as ends_lem, is_prepared_record as is_prepared_record_lem, prepares as prepares_lem, is_prepared_by, last_prepare as last_prepare_lem, point as point_lem, point_at};
-ghost use Rattle.sdb_order.specs.Commits.{said_of, all_said};
-ghost use Rattle.sdb_plain.specs.Points.{placed_point, order_of as order_of_lem};
+ghost use Rattle.sdb_order.specs.Commits.{executed_of, all_executed};
+ghost use Rattle.sdb_plain.specs.Points.{inserted_point, order_of as order_of_lem};
 
 use crate::transaction::{client_of, commit_of, ordinal_of};
 use sdb_model::{Event, How, Point, Points};
-use sdb_order::{Said, begins, ends, statements_said};
+use sdb_order::{Executed, begins, ends, statements_by};
 use sdb_record::has_version;
 use sdb_types::{NoMemory, Record, Reply, Request, State, TxId};
 use std::alloc::Global;
@@ -53,21 +53,21 @@ pub fn last_prepare(events: &[Event], id: TxId) -> Option<u64>
 }
 
 /// The BEGIN of the k-th transaction, k from 1, and the statements after it.
-pub fn from_begin(alloc: Global, k: u64, said: &[Said]) -> Result<&[Said], NoMemory>
-    ensures { IfOk result (λ since. all_said since.now ≡ from_begin_lem k (all_said said.now)) }
+pub fn from_begin(alloc: Global, k: u64, executed: &[Executed]) -> Result<&[Executed], NoMemory>
+    ensures { IfOk result (λ since. all_executed since.now ≡ from_begin_lem k (all_executed executed.now)) }
 {
     if k == 0 {
         return Ok(&[]);
     }
-    let Some((first, rest)) = said.split_first() else {
-        return Ok(said);
+    let Some((first, rest)) = executed.split_first() else {
+        return Ok(executed);
     };
     let begins = begins(alloc, first)?;
     if !begins {
         let since = from_begin(alloc, k, rest)?;
         Ok(since)
     } else if k == 1 {
-        Ok(said)
+        Ok(executed)
     } else {
         let since = from_begin(alloc, k - 1, rest)?;
         Ok(since)
@@ -75,10 +75,10 @@ pub fn from_begin(alloc: Global, k: u64, said: &[Said]) -> Result<&[Said], NoMem
 }
 
 /// The first statement that ends a transaction.
-pub fn first_ending(alloc: Global, said: &[Said]) -> Result<Option<&Said>, NoMemory>
-    ensures { IfOk result (λ found. option_map (λ s. said_of s.now) found ≡ find ends_lem (all_said said.now)) }
+pub fn first_ending(alloc: Global, executed: &[Executed]) -> Result<Option<&Executed>, NoMemory>
+    ensures { IfOk result (λ found. option_map (λ s. executed_of s.now) found ≡ find ends_lem (all_executed executed.now)) }
 {
-    let Some((first, rest)) = said.split_first() else {
+    let Some((first, rest)) = executed.split_first() else {
         return Ok(None);
     };
     if ends(alloc, first)? {
@@ -96,7 +96,7 @@ pub fn point(alloc: Global, events: &[Event], id: TxId) -> Result<u64, NoMemory>
     if let Some(number) = last_prepare(events, id) {
         return Ok(number);
     }
-    let all = statements_said(alloc, client_of(id), events)?;
+    let all = statements_by(alloc, client_of(id), events)?;
     match commit_of(alloc, all.as_slice(), ordinal_of(id))? {
         Some(commit) => Ok(commit.taken),
         None => Ok(0),
@@ -113,7 +113,7 @@ fn place_of(points: &[Point], point: Point) -> usize
 }
 
 fn place(points: &mut Points, point: Point) -> Result<(), NoMemory>
-    ensures { OnOk result (points.new ≡ placed_point points.old point) }
+    ensures { OnOk result (points.new ≡ inserted_point points.old point) }
 {
     let at = place_of(points.as_slice(), point);
     points.insert(at, point)
@@ -131,7 +131,7 @@ fn points_of(alloc: Global, events: &[Event], ids: &[TxId]) -> Result<Points, No
 }
 
 fn in_order(alloc: Global, points: &[Point]) -> Result<Points, NoMemory>
-    ensures { IfOk result (λ order. order ≡ fold placed_point [] points.now) }
+    ensures { IfOk result (λ order. order ≡ fold inserted_point [] points.now) }
 {
     let mut order = Points::new(alloc);
     for point in points {

@@ -3,7 +3,7 @@ ghost use Rattle.std.specs.Prelude.{◌≡◌, find, is_some};
 ghost use Rattle.std.specs.Option.{option_and_then, option_copied};
 ghost use Rattle.std.specs.Result.{result_ok};
 ghost use Rattle.sdb_record.specs.Coordinator.{decision_in};
-ghost use Rattle.sdb_model.specs.Calls.{put_by, decision_said as decision_said_lem, standing_said as standing_said_lem};
+ghost use Rattle.sdb_model.specs.Calls.{put_by, decision_in_reply as decision_in_reply_lem, record_at_key as record_at_key_lem};
 ghost use Rattle.sdb_plain.specs.Values.{decision_at as decision_at_lem, decision_found_at as decision_found_at_lem, decision_learned_at as decision_learned_at_lem};
 
 use crate::made::Made;
@@ -14,8 +14,8 @@ use sdb_types::{Key, Record, Reply, Request};
 use std::alloc::Global;
 
 /// What a reply says is at the one key that its request names.
-pub fn standing_said<'a>(request: &Request, reply: &'a Reply) -> Option<&'a Option<Record>>
-    ensures { option_copied result ≡ standing_said_lem request.now reply.now }
+pub fn record_at_key<'a>(request: &Request, reply: &'a Reply) -> Option<&'a Option<Record>>
+    ensures { option_copied result ≡ record_at_key_lem request.now reply.now }
 {
     match (request, reply) {
         (Request::Get(_), Reply::Found(found)) => Some(found),
@@ -44,16 +44,16 @@ fn put_decided(alloc: Global, request: &Request) -> Option<Decided>
 }
 
 fn found_decided(alloc: Global, request: &Request, reply: &Reply) -> Option<Decided>
-    ensures { result ≡ option_and_then (λ found. option_and_then (λ r. result_ok (decision_in r)) found) (standing_said_lem request.now reply.now) }
+    ensures { result ≡ option_and_then (λ found. option_and_then (λ r. result_ok (decision_in r)) found) (record_at_key_lem request.now reply.now) }
 {
-    match standing_said(request, reply) {
+    match record_at_key(request, reply) {
         Some(found) => decided_in(alloc, found),
         None => None,
     }
 }
 
 fn decision_said(alloc: Global, request: &Request, reply: &Reply) -> Option<Decided>
-    ensures { result ≡ decision_said_lem request.now reply.now }
+    ensures { result ≡ decision_in_reply_lem request.now reply.now }
 {
     match reply {
         Reply::Applied => put_decided(alloc, request),

@@ -3,7 +3,7 @@ ghost use Rattle.std.specs.Prelude.{◌≡◌};
 ghost use Rattle.std.specs.Option.{option_copied};
 ghost use Rattle.sdb_model.specs.Calls.{key_asked as key_asked_lem, is_read as is_read_lem, is_removal as is_removal_lem, put_by as put_by_lem};
 ghost use Rattle.sdb_model.specs.Events.{table_asked};
-ghost use Rattle.sdb_model.specs.Noted.{reads_rows as reads_rows_lem};
+ghost use Rattle.sdb_model.specs.ReadSet.{reads_rows as reads_rows_lem};
 ghost use Rattle.sdb_plain.specs.Values.{made_of, asks_row as asks_row_lem};
 
 use crate::made::Made;

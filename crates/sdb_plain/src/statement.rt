@@ -3,7 +3,7 @@ ghost use Rattle.std.specs.Prelude.{◌≡◌, IfOk, OnOk, map, filter, take_whi
 ghost use Rattle.std.specs.Option.{option_copied};
 ghost use Rattle.std.specs.Ordering.{is_lt};
 ghost use Rattle.sdb_schema.specs.Order.{row_key_cmp};
-ghost use Rattle.sdb_model.specs.Exec.{passes as passes_lem, updated, placed, sorted as sorted_lem, cut as cut_lem, shown as shown_lem, answer_of, left_by, exec_in, exec as exec_lem, find_table as find_table_lem, not_a_table as not_a_table_lem};
+ghost use Rattle.sdb_model.specs.Exec.{passes as passes_lem, updated, placed, sorted as sorted_lem, cut as cut_lem, projected as projected_lem, answer_of, left_by, exec_in, exec as exec_lem, find_table as find_table_lem, not_a_table as not_a_table_lem};
 ghost use Rattle.sdb_model.specs.declared.statement.Statement.TheVariants as statement;
 
 use crate::tables::PlainTables;
@@ -86,11 +86,11 @@ fn sorted(alloc: Global, table: &Table, rows: &[Image]) -> Result<Images, NoMemo
 }
 
 fn selected(alloc: Global, table: &Table, select: &Select, rows: &[Image]) -> Result<Rows, NoMemory>
-    ensures { IfOk result (λ found. found ≡ map (shown_lem table.now select.now.columns) (cut_lem select.now.limit (sorted_lem table.now rows.now))) }
+    ensures { IfOk result (λ found. found ≡ map (projected_lem table.now select.now.columns) (cut_lem select.now.limit (sorted_lem table.now rows.now))) }
 {
     let found = sorted(alloc, table, rows)?;
-    let names = shown_names(alloc, table, &select.columns)?;
-    shown_all(
+    let names = projected_names(alloc, table, &select.columns)?;
+    projected_all(
         alloc,
         table,
         names.as_slice(),

@@ -20,7 +20,7 @@ use Rattle.sdb_model.specs.declared.statement.Statement.{Statement}
 use Rattle.sdb_model.specs.declared.statement.Statement.TheVariants as statement
 use Rattle.sdb_model.specs.Causes.{refused}
 use Rattle.sdb_model.specs.Exec.{named_table}
-use Rattle.sdb_model.specs.Noted.{read_finished}
+use Rattle.sdb_model.specs.ReadSet.{read_finished}
 use Rattle.sdb_model.specs.Plain.{is_one_line}
 use Rattle.sdb_model.specs.Refused.{refusal_by, refusal_of}
 use Rattle.sdb_model.specs.Sql.{reads_commit}
@@ -35,7 +35,7 @@ use Rattle.sdb_phases.specs.Commit.{Back, Checking, Deciding, Forward, Over, Pre
 use Rattle.sdb_commit.specs.Phases.{CommitAt, IsNext, ended_at}
 use Rattle.sdb_read.specs.declared.read.ReadStep.TheVariants as step
 use Rattle.sdb_read.specs.Read.{Asking, Ended, ReadAt, ReadStage, Resolving, read_result, read_step}
-use Rattle.sdb_snapshot.specs.Noted.{Note, has_moved, note_at}
+use Rattle.sdb_snapshot.specs.Reads.{ReadRecord, has_changed, record_read_at}
 use Rattle.sdb_snapshot.specs.Seen.{Seen, overlay}
 use Rattle.sdb_txn.specs.declared.progress.Progress.{Progress}
 use Rattle.sdb_txn.specs.declared.progress.Progress.TheVariants as progress
@@ -47,7 +47,7 @@ use Rattle.sdb_vacuum.specs.declared.work.VacuumStep.TheVariants as sweep
 use Rattle.sdb_vacuum.specs.Vacuum.{Gives, VacuumAt, vacuum_step}
 use Rattle.sdb_client.specs.declared.next.Next.{Next}
 use Rattle.sdb_client.specs.declared.next.Next.TheVariants as next
-use Rattle.sdb_client.specs.Client.{AskTold, BeginTold, CallTold, ClientAt, CommitNext, CommitTaken, GateTold, ImagesTold, IsIdle, IsMovedAt, IsTold, NextTold, OpenTold, ReplyTold, RollbackTold, RowsTold, StageTold, StatementTold, TableTold, Taking, TextTold, VacuumTold, after, answer_in, answer_of, client_pending, given_answer, given_left, gives, holding, is_covered, next_of, noting, pending_by, pending_of, plan_of, resting, starved, too_many, vacuum_left, written, Takes}
+use Rattle.sdb_client.specs.Client.{AskPost, BeginPost, CallPost, ClientAt, CommitNext, CommitStartPost, GatePost, RowsReadPost, IsIdle, IsChangedAt, IsAnsweredAtOnce, NextPost, OpenTxnPost, ReplyPost, RollbackPost, RowsPost, StagePost, StatementPost, TablePost, Taking, TextPost, VacuumStartPost, after, answer_in, answer_of, client_pending, given_answer, given_left, gives, holding, is_covered, next_of, with_rows_read, pending_by, pending_of, plan_of, resting, out_of_memory, too_many, vacuum_left, written, TextStep}
 use Rattle.sdb_steps.proofs.Whole.{by_memory}
 use Rattle.sdb_plainness.proofs.Clear.{KeyClear, RecordsClear, ReplyClear, RequestClear}
 use Rattle.sdb_plainness.proofs.Statements.{AccessClear, AnswerClear, FoundAt, GivesClear, StatementClear, access_clear, gives_clear}
@@ -120,37 +120,37 @@ plan_gives p a t h k = gives_clear p (overlay a t.seen) h (overlay_clear a t.see
 
 ---- a text that is taken
 
-same_clear : (c d : ClientAt) (a : Answer) (result : Option Answer) → IsTold c a result d → AnswerClear a → ClientClear c → StepClear result d
+same_clear : (c d : ClientAt) (a : Answer) (result : Option Answer) → IsAnsweredAtOnce c a result d → AnswerClear a → ClientClear c → StepClear result d
 same_clear c d a result h k g = record { client = subst ClientClear (sym h.same) g; answer = subst (λ (o : Option Answer). IfSome o AnswerClear) (sym h.answer) k }
 
 led_clear : (d e : ClientAt) (result a : Option Answer) → (result ≡ a) × (d ≡ e) → IfSome a AnswerClear → ClientClear e → StepClear result d
 led_clear d e result a h k g = record { client = subst ClientClear (sym h.1) g; answer = subst (λ (o : Option Answer). IfSome o AnswerClear) (sym h.0) k }
 
 module _ (q : Taking) (c d : ClientAt) (result : Option Answer) (waits : IsIdle c) (h : ClientClear c) where
-  begin_clear : (o : Option TxnAt) → BeginTold q.gate q.fresh c o result d → StepClear result d
+  begin_clear : (o : Option TxnAt) → BeginPost q.gate q.fresh c o result d → StepClear result d
   begin_clear (Some t) k = same_clear c d _ result k tt h
   begin_clear None k = by_gate q.gate.vacuum_runs k
     where
-      by_gate : (b : Bool) → GateTold b q.fresh c result d → StepClear result d
+      by_gate : (b : Bool) → GatePost b q.fresh c result d → StepClear result d
       by_gate true k = same_clear c d _ result k tt h
       by_gate false k = led_clear d _ result (Some answer.Done) k tt (record { txn = nothing_clear; plan = tt; vacuum = tt })
 
-  commit_clear : (o : Option TxnAt) → c.txn ≡ o → CommitTaken q.now c o result d → StepClear result d
+  commit_clear : (o : Option TxnAt) → c.txn ≡ o → CommitStartPost q.now c o result d → StepClear result d
   commit_clear None e k = same_clear c d _ result k tt h
   commit_clear (Some t) e k =
       let seen = idle_seen c t e waits h in
       led_clear d _ result None k tt (record { txn = (record { writes = seen.writes; reads = seen.reads; scans = seen.scans }, preparing_clear (work_of t q.now) 0); plan = tt; vacuum = h.vacuum })
 
-  rollback_clear : (o : Option TxnAt) → RollbackTold c o result d → StepClear result d
+  rollback_clear : (o : Option TxnAt) → RollbackPost c o result d → StepClear result d
   rollback_clear None k = same_clear c d _ result k tt h
   rollback_clear (Some t) k = led_clear d _ result (Some answer.Done) k tt (rests_clear c h)
 
-  vacuum_clear : (b : Bool) (ts : List Table) → VacuumTold b ts c result d → StepClear result d
+  vacuum_clear : (b : Bool) (ts : List Table) → VacuumStartPost b ts c result d → StepClear result d
   vacuum_clear true ts k = same_clear c d _ result k tt h
   vacuum_clear false [] k = same_clear c d _ result k tt h
   vacuum_clear false (t ∷ ts) k = led_clear d _ result None k tt (record { txn = h.txn; plan = h.plan; vacuum = begun_clear (t ∷ ts) })
 
-  rows_step : (st : Statement) (t : TxnAt) (table : Table) → StatementClear st → c.txn ≡ Some t → RowsTold (plan_of table st) (access_of table st) c t result d → StepClear result d
+  rows_step : (st : Statement) (t : TxnAt) (table : Table) → StatementClear st → c.txn ≡ Some t → RowsPost (plan_of table st) (access_of table st) c t result d → StepClear result d
   rows_step st t table clear e k =
       let seen = idle_seen c t e waits h in
       let still : t.doing ≡ doing.Idle = subst (λ (o : Option TxnAt). IfSome o (λ u. u.doing ≡ doing.Idle)) e waits.still in
@@ -162,7 +162,7 @@ module _ (q : Taking) (c d : ClientAt) (result : Option Answer) (waits : IsIdle 
       (λ b. led_clear d _ result (Some (given_answer t (gives p a t))) (k.known b) (given_clear t (gives p a t) given) (holds_clear c (given_left t t (gives p a t)) h (at_rest (given_left t t (gives p a t)) (left_clear t t (gives p a t) (still, seen) (still, seen) given))))
       (λ b. led_clear d _ result None (k.unknown b) tt (record { txn = (seen, here, asked_clear a here, tt); plan = clear; vacuum = h.vacuum }))
 
-  table_step : (st : Statement) (t : TxnAt) → StatementClear st → c.txn ≡ Some t → TableTold q.catalog st c t result d → StepClear result d
+  table_step : (st : Statement) (t : TxnAt) → StatementClear st → c.txn ≡ Some t → TablePost q.catalog st c t result d → StepClear result d
   table_step st t clear e k = by_refusal (refusal_of q.catalog st) refl
     where
       by_table : (o : Option Table) → refusal_of q.catalog st ≡ None → named_table q.catalog st ≡ o → StepClear result d
@@ -173,11 +173,11 @@ module _ (q : Taking) (c d : ClientAt) (result : Option Answer) (waits : IsIdle 
       by_refusal (Some r) taken = same_clear c d _ result (k.refused r taken) tt h
       by_refusal None taken = by_table (named_table q.catalog st) taken refl
 
-  ask_step : (st : Statement) (o : Option TxnAt) → StatementClear st → c.txn ≡ o → AskTold q.catalog st c o result d → StepClear result d
+  ask_step : (st : Statement) (o : Option TxnAt) → StatementClear st → c.txn ≡ o → AskPost q.catalog st c o result d → StepClear result d
   ask_step st None clear e k = same_clear c d _ result k tt h
   ask_step st (Some t) clear e k = table_step st t clear e k
 
-  statement_step : (st : Statement) → StatementClear st → StatementTold q st c result d → StepClear result d
+  statement_step : (st : Statement) → StatementClear st → StatementPost q st c result d → StepClear result d
   statement_step statement.Begin clear k = begin_clear c.txn k
   statement_step statement.Commit clear k = commit_clear c.txn refl k
   statement_step statement.Rollback clear k = rollback_clear c.txn k
@@ -188,14 +188,14 @@ module _ (q : Taking) (c d : ClientAt) (result : Option Answer) (waits : IsIdle 
   statement_step (statement.Delete s) clear k = ask_step (statement.Delete s) c.txn clear refl k
   statement_step (statement.Select s) clear k = ask_step (statement.Select s) c.txn clear refl k
 
-  text_step : (text : List ℕ) → is_one_line text ≡ true → TextTold q text c result d → StepClear result d
+  text_step : (text : List ℕ) → is_one_line text ≡ true → TextPost q text c result d → StepClear result d
   text_step text one (Ok st, reads, k) = statement_step st (read_clear text st one reads) k
   text_step text one (Err r, refuses, k) = same_clear c d _ result k tt h
 
-starved_clear : (text : List ℕ) (c : ClientAt) → ClientClear c → ClientClear (starved text c)
+starved_clear : (text : List ℕ) (c : ClientAt) → ClientClear c → ClientClear (out_of_memory text c)
 starved_clear text c h = elim (reads_commit text) as (λ b. ClientClear (cond b (resting c) c)) [ true ↦ rests_clear c h | false ↦ h ]
 
-pub takes_clear : (q : Taking) (text : List ℕ) (c d : ClientAt) (result : Option Answer) → is_one_line text ≡ true → IsIdle c → ClientClear c → Takes q text c result d → StepClear result d
+pub takes_clear : (q : Taking) (text : List ℕ) (c d : ClientAt) (result : Option Answer) → is_one_line text ≡ true → IsIdle c → ClientClear c → TextStep q text c result d → StepClear result d
 takes_clear q text c d result one waits h k =
     by_memory result
     (λ e. record { client = subst ClientClear (sym (k.memory e)) (starved_clear text c h); answer = subst (λ (o : Option Answer). IfSome o AnswerClear) (sym e) tt })
@@ -214,18 +214,18 @@ after_clear c (next.Answer a) u h k = record { client = holds_clear c u h k.0; a
 after_clear c (next.End a) u h k = record { client = rests_clear c h; answer = k }
 
 -- a key that was read
-noted_key : (notes : List Note) (key : Key) → NotesClear notes → is_some (note_at notes key) ≡ true → KeyClear key
+noted_key : (read_set : List ReadRecord) (key : Key) → NotesClear read_set → is_some (record_read_at read_set key) ≡ true → KeyClear key
 noted_key [] key h = λ e. clash (sym e)
 noted_key (n ∷ ns) key h =
     by_test (same_key key n.0)
     (λ t. λ e. subst KeyClear (sym (same_key_exact key n.0 t)) h.0.0)
     (λ t. λ e. noted_key ns key h.1 (sym (ap (λ (b : Bool). is_some (cond b (Some n.1) (value_at ns key))) t) ∙ e))
 
-moved_noted : (o : Option (Option Record)) (found : Option Record) → has_moved o found ≡ true → is_some o ≡ true
+moved_noted : (o : Option (Option Record)) (found : Option Record) → has_changed o found ≡ true → is_some o ≡ true
 moved_noted None found e = clash (sym e)
 moved_noted (Some n) found e = refl
 
-noting_clear : (t : TxnAt) (a : Access) (images : List Record) → AccessClear a → RecordsClear images → SeenClear t.seen → RestsWith (noting t a images)
+noting_clear : (t : TxnAt) (a : Access) (images : List Record) → AccessClear a → RecordsClear images → SeenClear t.seen → RestsWith (with_rows_read t a images)
 noting_clear t (access.Get key) images k h g = (refl, get_clear t.seen key images k h g)
 noting_clear t (access.Scan span) images k h g = (refl, scan_clear t.seen span images k h g)
 
@@ -236,24 +236,24 @@ module _ (t u : TxnAt) (p : Planned) (a : Access) (x : ReadAt) (clear : PlanClea
   more_step : (n : Next) (s : ReadStage) → StageClear s → (n ≡ next.Call) × (u ≡ record t { doing = doing.Read a (record x { stage = s }) }) → AfterClear n u
   more_step n s i h = subst (λ (m : Next). AfterClear m u) (sym h.0) (subst TxnClear (sym h.1) (seen, here, asks, i))
 
-  moved_step : (b : Access) (images : List Record) (key : Key) (found : Option Record) → RecordsClear images → IsMovedAt t b images key found → AnswerClear (answer.Conflict key found)
+  moved_step : (b : Access) (images : List Record) (key : Key) (found : Option Record) → RecordsClear images → IsChangedAt t b images key found → AnswerClear (answer.Conflict key found)
   moved_step (access.Get k) images key found i h = absurd h
   moved_step (access.Scan span) images key found i h = (
-    noted_key t.seen.notes key seen.notes (moved_noted (note_at t.seen.notes key) (record_among images key) h.moved),
+    noted_key t.seen.read_set key seen.read_set (moved_noted (record_read_at t.seen.read_set key) (record_among images key) h.moved),
     subst (λ (o : Option Record). IfSome o (FoundAt key)) (sym h.stands) (among_at images key i),
   )
 
-  images_step : (images : List Record) (n : Next) → RecordsClear images → ImagesTold t p a images n u → AfterClear n u
+  images_step : (images : List Record) (n : Next) → RecordsClear images → RowsReadPost t p a images n u → AfterClear n u
   images_step images next.Call i h = absurd h
   images_step images (next.End (answer.Conflict key found)) i h = moved_step a images key found i h
   images_step images (next.End z) i h = absurd h
   images_step images (next.Answer z) i h =
-      let v : TxnAt = noting t a images in
-      let noted : RestsWith v = noting_clear t a images here i seen in
-      let given : GivesClear (gives p a v) = plan_gives p a v clear noted.1 in
-      (subst TxnClear (sym h.2) (at_rest (given_left (idle t) v (gives p a v)) (left_clear (idle t) v (gives p a v) (refl, seen) noted given)), subst AnswerClear (sym h.1) (given_clear v (gives p a v) given))
+      let v : TxnAt = with_rows_read t a images in
+      let as_read : RestsWith v = noting_clear t a images here i seen in
+      let given : GivesClear (gives p a v) = plan_gives p a v clear as_read.1 in
+      (subst TxnClear (sym h.2) (at_rest (given_left (idle t) v (gives p a v)) (left_clear (idle t) v (gives p a v) (refl, seen) as_read given)), subst AnswerClear (sym h.1) (given_clear v (gives p a v) given))
 
-  stage_step : (n : Next) (s : ReadStage) → StageClear s → StageTold t p a x s (read_result s) n u → AfterClear n u
+  stage_step : (n : Next) (s : ReadStage) → StageClear s → StagePost t p a x s (read_result s) n u → AfterClear n u
   stage_step n Asking i h = more_step n Asking i h
   stage_step n (Resolving images rec meta phase left) i h = more_step n (Resolving images rec meta phase left) i h
   stage_step n (Ended step.More) i h = more_step n (Ended step.More) i h
@@ -263,7 +263,7 @@ module _ (t u : TxnAt) (p : Planned) (a : Access) (x : ReadAt) (clear : PlanClea
   stage_step n (Ended (step.BadRecord key)) i h = idle_step n (answer.BadRecord key) i h
   stage_step n (Ended step.NoMemory) i h = absurd h
 
-  call_step : (n : Next) (r : Reply) (now : ℤ) → StageClear (read_step x.stage now r) → CallTold t p a x r now n u → AfterClear n u
+  call_step : (n : Next) (r : Reply) (now : ℤ) → StageClear (read_step x.stage now r) → CallPost t p a x r now n u → AfterClear n u
   call_step next.Call r now i h = stage_step next.Call (read_step x.stage now r) i (h.told (λ e. cc))
   call_step (next.End z) r now i h = stage_step (next.End z) (read_step x.stage now r) i (h.told (λ e. cc))
   call_step (next.Answer z) r now i h =
@@ -333,7 +333,7 @@ commit_step_to t u k r n w g can c h =
 can_get : (o : Option Request) (q : Request) (r : Reply) → o ≡ Some q → CanAnswer q r → IfSome o (λ x. CanAnswer x r)
 can_get o q r e can = subst (λ (x : Option Request). IfSome x (λ y. CanAnswer y r)) (sym e) can
 
-next_step : (t u : TxnAt) (o : Doing) (p : Option Planned) (q : Request) (r : Reply) (now : ℤ) (n : Next) → DoingClear t.seen o → IfSome p PlanClear → pending_in o ≡ Some q → CanAnswer q r → ReplyClear r → NextTold t o p r now n u → AfterClear n u
+next_step : (t u : TxnAt) (o : Doing) (p : Option Planned) (q : Request) (r : Reply) (now : ℤ) (n : Next) → DoingClear t.seen o → IfSome p PlanClear → pending_in o ≡ Some q → CanAnswer q r → ReplyClear r → NextPost t o p r now n u → AfterClear n u
 next_step t u doing.Idle p q r now n h f e can c k = absurd k
 next_step t u (doing.Read a x) None q r now n h f e can c k = absurd k
 next_step t u (doing.Read a x) (Some p) q r now n h f e can c k = call_step t u p a x f h.0 h.1 h.2 n r now (stage_clear x.stage now r h.3 c) k
@@ -343,22 +343,22 @@ next_step t u doing.Over p q r now n h f e can c k = absurd k
 
 -- the VACUUM after a call, and what it answers
 swept_step : (v w : VacuumAt) (e : VacuumStep) (r : Reply) (now : ℤ) → Gives (vacuum_step v now r) w e → AreSwept (vacuum_step v now r) → IfSome (vacuum_left e w) VacuumClear × IfSome (answer_of e) AnswerClear
-swept_step v w sweep.More r now g h = (subst VacuumClear (sym g.0) h.0, tt)
-swept_step v w (sweep.Count n) r now g h = (tt, tt)
-swept_step v w sweep.Faulted r now g h = (tt, tt)
-swept_step v w (sweep.BadRecord key) r now g h = (tt, subst SweptClear (sym g.1) h.1)
-swept_step v w sweep.NoMemory r now g h = (tt, tt)
+swept_step v w vacuuming.More r now g h = (subst VacuumClear (sym g.0) h.0, tt)
+swept_step v w (vacuuming.Count n) r now g h = (tt, tt)
+swept_step v w vacuuming.Faulted r now g h = (tt, tt)
+swept_step v w (vacuuming.BadRecord key) r now g h = (tt, subst SweptClear (sym g.1) h.1)
+swept_step v w vacuuming.NoMemory r now g h = (tt, tt)
 
-pub replies_clear : (c d : ClientAt) (q : Request) (r : Reply) (now : ℤ) (result : Option Answer) → client_pending c ≡ Some q → CanAnswer q r → ReplyClear r → ClientClear c → ReplyTold c c.vacuum r now result d → StepClear result d
+pub replies_clear : (c d : ClientAt) (q : Request) (r : Reply) (now : ℤ) (result : Option Answer) → client_pending c ≡ Some q → CanAnswer q r → ReplyClear r → ClientClear c → ReplyPost c c.vacuum r now result d → StepClear result d
 replies_clear c d q r now result asked can reply h leads = by_vacuum c.vacuum refl asked leads
   where
-    by_txn : (o : Option TxnAt) → c.txn ≡ o → pending_of o ≡ Some q → OpenTold c o r now result d → StepClear result d
+    by_txn : (o : Option TxnAt) → c.txn ≡ o → pending_of o ≡ Some q → OpenTxnPost c o r now result d → StepClear result d
     by_txn None e pends k = absurd k
     by_txn (Some t) e pends k =
         let so = after_clear c k.next k.left h (next_step t k.left t.doing c.plan q r now k.next (open_clear c t e h) h.plan pends can reply k.told) in
         record { client = subst ClientClear (sym k.client) so.client; answer = subst (λ (o : Option Answer). IfSome o AnswerClear) (sym k.answer) so.answer }
 
-    by_vacuum : (v : Option VacuumAt) → c.vacuum ≡ v → pending_by v c.txn ≡ Some q → ReplyTold c v r now result d → StepClear result d
+    by_vacuum : (v : Option VacuumAt) → c.vacuum ≡ v → pending_by v c.txn ≡ Some q → ReplyPost c v r now result d → StepClear result d
     by_vacuum None e pends k = by_txn c.txn refl pends k
     by_vacuum (Some v) e pends k =
         let is : VacuumClear v = subst (λ (o : Option VacuumAt). IfSome o VacuumClear) e h.vacuum in

@@ -31,8 +31,8 @@ use Rattle.sdb_phases.specs.declared.check.Check.{Check}
 use Rattle.sdb_phases.specs.declared.check.Target.{Target}
 use Rattle.sdb_phases.specs.declared.check.Target.TheVariants as target
 use Rattle.sdb_phases.specs.declared.check.Wanted.{Wanted}
-use Rattle.sdb_phases.specs.declared.check.Wish.{Wish}
-use Rattle.sdb_phases.specs.declared.check.Wish.TheVariants as wish
+use Rattle.sdb_phases.specs.declared.check.Expected.{Expected}
+use Rattle.sdb_phases.specs.declared.check.Expected.TheVariants as wish
 use Rattle.sdb_phases.specs.declared.step.DecidePhase.{DecidePhase}
 use Rattle.sdb_phases.specs.declared.step.DecidePhase.TheVariants as phase
 use Rattle.sdb_phases.specs.declared.step.DecideStep.{DecideStep}
@@ -45,8 +45,8 @@ use Rattle.sdb_phases.specs.declared.step.ValidateStep.{ValidateStep}
 use Rattle.sdb_phases.specs.declared.step.ValidateStep.TheVariants as validate
 use Rattle.sdb_phases.specs.Checks.{Wishes, changed, check_of_read, check_of_scan, checks, difference_at, differs, first_difference, keys_among, least, lesser, wanted, wanted_of, wished_version, wishes, with_reads, with_write, with_writes}
 use Rattle.sdb_phases.specs.Commit.{Back, Checking, Deciding, Forward, Over, Preparing, Stage, Stopping, after_abort, after_check, after_decide, after_prepare, back, checking, forward, pending, preparing, step}
-use Rattle.sdb_phases.specs.Steps.{decide_next, decide_request_at, followed, judged, prepare_step, refused, told, touched_after, validate_step}
-use Rattle.sdb_phases.specs.Work.{Work, back_of, backs, forward_of, forwards, prepare_of, prepares, stands_prepared}
+use Rattle.sdb_phases.specs.Steps.{decide_next, decide_request_at, followed, judged, prepare_step, refused, step_of_row, touched_after, validate_step}
+use Rattle.sdb_phases.specs.Work.{Work, back_of, backs, forward_of, forwards, prepare_of, prepares, is_as_prepared}
 use Rattle.sdb_commit.specs.Phases.{IsNext}
 use Rattle.sdb_validate.specs.Inside.{Judges}
 use Rattle.sdb_plainness.proofs.Lists.{at_all, filter_all, map_all, option_so}
@@ -103,7 +103,7 @@ forward_asks : (id : TxId) (now : ℤ) (w : Write) → WriteClear w → RequestC
 forward_asks id now w h = forward_clear (prepared_record w id now) now (prepared_clear w id now h)
 
 back_asks : (id : TxId) (w : Write) → WriteClear w → RequestClear (back_of id w)
-back_asks id w h = undo_clear (stands_prepared id w) w.key w.base h.key h.base
+back_asks id w h = undo_clear (is_as_prepared id w) w.key w.base h.key h.base
 
 abbrev TargetClear : Target → Type 0
 TargetClear (target.Version version) = Unit {0}
@@ -115,9 +115,9 @@ record CheckClear (c : Check) : Type 0 where
   target : TargetClear c.target
 
 abbrev WishesClear : Wishes → Type 0
-WishesClear m = (q : Key) (w : Wish) → get m q ≡ Some w → KeyClear q
+WishesClear m = (q : Key) (w : Expected) → get m q ≡ Some w → KeyClear q
 
-wished : (m : Wishes) (key : Key) (w : Wish) → KeyClear key → WishesClear m → WishesClear (insert m key w)
+wished : (m : Wishes) (key : Key) (w : Expected) → KeyClear key → WishesClear m → WishesClear (insert m key w)
 wished m key w k h q x e =
     by_test (Rattle.std.specs.Ordering.eq_by_cmp key_cmp q key)
     (λ t. subst KeyClear (sym (key_exact q key (Rattle.sdb_types.specs.Exact.equal_of (key_cmp q key) t))) k)
@@ -143,7 +143,7 @@ no_wishes q w e = none_some w (sym (get-empty key_cmp q) ∙ e)
 
 wanted_clear : (own : List Write) (s : Scan) → WritesClear own → ScanClear s → AllByRecursion (λ (w : Wanted). KeyClear w.key) (wanted own s)
 wanted_clear own s h k =
-    map_all (λ (e : Key × Wish). KeyClear e.0) (λ (w : Wanted). KeyClear w.key) wanted_of (entries (wishes own s)) (λ e c. c)
+    map_all (λ (e : Key × Expected). KeyClear e.0) (λ (w : Wanted). KeyClear w.key) wanted_of (entries (wishes own s)) (λ e c. c)
     (keyed_all (λ q w. KeyClear q) (wishes own s) (writes_wished s.span own (with_reads s.found empty) h (reads_wished s.found empty k.found no_wishes)))
 
 checks_clear : (p : Work) → WorkClear p → AllByRecursion CheckClear (checks p)
@@ -298,7 +298,7 @@ DecideClear (decide.Unknown id) = Unit {0}
 DecideClear (decide.BadRecord key) = KeyClear key
 DecideClear decide.NoMemory = Unit {0}
 
-followed_clear : (id : TxId) (aborted : DecideStep) (o : Result Decided (List ℕ)) → DecideClear aborted → DecideClear (told id aborted o)
+followed_clear : (id : TxId) (aborted : DecideStep) (o : Result Decided (List ℕ)) → DecideClear aborted → DecideClear (step_of_row id aborted o)
 followed_clear id aborted (Err column) h = row_key_clear id
 followed_clear id aborted (Ok d) h = elim d.decision as (λ x. DecideClear (elim x [ decision.Committed ↦ decide.Committed | decision.Aborted ↦ aborted ])) [ decision.Committed ↦ tt | decision.Aborted ↦ h ]
 

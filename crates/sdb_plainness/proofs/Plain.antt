@@ -27,18 +27,18 @@ use Rattle.sdb_record.specs.Meta.{is_in}
 use Rattle.sdb_record.specs.Parts.{before_record}
 use Rattle.sdb_record.specs.Rolls.{forward_record, image_of, image_under, row_of_image}
 use Rattle.sdb_schema.specs.declared.table.Table.{Table}
-use Rattle.sdb_schema.specs.Catalog.{rises, stands_above}
+use Rattle.sdb_schema.specs.Catalog.{rises, is_above_name}
 use Rattle.sdb_model.specs.declared.answer.Answer.{Answer}
 use Rattle.sdb_model.specs.declared.answer.Answer.TheVariants as answer
 use Rattle.sdb_model.specs.declared.event.Event.{Event}
 use Rattle.sdb_model.specs.declared.event.Event.TheVariants as event
 use Rattle.sdb_model.specs.declared.event.TableDump.{TableDump}
 use Rattle.sdb_stores.specs.declared.place.Place.{Place}
-use Rattle.sdb_model.specs.Events.{Shelf, standing}
-use Rattle.sdb_model.specs.Exec.{Tables, all_rows, find_table, is_row_of, shown, sorted}
+use Rattle.sdb_model.specs.Events.{StoreContents, standing}
+use Rattle.sdb_model.specs.Exec.{Tables, all_rows, find_table, is_row_of, projected, sorted}
 use Rattle.sdb_model.specs.Images.{decision_on, row_at}
-use Rattle.sdb_model.specs.Plain.{HasPlainParts, IsFoundAt, IsPlain, IsPlainAnswer, IsPlainDump, IsPlainEvent, IsPlainGiven, IsPlainRow, are_rising, starts_after, values_fit, HasLines}
-use Rattle.sdb_model.specs.Told.{AreImages, dumps_of, serial}
+use Rattle.sdb_model.specs.Plain.{HasPlainParts, IsFoundAt, IsPlain, IsPlainAnswer, IsPlainDump, IsPlainEvent, IsPlainGiven, IsPlainRow, are_rising, starts_after, values_are_plain, HasLines}
+use Rattle.sdb_model.specs.Serial.{AreImages, dumps_of, serial}
 use Rattle.sdb_reading.specs.OneLine.{AnswerHasNoLf, EventHasNoLf, KeyHasNoLf, RecordHasNoLf, ReplyHasNoLf, RequestHasNoLf, ValueHasNoLf, ValuesHaveNoLf}
 use Rattle.sdb_reading.proofs.LineLaws.{event_one, row_one}
 use Rattle.sdb_spread.specs.Spread.{HoldAs}
@@ -51,7 +51,7 @@ use Rattle.sdb_plainness.proofs.Clear.{AreClear, ColumnsClear, FoundClear, KeyCl
 use Rattle.sdb_plainness.proofs.Statements.{AnswerClear, FoundAt, ImageClear, shown_clear, sorted_clear}
 use Rattle.sdb_plainness.proofs.Contents.{HeldClear, TablesClear, rows_clear}
 use Rattle.sdb_plainness.proofs.Paths.{EventClear, WholeClear, execution_clear}
-use Rattle.sdb_model.specs.Tables.{is_played}
+use Rattle.sdb_model.specs.Tables.{is_table_of_run}
 
 ---- no LF, in the words of reports
 
@@ -193,7 +193,7 @@ row_of_clear : (o : Option Record) → FoundClear o → IfSome (option_and_then 
 row_of_clear None h = tt
 row_of_clear (Some r) h = image_clear r h
 
-module _ (catalog : List Table) (places : List Place) (closing : List Shelf) (last : Contents) (same : HoldAs catalog places closing last) (held : HeldClear last) where
+module _ (catalog : List Table) (places : List Place) (closing : List StoreContents) (last : Contents) (same : HoldAs catalog places closing last) (held : HeldClear last) where
   -- the row at a key whose store's record is known
   row_clear : (q : Key) (o : Option Record) (row : List Pair) → standing places closing q ≡ o → record_at last q ≡ o → row_at places closing q ≡ Some row → KeyClear q × ColumnsClear row
   row_clear q None row s e h = none_some row (sym (ap (λ (x : Option Record). option_and_then row_of_image (option_and_then (λ r. image_of r (decision_on places closing r)) x)) s) ∙ h)
@@ -210,14 +210,14 @@ module _ (catalog : List Table) (places : List Place) (closing : List Shelf) (la
     where
       by : (b : Bool) → is_some (find_table catalog q.table) ≡ b → cond b (row_at places closing q) None ≡ Some row → KeyClear q × ColumnsClear row
       by true t k =
-          let played : is_played catalog q.table ≡ true = ap (λ (x : Bool). x || is_coordinator_table q.table) t in
+          let played : is_table_of_run catalog q.table ≡ true = ap (λ (x : Bool). x || is_coordinator_table q.table) t in
           row_clear q (standing places closing q) row refl (sym (same.at q played)) k
       by false t k = none_some row k
 
 abbrev DumpClear : TableDump → Type 0
 DumpClear t = AllByRecursion AreClear t.rows
 
-rows_shown : (t : Table) (rs : List Image) → AllByRecursion ImageClear rs → AllByRecursion AreClear (map (shown t None) rs)
+rows_shown : (t : Table) (rs : List Image) → AllByRecursion ImageClear rs → AllByRecursion AreClear (map (projected t None) rs)
 rows_shown t [] h = tt
 rows_shown t (r ∷ rs) h = (shown_clear t None r h.0, rows_shown t rs h.1)
 
@@ -225,22 +225,22 @@ dumps_clear : (d : Tables) → TablesClear d → (ts : List Table) → AllByRecu
 dumps_clear d h [] = tt
 dumps_clear d h (t ∷ ts) = (rows_shown t (sorted t (filter (is_row_of t) (all_rows d))) (sorted_clear t (filter (is_row_of t) (all_rows d)) (filter_all ImageClear (is_row_of t) (all_rows d) (rows_clear d h))), dumps_clear d h ts)
 
-rows_plain : (rows : List (List Value)) → AllByRecursion values_fit rows → AllByRecursion AreClear rows → AllByRecursion IsPlainRow rows
+rows_plain : (rows : List (List Value)) → AllByRecursion values_are_plain rows → AllByRecursion AreClear rows → AllByRecursion IsPlainRow rows
 rows_plain [] fits h = tt
 rows_plain (r ∷ rs) fits h = (record { fits = fits.0; one_line = row_one r fits.0 (values_none r h.0) }, rows_plain rs fits.1 h.1)
 
 dumps_plain : (ds : List TableDump) → AllByRecursion dump_fits ds → AllByRecursion DumpClear ds → AllByRecursion IsPlainDump ds
 dumps_plain [] fits h = tt
 dumps_plain (t ∷ ts) fits h =
-    (record { name = fits.0.name; counted = fits.0.counted; rows = All-from_recursion IsPlainRow t.rows (rows_plain t.rows (recursion_from_All values_fit t.rows fits.0.rows) h.0) }, dumps_plain ts fits.1 h.1)
+    (record { name = fits.0.name; counted = fits.0.counted; rows = All-from_recursion IsPlainRow t.rows (rows_plain t.rows (recursion_from_All values_are_plain t.rows fits.0.rows) h.0) }, dumps_plain ts fits.1 h.1)
 
-above_starts : (d : Tables) (t : Table) (ts : List Table) → stands_above t.name ts ≡ true → starts_after t.name (dumps_of ts d) ≡ true
+above_starts : (d : Tables) (t : Table) (ts : List Table) → is_above_name t.name ts ≡ true → starts_after t.name (dumps_of ts d) ≡ true
 above_starts d t [] h = refl
 above_starts d t (u ∷ us) h = h
 
 dumps_rise : (d : Tables) (ts : List Table) → rises ts ≡ true → are_rising (dumps_of ts d) ≡ true
 dumps_rise d [] h = refl
-dumps_rise d (t ∷ ts) h = and_both (starts_after t.name (dumps_of ts d)) _ (above_starts d t ts (and_first (stands_above t.name ts) _ h)) (dumps_rise d ts (and_second (stands_above t.name ts) _ h))
+dumps_rise d (t ∷ ts) h = and_both (starts_after t.name (dumps_of ts d)) _ (above_starts d t ts (and_first (is_above_name t.name ts) _ h)) (dumps_rise d ts (and_second (is_above_name t.name ts) _ h))
 
 ---- the whole
 

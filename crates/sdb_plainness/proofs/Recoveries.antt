@@ -26,13 +26,13 @@ use Rattle.sdb_phases.specs.declared.step.RecoverPhase.{RecoverPhase}
 use Rattle.sdb_phases.specs.declared.step.RecoverPhase.TheVariants as recover
 use Rattle.sdb_phases.specs.declared.step.RecoverStep.{RecoverStep}
 use Rattle.sdb_phases.specs.declared.step.RecoverStep.TheVariants as steps
-use Rattle.sdb_phases.specs.Recover.{recover_next, recover_request_at, roll_to, stands_found, undecided}
+use Rattle.sdb_phases.specs.Recover.{recover_next, recover_request_at, roll_to, is_as_found, undecided}
 use Rattle.sdb_read.specs.declared.read.ReadStep.{ReadStep}
 use Rattle.sdb_read.specs.declared.read.ReadStep.TheVariants as step
 use Rattle.sdb_read.specs.Read.{Asking, Bad, Ended, Firm, Kind, Open, ReadStage, Resolving, answered, kind_of, read_pending_at, read_step, request_of, resolved, settle, settle_one}
 use Rattle.sdb_vacuum.specs.declared.work.VacuumStep.{VacuumStep}
 use Rattle.sdb_vacuum.specs.declared.work.VacuumStep.TheVariants as sweep
-use Rattle.sdb_vacuum.specs.Vacuum.{First, Malformed, Nothing, Over as Ends, Removing, Resolving as Resolves, Scanning as Scans, Tombstone, Unresolved, VacuumAt, VacuumStage, answered as sweep_answered, begun, first_of, first_one, goes_on, going, next_table, pending_at, removal_answered, resolved as sweep_resolved, spans_of, step_at as swept_at, tombstone_or}
+use Rattle.sdb_vacuum.specs.Vacuum.{First, Malformed, Nothing, Over as Ends, Removing, Resolving as Resolves, Scanning as Scans, Tombstone, Unresolved, VacuumAt, VacuumStage, answered as sweep_answered, begun, first_of, first_one, with_call, next_of_row, next_table, pending_at, removal_answered, resolved as sweep_resolved, spans_of, step_at as swept_at, tombstone_or}
 use Rattle.sdb_plainness.proofs.Clear.{AreClear, FoundClear, KeyClear, RecordClear, RecordsClear, ReplyClear, RequestClear, before_clear, forward_clear, row_clear, row_key_clear, undo_clear}
 use Rattle.sdb_plainness.proofs.Statements.{AccessClear}
 
@@ -108,7 +108,7 @@ recovery_asks rec meta recover.Look k = row_key_clear meta.id
 recovery_asks rec meta (recover.Abort now) k = row_clear meta.id decision.Aborted now
 recovery_asks rec meta recover.Again k = row_key_clear meta.id
 recovery_asks rec meta (recover.Forward at) k = forward_clear rec at k
-recovery_asks rec meta recover.Back k = undo_clear (stands_found meta) rec.key (before_record rec) k.key (before_clear rec k)
+recovery_asks rec meta recover.Back k = undo_clear (is_as_found meta) rec.key (before_record rec) k.key (before_clear rec k)
 recovery_asks rec meta recover.Ended k = tt
 
 ---- a read
@@ -187,11 +187,11 @@ abbrev pub VacuumClear : VacuumAt → Type 0
 VacuumClear v = SweepClear v.stage × SpansClear v.spans
 
 abbrev pub SweptClear : VacuumStep → Type 0
-SweptClear sweep.More = Unit {0}
-SweptClear (sweep.Count n) = Unit {0}
-SweptClear sweep.Faulted = Unit {0}
-SweptClear (sweep.BadRecord key) = KeyClear key
-SweptClear sweep.NoMemory = Unit {0}
+SweptClear vacuuming.More = Unit {0}
+SweptClear (vacuuming.Count n) = Unit {0}
+SweptClear vacuuming.Faulted = Unit {0}
+SweptClear (vacuuming.BadRecord key) = KeyClear key
+SweptClear vacuuming.NoMemory = Unit {0}
 
 abbrev pub AreSwept : VacuumAt × VacuumStep → Type 0
 AreSwept x = VacuumClear x.0 × SweptClear x.1
@@ -219,13 +219,13 @@ next_clear : (ss : List Span) (n : ℕ) → SpansClear ss → AreSwept (next_tab
 next_clear [] n h = ((tt, tt), tt)
 next_clear (s ∷ ss) n h = ((h.0, h.1), tt)
 
-going_clear : (ss : List Span) (n : ℕ) (f : First) → SpansClear ss → FirstClear f → AreSwept (going ss n f)
+going_clear : (ss : List Span) (n : ℕ) (f : First) → SpansClear ss → FirstClear f → AreSwept (next_of_row ss n f)
 going_clear ss n Nothing h g = next_clear ss n h
 going_clear ss n (Tombstone b left) h g = (((g.0, g.1), h), tt)
 going_clear ss n (Unresolved r meta left) h g = (((g.0, g.1), h), tt)
 going_clear ss n (Malformed key) h g = ((tt, h), g)
 
-goes_clear : (ss : List Span) (n : ℕ) (left : List Record) → SpansClear ss → RecordsClear left → AreSwept (going ss n (first_of left))
+goes_clear : (ss : List Span) (n : ℕ) (left : List Record) → SpansClear ss → RecordsClear left → AreSwept (next_of_row ss n (first_of left))
 goes_clear ss n left h g = going_clear ss n (first_of left) h (first_clear left g)
 
 rows_swept : (ss : List Span) (n : ℕ) (r : Reply) → SpansClear ss → ReplyClear r → AreSwept (sweep_answered ss n r)
@@ -239,7 +239,7 @@ rows_swept ss n reply.NoMemory h k = ((tt, h), tt)
 image_swept : (ss : List Span) (n : ℕ) (left : List Record) (b : Record) → SpansClear ss → RecordsClear left → RecordClear b → AreSwept (tombstone_or ss n left b)
 image_swept ss n left b h g k = by_mark (is_tombstone b)
   where
-    by_mark : (t : Bool) → AreSwept (cond t (goes_on ss n (Removing b left)) (going ss n (first_of left)))
+    by_mark : (t : Bool) → AreSwept (cond t (with_call ss n (Removing b left)) (next_of_row ss n (first_of left)))
     by_mark true = (((k, g), h), tt)
     by_mark false = goes_clear ss n left h g
 

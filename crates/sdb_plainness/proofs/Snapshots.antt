@@ -23,7 +23,7 @@ use Rattle.sdb_record.specs.Moved.{version_of}
 use Rattle.sdb_record.specs.Rolls.{new_columns, row_of_change}
 use Rattle.sdb_model.specs.Access.{in_access}
 use Rattle.sdb_model.specs.Exec.{all_rows}
-use Rattle.sdb_snapshot.specs.Noted.{Note, base_at, is_noted, read_of, reads_of, with_images, with_note}
+use Rattle.sdb_snapshot.specs.Reads.{ReadRecord, base_at, is_key_read, read_of, reads_of, with_images, with_read_record}
 use Rattle.sdb_snapshot.specs.Rows.{row_found}
 use Rattle.sdb_snapshot.specs.Seen.{Seen, nothing, overlay, row_seen, row_with, tables_seen, with_get, with_scan, with_written}
 use Rattle.sdb_snapshot.specs.Written.{with_change_of, with_write, with_writes, write_of}
@@ -33,11 +33,11 @@ use Rattle.sdb_plainness.proofs.Clear.{AreClear, ColumnsClear, FoundClear, KeyCl
 use Rattle.sdb_plainness.proofs.Statements.{ChangesClear, ImageClear, ImagesClear}
 use Rattle.sdb_plainness.proofs.Contents.{TablesClear, rows_clear}
 
-abbrev pub NoteClear : Note → Type 0
+abbrev pub NoteClear : ReadRecord → Type 0
 NoteClear e = KeyClear e.0 × FoundClear e.1
 
-abbrev pub NotesClear : List Note → Type 0
-NotesClear notes = AllByRecursion NoteClear notes
+abbrev pub NotesClear : List ReadRecord → Type 0
+NotesClear read_set = AllByRecursion NoteClear read_set
 
 abbrev pub ReadClear : Read → Type 0
 ReadClear r = KeyClear r.key
@@ -57,13 +57,13 @@ abbrev pub WritesClear : List Write → Type 0
 WritesClear ws = AllByRecursion WriteClear ws
 
 pub record SeenClear (s : Seen) : Type 0 where
-  pub notes : NotesClear s.notes
+  pub read_set : NotesClear s.read_set
   pub reads : ReadsClear s.reads
   pub scans : ScansClear s.scans
   pub writes : WritesClear s.writes
 
 pub nothing_clear : SeenClear nothing
-nothing_clear = record { notes = tt; reads = tt; scans = tt; writes = tt }
+nothing_clear = record { read_set = tt; reads = tt; scans = tt; writes = tt }
 
 ---- what is read
 
@@ -73,23 +73,23 @@ first_clear (r ∷ rs) h = h.0
 
 pub get_clear : (s : Seen) (key : Key) (images : List Record) → KeyClear key → RecordsClear images → SeenClear s → SeenClear (with_get s key (slice_get images 0))
 get_clear s key images k h g = record {
-  notes = append_all NoteClear s.notes ((key, slice_get images 0) ∷ []) g.notes ((k, first_clear images h), tt);
+  read_set = append_all NoteClear s.read_set ((key, slice_get images 0) ∷ []) g.read_set ((k, first_clear images h), tt);
   reads = append_all ReadClear s.reads (record { key = key; version = version_of (slice_get images 0) } ∷ []) g.reads (k, tt);
   scans = g.scans;
   writes = g.writes;
 }
 
-note_clear : (notes : List Note) (r : Record) → RecordClear r → NotesClear notes → NotesClear (with_note notes r.key (Some r))
-note_clear notes r k h =
-    elim (is_noted notes r.key) as (λ b. NotesClear (cond b notes (notes ++ (r.key, Some r) ∷ []))) [ true ↦ h | false ↦ append_all NoteClear notes ((r.key, Some r) ∷ []) h ((k.key, k), tt) ]
+note_clear : (read_set : List ReadRecord) (r : Record) → RecordClear r → NotesClear read_set → NotesClear (with_read_record read_set r.key (Some r))
+note_clear read_set r k h =
+    elim (is_key_read read_set r.key) as (λ b. NotesClear (cond b read_set (read_set ++ (r.key, Some r) ∷ []))) [ true ↦ h | false ↦ append_all NoteClear read_set ((r.key, Some r) ∷ []) h ((k.key, k), tt) ]
 
-images_noted : (notes : List Note) (rs : List Record) → RecordsClear rs → NotesClear notes → NotesClear (with_images notes rs)
-images_noted notes [] k h = h
-images_noted notes (r ∷ rs) k h = images_noted (with_note notes r.key (Some r)) rs k.1 (note_clear notes r k.0 h)
+images_noted : (read_set : List ReadRecord) (rs : List Record) → RecordsClear rs → NotesClear read_set → NotesClear (with_images read_set rs)
+images_noted read_set [] k h = h
+images_noted read_set (r ∷ rs) k h = images_noted (with_read_record read_set r.key (Some r)) rs k.1 (note_clear read_set r k.0 h)
 
 pub scan_clear : (s : Seen) (span : Span) (images : List Record) → IfSome span.partition AreClear → RecordsClear images → SeenClear s → SeenClear (with_scan s span images)
 scan_clear s span images k h g = record {
-  notes = images_noted s.notes images h g.notes;
+  read_set = images_noted s.read_set images h g.read_set;
   reads = g.reads;
   scans = append_all ScanClear s.scans (record { span = span; found = reads_of images } ∷ []) g.scans (record { span = k; found = map_all RecordClear ReadClear read_of images (λ r c. c.key) h }, tt);
   writes = g.writes;
@@ -97,7 +97,7 @@ scan_clear s span images k h g = record {
 
 ---- what is written
 
-base_clear : (notes : List Note) (key : Key) → NotesClear notes → FoundClear (base_at notes key)
+base_clear : (read_set : List ReadRecord) (key : Key) → NotesClear read_set → FoundClear (base_at read_set key)
 base_clear [] key h = tt
 base_clear (e ∷ es) key h =
     elim (same_key key e.0) as (λ b. FoundClear (option_and_then (λ (found : Option Record). found) (cond b (Some e.1) (value_at es key)))) [ true ↦ h.0.1 | false ↦ base_clear es key h.1 ]
@@ -111,13 +111,13 @@ write_clear (x ∷ xs) w k h =
       | false ↦ (h.0, rest)
     ]
 
-writes_clear : (notes : List Note) (ws : List Write) (ks : List Keyed) → ChangesClear ks → NotesClear notes → WritesClear ws → WritesClear (with_writes notes ws ks)
-writes_clear notes ws [] k n h = h
-writes_clear notes ws (c ∷ cs) k n h =
-    writes_clear notes (with_write ws (write_of notes c)) cs k.1 n (write_clear ws (write_of notes c) (record { key = k.0.key; base = base_clear notes c.key n; change = k.0.change }) h)
+writes_clear : (read_set : List ReadRecord) (ws : List Write) (ks : List Keyed) → ChangesClear ks → NotesClear read_set → WritesClear ws → WritesClear (with_writes read_set ws ks)
+writes_clear read_set ws [] k n h = h
+writes_clear read_set ws (c ∷ cs) k n h =
+    writes_clear read_set (with_write ws (write_of read_set c)) cs k.1 n (write_clear ws (write_of read_set c) (record { key = k.0.key; base = base_clear read_set c.key n; change = k.0.change }) h)
 
 pub written_clear : (s : Seen) (ks : List Keyed) → ChangesClear ks → SeenClear s → SeenClear (with_written s ks)
-written_clear s ks k g = record { notes = g.notes; reads = g.reads; scans = g.scans; writes = writes_clear s.notes s.writes ks k g.notes g.writes }
+written_clear s ks k g = record { read_set = g.read_set; reads = g.reads; scans = g.scans; writes = writes_clear s.read_set s.writes ks k g.read_set g.writes }
 
 ---- rows that are seen
 
@@ -130,7 +130,7 @@ found_row None h = tt
 found_row (Some r) h = image_clear r h
 
 -- the row of a note, at its key
-noted_at : (notes : List Note) (q : Key) (row : List Pair) → NotesClear notes → row_found (base_at notes q) ≡ Some row → KeyClear q × ColumnsClear row
+noted_at : (read_set : List ReadRecord) (q : Key) (row : List Pair) → NotesClear read_set → row_found (base_at read_set q) ≡ Some row → KeyClear q × ColumnsClear row
 noted_at [] q row h = λ e. none_some row e
 noted_at (n ∷ ns) q row h =
     by_test (same_key q n.0)
@@ -141,17 +141,17 @@ noted_at (n ∷ ns) q row h =
     noted_at ns q row h.1 (sym (ap (λ (b : Bool). row_found (option_and_then (λ (found : Option Record). found) (cond b (Some n.1) (value_at ns q)))) t) ∙ e))
 
 -- the row that is seen at a key
-seen_at : (notes : List Note) (ws : List Write) (q : Key) (row : List Pair) → NotesClear notes → WritesClear ws → row_seen notes ws q ≡ Some row → KeyClear q × ColumnsClear row
-seen_at notes [] q row n h = λ e. noted_at notes q row n e
-seen_at notes (w ∷ ws) q row n h =
+seen_at : (read_set : List ReadRecord) (ws : List Write) (q : Key) (row : List Pair) → NotesClear read_set → WritesClear ws → row_seen read_set ws q ≡ Some row → KeyClear q × ColumnsClear row
+seen_at read_set [] q row n h = λ e. noted_at read_set q row n e
+seen_at read_set (w ∷ ws) q row n h =
     by_test (same_key q w.key)
     (λ t. λ e.
-    let there : row_of_change w.change ≡ Some row = sym (ap (λ (b : Bool). row_with (cond b (Some w) (write_among ws q)) (base_at notes q)) t) ∙ e in
+    let there : row_of_change w.change ≡ Some row = sym (ap (λ (b : Bool). row_with (cond b (Some w) (write_among ws q)) (base_at read_set q)) t) ∙ e in
     (subst KeyClear (sym (same_key_exact q w.key t)) h.0.key, subst (λ (o : Option (List Pair)). IfSome o ColumnsClear) there (change_row w.change h.0.change)))
-    (λ t. λ e. seen_at notes ws q row n h.1 (sym (ap (λ (b : Bool). row_with (cond b (Some w) (write_among ws q)) (base_at notes q)) t) ∙ e))
+    (λ t. λ e. seen_at read_set ws q row n h.1 (sym (ap (λ (b : Bool). row_with (cond b (Some w) (write_among ws q)) (base_at read_set q)) t) ∙ e))
 
 seen_tables : (s : Seen) → SeenClear s → TablesClear (tables_seen s)
-seen_tables s h q row e = seen_at s.notes s.writes q row h.notes h.writes (sym (get_seen s.notes s.writes q) ∙ e)
+seen_tables s h q row e = seen_at s.read_set s.writes q row h.read_set h.writes (sym (get_seen s.read_set s.writes q) ∙ e)
 
 pub overlay_clear : (a : Access) (s : Seen) → SeenClear s → ImagesClear (overlay a s)
 overlay_clear a s h = filter_all ImageClear (λ (r : Image). in_access a r.key) (all_rows (tables_seen s)) (rows_clear (tables_seen s) (seen_tables s h))

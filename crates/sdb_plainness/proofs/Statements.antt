@@ -29,7 +29,7 @@ use Rattle.sdb_model.specs.declared.statement.Statement.{Statement}
 use Rattle.sdb_model.specs.declared.statement.Statement.TheVariants as statement
 use Rattle.sdb_model.specs.declared.statement.Test.{Test}
 use Rattle.sdb_model.specs.declared.statement.Test.TheVariants.{Compare, IsNull, NotNull}
-use Rattle.sdb_model.specs.Exec.{cut, key_of, literal_in, nat_of, passes, placed, shown, shown_names, sorted, with_named, with_sets}
+use Rattle.sdb_model.specs.Exec.{cut, key_of, literal_in, nat_of, passes, placed, projected, projected_names, sorted, with_named, with_sets}
 use Rattle.sdb_model.specs.Rows.{Name, at_kind, is_key_column, kind_of_column, literal_at, order_names, same_name, value_in, value_of}
 use Rattle.sdb_exec.specs.declared.plan.PlanStep.{PlanStep}
 use Rattle.sdb_exec.specs.declared.plan.PlanStep.TheVariants.{Finished, Read as Wants}
@@ -182,8 +182,8 @@ each_clear : (t : Table) (r : Image) → ImageClear r → (ns : List Name) → A
 each_clear t r h [] = tt
 each_clear t r h (n ∷ ns) = (value_clear t r h n, each_clear t r h ns)
 
-pub shown_clear : (t : Table) (columns : Option (List Name)) (r : Image) → ImageClear r → AreClear (shown t columns r)
-shown_clear t columns r h = each_clear t r h (shown_names t columns)
+pub shown_clear : (t : Table) (columns : Option (List Name)) (r : Image) → ImageClear r → AreClear (projected t columns r)
+shown_clear t columns r h = each_clear t r h (projected_names t columns)
 
 sorted_from : (t : Table) (rows rs : List Image) → ImagesClear rows → ImagesClear rs → ImagesClear (fold (placed t) rows rs)
 sorted_from t rows [] h k = h
@@ -204,7 +204,7 @@ answer_clear t (statement.Upsert s) rows h k = tt
 answer_clear t (statement.Update s) rows h k = tt
 answer_clear t (statement.Delete s) rows h k = tt
 answer_clear t (statement.Select s) rows h k =
-    map_all ImageClear AreClear (shown t s.columns) _ (shown_clear t s.columns) (cut_clear s.limit _ (sorted_clear t _ (filter_all ImageClear (passes t s.tests) rows k)))
+    map_all ImageClear AreClear (projected t s.columns) _ (shown_clear t s.columns) (cut_clear s.limit _ (sorted_clear t _ (filter_all ImageClear (passes t s.tests) rows k)))
 answer_clear t statement.Begin rows h k = tt
 answer_clear t statement.Commit rows h k = tt
 answer_clear t statement.Rollback rows h k = tt

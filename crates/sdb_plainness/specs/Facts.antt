@@ -10,21 +10,21 @@ use Rattle.sdb_model.specs.declared.event.Event.{Event}
 use Rattle.sdb_model.specs.declared.event.Event.TheVariants as event
 use Rattle.sdb_model.specs.declared.event.Outcome.{Outcome}
 use Rattle.sdb_model.specs.declared.event.TableDump.{TableDump}
-use Rattle.sdb_model.specs.Plain.{IsPlainPoint, id_fits, is_counted, refusal_fits, reply_fits, request_fits, table_fits, values_fit}
+use Rattle.sdb_model.specs.Plain.{IsPlainPoint, id_is_plain, is_counted, refusal_is_plain, reply_is_plain, request_is_plain, table_is_plain, values_are_plain}
 
 abbrev pub answer_fits : Answer → Type 0
-answer_fits (answer.Rows rows) = is_counted rows × All values_fit rows
+answer_fits (answer.Rows rows) = is_counted rows × All values_are_plain rows
 answer_fits (answer.Count n) = n < 2 ^ 64
 answer_fits answer.Done = Unit {0}
 answer_fits answer.Committed = Unit {0}
 answer_fits (answer.Duplicate key) = key_fits key
-answer_fits (answer.Busy key id at) = key_fits key × id_fits id × FitsSigned w64 at
+answer_fits (answer.Busy key id at) = key_fits key × id_is_plain id × FitsSigned w64 at
 answer_fits (answer.Conflict key found) = key_fits key × IfSome found record_fits
-answer_fits (answer.Expired id) = id_fits id
+answer_fits (answer.Expired id) = id_is_plain id
 answer_fits answer.Faulted = Unit {0}
-answer_fits (answer.Unknown id) = id_fits id
+answer_fits (answer.Unknown id) = id_is_plain id
 answer_fits (answer.BadRecord key) = key_fits key
-answer_fits (answer.Refused refusal) = refusal_fits refusal
+answer_fits (answer.Refused refusal) = refusal_is_plain refusal
 answer_fits answer.Vacuuming = Unit {0}
 answer_fits answer.OpenTransactions = Unit {0}
 answer_fits answer.NoMemory = Unit {0}
@@ -35,15 +35,15 @@ given_fits given = IfSome given answer_fits
 abbrev pub event_fits : Event → Type 0
 event_fits (event.Take client text given) = (client < 2 ^ 32) × IsUtf8 text × given_fits given
 event_fits (event.Call client store request how reply given) =
-    (client < 2 ^ 32) × (is_name store ≡ true) × request_fits request × reply_fits reply × given_fits given
+    (client < 2 ^ 32) × (is_name store ≡ true) × request_is_plain request × reply_is_plain reply × given_fits given
 event_fits (event.Stop client) = client < 2 ^ 32
 event_fits (event.Clock moment) = FitsSigned w64 moment
 event_fits (event.Idle client) = client < 2 ^ 32
 
 pub record dump_fits (t : TableDump) : Type 0 where
-  pub name : table_fits t.name
+  pub name : table_is_plain t.name
   pub counted : is_counted t.rows
-  pub rows : All values_fit t.rows
+  pub rows : All values_are_plain t.rows
 
 pub record outcome_fits (o : Outcome) : Type 0 where
   pub events_counted : is_counted o.events

@@ -4,7 +4,7 @@ ghost use Rattle.std.specs.Prelude.{◌≡◌, true, ◌<◌, ◌^◌, All, IfSo
 ghost use Rattle.std.specs.Str.{IsUtf8};
 ghost use Rattle.sdb_types.specs.Fits.{AreBytes, text_fits, value_fits, pair_fits, key_fits, columns_fit, record_fits};
 ghost use Rattle.sdb_types.specs.Identifier.{is_name};
-ghost use Rattle.sdb_model.specs.Plain.{IsPlainPoint, condition_fits, id_fits, refusal_fits, reply_fits, request_fits, span_fits, table_fits, values_fit};
+ghost use Rattle.sdb_model.specs.Plain.{IsPlainPoint, condition_is_plain, id_is_plain, refusal_is_plain, reply_is_plain, request_is_plain, span_is_plain, table_is_plain, values_are_plain};
 ghost use Rattle.sdb_plainness.specs.Facts.{answer_fits, dump_fits, event_fits, given_fits, outcome_fits};
 
 use sdb_model::{Answer, Event, Outcome, Point, Refusal, TableDump};
@@ -80,7 +80,7 @@ fn columns_facts(columns: &Columns)
 }
 
 fn table_facts(table: &TableName)
-    ensures { table_fits table.now }
+    ensures { table_is_plain table.now }
 {
     name_facts(&table.ns);
     name_facts(&table.table);
@@ -95,7 +95,7 @@ fn key_facts(key: &Key)
 }
 
 fn span_facts(span: &Span)
-    ensures { span_fits span.now }
+    ensures { span_is_plain span.now }
 {
     table_facts(&span.table);
     if let Some(partition) = &span.partition {
@@ -127,19 +127,19 @@ fn records_facts(records: &[Record])
 }
 
 fn id_facts(id: TxId)
-    ensures { id_fits id }
+    ensures { id_is_plain id }
 {
     let _number = id.0;
 }
 
 fn refusal_facts(refusal: Refusal)
-    ensures { refusal_fits refusal }
+    ensures { refusal_is_plain refusal }
 {
     let Refusal { kind: _, place: _ } = refusal;
 }
 
 fn condition_facts(condition: Condition)
-    ensures { condition_fits condition }
+    ensures { condition_is_plain condition }
 {
     match condition {
         Condition::Absent => {}
@@ -148,7 +148,7 @@ fn condition_facts(condition: Condition)
 }
 
 fn request_facts(request: &Request)
-    ensures { request_fits request.now }
+    ensures { request_is_plain request.now }
 {
     match request {
         Request::Get(key) => key_facts(key),
@@ -165,7 +165,7 @@ fn request_facts(request: &Request)
 }
 
 fn reply_facts(reply: &Reply)
-    ensures { reply_fits reply.now }
+    ensures { reply_is_plain reply.now }
 {
     match reply {
         Reply::Found(found) | Reply::NotMet(found) => found_facts(found),
@@ -178,13 +178,13 @@ fn reply_facts(reply: &Reply)
 }
 
 fn row_facts(row: &Values)
-    ensures { values_fit row.now }
+    ensures { values_are_plain row.now }
 {
     values_facts(row.as_slice());
 }
 
 fn rows_facts(rows: &[Values])
-    ensures { All values_fit rows.now }
+    ensures { All values_are_plain rows.now }
 {
     for row in rows {
         row_facts(row);

@@ -4,7 +4,7 @@ use Rattle.std.specs.Prelude.{Bool, if◌then◌else◌, ◌&&◌, not, Ok}
 use Rattle.sdb_types.specs.declared.record.Record.{Record}
 use Rattle.sdb_types.specs.declared.record.State.TheVariants as state
 use Rattle.sdb_record.specs.declared.meta.Meta.{Meta}
-use Rattle.sdb_record.specs.Meta.{checked, is_in, is_taken, is_unresolved}
+use Rattle.sdb_record.specs.Meta.{checked, is_in, is_transactional, is_unresolved}
 use Rattle.sdb_read.specs.declared.rows.Sort.TheVariants as sort
 use Rattle.sdb_read.specs.Read.{Kind, Firm, Open, Bad, kind_of, opened}
 use Rattle.sdb_read.specs.Rows.{sort_of}
@@ -20,7 +20,7 @@ kind_by true false k h = refl
 kind_by false committed k h = cc
 
 pub open_unresolved : (r : Record) → sort_of (kind_of r) ≡ sort.Open → is_unresolved r ≡ true
-open_unresolved r h = unresolved_by (is_taken r) (is_in state.Committed r.columns) (opened (checked r.columns)) h
+open_unresolved r h = unresolved_by (is_transactional r) (is_in state.Committed r.columns) (opened (checked r.columns)) h
 
 pub open_kind : (r : Record) (meta : Meta) → sort_of (kind_of r) ≡ sort.Open → checked r.columns ≡ Ok meta → kind_of r ≡ Open meta
-open_kind r meta h k = kind_by (is_taken r) (is_in state.Committed r.columns) (opened (checked r.columns)) h ∙ ap opened k
+open_kind r meta h k = kind_by (is_transactional r) (is_in state.Committed r.columns) (opened (checked r.columns)) h ∙ ap opened k

@@ -12,7 +12,7 @@ use Rattle.sdb_record.specs.declared.coordinator.Decided.{Decided}
 use Rattle.sdb_record.specs.declared.coordinator.Decision.TheVariants as decision
 use Rattle.sdb_record.specs.Names.{tx_created_at}
 use Rattle.sdb_record.specs.Coordinator.{id_of_key, decision_in, decision_in_value}
-use Rattle.sdb_record.specs.Meta.{is_in, is_moment, moment_in, moment_in_value, is_taken, is_unresolved}
+use Rattle.sdb_record.specs.Meta.{is_in, is_moment, moment_in, moment_in_value, is_transactional, is_unresolved}
 use Rattle.sdb_record.specs.Parts.{before_record}
 use Rattle.sdb_record.specs.Rolls.{IsBaseOf, forward_record}
 use Rattle.sdb_record.proofs.ImageLaws.{image-open, image-is}
@@ -48,15 +48,15 @@ decided_at row d says =
 ---- images
 
 pub held_of : (r : Record) → is_unresolved r ≡ true → is_in Committed r.columns ≡ false
-held_of r h = not_true (is_in Committed r.columns) (and_second (is_taken r) (not (is_in Committed r.columns)) h)
+held_of r h = not_true (is_in Committed r.columns) (and_second (is_transactional r) (not (is_in Committed r.columns)) h)
 
 pub forward_firm : (r : Record) (m : ℤ) → is_unresolved r ≡ true → is_moment m ≡ true → IsBaseOf r.key (forward_record r m)
 forward_firm r m loose moment =
     let d : Option Decided = Some (record { decision = decision.Committed; created_at = m }) in
-    let i = image-is r (forward_record r m) d (and_first (is_taken r) (not (is_in Committed r.columns)) loose) moment (image-open r d (held_of r loose)) in
+    let i = image-is r (forward_record r m) d (and_first (is_transactional r) (not (is_in Committed r.columns)) loose) moment (image-open r d (held_of r loose)) in
     (i.key, i.taken, i.committed)
 
 pub before_firm : (r b : Record) → is_unresolved r ≡ true → before_record r ≡ Some b → IsBaseOf r.key b
 before_firm r b loose says =
-    let i = image-is r b None (and_first (is_taken r) (not (is_in Committed r.columns)) loose) tt (image-open r None (held_of r loose) ∙ says) in
+    let i = image-is r b None (and_first (is_transactional r) (not (is_in Committed r.columns)) loose) tt (image-open r None (held_of r loose) ∙ says) in
     (i.key, i.taken, i.committed)

@@ -13,7 +13,7 @@ use Rattle.sdb_record.specs.declared.coordinator.Decision.{Decision}
 use Rattle.sdb_record.specs.declared.coordinator.Decision.TheVariants as decision
 use Rattle.sdb_record.specs.declared.meta.Meta.{Meta}
 use Rattle.sdb_record.specs.Coordinator.{decision_in, is_expired}
-use Rattle.sdb_record.specs.Meta.{checked, is_in, is_taken, is_unresolved}
+use Rattle.sdb_record.specs.Meta.{checked, is_in, is_transactional, is_unresolved}
 use Rattle.sdb_record.specs.Parts.{before_record}
 use Rattle.sdb_record.specs.Rolls.{IsBaseOf, AreCommitted}
 use Rattle.sdb_phases.specs.declared.step.RecoverStep.{RecoverStep}
@@ -24,7 +24,7 @@ use Rattle.sdb_phases.specs.Recover.{recover_next, roll_to, row_followed, undeci
 use Rattle.sdb_phases.specs.Steps.{CanGet}
 use Rattle.sdb_read.specs.Read.{Kind, Firm, Open, Bad, ReadStage, Asking, Resolving, Ended, answered, kind_of, opened, read_pending_at, read_step, resolved, settle, settle_one}
 use Rattle.sdb_read.specs.Rows.{sort_of}
-use Rattle.sdb_read.specs.Fine.{ArePlaced, IsFine, IsPhase}
+use Rattle.sdb_read.specs.Valid.{AreWithin, IsValid, IsPhase}
 use Rattle.sdb_read.proofs.Firm.{open_unresolved}
 use Rattle.sdb_read.proofs.Images.{before_firm, decided_at, forward_firm}
 use Rattle.sdb_read.proofs.Places.{placed_drop, placed_swap}
@@ -49,16 +49,16 @@ open_by false committed k meta h = absurd (cc)
 
 ---- rows are settled
 
-settle_fine : (q : Request) (images left : List Record) → AreCommitted images → ArePlaced q (images ++ left) → IsFine q (settle images left)
-settle_fine q images [] f p = (f, subst (ArePlaced q) (append-nil images) p)
-settle_fine q images (r ∷ left) f p = by (kind_of r) refl (λ g. settle_fine q (images ++ r ∷ []) left (firm_more images r f g) (subst (ArePlaced q) (sym (append_assoc images (r ∷ []) left)) p))
+settle_fine : (q : Request) (images left : List Record) → AreCommitted images → AreWithin q (images ++ left) → IsValid q (settle images left)
+settle_fine q images [] f p = (f, subst (AreWithin q) (append-nil images) p)
+settle_fine q images (r ∷ left) f p = by (kind_of r) refl (λ g. settle_fine q (images ++ r ∷ []) left (firm_more images r f g) (subst (AreWithin q) (sym (append_assoc images (r ∷ []) left)) p))
   where
-    by : (k : Kind) → kind_of r ≡ k → (IsBaseOf r.key r → IsFine q (settle (images ++ r ∷ []) left)) → IsFine q (settle_one k images r left (settle (images ++ r ∷ []) left))
-    by Firm e next = let h = firm_by (is_taken r) (is_in state.Committed r.columns) (checked r.columns) e in next (refl, h.0, h.1)
-    by (Open meta) e next = (f, p, open_unresolved r (ap sort_of e), open_by (is_taken r) (is_in state.Committed r.columns) (checked r.columns) meta e, tt)
+    by : (k : Kind) → kind_of r ≡ k → (IsBaseOf r.key r → IsValid q (settle (images ++ r ∷ []) left)) → IsValid q (settle_one k images r left (settle (images ++ r ∷ []) left))
+    by Firm e next = let h = firm_by (is_transactional r) (is_in state.Committed r.columns) (checked r.columns) e in next (refl, h.0, h.1)
+    by (Open meta) e next = (f, p, open_unresolved r (ap sort_of e), open_by (is_transactional r) (is_in state.Committed r.columns) (checked r.columns) meta e, tt)
     by Bad e next = tt
 
-answered_fine : (q : Request) (r : Reply) → CanGet (Some q) r → IsFine q (answered r)
+answered_fine : (q : Request) (r : Reply) → CanGet (Some q) r → IsValid q (answered r)
 answered_fine (ask.Get key) (reply.Found None) h = (tt, tt)
 answered_fine (ask.Get key) (reply.Found (Some row)) h = settle_fine (ask.Get key) [] (row ∷ []) tt h
 answered_fine (ask.Get key) (reply.Rows rows) h = absurd h
@@ -142,17 +142,17 @@ next_fine rec meta phase.Back now reply.Fault loose h = tt
 next_fine rec meta phase.Back now reply.NoMemory loose h = tt
 next_fine rec meta phase.Ended now r loose h = tt
 
-resolved_fine : (q : Request) (images : List Record) (rec : Record) (meta : Meta) (left : List Record) (n : RecoverPhase × RecoverStep) → AreCommitted images → ArePlaced q (images ++ rec ∷ left) → is_unresolved rec ≡ true → checked rec.columns ≡ Ok meta → IsFineNext rec n → IsFine q (resolved images rec meta left n)
+resolved_fine : (q : Request) (images : List Record) (rec : Record) (meta : Meta) (left : List Record) (n : RecoverPhase × RecoverStep) → AreCommitted images → AreWithin q (images ++ rec ∷ left) → is_unresolved rec ≡ true → checked rec.columns ≡ Ok meta → IsFineNext rec n → IsValid q (resolved images rec meta left n)
 resolved_fine q images rec meta left (p, steps.More) f place loose says h = (f, place, loose, says, h)
 resolved_fine q images rec meta left (p, steps.Image None) f place loose says h = settle_fine q images left f (placed_drop q images rec left place)
 resolved_fine q images rec meta left (p, steps.Image (Some b)) f place loose says h =
-    settle_fine q (images ++ b ∷ []) left (firm_more images b f (refl, h.1, h.2)) (subst (ArePlaced q) (sym (append_assoc images (b ∷ []) left)) (placed_swap q images rec b left h.0 place))
+    settle_fine q (images ++ b ∷ []) left (firm_more images b f (refl, h.1, h.2)) (subst (AreWithin q) (sym (append_assoc images (b ∷ []) left)) (placed_swap q images rec b left h.0 place))
 resolved_fine q images rec meta left (p, steps.Busy id at) f place loose says h = tt
 resolved_fine q images rec meta left (p, steps.Faulted) f place loose says h = tt
 resolved_fine q images rec meta left (p, steps.BadRecord key) f place loose says h = tt
 resolved_fine q images rec meta left (p, steps.NoMemory) f place loose says h = tt
 
-pub step_fine : (q : Request) (s : ReadStage) (now : ℤ) (r : Reply) → IsFine q s → CanGet (read_pending_at q s) r → IsFine q (read_step s now r)
+pub step_fine : (q : Request) (s : ReadStage) (now : ℤ) (r : Reply) → IsValid q s → CanGet (read_pending_at q s) r → IsValid q (read_step s now r)
 step_fine q Asking now r f h = answered_fine q r h
 step_fine q (Resolving images rec meta p left) now r f h =
     resolved_fine q images rec meta left (recover_next rec meta p now r) f.0 f.1 f.2 f.3 (next_fine rec meta p now r f.2 f.4)

@@ -12,7 +12,7 @@ use Rattle.sdb_types.specs.Order.{key_cmp}
 use Rattle.sdb_types.specs.Contents.{in_span, rise, starts_after}
 use Rattle.sdb_types.proofs.Bools.{and_first, and_second}
 use Rattle.sdb_types.proofs.KeyOrder.{key_total}
-use Rattle.sdb_read.specs.Fine.{ArePlaced}
+use Rattle.sdb_read.specs.Valid.{AreWithin}
 use Rattle.sdb_types.proofs.Basics.{less_of}
 
 both : (a b : Bool) → a ≡ true → b ≡ true → (a && b) ≡ true
@@ -57,7 +57,7 @@ all_drop span (x ∷ xs) r ys h =
     (and_first (in_span span x.key) (list_all (λ y. in_span span y.key) (xs ++ r ∷ ys)) h)
     (all_drop span xs r ys (and_second (in_span span x.key) (list_all (λ y. in_span span y.key) (xs ++ r ∷ ys)) h))
 
-pub placed_swap : (q : Request) (xs : List Record) (r b : Record) (ys : List Record) → b.key ≡ r.key → ArePlaced q (xs ++ r ∷ ys) → ArePlaced q (xs ++ b ∷ ys)
+pub placed_swap : (q : Request) (xs : List Record) (r b : Record) (ys : List Record) → b.key ≡ r.key → AreWithin q (xs ++ r ∷ ys) → AreWithin q (xs ++ b ∷ ys)
 placed_swap (ask.Get key) [] r b [] e h = e ∙ h
 placed_swap (ask.Get key) [] r b (y ∷ ys) e h = h
 placed_swap (ask.Get key) (x ∷ []) r b ys e h = h
@@ -69,7 +69,7 @@ placed_swap (ask.Scan span) xs r b ys e h =
 placed_swap (ask.PutIf x condition) xs r b ys e h = h
 placed_swap (ask.DeleteIf key condition) xs r b ys e h = h
 
-pub placed_drop : (q : Request) (xs : List Record) (r : Record) (ys : List Record) → ArePlaced q (xs ++ r ∷ ys) → ArePlaced q (xs ++ ys)
+pub placed_drop : (q : Request) (xs : List Record) (r : Record) (ys : List Record) → AreWithin q (xs ++ r ∷ ys) → AreWithin q (xs ++ ys)
 placed_drop (ask.Get key) [] r [] h = tt
 placed_drop (ask.Get key) [] r (y ∷ ys) h = absurd h
 placed_drop (ask.Get key) (x ∷ []) r ys h = absurd h

@@ -1,4 +1,4 @@
 pub mod Read
 pub mod Rows
 pub mod Inside
-pub mod Fine
+pub mod Valid

@@ -9,7 +9,7 @@ use Rattle.sdb_types.specs.declared.record.State.TheVariants as state
 use Rattle.sdb_record.specs.declared.access.Access.{Access}
 use Rattle.sdb_record.specs.declared.access.Access.TheVariants as access
 use Rattle.sdb_record.specs.declared.meta.Meta.{Meta}
-use Rattle.sdb_record.specs.Meta.{checked, is_in, is_taken}
+use Rattle.sdb_record.specs.Meta.{checked, is_in, is_transactional}
 use Rattle.sdb_phases.specs.declared.step.RecoverStep.{RecoverStep}
 use Rattle.sdb_phases.specs.declared.step.RecoverStep.TheVariants as steps
 use Rattle.sdb_phases.specs.declared.step.RecoverPhase.{RecoverPhase}
@@ -31,7 +31,7 @@ opened (Ok meta) = Open meta
 opened (Err column) = Bad
 
 abbrev pub kind_of : Record → Kind
-kind_of r = if is_taken r then (if is_in state.Committed r.columns then Firm else opened (checked r.columns)) else Bad
+kind_of r = if is_transactional r then (if is_in state.Committed r.columns then Firm else opened (checked r.columns)) else Bad
 
 ---- the stages
 
@@ -95,7 +95,7 @@ read_step Asking now r = answered r
 read_step (Resolving images rec meta p left) now r = resolved images rec meta left (recover_next rec meta p now r)
 read_step (Ended s) now r = Ended s
 
--- what a stage is told as
+-- what a stage is returned as
 abbrev pub read_result : ReadStage → ReadStep
 read_result Asking = step.More
 read_result (Resolving images rec meta p left) = step.More

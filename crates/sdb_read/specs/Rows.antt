@@ -34,9 +34,9 @@ settled_stage (settled.Open r) images left = open_stage (kind_of r) images r lef
 settled_stage (settled.Bad key) images left = Ended (step.BadRecord key)
 
 -- the rows of a reply, or how it ends the read: out of memory may be returned in place of rows
-abbrev pub AreTaken : Reply → Result (List Record) ReadStep → Type 0
-AreTaken r (Ok rows) = answered r ≡ settle [] rows
-AreTaken r (Err s) = (s ≢ step.More) × (s ≢ step.NoMemory → answered r ≡ Ended s)
+abbrev pub AreRowsOf : Reply → Result (List Record) ReadStep → Type 0
+AreRowsOf r (Ok rows) = answered r ≡ settle [] rows
+AreRowsOf r (Err s) = (s ≢ step.More) × (s ≢ step.NoMemory → answered r ≡ Ended s)
 
 abbrev pub stage_in : Option Recovers → List Record → List Record → ReadStage
 stage_in None images left = Asking

@@ -1,12 +1,12 @@
-//! What is so of the records of a read, whatever it is answered.
+//! What holds of the records of a read, whatever it is answered.
 ghost use Rattle.std.specs.Prelude.{ℤ};
 ghost use Rattle.sdb_types.specs.declared.record.Reply.{Reply};
 ghost use Rattle.sdb_types.specs.declared.record.Request.{Request};
 ghost use Rattle.sdb_phases.specs.Steps.{CanGet};
 ghost use Rattle.sdb_read.specs.Read.{ReadStage, read_pending_at, read_step};
-ghost use Rattle.sdb_read.specs.Fine.{IsFine};
+ghost use Rattle.sdb_read.specs.Valid.{IsValid};
 
 /// After any replies the images of a read are committed records, and lie, with the rows that are left, where the request asks.
-pub fn images_are_fine()
-    ensures { (q : Request) (s : ReadStage) (now : ℤ) (r : Reply) → IsFine q s → CanGet (read_pending_at q s) r → IsFine q (read_step s now r) }
+pub fn images_are_valid()
+    ensures { (q : Request) (s : ReadStage) (now : ℤ) (r : Reply) → IsValid q s → CanGet (read_pending_at q s) r → IsValid q (read_step s now r) }
 {}

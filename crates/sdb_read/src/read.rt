@@ -3,7 +3,7 @@ ghost use Rattle.std.specs.Prelude.{◌≡◌, ◌≢◌, [], ◌∷◌, IfOk, I
 ghost use Rattle.std.specs.Option.{option_copied};
 ghost use Rattle.sdb_phases.specs.Steps.{CanGet};
 ghost use Rattle.sdb_read.specs.Read.{Asking, IsAsking, IsResolving, answered, read_pending, read_result, read_step, request_of, resolved as resolved_lem, settle as settle_lem};
-ghost use Rattle.sdb_read.specs.Rows.{AreTaken, stage_in};
+ghost use Rattle.sdb_read.specs.Rows.{AreRowsOf, stage_in};
 
 use crate::rows::{Settled, settle};
 use sdb_phases::RecoverStep;
@@ -84,7 +84,7 @@ fn request(access: &Access) -> Result<Request, NoMemory>
 
 // The rows of a reply, or how a reply without rows ends the read.
 fn rows_in(alloc: Global, reply: Reply) -> Result<Records, ReadStep>
-    ensures { AreTaken reply result }
+    ensures { AreRowsOf reply result }
 {
     match reply {
         Reply::Found(None) => Ok(Records::new(alloc)),

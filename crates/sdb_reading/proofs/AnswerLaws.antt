@@ -10,7 +10,7 @@ use Rattle.sdb_types.specs.Fits.{key_fits}
 use Rattle.sdb_types.specs.declared.key.Key.{Key}
 use Rattle.sdb_types.specs.declared.record.Record.{Record}
 use Rattle.sdb_types.specs.declared.value.Value.{Value}
-use Rattle.sdb_model.specs.Plain.{is_counted, id_fits, values_fit, IsFoundAt, IsPlainAnswer, IsPlainGiven}
+use Rattle.sdb_model.specs.Plain.{is_counted, id_is_plain, values_are_plain, IsFoundAt, IsPlainAnswer, IsPlainGiven}
 use Rattle.sdb_model.specs.Report.{given_text_of}
 use Rattle.sdb_model.specs.Texts.{row_text_of, key_text_of, found_columns_text_of, rows_text_of, answer_text_of}
 use Rattle.sdb_model.specs.declared.answer.Answer.{Answer}
@@ -93,13 +93,13 @@ items_again read text P each xs rest fits e =
     ap (items_at read) (append_assoc (decimal (length xs)) (flat_map (behind text) xs) rest)
     ∙ rw n (counted_again (behind_space read) (behind text) P (λ x r f. each x r f) xs [] rest (recursion_from_All P xs fits.1))
 
-rows_sound : Sound rows_at rows_text_of (CountedFit values_fit)
+rows_sound : Sound rows_at rows_text_of (CountedFit values_are_plain)
 unfolding rows_at
-rows_sound bytes x h = items_sound row_at row_text_of values_fit row_sound bytes x h
+rows_sound bytes x h = items_sound row_at row_text_of values_are_plain row_sound bytes x h
 
-rows_again : (rows : List (List Value)) (rest : List ℕ) → CountedFit values_fit rows → EndsDigits rest → rows_at (rows_text_of rows ++ rest) ≡ Some (rows, rest)
+rows_again : (rows : List (List Value)) (rest : List ℕ) → CountedFit values_are_plain rows → EndsDigits rest → rows_at (rows_text_of rows ++ rest) ≡ Some (rows, rest)
 unfolding rows_at
-rows_again rows rest fits e = items_again row_at row_text_of values_fit row_again rows rest fits e
+rows_again rows rest fits e = items_again row_at row_text_of values_are_plain row_again rows rest fits e
 
 ---- longer answers
 
@@ -113,7 +113,7 @@ busy_sound bytes rest x p h =
     let b = bind_some (behind_space id_at a.0.1) (λ id. behind_space integer_at id.1 >>= λ at. Some (answer.Busy a.0.0 id.0 at.0, at.1)) x a.2 in
     let c = bind_some (behind_space integer_at b.0.1) (λ at. Some (answer.Busy a.0.0 b.0.0 at.0, at.1)) x b.2 in
     let k = key_sound rest a.0 a.1 in
-    let i = behind_sound id_at id_text_of id_fits id_sound a.0.1 b.0 b.1 in
+    let i = behind_sound id_at id_text_of id_is_plain id_sound a.0.1 b.0 b.1 in
     let t = behind_sound integer_at signed_decimal (FitsSigned w64) integer_sound b.0.1 c.0 c.1 in
     let two = join (codes "busy ") (key_text_of a.0.0) a.0.1 p k.parts in
     let three = join_space (codes "busy " ++ key_text_of a.0.0) (id_text_of b.0.0) b.0.1 two i.parts in
@@ -172,7 +172,7 @@ long_sound bytes x h =
     let duplicate = case_of (after (codes "duplicate ") bytes) duplicate_at busy in
     let count = case_of (after (codes "count ") bytes) count_at duplicate in
     case_some (after (codes "rows ") bytes) rows_answer_at count (Some x) h
-    (λ rest q k. made_sound rows_at rows_text_of (CountedFit values_fit) answer.Rows (codes "rows ") answer_text_of IsPlainAnswer rows_sound (λ y. refl) (λ y f. f) bytes rest x q k) (λ q k.
+    (λ rest q k. made_sound rows_at rows_text_of (CountedFit values_are_plain) answer.Rows (codes "rows ") answer_text_of IsPlainAnswer rows_sound (λ y. refl) (λ y f. f) bytes rest x q k) (λ q k.
     case_some (after (codes "count ") bytes) count_at duplicate (Some x) k
     (λ rest q k. made_sound natural_at decimal (λ n. n < 2 ^ 64) answer.Count (codes "count ") answer_text_of IsPlainAnswer natural_sound (λ y. refl) (λ y f. f) bytes rest x q k) (λ q k.
     case_some (after (codes "duplicate ") bytes) duplicate_at busy (Some x) k
@@ -182,9 +182,9 @@ long_sound bytes x h =
     case_some (after (codes "conflict ") bytes) conflict_at expired (Some x) k
     (λ rest q k. conflict_sound bytes rest x (after_is (codes "conflict ") bytes rest q) k) (λ q k.
     case_some (after (codes "expired ") bytes) expired_at unknown (Some x) k
-    (λ rest q k. made_sound id_at id_text_of id_fits answer.Expired (codes "expired ") answer_text_of IsPlainAnswer id_sound (λ y. refl) (λ y f. f) bytes rest x q k) (λ q k.
+    (λ rest q k. made_sound id_at id_text_of id_is_plain answer.Expired (codes "expired ") answer_text_of IsPlainAnswer id_sound (λ y. refl) (λ y f. f) bytes rest x q k) (λ q k.
     case_some (after (codes "unknown ") bytes) unknown_at badrecord (Some x) k
-    (λ rest q k. made_sound id_at id_text_of id_fits answer.Unknown (codes "unknown ") answer_text_of IsPlainAnswer id_sound (λ y. refl) (λ y f. f) bytes rest x q k) (λ q k.
+    (λ rest q k. made_sound id_at id_text_of id_is_plain answer.Unknown (codes "unknown ") answer_text_of IsPlainAnswer id_sound (λ y. refl) (λ y f. f) bytes rest x q k) (λ q k.
     case_some (after (codes "badrecord ") bytes) bad_record_at refused (Some x) k
     (λ rest q k. made_sound key_at key_text_of key_fits answer.BadRecord (codes "badrecord ") answer_text_of IsPlainAnswer key_sound (λ y. refl) (λ y f. f) bytes rest x q k) (λ q k.
     case_some (after (codes "refused ") bytes) refusal_at None (Some x) k

@@ -8,7 +8,7 @@ use Rattle.std.proofs.lemmas.Option.{same_Some, cond_some}
 use Rattle.std.proofs.lemmas.Str.{IsUtf8-from_is_utf8, is_utf8-from_IsUtf8}
 use Rattle.sdb_types.specs.declared.record.Reply.{Reply}
 use Rattle.sdb_types.specs.declared.record.Request.{Request}
-use Rattle.sdb_model.specs.Plain.{request_fits, reply_fits, IsPlainGiven, HasPlainParts}
+use Rattle.sdb_model.specs.Plain.{request_is_plain, reply_is_plain, IsPlainGiven, HasPlainParts}
 use Rattle.sdb_model.specs.Report.{given_text_of, request_text_of, how_text_of, reply_text_of, asked_text_of, came_text_of, event_text_of}
 use Rattle.sdb_model.specs.declared.answer.Answer.{Answer}
 use Rattle.sdb_model.specs.declared.event.Event.{Event}
@@ -76,10 +76,10 @@ abbrev came_of : Came → List ℕ
 came_of c = came_text_of c.0 c.1 c.2
 
 abbrev AskedFits : Asked → Type 0
-AskedFits a = IsClient a.0 × IsName a.1 × request_fits a.2
+AskedFits a = IsClient a.0 × IsName a.1 × request_is_plain a.2
 
 abbrev CameFits : Came → Type 0
-CameFits c = reply_fits c.1 × IsPlainGiven c.2
+CameFits c = reply_is_plain c.1 × IsPlainGiven c.2
 
 asked_is : (line rest : List ℕ) (x : Asked × List ℕ) → line ≡ codes "call " ++ rest → asked_at rest ≡ Some x → Says asked_of AskedFits line x
 unfolding asked_at
@@ -89,7 +89,7 @@ asked_is line rest x p h =
     let c = bind_some (behind_space request_at b.0.1) (λ request. Some ((a.0.0, b.0.0, request.0), request.1)) x b.2 in
     let n = client_sound rest a.0 a.1 in
     let s = behind_sound name_at itself IsName name_sound a.0.1 b.0 b.1 in
-    let r = behind_sound request_at request_text_of request_fits request_sound b.0.1 c.0 c.1 in
+    let r = behind_sound request_at request_text_of request_is_plain request_sound b.0.1 c.0 c.1 in
     let two = join (codes "call ") (decimal a.0.0) a.0.1 p n.parts in
     let three = join_space (codes "call " ++ decimal a.0.0) b.0.0 b.0.1 two s.parts in
     subst (Says asked_of AskedFits line) (same_Some ((a.0.0, b.0.0, c.0.0), c.0.1) x c.2)
@@ -102,7 +102,7 @@ came_sound bytes x h =
     let b = bind_some (behind_space reply_at a.0.1) (λ reply. behind_space given_at reply.1 >>= λ given. Some ((a.0.0, reply.0, given.0), given.1)) x a.2 in
     let c = bind_some (behind_space given_at b.0.1) (λ given. Some ((a.0.0, b.0.0, given.0), given.1)) x b.2 in
     let n = behind_sound how_at how_text_of any_how how_sound bytes a.0 a.1 in
-    let s = behind_sound reply_at reply_text_of reply_fits reply_sound a.0.1 b.0 b.1 in
+    let s = behind_sound reply_at reply_text_of reply_is_plain reply_sound a.0.1 b.0 b.1 in
     let r = behind_sound given_at given_text_of IsPlainGiven given_sound b.0.1 c.0 c.1 in
     let two = join_space (codes " " ++ how_text_of a.0.0) (reply_text_of b.0.0) b.0.1 n.parts s.parts in
     subst (Says came_of CameFits bytes) (same_Some ((a.0.0, b.0.0, c.0.0), c.0.1) x c.2)

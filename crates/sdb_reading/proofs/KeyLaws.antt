@@ -16,7 +16,7 @@ use Rattle.sdb_types.specs.declared.record.Span.{Span}
 use Rattle.sdb_types.specs.declared.value.Value.{Value}
 use Rattle.sdb_types.proofs.Bools.{and_first, and_second, and_both}
 use Rattle.sdb_types.proofs.ColumnMap.{tail_above, tail_columns}
-use Rattle.sdb_model.specs.Plain.{table_fits, span_fits, values_fit}
+use Rattle.sdb_model.specs.Plain.{table_is_plain, span_is_plain, values_are_plain}
 use Rattle.sdb_model.specs.Texts.{value_text_of, values_text_of, row_text_of, clustering_text_of, key_text_of, partition_text_of, span_text_of, pair_text_of, columns_text_of, record_text_of}
 use Rattle.sdb_reading.specs.Reading.{after, name_at, value_at, many, some_values_at, values_at, row_at, table_at, clustering_at, key_at, partition_at, span_at, is_next_column, column_of, pair_at, next_pair_at, some_pairs_at, pairs_at, columns_at, record_at}
 use Rattle.sdb_reading.proofs.WordLaws.{case_some, join, Says, Sound, Again, after_is, stops_at, name_sound, name_again}
@@ -29,7 +29,7 @@ use Rattle.sdb_types.specs.Options.{◌>>=◌}
 
 ---- tables
 
-pub table_sound : Sound table_at table_text table_fits
+pub table_sound : Sound table_at table_text table_is_plain
 unfolding table_at
 table_sound bytes x h =
     let last : List ℕ → List ℕ × List ℕ → Option (TableName × List ℕ) = λ ns table. Some (record { ns = ns; table = table.0 }, table.1) in
@@ -41,10 +41,10 @@ table_sound bytes x h =
     let two : bytes ≡ (a.0.0 ++ codes ".") ++ b.0 = join a.0.0 (codes ".") b.0 ns.parts (after_is (codes ".") a.0.1 b.0 b.1) in
     let three : bytes ≡ ((a.0.0 ++ codes ".") ++ c.0.0) ++ c.0.1 = join (a.0.0 ++ codes ".") c.0.0 c.0.1 two table.parts in
     let made : TableName = record { ns = a.0.0; table = c.0.0 } in
-    subst (Says table_text table_fits bytes) (same_Some (made, c.0.1) x c.2)
+    subst (Says table_text table_is_plain bytes) (same_Some (made, c.0.1) x c.2)
     (record { parts = three ∙ ap (λ (t : List ℕ). t ++ c.0.1) (append_assoc a.0.0 (codes ".") c.0.0); fits = record { ns = ns.fits; table = table.fits } })
 
-pub table_again : (t : TableName) (rest : List ℕ) → table_fits t → stops_at is_part rest ≡ true → table_at (table_text t ++ rest) ≡ Some (t, rest)
+pub table_again : (t : TableName) (rest : List ℕ) → table_is_plain t → stops_at is_part rest ≡ true → table_at (table_text t ++ rest) ≡ Some (t, rest)
 unfolding table_at
 table_again t rest fits e =
     let regrouped : table_text t ++ rest ≡ t.ns ++ 46 ∷ (t.table ++ rest) = append_assoc t.ns (46 ∷ t.table) rest in
@@ -52,20 +52,20 @@ table_again t rest fits e =
 
 ---- keys
 
-pub clustering_sound : Sound clustering_at clustering_text_of values_fit
+pub clustering_sound : Sound clustering_at clustering_text_of values_are_plain
 unfolding clustering_at
 clustering_sound bytes x h =
     case_some (after (codes ";") bytes) some_values_at (Some ([], bytes)) (Some x) h
     (λ rest q k.
     let s = some_values_sound rest x k in
     record { parts = join (codes ";") (values_text_of x.0) x.1 (after_is (codes ";") bytes rest q) s.parts ∙ some_text x.0 x.1 s.fits.1; fits = s.fits.0 })
-    (λ q k. subst (Says clustering_text_of values_fit bytes) (same_Some ([], bytes) x k) (record { parts = refl; fits = All-from_recursion value_fits [] tt }))
+    (λ q k. subst (Says clustering_text_of values_are_plain bytes) (same_Some ([], bytes) x k) (record { parts = refl; fits = All-from_recursion value_fits [] tt }))
   where
     some_text : (vs : List Value) (rest : List ℕ) → 0 < length vs → (codes ";" ++ values_text_of vs) ++ rest ≡ clustering_text_of vs ++ rest
     some_text [] rest some = absurd (omega arith)
     some_text (v ∷ vs) rest some = refl
 
-pub clustering_again : (vs : List Value) (rest : List ℕ) → values_fit vs → clustering_at (clustering_text_of vs ++ 41 ∷ rest) ≡ Some (vs, 41 ∷ rest)
+pub clustering_again : (vs : List Value) (rest : List ℕ) → values_are_plain vs → clustering_at (clustering_text_of vs ++ 41 ∷ rest) ≡ Some (vs, 41 ∷ rest)
 unfolding clustering_at
 clustering_again [] rest fits = refl
 clustering_again (v ∷ vs) rest fits = some_values_again v vs (41 ∷ rest) fits refl
@@ -109,7 +109,7 @@ key_again k rest fits =
 ---- spans
 
 abbrev partition_fits : Option (List Value) → Type 0
-partition_fits p = IfSome p values_fit
+partition_fits p = IfSome p values_are_plain
 
 partition_sound : Sound partition_at partition_text_of partition_fits
 unfolding partition_at
@@ -118,7 +118,7 @@ partition_sound bytes x h =
     (λ row q k. let s = row_sound bytes row q in subst (Says partition_text_of partition_fits bytes) (same_Some (Some row.0, row.1) x k) (record { parts = s.parts; fits = s.fits }))
     (λ q k. subst (Says partition_text_of partition_fits bytes) (same_Some (None, bytes) x k) (record { parts = refl; fits = tt }))
 
-pub span_sound : Sound span_at span_text_of span_fits
+pub span_sound : Sound span_at span_text_of span_is_plain
 unfolding span_at
 span_sound bytes x h =
     let a = bind_some (table_at bytes) (λ t. partition_at t.1 >>= λ p. Some (record { table = t.0; partition = p.0 }, p.1)) x h in
@@ -126,7 +126,7 @@ span_sound bytes x h =
     let t = table_sound bytes a.0 a.1 in
     let p = partition_sound a.0.1 b.0 b.1 in
     let made : Span = record { table = a.0.0; partition = b.0.0 } in
-    subst (Says span_text_of span_fits bytes) (same_Some (made, b.0.1) x b.2)
+    subst (Says span_text_of span_is_plain bytes) (same_Some (made, b.0.1) x b.2)
     (record { parts = join (table_text a.0.0) (partition_text_of b.0.0) b.0.1 t.parts p.parts; fits = record { table = t.fits; partition = p.fits } })
 
 no_row : (rest : List ℕ) → row_at (32 ∷ rest) ≡ None
@@ -134,10 +134,10 @@ unfolding row_at
 no_row rest = refl
 
 -- a space after a span
-pub span_again : (s : Span) (rest : List ℕ) → span_fits s → span_at (span_text_of s ++ 32 ∷ rest) ≡ Some (s, 32 ∷ rest)
+pub span_again : (s : Span) (rest : List ℕ) → span_is_plain s → span_at (span_text_of s ++ 32 ∷ rest) ≡ Some (s, 32 ∷ rest)
 unfolding span_at partition_at
 span_again s rest fits =
-    elim s.partition as (λ p. s.partition ≡ p → IfSome p values_fit → span_at ((table_text s.table ++ partition_text_of p) ++ 32 ∷ rest) ≡ Some (record { table = s.table; partition = p }, 32 ∷ rest)) [
+    elim s.partition as (λ p. s.partition ≡ p → IfSome p values_are_plain → span_at ((table_text s.table ++ partition_text_of p) ++ 32 ∷ rest) ≡ Some (record { table = s.table; partition = p }, 32 ∷ rest)) [
       | None ↦ λ q f. ap span_at (append_assoc (table_text s.table) [] (32 ∷ rest)) ∙ rw (table_again s.table (32 ∷ rest) fits.table refl, no_row rest) refl
       | Some vs ↦ λ q f.
           let row : row_at (row_text_of vs ++ 32 ∷ rest) ≡ Some (vs, 32 ∷ rest) = row_again vs (32 ∷ rest) f in

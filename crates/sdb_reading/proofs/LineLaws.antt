@@ -30,7 +30,7 @@ use Rattle.sdb_types.specs.declared.value.Value.{Value}
 use Rattle.sdb_types.specs.declared.value.Value.TheVariants as value
 use Rattle.sdb_types.proofs.Bools.{and_first, and_second, and_both}
 use Rattle.sdb_types.proofs.KeyOrder.{parts}
-use Rattle.sdb_model.specs.Plain.{is_no_lf, is_one_line, table_fits, IsFoundAt, values_fit, request_fits, reply_fits, IsPlainAnswer, IsPlainGiven, HasPlainParts}
+use Rattle.sdb_model.specs.Plain.{is_no_lf, is_one_line, table_is_plain, IsFoundAt, values_are_plain, request_is_plain, reply_is_plain, IsPlainAnswer, IsPlainGiven, HasPlainParts}
 use Rattle.sdb_model.specs.Report.{given_text_of, condition_text_of, request_text_of, how_text_of, found_text_of, reply_text_of, event_text_of}
 use Rattle.sdb_model.specs.Texts.{doubled, value_text_of, values_text_of, row_text_of, clustering_text_of, key_text_of, partition_text_of, pair_text_of, columns_text_of, record_text_of, found_columns_text_of, rows_text_of, answer_text_of}
 use Rattle.sdb_model.specs.declared.answer.Answer.{Answer}
@@ -76,7 +76,7 @@ parts_one (c ∷ cs) h = and_both (is_no_lf c) _ (part_no_lf c (and_first (is_pa
 pub name_one : (name : List ℕ) → is_name name ≡ true → is_one_line name ≡ true
 name_one name h = parts_one name (parts name h)
 
-pub table_one : (t : TableName) → table_fits t → is_one_line (table_text t) ≡ true
+pub table_one : (t : TableName) → table_is_plain t → is_one_line (table_text t) ≡ true
 table_one t fits = lines_joined t.ns (46 ∷ t.table) (name_one t.ns fits.ns) (name_one t.table fits.table)
 
 by_index_one : (n : ℕ) (f : ℕ → ℕ) → ((k : ℕ) → is_no_lf (f k) ≡ true) → is_one_line (by_index n f) ≡ true
@@ -143,13 +143,13 @@ zipped P Q R each (x ∷ xs) h k = (each x h.0 k.0, zipped P Q R each xs h.1 k.1
 all_one : {X : Type 0} (P Q : X → Type 0) (text : X → List ℕ) → ((x : X) → P x → Q x → One (text x)) → (xs : List X) → All P xs → All Q xs → AllByRecursion (λ x. One (text x)) xs
 all_one P Q text each xs h k = zipped P Q (λ x. One (text x)) each xs (recursion_from_All P xs h) (recursion_from_All Q xs k)
 
-pub values_one : (vs : List Value) → values_fit vs → ValuesHaveNoLf vs → One (values_text_of vs)
+pub values_one : (vs : List Value) → values_are_plain vs → ValuesHaveNoLf vs → One (values_text_of vs)
 values_one vs fits h = join_one value_text_of vs (all_one value_fits ValueHasNoLf value_text_of value_one vs fits h)
 
-pub row_one : (vs : List Value) → values_fit vs → ValuesHaveNoLf vs → One (row_text_of vs)
+pub row_one : (vs : List Value) → values_are_plain vs → ValuesHaveNoLf vs → One (row_text_of vs)
 row_one vs fits h = lines_joined (codes "(" ++ values_text_of vs) (codes ")") (lines_joined (codes "(") (values_text_of vs) refl (values_one vs fits h)) refl
 
-clustering_one : (vs : List Value) → values_fit vs → ValuesHaveNoLf vs → One (clustering_text_of vs)
+clustering_one : (vs : List Value) → values_are_plain vs → ValuesHaveNoLf vs → One (clustering_text_of vs)
 clustering_one [] fits h = refl
 clustering_one (v ∷ vs) fits h = lines_joined (codes ";") (values_text_of (v ∷ vs)) refl (values_one (v ∷ vs) fits h)
 
@@ -183,10 +183,10 @@ found_columns_one : (key : Key) (found : Option Record) → IfSome found (IsFoun
 found_columns_one key None fits h = refl
 found_columns_one key (Some r) fits h = columns_one r.columns fits.fits.columns h.columns
 
-rows_one : (rows : List (List Value)) → length rows < 2 ^ 64 → All values_fit rows → All ValuesHaveNoLf rows → One (rows_text_of rows)
+rows_one : (rows : List (List Value)) → length rows < 2 ^ 64 → All values_are_plain rows → All ValuesHaveNoLf rows → One (rows_text_of rows)
 rows_one rows lt fits h =
     lines_joined (decimal (length rows)) (flat_map (λ row. codes " " ++ row_text_of row) rows) (decimal_one (length rows) lt)
-    (flat_one (codes " ") row_text_of refl rows (all_one values_fit ValuesHaveNoLf row_text_of row_one rows fits h))
+    (flat_one (codes " ") row_text_of refl rows (all_one values_are_plain ValuesHaveNoLf row_text_of row_one rows fits h))
 
 pub answer_one : (a : Answer) → IsPlainAnswer a → AnswerHasNoLf a → One (answer_text_of a)
 answer_one (answer.Rows rows) fits h = rows_one rows fits.0 fits.1 h
@@ -219,11 +219,11 @@ condition_one (Version id Deleted) = then_space (id_text id.0) (decimal 2) (id_o
 condition_one (Version id Committed) = then_space (id_text id.0) (decimal 3) (id_one id.0) (decimal_one 3 (omega arith))
 condition_one (Version id Aborted) = then_space (id_text id.0) (decimal 4) (id_one id.0) (decimal_one 4 (omega arith))
 
-partition_one : (p : Option (List Value)) → IfSome p values_fit → IfSome p ValuesHaveNoLf → One (partition_text_of p)
+partition_one : (p : Option (List Value)) → IfSome p values_are_plain → IfSome p ValuesHaveNoLf → One (partition_text_of p)
 partition_one None fits h = refl
 partition_one (Some vs) fits h = row_one vs fits h
 
-request_one : (r : Request) → request_fits r → RequestHasNoLf r → One (request_text_of r)
+request_one : (r : Request) → request_is_plain r → RequestHasNoLf r → One (request_text_of r)
 request_one (ask.Get key) fits h = key_one key fits h
 request_one (ask.Scan span) fits h = lines_joined (table_text span.table) (partition_text_of span.partition) (table_one span.table fits.table) (partition_one span.partition fits.partition h)
 request_one (ask.PutIf r c) fits h =
@@ -241,7 +241,7 @@ found_one : (found : Option Record) → IfSome found record_fits → IfSome foun
 found_one None fits h = refl
 found_one (Some r) fits h = record_one r fits h
 
-reply_one : (r : Reply) → reply_fits r → ReplyHasNoLf r → One (reply_text_of r)
+reply_one : (r : Reply) → reply_is_plain r → ReplyHasNoLf r → One (reply_text_of r)
 reply_one (reply.Found found) fits h = found_one found fits h
 reply_one (reply.Rows rows) fits h =
     lines_joined (decimal (length rows)) (flat_map (λ r. codes " " ++ record_text_of r) rows) (decimal_one (length rows) fits.0)

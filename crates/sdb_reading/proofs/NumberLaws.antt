@@ -16,10 +16,10 @@ use Rattle.uuid.specs.Text.{lower}
 use Rattle.uuid.proofs.TextLemmas.{hyphenated_ascii, by_index_length}
 use Rattle.sdb_types.specs.TxId.{id_text}
 use Rattle.sdb_types.specs.declared.txid.TxId.{TxId}
-use Rattle.sdb_model.specs.Plain.{id_fits}
+use Rattle.sdb_model.specs.Plain.{id_is_plain}
 use Rattle.sdb_record.specs.Ids.{id_of_text}
 use Rattle.sdb_record.proofs.IdLemmas.{id_of_text-id_text, id_of_text-is}
-use Rattle.sdb_reading.specs.Reading.{case_of, after, with_digit, number_on, natural_at, natural_below, positive, negative, said_at, integer_at, text_of, id_at}
+use Rattle.sdb_reading.specs.Reading.{case_of, after, with_digit, number_on, natural_at, natural_below, positive, negative, number_at, integer_at, text_of, id_at}
 use Rattle.sdb_reading.proofs.WordLaws.{Says, Sound, Again, after_is, after_again, stops_at}
 use Rattle.sdb_types.proofs.Basics.{by_test, bind_some}
 use Rattle.sdb_types.specs.Options.{◌>>=◌}
@@ -108,7 +108,7 @@ case_fits (Some rest) bytes = negative_fits (number_on 0 rest)
 pub integer_sound : Sound integer_at signed_decimal IsLong
 unfolding integer_at
 integer_sound bytes x h =
-    let n : ℤ = said_at bytes in
+    let n : ℤ = number_at bytes in
     let a = bind_some (after (signed_decimal n) bytes) (λ rest. Some (n, rest)) x h in
     subst (Says signed_decimal IsLong bytes) (same_Some (n, a.0) x a.2)
     (record { parts = after_is (signed_decimal n) bytes a.0 a.1; fits = case_fits (after (codes "-") bytes) bytes })
@@ -117,7 +117,7 @@ no_minus : (bs : List ℕ) → begins_digit bs ≡ true → after (codes "-") bs
 no_minus [] e = refl
 no_minus (c ∷ cs) e = let d : (45 == c) ≡ false = grind (arith, nat_tests) in rw d refl
 
-said_again : (z : ℤ) (rest : List ℕ) → IsLong z → stops_at is_ascii_digit rest ≡ true → said_at (signed_decimal z ++ rest) ≡ z
+said_again : (z : ℤ) (rest : List ℕ) → IsLong z → stops_at is_ascii_digit rest ≡ true → number_at (signed_decimal z ++ rest) ≡ z
 said_again (pos n) rest fits e =
     let lt : n < 2 ^ 63 = fits.sfits in
     let w = no_minus (decimal n ++ rest) (digits_go n (omega arith) (omega arith) rest).1 in
@@ -135,7 +135,7 @@ integer_again z rest fits e = rw (said_again z rest fits e, after_again (signed_
 abbrev pub id_text_of : TxId → List ℕ
 id_text_of id = id_text id.0
 
-pub id_sound : Sound id_at id_text_of id_fits
+pub id_sound : Sound id_at id_text_of id_is_plain
 unfolding id_at
 id_sound bytes x h =
     by_test (ltb (length bytes) 36)
@@ -146,7 +146,7 @@ id_sound bytes x h =
     let b = bind_some (id_of_text a.0) (λ id. Some (id, drop 36 bytes)) x a.2 in
     let same = cond_some (is_utf8 (take 36 bytes)) (take 36 bytes) a.0 a.1 in
     let is = id_of_text-is a.0 b.0 b.1 in
-    subst (Says id_text_of id_fits bytes) (same_Some (b.0, drop 36 bytes) x b.2)
+    subst (Says id_text_of id_is_plain bytes) (same_Some (b.0, drop 36 bytes) x b.2)
     (record { parts = sym (take-append-drop 36 bytes) ∙ ap (λ (t : List ℕ). t ++ drop 36 bytes) (same.1 ∙ is.1); fits = is.0 }))
 
 pub id_long : (n : ℕ) → length (id_text n) ≡ 36
@@ -155,7 +155,7 @@ id_long n = by_index_length 36 _
 id_utf8 : (n : ℕ) → is_utf8 (id_text n) ≡ true
 id_utf8 n = is_utf8-from_IsUtf8 (id_text n) (IsUtf8-from_ascii (id_text n) (hyphenated_ascii lower (to_be_bytes w128 n) (inl refl)))
 
-pub id_again : Again id_at id_text_of id_fits
+pub id_again : Again id_at id_text_of id_is_plain
 unfolding id_at
 id_again id rest fits =
     let long : ltb (length (id_text id.0 ++ rest)) 36 ≡ false = le-ltb _ _ (omega (arith, length-append (id_text id.0) rest, id_long id.0)) in

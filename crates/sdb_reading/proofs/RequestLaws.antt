@@ -14,7 +14,7 @@ use Rattle.sdb_types.specs.declared.record.Request.{Request}
 use Rattle.sdb_types.specs.declared.record.Request.TheVariants as ask
 use Rattle.sdb_types.specs.declared.record.State.{State}
 use Rattle.sdb_types.specs.declared.record.State.TheVariants.{Prepared, Deleted, Committed, Aborted}
-use Rattle.sdb_model.specs.Plain.{span_fits, condition_fits, request_fits, reply_fits}
+use Rattle.sdb_model.specs.Plain.{span_is_plain, condition_is_plain, request_is_plain, reply_is_plain}
 use Rattle.sdb_model.specs.Report.{condition_text_of, request_text_of, how_text_of, found_text_of, records_text_of, reply_text_of}
 use Rattle.sdb_model.specs.Texts.{key_text_of, span_text_of, record_text_of}
 use Rattle.sdb_model.specs.declared.event.How.{How}
@@ -67,18 +67,18 @@ state_again Deleted rest = ap (λ (t : List ℕ). state_at (t ++ rest)) (digit_t
 state_again Committed rest = ap (λ (t : List ℕ). state_at (t ++ rest)) (digit_text 3 (omega arith))
 state_again Aborted rest = ap (λ (t : List ℕ). state_at (t ++ rest)) (digit_text 4 (omega arith))
 
-pub condition_sound : Sound condition_at condition_text_of condition_fits
+pub condition_sound : Sound condition_at condition_text_of condition_is_plain
 unfolding condition_at version_at
 condition_sound bytes x h =
     let version : Read Condition = id_at bytes >>= λ id. behind_space state_at id.1 >>= λ state. Some (Version id.0 state.0, state.1) in
     case_some (after (codes "absent") bytes) (λ rest. Some (Absent, rest)) version (Some x) h
-    (λ rest q k. word_sound (codes "absent") Absent condition_text_of condition_fits refl tt bytes rest x q k)
+    (λ rest q k. word_sound (codes "absent") Absent condition_text_of condition_is_plain refl tt bytes rest x q k)
     (λ q k.
     let a = bind_some (id_at bytes) (λ id. behind_space state_at id.1 >>= λ state. Some (Version id.0 state.0, state.1)) x k in
     let b = bind_some (behind_space state_at a.0.1) (λ state. Some (Version a.0.0 state.0, state.1)) x a.2 in
     let i = id_sound bytes a.0 a.1 in
     let s = behind_sound state_at state_text_of any_state state_sound a.0.1 b.0 b.1 in
-    subst (Says condition_text_of condition_fits bytes) (same_Some (Version a.0.0 b.0.0, b.0.1) x b.2)
+    subst (Says condition_text_of condition_is_plain bytes) (same_Some (Version a.0.0 b.0.0, b.0.1) x b.2)
     (record { parts = join_space (id_text_of a.0.0) (state_text_of b.0.0) b.0.1 i.parts s.parts; fits = i.fits }))
 
 hex_small : (d : ℕ) → d < 16 → hex_digit lower d < 115
@@ -98,7 +98,7 @@ not_absent id rest =
           absurd (omega (arith, third, left, digit, hex_small (nibble bytes 2) (omega arith)))
     ] refl
 
-pub condition_again : (c : Condition) (rest : List ℕ) → condition_fits c → condition_at (condition_text_of c ++ rest) ≡ Some (c, rest)
+pub condition_again : (c : Condition) (rest : List ℕ) → condition_is_plain c → condition_at (condition_text_of c ++ rest) ≡ Some (c, rest)
 unfolding condition_at version_at
 condition_again Absent rest fits = refl
 condition_again (Version id state) rest fits =
@@ -109,7 +109,7 @@ condition_again (Version id state) rest fits =
 ---- requests
 
 abbrev RequestSays : List ℕ → Request × List ℕ → Type 0
-RequestSays bytes x = Says request_text_of request_fits bytes x
+RequestSays bytes x = Says request_text_of request_is_plain bytes x
 
 put_sound : (bytes rest : List ℕ) (x : Request × List ℕ) → bytes ≡ codes "put " ++ rest → put_at rest ≡ Some x → RequestSays bytes x
 unfolding put_at
@@ -137,16 +137,16 @@ delete_sound bytes rest x p h =
     subst (RequestSays bytes) (same_Some (ask.DeleteIf a.0.0 c.0.0, c.0.1) x c.2)
     (record { parts = join (codes "delete " ++ key_text_of a.0.0 ++ codes " if ") (condition_text_of c.0.0) c.0.1 three s.parts; fits = (r.fits, s.fits) })
 
-pub request_sound : Sound request_at request_text_of request_fits
+pub request_sound : Sound request_at request_text_of request_is_plain
 unfolding request_at
 request_sound bytes x h =
     let deleted = case_of (after (codes "delete ") bytes) delete_at None in
     let puts = case_of (after (codes "put ") bytes) put_at deleted in
     let scans = case_of (after (codes "scan ") bytes) scan_at puts in
     case_some (after (codes "get ") bytes) get_at scans (Some x) h
-    (λ rest q k. made_sound key_at key_text_of key_fits ask.Get (codes "get ") request_text_of request_fits key_sound (λ y. refl) (λ y f. f) bytes rest x q k) (λ q k.
+    (λ rest q k. made_sound key_at key_text_of key_fits ask.Get (codes "get ") request_text_of request_is_plain key_sound (λ y. refl) (λ y f. f) bytes rest x q k) (λ q k.
     case_some (after (codes "scan ") bytes) scan_at puts (Some x) k
-    (λ rest q k. made_sound span_at span_text_of span_fits ask.Scan (codes "scan ") request_text_of request_fits span_sound (λ y. refl) (λ y f. f) bytes rest x q k) (λ q k.
+    (λ rest q k. made_sound span_at span_text_of span_is_plain ask.Scan (codes "scan ") request_text_of request_is_plain span_sound (λ y. refl) (λ y f. f) bytes rest x q k) (λ q k.
     case_some (after (codes "put ") bytes) put_at deleted (Some x) k (λ rest q k. put_sound bytes rest x (after_is (codes "put ") bytes rest q) k) (λ q k.
     case_some (after (codes "delete ") bytes) delete_at None (Some x) k (λ rest q k. delete_sound bytes rest x (after_is (codes "delete ") bytes rest q) k) (λ q k. absurd cc))))
 
@@ -154,7 +154,7 @@ if_pieces : (w r c rest : List ℕ) → (w ++ r ++ codes " if " ++ c) ++ rest �
 if_pieces w r c rest = simp append_assoc
 
 -- a space after a request
-pub request_again : (r : Request) (rest : List ℕ) → request_fits r → request_at (request_text_of r ++ 32 ∷ rest) ≡ Some (r, 32 ∷ rest)
+pub request_again : (r : Request) (rest : List ℕ) → request_is_plain r → request_at (request_text_of r ++ 32 ∷ rest) ≡ Some (r, 32 ∷ rest)
 unfolding request_at put_at delete_at
 request_again (ask.Get key) rest fits = rw (key_again key (32 ∷ rest) fits) refl
 request_again (ask.Scan span) rest fits = rw (span_again span rest fits) refl
@@ -219,10 +219,10 @@ records_again : (rs : List Record) (rest : List ℕ) → CountedFit record_fits 
 unfolding records_at
 records_again rs rest fits e = items_again record_at record_text_of record_fits record_again rs rest fits e
 
-reply_word : (word : List ℕ) (r : Reply) → reply_text_of r ≡ word → reply_fits r → (bytes rest : List ℕ) (x : Reply × List ℕ) → after word bytes ≡ Some rest → Some (r, rest) ≡ Some x → Says reply_text_of reply_fits bytes x
-reply_word word r e fits bytes rest x q k = word_sound word r reply_text_of reply_fits e fits bytes rest x q k
+reply_word : (word : List ℕ) (r : Reply) → reply_text_of r ≡ word → reply_is_plain r → (bytes rest : List ℕ) (x : Reply × List ℕ) → after word bytes ≡ Some rest → Some (r, rest) ≡ Some x → Says reply_text_of reply_is_plain bytes x
+reply_word word r e fits bytes rest x q k = word_sound word r reply_text_of reply_is_plain e fits bytes rest x q k
 
-pub reply_sound : Sound reply_at reply_text_of reply_fits
+pub reply_sound : Sound reply_at reply_text_of reply_is_plain
 unfolding reply_at
 reply_sound bytes x h =
     let nomemory = case_of (after (codes "nomemory") bytes) (λ rest. Some (reply.NoMemory, rest)) None in
@@ -231,17 +231,17 @@ reply_sound bytes x h =
     let applied = case_of (after (codes "applied") bytes) (λ rest. Some (reply.Applied, rest)) notmet in
     let rows = case_of (after (codes "rows ") bytes) rows_reply_at applied in
     case_some (after (codes "found ") bytes) found_reply_at rows (Some x) h
-    (λ rest q k. made_sound found_at found_text_of found_fits reply.Found (codes "found ") reply_text_of reply_fits found_sound (λ y. refl) (λ y f. f) bytes rest x q k) (λ q k.
+    (λ rest q k. made_sound found_at found_text_of found_fits reply.Found (codes "found ") reply_text_of reply_is_plain found_sound (λ y. refl) (λ y f. f) bytes rest x q k) (λ q k.
     case_some (after (codes "rows ") bytes) rows_reply_at applied (Some x) k
-    (λ rest q k. made_sound records_at records_text_of (CountedFit record_fits) reply.Rows (codes "rows ") reply_text_of reply_fits records_sound (λ y. refl) (λ y f. f) bytes rest x q k) (λ q k.
+    (λ rest q k. made_sound records_at records_text_of (CountedFit record_fits) reply.Rows (codes "rows ") reply_text_of reply_is_plain records_sound (λ y. refl) (λ y f. f) bytes rest x q k) (λ q k.
     case_some (after (codes "applied") bytes) (λ rest. Some (reply.Applied, rest)) notmet (Some x) k (λ rest q k. reply_word (codes "applied") reply.Applied refl tt bytes rest x q k) (λ q k.
     case_some (after (codes "notmet ") bytes) not_met_at fault (Some x) k
-    (λ rest q k. made_sound found_at found_text_of found_fits reply.NotMet (codes "notmet ") reply_text_of reply_fits found_sound (λ y. refl) (λ y f. f) bytes rest x q k) (λ q k.
+    (λ rest q k. made_sound found_at found_text_of found_fits reply.NotMet (codes "notmet ") reply_text_of reply_is_plain found_sound (λ y. refl) (λ y f. f) bytes rest x q k) (λ q k.
     case_some (after (codes "fault") bytes) (λ rest. Some (reply.Fault, rest)) nomemory (Some x) k (λ rest q k. reply_word (codes "fault") reply.Fault refl tt bytes rest x q k) (λ q k.
     case_some (after (codes "nomemory") bytes) (λ rest. Some (reply.NoMemory, rest)) None (Some x) k (λ rest q k. reply_word (codes "nomemory") reply.NoMemory refl tt bytes rest x q k) (λ q k. absurd cc))))))
 
 -- a space after a reply
-pub reply_again : (r : Reply) (rest : List ℕ) → reply_fits r → reply_at (reply_text_of r ++ 32 ∷ rest) ≡ Some (r, 32 ∷ rest)
+pub reply_again : (r : Reply) (rest : List ℕ) → reply_is_plain r → reply_at (reply_text_of r ++ 32 ∷ rest) ≡ Some (r, 32 ∷ rest)
 unfolding reply_at
 reply_again (reply.Found found) rest fits = rw (found_again found rest fits) refl
 reply_again (reply.Rows rows) rest fits = rw (records_again rows (32 ∷ rest) fits refl) refl

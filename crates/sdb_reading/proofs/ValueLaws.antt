@@ -20,7 +20,7 @@ use Rattle.sdb_types.specs.Fits.{AreBytes, text_fits, value_fits}
 use Rattle.sdb_types.specs.declared.value.Value.{Value}
 use Rattle.sdb_types.specs.declared.value.Value.TheVariants as value
 use Rattle.sdb_model.specs.Texts.{doubled, quoted, value_text_of, values_text_of, row_text_of}
-use Rattle.sdb_model.specs.Plain.{values_fit}
+use Rattle.sdb_model.specs.Plain.{values_are_plain}
 use Rattle.sdb_reading.specs.Reading.{case_of, after, text_of, integer_at, int_of, begins_number, numeral_at, quoted_on, text_at, is_unquoted, blob_at, value_at, many, next_value_at, some_values_at, values_at, row_at}
 use Rattle.sdb_reading.proofs.WordLaws.{case_some, join, Says, Sound, Again, after_is, after_again, stops_at, front_again}
 use Rattle.sdb_reading.proofs.NumberLaws.{digits_go, begins_digit, integer_sound, integer_again, IsLong}
@@ -284,7 +284,7 @@ next_sound xs bytes x h =
 
 -- one value or more
 abbrev pub SomeFit : List Value → Type 0
-SomeFit vs = values_fit vs × (0 < length vs)
+SomeFit vs = values_are_plain vs × (0 < length vs)
 
 pub some_values_sound : Sound some_values_at values_text_of SomeFit
 unfolding some_values_at
@@ -301,12 +301,12 @@ some_values_sound bytes x h =
       fits = subst SomeFit (sym m.all) (All-from_recursion value_fits (a.0.0 ∷ m.items) all, omega arith);
     })
 
-pub values_sound : Sound values_at values_text_of values_fit
+pub values_sound : Sound values_at values_text_of values_are_plain
 unfolding values_at
 values_sound bytes x h =
     case_some (some_values_at bytes) (λ vs. Some vs) (Some ([], bytes)) (Some x) h
-    (λ y q k. let s = some_values_sound bytes y q in subst (Says values_text_of values_fit bytes) (same_Some y x k) (record { parts = s.parts; fits = s.fits.0 }))
-    (λ q k. subst (Says values_text_of values_fit bytes) (same_Some ([], bytes) x k) (record { parts = refl; fits = All-from_recursion value_fits [] tt }))
+    (λ y q k. let s = some_values_sound bytes y q in subst (Says values_text_of values_are_plain bytes) (same_Some y x k) (record { parts = s.parts; fits = s.fits.0 }))
+    (λ q k. subst (Says values_text_of values_are_plain bytes) (same_Some ([], bytes) x k) (record { parts = refl; fits = All-from_recursion value_fits [] tt }))
 
 -- what may come after values
 abbrev pub ends_values : List ℕ → Bool
@@ -337,7 +337,7 @@ behind_ends : (vs : List Value) (rest : List ℕ) → EndsValue rest → EndsVal
 behind_ends [] rest e = e
 behind_ends (v ∷ vs) rest e = refl
 
-pub some_values_again : (v : Value) (vs : List Value) (rest : List ℕ) → values_fit (v ∷ vs) → ends_values rest ≡ true → some_values_at (values_text_of (v ∷ vs) ++ rest) ≡ Some (v ∷ vs, rest)
+pub some_values_again : (v : Value) (vs : List Value) (rest : List ℕ) → values_are_plain (v ∷ vs) → ends_values rest ≡ true → some_values_at (values_text_of (v ∷ vs) ++ rest) ≡ Some (v ∷ vs, rest)
 unfolding some_values_at
 some_values_again v vs rest fits e =
     let known = recursion_from_All value_fits (v ∷ vs) fits in
@@ -361,14 +361,14 @@ no_values (c ∷ cs) e =
     let x : (88 == c) ≡ false = grind (arith, nat_tests) in
     rw (number, n, t, f, q, x) refl
 
-pub values_again : (vs : List Value) (rest : List ℕ) → values_fit vs → ends_values rest ≡ true → values_at (values_text_of vs ++ rest) ≡ Some (vs, rest)
+pub values_again : (vs : List Value) (rest : List ℕ) → values_are_plain vs → ends_values rest ≡ true → values_at (values_text_of vs ++ rest) ≡ Some (vs, rest)
 unfolding values_at
 values_again [] rest fits e = rw (no_values rest e) refl
 values_again (v ∷ vs) rest fits e = rw (some_values_again v vs rest fits e) refl
 
 ---- rows
 
-pub row_sound : Sound row_at row_text_of values_fit
+pub row_sound : Sound row_at row_text_of values_are_plain
 unfolding row_at
 row_sound bytes x h =
     let a = bind_some (after (codes "(") bytes) (λ rest. values_at rest >>= λ vs. after (codes ")") vs.1 >>= λ rest. Some (vs.0, rest)) x h in
@@ -376,10 +376,10 @@ row_sound bytes x h =
     let c = bind_some (after (codes ")") b.0.1) (λ rest. Some (b.0.0, rest)) x b.2 in
     let vs = values_sound a.0 b.0 b.1 in
     let two = join (codes "(") (values_text_of b.0.0) b.0.1 (after_is (codes "(") bytes a.0 a.1) vs.parts in
-    subst (Says row_text_of values_fit bytes) (same_Some (b.0.0, c.0) x c.2)
+    subst (Says row_text_of values_are_plain bytes) (same_Some (b.0.0, c.0) x c.2)
     (record { parts = join (codes "(" ++ values_text_of b.0.0) (codes ")") c.0 two (after_is (codes ")") b.0.1 c.0 c.1); fits = vs.fits })
 
-pub row_again : Again row_at row_text_of values_fit
+pub row_again : Again row_at row_text_of values_are_plain
 unfolding row_at
 row_again vs rest fits =
     let regrouped : (values_text_of vs ++ codes ")") ++ rest ≡ values_text_of vs ++ 41 ∷ rest = append_assoc (values_text_of vs) (codes ")") rest in

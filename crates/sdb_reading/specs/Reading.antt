@@ -87,11 +87,11 @@ negative zero = pos 0
 negative (suc n) = negsuc (min n longest)
 
 -- the number with its sign, cut at the longest
-abbrev pub said_at : List ℕ → ℤ
-said_at bytes = case_of (after (codes "-") bytes) (λ rest. negative (number_on 0 rest)) (positive (number_on 0 bytes))
+abbrev pub number_at : List ℕ → ℤ
+number_at bytes = case_of (after (codes "-") bytes) (λ rest. negative (number_on 0 rest)) (positive (number_on 0 bytes))
 
 unfoldable pub integer_at : List ℕ → Read ℤ
-integer_at bytes = after (signed_decimal (said_at bytes)) bytes >>= λ rest. Some (said_at bytes, rest)
+integer_at bytes = after (signed_decimal (number_at bytes)) bytes >>= λ rest. Some (number_at bytes, rest)
 
 ---- values
 

@@ -77,7 +77,7 @@ fn negative(n: u64) -> i64
 
 // The number with its sign, at most the longest.
 fn said_at(bytes: &[u8]) -> i64
-    ensures { result ≡ spec.said_at bytes.now }
+    ensures { result ≡ spec.number_at bytes.now }
 {
     match after(b"-", bytes) {
         Some(rest) => negative(number_in(rest)),

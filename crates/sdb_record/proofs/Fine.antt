@@ -20,7 +20,7 @@ use Rattle.sdb_record.specs.declared.meta.Meta.{Meta}
 use Rattle.sdb_record.proofs.NameLemmas.{same_name-true}
 use Rattle.sdb_record.specs.Names.{tx_version, tx_prepared_at, tx_committed_at, tx_tombstone, base_name, is_before, is_meta, same_name}
 use Rattle.sdb_record.specs.Parts.{before_part, is_before_pair, are_short, are_stored}
-use Rattle.sdb_record.specs.Meta.{id_in, state_in, state_in_value, version_in, moment_in, committed_at_in, tombstone_in, is_stray, is_early, is_committed, is_deleted, is_misnamed, is_in, need, refuse, then_check, only_if, meta_in, checked_columns, checked_part, checked_before, checked, any_state, with_before, keep_identifiers, kept_badly, is_taken}
+use Rattle.sdb_record.specs.Meta.{id_in, state_in, state_in_value, version_in, moment_in, committed_at_in, tombstone_in, is_stray, is_early, is_committed, is_deleted, is_misnamed, is_in, need, refuse, then_check, only_if, meta_in, checked_columns, checked_part, checked_before, checked, any_state, with_before, have_identifiers, is_badly_named, is_transactional}
 use Rattle.sdb_types.proofs.Basics.{or_neither as or-false}
 
 ---- steps that went on
@@ -88,26 +88,26 @@ pub record Fine (allowed : State → Bool) (ps : List Pair) (m : Meta) : Type 0 
   pub strays : find (is_stray m.state m.tombstone) ps ≡ None
   pub early : find (is_early m.state) ps ≡ None
 
-pub fine : (allowed : State → Bool) (ps : List Pair) (m : Meta) → checked_part allowed ps ≡ Ok m → Fine allowed ps m
-fine allowed ps m h =
+pub valid : (allowed : State → Bool) (ps : List Pair) (m : Meta) → checked_part allowed ps ≡ Ok m → Fine allowed ps m
+valid allowed ps m h =
     let a = then_check-ok (meta_in allowed ps) (checked_columns ps) m h in
     let b = refuse-ok (find (is_stray a.0.state a.0.tombstone) ps) (refuse (find (is_early a.0.state) ps) (Ok a.0)) m a.2 in
     let d = refuse-ok (find (is_early a.0.state) ps) (Ok a.0) m b.1 in
     let same : a.0 ≡ m = cc in
     subst (Fine allowed ps) same (record { says = says allowed ps a.0 a.1; strays = b.0; early = d.0 })
 
-pub checked_part-fine : (allowed : State → Bool) (ps : List Pair) (m : Meta) → Fine allowed ps m → checked_part allowed ps ≡ Ok m
-checked_part-fine allowed ps m f =
+pub checked_part-valid : (allowed : State → Bool) (ps : List Pair) (m : Meta) → Fine allowed ps m → checked_part allowed ps ≡ Ok m
+checked_part-valid allowed ps m f =
     ap (λ r. then_check r (checked_columns ps)) (meta_in-says allowed ps m f.says)
     ∙ ap (λ o. refuse o (refuse (find (is_early m.state) ps) (Ok m))) f.strays ∙ ap (λ o. refuse o (Ok m)) f.early
 
 -- a committed part of any state is a part of a committed state
-pub fine-committed : (ps : List Pair) (m : Meta) → Fine any_state ps m → is_committed m.state ≡ true → Fine is_committed ps m
-fine-committed ps m f h =
+pub valid-committed : (ps : List Pair) (m : Meta) → Fine any_state ps m → is_committed m.state ≡ true → Fine is_committed ps m
+valid-committed ps m f h =
     record { says = record { id = f.says.id; state = f.says.state; is_allowed = h; version = f.says.version; prepared_at = f.says.prepared_at; committed_at = f.says.committed_at; tombstone = f.says.tombstone; has_before = f.says.has_before }; strays = f.strays; early = f.early }
 
-pub fine-any : (ps : List Pair) (m : Meta) → Fine is_committed ps m → Fine any_state ps m
-fine-any ps m f =
+pub valid-any : (ps : List Pair) (m : Meta) → Fine is_committed ps m → Fine any_state ps m
+valid-any ps m f =
     record { says = record { id = f.says.id; state = f.says.state; is_allowed = refl; version = f.says.version; prepared_at = f.says.prepared_at; committed_at = f.says.committed_at; tombstone = f.says.tombstone; has_before = f.says.has_before }; strays = f.strays; early = f.early }
 
 ---- all checks
@@ -121,11 +121,11 @@ pub taken : (ps : List Pair) (y : Meta) → checked ps ≡ Ok y → (m : Meta) �
 unfolding checked
 taken ps y h =
     let a = then_check-ok (checked_part any_state ps) (checked_before ps) y h in
-    (a.0, fine any_state ps a.0 a.1, a.2)
+    (a.0, valid any_state ps a.0 a.1, a.2)
 
-pub checked-fine : (ps : List Pair) (m y : Meta) → Fine any_state ps m → checked_before ps m ≡ Ok y → checked ps ≡ Ok y
+pub checked-valid : (ps : List Pair) (m y : Meta) → Fine any_state ps m → checked_before ps m ≡ Ok y → checked ps ≡ Ok y
 unfolding checked
-checked-fine ps m y f h = ap (λ r. then_check r (checked_before ps)) (checked_part-fine any_state ps m f) ∙ h
+checked-valid ps m y f h = ap (λ r. then_check r (checked_before ps)) (checked_part-valid any_state ps m f) ∙ h
 
 ---- tests that find nothing
 
@@ -152,25 +152,25 @@ all-none t (x ∷ xs) h = and_both (not (t x)) _ (ap not (none-first t x xs h)) 
 
 ---- a before image
 
-no_keeping : (o : Option (List ℕ)) → is_some o ≡ false → not (kept_badly o) ≡ true
+no_keeping : (o : Option (List ℕ)) → is_some o ≡ false → not (is_badly_named o) ≡ true
 no_keeping None h = refl
 no_keeping (Some n) h = absurd (cc)
 
-keep-none : (ps : List Pair) → list_any is_before_pair ps ≡ false → keep_identifiers ps ≡ true
+keep-none : (ps : List Pair) → list_any is_before_pair ps ≡ false → have_identifiers ps ≡ true
 keep-none [] h = refl
 keep-none (p ∷ ps) h =
     let w = or-false (is_before_pair p) (list_any is_before_pair ps) h in
     and_both (not (is_misnamed p)) _ (no_keeping (base_name p.name) w.0) (keep-none ps w.1)
 
-keep-before : (ps : List Pair) (m y : Meta) → checked_before ps m ≡ Ok y → keep_identifiers ps ≡ true
+keep-before : (ps : List Pair) (m y : Meta) → checked_before ps m ≡ Ok y → have_identifiers ps ≡ true
 keep-before ps m y h =
-    elim (list_any is_before_pair ps) as (λ b. list_any is_before_pair ps ≡ b → cond b (refuse (find is_misnamed ps) (with_before m (checked_part is_committed (before_part ps)))) (Ok m) ≡ Ok y → keep_identifiers ps ≡ true) [
+    elim (list_any is_before_pair ps) as (λ b. list_any is_before_pair ps ≡ b → cond b (refuse (find is_misnamed ps) (with_before m (checked_part is_committed (before_part ps)))) (Ok m) ≡ Ok y → have_identifiers ps ≡ true) [
       | true ↦ λ q k. all-none is_misnamed ps (refuse-ok (find is_misnamed ps) (with_before m (checked_part is_committed (before_part ps))) y k).0
       | false ↦ λ q k. keep-none ps q
     ] refl h
 
 -- what a taken record keeps has names
-pub taken-keep : (r : Record) → is_taken r ≡ true → keep_identifiers r.columns ≡ true
+pub taken-keep : (r : Record) → is_transactional r ≡ true → have_identifiers r.columns ≡ true
 taken-keep r h =
     let ps = r.columns in
     let y = ok-of (checked ps) (and_second (are_stored ps) (is_ok (checked ps)) h) in
@@ -181,7 +181,7 @@ twice : (b : Bool) → not (not b) ≡ true → b ≡ true
 twice true h = refl
 twice false h = cc
 
-pub keeps_here : (o : Option (List ℕ)) (name : List ℕ) → not (kept_badly o) ≡ true → o ≡ Some name → is_identifier name ≡ true
+pub keeps_here : (o : Option (List ℕ)) (name : List ℕ) → not (is_badly_named o) ≡ true → o ≡ Some name → is_identifier name ≡ true
 keeps_here None name h k = absurd (cc)
 keeps_here (Some n) name h k =
     let e : n ≡ name = cc in
@@ -189,11 +189,11 @@ keeps_here (Some n) name h k =
     subst (λ (x : List ℕ). is_identifier x ≡ true) e i
 
 -- the column at a place keeps an identifier
-pub keeps-at : (ps : List Pair) (i : ℕ) (p : Pair) (name : List ℕ) → i < length ps → p ≡ get_or ps i p → keep_identifiers (drop i ps) ≡ true → base_name p.name ≡ Some name → is_identifier name ≡ true
+pub keeps-at : (ps : List Pair) (i : ℕ) (p : Pair) (name : List ℕ) → i < length ps → p ≡ get_or ps i p → have_identifiers (drop i ps) ≡ true → base_name p.name ≡ Some name → is_identifier name ≡ true
 keeps-at ps i p name h e k n =
     let d : drop i ps ≡ p ∷ drop (suc i) ps = drop-cons ps i p h ∙ ap (λ x. x ∷ drop (suc i) ps) (sym e) in
-    let all : keep_identifiers (p ∷ drop (suc i) ps) ≡ true = subst (λ (xs : List Pair). keep_identifiers xs ≡ true) d k in
-    keeps_here (base_name p.name) name (and_first (not (is_misnamed p)) (keep_identifiers (drop (suc i) ps)) all) n
+    let all : have_identifiers (p ∷ drop (suc i) ps) ≡ true = subst (λ (xs : List Pair). have_identifiers xs ≡ true) d k in
+    keeps_here (base_name p.name) name (and_first (not (is_misnamed p)) (have_identifiers (drop (suc i) ps)) all) n
 
 ---- names that leave room for the prefix
 
@@ -251,7 +251,7 @@ committed-state allowed ps m f h =
     ap is_committed (sym s)
 
 -- a committed record's names leave room for the prefix
-pub taken-short : (r : Record) → is_taken r ≡ true → is_in Committed r.columns ≡ true → are_short r.columns ≡ true
+pub taken-short : (r : Record) → is_transactional r ≡ true → is_in Committed r.columns ≡ true → are_short r.columns ≡ true
 taken-short r h k =
     let ps = r.columns in
     let y = ok-of (checked ps) (and_second (are_stored ps) (is_ok (checked ps)) h) in

@@ -28,7 +28,7 @@ use Rattle.sdb_record.specs.declared.coordinator.Decision.TheVariants as decisio
 use Rattle.sdb_record.specs.declared.coordinator.Decided.{Decided}
 use Rattle.sdb_record.specs.Names.{tx_tombstone, tx_created_at}
 use Rattle.sdb_record.specs.Parts.{before_record, before_part, is_before_pair, are_stored, user_columns}
-use Rattle.sdb_record.specs.Meta.{checked, id_in, id_in_value, is_in, is_taken, is_unresolved, is_moment, moment_in_value, checked_before, checked_part, with_before, refuse, is_misnamed, is_committed}
+use Rattle.sdb_record.specs.Meta.{checked, id_in, id_in_value, is_in, is_transactional, is_unresolved, is_moment, moment_in_value, checked_before, checked_part, with_before, refuse, is_misnamed, is_committed}
 use Rattle.sdb_record.specs.Coordinator.{coordinator_key_of, coordinator_row_of, id_of_key, decision_in, decision_in_value, decision_number}
 use Rattle.sdb_record.specs.Rolls.{prepared_record, forward_record, forward_columns, back_of, back_to, image_of, image_under, row_of_image, row_of_change, new_columns, state_of_change, next_version, base_columns, IsWrite}
 use Rattle.sdb_record.proofs.IdLemmas.{id_of_text-id_text, id_of_text-is}
@@ -64,7 +64,7 @@ prepared-unsettled w id now = ap (λ o. has_value o (value.Int (pos 3))) (left-s
 
 pub prepared-unresolved : (w : Write) (id : TxId) (now : ℤ) → IsWrite w → id.0 < 2 ^ 128 → is_moment now ≡ true → is_unresolved (prepared_record w id now) ≡ true
 prepared-unresolved w id now h small moment =
-    and_both (is_taken (prepared_record w id now)) _ (left-taken w id now h small moment) (ap not (prepared-unsettled w id now))
+    and_both (is_transactional (prepared_record w id now)) _ (left-taken w id now h small moment) (ap not (prepared-unsettled w id now))
 
 pub prepared-back : (w : Write) (id : TxId) (now : ℤ) → IsWrite w → back_of (prepared_record w id now) ≡ back_to w.key w.base
 prepared-back w id now h = ap (λ k. back_to k (before_record (prepared_record w id now))) (prepared-key w id now) ∙ ap (back_to w.key) (prepared-base w id now h)
@@ -107,7 +107,7 @@ image-settled r d h = ap (λ b. cond b (Some r) (image_under r d)) h
 -- an image is a transactional record in state 3, of the same key
 pub record IsImage (r image : Record) : Type 0 where
   pub key : image.key ≡ r.key
-  pub taken : is_taken image ≡ true
+  pub taken : is_transactional image ≡ true
   pub committed : is_in Committed image.columns ≡ true
 
 kept-image : (r b : Record) → is_unresolved r ≡ true → before_record r ≡ Some b → IsImage r b
@@ -129,11 +129,11 @@ under r i (Some d) h m k =
       | decision.Aborted ↦ λ q. kept-image r i h q
     ] k
 
-pub image-is : (r i : Record) (d : Option Decided) → is_taken r ≡ true → has_moment d → image_of r d ≡ Some i → IsImage r i
+pub image-is : (r i : Record) (d : Option Decided) → is_transactional r ≡ true → has_moment d → image_of r d ≡ Some i → IsImage r i
 image-is r i d h m k =
     elim (is_in Committed r.columns) as (λ b. is_in Committed r.columns ≡ b → IsImage r i) [
       | true ↦ λ q. let e : Some r ≡ Some i = sym (image-settled r d q) ∙ k in let same : r ≡ i = cc in subst (IsImage r) same (record { key = refl; taken = h; committed = q })
-      | false ↦ λ q. under r i d (and_both (is_taken r) _ h (ap not q)) m (sym (image-open r d q) ∙ k)
+      | false ↦ λ q. under r i d (and_both (is_transactional r) _ h (ap not q)) m (sym (image-open r d q) ∙ k)
     ] refl
 
 ---- versions

@@ -23,9 +23,9 @@ use Rattle.sdb_types.proofs.ColumnLemmas.{with_column-are_columns}
 use Rattle.sdb_record.specs.declared.meta.Meta.{Meta}
 use Rattle.sdb_record.specs.Names.{tx_version, tx_prepared_at, tx_committed_at, tx_tombstone, same_name, is_user, is_before, is_meta, base_name}
 use Rattle.sdb_record.specs.Parts.{with_columns, own_columns, user_columns, is_before_pair, is_user_pair, are_stored, before_part, before_record, record_with}
-use Rattle.sdb_record.specs.Meta.{id_in, id_in_value, state_in_value, version_in_value, moment_in_value, is_moment, is_in, is_committed, is_deleted, is_stray, any_state, checked, checked_before, is_taken, is_unresolved, present, tombstone_in_value, refuse, is_misnamed, with_before, checked_part, keep_identifiers}
+use Rattle.sdb_record.specs.Meta.{id_in, id_in_value, state_in_value, version_in_value, moment_in_value, is_moment, is_in, is_committed, is_deleted, is_stray, any_state, checked, checked_before, is_transactional, is_unresolved, present, tombstone_in_value, refuse, is_misnamed, with_before, checked_part, have_identifiers}
 use Rattle.sdb_record.specs.Rolls.{forward_columns, forward_record, tombstone_mark}
-use Rattle.sdb_record.proofs.Fine.{Says, Fine, taken, ok-of, checked-fine, none-first, none-rest, taken-keep, keeps_here, fine, fine-any, refuse-ok}
+use Rattle.sdb_record.proofs.Fine.{Says, Fine, taken, ok-of, checked-valid, none-first, none-rest, taken-keep, keeps_here, valid, valid-any, refuse-ok}
 use Rattle.sdb_record.proofs.States.{is_in-says, says-committed, says-deleted, no-tombstone, state_value}
 use Rattle.sdb_record.proofs.ColumnLaws.{not_before, are_columns-filter, are_columns-before_part}
 use Rattle.sdb_record.proofs.Settings.{column-put-same, column-put-other, none-put, none-filter, all-put, all-filter, filter-put, column-filter}
@@ -217,12 +217,12 @@ module _ (ps : List Pair) (m : Meta) (n : ℤ) (f : Fine any_state ps m) (unsett
       none-forward (is_stray Committed (is_in Deleted ps)) ps n (not_user-stray mark_pair _ not_user-meta.2) (not_user-stray (time_pair n) _ not_user-meta.1) (not_user-stray state_pair _ not_user-meta.0)
       (none-filter (is_stray Committed (is_in Deleted ps)) (λ p. not (is_before_pair p)) ps (ap (λ t. find t ps) (sym same-stray) ∙ f.strays))
 
-  pub forward-fine : Fine any_state (forward_columns ps n) (forward_meta m (is_in Deleted ps) n)
-  forward-fine = record { says = forward-says; strays = forward-strays; early = forward-before ps n }
+  pub forward-valid : Fine any_state (forward_columns ps n) (forward_meta m (is_in Deleted ps) n)
+  forward-valid = record { says = forward-says; strays = forward-strays; early = forward-before ps n }
 
   pub forward-checked : checked (forward_columns ps n) ≡ Ok (forward_meta m (is_in Deleted ps) n)
   forward-checked =
-      checked-fine (forward_columns ps n) (forward_meta m (is_in Deleted ps) n) (forward_meta m (is_in Deleted ps) n) forward-fine
+      checked-valid (forward_columns ps n) (forward_meta m (is_in Deleted ps) n) (forward_meta m (is_in Deleted ps) n) forward-valid
       (ap (λ b. cond b (refuse_before (forward_columns ps n) (forward_meta m (is_in Deleted ps) n)) (Ok (forward_meta m (is_in Deleted ps) n))) (any-none is_before_pair (forward_columns ps n) (forward-before ps n)))
 
 ---- an unresolved record
@@ -232,22 +232,22 @@ pub record Unresolved (ps : List Pair) : Type 0 where
   pub stored : are_stored ps ≡ true
   pub final : Meta
   pub meta : Meta
-  pub fine : Fine any_state ps meta
+  pub valid : Fine any_state ps meta
   pub ninth : checked_before ps meta ≡ Ok final
   pub unsettled : is_in Committed ps ≡ false
 
 pub unresolved : (r : Record) → is_unresolved r ≡ true → Unresolved r.columns
 unresolved r h =
-    let t = and_first (is_taken r) (not (is_in Committed r.columns)) h in
+    let t = and_first (is_transactional r) (not (is_in Committed r.columns)) h in
     let y = ok-of (checked r.columns) (and_second (are_stored r.columns) (is_ok (checked r.columns)) t) in
     let w = taken r.columns y.0 y.1 in
     record {
       stored = and_first (are_stored r.columns) (is_ok (checked r.columns)) t;
       final = y.0;
       meta = w.0;
-      fine = w.1;
+      valid = w.1;
       ninth = w.2;
-      unsettled = not-not (is_in Committed r.columns) (and_second (is_taken r) (not (is_in Committed r.columns)) h);
+      unsettled = not-not (is_in Committed r.columns) (and_second (is_transactional r) (not (is_in Committed r.columns)) h);
     }
 
 pub has_int : (o : Option Value) (n : ℤ) → o ≡ Some (value.Int n) → has_value o (value.Int n) ≡ true
@@ -256,11 +256,11 @@ has_int o n h = ap (λ x. has_value x (value.Int n)) h ∙ ap is_eq (tied_itself
 pub forward-in : (ps : List Pair) (n : ℤ) → is_in Committed (forward_columns ps n) ≡ true
 forward-in ps n = has_int (column (forward_columns ps n) tx_state) (pos 3) (forward-state ps n)
 
-pub forward-taken : (r : Record) (n : ℤ) → is_unresolved r ≡ true → is_moment n ≡ true → is_taken (forward_record r n) ≡ true
+pub forward-taken : (r : Record) (n : ℤ) → is_unresolved r ≡ true → is_moment n ≡ true → is_transactional (forward_record r n) ≡ true
 unfolding forward_record
 forward-taken r n h k =
     let u = unresolved r h in
-    and_both (are_stored (forward_columns r.columns n)) _ (forward-stored r.columns n u.stored) (ap is_ok (forward-checked r.columns u.meta n u.fine u.unsettled k))
+    and_both (are_stored (forward_columns r.columns n)) _ (forward-stored r.columns n u.stored) (ap is_ok (forward-checked r.columns u.meta n u.valid u.unsettled k))
 
 pub forward-committed : (r : Record) (n : ℤ) → is_in Committed (forward_record r n).columns ≡ true
 unfolding forward_record
@@ -302,14 +302,14 @@ with_before-ok : (m : Meta) (r : Result Meta (List ℕ)) (y : Meta) → with_bef
 with_before-ok m (Ok b) y h = (b, refl)
 with_before-ok m (Err name) y h = absurd (cc)
 
-names-before_part : (ps : List Pair) → list_all (λ (p : Pair). is_name p.name) ps ≡ true → keep_identifiers ps ≡ true → list_all (λ (p : Pair). is_name p.name) (before_part ps) ≡ true
+names-before_part : (ps : List Pair) → list_all (λ (p : Pair). is_name p.name) ps ≡ true → have_identifiers ps ≡ true → list_all (λ (p : Pair). is_name p.name) (before_part ps) ≡ true
 names-before_part [] h k = refl
 names-before_part (p ∷ ps) h k =
-    let rest = names-before_part ps (and_second (is_name p.name) (list_all (λ (x : Pair). is_name x.name) ps) h) (and_second (not (is_misnamed p)) (keep_identifiers ps) k) in
+    let rest = names-before_part ps (and_second (is_name p.name) (list_all (λ (x : Pair). is_name x.name) ps) h) (and_second (not (is_misnamed p)) (have_identifiers ps) k) in
     elim (base_name p.name) as (λ o. base_name p.name ≡ o → list_all (λ (x : Pair). is_name x.name) (before_part (p ∷ ps)) ≡ true) [
       | None ↦ λ q. simp q rest
       | Some n ↦ λ q.
-          let i = keeps_here (base_name p.name) n (and_first (not (is_misnamed p)) (keep_identifiers ps) k) q in
+          let i = keeps_here (base_name p.name) n (and_first (not (is_misnamed p)) (have_identifiers ps) k) q in
           simp q (and_both (is_name n) _ (kept-is_name p.name n (and_first (is_name p.name) (list_all (λ (x : Pair). is_name x.name) ps) h) q i) rest)
     ] refl
 
@@ -331,7 +331,7 @@ part-kept ps m s f =
     let none : find is_before_pair ps ≡ None = ap (λ t. find (λ p. t && is_before_pair p) ps) (sym f.says.is_allowed) ∙ f.early in
     record {
       stored = s;
-      passes = ap is_ok (checked-fine ps m m (fine-any ps m f) (ap (λ b. cond b (refuse_before ps m) (Ok m)) (any-none is_before_pair ps none)));
+      passes = ap is_ok (checked-valid ps m m (valid-any ps m f) (ap (λ b. cond b (refuse_before ps m) (Ok m)) (any-none is_before_pair ps none)));
       committed = has_int (column ps tx_state) (pos 3) (state_value (column ps tx_state) Committed (f.says.state ∙ ap Some c));
     }
 
@@ -341,7 +341,7 @@ before-kept r b h k =
     let ps = r.columns in
     let u = unresolved r h in
     let w = record_with-key r.key (before_part ps) b k in
-    let keeps = taken-keep r (and_first (is_taken r) (not (is_in Committed ps)) h) in
+    let keeps = taken-keep r (and_first (is_transactional r) (not (is_in Committed ps)) h) in
     let order = are_columns-before_part ps (and_first (are_columns ps) (list_all (λ (p : Pair). is_name p.name) ps) u.stored) in
     let names = names-before_part ps (and_second (are_columns ps) (list_all (λ (p : Pair). is_name p.name) ps) u.stored) keeps in
     let stored : are_stored (before_part ps) ≡ true = and_both (are_columns (before_part ps)) _ order names in
@@ -350,7 +350,7 @@ before-kept r b h k =
       | true ↦ λ q e.
           let a = refuse-ok (find is_misnamed ps) (with_before u.meta (checked_part is_committed (before_part ps))) u.final e in
           let c = with_before-ok u.meta (checked_part is_committed (before_part ps)) u.final a.1 in
-          part-kept (before_part ps) c.0 stored (fine is_committed (before_part ps) c.0 c.1)
+          part-kept (before_part ps) c.0 stored (valid is_committed (before_part ps) c.0 c.1)
       | false ↦ λ q e. let none = before_part-any ps q in let some : record_with r.key (before_part ps) ≡ None = ap (record_with r.key) none in absurd (cc)
     ] refl u.ninth in
     (w.0, subst Kept (sym w.1) part)

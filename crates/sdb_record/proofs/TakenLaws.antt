@@ -25,14 +25,14 @@ use Rattle.sdb_record.specs.declared.write.Change.TheVariants as change
 use Rattle.sdb_record.specs.declared.write.Write.{Write}
 use Rattle.sdb_record.specs.Names.{tx_version, tx_prepared_at, tx_committed_at, tx_tombstone, before_name, is_user, is_before, is_meta, base_name}
 use Rattle.sdb_record.specs.Parts.{with_columns, before_pair, is_before_pair, is_user_pair, is_column_name, are_stored, are_short, are_user_columns, before_part, before_record, record_with}
-use Rattle.sdb_record.specs.Meta.{checked, checked_part, checked_before, meta_in, is_taken, is_moment, id_in_value, state_in_value, version_in_value, moment_in_value, absent, tombstone_in_value, is_committed, is_deleted, is_stray, is_early, committed_at_in, tombstone_in, present, is_misnamed, kept_badly, any_state, with_before, refuse}
+use Rattle.sdb_record.specs.Meta.{checked, checked_part, checked_before, meta_in, is_transactional, is_moment, id_in_value, state_in_value, version_in_value, moment_in_value, absent, tombstone_in_value, is_committed, is_deleted, is_stray, is_early, committed_at_in, tombstone_in, present, is_misnamed, is_badly_named, any_state, with_before, refuse}
 use Rattle.sdb_record.specs.Rolls.{prepared_record, base_columns, new_columns, state_of_change, next_version, next_version_of, IsBaseOf, IsWrite, is_change}
 use Rattle.sdb_record.proofs.NameLemmas.{before-is_name, base_name-before_name}
 use Rattle.sdb_record.proofs.PreparedLaws.{base-short}
 use Rattle.sdb_record.proofs.IdLemmas.{id_of_text-id_text}
 use Rattle.sdb_record.proofs.ColumnLaws.{not_before, columns-full, columns-rest}
 use Rattle.sdb_record.proofs.Settings.{none-with_columns, misses, all-with_columns, has_both, no_before}
-use Rattle.sdb_record.proofs.Fine.{Says, Fine, taken, fine-committed, checked-fine, checked_part-fine, committed-state, ok-of, none-make}
+use Rattle.sdb_record.proofs.Fine.{Says, Fine, taken, valid-committed, checked-valid, checked_part-valid, committed-state, ok-of, none-make}
 use Rattle.sdb_record.proofs.RollLaws.{any-none, before_part-any, refuse_before}
 use Rattle.sdb_record.proofs.WriteLaws.{Fitting, fitting, with_base, base-kept, no-column, marked, marked-id, marked-state, marked-version, marked-time, marked-other, marked-before, marked-in-order, all-user, kept-user}
 use Rattle.sdb_types.proofs.Basics.{longer as wider, and_false as and-no}
@@ -226,14 +226,14 @@ base-well : (ps : List Pair) → are_columns ps ≡ true → list_all (λ (p : P
 base-well [] c h = refl
 base-well (p ∷ ps) c h =
     let named = and_first (is_name p.name) (list_all (λ (x : Pair). is_name x.name) ps) h in
-    let kept : is_misnamed (before_pair p) ≡ false = ap kept_badly (base_name-before_name p.name) ∙ ap not (and_second (nat_le (length p.name) 71) (is_identifier p.name) named) in
+    let kept : is_misnamed (before_pair p) ≡ false = ap is_badly_named (base_name-before_name p.name) ∙ ap not (and_second (nat_le (length p.name) 71) (is_identifier p.name) named) in
     and_both (misses is_misnamed (before_pair p)) _ (and_both (not (is_null p.value)) _ (columns-full p ps c) (ap not kept)) (base-well ps (columns-rest p ps c) (and_second (is_name p.name) (list_all (λ (x : Pair). is_name x.name) ps) h))
 
 row-well : (ps : List Pair) → list_all is_user_pair ps ≡ true → find is_misnamed ps ≡ None
 row-well [] h = refl
 row-well (p ∷ ps) h =
     let user = and_first (is_user_pair p) (list_all is_user_pair ps) h in
-    none-make is_misnamed p ps (ap kept_badly (no_before p.name (and_second (not (is_meta p.name)) (not_before p.name) user))) (row-well ps (and_second (is_user_pair p) (list_all is_user_pair ps) h))
+    none-make is_misnamed p ps (ap is_badly_named (no_before p.name (and_second (not (is_meta p.name)) (not_before p.name) user))) (row-well ps (and_second (is_user_pair p) (list_all is_user_pair ps) h))
 
 row-no-before : (ps : List Pair) → list_all is_user_pair ps ≡ true → find is_before_pair ps ≡ None
 row-no-before [] h = refl
@@ -268,8 +268,8 @@ module _ (w : Write) (id : TxId) (now : ℤ) (h : IsWrite w) (small : id.0 < 2 ^
       none-with_columns (is_stray st false) marks (with_base new old) (marks-no-stray id st (next_version w.base) now)
       (none-with_columns (is_stray st false) (map before_pair old) new (misses-base (is_stray st false) old fit.base_columns (λ p. ap (λ b. b && ((is_deleted st || false) || nat_lt 64 (length (before_name p.name)))) (kept-user p.name))) (no-stray-row w.change h.change))
 
-  pub left-fine : Fine any_state (left_columns w id now) (left_meta w id now)
-  left-fine = record { says = left-says w id now h small moment; strays = left-strays; early = none-early st (left_columns w id now) (open-left w.change) }
+  pub left-valid : Fine any_state (left_columns w id now) (left_meta w id now)
+  left-valid = record { says = left-says w id now h small moment; strays = left-strays; early = none-early st (left_columns w id now) (open-left w.change) }
 
   left-well : find is_misnamed (left_columns w id now) ≡ None
   left-well =
@@ -292,7 +292,7 @@ module _ (w : Write) (id : TxId) (now : ℤ) (h : IsWrite w) (small : id.0 < 2 ^
       let of : IsBaseOf w.key b = subst (λ (o : Option Record). IfSome o (IsBaseOf w.key)) e h.base in
       let y = ok-of (checked b.columns) (base-passes w.key b of) in
       let t = taken b.columns y.0 y.1 in
-      let part : checked_part is_committed b.columns ≡ Ok t.0 = checked_part-fine is_committed b.columns t.0 (fine-committed b.columns t.0 t.1 (committed-state any_state b.columns t.0 t.1 of.2)) in
+      let part : checked_part is_committed b.columns ≡ Ok t.0 = checked_part-valid is_committed b.columns t.0 (valid-committed b.columns t.0 t.1 (committed-state any_state b.columns t.0 t.1 of.2)) in
       let same : before_part (left_columns w id now) ≡ b.columns = left-before w id now h ∙ ap base_columns e in
       let here : list_any is_before_pair (left_columns w id now) ≡ true =
       elim (list_any is_before_pair (left_columns w id now)) as (λ x. list_any is_before_pair (left_columns w id now) ≡ x → x ≡ true) [
@@ -309,8 +309,8 @@ module _ (w : Write) (id : TxId) (now : ℤ) (h : IsWrite w) (small : id.0 < 2 ^
 
   pub left-checked : checked (left_columns w id now) ≡ Ok (record (left_meta w id now) { has_before = is_some w.base })
   left-checked =
-      checked-fine (left_columns w id now) (left_meta w id now) (record (left_meta w id now) { has_before = is_some w.base }) left-fine (left-ninth w.base refl)
+      checked-valid (left_columns w id now) (left_meta w id now) (record (left_meta w id now) { has_before = is_some w.base }) left-valid (left-ninth w.base refl)
 
-  pub left-taken : is_taken (prepared_record w id now) ≡ true
+  pub left-taken : is_transactional (prepared_record w id now) ≡ true
   unfolding prepared_record
   left-taken = and_both (are_stored (left_columns w id now)) _ left-stored (ap is_ok left-checked)

@@ -150,17 +150,17 @@ checked_columns ps meta =
 abbrev pub checked_part : (State → Bool) → List Pair → Result Meta (List ℕ)
 checked_part allowed ps = then_check (meta_in allowed ps) (checked_columns ps)
 
-abbrev pub kept_badly : Option (List ℕ) → Bool
-kept_badly None = false
-kept_badly (Some name) = not (is_identifier name)
+abbrev pub is_badly_named : Option (List ℕ) → Bool
+is_badly_named None = false
+is_badly_named (Some name) = not (is_identifier name)
 
 -- a column of a before image whose name keeps no identifier
 abbrev pub is_misnamed : Pair → Bool
-is_misnamed p = kept_badly (base_name p.name)
+is_misnamed p = is_badly_named (base_name p.name)
 
 -- whether each column of a before image keeps an identifier
-abbrev pub keep_identifiers : List Pair → Bool
-keep_identifiers ps = list_all (λ p. not (is_misnamed p)) ps
+abbrev pub have_identifiers : List Pair → Bool
+have_identifiers ps = list_all (λ p. not (is_misnamed p)) ps
 
 -- a before image keeps a committed record; a column of it that fails is named as it is kept
 abbrev pub with_before : Meta → Result Meta (List ℕ) → Result Meta (List ℕ)
@@ -190,9 +190,9 @@ unfoldable pub checked : List Pair → Result Meta (List ℕ)
 checked ps = then_check (checked_part any_state ps) (checked_before ps)
 
 -- A transactional record: columns as a record holds them, which pass the checks.
-abbrev pub is_taken : Record → Bool
-is_taken r = are_stored r.columns && is_ok (checked r.columns)
+abbrev pub is_transactional : Record → Bool
+is_transactional r = are_stored r.columns && is_ok (checked r.columns)
 
 -- a transactional record in state 1 or 2
 abbrev pub is_unresolved : Record → Bool
-is_unresolved r = is_taken r && not (is_in Committed r.columns)
+is_unresolved r = is_transactional r && not (is_in Committed r.columns)

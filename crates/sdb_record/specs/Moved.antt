@@ -26,8 +26,8 @@ condition_of (Some id) = condition.Version id state.Committed
 
 -- What is found at a key is no longer what was read there: with a version, it is not that transaction's record in
 -- state 3; with none, there is a record.
-abbrev pub Moved : Option Record → Option TxId → Type 0
-Moved found version = holds (condition_of version) found ≡ false
+abbrev pub IsChanged : Option Record → Option TxId → Type 0
+IsChanged found version = holds (condition_of version) found ≡ false
 
 abbrev pub is_unchanged : Option Record → Option TxId → Bool
 is_unchanged found version = holds (condition_of version) found

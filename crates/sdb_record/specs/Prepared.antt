@@ -7,7 +7,7 @@ use Rattle.sdb_record.specs.declared.coordinator.Decision.{Decision}
 use Rattle.sdb_record.specs.declared.meta.Meta.{Meta}
 use Rattle.sdb_record.specs.declared.write.Write.{Write}
 use Rattle.sdb_record.specs.Coordinator.{coordinator_row_of}
-use Rattle.sdb_record.specs.Meta.{is_moment, is_taken}
+use Rattle.sdb_record.specs.Meta.{is_moment, is_transactional}
 use Rattle.sdb_record.specs.Rolls.{IsWrite, forward_record, image_of, next_version, prepared_record, state_of_change}
 
 ---- prepared
@@ -40,11 +40,11 @@ forwarded p created_at = forward_record (record_put p) created_at
 ---- images
 
 -- A transactional record, the decision on its transaction if there is one, and the record's image under it.
-pub record TakenImage : Type 0 where
+pub record TransactionalImage : Type 0 where
   pub found : Record
   pub image : Record
   pub decided : Option Decided
-  pub taken : is_taken found ≡ true
+  pub taken : is_transactional found ≡ true
   pub moment : IfSome decided (λ d. is_moment d.created_at ≡ true)
   pub is_image : image_of found decided ≡ Some image
 

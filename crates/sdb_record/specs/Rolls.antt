@@ -21,7 +21,7 @@ use Rattle.sdb_record.specs.declared.coordinator.Decision.TheVariants as decisio
 use Rattle.sdb_record.specs.declared.coordinator.Decided.{Decided}
 use Rattle.sdb_record.specs.Names.{tx_version, tx_prepared_at, tx_committed_at, tx_tombstone}
 use Rattle.sdb_record.specs.Parts.{with_columns, before_pair, own_columns, user_columns, are_user_columns, before_record}
-use Rattle.sdb_record.specs.Meta.{is_in, is_taken, id_in}
+use Rattle.sdb_record.specs.Meta.{is_in, is_transactional, id_in}
 use Rattle.std.specs.List.{AllByRecursion}
 use Rattle.std.specs.Option.{option_map}
 use Rattle.sdb_types.specs.declared.record.Request.{Request}
@@ -74,7 +74,7 @@ prepared_record w id now =
 
 -- A base is a committed record of the key.
 abbrev pub IsBaseOf : Key → Record → Type 0
-IsBaseOf key base = (base.key ≡ key) × (is_taken base ≡ true) × (is_in state.Committed base.columns ≡ true)
+IsBaseOf key base = (base.key ≡ key) × (is_transactional base ≡ true) × (is_in state.Committed base.columns ≡ true)
 
 -- each is a committed record
 abbrev pub AreCommitted : List Record → Type 0

@@ -10,10 +10,10 @@ ghost use Rattle.sdb_record.specs.declared.coordinator.Decision.{Decision};
 ghost use Rattle.sdb_record.specs.declared.coordinator.Decision.TheVariants as decision;
 ghost use Rattle.sdb_record.specs.declared.meta.Meta.{Meta};
 ghost use Rattle.sdb_record.specs.Parts.{before_record};
-ghost use Rattle.sdb_record.specs.Meta.{checked, id_in, is_in, is_moment, is_taken, is_unresolved};
+ghost use Rattle.sdb_record.specs.Meta.{checked, id_in, is_in, is_moment, is_transactional, is_unresolved};
 ghost use Rattle.sdb_record.specs.Coordinator.{coordinator_key_of, coordinator_row_of, decision_in, id_of_key};
 ghost use Rattle.sdb_record.specs.Rolls.{IsWrite, state_of_change, forward_record, back_of, back_to, image_of, row_of_image, row_of_change};
-ghost use Rattle.sdb_record.specs.Prepared.{DecisionMade, IsPreparable, PreparedWrite, TakenImage, decided_at, forwarded, meta_put, record_put, row_made};
+ghost use Rattle.sdb_record.specs.Prepared.{DecisionMade, IsPreparable, PreparedWrite, TransactionalImage, decided_at, forwarded, meta_put, record_put, row_made};
 
 /// What a transaction puts for a write is a transactional record of that key, unresolved and of that transaction.
 pub fn prepared_is_unresolved()
@@ -47,15 +47,15 @@ pub fn forward_is_committed()
     ensures key { (r : Record) (created_at : ℤ) → (forward_record r created_at).key ≡ r.key }
     ensures writer { (r : Record) (created_at : ℤ) → id_in (forward_record r created_at).columns ≡ id_in r.columns }
     ensures committed { (r : Record) (created_at : ℤ) → is_in Committed (forward_record r created_at).columns ≡ true }
-    ensures taken { (r : Record) (created_at : ℤ) → is_unresolved r ≡ true → is_moment created_at ≡ true → is_taken (forward_record r created_at) ≡ true }
+    ensures taken { (r : Record) (created_at : ℤ) → is_unresolved r ≡ true → is_moment created_at ≡ true → is_transactional (forward_record r created_at) ≡ true }
 {}
 
 /// The image of a transactional record is a committed record of its key. A committed record is its own.
 pub fn image_is_committed()
     ensures itself { (r : Record) (d : Option Decided) → is_in Committed r.columns ≡ true → image_of r d ≡ Some r }
-    ensures key { (i : TakenImage) → i.image.key ≡ i.found.key }
-    ensures taken { (i : TakenImage) → is_taken i.image ≡ true }
-    ensures committed { (i : TakenImage) → is_in Committed i.image.columns ≡ true }
+    ensures key { (i : TransactionalImage) → i.image.key ≡ i.found.key }
+    ensures taken { (i : TransactionalImage) → is_transactional i.image ≡ true }
+    ensures committed { (i : TransactionalImage) → is_in Committed i.image.columns ≡ true }
 {}
 
 /// A record is the version that its metadata says, and a version names the writer.

@@ -8,11 +8,13 @@ ghost use Rattle.sdb_record.specs.Names.{base_name};
 ghost use Rattle.sdb_record.specs.Parts.{is_before_pair, are_stored};
 ghost use Rattle.sdb_record.specs.Refused.{Refuses, IfBad};
 ghost use Rattle.sdb_record.specs.Ids.{id_of_text};
-ghost use Rattle.sdb_record.specs.Meta.{id_in_value, state_in_value, version_in_value, moment_in_value, tombstone_in_value, only_if, committed_at_by, is_committed, is_deleted, kept_badly, is_misnamed, checked, checked_before, is_taken, is_in};
+ghost use Rattle.sdb_record.specs.Meta.{id_in_value, state_in_value, version_in_value, moment_in_value, tombstone_in_value, only_if, committed_at_by, is_committed, is_deleted, is_badly_named, is_misnamed, checked, checked_before, is_transactional, is_in};
 ghost use Rattle.sdb_types.specs.declared.record.State.TheVariants.{Committed};
 ghost use Rattle.sdb_record.specs.Inside.{allows, meta_within, checked_within, first_of_part, is_stray_name, is_early_name, passes_name, name_within};
 
-use crate::part::{MetaColumn, Part, is_before_name, is_user_name, kept_name, value_within};
+use crate::part::{
+    MetaColumn, Part, before_image_name, is_before_name, is_user_name, value_within,
+};
 use sdb_types::{
     Columns, Name, NameRefused, NoMemory, Record, State, TxId, Txt, Value, is_identifier_text,
 };
@@ -197,9 +199,9 @@ fn committed_at_of(state: State, value: Option<&Value>) -> Option<Option<i64>>
 }
 
 fn is_misnamed_column(name: &str) -> bool
-    ensures { result ≡ kept_badly (base_name name.now) }
+    ensures { result ≡ is_badly_named (base_name name.now) }
 {
-    match kept_name(name) {
+    match before_image_name(name) {
         Some(name) => !is_identifier_text(name.as_bytes()),
         None => false,
     }
@@ -338,7 +340,7 @@ fn are_stored(columns: &Columns)
 pub fn meta_of(alloc: Global, rec: &Record) -> Result<Meta, MetaRefused>
     ensures ok { IfOk result (λ meta. checked rec.now.columns ≡ Ok meta) }
     ensures refused { IfErr result (Refuses (checked rec.now.columns)) }
-    ensures taken { OnOk result (is_taken rec.now ≡ true) }
+    ensures taken { OnOk result (is_transactional rec.now ≡ true) }
     ensures state { IfOk result (λ meta. is_in Committed rec.now.columns ≡ is_committed meta.state) }
 {
     are_stored(&rec.columns);

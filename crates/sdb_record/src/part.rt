@@ -91,7 +91,7 @@ fn is_meta_name(name: &str) -> bool
 }
 
 /// What follows the prefix in the name of a column of a before image.
-pub fn kept_name(name: &str) -> Option<&str>
+pub fn before_image_name(name: &str) -> Option<&str>
     ensures { option_copied result ≡ base_name name.now }
 {
     name.strip_prefix("before_")
@@ -100,7 +100,7 @@ pub fn kept_name(name: &str) -> Option<&str>
 pub fn is_before_name(name: &str) -> bool
     ensures { result ≡ is_before name.now }
 {
-    kept_name(name).is_some()
+    before_image_name(name).is_some()
 }
 
 pub fn is_user_name(name: &str) -> bool
@@ -120,7 +120,7 @@ impl Part {
     {
         match self {
             Part::Own => Some(name),
-            Part::Before => kept_name(name),
+            Part::Before => before_image_name(name),
         }
     }
 }

@@ -3,13 +3,13 @@ ghost use Rattle.std.specs.Prelude.{◌≡◌, ◌≤◌, ◌++◌, [], ◌∷�
 ghost use Rattle.std.specs.Option.{option_copied};
 ghost use Rattle.sdb_types.specs.Columns.{are_columns};
 ghost use Rattle.sdb_record.specs.Names.{before_name};
-ghost use Rattle.sdb_record.specs.Meta.{keep_identifiers, is_in, is_unresolved, is_taken};
+ghost use Rattle.sdb_record.specs.Meta.{have_identifiers, is_in, is_unresolved, is_transactional};
 ghost use Rattle.sdb_record.specs.Parts.{with_columns, before_pair, own_columns, before_part, before_record, are_user_columns, are_short};
 ghost use Rattle.sdb_record.specs.Rolls.{prepared_record, forward_record, forward_columns, back_of, image_of, next_version, next_version_of, new_columns, new_meta, writer_columns, age_columns, base_columns, is_tombstone as is_tombstone_lem, state_of_change, IsWrite};
 ghost use Rattle.sdb_types.specs.Identifier.{is_name};
 
 use crate::coordinator::{Decided, Decision};
-use crate::part::{Part, is_before_name, kept_name, meta_column};
+use crate::part::{Part, before_image_name, is_before_name, meta_column};
 use crate::write::{Change, Write};
 use sdb_types::{
     Columns, Duplicate, Key, Known, Name, NoMemory, Pair, Record, State, TxId, Value, value_named,
@@ -68,11 +68,11 @@ fn unkept(alloc: Global, text: &str) -> Result<Name, NoMemory>
 
 // Sets each column of the base that is kept.
 fn lay_base(alloc: Global, columns: &mut Columns, pairs: &[Pair]) -> Result<(), NoMemory>
-    requires { keep_identifiers pairs.now ≡ true }
+    requires { have_identifiers pairs.now ≡ true }
     ensures { OnOk result (columns.new ≡ with_columns (before_part pairs.now) columns.old) }
 {
     for pair in pairs {
-        if let Some(name) = kept_name(pair.name.as_str()) {
+        if let Some(name) = before_image_name(pair.name.as_str()) {
             columns.set(unkept(alloc, name)?, pair.value.copy()?)?;
         }
     }
@@ -91,7 +91,7 @@ fn own_part(alloc: Global, columns: &Columns) -> Result<Columns, NoMemory>
 
 // The columns of the base that are kept.
 fn base_part(alloc: Global, columns: &Columns) -> Result<Columns, NoMemory>
-    requires { keep_identifiers columns.now ≡ true }
+    requires { have_identifiers columns.now ≡ true }
     ensures { IfOk result (λ base. base ≡ before_part columns.now) }
 {
     let _length = columns.len();
@@ -285,7 +285,7 @@ pub fn rolled_forward(alloc: Global, rec: &Record, created_at: i64) -> Result<Re
 // The record that a before image keeps.
 #[tactic(auto, unfolding(crate::specs::Parts::before_record))]
 fn kept_record(alloc: Global, rec: &Record) -> Result<Option<Record>, NoMemory>
-    requires { keep_identifiers rec.now.columns ≡ true }
+    requires { have_identifiers rec.now.columns ≡ true }
     ensures { IfOk result (λ base. base ≡ before_record rec.now) }
 {
     let columns = base_part(alloc, &rec.columns)?;
@@ -316,7 +316,7 @@ pub fn committed_image(
     rec: &Record,
     decided: Option<&Decided>,
 ) -> Result<Option<Record>, NoMemory>
-    requires { is_taken rec.now ≡ true }
+    requires { is_transactional rec.now ≡ true }
     ensures { IfOk result (λ image. image ≡ image_of rec.now (option_copied decided.entry)) }
 {
     if has_state(&rec.columns, State::Committed) {

@@ -9,7 +9,7 @@ use Rattle.std.proofs.lemmas.Slice.Eq.{bytes_eq-Decides}
 use Rattle.sdb_types.specs.Order.{table_text}
 use Rattle.sdb_types.specs.TxId.{id_text}
 use Rattle.sdb_types.specs.declared.key.TableName.{TableName}
-use Rattle.sdb_model.specs.Plain.{table_fits, is_one_line, IsPlainEvent, IsPlainPoint, IsPlainRow}
+use Rattle.sdb_model.specs.Plain.{table_is_plain, is_one_line, IsPlainEvent, IsPlainPoint, IsPlainRow}
 use Rattle.sdb_model.specs.Report.{event_text_of}
 use Rattle.sdb_model.specs.Texts.{row_text_of}
 use Rattle.sdb_model.specs.declared.event.Point.{Point}
@@ -115,7 +115,7 @@ abbrev pub headed_text : Headed → List ℕ
 headed_text t = codes "table " ++ table_text t.0 ++ codes " " ++ decimal t.1
 
 pub record IsNext (before : Option TableDump) (t : Headed) : Type 0 where
-  pub name : table_fits t.0
+  pub name : table_is_plain t.0
   pub count : IsCount t.1
   pub after : is_after before t.0 ≡ true
 

@@ -3,18 +3,18 @@ use Rattle.std.proofs.Common.{◌≡◌, ℕ, suc, ◌-◌, ◌+◌, ◌≤◌, 
 use Rattle.std.proofs.lemmas.List.{append-nil}
 use Rattle.sdb_codec.specs.declared.refused.Stopped.{Stopped}
 use Rattle.sdb_codec.specs.declared.refused.Stopped.TheVariants as stopped
-use Rattle.sdb_report.specs.Reading.{Placed, then_read, lines_at}
+use Rattle.sdb_report.specs.Reading.{Positioned, then_read, lines_at}
 use Rattle.sdb_codec.specs.Reading.{Stops}
 
 -- what was read before, and what is still read
-abbrev pub with_front : {X : Type 0} → List X → Placed (List X) → Placed (List X)
+abbrev pub with_front : {X : Type 0} → List X → Positioned (List X) → Positioned (List X)
 with_front front read = then_read read (λ x. Ok (front ++ x.0, x.1))
 
-regroup : {X : Type 0} (front : List X) (y : X) (read : Placed (List X)) → with_front front (then_read read (λ x. Ok (y ∷ x.0, x.1))) ≡ with_front (front ++ y ∷ []) read
+regroup : {X : Type 0} (front : List X) (y : X) (read : Positioned (List X)) → with_front front (then_read read (λ x. Ok (y ∷ x.0, x.1))) ≡ with_front (front ++ y ∷ []) read
 regroup {X} front y (Ok x) = ap (λ (ys : List X). Ok (ys, x.1)) (sym (append_assoc front (y ∷ []) x.0))
 regroup front y (Err f) = refl
 
-module _ {X : Type 0} (item_at : List X → List ℕ → Placed X) (front : List X) (count i : ℕ) (bytes : List ℕ) (total : Placed (List X)) where
+module _ {X : Type 0} (item_at : List X → List ℕ → Positioned X) (front : List X) (count i : ℕ) (bytes : List ℕ) (total : Positioned (List X)) where
   -- what a loop keeps
   abbrev pub Goes : Type 0
   Goes = with_front front (lines_at item_at front (count - i) bytes) ≡ total

@@ -16,7 +16,7 @@ use Rattle.sdb_model.specs.declared.event.Point.{Point}
 use Rattle.sdb_model.specs.declared.event.TableDump.{TableDump}
 use Rattle.sdb_reading.specs.Lines.{numbered_event_of, is_empty}
 use Rattle.sdb_reading.proofs.Lists.{Each, Each-all, Each-from_all}
-use Rattle.sdb_report.specs.Reading.{Placed, line_at, lines_at, fixed_of, heading_of, point_of, row_of, is_after, table_of, event_at, point_at, row_line_at, dump_at, part_at, title_at, end_at, events_at, order_at, tables_at, Places, places_at, outcome_of, parts_at, body_at, report_at, all_of, report_in}
+use Rattle.sdb_report.specs.Reading.{Positioned, line_at, lines_at, fixed_of, heading_of, point_of, row_of, is_after, table_of, event_at, point_at, row_line_at, dump_at, part_at, title_at, end_at, events_at, order_at, tables_at, Places, places_at, outcome_of, parts_at, body_at, report_at, all_of, report_in}
 use Rattle.sdb_report.proofs.Readers.{Reads, with_lf, line_reads, both_reads, texts, Items, items_read, read_as}
 use Rattle.sdb_report.proofs.Forms.{itself, IsWord, fixed_form, IsCount, heading_form, event_form, point_text, point_form, row_form, Headed, headed_text, IsNext, table_form}
 use Rattle.sdb_codec.specs.Reading.{last_of}
@@ -25,7 +25,7 @@ use Rattle.sdb_codec.proofs.FieldLaws.{ok_is}
 
 ---- a part
 
-module _ {X : Type 0} (word : List ℕ) (one : is_one_line word ≡ true) (item_at : List X → List ℕ → Placed X) (text : List X → X → List ℕ) (P : List X → X → Type 0)
+module _ {X : Type 0} (word : List ℕ) (one : is_one_line word ≡ true) (item_at : List X → List ℕ → Positioned X) (text : List X → X → List ℕ) (P : List X → X → Type 0)
     (each : (before : List X) → length before + 1 < 2 ^ 64 → Reads (item_at before) (text before) (P before)) where
   abbrev pub part_text : List X → List ℕ
   part_text xs = ((word ++ decimal (length xs)) ++ codes "\n") ++ texts text [] xs

@@ -7,17 +7,17 @@ use Rattle.sdb_model.specs.Plain.{is_one_line}
 use Rattle.sdb_reading.specs.Reading.{case_of}
 use Rattle.sdb_reading.proofs.WordLaws.{join, Says}
 use Rattle.sdb_reading.proofs.Lists.{Each}
-use Rattle.sdb_report.specs.Reading.{Placed, then_read, both, cut_line, line_at, lines_at}
+use Rattle.sdb_report.specs.Reading.{Positioned, then_read, both, cut_line, line_at, lines_at}
 use Rattle.sdb_report.proofs.Cuts.{cut_is, cut_again}
 use Rattle.sdb_types.proofs.Basics.{done}
 use Rattle.sdb_codec.proofs.FieldLaws.{ok_is}
 
-pub then_ok : {X Y : Type 0} (r : Placed X) (f : X × List ℕ → Placed Y) (y : Y × List ℕ) → then_read r f ≡ Ok y → (x : X × List ℕ) × (r ≡ Ok x) × (f x ≡ Ok y)
+pub then_ok : {X Y : Type 0} (r : Positioned X) (f : X × List ℕ → Positioned Y) (y : Y × List ℕ) → then_read r f ≡ Ok y → (x : X × List ℕ) × (r ≡ Ok x) × (f x ≡ Ok y)
 then_ok (Ok x) f y e = (x, refl, e)
 then_ok (Err left) f y e = absurd cc
 
 -- What is read is the text of a value that has P, and each such text is read.
-pub record Reads {X : Type 0} (read : List ℕ → Placed X) (text : X → List ℕ) (P : X → Type 0) : Type 0 where
+pub record Reads {X : Type 0} (read : List ℕ → Positioned X) (text : X → List ℕ) (P : X → Type 0) : Type 0 where
   pub sound : (bytes : List ℕ) (x : X × List ℕ) → read bytes ≡ Ok x → Says text P bytes x
   pub again : (x : X) (rest : List ℕ) → P x → read (text x ++ rest) ≡ Ok (x, rest)
 
@@ -59,7 +59,7 @@ pub record IsMade {X Y Z : Type 0} (make : X → Y → Z) (P : X → Type 0) (Q 
   pub has_first : P first
   pub has_second : Q first second
 
-module _ {X Y Z : Type 0} (first : List ℕ → Placed X) (second : X → List ℕ → Placed Y) (make : X → Y → Z) (text_one : X → List ℕ) (text_two : X → Y → List ℕ) (text : Z → List ℕ)
+module _ {X Y Z : Type 0} (first : List ℕ → Positioned X) (second : X → List ℕ → Positioned Y) (make : X → Y → Z) (text_one : X → List ℕ) (text_two : X → Y → List ℕ) (text : Z → List ℕ)
     (P : X → Type 0) (Q : X → Y → Type 0) (R : Z → Type 0)
     (same : (x : X) (y : Y) → P x → Q x y → text (make x y) ≡ text_one x ++ text_two x y) (joins : (x : X) (y : Y) → P x → Q x y → R (make x y)) (splits : (z : Z) → R z → IsMade make P Q z)
     (one : Reads first text_one P) (two : (x : X) → P x → Reads (second x) (text_two x) (Q x)) where
@@ -98,7 +98,7 @@ texts text before (x ∷ xs) = text before x ++ texts text (before ++ x ∷ []) 
 abbrev pub Items : {X : Type 0} → (List X → X → Type 0) → List X → ℕ → List X → Type 0
 Items P before n xs = (length xs ≡ n) × Each P before xs
 
-module _ {X : Type 0} (item_at : List X → List ℕ → Placed X) (text : List X → X → List ℕ) (P : List X → X → Type 0) (each : (before : List X) → length before + 1 < 2 ^ 64 → Reads (item_at before) (text before) (P before)) where
+module _ {X : Type 0} (item_at : List X → List ℕ → Positioned X) (text : List X → X → List ℕ) (P : List X → X → Type 0) (each : (before : List X) → length before + 1 < 2 ^ 64 → Reads (item_at before) (text before) (P before)) where
   pub items_read : (n : ℕ) (before : List X) → length before + n < 2 ^ 64 → Reads (lines_at item_at before n) (texts text before) (Items P before n)
   unfolding lines_at
   items_read zero before lt = record {
@@ -119,7 +119,7 @@ module _ {X : Type 0} (item_at : List X → List ℕ → Placed X) (text : List 
       some (x ∷ xs) p = record { first = x; second = xs; made = refl; has_first = p.1.0; has_second = (omega (arith, p.0), p.1.1) }
 
 -- the same under another text and another predicate
-pub read_as : {X : Type 0} (read : List ℕ → Placed X) (text other : X → List ℕ) (P Q : X → Type 0) → ((x : X) → text x ≡ other x) → ((x : X) → P x → Q x) → ((x : X) → Q x → P x) → Reads read text P → Reads read other Q
+pub read_as : {X : Type 0} (read : List ℕ → Positioned X) (text other : X → List ℕ) (P Q : X → Type 0) → ((x : X) → text x ≡ other x) → ((x : X) → P x → Q x) → ((x : X) → Q x → P x) → Reads read text P → Reads read other Q
 read_as read text other P Q same there back r = record {
   sound = λ bytes x h. let s = r.sound bytes x h in record { parts = s.parts ∙ ap (λ (t : List ℕ). t ++ x.1) (same x.0); fits = there x.0 s.fits };
   again = λ x rest q. ap (λ (t : List ℕ). read (t ++ rest)) (sym (same x)) ∙ r.again x rest (back x q);

@@ -8,13 +8,13 @@ use Rattle.std.proofs.lemmas.List.Concat.{flat_map-append}
 use Rattle.std.proofs.lemmas.List.Elements.{recursion_from_All}
 use Rattle.std.proofs.lemmas.Option.{same_Some}
 use Rattle.sdb_types.specs.Order.{table_text}
-use Rattle.sdb_model.specs.Plain.{is_counted, is_one_line, table_fits, IsPlainDump}
+use Rattle.sdb_model.specs.Plain.{is_counted, is_one_line, table_is_plain, IsPlainDump}
 use Rattle.sdb_model.specs.Report.{heading, row_line, table_lines, events_text_of, order_text_of, tables_text_of, report_text_of}
 use Rattle.sdb_model.specs.declared.event.Outcome.{Outcome}
 use Rattle.sdb_model.specs.declared.event.TableDump.{TableDump}
 use Rattle.sdb_reading.proofs.KeyLaws.{table_again}
 use Rattle.sdb_reading.proofs.Lists.{Each}
-use Rattle.sdb_report.specs.Reading.{Placed, then_read, cut_line, lines_at, fixed_of, heading_of, is_after, table_of, dump_at, tables_at, places_at, parts_at, body_at, report_at, all_of, report_in}
+use Rattle.sdb_report.specs.Reading.{Positioned, then_read, cut_line, lines_at, fixed_of, heading_of, is_after, table_of, dump_at, tables_at, places_at, parts_at, body_at, report_at, all_of, report_in}
 use Rattle.sdb_report.specs.Reports.{is_lf, Reads as ReadsAs, text_of_lines, IsLoose, Begins, IsFirstBad, IsRefusedAt}
 use Rattle.sdb_report.specs.declared.refused.ReportRefused.{ReportRefused}
 use Rattle.sdb_report.specs.declared.refused.ReportRefused.TheVariants as refused
@@ -59,7 +59,7 @@ fall_of before (d ∷ ds) h =
 
 ---- reading stops there
 
-table_none : (before : Option TableDump) (t : Headed) → table_fits t.0 → is_after before t.0 ≡ false → table_of before (headed_text t) ≡ None
+table_none : (before : Option TableDump) (t : Headed) → table_is_plain t.0 → is_after before t.0 ≡ false → table_of before (headed_text t) ≡ None
 unfolding table_of
 table_none before t fits low =
     ap (table_of before) (pieces_of (codes "table ") (table_text t.0) (codes " ") (decimal t.1)) ∙ rw (table_again t.0 (32 ∷ decimal t.1) fits refl, low) refl
@@ -128,8 +128,8 @@ module _ (o : Outcome) (loose : IsLoose o) (f : Falls [] o.tables) where
   report_falls =
       let start = (line_reads (fixed_of title) itself (IsWord title) (fixed_form title refl)).again title (parts_text o ++ codes "end\n") refl in
       ap report_at (sym (pieces (codes "scalardb report 1\n") (events_text_of o.events) (order_text_of o.order) (tables_text_of o.tables) (codes "end\n")))
-      ∙ ap (λ (r : Placed (List ℕ)). then_read r (λ w. then_read (body_at w.1) (λ (y : Outcome × List ℕ). done (y.0, y.1)))) start
-      ∙ ap (λ (r : Placed Outcome). then_read r (λ (y : Outcome × List ℕ). done (y.0, y.1))) body_falls
+      ∙ ap (λ (r : Positioned (List ℕ)). then_read r (λ w. then_read (body_at w.1) (λ (y : Outcome × List ℕ). done (y.0, y.1)))) start
+      ∙ ap (λ (r : Positioned Outcome). then_read r (λ (y : Outcome × List ℕ). done (y.0, y.1))) body_falls
 
   -- the text before what is hidden
   abbrev front : List ℕ

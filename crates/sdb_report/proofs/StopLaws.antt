@@ -9,7 +9,7 @@ use Rattle.std.proofs.lemmas.List.Elements.{All-from_recursion, recursion_from_A
 use Rattle.sdb_types.specs.Fits.{value_fits}
 use Rattle.sdb_types.specs.declared.value.Value.{Value}
 use Rattle.sdb_types.proofs.Bools.{and_first, and_second}
-use Rattle.sdb_model.specs.Plain.{is_counted, table_fits, is_no_lf, is_one_line, IsPlainEvent, IsPlainPoint, IsPlainRow, IsPlainDump, IsPlain}
+use Rattle.sdb_model.specs.Plain.{is_counted, table_is_plain, is_no_lf, is_one_line, IsPlainEvent, IsPlainPoint, IsPlainRow, IsPlainDump, IsPlain}
 use Rattle.sdb_model.specs.Report.{event_text_of, point_line, table_lines, events_text_of, order_text_of, tables_text_of, report_text_of}
 use Rattle.sdb_model.specs.Texts.{row_text_of}
 use Rattle.sdb_model.specs.declared.event.Event.{Event}
@@ -19,7 +19,7 @@ use Rattle.sdb_model.specs.declared.event.Point.{Point}
 use Rattle.sdb_model.specs.declared.event.TableDump.{TableDump}
 use Rattle.sdb_reading.specs.Lines.{numbered_event_of, is_empty}
 use Rattle.sdb_reading.proofs.Lists.{Each}
-use Rattle.sdb_report.specs.Reading.{Placed, cut_line, line_at, lines_at, fixed_of, heading_of, point_of, row_of, table_of, event_at, point_at, row_line_at, dump_at, part_at, title_at, end_at, events_at, order_at, tables_at, Places, places_at, outcome_of, parts_at, body_at, report_at, all_of, report_in}
+use Rattle.sdb_report.specs.Reading.{Positioned, cut_line, line_at, lines_at, fixed_of, heading_of, point_of, row_of, table_of, event_at, point_at, row_line_at, dump_at, part_at, title_at, end_at, events_at, order_at, tables_at, Places, places_at, outcome_of, parts_at, body_at, report_at, all_of, report_in}
 use Rattle.sdb_report.specs.Reports.{is_lf, text_of_lines, IsLoose, IsDead}
 use Rattle.sdb_report.proofs.Cuts.{cut_is, cut_again}
 use Rattle.sdb_report.proofs.Readers.{Reads, with_lf, line_reads, texts, Items}
@@ -32,7 +32,7 @@ use Rattle.sdb_codec.specs.Reading.{last_of}
 
 ---- a part
 
-module _ {X : Type 0} (word : List ℕ) (one : is_one_line word ≡ true) (item_at : List X → List ℕ → Placed X) (text : List X → X → List ℕ) (P L : List X → X → Type 0)
+module _ {X : Type 0} (word : List ℕ) (one : is_one_line word ≡ true) (item_at : List X → List ℕ → Positioned X) (text : List X → X → List ℕ) (P L : List X → X → Type 0)
     (each : (before : List X) → length before + 1 < 2 ^ 64 → Reads (item_at before) (text before) (P before))
     (ends : (before : List X) → length before + 1 < 2 ^ 64 → Stopping (item_at before) (text before) (P before) (L before)) where
   abbrev pub IsLoosePart : List X → Type 0
@@ -85,7 +85,7 @@ row_stopping before lt = line_stopping row_of row_text_of IsPlainRow IsPlainRow 
 
 -- a heading in any order
 pub record IsHeaded (t : Headed) : Type 0 where
-  pub name : table_fits t.0
+  pub name : table_is_plain t.0
   pub count : IsCount t.1
 
 some_headed : Headed
@@ -132,7 +132,7 @@ tables_stopping =
 
 ---- the whole
 
-filled : {X : Type 0} {read : List ℕ → Placed X} {text : X → List ℕ} {P L : X → Type 0} → Stopping read text P L → Filled L
+filled : {X : Type 0} {read : List ℕ → Positioned X} {text : X → List ℕ} {P L : X → Type 0} → Stopping read text P L → Filled L
 filled s = record { value = s.value; fits = s.some }
 
 abbrev PlacesLoose : Places → Type 0

@@ -5,7 +5,7 @@ use Rattle.std.specs.List.{AllByRecursion}
 use Rattle.std.proofs.lemmas.List.{append-nil, length-append}
 use Rattle.sdb_model.specs.Plain.{is_one_line}
 use Rattle.sdb_reading.specs.Reading.{case_of}
-use Rattle.sdb_report.specs.Reading.{Placed, then_read, both, cut_line, line_at, lines_at}
+use Rattle.sdb_report.specs.Reading.{Positioned, then_read, both, cut_line, line_at, lines_at}
 use Rattle.sdb_report.specs.Reports.{text_of_lines}
 use Rattle.sdb_report.proofs.Readers.{Reads, HasForm, with_lf, IsMade, texts, Items}
 use Rattle.sdb_types.proofs.Basics.{done}
@@ -39,7 +39,7 @@ failed n = Err n
 pub err_is : {A : Type 0} (m n : ℕ) → failed {A = A} m ≡ failed {A = A} n → m ≡ n
 err_is m n e = cc
 
-pub record Stop {X : Type 0} (read : List ℕ → Placed X) (text : X → List ℕ) (L : X → Type 0) (bytes : List ℕ) (left : ℕ) : Type 0 where
+pub record Stop {X : Type 0} (read : List ℕ → Positioned X) (text : X → List ℕ) (L : X → Type 0) (bytes : List ℕ) (left : ℕ) : Type 0 where
   pub lines : List (List ℕ)
   pub tail : List ℕ
   pub split : bytes ≡ text_of_lines lines ++ tail
@@ -52,7 +52,7 @@ pub record Stop {X : Type 0} (read : List ℕ → Placed X) (text : X → List �
   pub local : (t : List ℕ) → SameLine (cut_line tail) tail t → read (text_of_lines lines ++ t) ≡ Err (length t)
 
 -- P is what a text has to have, L what it may have after the bad line.
-pub record Stopping {X : Type 0} (read : List ℕ → Placed X) (text : X → List ℕ) (P L : X → Type 0) : Type 0 where
+pub record Stopping {X : Type 0} (read : List ℕ → Positioned X) (text : X → List ℕ) (P L : X → Type 0) : Type 0 where
   pub lines : (x : X) → P x → Whole (text x)
   pub loose : (x : X) → P x → L x
   pub value : X
@@ -98,7 +98,7 @@ pub record Filled {Y : Type 0} (L : Y → Type 0) : Type 0 where
   pub value : Y
   pub fits : L value
 
-module _ {X Y Z : Type 0} (first : List ℕ → Placed X) (second : X → List ℕ → Placed Y) (make : X → Y → Z) (text_one : X → List ℕ) (text_two : X → Y → List ℕ) (text : Z → List ℕ)
+module _ {X Y Z : Type 0} (first : List ℕ → Positioned X) (second : X → List ℕ → Positioned Y) (make : X → Y → Z) (text_one : X → List ℕ) (text_two : X → Y → List ℕ) (text : Z → List ℕ)
     (P K : X → Type 0) (Q M : X → Y → Type 0) (R L : Z → Type 0)
     (same : (x : X) (y : Y) → K x → M x y → text (make x y) ≡ text_one x ++ text_two x y) (joins : (x : X) (y : Y) → K x → M x y → L (make x y)) (splits : (z : Z) → R z → IsMade make P Q z)
     (fill : (x : X) → K x → Filled (M x))
@@ -175,7 +175,7 @@ module _ {X Y Z : Type 0} (first : List ℕ → Placed X) (second : X → List �
 
 ---- items
 
-module _ {X : Type 0} (item_at : List X → List ℕ → Placed X) (text : List X → X → List ℕ) (P L : List X → X → Type 0)
+module _ {X : Type 0} (item_at : List X → List ℕ → Positioned X) (text : List X → X → List ℕ) (P L : List X → X → Type 0)
     (each : (before : List X) → length before + 1 < 2 ^ 64 → Reads (item_at before) (text before) (P before))
     (ends : (before : List X) → length before + 1 < 2 ^ 64 → Stopping (item_at before) (text before) (P before) (L before)) where
   pub items_fill : (n : ℕ) (before : List X) → length before + n < 2 ^ 64 → Filled (Items L before n)
@@ -216,7 +216,7 @@ module _ {X : Type 0} (item_at : List X → List ℕ → Placed X) (text : List 
       some (x ∷ xs) p = record { first = x; second = xs; made = refl; has_first = p.1.0; has_second = (omega (arith, p.0), p.1.1) }
 
 -- the same under another text and other predicates
-pub stopping_as : {X : Type 0} (read : List ℕ → Placed X) (text other : X → List ℕ) (P Q L M : X → Type 0) → ((x : X) → text x ≡ other x) → ((x : X) → Q x → P x) → ((x : X) → L x → M x)
+pub stopping_as : {X : Type 0} (read : List ℕ → Positioned X) (text other : X → List ℕ) (P Q L M : X → Type 0) → ((x : X) → text x ≡ other x) → ((x : X) → Q x → P x) → ((x : X) → L x → M x)
     → Stopping read text P L → Stopping read other Q M
 stopping_as read text other P Q L M same back loosely s = record {
   lines = λ x q. let w = s.lines x (back x q) in record { lines = w.lines; is = sym (same x) ∙ w.is; whole = w.whole };

@@ -1,18 +1,18 @@
 -- What the result of the last call makes of the whole.
 use Rattle.std.proofs.Common.{◌≡◌, ℕ}
-use Rattle.sdb_stores.specs.Shelf.{Attached}
+use Rattle.sdb_stores.specs.Views.{Attached}
 use Rattle.std.specs.Prelude.{[], Result, Ok, Err, IfOk, IfErr, OnOk, OnErr}
-use Rattle.sdb_stores.specs.Shelf.{index_at}
+use Rattle.sdb_stores.specs.Views.{index_at}
 use Rattle.sdb_retire.specs.declared.refused.RetireRefused.{RetireRefused}
 use Rattle.sdb_retire.specs.declared.survey.Survey.{Survey}
 use Rattle.sdb_retire.specs.Copying.{AreMade}
-use Rattle.sdb_retire.specs.Retired.{AreMoved, IsHalted, IsLeft, IsSurvey, IsUnmoved, KeepOthers, Sides, copies_of, writes_of}
+use Rattle.sdb_retire.specs.Retired.{AreAllMoved, IsHalted, IsLeft, IsSurvey, IsUnmoved, OthersArePreserved, Sides, copies_of, writes_of}
 use Rattle.sdb_retire.specs.Writes.{GoOn, Hold, HoldFirst}
 use Rattle.sdb_retire.proofs.Surveys.{all_moved, others_all, others_part, part_left, unmoved_halted}
 
 ---- the last call's result
 
-pub moved_ok : (r : Result ℕ RetireRefused) (s : Sides) (v : Survey) (old mid new : Attached) → GoOn old mid → Hold [] old mid → IsSurvey s old v → IfOk r (λ n. n ≡ copies_of v) → OnOk r (AreMade (writes_of (index_at mid s.to) s v) mid new.shelves) → OnOk r (Hold (writes_of (index_at mid s.to) s v) mid new) → IfOk r (λ n. AreMoved s n old new)
+pub moved_ok : (r : Result ℕ RetireRefused) (s : Sides) (v : Survey) (old mid new : Attached) → GoOn old mid → Hold [] old mid → IsSurvey s old v → IfOk r (λ n. n ≡ copies_of v) → OnOk r (AreMade (writes_of (index_at mid s.to) s v) mid new.views) → OnOk r (Hold (writes_of (index_at mid s.to) s v) mid new) → IfOk r (λ n. AreAllMoved s n old new)
 moved_ok (Ok n) s v old mid new goes same shown count made h = all_moved old mid new s v n goes same shown count made h
 moved_ok (Err e) s v old mid new goes same shown count made h = tt
 
@@ -20,10 +20,10 @@ pub left_err : (r : Result ℕ RetireRefused) (s : Sides) (v : Survey) (old mid 
 left_err (Ok n) s v old mid new goes same shown h = tt
 left_err (Err e) s v old mid new goes same shown h = part_left old mid new s v goes same shown h
 
-pub others_either : (r : Result ℕ RetireRefused) (s : Sides) (v : Survey) (old mid new : Attached) → GoOn old mid → Hold [] old mid → OnOk r (Hold (writes_of (index_at mid s.to) s v) mid new) → OnErr r (HoldFirst (writes_of (index_at mid s.to) s v) mid new) → KeepOthers s old new
+pub others_either : (r : Result ℕ RetireRefused) (s : Sides) (v : Survey) (old mid new : Attached) → GoOn old mid → Hold [] old mid → OnOk r (Hold (writes_of (index_at mid s.to) s v) mid new) → OnErr r (HoldFirst (writes_of (index_at mid s.to) s v) mid new) → OthersArePreserved s old new
 others_either (Ok n) s v old mid new goes same h k = others_all old mid new s v goes same h
 others_either (Err e) s v old mid new goes same h k = others_part old mid new s v goes same k
 
-pub halted_err : (r : Result ℕ RetireRefused) (s : Sides) (v : Survey) (old mid new : Attached) → GoOn old mid → Hold [] old mid → IsSurvey s old v → IfErr r (IsHalted (index_at mid s.to) s v mid new.shelves) → IfErr r (IsUnmoved s old new)
+pub halted_err : (r : Result ℕ RetireRefused) (s : Sides) (v : Survey) (old mid new : Attached) → GoOn old mid → Hold [] old mid → IsSurvey s old v → IfErr r (IsHalted (index_at mid s.to) s v mid new.views) → IfErr r (IsUnmoved s old new)
 halted_err (Ok n) s v old mid new goes same shown h = tt
 halted_err (Err e) s v old mid new goes same shown h = unmoved_halted old mid new s v e goes same shown h

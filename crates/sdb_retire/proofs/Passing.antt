@@ -24,7 +24,7 @@ use Rattle.sdb_types.proofs.Basics.{all_each, and_false, append_all, by_test, eq
 use Rattle.sdb_types.proofs.Bools.{and_both, and_first, and_second}
 use Rattle.sdb_record.specs.Parts.{is_column_name}
 use Rattle.sdb_schema.specs.declared.table.Table.{Table}
-use Rattle.sdb_stores.specs.Shelf.{Attached, Shelf, index_at}
+use Rattle.sdb_stores.specs.Views.{Attached, StoreView, index_at}
 use Rattle.sdb_catalog.specs.declared.entry.Entry.{Entry}
 use Rattle.sdb_catalog.specs.Rows.{MayHaveRow, metadata_table, row_of}
 use Rattle.sdb_catalog.proofs.Catalogs.{own_ns}
@@ -201,27 +201,27 @@ none_seen s old v h =
     (some_names (λ t. t ≢ metadata_table) (λ e. is_moving s.from v.entries e.table.name.ns) v.entries (none_catalogs _ s.from s.to [] v.entries h.opened.opens.follow))
 
 -- the copies leave the rows of the catalog as they are
-pub rows_kept : (s : Sides) (old : Attached) (v : Survey) (k : Key) → AreKnown s old → IsSurvey s old v → k.table ≡ metadata_table → record_at (after_writes 0 (writes_at (index_at old s.to) (requests_of v.seen)) (contents_at old.shelves 0)) k ≡ record_at (contents_at old.shelves 0) k
-rows_kept s old v k known h own = by_test (index_at old s.to == 0) here (λ e. ap (λ (m : Contents). record_at m k) (nothing_here 0 (writes_at (index_at old s.to) (requests_of v.seen)) (contents_at old.shelves 0) (at_other 0 (index_at old s.to) (requests_of v.seen) e)))
+pub rows_kept : (s : Sides) (old : Attached) (v : Survey) (k : Key) → AreKnown s old → IsSurvey s old v → k.table ≡ metadata_table → record_at (after_writes 0 (writes_at (index_at old s.to) (requests_of v.seen)) (contents_at old.views 0)) k ≡ record_at (contents_at old.views 0) k
+rows_kept s old v k known h own = by_test (index_at old s.to == 0) here (λ e. ap (λ (m : Contents). record_at m k) (nothing_here 0 (writes_at (index_at old s.to) (requests_of v.seen)) (contents_at old.views 0) (at_other 0 (index_at old s.to) (requests_of v.seen) e)))
   where
-    here : (index_at old s.to == 0) ≡ true → record_at (after_writes 0 (writes_at (index_at old s.to) (requests_of v.seen)) (contents_at old.shelves 0)) k ≡ record_at (contents_at old.shelves 0) k
-    here e = subst (λ (n : ℕ). record_at (after_writes n (writes_at (index_at old s.to) (requests_of v.seen)) (contents_at old.shelves n)) k ≡ record_at (contents_at old.shelves n) k) (eq_of (index_at old s.to) 0 e)
-        (ap (λ (m : Contents). record_at m k) (own_writes (index_at old s.to) (requests_of v.seen) (contents_at old.shelves (index_at old s.to)))
-        ∙ tables_apart (contents_at old.shelves (index_at old s.to)) (contents_at old.shelves (index_at old s.from)) v.seen (contents_at old.shelves (index_at old s.to)) k (whole_all s old v known.from known.to h) (outside_each k v.seen own (none_seen s old v h)))
+    here : (index_at old s.to == 0) ≡ true → record_at (after_writes 0 (writes_at (index_at old s.to) (requests_of v.seen)) (contents_at old.views 0)) k ≡ record_at (contents_at old.views 0) k
+    here e = subst (λ (n : ℕ). record_at (after_writes n (writes_at (index_at old s.to) (requests_of v.seen)) (contents_at old.views n)) k ≡ record_at (contents_at old.views n) k) (eq_of (index_at old s.to) 0 e)
+        (ap (λ (m : Contents). record_at m k) (own_writes (index_at old s.to) (requests_of v.seen) (contents_at old.views (index_at old s.to)))
+        ∙ tables_apart (contents_at old.views (index_at old s.to)) (contents_at old.views (index_at old s.from)) v.seen (contents_at old.views (index_at old s.to)) k (whole_all s old v known.from known.to h) (outside_each k v.seen own (none_seen s old v h)))
 
-each_kept : (s : Sides) (old : Attached) (v : Survey) (es : List Entry) → AreKnown s old → IsSurvey s old v → AreThere (contents_at old.shelves 0) es → AreThere (after_writes 0 (writes_at (index_at old s.to) (requests_of v.seen)) (contents_at old.shelves 0)) es
-each_kept s old v es known h there = all_each (λ e. record_at (contents_at old.shelves 0) (row_of e).key ≡ Some (row_of e)) _ es (λ e k. rows_kept s old v (row_of e).key known h (row_table e) ∙ k) there
+each_kept : (s : Sides) (old : Attached) (v : Survey) (es : List Entry) → AreKnown s old → IsSurvey s old v → AreThere (contents_at old.views 0) es → AreThere (after_writes 0 (writes_at (index_at old s.to) (requests_of v.seen)) (contents_at old.views 0)) es
+each_kept s old v es known h there = all_each (λ e. record_at (contents_at old.views 0) (row_of e).key ≡ Some (row_of e)) _ es (λ e k. rows_kept s old v (row_of e).key known h (row_table e) ∙ k) there
 
 -- The catalog's rows are those of the entries.
-pub first_rows : (s : Sides) (old : Attached) (v : Survey) → old.tells 0 → IsSurvey s old v → rows_in (span_of metadata_table) (contents_at old.shelves 0) ≡ map row_of v.entries
+pub first_rows : (s : Sides) (old : Attached) (v : Survey) → old.known 0 → IsSurvey s old v → rows_in (span_of metadata_table) (contents_at old.views 0) ≡ map row_of v.entries
 first_rows s old v t h = sym (h.opened.shown.known t) ∙ h.opened.opens.rows
 
 pub first_rise : (s : Sides) (old : Attached) (v : Survey) → IsSurvey s old v → rise (map row_of v.entries) ≡ true
 first_rise s old v h = subst (λ (rs : List Record). rise rs ≡ true) h.opened.opens.rows (and_first (rise h.opened.rows) _ h.opened.shown.lawful)
 
-pub first_there : (s : Sides) (old : Attached) (v : Survey) → AreKnown s old → IsSurvey s old v → AreThere (after_writes 0 (writes_at (index_at old s.to) (requests_of v.seen)) (contents_at old.shelves 0)) v.entries
+pub first_there : (s : Sides) (old : Attached) (v : Survey) → AreKnown s old → IsSurvey s old v → AreThere (after_writes 0 (writes_at (index_at old s.to) (requests_of v.seen)) (contents_at old.views 0)) v.entries
 first_there s old v known h =
-    each_kept s old v v.entries known h (rows_there (contents_at old.shelves 0) v.entries (agreed (contents_at old.shelves 0) (map row_of v.entries) metadata_table (sym (first_rows s old v known.first h))))
+    each_kept s old v v.entries known h (rows_there (contents_at old.views 0) v.entries (agreed (contents_at old.views 0) (map row_of v.entries) metadata_table (sym (first_rows s old v known.first h))))
 
 ---- both, at each store
 
@@ -242,20 +242,20 @@ pass_one : (i : ℕ) (done : List Write) (w : Write) (later : List Write) (m : C
 pass_one i [] w later m e h = h.0 e
 pass_one i (x ∷ xs) w later m e h = pass_one i xs w later (after_write i x m) e h.1
 
-survey_passes : (s : Sides) (old : Attached) (v : Survey) (i : ℕ) → AreKnown s old → IsSurvey s old v → PassAt i (writes_of (index_at old s.to) s v) (contents_at old.shelves i)
+survey_passes : (s : Sides) (old : Attached) (v : Survey) (i : ℕ) → AreKnown s old → IsSurvey s old v → PassAt i (writes_of (index_at old s.to) s v) (contents_at old.views i)
 survey_passes s old v i known h =
     let ti = index_at old s.to in
     let qs = requests_of v.seen in
-    let to = contents_at old.shelves ti in
-    pass_at_more i (writes_at ti qs) (writes_at 0 (renewals s.from s.to v.entries)) (contents_at old.shelves i)
-    (pass_there i ti qs (contents_at old.shelves i)
-    (λ e. subst (λ (n : ℕ). AllPass qs (contents_at old.shelves n)) (eq_of ti i e) (tables_pass to (contents_at old.shelves (index_at old s.from)) v.seen to (whole_all s old v known.from known.to h) (apart_of_survey s old v h) (fresh_first to v.seen))))
-    (pass_there i 0 (renewals s.from s.to v.entries) (after_writes i (writes_at ti qs) (contents_at old.shelves i))
-    (λ e. subst (λ (n : ℕ). AllPass (renewals s.from s.to v.entries) (after_writes n (writes_at ti qs) (contents_at old.shelves n))) (eq_of 0 i e)
-    (renewals_pass s.to (filter (λ e. bytes_eq e.store s.from) v.entries) (after_writes 0 (writes_at ti qs) (contents_at old.shelves 0)) (some_keys (λ e. bytes_eq e.store s.from) v.entries (keys_apart v.entries (first_rise s old v h)))
-    (some_each (λ e. record_at (after_writes 0 (writes_at ti qs) (contents_at old.shelves 0)) (row_of e).key ≡ Some (row_of e)) (λ e. bytes_eq e.store s.from) v.entries (first_there s old v known h)))))
+    let to = contents_at old.views ti in
+    pass_at_more i (writes_at ti qs) (writes_at 0 (renewals s.from s.to v.entries)) (contents_at old.views i)
+    (pass_there i ti qs (contents_at old.views i)
+    (λ e. subst (λ (n : ℕ). AllPass qs (contents_at old.views n)) (eq_of ti i e) (tables_pass to (contents_at old.views (index_at old s.from)) v.seen to (whole_all s old v known.from known.to h) (apart_of_survey s old v h) (fresh_first to v.seen))))
+    (pass_there i 0 (renewals s.from s.to v.entries) (after_writes i (writes_at ti qs) (contents_at old.views i))
+    (λ e. subst (λ (n : ℕ). AllPass (renewals s.from s.to v.entries) (after_writes n (writes_at ti qs) (contents_at old.views n))) (eq_of 0 i e)
+    (renewals_pass s.to (filter (λ e. bytes_eq e.store s.from) v.entries) (after_writes 0 (writes_at ti qs) (contents_at old.views 0)) (some_keys (λ e. bytes_eq e.store s.from) v.entries (keys_apart v.entries (first_rise s old v h)))
+    (some_each (λ e. record_at (after_writes 0 (writes_at ti qs) (contents_at old.views 0)) (row_of e).key ≡ Some (row_of e)) (λ e. bytes_eq e.store s.from) v.entries (first_there s old v known h)))))
 
-told_each : (old : Attached) (at : ℕ) (qs : List Request) → old.tells at → AllByRecursion (λ w. old.tells w.at) (writes_at at qs)
+told_each : (old : Attached) (at : ℕ) (qs : List Request) → old.known at → AllByRecursion (λ w. old.known w.at) (writes_at at qs)
 told_each old at [] t = tt
 told_each old at (q ∷ qs) t = (t, told_each old at qs t)
 
@@ -264,12 +264,12 @@ that_one P [] w later h = h.0
 that_one P (x ∷ xs) w later h = that_one P xs w later h.1
 
 -- no write of a survey finds another record
-pub all_met : (s : Sides) (v : Survey) (old : Attached) (new : List Shelf) (place : Key) → AreKnown s old → IsSurvey s old v → WasUnmet (writes_of (index_at old s.to) s v) place old new → ⊥
+pub all_met : (s : Sides) (v : Survey) (old : Attached) (new : List StoreView) (place : Key) → AreKnown s old → IsSurvey s old v → WasUnmet (writes_of (index_at old s.to) s v) place old new → ⊥
 all_met s v old new place known h u =
     let ti = index_at old s.to in
     let at = u.write.at in
-    let all = append_all (λ (w : Write). old.tells w.at) (writes_at ti (requests_of v.seen)) (writes_at 0 (renewals s.from s.to v.entries)) (told_each old ti (requests_of v.seen) known.to) (told_each old 0 (renewals s.from s.to v.entries) known.first) in
-    let t = that_one (λ (w : Write). old.tells w.at) u.done u.write u.later (subst (AllByRecursion (λ (w : Write). old.tells w.at)) u.parts all) in
-    let passes = subst (λ (ws : List Write). PassAt at ws (contents_at old.shelves at)) u.parts (survey_passes s old v at known h) in
-    u.fails (pass_one at u.done u.write u.later (contents_at old.shelves at) (same_itself at) passes u.found
+    let all = append_all (λ (w : Write). old.known w.at) (writes_at ti (requests_of v.seen)) (writes_at 0 (renewals s.from s.to v.entries)) (told_each old ti (requests_of v.seen) known.to) (told_each old 0 (renewals s.from s.to v.entries) known.first) in
+    let t = that_one (λ (w : Write). old.known w.at) u.done u.write u.later (subst (AllByRecursion (λ (w : Write). old.known w.at)) u.parts all) in
+    let passes = subst (λ (ws : List Write). PassAt at ws (contents_at old.views at)) u.parts (survey_passes s old v at known h) in
+    u.fails (pass_one at u.done u.write u.later (contents_at old.views at) (same_itself at) passes u.found
     (ap (reply_to u.write.request) (sym (u.held at t) ∙ ap contents_of u.called.stood) ∙ sym (u.called.performed t).0))

@@ -16,7 +16,7 @@ use Rattle.sdb_types.proofs.Bools.{and_first, and_second}
 use Rattle.sdb_types.proofs.KeyOrder.{key_total, starts_trans}
 use Rattle.sdb_types.proofs.Keys.{same_key_exact, same_key_self, same_key_turned}
 use Rattle.sdb_types.proofs.Replies.{rows_in-are_rows_of}
-use Rattle.sdb_stores.specs.Shelf.{Attached, index_at}
+use Rattle.sdb_stores.specs.Views.{Attached, index_at}
 use Rattle.sdb_catalog.specs.declared.entry.Entry.{Entry}
 use Rattle.sdb_catalog.specs.Rows.{metadata_key_of, metadata_table, row_of}
 use Rattle.sdb_laws.proofs.Effects.{after_put}
@@ -150,12 +150,12 @@ at_each from to (e ∷ es) m k far there same = by (λ n h t. at_each from to es
 in_metadata : (k : Key) → in_span (span_of metadata_table) k ≡ true → k.table ≡ metadata_table
 in_metadata k h = sym (table_of_key metadata_table k h)
 
-pub rows_renewed : (s : Sides) (old new : Attached) (v : Survey) → AreKnown s old → IsSurvey s old v → Hold (writes_of (index_at old s.to) s v) old new → rows_in (span_of metadata_table) (contents_at new.shelves 0) ≡ map row_of (map (settle s.from s.to) v.entries)
+pub rows_renewed : (s : Sides) (old new : Attached) (v : Survey) → AreKnown s old → IsSurvey s old v → Hold (writes_of (index_at old s.to) s v) old new → rows_in (span_of metadata_table) (contents_at new.views 0) ≡ map row_of (map (settle s.from s.to) v.entries)
 rows_renewed s old new v known h held =
     let span = span_of metadata_table in
-    let c = contents_at old.shelves 0 in
+    let c = contents_at old.views 0 in
     let copied = after_writes 0 (writes_at (index_at old s.to) (requests_of v.seen)) c in
-    let is : contents_at new.shelves 0 ≡ after_all (renewals s.from s.to v.entries) copied =
+    let is : contents_at new.views 0 ≡ after_all (renewals s.from s.to v.entries) copied =
     held 0 known.first ∙ after_more 0 (writes_at (index_at old s.to) (requests_of v.seen)) (writes_at 0 (renewals s.from s.to v.entries)) c ∙ own_writes 0 (renewals s.from s.to v.entries) copied in
     let m = after_all (renewals s.from s.to v.entries) copied in
     let settled = map row_of (map (settle s.from s.to) v.entries) in

@@ -10,7 +10,7 @@ use Rattle.sdb_types.proofs.Basics.{by_test, lt_of}
 use Rattle.sdb_catalog.specs.declared.entry.Entry.{Entry}
 use Rattle.sdb_catalog.specs.Opened.{Follow, IsEntry, agrees, fits, is_attached, is_coordinators, open_count, tables_of}
 use Rattle.sdb_retire.specs.Joined.{ArePartly, AreStillAttached, settle}
-use Rattle.sdb_retire.specs.Moving.{FollowMoving, agrees_moving, fits_moving, next_revision, renewed, settled}
+use Rattle.sdb_retire.specs.Moving.{FollowMoving, agrees_moving, agrees_with_moving, next_revision, renewed, settled}
 
 pub settle_table : (from to : List ℕ) (e : Entry) → (settle from to e).table ≡ e.table
 settle_table from to e = elim (bytes_eq e.store from) as (λ b. (if b then renewed to e else e).table ≡ e.table) [ true ↦ refl | false ↦ refl ]
@@ -36,7 +36,7 @@ count_settle from to (e ∷ es) =
     ∙ ap (λ (n : ℕ). cond (not (is_coordinators e)) 1 0 + n) (count_settle from to es)
     ∙ sym (sum_by-cons (λ x. cond (not (is_coordinators x)) 1 0) e es)
 
-fits_settle : (from to : List ℕ) (passed : List Entry) (e : Entry) → fits (map (settle from to) passed) (settle from to e) ≡ fits_moving from to passed e
+fits_settle : (from to : List ℕ) (passed : List Entry) (e : Entry) → fits (map (settle from to) passed) (settle from to e) ≡ agrees_with_moving from to passed e
 fits_settle from to passed e =
     ap (λ (b : Bool). b && (is_coordinators (settle from to e) || nat_lt (open_count (map (settle from to) passed)) 64)) (all_settle from to e passed)
     ∙ ap (λ (b : Bool). list_all (agrees_moving from to e) passed && (b || nat_lt (open_count (map (settle from to) passed)) 64)) (coordinators_settle from to e)
@@ -113,7 +113,7 @@ count_partly from to (a ∷ as_) (b ∷ bs) k =
     ∙ ap (λ (n : ℕ). cond (not (is_coordinators a)) 1 0 + n) (count_partly from to as_ bs k.1)
     ∙ sym (sum_by-cons (λ x. cond (not (is_coordinators x)) 1 0) a as_)
 
-fits_partly : (from to : List ℕ) (e f : Entry) (as_ bs : List Entry) → Same from to e f → ArePartly from to as_ bs → fits_moving from to bs f ≡ fits_moving from to as_ e
+fits_partly : (from to : List ℕ) (e f : Entry) (as_ bs : List Entry) → Same from to e f → ArePartly from to as_ bs → agrees_with_moving from to bs f ≡ agrees_with_moving from to as_ e
 fits_partly from to e f as_ bs h k =
     ap (λ (t : Bool). t && (is_coordinators f || nat_lt (open_count bs) 64)) (all_partly from to e f as_ bs h k)
     ∙ ap (λ (t : Bool). list_all (agrees_moving from to e) as_ && (t || nat_lt (open_count bs) 64)) (rw h.0 refl)

@@ -14,15 +14,15 @@ use Rattle.sdb_types.specs.declared.record.Record.{Record}
 use Rattle.sdb_types.specs.declared.record.Reply.TheVariants.{NotMet}
 use Rattle.sdb_types.specs.declared.record.Request.{Request}
 use Rattle.sdb_types.proofs.Basics.{all_last, below, none_some}
-use Rattle.sdb_stores.specs.Shelf.{Attached, Shelf, IsCallAt, index_at, index_in, names_of, place_of}
-use Rattle.sdb_catalog.specs.Calls.{with_shelves}
+use Rattle.sdb_stores.specs.Views.{Attached, StoreView, IsCallAt, index_at, index_in, names_of, place_of}
+use Rattle.sdb_catalog.specs.Calls.{with_states}
 use Rattle.sdb_retire.specs.declared.refused.RetireRefused.{RetireRefused}
 use Rattle.sdb_retire.specs.declared.refused.RetireRefused.TheVariants as refused
 use Rattle.sdb_retire.specs.declared.seen.Seen.{Seen}
 use Rattle.sdb_retire.specs.Copying.{AreFree, IsBlocked, IsFirstBlocking, IsFree, IsSeen, WasUnmet}
 use Rattle.sdb_retire.specs.Read.{AreSeen, IsUnseen}
 use Rattle.sdb_retire.specs.Stopped.{IsBlockedIn, IsStopped, IsUnmet, IsUnwritten}
-use Rattle.sdb_retire.specs.Writes.{GoOn, Hold, HoldFirst, IsShown, MayHold, Write, write_at, writes_at}
+use Rattle.sdb_retire.specs.Writes.{GoOn, Hold, HoldFirst, IsScanned, MayHold, Write, write_at, writes_at}
 use Rattle.sdb_retire.proofs.Calls.{first_one, hold_more, hold_none, risen_more, same_index, shown_earlier}
 
 ---- writes
@@ -51,36 +51,36 @@ first_step initial cur new store qs i q inside is goes h k =
 
 ---- refusals of writes
 
-call_from : (at : ℕ) (q : Request) (found : Option Record) (a b : Attached) (mid new : List Shelf) → ((i : ℕ) → a.tells i → b.tells i) → IsCallAt at q (NotMet found) (with_shelves b mid) (with_shelves b new) → IsCallAt at q (NotMet found) (with_shelves a mid) (with_shelves a new)
-call_from at q found a b mid new telling c = record {
+call_from : (at : ℕ) (q : Request) (found : Option Record) (a b : Attached) (mid new : List StoreView) → ((i : ℕ) → a.known i → b.known i) → IsCallAt at q (NotMet found) (with_states b mid) (with_states b new) → IsCallAt at q (NotMet found) (with_states a mid) (with_states a new)
+call_from at q found a b mid new where_known c = record {
   before = c.before;
   now = c.now;
   stood = c.stood;
   rest = c.rest;
   name = c.name;
-  performed = λ h. c.performed (telling at h);
+  performed = λ h. c.performed (where_known at h);
   lawful = c.lawful;
   counted = c.counted;
   cause = c.cause;
-  telling = λ i h. h;
+  where_known = λ i h. h;
 }
 
 -- a write that was not met, after others and before more
-pub unmet_among : (initial cur : Attached) (new : List Shelf) (ws before own more : List Write) (place : Key) → ws ≡ before ++ (own ++ more) → GoOn initial cur → Hold before initial cur → WasUnmet own place cur new → WasUnmet ws place initial new
+pub unmet_among : (initial cur : Attached) (new : List StoreView) (ws before own more : List Write) (place : Key) → ws ≡ before ++ (own ++ more) → GoOn initial cur → Hold before initial cur → WasUnmet own place cur new → WasUnmet ws place initial new
 unmet_among initial cur new ws before own more place parts goes h u = record {
   done = before ++ u.done;
   write = u.write;
   later = u.later ++ more;
   parts = parts ∙ ap (λ (l : List Write). before ++ (l ++ more)) u.parts ∙ ap (λ (l : List Write). before ++ l) (append_assoc u.done (u.write ∷ u.later) more) ∙ sym (append_assoc before u.done (u.write ∷ u.later ++ more));
   mid = u.mid;
-  held = hold_more initial cur (with_shelves cur u.mid) before u.done goes h u.held;
+  held = hold_more initial cur (with_states cur u.mid) before u.done goes h u.held;
   found = u.found;
-  called = call_from u.write.at u.write.request u.found initial cur u.mid new goes.telling u.called;
+  called = call_from u.write.at u.write.request u.found initial cur u.mid new goes.where_known u.called;
   fails = u.fails;
   key = u.key;
 }
 
-pub unwritten_more : (initial cur : Attached) (new : List Shelf) (store : List ℕ) (qs : List Request) (i : ℕ) (q : Request) (e : RetireRefused) → i < length qs → q ≡ get_or qs i q → GoOn initial cur → Hold (writes_at (index_at initial store) (take i qs)) initial cur
+pub unwritten_more : (initial cur : Attached) (new : List StoreView) (store : List ℕ) (qs : List Request) (i : ℕ) (q : Request) (e : RetireRefused) → i < length qs → q ≡ get_or qs i q → GoOn initial cur → Hold (writes_at (index_at initial store) (take i qs)) initial cur
     → IsUnwritten (write_at (index_at cur store) q ∷ []) cur new e → IsUnwritten (writes_at (index_at initial store) qs) initial new e
 unwritten_more initial cur new store qs i q refused.StoreFault inside is goes held h = risen_more initial cur new goes h
 unwritten_more initial cur new store qs i q (refused.BadRow key) inside is goes held h =
@@ -88,22 +88,22 @@ unwritten_more initial cur new store qs i q (refused.BadRow key) inside is goes 
     (writes_rest (index_at initial store) qs i q inside is) goes held (subst (λ (n : ℕ). WasUnmet (write_at n q ∷ []) key cur new) (same_index initial cur store goes) h)
 unwritten_more initial cur new store qs i q refused.NoMemory inside is goes held h = h
 
-pub unwritten_stopped : (ws : List Write) (old : Attached) (new : List Shelf) (e : RetireRefused) → IsStopped old.shelves new e → IsUnwritten ws old new e
+pub unwritten_stopped : (ws : List Write) (old : Attached) (new : List StoreView) (e : RetireRefused) → IsStopped old.views new e → IsUnwritten ws old new e
 unwritten_stopped ws old new refused.StoreFault h = h
 unwritten_stopped ws old new (refused.BadRow key) h = absurd h
 unwritten_stopped ws old new refused.NoMemory h = h
 
-pub unwritten_met : (at : ℕ) (q : Request) (found : Option Record) (old new : Attached) (e : RetireRefused) → IsCallAt at q (NotMet found) old new → IsUnmet q found e → IsUnwritten (write_at at q ∷ []) old new.shelves e
+pub unwritten_met : (at : ℕ) (q : Request) (found : Option Record) (old new : Attached) (e : RetireRefused) → IsCallAt at q (NotMet found) old new → IsUnmet q found e → IsUnwritten (write_at at q ∷ []) old new.views e
 unwritten_met at q found old new refused.StoreFault c h = absurd h
 unwritten_met at q found old new (refused.BadRow key) c h = record {
   done = [];
   write = write_at at q;
   later = [];
   parts = refl;
-  mid = old.shelves;
+  mid = old.views;
   held = hold_none old;
   found = found;
-  called = record { before = c.before; now = c.now; stood = c.stood; rest = c.rest; name = c.name; performed = c.performed; lawful = c.lawful; counted = c.counted; cause = c.cause; telling = λ i t. t };
+  called = record { before = c.before; now = c.now; stood = c.stood; rest = c.rest; name = c.name; performed = c.performed; lawful = c.lawful; counted = c.counted; cause = c.cause; where_known = λ i t. t };
   fails = h.1;
   key = h.0;
 }
@@ -111,12 +111,12 @@ unwritten_met at q found old new refused.NoMemory c h = h
 
 ---- what is seen
 
-pub unseen_stopped : (from to : ℕ) (tables : List TableName) (old mid : Attached) (new : List Shelf) (e : RetireRefused) → GoOn old mid → IsStopped mid.shelves new e → IsUnseen from to tables old new e
+pub unseen_stopped : (from to : ℕ) (tables : List TableName) (old mid : Attached) (new : List StoreView) (e : RetireRefused) → GoOn old mid → IsStopped mid.views new e → IsUnseen from to tables old new e
 unseen_stopped from to tables old mid new refused.StoreFault goes h = risen_more old mid new goes h
 unseen_stopped from to tables old mid new (refused.BadRow key) goes h = absurd h
 unseen_stopped from to tables old mid new refused.NoMemory goes h = h
 
-pub unseen_blocked : (from to : ℕ) (table : TableName) (in_to in_from : List Record) (old : Attached) (new : List Shelf) (e : RetireRefused) → IsShown to table in_to old → IsShown from table in_from old → IsBlockedIn in_to in_from e → IsUnseen from to (table ∷ []) old new e
+pub unseen_blocked : (from to : ℕ) (table : TableName) (in_to in_from : List Record) (old : Attached) (new : List StoreView) (e : RetireRefused) → IsScanned to table in_to old → IsScanned from table in_from old → IsBlockedIn in_to in_from e → IsUnseen from to (table ∷ []) old new e
 unseen_blocked from to table in_to in_from old new refused.StoreFault a b h = absurd h
 unseen_blocked from to table in_to in_from old new (refused.BadRow key) a b h = record {
   table = table;
@@ -154,7 +154,7 @@ blocked_earlier from to f t old mid tables i name place a b goes same inside is 
   blocking = h.blocking;
 }))
 
-pub unseen_more : (old mid : Attached) (new : List Shelf) (from to : List ℕ) (tables : List TableName) (i : ℕ) (t : TableName) (e : RetireRefused) → GoOn old mid → Hold [] old mid → i < length tables → t ≡ get_or tables i t → IsUnseen (index_at mid from) (index_at mid to) (t ∷ []) mid new e
+pub unseen_more : (old mid : Attached) (new : List StoreView) (from to : List ℕ) (tables : List TableName) (i : ℕ) (t : TableName) (e : RetireRefused) → GoOn old mid → Hold [] old mid → i < length tables → t ≡ get_or tables i t → IsUnseen (index_at mid from) (index_at mid to) (t ∷ []) mid new e
     → IsUnseen (index_at old from) (index_at old to) tables old new e
 unseen_more old mid new from to tables i t refused.StoreFault goes same inside is h = risen_more old mid new goes h
 unseen_more old mid new from to tables i t (refused.BadRow key) goes same inside is h =
@@ -184,14 +184,14 @@ first_blocking in_to in_from i r place inside is free blocks at = record {
   key = sym at;
 }
 
-pub blocked_free : (old mid : Attached) (new : List Shelf) (from to : List ℕ) (table : TableName) (in_to in_from a b : List Record) (e : RetireRefused) → GoOn old mid → Hold [] old mid → a ≡ in_to → b ≡ in_from → IsShown (index_at old to) table in_to old
-    → IsShown (index_at mid from) table in_from mid → IsBlockedIn a b e → IsUnseen (index_at old from) (index_at old to) (table ∷ []) old new e
+pub blocked_free : (old mid : Attached) (new : List StoreView) (from to : List ℕ) (table : TableName) (in_to in_from a b : List Record) (e : RetireRefused) → GoOn old mid → Hold [] old mid → a ≡ in_to → b ≡ in_from → IsScanned (index_at old to) table in_to old
+    → IsScanned (index_at mid from) table in_from mid → IsBlockedIn a b e → IsUnseen (index_at old from) (index_at old to) (table ∷ []) old new e
 blocked_free old mid new from to table in_to in_from a b e goes same x y there come h =
     unseen_blocked (index_at old from) (index_at old to) table in_to in_from old new e there
-    (subst (λ (n : ℕ). IsShown n table in_from old) (same_index old mid from goes) (shown_earlier old mid (index_at mid from) table in_from goes same come))
+    (subst (λ (n : ℕ). IsScanned n table in_from old) (same_index old mid from goes) (shown_earlier old mid (index_at mid from) table in_from goes same come))
     (subst (λ (l : List Record). IsBlockedIn in_to l e) y (subst (λ (l : List Record). IsBlockedIn l b e) x h))
 
-pub met_err : {A : Type 0} (r : Result A RetireRefused) (at : ℕ) (q : Request) (found : Option Record) (old new : Attached) → IsCallAt at q (NotMet found) old new → IfErr r (IsUnmet q found) → IfErr r (IsUnwritten (write_at at q ∷ []) old new.shelves)
+pub met_err : {A : Type 0} (r : Result A RetireRefused) (at : ℕ) (q : Request) (found : Option Record) (old new : Attached) → IsCallAt at q (NotMet found) old new → IfErr r (IsUnmet q found) → IfErr r (IsUnwritten (write_at at q ∷ []) old new.views)
 met_err (Ok a) at q found old new call h = tt
 met_err (Err e) at q found old new call h = unwritten_met at q found old new e call h
 
@@ -213,8 +213,8 @@ own_place name (n ∷ ns) h =
     let none : prefix_len (λ x. not (bytes_eq x name)) (n ∷ ns) ≡ 0 = ap (λ (b : Bool). cond (not b) (1 + prefix_len (λ x. not (bytes_eq x name)) ns) 0) q in
     ap (λ (k : ℕ). cond (nat_lt k (length (n ∷ ns))) (Some k) None) none ∙ ap (λ (b : Bool). cond b (Some 0) None) (below 0 (length (n ∷ ns)) (omega arith))
 
-pub first_index : (old : Attached) (name : List ℕ) → slice_get (names_of old.shelves) 0 ≡ Some name → index_at old name ≡ 0
-first_index old name h = ap (λ (o : Option ℕ). unwrap_or o 0) (own_place name (names_of old.shelves) h)
+pub first_index : (old : Attached) (name : List ℕ) → slice_get (names_of old.views) 0 ≡ Some name → index_at old name ≡ 0
+first_index old name h = ap (λ (o : Option ℕ). unwrap_or o 0) (own_place name (names_of old.views) h)
 
-pub first_there : (old : Attached) (name : List ℕ) → slice_get (names_of old.shelves) 0 ≡ Some name → IsSome (index_in old name)
-first_there old name h = ap is_some (own_place name (names_of old.shelves) h)
+pub first_there : (old : Attached) (name : List ℕ) → slice_get (names_of old.views) 0 ≡ Some name → IsSome (index_in old name)
+first_there old name h = ap is_some (own_place name (names_of old.views) h)

@@ -5,7 +5,7 @@ use Rattle.sdb_types.specs.declared.key.Key.{Key}
 use Rattle.sdb_types.specs.declared.key.TableName.{TableName}
 use Rattle.sdb_types.specs.declared.record.Request.{Request}
 use Rattle.sdb_types.proofs.Basics.{all_each}
-use Rattle.sdb_stores.specs.Shelf.{Attached, Shelf, index_at}
+use Rattle.sdb_stores.specs.Views.{Attached, StoreView, index_at}
 use Rattle.sdb_catalog.specs.declared.entry.Entry.{Entry}
 use Rattle.sdb_retire.specs.declared.refused.RetireRefused.{RetireRefused}
 use Rattle.sdb_retire.specs.declared.refused.RetireRefused.TheVariants as refused
@@ -14,7 +14,7 @@ use Rattle.sdb_retire.specs.declared.survey.Survey.{Survey}
 use Rattle.sdb_retire.specs.Copying.{AreMade, IsBlocked, IsSeen, WasUnmet, requests_of}
 use Rattle.sdb_retire.specs.Moving.{moving_tables, renewals}
 use Rattle.sdb_retire.specs.Read.{AreOpened, AreSeen, IsUnread, IsUnseen}
-use Rattle.sdb_retire.specs.Retired.{AreMoved, KeepOthers, IsHalted, IsLeft, IsSurvey, IsUnmoved, IsUnsurveyed, Sides, copies_of, writes_of}
+use Rattle.sdb_retire.specs.Retired.{AreAllMoved, OthersArePreserved, IsHalted, IsLeft, IsSurvey, IsUnmoved, IsUnsurveyed, Sides, copies_of, writes_of}
 use Rattle.sdb_retire.specs.Stopped.{IsUnwritten}
 use Rattle.sdb_retire.specs.Writes.{GoOn, Hold, HoldFirst, Write, writes_at}
 use Rattle.sdb_retire.proofs.Calls.{first_back, first_front, goes_none, hold_more, hold_none, hold_same, risen_more, same_index, shown_earlier}
@@ -28,7 +28,7 @@ use Rattle.sdb_retire.proofs.Steps.{seen_earlier, unmet_among}
 pub opened_first : (from to : List ℕ) (at : ℕ) (old : Attached) (es : List Entry) → at ≡ 0 → AreOpened from to at old es → AreOpened from to 0 old es
 opened_first from to at old es e h = subst (λ (n : ℕ). AreOpened from to n old es) e h
 
-pub unsurveyed_unread : (from to : List ℕ) (at : ℕ) (old : Attached) (new : List Shelf) (e : RetireRefused) → at ≡ 0 → IsUnread from to at old new e → IsUnsurveyed (record { from = from; to = to }) old new e
+pub unsurveyed_unread : (from to : List ℕ) (at : ℕ) (old : Attached) (new : List StoreView) (e : RetireRefused) → at ≡ 0 → IsUnread from to at old new e → IsUnsurveyed (record { from = from; to = to }) old new e
 unsurveyed_unread from to at old new refused.StoreFault first h = h
 unsurveyed_unread from to at old new (refused.BadRow key) first h = inl (subst (λ (n : ℕ). IsUnread from to n old new (refused.BadRow key)) first h)
 unsurveyed_unread from to at old new refused.NoMemory first h = h
@@ -58,7 +58,7 @@ blocked_at from to f t old mid tables place a b goes same h = subst (λ (x : ℕ
   blocking = h.blocking;
 }))
 
-pub unsurveyed_unseen : (old mid : Attached) (new : List Shelf) (from to : List ℕ) (at : ℕ) (es : List Entry) (tables shown : List TableName) (e : RetireRefused) → at ≡ 0 → AreOpened from to at old es → GoOn old mid → Hold [] old mid → shown ≡ tables → tables ≡ moving_tables from es
+pub unsurveyed_unseen : (old mid : Attached) (new : List StoreView) (from to : List ℕ) (at : ℕ) (es : List Entry) (tables shown : List TableName) (e : RetireRefused) → at ≡ 0 → AreOpened from to at old es → GoOn old mid → Hold [] old mid → shown ≡ tables → tables ≡ moving_tables from es
     → IsUnseen (index_at mid from) (index_at mid to) shown mid new e → IsUnsurveyed (record { from = from; to = to }) old new e
 unsurveyed_unseen old mid new from to at es tables shown refused.StoreFault first opened goes same a b h = risen_more old mid new goes h
 unsurveyed_unseen old mid new from to at es tables shown (refused.BadRow key) first opened goes same a b h = inr (record {
@@ -83,10 +83,10 @@ written_all old mid new first from to v qs rs goes named a b h k =
     subst (λ (ws : List Write). Hold ws old new) (ap (λ (l : List Request). writes_at (index_at old to) l ++ writes_at 0 rs) a ∙ ap (λ (l : List Request). writes_at (index_at old to) (requests_of v.seen) ++ writes_at 0 l) b)
     (hold_more old mid new (writes_at (index_at old to) qs) (writes_at 0 rs) goes h (subst (λ (n : ℕ). Hold (writes_at n rs) mid new) (later_index old mid first goes named) k))
 
-pub both_made : (old mid : Attached) (new : List Shelf) (first from to : List ℕ) (v : Survey) (qs rs : List Request) → GoOn old mid → index_at old first ≡ 0 → qs ≡ requests_of v.seen → rs ≡ renewals from to v.entries → AreMade (writes_at (index_at old to) qs) old mid.shelves → AreMade (writes_at (index_at mid first) rs) mid new
+pub both_made : (old mid : Attached) (new : List StoreView) (first from to : List ℕ) (v : Survey) (qs rs : List Request) → GoOn old mid → index_at old first ≡ 0 → qs ≡ requests_of v.seen → rs ≡ renewals from to v.entries → AreMade (writes_at (index_at old to) qs) old mid.views → AreMade (writes_at (index_at mid first) rs) mid new
     → AreMade (writes_of (index_at old to) (record { from = from; to = to }) v) old new
 both_made old mid new first from to v qs rs goes named a b h k =
-    made_both (writes_at (index_at old to) (requests_of v.seen)) (writes_at 0 (renewals from to v.entries)) old mid new goes (subst (λ (l : List Request). AreMade (writes_at (index_at old to) l) old mid.shelves) a h)
+    made_both (writes_at (index_at old to) (requests_of v.seen)) (writes_at 0 (renewals from to v.entries)) old mid new goes (subst (λ (l : List Request). AreMade (writes_at (index_at old to) l) old mid.views) a h)
     (subst (λ (l : List Request). AreMade (writes_at 0 l) mid new) b (subst (λ (n : ℕ). AreMade (writes_at n rs) mid new) (later_index old mid first goes named) k))
 
 pub left_first : (old new : Attached) (from to : List ℕ) (v : Survey) (qs : List Request) → qs ≡ requests_of v.seen → HoldFirst (writes_at (index_at old to) qs) old new → HoldFirst (writes_of (index_at old to) (record { from = from; to = to }) v) old new
@@ -99,7 +99,7 @@ left_second old mid new first from to v qs rs goes named a b h k =
     subst (λ (ws : List Write). HoldFirst ws old new) (ap (λ (l : List Request). writes_at (index_at old to) l ++ writes_at 0 rs) a ∙ ap (λ (l : List Request). writes_at (index_at old to) (requests_of v.seen) ++ writes_at 0 l) b)
     (first_back old mid new (writes_at (index_at old to) qs) (writes_at 0 rs) goes h (subst (λ (n : ℕ). HoldFirst (writes_at n rs) mid new) (later_index old mid first goes named) k))
 
-pub halted_first : (old : Attached) (new : List Shelf) (from to : List ℕ) (v : Survey) (qs : List Request) (e : RetireRefused) → qs ≡ requests_of v.seen → IsUnwritten (writes_at (index_at old to) qs) old new e → IsHalted (index_at old to) (record { from = from; to = to }) v old new e
+pub halted_first : (old : Attached) (new : List StoreView) (from to : List ℕ) (v : Survey) (qs : List Request) (e : RetireRefused) → qs ≡ requests_of v.seen → IsUnwritten (writes_at (index_at old to) qs) old new e → IsHalted (index_at old to) (record { from = from; to = to }) v old new e
 halted_first old new from to v qs refused.StoreFault a h = h
 halted_first old new from to v qs (refused.BadRow key) a h =
     let ws = writes_at (index_at old to) (requests_of v.seen) in
@@ -107,7 +107,7 @@ halted_first old new from to v qs (refused.BadRow key) a h =
     unmet_among old old new (ws ++ rs) [] ws rs key refl (goes_none old) (hold_none old) (subst (λ (l : List Request). WasUnmet (writes_at (index_at old to) l) key old new) a h)
 halted_first old new from to v qs refused.NoMemory a h = h
 
-pub halted_second : (old mid : Attached) (new : List Shelf) (first from to : List ℕ) (v : Survey) (qs rs : List Request) (e : RetireRefused) → GoOn old mid → index_at old first ≡ 0 → qs ≡ requests_of v.seen → rs ≡ renewals from to v.entries → Hold (writes_at (index_at old to) qs) old mid → IsUnwritten (writes_at (index_at mid first) rs) mid new e
+pub halted_second : (old mid : Attached) (new : List StoreView) (first from to : List ℕ) (v : Survey) (qs rs : List Request) (e : RetireRefused) → GoOn old mid → index_at old first ≡ 0 → qs ≡ requests_of v.seen → rs ≡ renewals from to v.entries → Hold (writes_at (index_at old to) qs) old mid → IsUnwritten (writes_at (index_at mid first) rs) mid new e
     → IsHalted (index_at old to) (record { from = from; to = to }) v old new e
 halted_second old mid new first from to v qs rs refused.StoreFault goes named a b h u = risen_more old mid new goes u
 halted_second old mid new first from to v qs rs (refused.BadRow key) goes named a b h u =
@@ -122,14 +122,14 @@ halted_second old mid new first from to v qs rs refused.NoMemory goes named a b 
 pub all_held : (old mid new : Attached) (s : Sides) (v : Survey) → GoOn old mid → Hold [] old mid → Hold (writes_of (index_at mid s.to) s v) mid new → Hold (writes_of (index_at old s.to) s v) old new
 all_held old mid new s v goes same h = hold_same old mid new (writes_of (index_at old s.to) s v) goes same (subst (λ (i : ℕ). Hold (writes_of i s v) mid new) (same_index old mid s.to goes) h)
 
-pub all_moved : (old mid new : Attached) (s : Sides) (v : Survey) (n : ℕ) → GoOn old mid → Hold [] old mid → IsSurvey s old v → n ≡ copies_of v → AreMade (writes_of (index_at mid s.to) s v) mid new.shelves → Hold (writes_of (index_at mid s.to) s v) mid new → AreMoved s n old new
+pub all_moved : (old mid new : Attached) (s : Sides) (v : Survey) (n : ℕ) → GoOn old mid → Hold [] old mid → IsSurvey s old v → n ≡ copies_of v → AreMade (writes_of (index_at mid s.to) s v) mid new.views → Hold (writes_of (index_at mid s.to) s v) mid new → AreAllMoved s n old new
 all_moved old mid new s v n goes same shown count made h = record {
   survey = v;
   shown = shown;
   count = count;
-  start = mid.shelves;
+  start = mid.views;
   read = same;
-  made = all_less (writes_of (index_at old s.to) s v) old mid new.shelves goes.telling (subst (λ (i : ℕ). AreMade (writes_of i s v) mid new.shelves) (same_index old mid s.to goes) made);
+  made = all_less (writes_of (index_at old s.to) s v) old mid new.views goes.where_known (subst (λ (i : ℕ). AreMade (writes_of i s v) mid new.views) (same_index old mid s.to goes) made);
   held = all_held old mid new s v goes same h;
   tables = tables_moved s old new v shown (all_held old mid new s v goes same h);
   rows = λ known. rows_renewed s old new v known shown (all_held old mid new s v goes same h);
@@ -142,27 +142,27 @@ part_left old mid new s v goes same shown h = inr (record {
   held = first_back old mid new [] (writes_of (index_at old s.to) s v) goes same (subst (λ (i : ℕ). HoldFirst (writes_of i s v) mid new) (same_index old mid s.to goes) h);
 })
 
-pub unmoved_unsurveyed : (old new : Attached) (s : Sides) (e : RetireRefused) → Hold [] old new → IsUnsurveyed s old new.shelves e → IsUnmoved s old new e
+pub unmoved_unsurveyed : (old new : Attached) (s : Sides) (e : RetireRefused) → Hold [] old new → IsUnsurveyed s old new.views e → IsUnmoved s old new e
 unmoved_unsurveyed old new s refused.StoreFault same h = h
 unmoved_unsurveyed old new s (refused.BadRow key) same h = inl (h, same)
 unmoved_unsurveyed old new s refused.NoMemory same h = h
 
-pub unmoved_halted : (old mid new : Attached) (s : Sides) (v : Survey) (e : RetireRefused) → GoOn old mid → Hold [] old mid → IsSurvey s old v → IsHalted (index_at mid s.to) s v mid new.shelves e → IsUnmoved s old new e
-unmoved_halted old mid new s v refused.StoreFault goes same shown h = risen_more old mid new.shelves goes h
+pub unmoved_halted : (old mid new : Attached) (s : Sides) (v : Survey) (e : RetireRefused) → GoOn old mid → Hold [] old mid → IsSurvey s old v → IsHalted (index_at mid s.to) s v mid new.views e → IsUnmoved s old new e
+unmoved_halted old mid new s v refused.StoreFault goes same shown h = risen_more old mid new.views goes h
 unmoved_halted old mid new s v (refused.BadRow key) goes same shown h = inr (record {
   survey = v;
   shown = shown;
   met =
       let ws = writes_of (index_at old s.to) s v in
-      unmet_among old mid new.shelves ws [] ws [] key (sym (append-nil ws)) goes same (subst (λ (i : ℕ). WasUnmet (writes_of i s v) key mid new.shelves) (same_index old mid s.to goes) h);
+      unmet_among old mid new.views ws [] ws [] key (sym (append-nil ws)) goes same (subst (λ (i : ℕ). WasUnmet (writes_of i s v) key mid new.views) (same_index old mid s.to goes) h);
 })
 unmoved_halted old mid new s v refused.NoMemory goes same shown h = h
 
-pub others_part : (old mid new : Attached) (s : Sides) (v : Survey) → GoOn old mid → Hold [] old mid → HoldFirst (writes_of (index_at mid s.to) s v) mid new → KeepOthers s old new
+pub others_part : (old mid new : Attached) (s : Sides) (v : Survey) → GoOn old mid → Hold [] old mid → HoldFirst (writes_of (index_at mid s.to) s v) mid new → OthersArePreserved s old new
 others_part old mid new s v goes same h =
     others_first s old new v (first_back old mid new [] (writes_of (index_at old s.to) s v) goes same (subst (λ (i : ℕ). HoldFirst (writes_of i s v) mid new) (same_index old mid s.to goes) h))
 
-pub others_all : (old mid new : Attached) (s : Sides) (v : Survey) → GoOn old mid → Hold [] old mid → Hold (writes_of (index_at mid s.to) s v) mid new → KeepOthers s old new
+pub others_all : (old mid new : Attached) (s : Sides) (v : Survey) → GoOn old mid → Hold [] old mid → Hold (writes_of (index_at mid s.to) s v) mid new → OthersArePreserved s old new
 others_all old mid new s v goes same h = others_held s old new v (all_held old mid new s v goes same h)
 
 -- what is left, whatever the refusal

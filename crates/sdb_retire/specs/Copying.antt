@@ -12,10 +12,10 @@ use Rattle.sdb_types.specs.declared.record.Reply.TheVariants as reply
 use Rattle.sdb_types.specs.declared.record.Request.{Request}
 use Rattle.sdb_types.specs.declared.record.Request.TheVariants as ask
 use Rattle.sdb_record.specs.Meta.{id_in, state_in}
-use Rattle.sdb_stores.specs.Shelf.{Attached, Shelf, IsCallAt}
-use Rattle.sdb_catalog.specs.Calls.{with_shelves}
+use Rattle.sdb_stores.specs.Views.{Attached, StoreView, IsCallAt}
+use Rattle.sdb_catalog.specs.Calls.{with_states}
 use Rattle.sdb_retire.specs.declared.seen.Seen.{Seen}
-use Rattle.sdb_retire.specs.Writes.{Hold, IsShown, Write}
+use Rattle.sdb_retire.specs.Writes.{Hold, IsScanned, Write}
 
 -- the version that a record is: an id and a state 1 to 3
 abbrev pub version_in : Record → Option Condition
@@ -66,8 +66,8 @@ pub record IsFirstBlocking (in_to in_from : List Record) (place : Key) : Type 0 
 
 -- The two stores showed these rows of a table, and none of them blocks the copy.
 pub record IsSeen (from to : ℕ) (old : Attached) (s : Seen) : Type 0 where
-  pub in_to : IsShown to s.table s.in_to old
-  pub in_from : IsShown from s.table s.in_from old
+  pub in_to : IsScanned to s.table s.in_to old
+  pub in_from : IsScanned from s.table s.in_from old
   pub free : AreFree s.in_from s.in_to
 
 -- The two stores showed rows of a table of which the one of this key blocks the copy.
@@ -76,8 +76,8 @@ pub record IsBlocked (from to : ℕ) (old : Attached) (tables : List TableName) 
   pub among : Contains tables table
   pub to_rows : List Record
   pub from_rows : List Record
-  pub in_to : IsShown to table to_rows old
-  pub in_from : IsShown from table from_rows old
+  pub in_to : IsScanned to table to_rows old
+  pub in_from : IsScanned from table from_rows old
   pub blocking : IsFirstBlocking to_rows from_rows place
 
 -- A write that isn't met is passed over where it is a delete, and where it puts a record that is there already.
@@ -99,15 +99,15 @@ IsDone q reply.Applied = Unit {0}
 IsDone q (reply.NotMet found) = Passes q found
 
 -- A write was made by one call, and is done with.
-pub record IsMade (w : Write) (old : Attached) (new : List Shelf) : Type 0 where
+pub record IsMade (w : Write) (old : Attached) (new : List StoreView) : Type 0 where
   pub answer : Reply
-  pub called : IsCallAt w.at w.request answer old (with_shelves old new)
+  pub called : IsCallAt w.at w.request answer old (with_states old new)
   pub done : IsDone w.request answer
 
 -- Writes were made, one after the other.
-abbrev pub AreMade : List Write → Attached → List Shelf → Type 0
-AreMade [] old new = new ≡ old.shelves
-AreMade (w ∷ ws) old new = (mid : List Shelf) × IsMade w old mid × AreMade ws (with_shelves old mid) new
+abbrev pub AreMade : List Write → Attached → List StoreView → Type 0
+AreMade [] old new = new ≡ old.views
+AreMade (w ∷ ws) old new = (mid : List StoreView) × IsMade w old mid × AreMade ws (with_states old mid) new
 
 -- the key that a write is about
 abbrev pub key_asked : Request → Option Key
@@ -117,14 +117,14 @@ key_asked (ask.Get key) = None
 key_asked (ask.Scan span) = None
 
 -- The first of these writes were made, and the next, a put at this key, found another record there.
-pub record WasUnmet (writes : List Write) (place : Key) (old : Attached) (new : List Shelf) : Type 0 where
+pub record WasUnmet (writes : List Write) (place : Key) (old : Attached) (new : List StoreView) : Type 0 where
   pub done : List Write
   pub write : Write
   pub later : List Write
   pub parts : writes ≡ done ++ write ∷ later
-  pub mid : List Shelf
-  pub held : Hold done old (with_shelves old mid)
+  pub mid : List StoreView
+  pub held : Hold done old (with_states old mid)
   pub found : Option Record
-  pub called : IsCallAt write.at write.request (reply.NotMet found) (with_shelves old mid) (with_shelves old new)
+  pub called : IsCallAt write.at write.request (reply.NotMet found) (with_states old mid) (with_states old new)
   pub fails : Passes write.request found → ⊥
   pub key : key_asked write.request ≡ Some place

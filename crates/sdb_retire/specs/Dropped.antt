@@ -4,14 +4,14 @@ use Rattle.sdb_types.specs.declared.key.Key.{Key}
 use Rattle.sdb_types.specs.Contents.{Contents, rows_in}
 use Rattle.sdb_schema.specs.declared.table.Table.{Table}
 use Rattle.sdb_stores.specs.declared.place.Place.{Place}
-use Rattle.sdb_stores.specs.Shelf.{Attached, Shelf, IsDropped, index_at, index_in, names_of}
+use Rattle.sdb_stores.specs.Views.{Attached, StoreView, IsDropped, index_at, index_in, names_of}
 use Rattle.sdb_catalog.specs.declared.entry.Entry.{Entry}
-use Rattle.sdb_catalog.specs.Calls.{first_contents, metadata_span, with_shelves}
+use Rattle.sdb_catalog.specs.Calls.{first_contents, metadata_span, with_states}
 use Rattle.sdb_catalog.specs.Known.{IsCatalogIn}
 use Rattle.sdb_catalog.specs.Opened.{Opens, tables_of}
-use Rattle.sdb_retire.specs.Imaged.{IsOfTable, image_by, kept_at, kept_before}
+use Rattle.sdb_retire.specs.Imaged.{IsOfTable, image_by, record_in_store, record_before}
 use Rattle.sdb_retire.specs.Moving.{OpensMoving}
-use Rattle.sdb_retire.specs.Retired.{AreMoved, KeepOthers, Sides}
+use Rattle.sdb_retire.specs.Retired.{AreAllMoved, OthersArePreserved, Sides}
 use Rattle.sdb_retire.specs.Writes.{GoOn, contents_at}
 
 -- The store `from` may be given up for `to`, among stores of these names: both are attached, they differ, and `from` isn't the first.
@@ -23,29 +23,29 @@ pub record MayRetire (names : List (List ℕ)) (s : Sides) : Type 0 where
 
 -- Everything was moved, which made these of the stores, and then the store was dropped.
 pub record IsRetired (s : Sides) (n : ℕ) (old new : Attached) : Type 0 where
-  pub mid : List Shelf
-  pub moved : AreMoved s n old (with_shelves old mid)
-  pub others : KeepOthers s old (with_shelves old mid)
-  pub goes : GoOn old (with_shelves old mid)
-  pub dropped : IsDropped s.from (with_shelves old mid) new
+  pub mid : List StoreView
+  pub moved : AreAllMoved s n old (with_states old mid)
+  pub others : OthersArePreserved s old (with_states old mid)
+  pub goes : GoOn old (with_states old mid)
+  pub dropped : IsDropped s.from (with_states old mid) new
 
 -- All contents are known.
 abbrev pub AllKnown : Attached → Type 0
-AllKnown stores = (i : ℕ) → i < length stores.shelves → stores.tells i
+AllKnown stores = (i : ℕ) → i < length stores.views → stores.known i
 
 -- At each key of the catalog's tables the committed image is the one of before, where tables of moving namespaces are read in `from`.
-abbrev pub ImagesStay : Sides → Attached → Attached → List Entry → List Entry → Type 0
-ImagesStay s old new before now = (key : Key) → IsOfTable before key → image_by (kept_at new now) key ≡ image_by (kept_before s old before) key
+abbrev pub ImagesArePreserved : Sides → Attached → Attached → List Entry → List Entry → Type 0
+ImagesArePreserved s old new before now = (key : Key) → IsOfTable before key → image_by (record_in_store new now) key ≡ image_by (record_before s old before) key
 
 -- The rows of the catalog open over the stores that are left, and give the tables that they gave before, whichever store they named, and
 -- these the images that they had.
 pub record OpensTheSame (s : Sides) (old new : Attached) : Type 0 where
   pub before : List Entry
   pub now : List Entry
-  pub opened : OpensMoving (names_of old.shelves) s.from s.to (rows_in metadata_span (first_contents old.shelves)) before
-  pub opens : Opens (names_of new.shelves) (rows_in metadata_span (first_contents new.shelves)) now
+  pub opened : OpensMoving (names_of old.views) s.from s.to (rows_in metadata_span (first_contents old.views)) before
+  pub opens : Opens (names_of new.views) (rows_in metadata_span (first_contents new.views)) now
   pub tables : tables_of now ≡ tables_of before
-  pub images : AllKnown old → ImagesStay s old new before now
+  pub images : AllKnown old → ImagesArePreserved s old new before now
 
 -- An opening of the catalog over stores of these names, of which the first holds these contents, and what it returned.
 pub record Reopening : Type 0 where
@@ -64,4 +64,4 @@ pub record IsReopened (r : Reopening) (before : List Entry) : Type 0 where
 -- The store of that name is attached, and holds what it held, where that is known.
 pub record HoldsStill (name : List ℕ) (old new : Attached) : Type 0 where
   pub attached : IsSome (index_in new name)
-  pub contents : old.tells (index_at old name) → contents_at new.shelves (index_at new name) ≡ contents_at old.shelves (index_at old name)
+  pub contents : old.known (index_at old name) → contents_at new.views (index_at new name) ≡ contents_at old.views (index_at old name)

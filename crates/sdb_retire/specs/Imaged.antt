@@ -8,7 +8,7 @@ use Rattle.sdb_types.specs.Contents.{record_at}
 use Rattle.sdb_record.specs.Coordinator.{coordinator_key_of, decision_in}
 use Rattle.sdb_record.specs.Meta.{id_in}
 use Rattle.sdb_record.specs.Rolls.{image_of}
-use Rattle.sdb_stores.specs.Shelf.{Attached, index_at}
+use Rattle.sdb_stores.specs.Views.{Attached, index_at}
 use Rattle.sdb_catalog.specs.declared.entry.Entry.{Entry}
 use Rattle.sdb_catalog.specs.Opened.{store_in}
 use Rattle.sdb_retire.specs.Joined.{is_among}
@@ -25,12 +25,12 @@ abbrev pub home_by : Attached → List Entry → List ℕ → ℕ
 home_by stores es ns = option_map_or (index_at stores) (store_in es ns) 0
 
 -- what is at a key, in the store that keeps its namespace
-abbrev pub kept_at : Attached → List Entry → Key → Option Record
-kept_at stores es key = record_at (contents_at stores.shelves (home_by stores es key.table.ns)) key
+abbrev pub record_in_store : Attached → List Entry → Key → Option Record
+record_in_store stores es key = record_at (contents_at stores.views (home_by stores es key.table.ns)) key
 
 -- the same, where tables of moving namespaces are read in `from`
-abbrev pub kept_before : Sides → Attached → List Entry → Key → Option Record
-kept_before s stores es key = if is_among (moving_tables s.from es) key then record_at (contents_at stores.shelves (index_at stores s.from)) key else kept_at stores es key
+abbrev pub record_before : Sides → Attached → List Entry → Key → Option Record
+record_before s stores es key = if is_among (moving_tables s.from es) key then record_at (contents_at stores.views (index_at stores s.from)) key else record_in_store stores es key
 
 -- The key is of a table of the catalog.
 abbrev pub IsOfTable : List Entry → Key → Type 0

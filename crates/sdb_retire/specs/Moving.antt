@@ -24,11 +24,11 @@ agrees_moving from to e a =
     not (bytes_eq a.table.name.ns e.table.name.ns) || bytes_eq (settled from to a.store) (settled from to e.store)
 
 -- An entry agrees with those before it, and 64 tables are not passed.
-abbrev pub fits_moving : List ℕ → List ℕ → List Entry → Entry → Bool
-fits_moving from to passed e = list_all (agrees_moving from to e) passed && (is_coordinators e || nat_lt (open_count passed) 64)
+abbrev pub agrees_with_moving : List ℕ → List ℕ → List Entry → Entry → Bool
+agrees_with_moving from to passed e = list_all (agrees_moving from to e) passed && (is_coordinators e || nat_lt (open_count passed) 64)
 
 abbrev pub FollowsMoving : List (List ℕ) → List ℕ → List ℕ → List Entry → Entry → Type 0
-FollowsMoving names from to passed e = IsEntry names e × (fits_moving from to passed e ≡ true)
+FollowsMoving names from to passed e = IsEntry names e × (agrees_with_moving from to passed e ≡ true)
 
 -- each may follow those before it
 abbrev pub FollowMoving : List (List ℕ) → List ℕ → List ℕ → List Entry → List Entry → Type 0
@@ -51,12 +51,12 @@ pub record IsFirstBadMoving (names : List (List ℕ)) (from to : List ℕ) (rs :
   pub key : bad.key ≡ place
 
 -- an entry that says that a namespace is in this store
-abbrev pub keeps : List ℕ → List ℕ → Entry → Bool
-keeps from ns e = bytes_eq e.store from && bytes_eq e.table.name.ns ns
+abbrev pub is_in_store : List ℕ → List ℕ → Entry → Bool
+is_in_store from ns e = bytes_eq e.store from && bytes_eq e.table.name.ns ns
 
 -- A namespace is moving where an entry of it names `from`.
 abbrev pub is_moving : List ℕ → List Entry → List ℕ → Bool
-is_moving from es ns = list_any (keeps from ns) es
+is_moving from es ns = list_any (is_in_store from ns) es
 
 -- the tables of moving namespaces, in the order of the rows
 abbrev pub moving_tables : List ℕ → List Entry → List TableName

@@ -1,7 +1,7 @@
 -- What a retirement comes to.
 use Rattle.std.specs.Prelude.{◌≡◌, ◌≢◌, ◌⊎◌, ℕ, true, List, [], ◌++◌, count_by, map}
 use Rattle.sdb_types.specs.declared.key.Key.{Key}
-use Rattle.sdb_stores.specs.Shelf.{Attached, Shelf, HaveRisen, index_at}
+use Rattle.sdb_stores.specs.Views.{Attached, StoreView, HaveRisen, index_at}
 use Rattle.sdb_catalog.specs.declared.entry.Entry.{Entry}
 use Rattle.sdb_types.specs.Contents.{rows_in}
 use Rattle.sdb_catalog.specs.Opened.{is_attached}
@@ -9,7 +9,7 @@ use Rattle.sdb_catalog.specs.Rows.{metadata_table, row_of}
 use Rattle.sdb_retire.specs.declared.refused.RetireRefused.{RetireRefused}
 use Rattle.sdb_retire.specs.declared.refused.RetireRefused.TheVariants as refused
 use Rattle.sdb_retire.specs.declared.survey.Survey.{Survey}
-use Rattle.sdb_catalog.specs.Calls.{with_shelves}
+use Rattle.sdb_catalog.specs.Calls.{with_states}
 use Rattle.sdb_retire.specs.Copying.{AreMade, IsBlocked, WasUnmet, is_put, requests_of}
 use Rattle.sdb_retire.specs.Joined.{ArePartly, AreStillAttached, IsJoined, settle}
 use Rattle.sdb_retire.specs.Moving.{FollowMoving, moving_tables, renewals}
@@ -40,36 +40,36 @@ pub record IsSurvey (s : Sides) (old : Attached) (v : Survey) : Type 0 where
 
 -- The contents of the first store and of both sides are known.
 pub record AreKnown (s : Sides) (old : Attached) : Type 0 where
-  pub first : old.tells 0
-  pub from : old.tells (index_at old s.from)
-  pub to : old.tells (index_at old s.to)
+  pub first : old.known 0
+  pub from : old.known (index_at old s.from)
+  pub to : old.known (index_at old s.to)
 
 -- At keys of the moving tables `to` holds what `from` held, and elsewhere what it held, where the contents of both are known. Of rows of
--- the catalog nothing is said here.
-abbrev pub TablesMoved : Sides → Survey → Attached → Attached → Type 0
-TablesMoved s v old new =
-    old.tells (index_at old s.from) → old.tells (index_at old s.to) → (key : Key) → key.table ≢ metadata_table
-    → IsJoined (moving_tables s.from v.entries) (contents_at old.shelves (index_at old s.from)) (contents_at old.shelves (index_at old s.to)) (contents_at new.shelves (index_at old s.to)) key
+-- the catalog this says nothing.
+abbrev pub TablesCopied : Sides → Survey → Attached → Attached → Type 0
+TablesCopied s v old new =
+    old.known (index_at old s.from) → old.known (index_at old s.to) → (key : Key) → key.table ≢ metadata_table
+    → IsJoined (moving_tables s.from v.entries) (contents_at old.views (index_at old s.from)) (contents_at old.views (index_at old s.to)) (contents_at new.views (index_at old s.to)) key
 
 -- The catalog's rows in the first store are those of the entries, each one settled, where all contents are known.
-abbrev pub RowsMoved : Sides → Survey → Attached → Attached → Type 0
-RowsMoved s v old new = AreKnown s old → rows_in (span_of metadata_table) (contents_at new.shelves 0) ≡ map row_of (map (settle s.from s.to) v.entries)
+abbrev pub RowsRewritten : Sides → Survey → Attached → Attached → Type 0
+RowsRewritten s v old new = AreKnown s old → rows_in (span_of metadata_table) (contents_at new.views 0) ≡ map row_of (map (settle s.from s.to) v.entries)
 
 -- Each store of known contents but the first and `to` holds what it held.
-abbrev pub KeepOthers : Sides → Attached → Attached → Type 0
-KeepOthers s old new = (i : ℕ) → i ≢ index_at old s.to → i ≢ 0 → old.tells i → contents_at new.shelves i ≡ contents_at old.shelves i
+abbrev pub OthersArePreserved : Sides → Attached → Attached → Type 0
+OthersArePreserved s old new = (i : ℕ) → i ≢ index_at old s.to → i ≢ 0 → old.known i → contents_at new.views i ≡ contents_at old.views i
 
 -- All writes were made, from what the stores showed once they were read.
-pub record AreMoved (s : Sides) (n : ℕ) (old new : Attached) : Type 0 where
+pub record AreAllMoved (s : Sides) (n : ℕ) (old new : Attached) : Type 0 where
   pub survey : Survey
   pub shown : IsSurvey s old survey
   pub count : n ≡ copies_of survey
-  pub start : List Shelf
-  pub read : Hold [] old (with_shelves old start)
-  pub made : AreMade (writes_of (index_at old s.to) s survey) (with_shelves old start) new.shelves
+  pub start : List StoreView
+  pub read : Hold [] old (with_states old start)
+  pub made : AreMade (writes_of (index_at old s.to) s survey) (with_states old start) new.views
   pub held : Hold (writes_of (index_at old s.to) s survey) old new
-  pub tables : TablesMoved s survey old new
-  pub rows : RowsMoved s survey old new
+  pub tables : TablesCopied s survey old new
+  pub rows : RowsRewritten s survey old new
 
 -- The first of the writes were made.
 pub record IsPart (s : Sides) (old new : Attached) : Type 0 where
@@ -78,8 +78,8 @@ pub record IsPart (s : Sides) (old new : Attached) : Type 0 where
   pub held : HoldFirst (writes_of (index_at old s.to) s survey) old new
 
 -- Why the writes were not all made.
-abbrev pub IsHalted : ℕ → Sides → Survey → Attached → List Shelf → RetireRefused → Type 0
-IsHalted to s v old new refused.StoreFault = HaveRisen old.shelves new
+abbrev pub IsHalted : ℕ → Sides → Survey → Attached → List StoreView → RetireRefused → Type 0
+IsHalted to s v old new refused.StoreFault = HaveRisen old.views new
 IsHalted to s v old new (refused.BadRow key) = WasUnmet (writes_of to s v) key old new
 IsHalted to s v old new refused.NoMemory = Unit {0}
 
@@ -90,13 +90,13 @@ pub record IsBlockedCopy (s : Sides) (old : Attached) (place : Key) : Type 0 whe
   pub blocked : IsBlocked (index_at old s.from) (index_at old s.to) old (moving_tables s.from entries) place
 
 -- Why there is no survey: a fault raised the count of the stores, a row of the catalog is bad, or a record blocks the copy.
-abbrev pub IsUnsurveyed : Sides → Attached → List Shelf → RetireRefused → Type 0
-IsUnsurveyed s old new refused.StoreFault = HaveRisen old.shelves new
+abbrev pub IsUnsurveyed : Sides → Attached → List StoreView → RetireRefused → Type 0
+IsUnsurveyed s old new refused.StoreFault = HaveRisen old.views new
 IsUnsurveyed s old new (refused.BadRow key) = IsBadRow s.from s.to 0 old key ⊎ IsBlockedCopy s old key
 IsUnsurveyed s old new refused.NoMemory = Unit {0}
 
 -- A write found another record.
-pub record IsMetWriting (s : Sides) (old : Attached) (new : List Shelf) (place : Key) : Type 0 where
+pub record IsMetWriting (s : Sides) (old : Attached) (new : List StoreView) (place : Key) : Type 0 where
   pub survey : Survey
   pub shown : IsSurvey s old survey
   pub met : WasUnmet (writes_of (index_at old s.to) s survey) place old new
@@ -108,13 +108,13 @@ IsBarred s old new key = (IsBadRow s.from s.to 0 old key ⊎ IsBlockedCopy s old
 -- Why not everything was moved: a fault raised the count of the stores; a row or a record bars it, and nothing was written; or a write
 -- found another record.
 abbrev pub IsUnmoved : Sides → Attached → Attached → RetireRefused → Type 0
-IsUnmoved s old new refused.StoreFault = HaveRisen old.shelves new.shelves
-IsUnmoved s old new (refused.BadRow key) = IsBarred s old new key ⊎ IsMetWriting s old new.shelves key
+IsUnmoved s old new refused.StoreFault = HaveRisen old.views new.views
+IsUnmoved s old new (refused.BadRow key) = IsBarred s old new key ⊎ IsMetWriting s old new.views key
 IsUnmoved s old new refused.NoMemory = Unit {0}
 
 -- Why not everything was moved, where all contents are known: no write finds another record then.
 abbrev pub IsUnmovedKnown : Sides → Attached → Attached → RetireRefused → Type 0
-IsUnmovedKnown s old new refused.StoreFault = HaveRisen old.shelves new.shelves
+IsUnmovedKnown s old new refused.StoreFault = HaveRisen old.views new.views
 IsUnmovedKnown s old new (refused.BadRow key) = AreKnown s old → IsBarred s old new key
 IsUnmovedKnown s old new refused.NoMemory = Unit {0}
 
@@ -129,8 +129,8 @@ abbrev pub IsMovingCatalog : Retirement → Type 0
 IsMovingCatalog r = FollowMoving r.names r.sides.from r.sides.to [] r.entries
 
 -- The store that takes over is attached.
-abbrev pub IsTakenOver : Retirement → Type 0
-IsTakenOver r = is_attached r.names r.sides.to ≡ true
+abbrev pub HasTarget : Retirement → Type 0
+HasTarget r = is_attached r.names r.sides.to ≡ true
 
 -- the entries once the store is given up
 abbrev pub settled : Retirement → List Entry

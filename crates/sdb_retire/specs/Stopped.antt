@@ -2,14 +2,14 @@
 use Rattle.std.specs.Prelude.{◌≡◌, List, Option, Some}
 use Rattle.sdb_types.specs.declared.record.Record.{Record}
 use Rattle.sdb_types.specs.declared.record.Request.{Request}
-use Rattle.sdb_stores.specs.Shelf.{Attached, Shelf, HaveRisen}
+use Rattle.sdb_stores.specs.Views.{Attached, StoreView, HaveRisen}
 use Rattle.sdb_retire.specs.Copying.{IsFirstBlocking, Passes, WasUnmet, key_asked}
 use Rattle.sdb_retire.specs.Writes.{Write}
 use Rattle.sdb_retire.specs.declared.refused.RetireRefused.{RetireRefused}
 use Rattle.sdb_retire.specs.declared.refused.RetireRefused.TheVariants as refused
 
 -- Why a call had no answer: a fault raised the count of the stores, or memory ran out.
-abbrev pub IsStopped : List Shelf → List Shelf → RetireRefused → Type 0
+abbrev pub IsStopped : List StoreView → List StoreView → RetireRefused → Type 0
 IsStopped old new refused.StoreFault = HaveRisen old new
 IsStopped old new (refused.BadRow key) = ⊥
 IsStopped old new refused.NoMemory = Unit {0}
@@ -21,8 +21,8 @@ IsBlockedIn in_to in_from (refused.BadRow key) = IsFirstBlocking in_to in_from k
 IsBlockedIn in_to in_from refused.NoMemory = Unit {0}
 
 -- Why a write was not made, or not passed over: a fault raised the count of the stores, or it found another record.
-abbrev pub IsUnwritten : List Write → Attached → List Shelf → RetireRefused → Type 0
-IsUnwritten writes old new refused.StoreFault = HaveRisen old.shelves new
+abbrev pub IsUnwritten : List Write → Attached → List StoreView → RetireRefused → Type 0
+IsUnwritten writes old new refused.StoreFault = HaveRisen old.views new
 IsUnwritten writes old new (refused.BadRow key) = WasUnmet writes key old new
 IsUnwritten writes old new refused.NoMemory = Unit {0}
 

@@ -6,14 +6,14 @@ use Rattle.sdb_types.specs.declared.record.Record.{Record}
 use Rattle.sdb_types.specs.declared.record.Request.{Request}
 use Rattle.sdb_types.specs.declared.record.Span.{Span}
 use Rattle.sdb_types.specs.Contents.{Contents, after, are_rows_of, rows_in}
-use Rattle.sdb_stores.specs.Shelf.{Attached, Shelf, names_of, total_faults}
+use Rattle.sdb_stores.specs.Views.{Attached, StoreView, names_of, total_faults}
 
-abbrev pub contents_of : Option Shelf → Contents
+abbrev pub contents_of : Option StoreView → Contents
 contents_of None = empty
 contents_of (Some s) = s.contents
 
 -- what the store at an index holds
-abbrev pub contents_at : List Shelf → ℕ → Contents
+abbrev pub contents_at : List StoreView → ℕ → Contents
 contents_at shelves i = contents_of (slice_get shelves i)
 
 -- a request to the store at an index
@@ -39,32 +39,32 @@ after_writes i (w ∷ ws) m = after_writes i ws (after_write i w m)
 
 -- The stores and their places stay, no count of failures falls, and known contents stay known.
 pub record GoOn (old new : Attached) : Type 0 where
-  pub names : names_of new.shelves ≡ names_of old.shelves
+  pub names : names_of new.views ≡ names_of old.views
   pub places : new.places ≡ old.places
-  pub counted : total_faults old.shelves ≤ total_faults new.shelves
-  pub telling : (i : ℕ) → old.tells i → new.tells i
+  pub counted : total_faults old.views ≤ total_faults new.views
+  pub where_known : (i : ℕ) → old.known i → new.known i
 
 -- Each store of known contents holds what these writes leave.
 abbrev pub Hold : List Write → Attached → Attached → Type 0
-Hold ws old new = (i : ℕ) → old.tells i → contents_at new.shelves i ≡ after_writes i ws (contents_at old.shelves i)
+Hold ws old new = (i : ℕ) → old.known i → contents_at new.views i ≡ after_writes i ws (contents_at old.views i)
 
 -- Each store of known contents holds what it held, or what this write leaves.
 abbrev pub MayHold : Write → Attached → Attached → Type 0
 MayHold w old new =
-    (i : ℕ) → old.tells i → (contents_at new.shelves i ≡ contents_at old.shelves i) ⊎ (contents_at new.shelves i ≡ after_write i w (contents_at old.shelves i))
+    (i : ℕ) → old.known i → (contents_at new.views i ≡ contents_at old.views i) ⊎ (contents_at new.views i ≡ after_write i w (contents_at old.views i))
 
 -- Each store of known contents holds what the first of these writes leave, or what one more leaves.
 pub record HoldFirst (ws : List Write) (old new : Attached) : Type 0 where
   pub done : List Write
   pub later : List Write
   pub parts : ws ≡ done ++ later
-  pub held : (i : ℕ) → old.tells i → (contents_at new.shelves i ≡ after_writes i done (contents_at old.shelves i)) ⊎ (contents_at new.shelves i ≡ after_writes i (done ++ take 1 later) (contents_at old.shelves i))
+  pub held : (i : ℕ) → old.known i → (contents_at new.views i ≡ after_writes i done (contents_at old.views i)) ⊎ (contents_at new.views i ≡ after_writes i (done ++ take 1 later) (contents_at old.views i))
 
 -- the whole of a table
 abbrev pub span_of : TableName → Span
 span_of table = record { table = table; partition = None }
 
 -- The store at an index showed these rows of a table: all that it holds there, where its contents are known.
-pub record IsShown (at : ℕ) (table : TableName) (rows : List Record) (old : Attached) : Type 0 where
+pub record IsScanned (at : ℕ) (table : TableName) (rows : List Record) (old : Attached) : Type 0 where
   pub lawful : are_rows_of (span_of table) rows ≡ true
-  pub known : old.tells at → rows ≡ rows_in (span_of table) (contents_at old.shelves at)
+  pub known : old.known at → rows ≡ rows_in (span_of table) (contents_at old.views at)

@@ -1,8 +1,8 @@
 //! Calls on a named store.
 ghost use Rattle.std.specs.Prelude.{◌≡◌, ◌≢◌, ◌∷◌, [], IsSome, IfOk, IfErr, OnOk};
-ghost use Rattle.sdb_stores.specs.Shelf.{IsCallAt, index_at, index_in};
+ghost use Rattle.sdb_stores.specs.Views.{IsCallAt, index_at, index_in};
 ghost use Rattle.sdb_retire.specs.Stopped.{IsStopped};
-ghost use Rattle.sdb_retire.specs.Writes.{GoOn, Hold, IsShown, MayHold, write_at};
+ghost use Rattle.sdb_retire.specs.Writes.{GoOn, Hold, IsScanned, MayHold, write_at};
 
 use crate::refused::RetireRefused;
 use sdb_stores::Registry;
@@ -21,7 +21,7 @@ pub fn call<R: Registry>(
     ensures held { OnOk result (Hold (write_at (index_at (R.state stores.old) store.now) request.now ∷ []) (R.state stores.old) (R.state stores.new)) }
     ensures left { MayHold (write_at (index_at (R.state stores.old) store.now) request.now) (R.state stores.old) (R.state stores.new) }
     ensures goes { GoOn (R.state stores.old) (R.state stores.new) }
-    ensures err { IfErr result (IsStopped (R.state stores.old).shelves (R.state stores.new).shelves) }
+    ensures err { IfErr result (IsStopped (R.state stores.old).views (R.state stores.new).views) }
 {
     match stores.perform_at(store, request) {
         Reply::NoMemory => Err(RetireRefused::NoMemory),
@@ -37,10 +37,10 @@ pub fn scan<R: Registry>(
     table: &TableName,
 ) -> Result<Records, RetireRefused>
     requires attached { IsSome (index_in (R.state stores.old) store.now) }
-    ensures shown { IfOk result (λ rows. IsShown (index_at (R.state stores.old) store.now) table.now rows (R.state stores.old)) }
+    ensures shown { IfOk result (λ rows. IsScanned (index_at (R.state stores.old) store.now) table.now rows (R.state stores.old)) }
     ensures held { Hold [] (R.state stores.old) (R.state stores.new) }
     ensures goes { GoOn (R.state stores.old) (R.state stores.new) }
-    ensures err { IfErr result (IsStopped (R.state stores.old).shelves (R.state stores.new).shelves) }
+    ensures err { IfErr result (IsStopped (R.state stores.old).views (R.state stores.new).views) }
 {
     let request = Request::Scan(Span {
         table: table.copy()?,

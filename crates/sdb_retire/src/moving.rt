@@ -2,14 +2,14 @@
 ghost use Rattle.std.specs.Prelude.{◌≡◌, true, IfOk};
 ghost use Rattle.std.specs.List.{list_all};
 ghost use Rattle.sdb_schema.specs.Table.{rises};
-ghost use Rattle.sdb_retire.specs.Moving.{is_moving as is_moving_lem, keeps as keeps_lem, moving_tables as moving_tables_lem, next_revision as next_revision_lem, renewal as renewal_lem, renewals as renewals_lem};
+ghost use Rattle.sdb_retire.specs.Moving.{is_moving as is_moving_lem, is_in_store as is_in_store_lem, moving_tables as moving_tables_lem, next_revision as next_revision_lem, renewal as renewal_lem, renewals as renewals_lem};
 
 use sdb_catalog::{Entry, row_of};
 use sdb_types::{Condition, Duplicate, Name, NoMemory, Request, Seq, State, TableName, TxId};
 use std::alloc::Global;
 
 fn keeps(from: &Name, ns: &Name, entry: &Entry) -> bool
-    ensures { result ≡ keeps_lem from.now ns.now entry.now }
+    ensures { result ≡ is_in_store_lem from.now ns.now entry.now }
 {
     entry.store == *from && entry.table.name.ns == *ns
 }

@@ -2,10 +2,10 @@
 ghost use Rattle.std.specs.Prelude.{◌≡◌, [], true, IsSome, IfOk, IfErr, IfSome, OnOk};
 ghost use Rattle.std.specs.List.{list_all};
 ghost use Rattle.sdb_schema.specs.Table.{rises};
-ghost use Rattle.sdb_stores.specs.Shelf.{index_at, index_in};
+ghost use Rattle.sdb_stores.specs.Views.{index_at, index_in};
 ghost use Rattle.sdb_catalog.specs.declared.entry.Entry.{Entry};
 ghost use Rattle.sdb_catalog.specs.Rows.{row_of};
-ghost use Rattle.sdb_retire.specs.Moving.{agrees_moving, fits_moving, settled as settled_lem, FollowsMoving, OpensMoving};
+ghost use Rattle.sdb_retire.specs.Moving.{agrees_moving, agrees_with_moving, settled as settled_lem, FollowsMoving, OpensMoving};
 ghost use Rattle.sdb_retire.specs.Read.{AreOpened, IsBadAmong, IsUnread};
 ghost use Rattle.sdb_retire.specs.Writes.{GoOn, Hold};
 
@@ -37,7 +37,7 @@ fn all_agree(from: &Name, to: &Name, entry: &Entry, passed: &[Entry]) -> bool
 }
 
 fn fits(from: &Name, to: &Name, passed: &[Entry], entry: &Entry) -> bool
-    ensures { result ≡ fits_moving from.now to.now passed.now entry.now }
+    ensures { result ≡ agrees_with_moving from.now to.now passed.now entry.now }
 {
     all_agree(from, to, entry, passed) && (is_coordinators(entry) || count_tables(passed) < 64)
 }
@@ -97,7 +97,7 @@ pub fn read_moving<R: Registry>(
     ensures opened { IfOk result (AreOpened from.now to.now (index_at (R.state stores.old) first.now) (R.state stores.old)) }
     ensures held { Hold [] (R.state stores.old) (R.state stores.new) }
     ensures goes { GoOn (R.state stores.old) (R.state stores.new) }
-    ensures err { IfErr result (IsUnread from.now to.now (index_at (R.state stores.old) first.now) (R.state stores.old) (R.state stores.new).shelves) }
+    ensures err { IfErr result (IsUnread from.now to.now (index_at (R.state stores.old) first.now) (R.state stores.old) (R.state stores.new).views) }
 {
     let table = metadata_table(alloc)?;
     let rows = scan(stores, first, &table)?;

@@ -1,8 +1,8 @@
 //! A store retired: moved, and then dropped.
 ghost use Rattle.std.specs.Prelude.{◌≡◌, ◌↔◌, Contains, Some, IsTrue, IfOk, IfErr, OnOk, OnErr, slice_get};
-ghost use Rattle.sdb_stores.specs.Shelf.{names_of};
+ghost use Rattle.sdb_stores.specs.Views.{names_of};
 ghost use Rattle.sdb_retire.specs.Dropped.{HoldsStill, IsRetired, MayRetire, OpensTheSame};
-ghost use Rattle.sdb_retire.specs.Retired.{AreKnown, IsLeft, IsUnmoved, IsUnmovedKnown, KeepOthers, sides};
+ghost use Rattle.sdb_retire.specs.Retired.{AreKnown, IsLeft, IsUnmoved, IsUnmovedKnown, OthersArePreserved, sides};
 ghost use Rattle.sdb_retire.specs.Writes.{GoOn};
 
 use crate::refused::RetireRefused;
@@ -46,12 +46,12 @@ pub fn retire<R: Registry>(
     from: &Name,
     to: &Name,
 ) -> Result<u64, RetireRefused>
-    requires { MayRetire (names_of (R.state stores.old).shelves) (sides from.now to.now) }
+    requires { MayRetire (names_of (R.state stores.old).views) (sides from.now to.now) }
     ensures retired { IfOk result (λ n. IsRetired (sides from.now to.now) n (R.state stores.old) (R.state stores.new)) }
     ensures opens { OnOk result (AreKnown (sides from.now to.now) (R.state stores.old) → OpensTheSame (sides from.now to.now) (R.state stores.old) (R.state stores.new)) }
     ensures kept { OnErr result (HoldsStill from.now (R.state stores.old) (R.state stores.new)) }
     ensures left { OnErr result (IsLeft (sides from.now to.now) (R.state stores.old) (R.state stores.new)) }
-    ensures others { OnErr result (KeepOthers (sides from.now to.now) (R.state stores.old) (R.state stores.new)) }
+    ensures others { OnErr result (OthersArePreserved (sides from.now to.now) (R.state stores.old) (R.state stores.new)) }
     ensures goes { OnErr result (GoOn (R.state stores.old) (R.state stores.new)) }
     ensures err { IfErr result (IsUnmoved (sides from.now to.now) (R.state stores.old) (R.state stores.new)) }
     ensures known { IfErr result (IsUnmovedKnown (sides from.now to.now) (R.state stores.old) (R.state stores.new)) }

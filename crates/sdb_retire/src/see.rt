@@ -1,6 +1,6 @@
 //! What the two stores show of the tables that move.
 ghost use Rattle.std.specs.Prelude.{◌≡◌, ◌∷◌, [], IsSome, IfOk, IfErr};
-ghost use Rattle.sdb_stores.specs.Shelf.{index_at, index_in};
+ghost use Rattle.sdb_stores.specs.Views.{index_at, index_in};
 ghost use Rattle.sdb_retire.specs.Copying.{IsSeen};
 ghost use Rattle.sdb_retire.specs.Read.{AreSeen, IsUnseen};
 ghost use Rattle.sdb_retire.specs.Writes.{GoOn, Hold};
@@ -26,7 +26,7 @@ fn see_table<R: Registry>(
     ensures table { IfOk result (λ seen. seen.table ≡ table.now) }
     ensures held { Hold [] (R.state stores.old) (R.state stores.new) }
     ensures goes { GoOn (R.state stores.old) (R.state stores.new) }
-    ensures err { IfErr result (IsUnseen (index_at (R.state stores.old) from.now) (index_at (R.state stores.old) to.now) (table.now ∷ []) (R.state stores.old) (R.state stores.new).shelves) }
+    ensures err { IfErr result (IsUnseen (index_at (R.state stores.old) from.now) (index_at (R.state stores.old) to.now) (table.now ∷ []) (R.state stores.old) (R.state stores.new).views) }
 {
     let in_to = scan(stores, to, table)?;
     let in_from = scan(stores, from, table)?;
@@ -51,7 +51,7 @@ pub fn see_all<R: Registry>(
     ensures seen { IfOk result (AreSeen (index_at (R.state stores.old) from.now) (index_at (R.state stores.old) to.now) tables.now (R.state stores.old)) }
     ensures held { Hold [] (R.state stores.old) (R.state stores.new) }
     ensures goes { GoOn (R.state stores.old) (R.state stores.new) }
-    ensures err { IfErr result (IsUnseen (index_at (R.state stores.old) from.now) (index_at (R.state stores.old) to.now) tables.now (R.state stores.old) (R.state stores.new).shelves) }
+    ensures err { IfErr result (IsUnseen (index_at (R.state stores.old) from.now) (index_at (R.state stores.old) to.now) tables.now (R.state stores.old) (R.state stores.new).views) }
 {
     let mut seen = Seq::new(alloc);
     for table in tables {

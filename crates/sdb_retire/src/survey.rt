@@ -1,6 +1,6 @@
 //! What is read before the first write.
 ghost use Rattle.std.specs.Prelude.{◌≡◌, [], IsSome, IfOk, IfErr};
-ghost use Rattle.sdb_stores.specs.Shelf.{index_at, index_in};
+ghost use Rattle.sdb_stores.specs.Views.{index_at, index_in};
 ghost use Rattle.sdb_retire.specs.Retired.{IsSurvey, IsUnsurveyed, sides};
 ghost use Rattle.sdb_retire.specs.Writes.{GoOn, Hold};
 
@@ -45,7 +45,7 @@ pub fn survey_of<R: Registry>(
     ensures shown { IfOk result (IsSurvey (sides from.now to.now) (R.state stores.old)) }
     ensures held { Hold [] (R.state stores.old) (R.state stores.new) }
     ensures goes { GoOn (R.state stores.old) (R.state stores.new) }
-    ensures err { IfErr result (IsUnsurveyed (sides from.now to.now) (R.state stores.old) (R.state stores.new).shelves) }
+    ensures err { IfErr result (IsUnsurveyed (sides from.now to.now) (R.state stores.old) (R.state stores.new).views) }
 {
     let entries = read_moving(alloc, stores, first, from, to)?;
     let tables = moving_tables(alloc, from, entries.as_slice())?;

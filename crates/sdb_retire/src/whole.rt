@@ -2,9 +2,9 @@
 ghost use Rattle.std.specs.Prelude.{◌≡◌, ◌<◌, length, true, slice_get, Some, IsSome, IfOk, IfErr, OnOk, OnErr};
 ghost use Rattle.std.specs.List.{list_all};
 ghost use Rattle.sdb_schema.specs.Table.{rises};
-ghost use Rattle.sdb_stores.specs.Shelf.{index_at, index_in, names_of};
+ghost use Rattle.sdb_stores.specs.Views.{index_at, index_in, names_of};
 ghost use Rattle.sdb_retire.specs.Copying.{AreMade};
-ghost use Rattle.sdb_retire.specs.Retired.{AreMoved, IsHalted, IsLeft, IsUnmoved, KeepOthers, copies_of, sides, writes_of};
+ghost use Rattle.sdb_retire.specs.Retired.{AreAllMoved, IsHalted, IsLeft, IsUnmoved, OthersArePreserved, copies_of, sides, writes_of};
 ghost use Rattle.sdb_retire.specs.Writes.{GoOn, Hold, HoldFirst};
 
 use crate::moving::renewals;
@@ -17,8 +17,8 @@ use std::alloc::Global;
 
 // The name of the first store.
 fn first_store<R: Registry>(stores: &R) -> Result<Name, NoMemory>
-    requires { 0 < length (R.state stores.now).shelves }
-    ensures { IfOk result (λ name. slice_get (names_of (R.state stores.now).shelves) 0 ≡ Some name) }
+    requires { 0 < length (R.state stores.now).views }
+    ensures { IfOk result (λ name. slice_get (names_of (R.state stores.now).views) 0 ≡ Some name) }
 {
     let names = stores.names()?;
     match names.first() {
@@ -42,10 +42,10 @@ fn write_all<R: Registry>(
     requires columns { list_all (λ e. rises e.table.columns) survey.now.entries ≡ true }
     ensures count { IfOk result (λ n. n ≡ copies_of survey.now) }
     ensures held { OnOk result (Hold (writes_of (index_at (R.state stores.old) to.now) (sides from.now to.now) survey.now) (R.state stores.old) (R.state stores.new)) }
-    ensures made { OnOk result (AreMade (writes_of (index_at (R.state stores.old) to.now) (sides from.now to.now) survey.now) (R.state stores.old) (R.state stores.new).shelves) }
+    ensures made { OnOk result (AreMade (writes_of (index_at (R.state stores.old) to.now) (sides from.now to.now) survey.now) (R.state stores.old) (R.state stores.new).views) }
     ensures left { OnErr result (HoldFirst (writes_of (index_at (R.state stores.old) to.now) (sides from.now to.now) survey.now) (R.state stores.old) (R.state stores.new)) }
     ensures goes { GoOn (R.state stores.old) (R.state stores.new) }
-    ensures err { IfErr result (IsHalted (index_at (R.state stores.old) to.now) (sides from.now to.now) survey.now (R.state stores.old) (R.state stores.new).shelves) }
+    ensures err { IfErr result (IsHalted (index_at (R.state stores.old) to.now) (sides from.now to.now) survey.now (R.state stores.old) (R.state stores.new).views) }
 {
     let requests = requests_of(alloc, survey.seen.as_slice())?;
     let rows = renewals(alloc, from, to, survey.entries.as_slice())?;
@@ -68,12 +68,12 @@ pub fn move_all<R: Registry>(
     from: &Name,
     to: &Name,
 ) -> Result<u64, RetireRefused>
-    requires some { 0 < length (R.state stores.old).shelves }
+    requires some { 0 < length (R.state stores.old).views }
     requires from { IsSome (index_in (R.state stores.old) from.now) }
     requires to { IsSome (index_in (R.state stores.old) to.now) }
-    ensures moved { IfOk result (λ n. AreMoved (sides from.now to.now) n (R.state stores.old) (R.state stores.new)) }
+    ensures moved { IfOk result (λ n. AreAllMoved (sides from.now to.now) n (R.state stores.old) (R.state stores.new)) }
     ensures left { OnErr result (IsLeft (sides from.now to.now) (R.state stores.old) (R.state stores.new)) }
-    ensures others { KeepOthers (sides from.now to.now) (R.state stores.old) (R.state stores.new) }
+    ensures others { OthersArePreserved (sides from.now to.now) (R.state stores.old) (R.state stores.new) }
     ensures goes { GoOn (R.state stores.old) (R.state stores.new) }
     ensures err { IfErr result (IsUnmoved (sides from.now to.now) (R.state stores.old) (R.state stores.new)) }
 {

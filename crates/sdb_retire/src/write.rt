@@ -1,7 +1,7 @@
 //! The writes of a retirement.
 ghost use Rattle.std.specs.Prelude.{◌≡◌, ◌++◌, ◌∷◌, [], ◌↔◌, Some, IsSome, IsTrue, IfOk, IfErr, OnOk, count_by, flat_map, map};
 ghost use Rattle.sdb_types.specs.Contents.{CanAnswer};
-ghost use Rattle.sdb_stores.specs.Shelf.{index_at, index_in};
+ghost use Rattle.sdb_stores.specs.Views.{index_at, index_in};
 ghost use Rattle.sdb_retire.specs.Copying.{AreMade, IsMade, Passes, delete_of, key_asked, is_put as is_put_lem, put_of, requests_for, requests_of as requests_of_lem};
 ghost use Rattle.sdb_retire.specs.Stopped.{IsUnmet, IsUnwritten};
 ghost use Rattle.sdb_retire.specs.Writes.{GoOn, Hold, HoldFirst, MayHold, write_at, writes_at};
@@ -122,10 +122,10 @@ fn unmet(request: &Request, found: &Option<Record>) -> Result<(), RetireRefused>
 fn write<R: Registry>(stores: &mut R, store: &Name, request: &Request) -> Result<(), RetireRefused>
     requires attached { IsSome (index_in (R.state stores.old) store.now) }
     ensures held { OnOk result (Hold (write_at (index_at (R.state stores.old) store.now) request.now ∷ []) (R.state stores.old) (R.state stores.new)) }
-    ensures made { OnOk result (IsMade (write_at (index_at (R.state stores.old) store.now) request.now) (R.state stores.old) (R.state stores.new).shelves) }
+    ensures made { OnOk result (IsMade (write_at (index_at (R.state stores.old) store.now) request.now) (R.state stores.old) (R.state stores.new).views) }
     ensures left { MayHold (write_at (index_at (R.state stores.old) store.now) request.now) (R.state stores.old) (R.state stores.new) }
     ensures goes { GoOn (R.state stores.old) (R.state stores.new) }
-    ensures err { IfErr result (IsUnwritten (write_at (index_at (R.state stores.old) store.now) request.now ∷ []) (R.state stores.old) (R.state stores.new).shelves) }
+    ensures err { IfErr result (IsUnwritten (write_at (index_at (R.state stores.old) store.now) request.now ∷ []) (R.state stores.old) (R.state stores.new).views) }
 {
     match call(stores, store, request)? {
         Reply::NotMet(found) => unmet(request, &found),
@@ -141,10 +141,10 @@ pub fn run<R: Registry>(
 ) -> Result<(), RetireRefused>
     requires attached { IsSome (index_in (R.state stores.old) store.now) }
     ensures held { OnOk result (Hold (writes_at (index_at (R.state stores.old) store.now) requests.now) (R.state stores.old) (R.state stores.new)) }
-    ensures made { OnOk result (AreMade (writes_at (index_at (R.state stores.old) store.now) requests.now) (R.state stores.old) (R.state stores.new).shelves) }
+    ensures made { OnOk result (AreMade (writes_at (index_at (R.state stores.old) store.now) requests.now) (R.state stores.old) (R.state stores.new).views) }
     ensures left { HoldFirst (writes_at (index_at (R.state stores.old) store.now) requests.now) (R.state stores.old) (R.state stores.new) }
     ensures goes { GoOn (R.state stores.old) (R.state stores.new) }
-    ensures err { IfErr result (IsUnwritten (writes_at (index_at (R.state stores.old) store.now) requests.now) (R.state stores.old) (R.state stores.new).shelves) }
+    ensures err { IfErr result (IsUnwritten (writes_at (index_at (R.state stores.old) store.now) requests.now) (R.state stores.old) (R.state stores.new).views) }
 {
     for request in requests {
         write(stores, store, request)?;

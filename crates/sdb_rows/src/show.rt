@@ -1,7 +1,7 @@
-//! What is shown of rows.
+//! The selected values of rows.
 ghost use Rattle.std.specs.Prelude.{◌≡◌, IfOk, Some, map};
 ghost use Rattle.sdb_model.specs.Rows.{value_of};
-ghost use Rattle.sdb_model.specs.Exec.{cut as cut_lem, shown_names as shown_names_lem};
+ghost use Rattle.sdb_model.specs.Exec.{cut as cut_lem, projected_names as projected_names_lem};
 
 use crate::read::value_at;
 use sdb_model::Rows;
@@ -21,8 +21,12 @@ fn names_of_columns(alloc: Global, columns: &[Column]) -> Result<Names, NoMemory
 }
 
 /// The columns that a SELECT names, for `*` all in name order.
-pub fn shown_names(alloc: Global, table: &Table, columns: &Option<Names>) -> Result<Names, NoMemory>
-    ensures { IfOk result (λ names. names ≡ shown_names_lem table.now columns.now) }
+pub fn projected_names(
+    alloc: Global,
+    table: &Table,
+    columns: &Option<Names>,
+) -> Result<Names, NoMemory>
+    ensures { IfOk result (λ names. names ≡ projected_names_lem table.now columns.now) }
 {
     match columns {
         Some(names) => names.copy(),
@@ -51,7 +55,7 @@ pub fn shown(alloc: Global, table: &Table, names: &[Name], row: &Image) -> Resul
 }
 
 /// What rows give the columns of these names, in the rows' order.
-pub fn shown_all(
+pub fn projected_all(
     alloc: Global,
     table: &Table,
     names: &[Name],

@@ -14,9 +14,9 @@ use Rattle.sdb_model.specs.Calls as calls
 use Rattle.sdb_model.specs.Calls.{calls_of, is_removal, records_read}
 use Rattle.sdb_model.specs.Causes.{IsCommitOf}
 use Rattle.sdb_model.specs.Counted.{IsCommitCounted, IsReadCounted, IsVacuumCounted, calls_wanted, is_checked_get, is_key_of, is_scan, is_seen, prepares_in, unresolved_in}
-use Rattle.sdb_model.specs.Noted.{Note, Got, Scanned, noted_in, reads_rows}
+use Rattle.sdb_model.specs.ReadSet.{ReadItem, KeyRead, SpanRead, read_set_of, reads_rows}
 use Rattle.sdb_model.specs.Sql.{reads_commit, reads_vacuum}
-use Rattle.sdb_model.specs.Transactions.{Said, id_of, prepares, said, is_committed_answer}
+use Rattle.sdb_model.specs.Transactions.{Executed, id_of, prepares, statements_by, is_committed_answer}
 use Rattle.sdb_said.proofs.Lists.{In, right, or_left, not_true, true_not, not_both, all_each, each_all}
 use Rattle.sdb_said.proofs.ShownLaws.{number_is, is_number}
 use Rattle.sdb_plain.specs.declared.made.Made.{Made}
@@ -24,7 +24,7 @@ use Rattle.sdb_plain.specs.Values.{all_made, made_of}
 use Rattle.sdb_caused.specs.Tests.{any_id, any_upto, is_commit_of}
 use Rattle.sdb_caused.proofs.Finds.{in_made, made_in, in_contains}
 use Rattle.sdb_caused.proofs.IdLaws.{commit_found, commit_is, is_commit, id_some, upto_step}
-use Rattle.sdb_runs.specs.Counts.{IsSaidCounted, all_seen, commit_counted, covered, is_check, miscounted, others_counted, read_counted, unresolved_by, vacuum_counted, wanted}
+use Rattle.sdb_runs.specs.Counts.{IsExecutedCounted, all_seen, commit_counted, covered, is_check, miscounted, others_counted, read_counted, unresolved_by, vacuum_counted, wanted}
 use Rattle.sdb_runs.proofs.Maps.{any_kept, count_both, count_mapped, filter_count, kept_count}
 use Rattle.sdb_types.proofs.Basics.{clash, or_second as or_right, either, decides as decide}
 use Rattle.sdb_types.proofs.Bools.{and_first as left, and_both as both}
@@ -42,20 +42,20 @@ all_of P (x ∷ xs) h (suc k) d lt = all_of P xs (λ y i. h y (inr i)) k d (omeg
 
 ---- the calls of a COMMIT
 
-wanted_is : (events : List Event) (id : TxId) (ms : List Made) → calls_wanted events id (all_made ms) ≡ wanted ms (noted_in events id) id
+wanted_is : (events : List Event) (id : TxId) (ms : List Made) → calls_wanted events id (all_made ms) ≡ wanted ms (read_set_of events id) id
 wanted_is events id ms =
     let p : length (prepares_in id (all_made ms)) ≡ count_by (λ m. prepares id m.request) ms = kept_count (λ m. prepares id m.request) made_of ms in
-    let c : count_by (is_checked_get (prepares_in id (all_made ms))) (noted_in events id) + count_by is_scan (noted_in events id) ≡ count_by (is_check ms id) (noted_in events id)
-    = count_both (is_checked_get (prepares_in id (all_made ms))) is_scan (is_check ms id) note (noted_in events id) in
+    let c : count_by (is_checked_get (prepares_in id (all_made ms))) (read_set_of events id) + count_by is_scan (read_set_of events id) ≡ count_by (is_check ms id) (read_set_of events id)
+    = count_both (is_checked_get (prepares_in id (all_made ms))) is_scan (is_check ms id) item (read_set_of events id) in
     omega (arith, p, c)
   where
     either_is : (b : Bool) → cond b 1 0 + 0 ≡ cond b 1 0
     either_is true = refl
     either_is false = refl
 
-    note : (n : Note) → cond (is_checked_get (prepares_in id (all_made ms)) n) 1 0 + cond (is_scan n) 1 0 ≡ cond (is_check ms id n) 1 0
-    note (Got read) = either_is (is_checked_get (prepares_in id (all_made ms)) (Got read)) ∙ ap (λ b. cond (not b) 1 0) (any_kept (is_key_of read.key) (λ m. prepares id m.request) made_of ms)
-    note (Scanned scan) = refl
+    item : (n : ReadItem) → cond (is_checked_get (prepares_in id (all_made ms)) n) 1 0 + cond (is_scan n) 1 0 ≡ cond (is_check ms id n) 1 0
+    item (KeyRead read) = either_is (is_checked_get (prepares_in id (all_made ms)) (KeyRead read)) ∙ ap (λ b. cond (not b) 1 0) (any_kept (is_key_of read.key) (λ m. prepares id m.request) made_of ms)
+    item (SpanRead scan) = refl
 
 seen_is : (ms : List Made) → All (λ m. is_seen m.how ≡ true) (all_made ms) → all_seen ms ≡ true
 seen_is ms all = each_all (λ m. is_seen m.how) ms (λ m i. let k = in_contains (all_made ms) (made_of m) (made_in ms m i) in subst (λ x. is_seen x.how ≡ true) k.2 (all k.0 (made_of m) k.1))
@@ -81,9 +81,9 @@ told_is (Some answer.Vacuuming) h = clash (sym h)
 told_is (Some answer.OpenTransactions) h = clash (sym h)
 told_is (Some answer.NoMemory) h = clash (sym h)
 
-module _ (events : List Event) (id : TxId) (s : Said) (ms : List Made) where
+module _ (events : List Event) (id : TxId) (s : Executed) (ms : List Made) where
   abbrev w : ℕ
-  w = wanted ms (noted_in events id) id
+  w = wanted ms (read_set_of events id) id
 
   abbrev most : Bool
   most = nat_le (length ms) (w + 4)
@@ -94,7 +94,7 @@ module _ (events : List Event) (id : TxId) (s : Said) (ms : List Made) where
   abbrev exact : Bool
   exact = length ms == w + 1
 
-  counted_is : commit_counted ms (noted_in events id) id s ≡ true → IsCommitCounted events id s (all_made ms)
+  counted_is : commit_counted ms (read_set_of events id) id s ≡ true → IsCommitCounted events id s (all_made ms)
   counted_is h = record {
     exact = λ a all. length-map ms made_of ∙ number_is (length ms) (w + 1) (elim (either (not told) exact (right most (not told || exact) h)) [
       | inl n ↦ not_both told (both (is_committed_answer s.answer) (all_seen ms) (ap is_committed_answer a) (seen_is ms all)) (not_true told n)
@@ -107,7 +107,7 @@ module _ (events : List Event) (id : TxId) (s : Said) (ms : List Made) where
         omega (arith, l, a, e);
   }
 
-  is_counted_of : IsCommitCounted events id s (all_made ms) → commit_counted ms (noted_in events id) id s ≡ true
+  is_counted_of : IsCommitCounted events id s (all_made ms) → commit_counted ms (read_set_of events id) id s ≡ true
   is_counted_of c =
       let a : length (all_made ms) ≡ length ms = length-map ms made_of in
       let e : calls_wanted events id (all_made ms) ≡ w = wanted_is events id ms in
@@ -127,7 +127,7 @@ unresolved_is : (ms : List Made) → length (unresolved_in (all_made ms)) ≡ al
 unresolved_is [] = refl
 unresolved_is (m ∷ ms) = by (reads_rows (made_of m)) (unresolved_is ms)
   where
-    rest : List calls.Made
+    rest : List calls.StoreCall
     rest = filter reads_rows (all_made ms)
 
     by : (b : Bool) → length (filter is_unresolved (flat_map (λ c. records_read c.reply) rest)) ≡ all_unresolved ms
@@ -217,21 +217,21 @@ module _ (f : TxId → Bool) (client n : ℕ) (i : TxId) (b : Bool) (some : n �
 
 ---- a statement
 
-module _ (catalog : List Table) (events : List Event) (client : ℕ) (s : Said) (ms : List Made) (e : all_made ms ≡ calls_of events client s) where
+module _ (catalog : List Table) (events : List Event) (client : ℕ) (s : Executed) (ms : List Made) (e : all_made ms ≡ calls_of events client s) where
   abbrev wrong : TxId → Bool
   wrong id = miscounted events client s ms id
 
   commits_are : any_id events client wrong ≡ false → (id : TxId) → IsCommitOf events client s id → IsCommitCounted events id s (calls_of events client s)
-  commits_are n id c = elim (decide (commit_counted ms (noted_in events id) id s)) [
+  commits_are n id c = elim (decide (commit_counted ms (read_set_of events id) id s)) [
     | inl h ↦ subst (IsCommitCounted events id s) e (counted_is events id s ms h)
-    | inr f ↦ not_both (any_id events client wrong) (commit_found events client s wrong id c (both (is_commit_of events client s id) (not (commit_counted ms (noted_in events id) id s)) (is_commit events client s id c) (true_not (commit_counted ms (noted_in events id) id s) f))) n
+    | inr f ↦ not_both (any_id events client wrong) (commit_found events client s wrong id c (both (is_commit_of events client s id) (not (commit_counted ms (read_set_of events id) id s)) (is_commit events client s id c) (true_not (commit_counted ms (read_set_of events id) id s) f))) n
   ]
 
   none_wrong : ((id : TxId) → IsCommitOf events client s id → IsCommitCounted events id s (calls_of events client s)) → any_id events client wrong ≡ true → false ≡ true
   none_wrong all h =
       let r = id_some events client wrong h in
-      let c = commit_is events client s r.0 (left (is_commit_of events client s r.0) (not (commit_counted ms (noted_in events r.0) r.0 s)) r.1) in
-      not_both (commit_counted ms (noted_in events r.0) r.0 s) (is_counted_of events r.0 s ms (subst (IsCommitCounted events r.0 s) (sym e) (all r.0 c))) (not_true (commit_counted ms (noted_in events r.0) r.0 s) (right (is_commit_of events client s r.0) (not (commit_counted ms (noted_in events r.0) r.0 s)) r.1))
+      let c = commit_is events client s r.0 (left (is_commit_of events client s r.0) (not (commit_counted ms (read_set_of events r.0) r.0 s)) r.1) in
+      not_both (commit_counted ms (read_set_of events r.0) r.0 s) (is_counted_of events r.0 s ms (subst (IsCommitCounted events r.0 s) (sym e) (all r.0 c))) (not_true (commit_counted ms (read_set_of events r.0) r.0 s) (right (is_commit_of events client s r.0) (not (commit_counted ms (read_set_of events r.0) r.0 s)) r.1))
 
   others_are : others_counted catalog s ms ≡ true → (reads_commit s.text ≡ false → reads_vacuum s.text ≡ false → IsReadCounted (calls_of events client s)) × (reads_vacuum s.text ≡ true → IsVacuumCounted catalog (calls_of events client s))
   others_are h = by (reads_vacuum s.text) (reads_commit s.text) refl refl h
@@ -241,7 +241,7 @@ module _ (catalog : List Table) (events : List Event) (client : ℕ) (s : Said) 
       by false true x y h = (λ k n. clash (sym y ∙ k), λ t. clash (sym t ∙ x))
       by false false x y h = (λ k n. subst IsReadCounted e (read_is ms h), λ t. clash (sym t ∙ x))
 
-  are_others : IsSaidCounted catalog events client s → others_counted catalog s ms ≡ true
+  are_others : IsExecutedCounted catalog events client s → others_counted catalog s ms ≡ true
   are_others c = by (reads_vacuum s.text) (reads_commit s.text) refl refl
     where
       by : (v k : Bool) → reads_vacuum s.text ≡ v → reads_commit s.text ≡ k → (if v then vacuum_counted catalog ms else (k || read_counted ms)) ≡ true
@@ -249,11 +249,11 @@ module _ (catalog : List Table) (events : List Event) (client : ℕ) (s : Said) 
       by false true x y = refl
       by false false x y = is_read_of ms (subst IsReadCounted (sym e) (c.reads y x))
 
-  pub said_counted : (b o : Bool) (n : ℕ) → n ≡ length (said client events) → o ≡ any_upto (λ k. miscounted events client s ms (id_of client k)) n → o ≡ false → b ≡ others_counted catalog s ms → IsTrue b ↔ IsSaidCounted catalog events client s
+  pub said_counted : (b o : Bool) (n : ℕ) → n ≡ length (statements_by client events) → o ≡ any_upto (λ k. miscounted events client s ms (id_of client k)) n → o ≡ false → b ≡ others_counted catalog s ms → IsTrue b ↔ IsExecutedCounted catalog events client s
   said_counted b o n l f z g =
       let none : any_id events client wrong ≡ false = ap (any_upto (λ k. miscounted events client s ms (id_of client k))) (sym l) ∙ sym f ∙ z in
       (λ h. let r = others_are (sym g ∙ h) in record { commits = commits_are none; reads = r.0; vacuums = r.1 }, λ c. g ∙ are_others c)
 
-  pub said_miscounted : (o : Bool) (n : ℕ) → n ≡ length (said client events) → o ≡ any_upto (λ k. miscounted events client s ms (id_of client k)) n → o ≡ true → IsTrue false ↔ IsSaidCounted catalog events client s
+  pub said_miscounted : (o : Bool) (n : ℕ) → n ≡ length (statements_by client events) → o ≡ any_upto (λ k. miscounted events client s ms (id_of client k)) n → o ≡ true → IsTrue false ↔ IsExecutedCounted catalog events client s
   said_miscounted o n l f t =
       (λ h. clash (sym h), λ c. none_wrong c.commits (ap (any_upto (λ k. miscounted events client s ms (id_of client k))) (sym l) ∙ sym f ∙ t))

@@ -20,21 +20,21 @@ use Rattle.sdb_model.specs.declared.event.Event.{Event}
 use Rattle.sdb_stores.specs.declared.place.Place.{Place}
 use Rattle.sdb_model.specs.declared.statement.Statement.{Statement}
 use Rattle.sdb_model.specs.declared.statement.Statement.TheVariants as statement
-use Rattle.sdb_model.specs.Events.{held_by, moment, standing, store_of}
+use Rattle.sdb_model.specs.Events.{contents_under, moment, standing, store_of}
 use Rattle.sdb_model.specs.Exec.{Tables, all_rows, entry_of_row, exec_in, find_table, key_of, passes, row_of_entry, updated, with_named}
 use Rattle.sdb_model.specs.Images.{decision_on, image_at, row_at}
 use Rattle.sdb_model.specs.Rows.{Name, same_name}
-use Rattle.sdb_model.specs.Shown.{row_left}
-use Rattle.sdb_model.specs.Told.{AreRead}
+use Rattle.sdb_model.specs.DirtyReads.{row_left}
+use Rattle.sdb_model.specs.Serial.{AreRead}
 use Rattle.sdb_model.specs.Sql.{Reads}
-use Rattle.sdb_model.specs.Transactions.{Said, is_effective}
+use Rattle.sdb_model.specs.Transactions.{Executed, is_effective}
 use Rattle.sdb_said.proofs.Lists.{In, found_in, none_some}
-use Rattle.sdb_runs.specs.declared.stores.Shelf.{Shelf}
+use Rattle.sdb_runs.specs.declared.stores.StoreContents.{StoreContents}
 use Rattle.sdb_runs.specs.declared.stores.Stores.{Stores}
 use Rattle.sdb_runs.specs.declared.turn.Turn.{Turn}
-use Rattle.sdb_runs.specs.Rows.{all_keys, kept_at, kept_in, key_inserted}
+use Rattle.sdb_runs.specs.Rows.{all_keys, keys_at_stores, keys_in, key_inserted}
 use Rattle.sdb_runs.specs.Turns.{AreTurns}
-use Rattle.sdb_runs.specs.Values.{all_moments, all_shelves}
+use Rattle.sdb_runs.specs.Values.{all_moments, all_contents}
 use Rattle.sdb_runs.proofs.HadLaws.{IsHad}
 use Rattle.sdb_runs.proofs.Members.{flat_in, in_left, in_right}
 use Rattle.sdb_runs.proofs.StoreLaws.{held_is}
@@ -60,24 +60,24 @@ some_mapped f (Some a) b h = (a, refl, same (f a) b h)
     same : {C : Type 0} (y z : C) → Some y ≡ Some z → y ≡ z
     same y z k = cc
 
-kept_held : (shelves : List Shelf) (o : Option Contents) (name : Name) (key : Key) (r : Record) → held_by (all_shelves shelves) name ≡ o → option_map_or (λ m. record_at m key) o None ≡ Some r → In (kept_at shelves) key
+kept_held : (shelves : List StoreContents) (o : Option Contents) (name : Name) (key : Key) (r : Record) → contents_under (all_contents shelves) name ≡ o → option_map_or (λ m. record_at m key) o None ≡ Some r → In (keys_at_stores shelves) key
 kept_held shelves None name key r e h = none_some h
 kept_held shelves (Some m) name key r e h =
-    let s = some_mapped (λ (s : Shelf). s.rows) (find (λ (s : Shelf). same_name s.name name) shelves) m (sym (held_is shelves name) ∙ e) in
-    let i = found_in (λ (s : Shelf). same_name s.name name) shelves s.0 s.1 in
+    let s = some_mapped (λ (s : StoreContents). s.rows) (find (λ (s : StoreContents). same_name s.name name) shelves) m (sym (held_is shelves name) ∙ e) in
+    let i = found_in (λ (s : StoreContents). same_name s.name name) shelves s.0 s.1 in
     let c = some_mapped (λ (columns : List Pair). record { key = key; columns = columns }) (get m key) r h in
-    flat_in kept_in shelves s.0 key i.0 (subst (λ (d : Contents). In (map (λ (z : Image). z.key) (all_rows d)) key) (sym s.2) (among (entries m) key c.0 (sym (get-entries m key) ∙ c.1)))
+    flat_in keys_in shelves s.0 key i.0 (subst (λ (d : Contents). In (map (λ (z : Image). z.key) (all_rows d)) key) (sym s.2) (among (entries m) key c.0 (sym (get-entries m key) ∙ c.1)))
 
-kept_row : (places : List Place) (shelves : List Shelf) (key : Key) (columns : List Pair) → row_at places (all_shelves shelves) key ≡ Some columns → In (kept_at shelves) key
+kept_row : (places : List Place) (shelves : List StoreContents) (key : Key) (columns : List Pair) → row_at places (all_contents shelves) key ≡ Some columns → In (keys_at_stores shelves) key
 kept_row places shelves key columns h =
-    let i = some_before row_of_image (image_at places (all_shelves shelves) key) columns h in
-    let r = some_before (λ r. image_of r (decision_on places (all_shelves shelves) r)) (standing places (all_shelves shelves) key) i.0 i.1 in
-    kept_held shelves (held_by (all_shelves shelves) (store_of places (all_shelves shelves) key.table.ns)) (store_of places (all_shelves shelves) key.table.ns) key r.0 refl r.1
+    let i = some_before row_of_image (image_at places (all_contents shelves) key) columns h in
+    let r = some_before (λ r. image_of r (decision_on places (all_contents shelves) r)) (standing places (all_contents shelves) key) i.0 i.1 in
+    kept_held shelves (contents_under (all_contents shelves) (store_of places (all_contents shelves) key.table.ns)) (store_of places (all_contents shelves) key.table.ns) key r.0 refl r.1
 
-kept_then : (places : List Place) (opening : List Shelf) (ms : List (List Shelf)) (n : ℕ) (key : Key) (columns : List Pair) → row_at places (moment (all_shelves opening) (all_moments ms) n) key ≡ Some columns → In (kept_at opening ++ flat_map kept_at ms) key
-kept_then places opening ms zero key columns h = in_left (kept_at opening) (flat_map kept_at ms) key (kept_row places opening key columns h)
-kept_then places opening [] (suc n) key columns h = in_left (kept_at opening) [] key (kept_row places opening key columns h)
-kept_then places opening (m ∷ ms) (suc n) key columns h = in_right (kept_at opening) (kept_at m ++ flat_map kept_at ms) key (kept_then places m ms n key columns h)
+kept_then : (places : List Place) (opening : List StoreContents) (ms : List (List StoreContents)) (n : ℕ) (key : Key) (columns : List Pair) → row_at places (moment (all_contents opening) (all_moments ms) n) key ≡ Some columns → In (keys_at_stores opening ++ flat_map keys_at_stores ms) key
+kept_then places opening ms zero key columns h = in_left (keys_at_stores opening) (flat_map keys_at_stores ms) key (kept_row places opening key columns h)
+kept_then places opening [] (suc n) key columns h = in_left (keys_at_stores opening) [] key (kept_row places opening key columns h)
+kept_then places opening (m ∷ ms) (suc n) key columns h = in_right (keys_at_stores opening) (keys_at_stores m ++ flat_map keys_at_stores ms) key (kept_then places m ms n key columns h)
 
 ---- keys that are inserted
 
@@ -133,11 +133,11 @@ new_in catalog statement.Commit key columns h = no_row key columns h
 new_in catalog statement.Rollback key columns h = no_row key columns h
 new_in catalog statement.Vacuum key columns h = no_row key columns h
 
-module _ (catalog : List Table) (x : Stores) (events : List Event) (client : ℕ) (s : Said) (key : Key) where
+module _ (catalog : List Table) (x : Stores) (events : List Event) (client : ℕ) (s : Executed) (key : Key) where
   abbrev inserts : Turn → List Key
   inserts t = key_inserted catalog t.statement
 
-  made_new : (changing later : List Said) (sts : List Statement) (ts : List Turn) (columns : List Pair) → AreTurns events client (changing ++ s ∷ later) ts → AreRead (filter is_effective changing) sts → Some columns ≡ fold (λ r st. row_left catalog st key r) None sts → In (flat_map inserts ts) key
+  made_new : (changing later : List Executed) (sts : List Statement) (ts : List Turn) (columns : List Pair) → AreTurns events client (changing ++ s ∷ later) ts → AreRead (filter is_effective changing) sts → Some columns ≡ fold (λ r st. row_left catalog st key r) None sts → In (flat_map inserts ts) key
   made_new changing later [] ts columns a r m = none_some (sym m)
   made_new [] later (st ∷ sts) ts columns a r m = absurd r
   made_new (c ∷ cs) later (st ∷ sts) [] columns a r m = absurd a
@@ -152,16 +152,16 @@ module _ (catalog : List Table) (x : Stores) (events : List Event) (client : ℕ
       skip false k n more = in_right (inserts t) (flat_map inserts ts) key (more (st ∷ sts) k n)
       skip true (rd, k) n more = by sts (row_left catalog st key None) refl rd n (λ z. more sts k z)
 
-  later_new : (earlier changing later : List Said) (sts : List Statement) (ts : List Turn) (columns : List Pair) → AreTurns events client (earlier ++ changing ++ s ∷ later) ts → AreRead (filter is_effective changing) sts → Some columns ≡ fold (λ r st. row_left catalog st key r) None sts → In (flat_map inserts ts) key
+  later_new : (earlier changing later : List Executed) (sts : List Statement) (ts : List Turn) (columns : List Pair) → AreTurns events client (earlier ++ changing ++ s ∷ later) ts → AreRead (filter is_effective changing) sts → Some columns ≡ fold (λ r st. row_left catalog st key r) None sts → In (flat_map inserts ts) key
   later_new [] changing later sts ts columns a r m = made_new changing later sts ts columns a r m
   later_new (e ∷ es) changing later sts [] columns a r m = absurd a
   later_new (e ∷ es) changing later sts (t ∷ ts) columns (h, a) r m = in_right (inserts t) (flat_map inserts ts) key (later_new es changing later sts ts columns a r m)
 
-  pub key_found : (ss : List Said) (ts : List Turn) (columns : List Pair) → AreTurns events client ss ts → IsHad catalog x events client ss s key columns → In (all_keys catalog x ts) key
+  pub key_found : (ss : List Executed) (ts : List Turn) (columns : List Pair) → AreTurns events client ss ts → IsHad catalog x events client ss s key columns → In (all_keys catalog x ts) key
   key_found ss ts columns a h = by h.base refl
     where
       kept : List Key
-      kept = kept_at x.opening ++ flat_map kept_at x.moments
+      kept = keys_at_stores x.opening ++ flat_map keys_at_stores x.moments
 
       by : (o : Option (List Pair)) → h.base ≡ o → In (all_keys catalog x ts) key
       by None e = in_right kept (flat_map inserts ts) key (later_new h.earlier h.changing h.later h.sts ts columns (subst (λ z. AreTurns events client z ts) h.parts a) h.read (h.made ∙ ap (λ o. fold (λ r st. row_left catalog st key r) o h.sts) e))

@@ -15,11 +15,11 @@ use Rattle.sdb_model.specs.declared.event.Event.{Event}
 use Rattle.sdb_model.specs.declared.event.How.{How}
 use Rattle.sdb_model.specs.declared.event.How.TheVariants.{Seen, Lost, Discarded, Broken}
 use Rattle.sdb_model.specs.Calls as calls
-use Rattle.sdb_model.specs.Calls.{calls_after, calls_of, decision_shown, records_read}
+use Rattle.sdb_model.specs.Calls.{calls_after, calls_of, decision_observed, records_read}
 use Rattle.sdb_model.specs.Counted.{IsPassedOver, IsResolved, is_seen, roll_by}
-use Rattle.sdb_model.specs.Noted.{has_finished, read_finished, reads_rows}
+use Rattle.sdb_model.specs.ReadSet.{has_finished, read_finished, reads_rows}
 use Rattle.sdb_model.specs.Sql.{reads_vacuum}
-use Rattle.sdb_model.specs.Transactions.{Said}
+use Rattle.sdb_model.specs.Transactions.{Executed}
 use Rattle.sdb_said.specs.Values.{same_request}
 use Rattle.sdb_said.proofs.Lists.{In, right, or_left, not_true, true_not, not_both, all_each, each_all, any_some, some_any}
 use Rattle.sdb_plain.specs.declared.made.Made.{Made}
@@ -27,7 +27,7 @@ use Rattle.sdb_plain.specs.Values.{all_made, decision_at, made_of}
 use Rattle.sdb_caused.specs.Tests.{is_early, prepared_moment}
 use Rattle.sdb_caused.proofs.BusyLaws.{early_is, is_early_of}
 use Rattle.sdb_caused.proofs.Finds.{contains_in, in_contains, in_kept, kept_in, in_made, made_in}
-use Rattle.sdb_runs.specs.Counts.{IsSaidResolved, are_well_left, is_early_then, is_passed_over, is_roll, is_rolled, is_rolled_by, is_rolled_in, is_well_left, is_well_read, rolled_after}
+use Rattle.sdb_runs.specs.Counts.{IsExecutedResolved, are_well_left, is_early_then, is_passed_over, is_roll, is_rolled, is_rolled_by, is_rolled_in, is_well_left, is_well_read, rolled_after}
 use Rattle.sdb_runs.proofs.Maps.{of_some, some_of}
 use Rattle.sdb_types.proofs.Basics.{clash, or_second as or_right, either, decides as decide}
 use Rattle.sdb_types.proofs.Bools.{and_first as left, and_both as both}
@@ -44,7 +44,7 @@ seen_how Broken e = clash (sym e)
 after_in : (ms : List Made) (n : ℕ) (m : Made) → In ms m → nat_lt n m.at ≡ true → Contains (calls_after n (all_made ms)) (made_of m)
 after_in ms n m i h = in_contains (calls_after n (all_made ms)) (made_of m) (kept_in (λ c. nat_lt n c.at) (all_made ms) (made_of m) (made_in ms m i) h)
 
-in_after : (ms : List Made) (n : ℕ) (c : calls.Made) → Contains (calls_after n (all_made ms)) c → (m : Made) × In ms m × (nat_lt n m.at ≡ true) × (c ≡ made_of m)
+in_after : (ms : List Made) (n : ℕ) (c : calls.StoreCall) → Contains (calls_after n (all_made ms)) c → (m : Made) × In ms m × (nat_lt n m.at ≡ true) × (c ≡ made_of m)
 in_after ms n c k =
     let i = in_kept (λ c. nat_lt n c.at) (all_made ms) c (contains_in (calls_after n (all_made ms)) c k) in
     let r = in_made ms c i.0 in
@@ -84,18 +84,18 @@ module _ (ms : List Made) (read : Made) (r : Record) where
       let look = in_after ms read.at x.look x.looks.0 in
       let roll = in_after ms x.look.at x.roll x.rolls.0 in
       let q : Request = roll_by r (condition.Version x.id x.state) x.decided in
-      let late : nat_lt look.0.at roll.0.at ≡ true = ap (λ (c : calls.Made). nat_lt c.at roll.0.at) (sym look.3) ∙ roll.2 in
-      let shown : decision_at (coordinator_key_of x.id) look.0 ≡ Some x.decided = ap (decision_shown x.id) (sym look.3) ∙ x.looks.1 in
-      let put : roll.0.request ≡ q = ap (λ (c : calls.Made). c.request) (sym roll.3) ∙ x.rolls.1 in
-      let seen : is_seen roll.0.how ≡ true = ap (λ (c : calls.Made). is_seen c.how) (sym roll.3) ∙ ap is_seen x.answered.0 in
-      let answered : is_answered roll.0.reply ≡ true = ap (λ (c : calls.Made). is_answered c.reply) (sym roll.3) ∙ x.answered.1 in
+      let late : nat_lt look.0.at roll.0.at ≡ true = ap (λ (c : calls.StoreCall). nat_lt c.at roll.0.at) (sym look.3) ∙ roll.2 in
+      let shown : decision_at (coordinator_key_of x.id) look.0 ≡ Some x.decided = ap (decision_observed x.id) (sym look.3) ∙ x.looks.1 in
+      let put : roll.0.request ≡ q = ap (λ (c : calls.StoreCall). c.request) (sym roll.3) ∙ x.rolls.1 in
+      let seen : is_seen roll.0.how ≡ true = ap (λ (c : calls.StoreCall). is_seen c.how) (sym roll.3) ∙ ap is_seen x.answered.0 in
+      let answered : is_answered roll.0.reply ≡ true = ap (λ (c : calls.StoreCall). is_answered c.reply) (sym roll.3) ∙ x.answered.1 in
       let rolls : is_roll look.0.at q roll.0 ≡ true = both (nat_lt look.0.at roll.0.at) (is_seen roll.0.how && (is_answered roll.0.reply && same_request roll.0.request q)) late (both (is_seen roll.0.how) (is_answered roll.0.reply && same_request roll.0.request q) seen (both (is_answered roll.0.reply) (same_request roll.0.request q) answered (is_request roll.0.request q put))) in
       let one : is_rolled_by ms read r x.id x.state look.0 ≡ true = both (nat_lt read.at look.0.at) (option_map_or (λ d. rolled_after ms look.0.at (roll_by r (condition.Version x.id x.state) d)) (decision_at (coordinator_key_of x.id) look.0) false) look.2
       (of_some (λ d. rolled_after ms look.0.at (roll_by r (condition.Version x.id x.state) d)) (decision_at (coordinator_key_of x.id) look.0) x.decided shown (some_any (is_roll look.0.at q) ms roll.0 roll.1 rolls)) in
       of_some (λ id. option_map_or (is_rolled_in ms read r id) (state_in r.columns) false) (id_in r.columns) x.id x.writer.0
       (of_some (is_rolled_in ms read r x.id) (state_in r.columns) x.state x.writer.1 (some_any (is_rolled_by ms read r x.id x.state) ms look.0 look.1 one))
 
-  module _ (events : List Event) (s : Said) where
+  module _ (events : List Event) (s : Executed) where
     passed_is : is_passed_over events (reads_vacuum s.text) ms read r ≡ true → IsPassedOver events s (all_made ms) (made_of read) r
     passed_is h =
         let w = some_of (is_early_then events ms read r) (id_in r.columns) (right (reads_vacuum s.text) (option_map_or (is_early_then events ms read r) (id_in r.columns) false) h) in
@@ -125,11 +125,11 @@ module _ (ms : List Made) (read : Made) (r : Record) where
 
 ---- a statement
 
-module _ (events : List Event) (client : ℕ) (s : Said) (ms : List Made) (e : all_made ms ≡ calls_of events client s) where
-  abbrev IsWell : List calls.Made → calls.Made → Record → Type 0
+module _ (events : List Event) (client : ℕ) (s : Executed) (ms : List Made) (e : all_made ms ≡ calls_of events client s) where
+  abbrev IsWell : List calls.StoreCall → calls.StoreCall → Record → Type 0
   IsWell cs m r = IsResolved cs m r ⊎ IsPassedOver events s cs m r
 
-  are_well : list_all (is_well_read events (reads_vacuum s.text) ms) ms ≡ true → IsSaidResolved events client s
+  are_well : list_all (is_well_read events (reads_vacuum s.text) ms) ms ≡ true → IsExecutedResolved events client s
   are_well h = record {
     records = λ a m r x y k t i u.
         let c = contains_in (all_made ms) m (subst (λ cs. Contains cs m) (sym e) k) in
@@ -140,11 +140,11 @@ module _ (events : List Event) (client : ℕ) (s : Said) (ms : List Made) (e : a
           | inl n ↦ not_both (reads_rows (made_of w.0)) rows (not_true (reads_rows (made_of w.0)) n)
           | inr g ↦ g
         ] in
-        let one = all_each (is_well_left events (reads_vacuum s.text) ms w.0) (records_read w.0.reply) all r (contains_in (records_read w.0.reply) r (subst (λ (z : calls.Made). Contains (records_read z.reply) r) w.2 i)) in
+        let one = all_each (is_well_left events (reads_vacuum s.text) ms w.0) (records_read w.0.reply) all r (contains_in (records_read w.0.reply) r (subst (λ (z : calls.StoreCall). Contains (records_read z.reply) r) w.2 i)) in
         subst (λ cs. IsWell cs m r) e (subst (λ z. IsWell (all_made ms) z r) (sym w.2) (left_is ms w.0 r events s one u));
   }
 
-  well_of : (a : Answer) → s.answer ≡ Some a → read_finished a ≡ true → IsSaidResolved events client s → list_all (is_well_read events (reads_vacuum s.text) ms) ms ≡ true
+  well_of : (a : Answer) → s.answer ≡ Some a → read_finished a ≡ true → IsExecutedResolved events client s → list_all (is_well_read events (reads_vacuum s.text) ms) ms ≡ true
   well_of a x y all = each_all (is_well_read events (reads_vacuum s.text) ms) ms (λ m i. elim (decide (reads_rows (made_of m))) [
     | inr n ↦ or_left (not (reads_rows (made_of m))) (are_well_left events (reads_vacuum s.text) ms m (records_read m.reply)) (true_not (reads_rows (made_of m)) n)
     | inl t ↦ or_right (not (reads_rows (made_of m))) (are_well_left events (reads_vacuum s.text) ms m (records_read m.reply))
@@ -155,11 +155,11 @@ module _ (events : List Event) (client : ℕ) (s : Said) (ms : List Made) (e : a
   from_rows : has_finished s ≡ true → (a : Answer) × (s.answer ≡ Some a) × (read_finished a ≡ true)
   from_rows h = some_of read_finished s.answer h
 
-  pub said_resolved : (b v : Bool) → has_finished s ≡ true → v ≡ reads_vacuum s.text → b ≡ list_all (is_well_read events v ms) ms → IsTrue b ↔ IsSaidResolved events client s
+  pub said_resolved : (b v : Bool) → has_finished s ≡ true → v ≡ reads_vacuum s.text → b ≡ list_all (is_well_read events v ms) ms → IsTrue b ↔ IsExecutedResolved events client s
   said_resolved b v f g h =
       let same : b ≡ list_all (is_well_read events (reads_vacuum s.text) ms) ms = h ∙ ap (λ x. list_all (is_well_read events x ms) ms) g in
       let a = from_rows f in
       (λ t. are_well (sym same ∙ t), λ all. same ∙ well_of a.0 a.1 a.2 all)
 
-pub said_unfinished : (events : List Event) (client : ℕ) (s : Said) → has_finished s ≡ false → IsTrue true ↔ IsSaidResolved events client s
+pub said_unfinished : (events : List Event) (client : ℕ) (s : Executed) → has_finished s ≡ false → IsTrue true ↔ IsExecutedResolved events client s
 said_unfinished events client s f = (λ t. record { records = λ a m r x y k. not_both (has_finished s) (of_some read_finished s.answer a x y) f }, λ all. refl)

@@ -2,24 +2,24 @@
 use Rattle.std.proofs.Common.{◌≡◌, ℕ, Bool, true, false, List, [], ◌∷◌, ◌++◌, inl, inr, refl, sym, subst, append_assoc}
 use Rattle.sdb_model.specs.declared.event.Event.{Event}
 use Rattle.std.specs.Prelude.{if◌then◌else◌}
-use Rattle.sdb_model.specs.Transactions.{Said, ends, through_end}
+use Rattle.sdb_model.specs.Transactions.{Executed, ends, through_end}
 use Rattle.sdb_said.proofs.Lists.{In}
 use Rattle.sdb_runs.specs.declared.turn.Turn.{Turn}
 use Rattle.sdb_runs.specs.Turns.{AreTurns, IsTurn}
 
-pub turns_more : (events : List Event) (client : ℕ) (ss : List Said) (ts : List Turn) (s : Said) (t : Turn) → AreTurns events client ss ts → IsTurn events client s t → AreTurns events client (ss ++ s ∷ []) (ts ++ t ∷ [])
+pub turns_more : (events : List Event) (client : ℕ) (ss : List Executed) (ts : List Turn) (s : Executed) (t : Turn) → AreTurns events client ss ts → IsTurn events client s t → AreTurns events client (ss ++ s ∷ []) (ts ++ t ∷ [])
 turns_more events client [] [] s t a h = (h, tt)
 turns_more events client [] (u ∷ ts) s t a h = absurd a
 turns_more events client (r ∷ ss) [] s t a h = absurd a
 turns_more events client (r ∷ ss) (u ∷ ts) s t (k, a) h = (k, turns_more events client ss ts s t a h)
 
-pub turn_found : (events : List Event) (client : ℕ) (ss : List Said) (ts : List Turn) (s : Said) → AreTurns events client ss ts → In ss s → (t : Turn) × In ts t × IsTurn events client s t
+pub turn_found : (events : List Event) (client : ℕ) (ss : List Executed) (ts : List Turn) (s : Executed) → AreTurns events client ss ts → In ss s → (t : Turn) × In ts t × IsTurn events client s t
 turn_found events client [] ts s a i = absurd i
 turn_found events client (r ∷ ss) [] s a i = absurd a
 turn_found events client (r ∷ ss) (u ∷ ts) s (k, a) (inl e) = (u, inl refl, subst (λ x. IsTurn events client x u) (sym e) k)
 turn_found events client (r ∷ ss) (u ∷ ts) s (k, a) (inr i) = let f = turn_found events client ss ts s a i in (f.0, inr f.1, f.2)
 
-pub found_turn : (events : List Event) (client : ℕ) (ss : List Said) (ts : List Turn) (t : Turn) → AreTurns events client ss ts → In ts t → (s : Said) × In ss s × IsTurn events client s t
+pub found_turn : (events : List Event) (client : ℕ) (ss : List Executed) (ts : List Turn) (t : Turn) → AreTurns events client ss ts → In ts t → (s : Executed) × In ss s × IsTurn events client s t
 found_turn events client ss [] t a i = absurd i
 found_turn events client [] (u ∷ ts) t a i = absurd a
 found_turn events client (r ∷ ss) (u ∷ ts) t (k, a) (inl e) = (r, inl refl, subst (IsTurn events client r) (sym e) k)
@@ -27,12 +27,12 @@ found_turn events client (r ∷ ss) (u ∷ ts) t (k, a) (inr i) = let f = found_
 
 ---- a statement that is added
 
-module _ (events : List Event) (client : ℕ) (past : List Said) (s : Said) (ts : List Turn) where
-  abbrev With : List Said → List Turn → Type 0
+module _ (events : List Event) (client : ℕ) (past : List Executed) (s : Executed) (ts : List Turn) where
+  abbrev With : List Executed → List Turn → Type 0
   With ss us = AreTurns events client (past ++ ss) us
 
-  pub ended : (ss : List Said) → ends s ≡ true → With (s ∷ []) ts → With (through_end (s ∷ ss)) ts
+  pub ended : (ss : List Executed) → ends s ≡ true → With (s ∷ []) ts → With (through_end (s ∷ ss)) ts
   ended ss e a = subst (λ (b : Bool). With (if b then s ∷ [] else s ∷ through_end ss) ts) (sym e) a
 
-  pub gone_on : (ss : List Said) → ends s ≡ false → AreTurns events client ((past ++ s ∷ []) ++ through_end ss) ts → With (through_end (s ∷ ss)) ts
+  pub gone_on : (ss : List Executed) → ends s ≡ false → AreTurns events client ((past ++ s ∷ []) ++ through_end ss) ts → With (through_end (s ∷ ss)) ts
   gone_on ss e a = subst (λ (b : Bool). With (if b then s ∷ [] else s ∷ through_end ss) ts) (sym e) (subst (λ z. AreTurns events client z ts) (append_assoc past (s ∷ []) (through_end ss)) a)

@@ -17,9 +17,9 @@ use Rattle.sdb_model.specs.Calls.{calls_of, is_removal, records_read}
 use Rattle.sdb_model.specs.Calls as calls
 use Rattle.sdb_model.specs.Causes.{IsCommitOf}
 use Rattle.sdb_model.specs.Counted.{IsCommitCounted, IsPassedOver, IsReadCounted, IsResolved, IsVacuumCounted, is_seen, roll_by}
-use Rattle.sdb_model.specs.Noted.{Got, Note, Scanned, noted_in, read_finished, reads_rows}
+use Rattle.sdb_model.specs.ReadSet.{KeyRead, ReadItem, SpanRead, read_set_of, read_finished, reads_rows}
 use Rattle.sdb_model.specs.Sql.{reads_commit, reads_vacuum}
-use Rattle.sdb_model.specs.Transactions.{Said, prepares, is_committed_answer}
+use Rattle.sdb_model.specs.Transactions.{Executed, prepares, is_committed_answer}
 use Rattle.sdb_said.specs.Values.{same_request}
 use Rattle.sdb_plain.specs.declared.made.Made.{Made}
 use Rattle.sdb_plain.specs.Values.{asks_row, decision_at, made_of}
@@ -35,19 +35,19 @@ abbrev pub is_prepared : List Made → TxId → Key → Bool
 is_prepared ms id key = list_any (λ m. prepares id m.request && asks_row key m.request) ms
 
 -- a COMMIT checks a scan, and a get of a key that it doesn't prepare
-abbrev pub is_check : List Made → TxId → Note → Bool
-is_check ms id (Got read) = not (is_prepared ms id read.key)
-is_check ms id (Scanned scan) = true
+abbrev pub is_check : List Made → TxId → ReadItem → Bool
+is_check ms id (KeyRead read) = not (is_prepared ms id read.key)
+is_check ms id (SpanRead scan) = true
 
-abbrev pub wanted : List Made → List Note → TxId → ℕ
-wanted ms notes id = 2 * count_by (λ m. prepares id m.request) ms + count_by (is_check ms id) notes
+abbrev pub wanted : List Made → List ReadItem → TxId → ℕ
+wanted ms read_set id = 2 * count_by (λ m. prepares id m.request) ms + count_by (is_check ms id) read_set
 
-abbrev pub commit_counted : List Made → List Note → TxId → Said → Bool
-commit_counted ms notes id s = nat_le (length ms) (wanted ms notes id + 4) && (not (is_committed_answer s.answer && all_seen ms) || (length ms == wanted ms notes id + 1))
+abbrev pub commit_counted : List Made → List ReadItem → TxId → Executed → Bool
+commit_counted ms read_set id s = nat_le (length ms) (wanted ms read_set id + 4) && (not (is_committed_answer s.answer && all_seen ms) || (length ms == wanted ms read_set id + 1))
 
 -- a statement is the COMMIT of a transaction, and its calls are not counted
-abbrev pub miscounted : List Event → ℕ → Said → List Made → TxId → Bool
-miscounted events client s ms id = is_commit_of events client s id && not (commit_counted ms (noted_in events id) id s)
+abbrev pub miscounted : List Event → ℕ → Executed → List Made → TxId → Bool
+miscounted events client s ms id = is_commit_of events client s id && not (commit_counted ms (read_set_of events id) id s)
 
 ---- the calls of other statements
 
@@ -65,11 +65,11 @@ vacuum_counted catalog ms = covered 5 (length ms - (length catalog + length (fil
 abbrev pub read_counted : List Made → Bool
 read_counted ms = covered 4 (length ms - 1) ms
 
-abbrev pub others_counted : List Table → Said → List Made → Bool
+abbrev pub others_counted : List Table → Executed → List Made → Bool
 others_counted catalog s ms = if reads_vacuum s.text then vacuum_counted catalog ms else (reads_commit s.text || read_counted ms)
 
 -- the calls of a statement are counted
-pub record IsSaidCounted (catalog : List Table) (events : List Event) (client : ℕ) (s : Said) : Type 0 where
+pub record IsExecutedCounted (catalog : List Table) (events : List Event) (client : ℕ) (s : Executed) : Type 0 where
   pub commits : (id : TxId) → IsCommitOf events client s id → IsCommitCounted events id s (calls_of events client s)
   pub reads : reads_commit s.text ≡ false → reads_vacuum s.text ≡ false → IsReadCounted (calls_of events client s)
   pub vacuums : reads_vacuum s.text ≡ true → IsVacuumCounted catalog (calls_of events client s)
@@ -110,5 +110,5 @@ abbrev pub is_well_read : List Event → Bool → List Made → Made → Bool
 is_well_read events vacuums ms m = not (reads_rows (made_of m)) || are_well_left events vacuums ms m (records_read m.reply)
 
 -- each unresolved record that a statement was answered from was rolled, or passed over by VACUUM
-pub record IsSaidResolved (events : List Event) (client : ℕ) (s : Said) : Type 0 where
-  pub records : (a : Answer) (m : calls.Made) (r : Record) → s.answer ≡ Some a → read_finished a ≡ true → Contains (calls_of events client s) m → reads_rows m ≡ true → Contains (records_read m.reply) r → is_unresolved r ≡ true → IsResolved (calls_of events client s) m r ⊎ IsPassedOver events s (calls_of events client s) m r
+pub record IsExecutedResolved (events : List Event) (client : ℕ) (s : Executed) : Type 0 where
+  pub records : (a : Answer) (m : calls.StoreCall) (r : Record) → s.answer ≡ Some a → read_finished a ≡ true → Contains (calls_of events client s) m → reads_rows m ≡ true → Contains (records_read m.reply) r → is_unresolved r ≡ true → IsResolved (calls_of events client s) m r ⊎ IsPassedOver events s (calls_of events client s) m r

@@ -3,4 +3,4 @@ pub mod Turns
 pub mod Rows
 pub mod All
 pub mod Counts
-pub mod Kept
+pub mod OfClients

@@ -1,23 +1,23 @@
-//! Whether it is so of all statements, or of all transactions, of a run.
+//! Whether it holds of all statements, or of all transactions, of a run.
 ghost use Rattle.std.specs.Prelude.{◌≡◌, ◌↔◌, IfOk, IfSome, IsTrue, filter, length, ◌≤◌};
 ghost use Rattle.std.specs.List.{AllByRecursion};
 ghost use Rattle.sdb_model.specs.Counted.{AreCounted, AreResolved, broken_in as broken_in_lem, is_broken as is_broken_lem};
-ghost use Rattle.sdb_model.specs.Shown.{AreShown};
-ghost use Rattle.sdb_order.specs.Commits.{all_said};
+ghost use Rattle.sdb_model.specs.DirtyReads.{NoDirtyReads};
+ghost use Rattle.sdb_order.specs.Commits.{all_executed};
 ghost use Rattle.sdb_plain.specs.Values.{taker as taker_lem};
-ghost use Rattle.sdb_runs.specs.All.{AreShownUpto, IsTransactionShown};
-ghost use Rattle.sdb_runs.specs.Counts.{IsSaidCounted, IsSaidResolved};
-ghost use Rattle.sdb_runs.specs.Kept.{AreTakersKept, IsClientKept};
-ghost use Rattle.sdb_runs.specs.Values.{all_moments, all_shelves};
+ghost use Rattle.sdb_runs.specs.All.{HaveNoDirtyReadsUpto, HasTransactionNoDirtyReads};
+ghost use Rattle.sdb_runs.specs.Counts.{IsExecutedCounted, IsExecutedResolved};
+ghost use Rattle.sdb_runs.specs.OfClients.{HoldsOfClients, HoldsOfClient};
+ghost use Rattle.sdb_runs.specs.Values.{all_moments, all_contents};
 
-use crate::answer::answers_shown;
-use crate::counts::is_said_counted;
+use crate::answer::answers_have_rows;
+use crate::counts::is_executed_counted;
 use crate::keys::keys_of;
-use crate::rolls::is_said_resolved;
+use crate::rolls::is_executed_resolved;
 use crate::stores::Stores;
 use crate::turn::turns_of;
 use sdb_model::{Event, How};
-use sdb_order::{Said, statements_said};
+use sdb_order::{Executed, statements_by};
 use sdb_plain::{id_of, taker};
 use sdb_schema::Catalog;
 use sdb_types::{NoMemory, TxId};
@@ -37,14 +37,14 @@ fn are_counted(
     catalog: &Catalog,
     events: &[Event],
     client: u64,
-    said: &[Said],
+    executed: &[Executed],
 ) -> Result<bool, NoMemory>
-    ensures { IfOk result (λ are. IsTrue are ↔ AllByRecursion (IsSaidCounted catalog.now events.now client) (all_said said.now)) }
+    ensures { IfOk result (λ are. IsTrue are ↔ AllByRecursion (IsExecutedCounted catalog.now events.now client) (all_executed executed.now)) }
 {
-    let Some((first, rest)) = said.split_first() else {
+    let Some((first, rest)) = executed.split_first() else {
         return Ok(true);
     };
-    if !is_said_counted(alloc, catalog, events, client, first)? {
+    if !is_executed_counted(alloc, catalog, events, client, first)? {
         return Ok(false);
     }
     are_counted(alloc, catalog, events, client, rest)
@@ -54,14 +54,14 @@ fn are_resolved(
     alloc: Global,
     events: &[Event],
     client: u64,
-    said: &[Said],
+    executed: &[Executed],
 ) -> Result<bool, NoMemory>
-    ensures { IfOk result (λ are. IsTrue are ↔ AllByRecursion (IsSaidResolved events.now client) (all_said said.now)) }
+    ensures { IfOk result (λ are. IsTrue are ↔ AllByRecursion (IsExecutedResolved events.now client) (all_executed executed.now)) }
 {
-    let Some((first, rest)) = said.split_first() else {
+    let Some((first, rest)) = executed.split_first() else {
         return Ok(true);
     };
-    if !is_said_resolved(alloc, events, client, first)? {
+    if !is_executed_resolved(alloc, events, client, first)? {
         return Ok(false);
     }
     are_resolved(alloc, events, client, rest)
@@ -74,15 +74,15 @@ fn is_transaction_shown(
     stores: &Stores,
     id: TxId,
 ) -> Result<bool, NoMemory>
-    ensures { IfOk result (λ is. IsTrue is ↔ IsTransactionShown catalog.now events.now stores.now id) }
+    ensures { IfOk result (λ is. IsTrue is ↔ HasTransactionNoDirtyReads catalog.now events.now stores.now id) }
 {
     let turns = turns_of(alloc, events, id)?;
     let all = turns.as_slice();
     let keys = keys_of(alloc, catalog, stores, all)?;
-    answers_shown(alloc, catalog, stores, keys.as_slice(), all, all)
+    answers_have_rows(alloc, catalog, stores, keys.as_slice(), all, all)
 }
 
-// Whether it is so of a client's first transactions.
+// Whether it holds of a client's first transactions.
 fn are_shown_upto(
     alloc: Global,
     catalog: &Catalog,
@@ -91,7 +91,7 @@ fn are_shown_upto(
     client: u64,
     count: u64,
 ) -> Result<bool, NoMemory>
-    ensures { IfOk result (λ are. IsTrue are ↔ AreShownUpto catalog.now events.now stores.now client count) }
+    ensures { IfOk result (λ are. IsTrue are ↔ HaveNoDirtyReadsUpto catalog.now events.now stores.now client count) }
 {
     if count == 0 {
         return Ok(true);
@@ -110,14 +110,21 @@ fn is_client_kept(
     events: &[Event],
     client: u64,
 ) -> Result<bool, NoMemory>
-    ensures { IfOk result (λ is. IsTrue is ↔ IsClientKept law.entry catalog.now events.now client) }
+    ensures { IfOk result (λ is. IsTrue is ↔ HoldsOfClient law.entry catalog.now events.now client) }
 {
-    let said = statements_said(alloc, client, events)?;
+    let executed = statements_by(alloc, client, events)?;
     match law {
-        Law::Counts => are_counted(alloc, catalog, events, client, said.as_slice()),
-        Law::Rolls => are_resolved(alloc, events, client, said.as_slice()),
+        Law::Counts => are_counted(alloc, catalog, events, client, executed.as_slice()),
+        Law::Rolls => are_resolved(alloc, events, client, executed.as_slice()),
         Law::Rows(stores) => {
-            are_shown_upto(alloc, catalog, events, stores, client, said.len() as u64)
+            are_shown_upto(
+                alloc,
+                catalog,
+                events,
+                stores,
+                client,
+                executed.len() as u64,
+            )
         }
     }
 }
@@ -129,7 +136,7 @@ fn is_taker_kept(
     events: &[Event],
     event: &Event,
 ) -> Result<bool, NoMemory>
-    ensures { IfOk result (λ is. IsTrue is ↔ IfSome (taker_lem event.now) (IsClientKept law.entry catalog.now events.now)) }
+    ensures { IfOk result (λ is. IsTrue is ↔ IfSome (taker_lem event.now) (HoldsOfClient law.entry catalog.now events.now)) }
 {
     match taker(event) {
         Some(client) => is_client_kept(alloc, law, catalog, events, client),
@@ -144,7 +151,7 @@ fn are_takers_kept(
     events: &[Event],
     some: &[Event],
 ) -> Result<bool, NoMemory>
-    ensures { IfOk result (λ are. IsTrue are ↔ AreTakersKept law.entry catalog.now events.now some.now) }
+    ensures { IfOk result (λ are. IsTrue are ↔ HoldsOfClients law.entry catalog.now events.now some.now) }
 {
     let Some((first, rest)) = some.split_first() else {
         return Ok(true);
@@ -179,13 +186,13 @@ pub fn records_are_resolved(
 
 /// Whether all rows that answers show are rows that their transaction has: its own, or committed when they were read, by what the
 /// stores contained. Slow. A before image with names that no record has counts as one out of memory.
-pub fn rows_are_shown(
+pub fn have_no_dirty_reads(
     alloc: Global,
     catalog: &Catalog,
     events: &[Event],
     stores: &Stores,
 ) -> Result<bool, NoMemory>
-    ensures { IfOk result (λ are. IsTrue are ↔ AreShown catalog.now stores.now.places events.now (all_shelves stores.now.opening) (all_moments stores.now.moments)) }
+    ensures { IfOk result (λ are. IsTrue are ↔ NoDirtyReads catalog.now stores.now.places events.now (all_contents stores.now.opening) (all_moments stores.now.moments)) }
 {
     are_takers_kept(alloc, Law::Rows(stores), catalog, events, events)
 }

@@ -2,16 +2,16 @@
 ghost use Rattle.std.specs.Prelude.{◌≡◌, IfOk, map};
 ghost use Rattle.std.specs.List.{list_all, list_any};
 ghost use Rattle.sdb_model.specs.Rows.{value_of};
-ghost use Rattle.sdb_order.specs.Commits.{said_of};
-ghost use Rattle.sdb_runs.specs.Rows.{answer_shown as answer_shown_lem, had_at, same_values, select_shown as select_shown_lem, some_had as some_had_lem, statement_shown as statement_shown_lem};
+ghost use Rattle.sdb_order.specs.Commits.{executed_of};
+ghost use Rattle.sdb_runs.specs.Rows.{answer_is_of as answer_is_of_lem, had_at, same_values, select_is_of as select_is_of_lem, some_had as some_had_lem, statement_is_of as statement_is_of_lem};
 
 use crate::had::{add_had, images_had};
 use crate::stores::Stores;
 use crate::turn::Turn;
 use sdb_model::{Answer, Select, Statement};
-use sdb_order::Said;
+use sdb_order::Executed;
 use sdb_record::{Image, Images};
-use sdb_rows::{shown, shown_names};
+use sdb_rows::{projected_names, shown};
 use sdb_schema::{Catalog, Table};
 use sdb_types::{Key, Name, NoMemory, Values};
 use std::alloc::Global;
@@ -68,11 +68,11 @@ fn select_shown(
     rows: &[Values],
     images: &[Image],
 ) -> Result<bool, NoMemory>
-    ensures { IfOk result (λ are. are ≡ select_shown_lem catalog.now select.now rows.now images.now) }
+    ensures { IfOk result (λ are. are ≡ select_is_of_lem catalog.now select.now rows.now images.now) }
 {
     match catalog.find(&select.table) {
         Some(table) => {
-            let names = shown_names(alloc, table, &select.columns)?;
+            let names = projected_names(alloc, table, &select.columns)?;
             are_shown(alloc, table, names.as_slice(), rows, images)
         }
         None => Ok(false),
@@ -87,7 +87,7 @@ fn statement_shown(
     rows: &[Values],
     images: &[Image],
 ) -> Result<bool, NoMemory>
-    ensures { IfOk result (λ are. are ≡ statement_shown_lem catalog.now statement.now rows.now images.now) }
+    ensures { IfOk result (λ are. are ≡ statement_is_of_lem catalog.now statement.now rows.now images.now) }
 {
     match statement {
         Some(Statement::Select(select)) => select_shown(alloc, catalog, select, rows, images),
@@ -100,14 +100,14 @@ fn some_had(
     alloc: Global,
     catalog: &Catalog,
     stores: &Stores,
-    said: &Said,
+    executed: &Executed,
     key: &Key,
     turns: &[Turn],
 ) -> Result<bool, NoMemory>
-    ensures { IfOk result (λ some. some ≡ some_had_lem (had_at catalog.now stores.now (said_of said.now) key.now turns.now)) }
+    ensures { IfOk result (λ some. some ≡ some_had_lem (had_at catalog.now stores.now (executed_of executed.now) key.now turns.now)) }
 {
     let mut images = Images::new(alloc);
-    add_had(alloc, &mut images, catalog, stores, said, key, turns)?;
+    add_had(alloc, &mut images, catalog, stores, executed, key, turns)?;
     Ok(images.first().is_some())
 }
 
@@ -119,21 +119,23 @@ fn answer_shown(
     turns: &[Turn],
     turn: &Turn,
 ) -> Result<bool, NoMemory>
-    ensures { IfOk result (λ is. is ≡ answer_shown_lem catalog.now stores.now keys.now turns.now turn.now turn.now.said.answer) }
+    ensures { IfOk result (λ is. is ≡ answer_is_of_lem catalog.now stores.now keys.now turns.now turn.now turn.now.executed.answer) }
 {
-    match &turn.said.answer {
+    match &turn.executed.answer {
         Some(Answer::Rows(rows)) => {
-            let images = images_had(alloc, catalog, stores, &turn.said, keys, turns)?;
+            let images = images_had(alloc, catalog, stores, &turn.executed, keys, turns)?;
             let shown = rows.as_slice();
             statement_shown(alloc, catalog, &turn.statement, shown, images.as_slice())
         }
-        Some(Answer::Duplicate(key)) => { some_had(alloc, catalog, stores, &turn.said, key, turns) }
+        Some(Answer::Duplicate(key)) => {
+            some_had(alloc, catalog, stores, &turn.executed, key, turns)
+        }
         _ => Ok(true),
     }
 }
 
-/// Whether it is so of each of these statements.
-pub fn answers_shown(
+/// Whether it holds of each of these statements.
+pub fn answers_have_rows(
     alloc: Global,
     catalog: &Catalog,
     stores: &Stores,
@@ -141,7 +143,7 @@ pub fn answers_shown(
     turns: &[Turn],
     some: &[Turn],
 ) -> Result<bool, NoMemory>
-    ensures { IfOk result (λ are. are ≡ list_all (λ t. answer_shown_lem catalog.now stores.now keys.now turns.now t t.said.answer) some.now) }
+    ensures { IfOk result (λ are. are ≡ list_all (λ t. answer_is_of_lem catalog.now stores.now keys.now turns.now t t.executed.answer) some.now) }
 {
     let Some((first, rest)) = some.split_first() else {
         return Ok(true);
@@ -150,5 +152,5 @@ pub fn answers_shown(
     if !is {
         return Ok(false);
     }
-    answers_shown(alloc, catalog, stores, keys, turns, rest)
+    answers_have_rows(alloc, catalog, stores, keys, turns, rest)
 }

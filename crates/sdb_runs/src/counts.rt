@@ -4,17 +4,17 @@ ghost use Rattle.std.specs.List.{list_all, list_any};
 ghost use Rattle.sdb_record.specs.Meta.{is_unresolved as is_unresolved_lem};
 ghost use Rattle.sdb_model.specs.Calls.{is_removal as is_removal_lem};
 ghost use Rattle.sdb_model.specs.Transactions.{id_of as id_of_lem, prepares as prepares_lem, is_committed_answer as is_told_committed_lem};
-ghost use Rattle.sdb_order.specs.Commits.{said_of};
-ghost use Rattle.sdb_said.specs.Values.{note_of};
-ghost use Rattle.sdb_plain.specs.Values.{all_notes};
+ghost use Rattle.sdb_order.specs.Commits.{executed_of};
+ghost use Rattle.sdb_said.specs.Values.{item_of};
+ghost use Rattle.sdb_plain.specs.Values.{all_items};
 ghost use Rattle.sdb_caused.specs.Tests.{any_upto};
-ghost use Rattle.sdb_runs.specs.Counts.{IsSaidCounted, all_seen, commit_counted as commit_counted_lem, covered as covered_lem, is_check as is_check_lem, is_prepared as is_prepared_lem, miscounted, others_counted as others_counted_lem, read_counted as read_counted_lem, unresolved_by, vacuum_counted as vacuum_counted_lem, wanted as wanted_lem};
+ghost use Rattle.sdb_runs.specs.Counts.{IsExecutedCounted, all_seen, commit_counted as commit_counted_lem, covered as covered_lem, is_check as is_check_lem, is_prepared as is_prepared_lem, miscounted, others_counted as others_counted_lem, read_counted as read_counted_lem, unresolved_by, vacuum_counted as vacuum_counted_lem, wanted as wanted_lem};
 
 use sdb_caused::{is_commit_of, is_unresolved};
 use sdb_model::{Answer, Event, How, Keyword};
-use sdb_order::{Said, is_word, statements_said};
-use sdb_plain::{Made, asks_row, calls_of, id_of, is_prepare, is_removal, noted_in, reads_rows};
-use sdb_said::Note;
+use sdb_order::{Executed, is_word, statements_by};
+use sdb_plain::{Made, asks_row, calls_of, id_of, is_prepare, is_removal, read_set_of, reads_rows};
+use sdb_said::ReadItem;
 use sdb_schema::Catalog;
 use sdb_types::{Key, NoMemory, Record, Reply, TxId};
 use std::alloc::Global;
@@ -42,12 +42,12 @@ fn is_prepared(calls: &[Made], id: TxId, key: &Key) -> bool
 }
 
 // Whether a COMMIT checks a note: a scan, or a get of a key that it doesn't prepare.
-fn is_check(calls: &[Made], id: TxId, note: &Note) -> bool
-    ensures { result ≡ is_check_lem calls.now id (note_of note.now) }
+fn is_check(calls: &[Made], id: TxId, item: &ReadItem) -> bool
+    ensures { result ≡ is_check_lem calls.now id (item_of item.now) }
 {
-    match note {
-        Note::Got(read) => !is_prepared(calls, id, &read.key),
-        Note::Scanned(_) => true,
+    match item {
+        ReadItem::Got(read) => !is_prepared(calls, id, &read.key),
+        ReadItem::Scanned(_) => true,
     }
 }
 
@@ -61,34 +61,34 @@ fn prepares(calls: &[Made], id: TxId) -> usize
 }
 
 #[tactic(auto, using(crate::proofs::Maps::count_mapped))]
-fn checks(calls: &[Made], notes: &[Note], id: TxId) -> usize
-    ensures { result ≡ count_by (is_check_lem calls.now id) (all_notes notes.now) }
+fn checks(calls: &[Made], read_set: &[ReadItem], id: TxId) -> usize
+    ensures { result ≡ count_by (is_check_lem calls.now id) (all_items read_set.now) }
 {
-    notes
+    read_set
         .iter()
-        .filter(|note| is_check(calls, id, note))
+        .filter(|item| is_check(calls, id, item))
         .count()
 }
 
 // How many calls a COMMIT makes but for its deciding put: two for each prepare, and one for each check.
-fn wanted(calls: &[Made], notes: &[Note], id: TxId) -> u128
-    ensures { result ≡ wanted_lem calls.now (all_notes notes.now) id }
+fn wanted(calls: &[Made], read_set: &[ReadItem], id: TxId) -> u128
+    ensures { result ≡ wanted_lem calls.now (all_items read_set.now) id }
 {
-    2 * (prepares(calls, id) as u128) + checks(calls, notes, id) as u128
+    2 * (prepares(calls, id) as u128) + checks(calls, read_set, id) as u128
 }
 
-fn is_told_committed(said: &Said) -> bool
-    ensures { result ≡ is_told_committed_lem said.now.answer }
+fn is_told_committed(executed: &Executed) -> bool
+    ensures { result ≡ is_told_committed_lem executed.now.answer }
 {
-    matches!(said.answer, Some(Answer::Committed))
+    matches!(executed.answer, Some(Answer::Committed))
 }
 
-fn commit_counted(calls: &[Made], notes: &[Note], id: TxId, said: &Said) -> bool
-    ensures { result ≡ commit_counted_lem calls.now (all_notes notes.now) id (said_of said.now) }
+fn commit_counted(calls: &[Made], read_set: &[ReadItem], id: TxId, executed: &Executed) -> bool
+    ensures { result ≡ commit_counted_lem calls.now (all_items read_set.now) id (executed_of executed.now) }
 {
-    let wanted = wanted(calls, notes, id);
+    let wanted = wanted(calls, read_set, id);
     let made = calls.len() as u128;
-    made <= wanted + 4 && (!(is_told_committed(said) && are_seen(calls)) || made == wanted + 1)
+    made <= wanted + 4 && (!(is_told_committed(executed) && are_seen(calls)) || made == wanted + 1)
 }
 
 // Whether a statement is the COMMIT of a transaction, and its calls are not counted.
@@ -96,39 +96,39 @@ fn is_miscounted(
     alloc: Global,
     events: &[Event],
     client: u64,
-    said: &Said,
+    executed: &Executed,
     calls: &[Made],
     id: TxId,
 ) -> Result<bool, NoMemory>
-    ensures { IfOk result (λ is. is ≡ miscounted events.now client (said_of said.now) calls.now id) }
+    ensures { IfOk result (λ is. is ≡ miscounted events.now client (executed_of executed.now) calls.now id) }
 {
-    let commits = is_commit_of(alloc, events, client, said, id)?;
+    let commits = is_commit_of(alloc, events, client, executed, id)?;
     if !commits {
         return Ok(false);
     }
-    let notes = noted_in(alloc, events, id)?;
-    Ok(!commit_counted(calls, notes.as_slice(), id, said))
+    let read_set = read_set_of(alloc, events, id)?;
+    Ok(!commit_counted(calls, read_set.as_slice(), id, executed))
 }
 
-// Whether it is so of one of a client's first transactions.
+// Whether it holds of one of a client's first transactions.
 fn any_miscounted(
     alloc: Global,
     events: &[Event],
     client: u64,
-    said: &Said,
+    executed: &Executed,
     calls: &[Made],
     count: u64,
 ) -> Result<bool, NoMemory>
-    ensures { IfOk result (λ is. is ≡ any_upto (λ k. miscounted events.now client (said_of said.now) calls.now (id_of_lem client k)) count) }
+    ensures { IfOk result (λ is. is ≡ any_upto (λ k. miscounted events.now client (executed_of executed.now) calls.now (id_of_lem client k)) count) }
 {
     if count == 0 {
         return Ok(false);
     }
-    let wrong = is_miscounted(alloc, events, client, said, calls, id_of(client, count))?;
+    let wrong = is_miscounted(alloc, events, client, executed, calls, id_of(client, count))?;
     if wrong {
         return Ok(true);
     }
-    any_miscounted(alloc, events, client, said, calls, count - 1)
+    any_miscounted(alloc, events, client, executed, calls, count - 1)
 }
 
 fn unresolved_among(alloc: Global, rows: &[Record]) -> usize
@@ -196,35 +196,35 @@ fn read_counted(alloc: Global, calls: &[Made]) -> bool
 fn others_counted(
     alloc: Global,
     catalog: &Catalog,
-    said: &Said,
+    executed: &Executed,
     calls: &[Made],
 ) -> Result<bool, NoMemory>
-    ensures { IfOk result (λ is. is ≡ others_counted_lem catalog.now (said_of said.now) calls.now) }
+    ensures { IfOk result (λ is. is ≡ others_counted_lem catalog.now (executed_of executed.now) calls.now) }
 {
-    let vacuums = is_word(alloc, said, Keyword::Vacuum)?;
+    let vacuums = is_word(alloc, executed, Keyword::Vacuum)?;
     if vacuums {
         return Ok(vacuum_counted(alloc, catalog, calls));
     }
-    let commits = is_word(alloc, said, Keyword::Commit)?;
+    let commits = is_word(alloc, executed, Keyword::Commit)?;
     Ok(commits || read_counted(alloc, calls))
 }
 
 /// Whether the calls of a statement are counted.
-pub fn is_said_counted(
+pub fn is_executed_counted(
     alloc: Global,
     catalog: &Catalog,
     events: &[Event],
     client: u64,
-    said: &Said,
+    executed: &Executed,
 ) -> Result<bool, NoMemory>
-    ensures { IfOk result (λ is. IsTrue is ↔ IsSaidCounted catalog.now events.now client (said_of said.now)) }
+    ensures { IfOk result (λ is. IsTrue is ↔ IsExecutedCounted catalog.now events.now client (executed_of executed.now)) }
 {
-    let all = statements_said(alloc, client, events)?;
-    let calls = calls_of(alloc, events, client, said)?;
+    let all = statements_by(alloc, client, events)?;
+    let calls = calls_of(alloc, events, client, executed)?;
     let made = calls.as_slice();
-    let miscounted = any_miscounted(alloc, events, client, said, made, all.len() as u64)?;
+    let miscounted = any_miscounted(alloc, events, client, executed, made, all.len() as u64)?;
     if miscounted {
         return Ok(false);
     }
-    others_counted(alloc, catalog, said, made)
+    others_counted(alloc, catalog, executed, made)
 }

@@ -2,15 +2,15 @@
 ghost use Rattle.std.specs.Prelude.{◌≡◌, ◌++◌, IfOk, OnOk};
 ghost use Rattle.std.specs.List.{flat_map, list_any};
 ghost use Rattle.sdb_snapshot.specs.Seen.{images_with};
-ghost use Rattle.sdb_order.specs.Commits.{said_of};
+ghost use Rattle.sdb_order.specs.Commits.{executed_of};
 ghost use Rattle.sdb_runs.specs.Rows.{bases as bases_lem, had, had_at, image_then, reads_key as reads_key_lem, rows_below, rows_from};
 ghost use Rattle.sdb_runs.specs.Values.{row_then as row_then_lem};
 
 use crate::row::{copied, row_at, row_left};
 use crate::stores::{Stores, moment_at};
 use crate::turn::Turn;
-use sdb_caused::is_same_said;
-use sdb_order::Said;
+use sdb_caused::is_same_executed;
+use sdb_order::Executed;
 use sdb_plain::{Made, has_finished, is_effective};
 use sdb_record::{Image, Images};
 use sdb_said::is_same_key;
@@ -77,8 +77,8 @@ fn bases(alloc: Global, stores: &Stores, key: &Key, turn: &Turn) -> Result<Bases
     ensures { IfOk result (λ rows. rows ≡ bases_lem stores.now key.now turn.now) }
 {
     let mut rows = Bases::new(alloc);
-    if has_finished(&turn.said) && any_reads(key, turn.calls.as_slice()) {
-        add_below(alloc, &mut rows, stores, key, turn.said.taken, turn.end)?;
+    if has_finished(&turn.executed) && any_reads(key, turn.calls.as_slice()) {
+        add_below(alloc, &mut rows, stores, key, turn.executed.taken, turn.end)?;
     }
     Ok(rows)
 }
@@ -97,14 +97,14 @@ fn add_image(images: &mut Images, key: &Key, row: &Option<Columns>) -> Result<()
 
 fn add_if_said(
     images: &mut Images,
-    said: &Said,
+    executed: &Executed,
     key: &Key,
     row: &Option<Columns>,
     turn: &Turn,
 ) -> Result<(), NoMemory>
-    ensures { OnOk result (images.new ≡ images.old ++ image_then (said_of said.now) key.now row.now turn.now) }
+    ensures { OnOk result (images.new ≡ images.old ++ image_then (executed_of executed.now) key.now row.now turn.now) }
 {
-    if is_same_said(&turn.said, said) {
+    if is_same_executed(&turn.executed, executed) {
         add_image(images, key, row)?;
     }
     Ok(())
@@ -115,24 +115,24 @@ fn add_from(
     alloc: Global,
     images: &mut Images,
     catalog: &Catalog,
-    said: &Said,
+    executed: &Executed,
     key: &Key,
     row: Option<Columns>,
     turns: &[Turn],
 ) -> Result<(), NoMemory>
-    ensures { OnOk result (images.new ≡ images.old ++ rows_from catalog.now (said_of said.now) key.now row turns.now) }
+    ensures { OnOk result (images.new ≡ images.old ++ rows_from catalog.now (executed_of executed.now) key.now row turns.now) }
 {
     let Some((first, rest)) = turns.split_first() else {
         return Ok(());
     };
-    add_if_said(images, said, key, &row, first)?;
-    if !is_effective(&first.said) {
-        return add_from(alloc, images, catalog, said, key, row, rest);
+    add_if_said(images, executed, key, &row, first)?;
+    if !is_effective(&first.executed) {
+        return add_from(alloc, images, catalog, executed, key, row, rest);
     }
     match &first.statement {
         Some(statement) => {
             let left = row_left(alloc, catalog, statement, key, row)?;
-            add_from(alloc, images, catalog, said, key, left, rest)
+            add_from(alloc, images, catalog, executed, key, left, rest)
         }
         None => Ok(()),
     }
@@ -142,39 +142,47 @@ fn add_from_all(
     alloc: Global,
     images: &mut Images,
     catalog: &Catalog,
-    said: &Said,
+    executed: &Executed,
     key: &Key,
     bases: &[Option<Columns>],
     turns: &[Turn],
 ) -> Result<(), NoMemory>
-    ensures { OnOk result (images.new ≡ images.old ++ flat_map (λ base. rows_from catalog.now (said_of said.now) key.now base turns.now) bases.now) }
+    ensures { OnOk result (images.new ≡ images.old ++ flat_map (λ base. rows_from catalog.now (executed_of executed.now) key.now base turns.now) bases.now) }
 {
     let Some((first, rest)) = bases.split_first() else {
         return Ok(());
     };
     let base = copied(first.as_ref())?;
-    add_from(alloc, images, catalog, said, key, base, turns)?;
-    add_from_all(alloc, images, catalog, said, key, rest, turns)
+    add_from(alloc, images, catalog, executed, key, base, turns)?;
+    add_from_all(alloc, images, catalog, executed, key, rest, turns)
 }
 
-/// Adds the rows that a transaction has at a key when it takes a statement, each of which one of these statements was shown first.
+/// Adds the rows that a transaction has at a key when it takes a statement, each of which one of these statements was observed first.
 pub fn add_had(
     alloc: Global,
     images: &mut Images,
     catalog: &Catalog,
     stores: &Stores,
-    said: &Said,
+    executed: &Executed,
     key: &Key,
     turns: &[Turn],
 ) -> Result<(), NoMemory>
-    ensures { OnOk result (images.new ≡ images.old ++ had_at catalog.now stores.now (said_of said.now) key.now turns.now) }
+    ensures { OnOk result (images.new ≡ images.old ++ had_at catalog.now stores.now (executed_of executed.now) key.now turns.now) }
 {
     let Some((first, rest)) = turns.split_first() else {
         return Ok(());
     };
     let bases = bases(alloc, stores, key, first)?;
-    add_from_all(alloc, images, catalog, said, key, bases.as_slice(), turns)?;
-    add_had(alloc, images, catalog, stores, said, key, rest)
+    add_from_all(
+        alloc,
+        images,
+        catalog,
+        executed,
+        key,
+        bases.as_slice(),
+        turns,
+    )?;
+    add_had(alloc, images, catalog, stores, executed, key, rest)
 }
 
 fn add_all_had(
@@ -182,17 +190,17 @@ fn add_all_had(
     images: &mut Images,
     catalog: &Catalog,
     stores: &Stores,
-    said: &Said,
+    executed: &Executed,
     keys: &[Key],
     turns: &[Turn],
 ) -> Result<(), NoMemory>
-    ensures { OnOk result (images.new ≡ images.old ++ flat_map (λ key. had_at catalog.now stores.now (said_of said.now) key turns.now) keys.now) }
+    ensures { OnOk result (images.new ≡ images.old ++ flat_map (λ key. had_at catalog.now stores.now (executed_of executed.now) key turns.now) keys.now) }
 {
     let Some((first, rest)) = keys.split_first() else {
         return Ok(());
     };
-    add_had(alloc, images, catalog, stores, said, first, turns)?;
-    add_all_had(alloc, images, catalog, stores, said, rest, turns)
+    add_had(alloc, images, catalog, stores, executed, first, turns)?;
+    add_all_had(alloc, images, catalog, stores, executed, rest, turns)
 }
 
 /// The rows that a transaction has at these keys when it takes a statement.
@@ -200,13 +208,13 @@ pub fn images_had(
     alloc: Global,
     catalog: &Catalog,
     stores: &Stores,
-    said: &Said,
+    executed: &Executed,
     keys: &[Key],
     turns: &[Turn],
 ) -> Result<Images, NoMemory>
-    ensures { IfOk result (λ images. images ≡ had catalog.now stores.now (said_of said.now) keys.now turns.now) }
+    ensures { IfOk result (λ images. images ≡ had catalog.now stores.now (executed_of executed.now) keys.now turns.now) }
 {
     let mut images = Images::new(alloc);
-    add_all_had(alloc, &mut images, catalog, stores, said, keys, turns)?;
+    add_all_had(alloc, &mut images, catalog, stores, executed, keys, turns)?;
     Ok(images)
 }

@@ -1,9 +1,9 @@
 //! The keys at which a transaction may have rows: those of all records at all moments, and those that it inserts.
 ghost use Rattle.std.specs.Prelude.{◌≡◌, ◌++◌, IfOk, OnOk, [], map};
 ghost use Rattle.std.specs.List.{cons_option, flat_map};
-ghost use Rattle.sdb_runs.specs.Rows.{all_keys, inserted_by, key_inserted, kept_at, kept_in};
+ghost use Rattle.sdb_runs.specs.Rows.{all_keys, inserted_by, key_inserted, keys_at_stores, keys_in};
 
-use crate::stores::{Shelf, Shelves, Stores};
+use crate::stores::{Shelves, StoreContents, Stores};
 use crate::turn::Turn;
 use sdb_model::{Insert, Statement};
 use sdb_record::Image;
@@ -24,15 +24,15 @@ fn add_keys(keys: &mut Keys, rows: &[Image]) -> Result<(), NoMemory>
     add_keys(keys, rest)
 }
 
-fn add_kept_in(keys: &mut Keys, shelf: &Shelf) -> Result<(), NoMemory>
-    ensures { OnOk result (keys.new ≡ keys.old ++ kept_in shelf.now) }
+fn add_kept_in(keys: &mut Keys, shelf: &StoreContents) -> Result<(), NoMemory>
+    ensures { OnOk result (keys.new ≡ keys.old ++ keys_in shelf.now) }
 {
     let rows = shelf.rows.all()?;
     add_keys(keys, rows.as_slice())
 }
 
-fn add_kept(keys: &mut Keys, shelves: &[Shelf]) -> Result<(), NoMemory>
-    ensures { OnOk result (keys.new ≡ keys.old ++ kept_at shelves.now) }
+fn add_kept(keys: &mut Keys, shelves: &[StoreContents]) -> Result<(), NoMemory>
+    ensures { OnOk result (keys.new ≡ keys.old ++ keys_at_stores shelves.now) }
 {
     let Some((first, rest)) = shelves.split_first() else {
         return Ok(());
@@ -42,7 +42,7 @@ fn add_kept(keys: &mut Keys, shelves: &[Shelf]) -> Result<(), NoMemory>
 }
 
 fn add_all_kept(keys: &mut Keys, moments: &[Shelves]) -> Result<(), NoMemory>
-    ensures { OnOk result (keys.new ≡ keys.old ++ flat_map kept_at moments.now) }
+    ensures { OnOk result (keys.new ≡ keys.old ++ flat_map keys_at_stores moments.now) }
 {
     let Some((first, rest)) = moments.split_first() else {
         return Ok(());

@@ -1,6 +1,5 @@
-//! Whether a run keeps what is asked of its statements: that their calls are counted, that unresolved records were rolled before a
-//! statement was answered from them, and that the rows that answers show are their transaction's own, or were committed when they were
-//! read. The definitions decided, slowly, by search, for tests.
+//! Whether the calls of a run's statements are counted, unresolved records were rolled before a statement was answered from them, and no read
+//! was dirty. The definitions decided, slowly, by search, for tests.
 #![tactic(auto)]
 
 mod all;
@@ -13,5 +12,5 @@ mod row;
 mod stores;
 mod turn;
 
-pub use all::{broken_in, calls_are_counted, records_are_resolved, rows_are_shown};
-pub use stores::{Shelf, Shelves, Stores};
+pub use all::{broken_in, calls_are_counted, have_no_dirty_reads, records_are_resolved};
+pub use stores::{Shelves, StoreContents, Stores};

@@ -5,12 +5,12 @@ ghost use Rattle.sdb_record.specs.Meta.{is_unresolved as is_unresolved_lem, numb
 ghost use Rattle.sdb_record.specs.Coordinator.{coordinator_key_of};
 ghost use Rattle.sdb_record.specs.Rolls.{back_of};
 ghost use Rattle.sdb_model.specs.Counted.{request_of_back, roll_by as roll_by_lem};
-ghost use Rattle.sdb_order.specs.Commits.{said_of};
-ghost use Rattle.sdb_runs.specs.Counts.{IsSaidResolved, are_well_left as are_well_left_lem, is_passed_over as is_passed_over_lem, is_roll as is_roll_lem, is_rolled as is_rolled_lem, is_rolled_by as is_rolled_by_lem, is_well_left as is_well_left_lem, is_well_read as is_well_read_lem, rolled_after as rolled_after_lem};
+ghost use Rattle.sdb_order.specs.Commits.{executed_of};
+ghost use Rattle.sdb_runs.specs.Counts.{IsExecutedResolved, are_well_left as are_well_left_lem, is_passed_over as is_passed_over_lem, is_roll as is_roll_lem, is_rolled as is_rolled_lem, is_rolled_by as is_rolled_by_lem, is_well_left as is_well_left_lem, is_well_read as is_well_read_lem, rolled_after as rolled_after_lem};
 
 use sdb_caused::{is_early, is_unresolved, prepared_moment};
 use sdb_model::{Event, How, Keyword};
-use sdb_order::{Said, is_word};
+use sdb_order::{Executed, is_word};
 use sdb_plain::{Made, calls_of, decision_at, has_finished, reads_rows};
 use sdb_record::{Back, Decided, Decision, coordinator_key, rolled_back, rolled_forward};
 use sdb_said::{is_same_request, writer};
@@ -222,7 +222,7 @@ fn are_well_left(
     are_well_left(alloc, events, vacuums, calls, read, rest)
 }
 
-// Whether it is so of each record that a call found.
+// Whether it holds of each record that a call found.
 #[tactic(auto, using(crate::proofs::Maps::one_left))]
 fn is_well_read(
     alloc: Global,
@@ -263,19 +263,19 @@ fn are_well_read(
 }
 
 /// Whether each unresolved record that a statement was answered from was rolled first, or passed over by VACUUM.
-pub fn is_said_resolved(
+pub fn is_executed_resolved(
     alloc: Global,
     events: &[Event],
     client: u64,
-    said: &Said,
+    executed: &Executed,
 ) -> Result<bool, NoMemory>
-    ensures { IfOk result (λ is. IsTrue is ↔ IsSaidResolved events.now client (said_of said.now)) }
+    ensures { IfOk result (λ is. IsTrue is ↔ IsExecutedResolved events.now client (executed_of executed.now)) }
 {
-    if !has_finished(said) {
+    if !has_finished(executed) {
         return Ok(true);
     }
-    let calls = calls_of(alloc, events, client, said)?;
-    let vacuums = is_word(alloc, said, Keyword::Vacuum)?;
+    let calls = calls_of(alloc, events, client, executed)?;
+    let vacuums = is_word(alloc, executed, Keyword::Vacuum)?;
     let all = calls.as_slice();
     are_well_read(alloc, events, vacuums, all, all)
 }

@@ -7,14 +7,14 @@ ghost use Rattle.sdb_record.specs.Parts.{before_record};
 ghost use Rattle.sdb_record.specs.Rolls.{forward_record, image_of, row_of_image};
 ghost use Rattle.sdb_model.specs.Events.{standing as standing_lem};
 ghost use Rattle.sdb_model.specs.Images.{decision_at as decision_at_lem, decision_on as decision_on_lem, row_at as row_at_lem};
-ghost use Rattle.sdb_model.specs.Shown.{one_row as one_row_lem, row_left as row_left_lem};
-ghost use Rattle.sdb_runs.specs.Values.{all_shelves};
+ghost use Rattle.sdb_model.specs.DirtyReads.{one_row as one_row_lem, row_left as row_left_lem};
+ghost use Rattle.sdb_runs.specs.Values.{all_contents};
 
-use crate::stores::{Shelf, kept_for};
+use crate::stores::{StoreContents, contents_for};
 use sdb_model::{Place, Statement};
 use sdb_plain::{PlainTables, exec};
 use sdb_record::{Decided, Decision, committed_image, coordinator_key, meta_of, rolled_forward};
-use sdb_said::{decided, is_committed, keeps_none, writer};
+use sdb_said::{decided, has_no_before, is_committed, writer};
 use sdb_schema::Catalog;
 use sdb_snapshot::row_of;
 use sdb_types::{Columns, Duplicate, Key, NoMemory, Record, TxId};
@@ -40,10 +40,14 @@ fn record_with(key: &Key, columns: &Columns) -> Result<Record, NoMemory>
 }
 
 // The record at a key.
-fn standing(places: &[Place], shelves: &[Shelf], key: &Key) -> Result<Option<Record>, NoMemory>
-    ensures { IfOk result (λ rec. rec ≡ standing_lem places.now (all_shelves shelves.now) key.now) }
+fn standing(
+    places: &[Place],
+    shelves: &[StoreContents],
+    key: &Key,
+) -> Result<Option<Record>, NoMemory>
+    ensures { IfOk result (λ rec. rec ≡ standing_lem places.now (all_contents shelves.now) key.now) }
 {
-    let Some(rows) = kept_for(places, shelves, &key.table.ns) else {
+    let Some(rows) = contents_for(places, shelves, &key.table.ns) else {
         return Ok(None);
     };
     match rows.find(key) {
@@ -56,10 +60,10 @@ fn standing(places: &[Place], shelves: &[Shelf], key: &Key) -> Result<Option<Rec
 fn decision_at(
     alloc: Global,
     places: &[Place],
-    shelves: &[Shelf],
+    shelves: &[StoreContents],
     id: TxId,
 ) -> Result<Option<Decided>, NoMemory>
-    ensures { IfOk result (λ d. d ≡ decision_at_lem places.now (all_shelves shelves.now) id) }
+    ensures { IfOk result (λ d. d ≡ decision_at_lem places.now (all_contents shelves.now) id) }
 {
     let row = coordinator_key(alloc, id)?;
     match standing(places, shelves, &row)? {
@@ -71,10 +75,10 @@ fn decision_at(
 fn decision_on(
     alloc: Global,
     places: &[Place],
-    shelves: &[Shelf],
+    shelves: &[StoreContents],
     rec: &Record,
 ) -> Result<Option<Decided>, NoMemory>
-    ensures { IfOk result (λ d. d ≡ decision_on_lem places.now (all_shelves shelves.now) rec.now) }
+    ensures { IfOk result (λ d. d ≡ decision_on_lem places.now (all_contents shelves.now) rec.now) }
 {
     match writer(rec) {
         Some(id) => decision_at(alloc, places, shelves, id),
@@ -88,7 +92,7 @@ fn row_before(alloc: Global, rec: &Record) -> Result<Option<Columns>, NoMemory>
     requires { is_in Committed rec.now.columns ≡ false }
     ensures { IfOk result (λ row. row ≡ option_and_then row_of_image (before_record rec.now)) }
 {
-    if keeps_none(rec) {
+    if has_no_before(rec) {
         return Ok(None);
     }
     if meta_of(alloc, rec).is_err() {
@@ -133,10 +137,10 @@ fn row_under(
 pub fn row_at(
     alloc: Global,
     places: &[Place],
-    shelves: &[Shelf],
+    shelves: &[StoreContents],
     key: &Key,
 ) -> Result<Option<Columns>, NoMemory>
-    ensures { IfOk result (λ row. row ≡ row_at_lem places.now (all_shelves shelves.now) key.now) }
+    ensures { IfOk result (λ row. row ≡ row_at_lem places.now (all_contents shelves.now) key.now) }
 {
     match standing(places, shelves, key)? {
         Some(rec) => {

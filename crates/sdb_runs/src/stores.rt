@@ -1,29 +1,29 @@
 //! What the stores contain at the moments of a run.
 ghost use Rattle.std.specs.Prelude.{◌≡◌, find};
 ghost use Rattle.std.specs.Option.{option_copied};
-ghost use Rattle.sdb_model.specs.Events.{first_name, held_by, moment, store_of};
+ghost use Rattle.sdb_model.specs.Events.{first_name, contents_under, moment, store_of};
 ghost use Rattle.sdb_model.specs.Rows.{same_name};
-ghost use Rattle.sdb_runs.specs.Values.{all_moments, all_shelves};
+ghost use Rattle.sdb_runs.specs.Values.{all_moments, all_contents};
 
 use sdb_model::{Place, Places};
 use sdb_plain::PlainTables;
 use sdb_types::{Name, Seq};
 
 /// What one store contains, with the store's name.
-pub struct Shelf {
+pub struct StoreContents {
     pub name: Name,
     pub rows: PlainTables,
 }
 
 // By hand: each drop is then one call, where a derived one is written out at each exit, with a call for each field.
-impl Drop for Shelf {
+impl Drop for StoreContents {
     fn drop(self) {
-        let Shelf { name: _, rows: _ } = self;
+        let StoreContents { name: _, rows: _ } = self;
     }
 }
 
 /// What the stores contain at one moment.
-pub type Shelves = Seq<Shelf>;
+pub type Shelves = Seq<StoreContents>;
 
 /// Where namespaces are placed, and what the stores contain: before all events, and after each.
 pub struct Stores {
@@ -44,8 +44,12 @@ impl Drop for Stores {
 }
 
 /// What the stores contain after so many events.
-pub fn moment_at<'a>(opening: &'a [Shelf], moments: &'a [Shelves], n: u64) -> &'a [Shelf]
-    ensures { all_shelves result.now ≡ moment (all_shelves opening.now) (all_moments moments.now) n }
+pub fn moment_at<'a>(
+    opening: &'a [StoreContents],
+    moments: &'a [Shelves],
+    n: u64,
+) -> &'a [StoreContents]
+    ensures { all_contents result.now ≡ moment (all_contents opening.now) (all_moments moments.now) n }
 {
     if n == 0 {
         return opening;
@@ -67,7 +71,7 @@ fn placed<'a>(places: &'a [Place], ns: &Name) -> Option<&'a Place>
     None
 }
 
-fn find_shelf<'a>(shelves: &'a [Shelf], name: &Name) -> Option<&'a Shelf>
+fn find_shelf<'a>(shelves: &'a [StoreContents], name: &Name) -> Option<&'a StoreContents>
     ensures { option_copied result ≡ find (λ s. same_name s.name name.now) shelves.now }
 {
     for shelf in shelves {
@@ -80,8 +84,8 @@ fn find_shelf<'a>(shelves: &'a [Shelf], name: &Name) -> Option<&'a Shelf>
 
 // What the store of a name contains.
 #[tactic(auto, using(crate::proofs::StoreLaws::held_is))]
-fn kept_by<'a>(shelves: &'a [Shelf], name: &Name) -> Option<&'a PlainTables>
-    ensures { option_copied result ≡ held_by (all_shelves shelves.now) name.now }
+fn kept_by<'a>(shelves: &'a [StoreContents], name: &Name) -> Option<&'a PlainTables>
+    ensures { option_copied result ≡ contents_under (all_contents shelves.now) name.now }
 {
     match find_shelf(shelves, name) {
         Some(shelf) => Some(&shelf.rows),
@@ -91,8 +95,8 @@ fn kept_by<'a>(shelves: &'a [Shelf], name: &Name) -> Option<&'a PlainTables>
 
 // What the first store contains, where there is one.
 #[tactic(auto)]
-fn kept_first(shelves: &[Shelf]) -> Option<&PlainTables>
-    ensures { option_copied result ≡ held_by (all_shelves shelves.now) (first_name (all_shelves shelves.now)) }
+fn kept_first(shelves: &[StoreContents]) -> Option<&PlainTables>
+    ensures { option_copied result ≡ contents_under (all_contents shelves.now) (first_name (all_contents shelves.now)) }
 {
     match shelves.first() {
         Some(first) => kept_by(shelves, &first.name),
@@ -101,8 +105,12 @@ fn kept_first(shelves: &[Shelf]) -> Option<&PlainTables>
 }
 
 /// What the store of a namespace contains.
-pub fn kept_for<'a>(places: &[Place], shelves: &'a [Shelf], ns: &Name) -> Option<&'a PlainTables>
-    ensures { option_copied result ≡ held_by (all_shelves shelves.now) (store_of places.now (all_shelves shelves.now) ns.now) }
+pub fn contents_for<'a>(
+    places: &[Place],
+    shelves: &'a [StoreContents],
+    ns: &Name,
+) -> Option<&'a PlainTables>
+    ensures { option_copied result ≡ contents_under (all_contents shelves.now) (store_of places.now (all_contents shelves.now) ns.now) }
 {
     match placed(places, ns) {
         Some(place) => kept_by(shelves, &place.store),

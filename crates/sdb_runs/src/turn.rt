@@ -1,19 +1,19 @@
 //! The statements of a transaction, with what is asked of each.
 ghost use Rattle.std.specs.Prelude.{◌≡◌, ◌++◌, ◌∷◌, [], IfOk, OnOk, List};
-ghost use Rattle.sdb_model.specs.Transactions.{Said as SaidOf, client_of as client_of_lem, statements_of, through_end};
-ghost use Rattle.sdb_order.specs.Commits.{all_said, said_of};
+ghost use Rattle.sdb_model.specs.Transactions.{Executed as SaidOf, client_of as client_of_lem, statements_of, through_end};
+ghost use Rattle.sdb_order.specs.Commits.{all_executed, executed_of};
 ghost use Rattle.sdb_runs.specs.Turns.{AreTurns, IsTurn};
 
 use sdb_caused::statement_in;
 use sdb_model::{Event, Statement};
-use sdb_order::{Said, ends, statements_said};
+use sdb_order::{Executed, ends, statements_by};
 use sdb_plain::{Made, calls_of, client_of, end_of, from_begin, ordinal_of, rest_of};
 use sdb_types::{Duplicate, NoMemory, Seq, TxId};
 use std::alloc::Global;
 
-/// A statement that was said, what its text is read as, its calls, and the number of the event that it ends at.
+/// A executed statement, what its text is read as, its calls, and the number of the event that it ends at.
 pub struct Turn {
-    pub said: Said,
+    pub executed: Executed,
     pub statement: Option<Statement>,
     pub calls: Seq<Made>,
     pub end: u64,
@@ -23,7 +23,7 @@ pub struct Turn {
 impl Drop for Turn {
     fn drop(self) {
         let Turn {
-            said: _,
+            executed: _,
             statement: _,
             calls: _,
             end: _,
@@ -33,25 +33,30 @@ impl Drop for Turn {
 
 pub type Turns = Seq<Turn>;
 
-fn copied(said: &Said) -> Result<Said, NoMemory>
-    ensures { IfOk result (λ copy. copy ≡ said.now) }
+fn copied(executed: &Executed) -> Result<Executed, NoMemory>
+    ensures { IfOk result (λ copy. copy ≡ executed.now) }
 {
-    Ok(Said {
-        taken: said.taken,
-        text: said.text.copy()?,
-        answer: said.answer.copy()?,
-        reached: said.reached,
+    Ok(Executed {
+        taken: executed.taken,
+        text: executed.text.copy()?,
+        answer: executed.answer.copy()?,
+        reached: executed.reached,
     })
 }
 
-fn turn_of(alloc: Global, events: &[Event], client: u64, said: &Said) -> Result<Turn, NoMemory>
-    ensures { IfOk result (IsTurn events.now client (said_of said.now)) }
+fn turn_of(
+    alloc: Global,
+    events: &[Event],
+    client: u64,
+    executed: &Executed,
+) -> Result<Turn, NoMemory>
+    ensures { IfOk result (IsTurn events.now client (executed_of executed.now)) }
 {
     Ok(Turn {
-        said: copied(said)?,
-        statement: statement_in(alloc, &said.text)?,
-        calls: calls_of(alloc, events, client, said)?,
-        end: end_of(events, said),
+        executed: copied(executed)?,
+        statement: statement_in(alloc, &executed.text)?,
+        calls: calls_of(alloc, events, client, executed)?,
+        end: end_of(events, executed),
     })
 }
 
@@ -61,11 +66,11 @@ fn add_turn(
     turns: &mut Turns,
     events: &[Event],
     client: u64,
-    said: &Said,
+    executed: &Executed,
 ) -> Result<(), NoMemory>
-    ensures { OnOk result ((past : List SaidOf) → AreTurns events.now client past turns.old → AreTurns events.now client (past ++ said_of said.now ∷ []) turns.new) }
+    ensures { OnOk result ((past : List SaidOf) → AreTurns events.now client past turns.old → AreTurns events.now client (past ++ executed_of executed.now ∷ []) turns.new) }
 {
-    let turn = turn_of(alloc, events, client, said)?;
+    let turn = turn_of(alloc, events, client, executed)?;
     turns.push(turn)?;
     Ok(())
 }
@@ -76,11 +81,11 @@ fn add_turns(
     turns: &mut Turns,
     events: &[Event],
     client: u64,
-    said: &[Said],
+    executed: &[Executed],
 ) -> Result<(), NoMemory>
-    ensures { OnOk result ((past : List SaidOf) → AreTurns events.now client past turns.old → AreTurns events.now client (past ++ through_end (all_said said.now)) turns.new) }
+    ensures { OnOk result ((past : List SaidOf) → AreTurns events.now client past turns.old → AreTurns events.now client (past ++ through_end (all_executed executed.now)) turns.new) }
 {
-    let Some((first, rest)) = said.split_first() else {
+    let Some((first, rest)) = executed.split_first() else {
         return Ok(());
     };
     add_turn(alloc, turns, events, client, first)?;
@@ -95,7 +100,7 @@ pub fn turns_of(alloc: Global, events: &[Event], id: TxId) -> Result<Turns, NoMe
     ensures { IfOk result (AreTurns events.now (client_of_lem id) (statements_of events.now id)) }
 {
     let client = client_of(id);
-    let all = statements_said(alloc, client, events)?;
+    let all = statements_by(alloc, client, events)?;
     let since = from_begin(alloc, ordinal_of(id), all.as_slice())?;
     let mut turns = Turns::new(alloc);
     add_turns(alloc, &mut turns, events, client, rest_of(since))?;

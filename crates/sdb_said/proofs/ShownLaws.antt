@@ -15,7 +15,7 @@ use Rattle.sdb_types.specs.declared.record.Reply.{Reply}
 use Rattle.sdb_types.specs.declared.record.Reply.TheVariants as reply
 use Rattle.sdb_types.specs.Contents.{tx_id, record_among}
 use Rattle.sdb_types.specs.Order.{value_cmp, same_key}
-use Rattle.sdb_types.specs.Exactness.{record_tells, value_tells}
+use Rattle.sdb_types.specs.Exactness.{record_is_exact, value_is_exact}
 use Rattle.sdb_record.specs.declared.coordinator.Decided.{Decided}
 use Rattle.sdb_record.specs.declared.coordinator.Decision.{Decision}
 use Rattle.sdb_record.specs.declared.coordinator.Decision.TheVariants as decision
@@ -29,10 +29,10 @@ use Rattle.sdb_record.proofs.Within.{column-before_part}
 use Rattle.sdb_record.proofs.RollLaws.{before_part-any}
 use Rattle.sdb_model.specs.declared.event.Event.{Event}
 use Rattle.sdb_model.specs.declared.event.Event.TheVariants as event
-use Rattle.sdb_laws.specs.Lawful.{id, InReply, InEvent, IsShown, IsRowShown, IsBadRow}
-use Rattle.sdb_said.specs.declared.played.Played.{Played}
-use Rattle.sdb_said.specs.Values.{all_played, same_record}
-use Rattle.sdb_said.specs.Shown.{is_first, with_rows, with_reply, with_event, gathered, shown, kept_writer, no_more, keeps_next, keeps, is_kept_in, keeps_none, decided, commits, aborts, commit_moment, row_moment, shows_commit, shows_abort, shows_bad_row, moments, is_forward}
+use Rattle.sdb_laws.specs.Lawful.{id, InReply, InEvent, IsObserved, IsRowObserved, IsBadRow}
+use Rattle.sdb_said.specs.declared.labelled.Labelled.{Labelled}
+use Rattle.sdb_said.specs.Values.{all_labelled, same_record}
+use Rattle.sdb_said.specs.Observed.{is_first, with_rows, with_reply, with_event, gathered, observed, before_writer, no_more, before_matches_next, before_matches, is_before_image_of, has_no_before, decided, commits, aborts, commit_moment, row_moment, observes_commit, observes_abort, observes_bad_row, moments, is_forward}
 use Rattle.sdb_said.proofs.Lists.{none_some, right, not_true, true_not, In, any_some, some_any, found_in}
 use Rattle.sdb_types.proofs.Basics.{clash, some_is}
 use Rattle.sdb_types.proofs.Bools.{and_first as left, and_both as both}
@@ -43,11 +43,11 @@ use Rattle.sdb_model.specs.Counted.{is_committed as is_commit}
 
 pub record_is : (a b : Record) → same_record a b ≡ true → a ≡ b
 unfolding same_record
-record_is a b h = (record_tells a b).0 h
+record_is a b h = (record_is_exact a b).0 h
 
 pub is_record : (a b : Record) → a ≡ b → same_record a b ≡ true
 unfolding same_record
-is_record a b e = (record_tells a b).1 e
+is_record a b e = (record_is_exact a b).1 e
 
 pub number_is : (a b : ℕ) → (a == b) ≡ true → a ≡ b
 number_is a b h = (unsigned_Decides a b).0 h
@@ -158,26 +158,26 @@ event_has (event.Stop client) found x i = absurd i
 event_has (event.Clock moment) found x i = absurd i
 event_has (event.Idle client) found x i = absurd i
 
-gathered_in : (past : List Played) (found : List Record) (x : Record) → In (gathered past found) x → In found x ⊎ IsShown (all_played past) x
+gathered_in : (past : List Labelled) (found : List Record) (x : Record) → In (gathered past found) x → In found x ⊎ IsObserved (all_labelled past) x
 gathered_in [] found x i = inl i
 gathered_in (p ∷ past) found x i = elim (gathered_in past (with_event p.event found) x i) [
   | inr s ↦ inr (inr s)
   | inl a ↦ elim (event_in p.event found x a) [ inl k ↦ inl k | inr e ↦ inr (inl e) ]
 ]
 
-gathered_keeps : (past : List Played) (found : List Record) (x : Record) → In found x → In (gathered past found) x
+gathered_keeps : (past : List Labelled) (found : List Record) (x : Record) → In found x → In (gathered past found) x
 gathered_keeps [] found x i = i
 gathered_keeps (p ∷ past) found x i = gathered_keeps past (with_event p.event found) x (event_keeps p.event found x i)
 
-gathered_has : (past : List Played) (found : List Record) (x : Record) → IsShown (all_played past) x → In (gathered past found) x
+gathered_has : (past : List Labelled) (found : List Record) (x : Record) → IsObserved (all_labelled past) x → In (gathered past found) x
 gathered_has [] found x s = absurd s
 gathered_has (p ∷ past) found x (inl e) = gathered_keeps past (with_event p.event found) x (event_has p.event found x e)
 gathered_has (p ∷ past) found x (inr s) = gathered_has past (with_event p.event found) x s
 
-pub shown_is : (past : List Played) (x : Record) → In (shown past) x → IsShown (all_played past) x
+pub shown_is : (past : List Labelled) (x : Record) → In (observed past) x → IsObserved (all_labelled past) x
 shown_is past x i = elim (gathered_in past [] x i) [ inl a ↦ absurd a | inr s ↦ s ]
 
-pub is_shown : (past : List Played) (x : Record) → IsShown (all_played past) x → In (shown past) x
+pub is_shown : (past : List Labelled) (x : Record) → IsObserved (all_labelled past) x → In (observed past) x
 is_shown past x s = gathered_has past [] x s
 
 ---- rows
@@ -210,38 +210,38 @@ aborts_is r h = by (decision_in r) refl h
     by (Ok d) e k = (d.created_at, e ∙ ap Ok (named d k))
     by (Err x) e k = clash (sym k)
 
-pub commit_shown : (past : List Played) (t : ℕ) → shows_commit (shown past) (coordinator_key_of (id t)) ≡ true → (m : ℤ) × IsRowShown (all_played past) t decision.Committed m
+pub commit_shown : (past : List Labelled) (t : ℕ) → observes_commit (observed past) (coordinator_key_of (id t)) ≡ true → (m : ℤ) × IsRowObserved (all_labelled past) t decision.Committed m
 commit_shown past t h =
-    let a = any_some (λ (r : Record). same_key r.key (coordinator_key_of (id t)) && commits (decided r)) (shown past) h in
+    let a = any_some (λ (r : Record). same_key r.key (coordinator_key_of (id t)) && commits (decided r)) (observed past) h in
     let m = commits_is a.0 (right (same_key a.0.key (coordinator_key_of (id t))) (commits (decided a.0)) a.2) in
     (m.0, record { row = a.0; shown = shown_is past a.0 a.1; key = same_key_exact a.0.key (coordinator_key_of (id t)) (left (same_key a.0.key (coordinator_key_of (id t))) (commits (decided a.0)) a.2); says = m.1 })
 
-pub shows_commit_of : (past : List Played) (t : ℕ) (m : ℤ) → IsRowShown (all_played past) t decision.Committed m → shows_commit (shown past) (coordinator_key_of (id t)) ≡ true
+pub shows_commit_of : (past : List Labelled) (t : ℕ) (m : ℤ) → IsRowObserved (all_labelled past) t decision.Committed m → observes_commit (observed past) (coordinator_key_of (id t)) ≡ true
 shows_commit_of past t m s =
-    some_any (λ (r : Record). same_key r.key (coordinator_key_of (id t)) && commits (decided r)) (shown past) s.row (is_shown past s.row s.shown) (both (same_key s.row.key (coordinator_key_of (id t))) (commits (decided s.row)) (same_key_of s.row.key (coordinator_key_of (id t)) s.key) (ap (λ o. commits (result_ok o)) s.says))
+    some_any (λ (r : Record). same_key r.key (coordinator_key_of (id t)) && commits (decided r)) (observed past) s.row (is_shown past s.row s.shown) (both (same_key s.row.key (coordinator_key_of (id t))) (commits (decided s.row)) (same_key_of s.row.key (coordinator_key_of (id t)) s.key) (ap (λ o. commits (result_ok o)) s.says))
 
-pub abort_shown : (past : List Played) (t : ℕ) → shows_abort (shown past) (coordinator_key_of (id t)) ≡ true → (m : ℤ) × IsRowShown (all_played past) t decision.Aborted m
+pub abort_shown : (past : List Labelled) (t : ℕ) → observes_abort (observed past) (coordinator_key_of (id t)) ≡ true → (m : ℤ) × IsRowObserved (all_labelled past) t decision.Aborted m
 abort_shown past t h =
-    let a = any_some (λ (r : Record). same_key r.key (coordinator_key_of (id t)) && aborts (decided r)) (shown past) h in
+    let a = any_some (λ (r : Record). same_key r.key (coordinator_key_of (id t)) && aborts (decided r)) (observed past) h in
     let m = aborts_is a.0 (right (same_key a.0.key (coordinator_key_of (id t))) (aborts (decided a.0)) a.2) in
     (m.0, record { row = a.0; shown = shown_is past a.0 a.1; key = same_key_exact a.0.key (coordinator_key_of (id t)) (left (same_key a.0.key (coordinator_key_of (id t))) (aborts (decided a.0)) a.2); says = m.1 })
 
-pub shows_abort_of : (past : List Played) (t : ℕ) (m : ℤ) → IsRowShown (all_played past) t decision.Aborted m → shows_abort (shown past) (coordinator_key_of (id t)) ≡ true
+pub shows_abort_of : (past : List Labelled) (t : ℕ) (m : ℤ) → IsRowObserved (all_labelled past) t decision.Aborted m → observes_abort (observed past) (coordinator_key_of (id t)) ≡ true
 shows_abort_of past t m s =
-    some_any (λ (r : Record). same_key r.key (coordinator_key_of (id t)) && aborts (decided r)) (shown past) s.row (is_shown past s.row s.shown) (both (same_key s.row.key (coordinator_key_of (id t))) (aborts (decided s.row)) (same_key_of s.row.key (coordinator_key_of (id t)) s.key) (ap (λ o. aborts (result_ok o)) s.says))
+    some_any (λ (r : Record). same_key r.key (coordinator_key_of (id t)) && aborts (decided r)) (observed past) s.row (is_shown past s.row s.shown) (both (same_key s.row.key (coordinator_key_of (id t))) (aborts (decided s.row)) (same_key_of s.row.key (coordinator_key_of (id t)) s.key) (ap (λ o. aborts (result_ok o)) s.says))
 
 none_is : {A : Type 0} (o : Option A) → is_none o ≡ true → o ≡ None
 none_is None h = refl
 none_is (Some x) h = clash (sym h)
 
-pub bad_row_shown : (past : List Played) (t : ℕ) → shows_bad_row (shown past) (coordinator_key_of (id t)) ≡ true → IsBadRow (all_played past) t
+pub bad_row_shown : (past : List Labelled) (t : ℕ) → observes_bad_row (observed past) (coordinator_key_of (id t)) ≡ true → IsBadRow (all_labelled past) t
 bad_row_shown past t h =
-    let a = any_some (λ (r : Record). same_key r.key (coordinator_key_of (id t)) && is_none (decided r)) (shown past) h in
+    let a = any_some (λ (r : Record). same_key r.key (coordinator_key_of (id t)) && is_none (decided r)) (observed past) h in
     record { row = a.0; shown = shown_is past a.0 a.1; key = same_key_exact a.0.key (coordinator_key_of (id t)) (left (same_key a.0.key (coordinator_key_of (id t))) (is_none (decided a.0)) a.2); bad = none_is (decided a.0) (right (same_key a.0.key (coordinator_key_of (id t))) (is_none (decided a.0)) a.2) }
 
-pub shows_bad_row_of : (past : List Played) (t : ℕ) → IsBadRow (all_played past) t → shows_bad_row (shown past) (coordinator_key_of (id t)) ≡ true
+pub shows_bad_row_of : (past : List Labelled) (t : ℕ) → IsBadRow (all_labelled past) t → observes_bad_row (observed past) (coordinator_key_of (id t)) ≡ true
 shows_bad_row_of past t s =
-    some_any (λ (r : Record). same_key r.key (coordinator_key_of (id t)) && is_none (decided r)) (shown past) s.row (is_shown past s.row s.shown) (both (same_key s.row.key (coordinator_key_of (id t))) (is_none (decided s.row)) (same_key_of s.row.key (coordinator_key_of (id t)) s.key) (ap is_none s.bad))
+    some_any (λ (r : Record). same_key r.key (coordinator_key_of (id t)) && is_none (decided r)) (observed past) s.row (is_shown past s.row s.shown) (both (same_key s.row.key (coordinator_key_of (id t))) (is_none (decided s.row)) (same_key_of s.row.key (coordinator_key_of (id t)) s.key) (ap is_none s.bad))
 
 ---- moments
 
@@ -278,15 +278,15 @@ moment_says r row m h = by (same_key r.key row) refl h
     by true e k = (same_key_exact r.key row e, says (decision_in r) refl k)
     by false e k = none_some k
 
-pub moment_shown : (past : List Played) (t : ℕ) (m : ℤ) → In (moments (shown past) (coordinator_key_of (id t))) m → IsRowShown (all_played past) t decision.Committed m
+pub moment_shown : (past : List Labelled) (t : ℕ) (m : ℤ) → In (moments (observed past) (coordinator_key_of (id t))) m → IsRowObserved (all_labelled past) t decision.Committed m
 moment_shown past t m i =
-    let a = kept_in (row_moment (coordinator_key_of (id t))) (shown past) m i in
+    let a = kept_in (row_moment (coordinator_key_of (id t))) (observed past) m i in
     let s = moment_says a.0 (coordinator_key_of (id t)) m a.2 in
     record { row = a.0; shown = shown_is past a.0 a.1; key = s.0; says = s.1 }
 
-pub shown_moment : (past : List Played) (t : ℕ) (m : ℤ) → IsRowShown (all_played past) t decision.Committed m → In (moments (shown past) (coordinator_key_of (id t))) m
+pub shown_moment : (past : List Labelled) (t : ℕ) (m : ℤ) → IsRowObserved (all_labelled past) t decision.Committed m → In (moments (observed past) (coordinator_key_of (id t))) m
 shown_moment past t m s =
-    in_kept (row_moment (coordinator_key_of (id t))) (shown past) s.row m (is_shown past s.row s.shown) (ap (λ b. if b then commit_moment (decided s.row) else None) (same_key_of s.row.key (coordinator_key_of (id t)) s.key) ∙ ap (λ o. commit_moment (result_ok o)) s.says)
+    in_kept (row_moment (coordinator_key_of (id t))) (observed past) s.row m (is_shown past s.row s.shown) (ap (λ b. if b then commit_moment (decided s.row) else None) (same_key_of s.row.key (coordinator_key_of (id t)) s.key) ∙ ap (λ o. commit_moment (result_ok o)) s.says)
 
 ---- rolled
 
@@ -301,29 +301,29 @@ no_more_is [] h = refl
 no_more_is (p ∷ ps) h = clash (sym h)
 
 value_is : (a b : Value) → is_eq (value_cmp a b) ≡ true → a ≡ b
-value_is a b h = (value_tells a b).0 h
+value_is a b h = (value_is_exact a b).0 h
 
 is_value : (a b : Value) → a ≡ b → is_eq (value_cmp a b) ≡ true
-is_value a b e = (value_tells a b).1 e
+is_value a b e = (value_is_exact a b).1 e
 
 abbrev kept_pair : Option (List ℕ) → Value → Option Pair
 kept_pair o v = option_map (λ name. record { name = name; value = v }) o
 
-keeps_is : (ps bs : List Pair) → keeps ps bs ≡ true → before_part ps ≡ bs
+keeps_is : (ps bs : List Pair) → before_matches ps bs ≡ true → before_part ps ≡ bs
 keeps_is [] bs h = no_more_is bs h
 keeps_is (p ∷ ps) bs h = by (base_name p.name) p.value bs (keeps_is ps) h
   where
-    by : (o : Option (List ℕ)) (v : Value) (bs : List Pair) → ((cs : List Pair) → keeps ps cs ≡ true → before_part ps ≡ cs) → keeps_next o v (keeps ps) bs ≡ true → cons_option (kept_pair o v) (before_part ps) ≡ bs
+    by : (o : Option (List ℕ)) (v : Value) (bs : List Pair) → ((cs : List Pair) → before_matches ps cs ≡ true → before_part ps ≡ cs) → before_matches_next o v (before_matches ps) bs ≡ true → cons_option (kept_pair o v) (before_part ps) ≡ bs
     by None v bs more h = more bs h
     by (Some name) v [] more h = clash (sym h)
     by (Some name) v (b ∷ bs) more h =
-        let n = same_name-true b.name name (left (same_name b.name name) (is_eq (value_cmp b.value v) && keeps ps bs) h) in
-        let rest = right (same_name b.name name) (is_eq (value_cmp b.value v) && keeps ps bs) h in
-        let w = value_is b.value v (left (is_eq (value_cmp b.value v)) (keeps ps bs) rest) in
-        let t = more bs (right (is_eq (value_cmp b.value v)) (keeps ps bs) rest) in
+        let n = same_name-true b.name name (left (same_name b.name name) (is_eq (value_cmp b.value v) && before_matches ps bs) h) in
+        let rest = right (same_name b.name name) (is_eq (value_cmp b.value v) && before_matches ps bs) h in
+        let w = value_is b.value v (left (is_eq (value_cmp b.value v)) (before_matches ps bs) rest) in
+        let t = more bs (right (is_eq (value_cmp b.value v)) (before_matches ps bs) rest) in
         λ i. record { name = (sym n) i; value = (sym w) i } ∷ t i
 
-is_keeps : (ps bs : List Pair) → before_part ps ≡ bs → keeps ps bs ≡ true
+is_keeps : (ps bs : List Pair) → before_part ps ≡ bs → before_matches ps bs ≡ true
 is_keeps [] bs e = ap no_more (sym e)
 is_keeps (p ∷ ps) bs e = by (base_name p.name) p.value bs (is_keeps ps) e
   where
@@ -336,36 +336,36 @@ is_keeps (p ∷ ps) bs e = by (base_name p.name) p.value bs (is_keeps ps) e
     apart : {A : Type 0} (a : Pair) (xs : List Pair) → (a ∷ xs) ≡ [] → A
     apart a xs e = absurd (cc)
 
-    by : (o : Option (List ℕ)) (v : Value) (bs : List Pair) → ((cs : List Pair) → before_part ps ≡ cs → keeps ps cs ≡ true) → cons_option (kept_pair o v) (before_part ps) ≡ bs → keeps_next o v (keeps ps) bs ≡ true
+    by : (o : Option (List ℕ)) (v : Value) (bs : List Pair) → ((cs : List Pair) → before_part ps ≡ cs → before_matches ps cs ≡ true) → cons_option (kept_pair o v) (before_part ps) ≡ bs → before_matches_next o v (before_matches ps) bs ≡ true
     by None v bs more e = more bs e
     by (Some name) v [] more e = apart (record { name = name; value = v }) (before_part ps) e
     by (Some name) v (b ∷ bs) more e =
         let h = head (record { name = name; value = v }) b (before_part ps) bs e in
-        both (same_name b.name name) (is_eq (value_cmp b.value v) && keeps ps bs) (ap (λ (x : Pair). same_name x.name name) (sym h) ∙ same_name-itself name)
-        (both (is_eq (value_cmp b.value v)) (keeps ps bs) (is_value b.value v (ap (λ (x : Pair). x.value) (sym h))) (more bs (tail (record { name = name; value = v }) b (before_part ps) bs e)))
+        both (same_name b.name name) (is_eq (value_cmp b.value v) && before_matches ps bs) (ap (λ (x : Pair). same_name x.name name) (sym h) ∙ same_name-itself name)
+        (both (is_eq (value_cmp b.value v)) (before_matches ps bs) (is_value b.value v (ap (λ (x : Pair). x.value) (sym h))) (more bs (tail (record { name = name; value = v }) b (before_part ps) bs e)))
 
-pub kept_is : (r b : Record) → is_kept_in r b ≡ true → before_record r ≡ Some b
+pub kept_is : (r b : Record) → is_before_image_of r b ≡ true → before_record r ≡ Some b
 unfolding before_record
 kept_is r b h =
-    let k = same_key_exact r.key b.key (left (same_key r.key b.key) (not (no_more b.columns) && keeps r.columns b.columns) h) in
-    let rest = right (same_key r.key b.key) (not (no_more b.columns) && keeps r.columns b.columns) h in
-    let c = keeps_is r.columns b.columns (right (not (no_more b.columns)) (keeps r.columns b.columns) rest) in
-    by (before_part r.columns) c (ap (λ x. not (no_more x)) c ∙ left (not (no_more b.columns)) (keeps r.columns b.columns) rest) k
+    let k = same_key_exact r.key b.key (left (same_key r.key b.key) (not (no_more b.columns) && before_matches r.columns b.columns) h) in
+    let rest = right (same_key r.key b.key) (not (no_more b.columns) && before_matches r.columns b.columns) h in
+    let c = keeps_is r.columns b.columns (right (not (no_more b.columns)) (before_matches r.columns b.columns) rest) in
+    by (before_part r.columns) c (ap (λ x. not (no_more x)) c ∙ left (not (no_more b.columns)) (before_matches r.columns b.columns) rest) k
   where
     by : (ps : List Pair) → ps ≡ b.columns → not (no_more ps) ≡ true → r.key ≡ b.key → record_with r.key ps ≡ Some b
     by [] e h k = clash (sym h)
     by (p ∷ ps) e h k = λ i. Some (record { key = k i; columns = e i })
 
-pub is_kept_of : (r b : Record) → before_record r ≡ Some b → is_kept_in r b ≡ true
+pub is_kept_of : (r b : Record) → before_record r ≡ Some b → is_before_image_of r b ≡ true
 unfolding before_record
 is_kept_of r b h = by (before_part r.columns) refl h
   where
-    by : (ps : List Pair) → before_part r.columns ≡ ps → record_with r.key ps ≡ Some b → is_kept_in r b ≡ true
+    by : (ps : List Pair) → before_part r.columns ≡ ps → record_with r.key ps ≡ Some b → is_before_image_of r b ≡ true
     by [] e h = none_some h
     by (p ∷ ps) e h =
         let same = some_is (record { key = r.key; columns = p ∷ ps }) b h in
-        both (same_key r.key b.key) (not (no_more b.columns) && keeps r.columns b.columns) (same_key_of r.key b.key (ap (λ (x : Record). x.key) same))
-        (both (not (no_more b.columns)) (keeps r.columns b.columns) (ap (λ (x : Record). not (no_more x.columns)) (sym same)) (is_keeps r.columns b.columns (e ∙ ap (λ (x : Record). x.columns) same)))
+        both (same_key r.key b.key) (not (no_more b.columns) && before_matches r.columns b.columns) (same_key_of r.key b.key (ap (λ (x : Record). x.key) same))
+        (both (not (no_more b.columns)) (before_matches r.columns b.columns) (ap (λ (x : Record). not (no_more x.columns)) (sym same)) (is_keeps r.columns b.columns (e ∙ ap (λ (x : Record). x.columns) same)))
 
 any_kept : (ps : List Pair) → before_part ps ≡ [] → list_any is_before_pair ps ≡ false
 any_kept [] e = refl
@@ -378,26 +378,26 @@ any_kept (p ∷ ps) e = by (base_name p.name) p.value (any_kept ps) e
     by None v more e = more e
     by (Some name) v more e = apart (record { name = name; value = v }) (before_part ps) e
 
-pub keeps_none_is : (r : Record) → keeps_none r ≡ true → before_record r ≡ None
+pub keeps_none_is : (r : Record) → has_no_before r ≡ true → before_record r ≡ None
 unfolding before_record
 keeps_none_is r h = ap (record_with r.key) (before_part-any r.columns (not_true (list_any is_before_pair r.columns) h))
 
-pub is_keeps_none : (r : Record) → before_record r ≡ None → keeps_none r ≡ true
+pub is_keeps_none : (r : Record) → before_record r ≡ None → has_no_before r ≡ true
 unfolding before_record
 is_keeps_none r h = by (before_part r.columns) refl h
   where
     some_none : {A : Type 0} (x : Record) → Some x ≡ None → A
     some_none x e = absurd (cc)
 
-    by : (ps : List Pair) → before_part r.columns ≡ ps → record_with r.key ps ≡ None → keeps_none r ≡ true
+    by : (ps : List Pair) → before_part r.columns ≡ ps → record_with r.key ps ≡ None → has_no_before r ≡ true
     by [] e h = true_not (list_any is_before_pair r.columns) (any_kept r.columns e)
     by (p ∷ ps) e h = some_none (record { key = r.key; columns = p ∷ ps }) h
 
-pub kept_writer_is : (ps : List Pair) → id_in (before_part ps) ≡ kept_writer ps
+pub kept_writer_is : (ps : List Pair) → id_in (before_part ps) ≡ before_writer ps
 kept_writer_is ps = ap id_in_value (column-before_part ps tx_id)
 
 -- a before image that names a writer keeps a record
-pub kept_some : (r : Record) (i : TxId) → kept_writer r.columns ≡ Some i → (b : Record) × (before_record r ≡ Some b) × (b.columns ≡ before_part r.columns)
+pub kept_some : (r : Record) (i : TxId) → before_writer r.columns ≡ Some i → (b : Record) × (before_record r ≡ Some b) × (b.columns ≡ before_part r.columns)
 unfolding before_record
 kept_some r i h = by (before_part r.columns) refl
   where

@@ -1,3 +1,3 @@
 pub mod Values
-pub mod Said
-pub mod Shown
+pub mod Started
+pub mod Observed

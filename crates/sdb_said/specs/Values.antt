@@ -8,48 +8,48 @@ use Rattle.sdb_types.specs.contracts.record.RecordPartialEq.TheImpl as record_eq
 use Rattle.sdb_types.specs.contracts.record.SpanPartialEq.TheImpl as span_eq
 use Rattle.sdb_types.specs.contracts.record.RequestPartialEq.TheImpl as request_eq
 use Rattle.sdb_record.specs.declared.write.Write.{Write}
-use Rattle.sdb_model.specs.Noted as noted
+use Rattle.sdb_model.specs.ReadSet as noted
 use Rattle.sdb_laws.specs.Plan as law
 use Rattle.sdb_laws.specs.History as part
 use Rattle.sdb_laws.specs.Lawful as lawful
-use Rattle.sdb_said.specs.declared.plan.Note.{Note}
-use Rattle.sdb_said.specs.declared.plan.Note.TheVariants as note
+use Rattle.sdb_said.specs.declared.plan.ReadItem.{ReadItem}
+use Rattle.sdb_said.specs.declared.plan.ReadItem.TheVariants as note
 use Rattle.sdb_said.specs.declared.plan.Plan.{Plan}
-use Rattle.sdb_said.specs.declared.played.Word.{Word}
-use Rattle.sdb_said.specs.declared.played.Word.TheVariants as word
-use Rattle.sdb_said.specs.declared.played.Role.{Role}
-use Rattle.sdb_said.specs.declared.played.Role.TheVariants as role
-use Rattle.sdb_said.specs.declared.played.Played.{Played}
+use Rattle.sdb_said.specs.declared.labelled.Ack.{Ack}
+use Rattle.sdb_said.specs.declared.labelled.Ack.TheVariants as word
+use Rattle.sdb_said.specs.declared.labelled.Action.{Action}
+use Rattle.sdb_said.specs.declared.labelled.Action.TheVariants as role
+use Rattle.sdb_said.specs.declared.labelled.Labelled.{Labelled}
 
-abbrev pub word_of : Word → part.Word
-word_of word.Yes = part.Yes
-word_of word.No = part.No
-word_of word.Silence = part.Silence
-word_of word.Wanting = part.Wanting
+abbrev pub ack_of : Ack → part.Ack
+ack_of word.Yes = part.Yes
+ack_of word.No = part.No
+ack_of word.Silence = part.NoAck
+ack_of word.Wanting = part.OutOfMemory
 
-abbrev pub role_of : Role → part.Role
-role_of role.Other = part.Other
-role_of (role.Begins t c) = part.Begins t.0 c
-role_of (role.Takes t) = part.Takes t.0
-role_of (role.Prepares t k w) = part.Prepares t.0 k (word_of w)
-role_of (role.Checks t i) = part.Checks t.0 i
-role_of (role.Decides t w) = part.Decides t.0 (word_of w)
-role_of (role.Aborts t moment w) = part.Aborts t.0 moment (word_of w)
-role_of (role.Rolls t k d) = part.Rolls t.0 k d
-role_of (role.Removes k t) = part.Removes k t.0
-role_of (role.Ends t) = part.Ends t.0
-role_of (role.Stops c) = part.Stops c
+abbrev pub action_of : Action → part.Action
+action_of action.Other = part.Other
+action_of (action.Begins t c) = part.Begins t.0 c
+action_of (action.Takes t) = part.Takes t.0
+action_of (action.Prepares t k w) = part.Prepares t.0 k (ack_of w)
+action_of (action.Checks t i) = part.Checks t.0 i
+action_of (action.Decides t w) = part.Decides t.0 (ack_of w)
+action_of (action.Aborts t moment w) = part.Aborts t.0 moment (ack_of w)
+action_of (action.Rolls t k d) = part.Rolls t.0 k d
+action_of (action.Removes k t) = part.Removes k t.0
+action_of (action.Ends t) = part.Ends t.0
+action_of (action.Stops c) = part.Stops c
 
--- an event that is played, as the law has it
-abbrev pub played_of : Played → lawful.Played
-played_of p = record { event = p.event; role = role_of p.role; ends = option_map (λ t. t.0) p.ends }
+-- an event with its action, as the law has it
+abbrev pub labelled_of : Labelled → lawful.Labelled
+labelled_of p = record { event = p.event; action = action_of p.action; ends = option_map (λ t. t.0) p.ends }
 
-abbrev pub all_played : List Played → List lawful.Played
-all_played ps = map played_of ps
+abbrev pub all_labelled : List Labelled → List lawful.Labelled
+all_labelled ps = map labelled_of ps
 
-abbrev pub note_of : Note → noted.Note
-note_of (note.Got read) = noted.Got read
-note_of (note.Scanned scan) = noted.Scanned scan
+abbrev pub item_of : ReadItem → as_read.ReadItem
+item_of (item.Got read) = as_read.KeyRead read
+item_of (item.Scanned scan) = as_read.SpanRead scan
 
 -- the plan of a transaction among plans: the first with its id
 abbrev pub planned : List Plan → ℕ → Option Plan
@@ -58,15 +58,15 @@ planned plans t = find (λ p. t == p.id.0) plans
 abbrev pub writes_in : List Plan → ℕ → List Write
 writes_in plans t = option_map_or (λ p. p.writes) (planned plans t) []
 
-abbrev pub notes_in : List Plan → ℕ → List Note
-notes_in plans t = option_map_or (λ p. p.notes) (planned plans t) []
+abbrev pub items_in : List Plan → ℕ → List ReadItem
+items_in plans t = option_map_or (λ p. p.read_set) (planned plans t) []
 
 abbrev pub moment_in : List Plan → ℕ → ℤ
 moment_in plans t = option_map_or (λ p. p.now) (planned plans t) (pos 0)
 
--- What a transaction goes into its COMMIT with, as the law has it. One that has no plan here writes and notes nothing.
+-- What a transaction goes into its COMMIT with, as the law has it. One that has no plan here writes and reads nothing.
 abbrev pub plan_in : List Plan → ℕ → law.Plan
-plan_in plans t = record { writes = writes_in plans t; notes = map note_of (notes_in plans t); now = moment_in plans t }
+plan_in plans t = record { writes = writes_in plans t; read_set = map item_of (items_in plans t); now = moment_in plans t }
 
 ---- equality
 

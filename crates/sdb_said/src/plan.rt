@@ -1,8 +1,8 @@
 //! What transactions go into their COMMITs with.
 ghost use Rattle.std.specs.Prelude.{◌≡◌, find};
 ghost use Rattle.std.specs.Option.{option_copied};
-ghost use Rattle.sdb_model.specs.Noted.{version_noted as version_noted_lem};
-ghost use Rattle.sdb_said.specs.Values.{note_of, planned, writes_in, notes_in, moment_in};
+ghost use Rattle.sdb_model.specs.ReadSet.{version_read as version_read_lem};
+ghost use Rattle.sdb_said.specs.Values.{item_of, planned, writes_in, items_in, moment_in};
 ghost use Rattle.sdb_types.specs.Order.{same_key};
 ghost use Rattle.sdb_record.specs.Among.{version_among as version_among_lem, write_among};
 
@@ -10,19 +10,19 @@ use crate::same::is_same_key;
 use sdb_record::{Read, Scan, Write, Writes};
 use sdb_types::{Key, Seq, TxId};
 
-/// One noted read: a key with the version found there, or a span with the versions found in it.
+/// One item of a read set: a key with the version found there, or a span with the versions found in it.
 #[derive(Debug)]
-pub enum Note {
+pub enum ReadItem {
     Got(Read),
     Scanned(Scan),
 }
 
 // By hand: each drop is then one call, where a derived one is written out at each exit, with a call for each field.
-impl Drop for Note {
+impl Drop for ReadItem {
     fn drop(self) {
         match self {
-            Note::Got(_) => {}
-            Note::Scanned(_) => {}
+            ReadItem::Got(_) => {}
+            ReadItem::Scanned(_) => {}
         }
     }
 }
@@ -48,19 +48,19 @@ pub fn version_among(found: &[Read], key: &Key) -> Option<TxId>
     }
 }
 
-/// What a noted read says of a key: nothing, or the version found there, none where there was no record.
-pub fn version_noted(note: &Note, key: &Key) -> Option<Option<TxId>>
-    ensures { result ≡ version_noted_lem (note_of note.now) key.now }
+/// What an item says of a key: nothing, or the version found there, none where there was no record.
+pub fn version_read(item: &ReadItem, key: &Key) -> Option<Option<TxId>>
+    ensures { result ≡ version_read_lem (item_of item.now) key.now }
 {
-    match note {
-        Note::Got(read) => {
+    match item {
+        ReadItem::Got(read) => {
             if is_same_key(&read.key, key) {
                 Some(read.version)
             } else {
                 None
             }
         }
-        Note::Scanned(scan) => {
+        ReadItem::Scanned(scan) => {
             if scan.span.contains(key) {
                 Some(version_among(scan.found.as_slice(), key))
             } else {
@@ -70,13 +70,13 @@ pub fn version_noted(note: &Note, key: &Key) -> Option<Option<TxId>>
     }
 }
 
-/// What a transaction goes into its COMMIT with: its writes, its noted reads in the order in which they are checked, and the
+/// What a transaction goes into its COMMIT with: its writes, its read set in the order in which its items are checked, and the
 /// moment of the COMMIT in milliseconds.
 #[derive(Debug)]
 pub struct Plan {
     pub id: TxId,
     pub writes: Writes,
-    pub notes: Seq<Note>,
+    pub read_set: Seq<ReadItem>,
     pub now: i64,
 }
 
@@ -86,7 +86,7 @@ impl Drop for Plan {
         let Plan {
             id: _,
             writes: _,
-            notes: _,
+            read_set: _,
             now: _,
         } = self;
     }
@@ -113,11 +113,11 @@ pub fn writes_of(plans: &[Plan], id: TxId) -> &[Write]
     }
 }
 
-pub fn notes_of(plans: &[Plan], id: TxId) -> &[Note]
-    ensures { result.now ≡ notes_in plans.now id.0 }
+pub fn items_of(plans: &[Plan], id: TxId) -> &[ReadItem]
+    ensures { result.now ≡ items_in plans.now id.0 }
 {
     match plan_of(plans, id) {
-        Some(plan) => plan.notes.as_slice(),
+        Some(plan) => plan.read_set.as_slice(),
         None => &[],
     }
 }

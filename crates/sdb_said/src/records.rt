@@ -10,9 +10,9 @@ ghost use Rattle.sdb_record.specs.Names.{base_name, is_before, same_name};
 ghost use Rattle.sdb_record.specs.Parts.{is_before_pair};
 ghost use Rattle.sdb_record.specs.Rolls.{forward_record};
 ghost use Rattle.sdb_said.specs.Values.{same_record};
-ghost use Rattle.sdb_said.specs.Shown.{is_first as is_first_lem, with_rows, with_found, with_reply, with_event, shown as shown_lem, writer_is as writer_is_lem, kept_writer as kept_writer_lem, keeps_tombstone as keeps_tombstone_lem, keeps as keeps_lem, is_kept_in as is_kept_in_lem, keeps_none as keeps_none_lem, is_held as is_held_lem, is_held_by as is_held_by_lem, decided as decided_lem, commits as commits_lem, aborts as aborts_lem, commit_moment as commit_moment_lem, row_moment as row_moment_lem, shows_commit as shows_commit_lem, shows_abort as shows_abort_lem, shows_bad_row as shows_bad_row_lem, moments as moments_lem, is_forward as is_forward_lem, is_itself as is_itself_lem, is_back_to as is_back_to_lem, is_committed_by as is_committed_by_lem, keeps_by as keeps_by_lem, is_gone_by as is_gone_by_lem, keeps_gone_by as keeps_gone_by_lem, is_held_gone_by as is_held_gone_by_lem, has_trace as has_trace_lem, forward_from as forward_from_lem, is_settled as is_settled_lem, settles as settles_lem, settles_gone as settles_gone_lem};
+ghost use Rattle.sdb_said.specs.Observed.{is_first as is_first_lem, with_rows, with_found, with_reply, with_event, observed as observed_lem, writer_is as writer_is_lem, before_writer as before_writer_lem, has_tombstone_before as has_tombstone_before_lem, before_matches as before_matches_lem, is_before_image_of as is_before_image_of_lem, has_no_before as has_no_before_lem, is_prepared_at as is_prepared_at_lem, is_prepared_by as is_prepared_by_lem, decided as decided_lem, commits as commits_lem, aborts as aborts_lem, commit_moment as commit_moment_lem, row_moment as row_moment_lem, observes_commit as observes_commit_lem, observes_abort as observes_abort_lem, observes_bad_row as observes_bad_row_lem, moments as moments_lem, is_forward as is_forward_lem, is_itself as is_itself_lem, is_back_to as is_back_to_lem, is_committed_by as is_committed_by_lem, has_before_by as has_before_by_lem, is_removed_by as is_removed_by_lem, has_removed_before_by as has_removed_before_by_lem, is_prepared_removed_by as is_prepared_removed_by_lem, has_trace as has_trace_lem, forward_from as forward_from_lem, is_settled as is_settled_lem, settles as settles_lem, settles_removed as settles_removed_lem};
 
-use crate::played::Played;
+use crate::labelled::Labelled;
 use crate::same::{is_same_key, is_same_record};
 use sdb_model::Event;
 use sdb_record::{
@@ -92,12 +92,12 @@ fn add_event(found: &mut Records, event: &Event) -> Result<(), NoMemory>
 }
 
 /// The records that replies showed, in the order of the events.
-pub fn shown(alloc: Global, past: &[Played]) -> Result<Records, NoMemory>
-    ensures { IfOk result (λ found. found ≡ shown_lem past.now) }
+pub fn observed(alloc: Global, past: &[Labelled]) -> Result<Records, NoMemory>
+    ensures { IfOk result (λ found. found ≡ observed_lem past.now) }
 {
     let mut found = Seq::new(alloc);
-    for played in past {
-        add_event(&mut found, &played.event)?;
+    for labelled in past {
+        add_event(&mut found, &labelled.event)?;
     }
     Ok(found)
 }
@@ -131,8 +131,8 @@ pub fn writer(rec: &Record) -> Option<TxId>
 }
 
 /// The transaction that wrote the record which a before image keeps.
-pub fn kept_writer(columns: &Columns) -> Option<TxId>
-    ensures { result ≡ kept_writer_lem columns.now }
+pub fn before_writer(columns: &Columns) -> Option<TxId>
+    ensures { result ≡ before_writer_lem columns.now }
 {
     id_of(value_named(columns.pairs(), "before_tx_id"))
 }
@@ -160,7 +160,7 @@ fn is_deleted(rec: &Record) -> bool
 }
 
 fn keeps_tombstone(columns: &Columns) -> bool
-    ensures { result ≡ keeps_tombstone_lem columns.now }
+    ensures { result ≡ has_tombstone_before_lem columns.now }
 {
     match value_named(columns.pairs(), "before_tx_tombstone") {
         Some(value) => *value == Value::Bool(true),
@@ -175,7 +175,7 @@ fn kept_name(name: &str) -> Option<&str>
 }
 
 fn keeps(kept: &[Pair], base: &[Pair]) -> bool
-    ensures { result ≡ keeps_lem kept.now base.now }
+    ensures { result ≡ before_matches_lem kept.now base.now }
 {
     match kept.split_first() {
         None => base.is_empty(),
@@ -193,8 +193,8 @@ fn keeps(kept: &[Pair], base: &[Pair]) -> bool
 }
 
 /// Whether a record keeps this one as its before image.
-pub fn is_kept_in(rec: &Record, base: &Record) -> bool
-    ensures { result ≡ is_kept_in_lem rec.now base.now }
+pub fn is_before_image_of(rec: &Record, base: &Record) -> bool
+    ensures { result ≡ is_before_image_of_lem rec.now base.now }
 {
     is_same_key(&rec.key, &base.key)
         && (!base.columns.pairs().is_empty() && keeps(rec.columns.pairs(), base.columns.pairs()))
@@ -218,20 +218,20 @@ fn has_kept(pairs: &[Pair]) -> bool
 }
 
 /// Whether it keeps none.
-pub fn keeps_none(rec: &Record) -> bool
-    ensures { result ≡ keeps_none_lem rec.now }
+pub fn has_no_before(rec: &Record) -> bool
+    ensures { result ≡ has_no_before_lem rec.now }
 {
     !has_kept(rec.columns.pairs())
 }
 
 fn is_held(rec: &Record, key: &Key) -> bool
-    ensures { result ≡ is_held_lem key.now rec.now }
+    ensures { result ≡ is_prepared_at_lem key.now rec.now }
 {
     is_same_key(&rec.key, key) && !is_committed(rec)
 }
 
-pub fn is_held_by(rec: &Record, key: &Key, id: TxId) -> bool
-    ensures { result ≡ is_held_by_lem id.0 key.now rec.now }
+pub fn is_prepared_by(rec: &Record, key: &Key, id: TxId) -> bool
+    ensures { result ≡ is_prepared_by_lem id.0 key.now rec.now }
 {
     is_held(rec, key) && is_writer(writer(rec), id)
 }
@@ -286,7 +286,7 @@ fn row_moment(alloc: Global, row: &Key, rec: &Record) -> Option<i64>
     }
 }
 
-/// What is looked for among records that were shown.
+/// What is looked for among records that were observed.
 #[derive(Clone, Copy)]
 enum Trace<'a> {
     /// This record.
@@ -312,7 +312,7 @@ enum Trace<'a> {
 fn is_back_to(rec: &Record, key: &Key, base: &Record) -> bool
     ensures { result ≡ is_back_to_lem key.now base.now rec.now }
 {
-    is_held(rec, key) && (writer(rec).is_some() && is_kept_in(rec, base))
+    is_held(rec, key) && (writer(rec).is_some() && is_before_image_of(rec, base))
 }
 
 fn is_committed_by(rec: &Record, key: &Key, id: TxId) -> bool
@@ -322,30 +322,30 @@ fn is_committed_by(rec: &Record, key: &Key, id: TxId) -> bool
 }
 
 fn keeps_by(rec: &Record, key: &Key, id: TxId) -> bool
-    ensures { result ≡ keeps_by_lem id.0 key.now rec.now }
+    ensures { result ≡ has_before_by_lem id.0 key.now rec.now }
 {
-    is_held(rec, key) && (writer(rec).is_some() && is_writer(kept_writer(&rec.columns), id))
+    is_held(rec, key) && (writer(rec).is_some() && is_writer(before_writer(&rec.columns), id))
 }
 
 fn is_gone_by(rec: &Record, key: &Key, id: TxId) -> bool
-    ensures { result ≡ is_gone_by_lem id.0 key.now rec.now }
+    ensures { result ≡ is_removed_by_lem id.0 key.now rec.now }
 {
     is_same_key(&rec.key, key)
         && (is_committed(rec) && (is_writer(writer(rec), id) && is_tombstone(rec)))
 }
 
 fn keeps_gone_by(rec: &Record, key: &Key, id: TxId) -> bool
-    ensures { result ≡ keeps_gone_by_lem id.0 key.now rec.now }
+    ensures { result ≡ has_removed_before_by_lem id.0 key.now rec.now }
 {
     is_held(rec, key)
         && (writer(rec).is_some()
-            && (is_writer(kept_writer(&rec.columns), id) && keeps_tombstone(&rec.columns)))
+            && (is_writer(before_writer(&rec.columns), id) && keeps_tombstone(&rec.columns)))
 }
 
 fn is_held_gone_by(rec: &Record, key: &Key, id: TxId) -> bool
-    ensures { result ≡ is_held_gone_by_lem id.0 key.now rec.now }
+    ensures { result ≡ is_prepared_removed_by_lem id.0 key.now rec.now }
 {
-    is_held_by(rec, key, id) && (is_deleted(rec) || is_tombstone(rec))
+    is_prepared_by(rec, key, id) && (is_deleted(rec) || is_tombstone(rec))
 }
 
 fn has_trace(alloc: Global, rec: &Record, trace: Trace) -> bool
@@ -356,7 +356,7 @@ fn has_trace(alloc: Global, rec: &Record, trace: Trace) -> bool
         Trace::Back(key, base) => is_back_to(rec, key, base),
         Trace::Committed(key, id) => is_committed_by(rec, key, id),
         Trace::Kept(key, id) => keeps_by(rec, key, id),
-        Trace::Held(key, id) => is_held_by(rec, key, id),
+        Trace::Held(key, id) => is_prepared_by(rec, key, id),
         Trace::CommittedTombstone(key, id) => is_gone_by(rec, key, id),
         Trace::KeptTombstone(key, id) => keeps_gone_by(rec, key, id),
         Trace::HeldTombstone(key, id) => is_held_gone_by(rec, key, id),
@@ -377,22 +377,22 @@ fn any(alloc: Global, shown: &[Record], trace: Trace) -> bool
     false
 }
 
-/// Whether a row of this key was shown that says COMMITTED.
-pub fn shows_commit(alloc: Global, shown: &[Record], row: &Key) -> bool
-    ensures { result ≡ shows_commit_lem shown.now row.now }
+/// Whether a row of this key was observed that says COMMITTED.
+pub fn observes_commit(alloc: Global, shown: &[Record], row: &Key) -> bool
+    ensures { result ≡ observes_commit_lem shown.now row.now }
 {
     any(alloc, shown, Trace::Commit(row))
 }
 
-pub fn shows_abort(alloc: Global, shown: &[Record], row: &Key) -> bool
-    ensures { result ≡ shows_abort_lem shown.now row.now }
+pub fn observes_abort(alloc: Global, shown: &[Record], row: &Key) -> bool
+    ensures { result ≡ observes_abort_lem shown.now row.now }
 {
     any(alloc, shown, Trace::Abort(row))
 }
 
-/// Whether a row of this key was shown that is none.
-pub fn shows_bad_row(alloc: Global, shown: &[Record], row: &Key) -> bool
-    ensures { result ≡ shows_bad_row_lem shown.now row.now }
+/// Whether a row of this key was observed that is none.
+pub fn observes_bad_row(alloc: Global, shown: &[Record], row: &Key) -> bool
+    ensures { result ≡ observes_bad_row_lem shown.now row.now }
 {
     any(alloc, shown, Trace::BadRow(row))
 }
@@ -406,7 +406,7 @@ fn add_moment(alloc: Global, found: &mut Seq<i64>, row: &Key, rec: &Record) -> R
     }
 }
 
-/// The moments of the rows COMMITTED of this key that were shown.
+/// The moments of the rows COMMITTED of this key that were observed.
 pub fn moments(alloc: Global, shown: &[Record], row: &Key) -> Result<Seq<i64>, NoMemory>
     ensures { IfOk result (λ found. found ≡ moments_lem shown.now row.now) }
 {
@@ -508,12 +508,17 @@ pub fn settles(alloc: Global, shown: &[Record], key: &Key, id: TxId) -> Result<b
         return Ok(true);
     }
     let row = coordinator_key(alloc, id)?;
-    Ok(any(alloc, shown, Trace::Held(key, id)) && shows_commit(alloc, shown, &row))
+    Ok(any(alloc, shown, Trace::Held(key, id)) && observes_commit(alloc, shown, &row))
 }
 
 /// Whether a read of the key comes to a tombstone of this transaction.
-pub fn settles_gone(alloc: Global, shown: &[Record], key: &Key, id: TxId) -> Result<bool, NoMemory>
-    ensures { IfOk result (λ found. found ≡ settles_gone_lem shown.now key.now id.0) }
+pub fn settles_removed(
+    alloc: Global,
+    shown: &[Record],
+    key: &Key,
+    id: TxId,
+) -> Result<bool, NoMemory>
+    ensures { IfOk result (λ found. found ≡ settles_removed_lem shown.now key.now id.0) }
 {
     if any(alloc, shown, Trace::CommittedTombstone(key, id))
         || any(alloc, shown, Trace::KeptTombstone(key, id))
@@ -521,5 +526,5 @@ pub fn settles_gone(alloc: Global, shown: &[Record], key: &Key, id: TxId) -> Res
         return Ok(true);
     }
     let row = coordinator_key(alloc, id)?;
-    Ok(any(alloc, shown, Trace::HeldTombstone(key, id)) && shows_commit(alloc, shown, &row))
+    Ok(any(alloc, shown, Trace::HeldTombstone(key, id)) && observes_commit(alloc, shown, &row))
 }

@@ -13,7 +13,7 @@ use Rattle.sdb_types.proofs.KeyOrder.{table_total}
 use Rattle.sdb_schema.specs.declared.table.Table.{Table}
 use Rattle.sdb_schema.specs.declared.catalog.AddRefused.{AddRefused}
 use Rattle.sdb_schema.specs.Table.{is_table}
-use Rattle.sdb_schema.specs.Catalog.{is_called, has_table, with_table, stands_above, rises, is_catalog}
+use Rattle.sdb_schema.specs.Catalog.{is_called, has_table, with_table, is_above_name, rises, is_catalog}
 use Rattle.sdb_types.proofs.Basics.{one_more, or_neither as or-false}
 
 abbrev pub below : Table → Table → Bool
@@ -32,10 +32,10 @@ above-of Less s e h k = absurd (cc)
 above-of Equal s e h k = absurd (cc)
 above-of Greater s e h k = ap is_lt e
 
-above-with : (n : TableName) (t : Table) (us : List Table) → is_lt (table_cmp n t.name) ≡ true → stands_above n us ≡ true → stands_above n (with_table t us) ≡ true
+above-with : (n : TableName) (t : Table) (us : List Table) → is_lt (table_cmp n t.name) ≡ true → is_above_name n us ≡ true → is_above_name n (with_table t us) ≡ true
 above-with n t [] h k = h
 above-with n t (u ∷ us) h k =
-    elim (below t u) as (λ b. stands_above n (cond b (u ∷ with_table t us) (t ∷ u ∷ us)) ≡ true) [
+    elim (below t u) as (λ b. is_above_name n (cond b (u ∷ with_table t us) (t ∷ u ∷ us)) ≡ true) [
       | true ↦ k
       | false ↦ h
     ]
@@ -45,8 +45,8 @@ rises-with t [] h k = refl
 rises-with t (u ∷ us) h k =
     let none = or-false (is_called t.name u) (has_table us t.name) k in
     elim (below t u) as (λ b. below t u ≡ b → rises (cond b (u ∷ with_table t us) (t ∷ u ∷ us)) ≡ true) [
-      | true ↦ λ q. and_both (stands_above u.name (with_table t us)) _ (above-with u.name t us q (and_first (stands_above u.name us) (rises us) h)) (rises-with t us (and_second (stands_above u.name us) (rises us) h) none.1)
-      | false ↦ λ q. and_both (stands_above t.name (u ∷ us)) _ (above-of (table_cmp u.name t.name) (table_cmp t.name u.name) (table_total.antisymm t.name u.name) q none.0) h
+      | true ↦ λ q. and_both (is_above_name u.name (with_table t us)) _ (above-with u.name t us q (and_first (is_above_name u.name us) (rises us) h)) (rises-with t us (and_second (is_above_name u.name us) (rises us) h) none.1)
+      | false ↦ λ q. and_both (is_above_name t.name (u ∷ us)) _ (above-of (table_cmp u.name t.name) (table_cmp t.name u.name) (table_total.antisymm t.name u.name) q none.0) h
     ] refl
 
 length-with : (t : Table) (us : List Table) → length (with_table t us) ≡ suc (length us)

@@ -12,7 +12,7 @@ use Rattle.sdb_types.proofs.Bools.{and_first, and_second, and_both}
 use Rattle.sdb_types.proofs.KeyOrder.{name_total}
 use Rattle.sdb_record.specs.Parts.{is_column_name}
 use Rattle.sdb_schema.specs.declared.table.Column.{Column}
-use Rattle.sdb_schema.specs.Table.{put_column, put_columns, in_order, rises, stands_above, next_repeats, first_listed_twice, are_short}
+use Rattle.sdb_schema.specs.Table.{put_column, put_columns, in_order, rises, is_above_column, next_repeats, first_listed_twice, are_short}
 use Rattle.sdb_types.proofs.Basics.{less_of, one_more}
 
 abbrev pub below : Column → Column → Bool
@@ -31,26 +31,26 @@ put_column-is c (d ∷ ds) =
 lower : (c d e : Column) → is_lt (name_cmp c.name d.name) ≡ true → is_lt (name_cmp d.name e.name) ≡ true → is_lt (name_cmp c.name e.name) ≡ true
 lower c d e h k = ap is_lt (name_total.trans c.name d.name e.name (less_of _ h) (less_of _ k))
 
-last_above : (d : Column) (ds : List Column) (c : Column) → rises (ds ++ c ∷ []) ≡ true → stands_above d.name (ds ++ c ∷ []) ≡ true → is_lt (name_cmp d.name c.name) ≡ true
+last_above : (d : Column) (ds : List Column) (c : Column) → rises (ds ++ c ∷ []) ≡ true → is_above_column d.name (ds ++ c ∷ []) ≡ true → is_lt (name_cmp d.name c.name) ≡ true
 last_above d [] c r h = h
 last_above d (e ∷ es) c r h =
-    lower d e c h (last_above e es c (and_second (stands_above e.name (es ++ c ∷ [])) (rises (es ++ c ∷ [])) r) (and_first (stands_above e.name (es ++ c ∷ [])) (rises (es ++ c ∷ [])) r))
+    lower d e c h (last_above e es c (and_second (is_above_column e.name (es ++ c ∷ [])) (rises (es ++ c ∷ [])) r) (and_first (is_above_column e.name (es ++ c ∷ [])) (rises (es ++ c ∷ [])) r))
 
 put_column-end : (ds : List Column) (c : Column) → rises (ds ++ c ∷ []) ≡ true → put_column c ds ≡ ds ++ c ∷ []
 put_column-end [] c r = refl
 put_column-end (d ∷ ds) c r =
-    let above = and_first (stands_above d.name (ds ++ c ∷ [])) (rises (ds ++ c ∷ [])) r in
-    let tail = and_second (stands_above d.name (ds ++ c ∷ [])) (rises (ds ++ c ∷ [])) r in
+    let above = and_first (is_above_column d.name (ds ++ c ∷ [])) (rises (ds ++ c ∷ [])) r in
+    let tail = and_second (is_above_column d.name (ds ++ c ∷ [])) (rises (ds ++ c ∷ [])) r in
     simp (last_above d ds c tail above) (ap (λ l. d ∷ l) (put_column-end ds c tail))
 
-starts_front : (name : List ℕ) (xs ys : List Column) → stands_above name (xs ++ ys) ≡ true → stands_above name xs ≡ true
+starts_front : (name : List ℕ) (xs ys : List Column) → is_above_column name (xs ++ ys) ≡ true → is_above_column name xs ≡ true
 starts_front name [] ys h = refl
 starts_front name (x ∷ xs) ys h = h
 
 rises-front : (xs ys : List Column) → rises (xs ++ ys) ≡ true → rises xs ≡ true
 rises-front [] ys h = refl
 rises-front (x ∷ xs) ys h =
-    and_both (stands_above x.name xs) (rises xs) (starts_front x.name xs ys (and_first (stands_above x.name (xs ++ ys)) (rises (xs ++ ys)) h)) (rises-front xs ys (and_second (stands_above x.name (xs ++ ys)) (rises (xs ++ ys)) h))
+    and_both (is_above_column x.name xs) (rises xs) (starts_front x.name xs ys (and_first (is_above_column x.name (xs ++ ys)) (rises (xs ++ ys)) h)) (rises-front xs ys (and_second (is_above_column x.name (xs ++ ys)) (rises (xs ++ ys)) h))
 
 put_columns-rising : (ds cs : List Column) → rises (ds ++ cs) ≡ true → put_columns cs ds ≡ ds ++ cs
 put_columns-rising ds [] r = sym (append-nil ds)
@@ -106,7 +106,7 @@ not_next c cs h =
       | false ↦ λ k. (refl, k)
     ] h
 
-above-next : (c : Column) (cs : List Column) → not_below c.name cs ≡ true → next_repeats c.name cs ≡ false → stands_above c.name cs ≡ true
+above-next : (c : Column) (cs : List Column) → not_below c.name cs ≡ true → next_repeats c.name cs ≡ false → is_above_column c.name cs ≡ true
 above-next c [] h k = refl
 above-next c (d ∷ ds) h k = above-of (name_cmp c.name d.name) (name_cmp d.name c.name) (name_total.antisymm d.name c.name) h k
 
@@ -114,7 +114,7 @@ weak-rises : (cs : List Column) → weak cs ≡ true → first_listed_twice cs �
 weak-rises [] h k = refl
 weak-rises (c ∷ cs) h k =
     let n = not_next c cs k in
-    and_both (stands_above c.name cs) _ (above-next c cs (and_first (not_below c.name cs) (weak cs) h) n.0) (weak-rises cs (and_second (not_below c.name cs) (weak cs) h) n.1)
+    and_both (is_above_column c.name cs) _ (above-next c cs (and_first (not_below c.name cs) (weak cs) h) n.0) (weak-rises cs (and_second (not_below c.name cs) (weak cs) h) n.1)
 
 pub in_order-rises : (cs : List Column) → first_listed_twice (in_order cs) ≡ None → rises (in_order cs) ≡ true
 in_order-rises cs h = weak-rises (in_order cs) (weak-put_columns cs [] refl) h

@@ -22,13 +22,13 @@ abbrev pub with_table : Table → List Table → List Table
 with_table t [] = t ∷ []
 with_table t (u ∷ us) = if is_lt (table_cmp u.name t.name) then u ∷ with_table t us else t ∷ u ∷ us
 
-abbrev pub stands_above : TableName → List Table → Bool
-stands_above name [] = true
-stands_above name (t ∷ ts) = is_lt (table_cmp name t.name)
+abbrev pub is_above_name : TableName → List Table → Bool
+is_above_name name [] = true
+is_above_name name (t ∷ ts) = is_lt (table_cmp name t.name)
 
 abbrev pub rises : List Table → Bool
 rises [] = true
-rises (t ∷ ts) = stands_above t.name ts && rises ts
+rises (t ∷ ts) = is_above_name t.name ts && rises ts
 
 -- At most 64 tables, whose names rise strictly.
 abbrev pub is_catalog : List Table → Bool

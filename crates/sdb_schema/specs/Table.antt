@@ -51,14 +51,14 @@ put_columns (c ∷ cs) ds = put_columns cs (put_column c ds)
 abbrev pub in_order : List Column → List Column
 in_order cs = put_columns cs []
 
-abbrev pub stands_above : List ℕ → List Column → Bool
-stands_above name [] = true
-stands_above name (c ∷ cs) = is_lt (name_cmp name c.name)
+abbrev pub is_above_column : List ℕ → List Column → Bool
+is_above_column name [] = true
+is_above_column name (c ∷ cs) = is_lt (name_cmp name c.name)
 
 -- names that rise strictly
 abbrev pub rises : List Column → Bool
 rises [] = true
-rises (c ∷ cs) = stands_above c.name cs && rises cs
+rises (c ∷ cs) = is_above_column c.name cs && rises cs
 
 ---- refusals
 

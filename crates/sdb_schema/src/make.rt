@@ -6,7 +6,7 @@ ghost use Rattle.std.specs.Ordering.{is_lt};
 ghost use Rattle.sdb_types.specs.Order.{name_cmp};
 ghost use Rattle.sdb_types.specs.Identifier.{is_name};
 ghost use Rattle.sdb_schema.specs.declared.make.TableRefused.TheVariants.{NoMemory as OutOfMemory};
-ghost use Rattle.sdb_schema.specs.Table.{has_column, put_column, put_columns, in_order, rises, stands_above, first_unknown, first_listed_twice, first_repeated, first_reserved, limit_passed, checked_table, is_table, column_names, key_names, order_names, is_among, next_repeats, Refuses};
+ghost use Rattle.sdb_schema.specs.Table.{has_column, put_column, put_columns, in_order, rises, is_above_column, first_unknown, first_listed_twice, first_repeated, first_reserved, limit_passed, checked_table, is_table, column_names, key_names, order_names, is_among, next_repeats, Refuses};
 
 use crate::table::{Column, ColumnList, Order, Orders, Table};
 use sdb_record::is_user_name;
@@ -73,7 +73,7 @@ fn is_below(first: &Column, second: &Column) -> bool
 }
 
 fn is_below_next(column: &Column, others: &[Column]) -> bool
-    ensures { result ≡ stands_above column.now.name others.now }
+    ensures { result ≡ is_above_column column.now.name others.now }
 {
     match others.first() {
         Some(next) => is_below(column, next),

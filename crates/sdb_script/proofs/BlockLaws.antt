@@ -6,9 +6,9 @@ use Rattle.sdb_model.specs.declared.script.ScriptClient.{ScriptClient}
 use Rattle.std.specs.Str.{bytes_eq}
 use Rattle.std.proofs.lemmas.List.Folds.{list_any-append}
 use Rattle.sdb_script.specs.Begun.{last_count, is_known}
-use Rattle.sdb_script.specs.Told.{more_said, add_text}
+use Rattle.sdb_script.specs.Reading.{with_statement, add_text}
 
-pub add_last : (done : List ScriptClient) (c : ScriptClient) (text : List ℕ) → add_text (done ++ c ∷ []) text ≡ done ++ more_said c text ∷ []
+pub add_last : (done : List ScriptClient) (c : ScriptClient) (text : List ℕ) → add_text (done ++ c ∷ []) text ≡ done ++ with_statement c text ∷ []
 add_last [] c text = refl
 add_last (d ∷ []) c text = refl
 add_last (d ∷ e ∷ done) c text = ap (λ (x : List ScriptClient). d ∷ x) (add_last (e ∷ done) c text)
@@ -19,7 +19,7 @@ count_last (d ∷ []) c = refl
 count_last (d ∷ e ∷ done) c = count_last (e ∷ done) c
 
 -- a statement more of the last
-pub add_to_last : (ended : List ScriptClient) (last : Option ScriptClient) (text : List ℕ) → (last ≡ None → ended ≡ []) → ended ++ option_to_list (option_map (λ (c : ScriptClient). more_said c text) last) ≡ add_text (ended ++ option_to_list last) text
+pub add_to_last : (ended : List ScriptClient) (last : Option ScriptClient) (text : List ℕ) → (last ≡ None → ended ≡ []) → ended ++ option_to_list (option_map (λ (c : ScriptClient). with_statement c text) last) ≡ add_text (ended ++ option_to_list last) text
 add_to_last ended (Some c) text h = sym (add_last ended c text)
 add_to_last ended None text h = let none = h refl in rw none refl
 
@@ -32,15 +32,15 @@ count_of_last ended None h = let none = h refl in rw none refl
 abbrev pub IsKept : List ScriptClient → Option ScriptClient → Type 0
 IsKept ended last = (length (ended ++ option_to_list last) ≤ 64) × (last ≡ None → ended ≡ [])
 
-kept_more : (ended : List ScriptClient) (last : Option ScriptClient) (text : List ℕ) → IsKept ended last → IsKept ended (option_map (λ (c : ScriptClient). more_said c text) last)
-kept_more ended (Some c) text k = (omega (arith, k.0, length-append ended (c ∷ []), length-append ended (more_said c text ∷ [])), λ e. absurd cc)
+kept_more : (ended : List ScriptClient) (last : Option ScriptClient) (text : List ℕ) → IsKept ended last → IsKept ended (option_map (λ (c : ScriptClient). with_statement c text) last)
+kept_more ended (Some c) text k = (omega (arith, k.0, length-append ended (c ∷ []), length-append ended (with_statement c text ∷ [])), λ e. absurd cc)
 kept_more ended None text k = k
 
-pub kept_still : {X E : Type 0} (r : Result X E) (ended : List ScriptClient) (old new : Option ScriptClient) (text : List ℕ) → IsKept ended old → OnOk r (new ≡ option_map (λ (c : ScriptClient). more_said c text) old) → OnErr r (new ≡ old) → IsKept ended new
+pub kept_still : {X E : Type 0} (r : Result X E) (ended : List ScriptClient) (old new : Option ScriptClient) (text : List ℕ) → IsKept ended old → OnOk r (new ≡ option_map (λ (c : ScriptClient). with_statement c text) old) → OnErr r (new ≡ old) → IsKept ended new
 kept_still (Ok x) ended old new text k ok err = subst (IsKept ended) (sym ok) (kept_more ended old text k)
 kept_still (Err e) ended old new text k ok err = subst (IsKept ended) (sym err) k
 
-pub said_still : {X E : Type 0} (r : Result X E) (ended all : List ScriptClient) (old new : Option ScriptClient) (text : List ℕ) → IsKept ended old → ended ++ option_to_list old ≡ all → OnOk r (new ≡ option_map (λ (c : ScriptClient). more_said c text) old) → OnOk r (ended ++ option_to_list new ≡ add_text all text)
+pub said_still : {X E : Type 0} (r : Result X E) (ended all : List ScriptClient) (old new : Option ScriptClient) (text : List ℕ) → IsKept ended old → ended ++ option_to_list old ≡ all → OnOk r (new ≡ option_map (λ (c : ScriptClient). with_statement c text) old) → OnOk r (ended ++ option_to_list new ≡ add_text all text)
 said_still (Ok x) ended all old new text k is ok = ap (λ (o : Option ScriptClient). ended ++ option_to_list o) ok ∙ add_to_last ended old text k.1 ∙ ap (λ (cs : List ScriptClient). add_text cs text) is
 said_still (Err e) ended all old new text k is ok = tt
 

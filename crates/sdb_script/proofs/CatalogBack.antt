@@ -34,7 +34,7 @@ use Rattle.sdb_schema.specs.declared.table.Table.{Table}
 use Rattle.sdb_schema.specs.Table.{is_table}
 use Rattle.sdb_schema.specs.Catalog.{is_catalog, rises}
 use Rattle.sdb_loader.specs.Words.{is_open, names_table, table_named}
-use Rattle.sdb_loader.specs.Described.{bad_name, bad_field, bad_table, unknown_type, untransactional, first_said, named, table_of, described_members, described_tables, catalog_in}
+use Rattle.sdb_loader.specs.Described.{bad_name, bad_field, bad_table, unknown_type, untransactional, first_given, named, table_of, described_members, described_tables, catalog_in}
 use Rattle.sdb_record.proofs.NameLemmas.{name_of_column}
 use Rattle.sdb_loader.proofs.WordLaws.{table_named-text}
 use Rattle.sdb_catalog.specs.Definition.{columns_data, definition_of, definition_text, direction_text, kind_text, order_text}
@@ -242,7 +242,7 @@ value_read ts h k r =
 
 ---- the value describes the catalog
 
-none_said : {B : Type 0} (said : TableName × Data → Option B) → ((t : Table) → is_table t ≡ true → said (defined t) ≡ None) → (ts : List Table) → list_all is_table ts ≡ true → first_said said (map defined ts) ≡ None
+none_said : {B : Type 0} (said : TableName × Data → Option B) → ((t : Table) → is_table t ≡ true → said (defined t) ≡ None) → (ts : List Table) → list_all is_table ts ≡ true → first_given said (map defined ts) ≡ None
 none_said said none [] h = refl
 none_said said none (t ∷ ts) h = rw (none t (and_first (is_table t) _ h)) (none_said said none ts (and_second (is_table t) _ h))
 

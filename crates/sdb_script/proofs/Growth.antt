@@ -18,9 +18,9 @@ use Rattle.sdb_stores.specs.declared.place.Place.{Place}
 use Rattle.sdb_model.specs.declared.script.ScriptClient.{ScriptClient}
 use Rattle.sdb_model.specs.Form.{client_line, is_client_name}
 use Rattle.sdb_script.specs.declared.fault.LineRefused.{LineRefused}
-use Rattle.sdb_script.specs.Lines.{most_clients, most_statements, most_moves, place_line, schema_line, text_line, client_lines, move_line, SaysMove, is_line, is_move, turns, turns_of}
-use Rattle.sdb_script.specs.Begun.{Draft, nothing, ArePlaces, IsClient, AreMoves, IsBegun, Said, PlaceOf, SchemaOf, ClientOf, StatementOf, Runs, MoveOf, is_first, is_known, is_placed, is_attached, may_stand, last_count, Comes}
-use Rattle.sdb_script.specs.Told.{with_catalog, new_client, more_said, add_text}
+use Rattle.sdb_script.specs.Lines.{most_clients, most_statements, most_moves, place_line, schema_line, text_line, client_lines, move_line, IsMoveText, is_line, is_move, turns, turns_of}
+use Rattle.sdb_script.specs.Begun.{Draft, nothing, ArePlaces, IsClient, AreMoves, IsBegun, LineMeaning, PlaceLine, SchemaOf, ClientOf, StatementOf, Runs, MoveOf, is_first, is_known, is_placed, is_attached, may_be_placed, last_count, MayComeNext}
+use Rattle.sdb_script.specs.Reading.{with_catalog, new_client, with_statement, add_text}
 use Rattle.sdb_script.proofs.Pieces.{itself}
 use Rattle.sdb_script.proofs.MoveLines.{move_text}
 use Rattle.sdb_script.proofs.Apart.{none_apart, more_apart, attached_of}
@@ -84,7 +84,7 @@ fit_more lines l h k = list_all-append is_line lines (l ∷ []) ∙ rw (h, k) re
 not_eq : (a b : List ℕ) → bytes_eq a b ≡ false → a ≢ b
 not_eq a b h = λ is. let t : bytes_eq a b ≡ true = rw is (itself b) in absurd cc
 
-more_places : (stores : Lines) (ps : List Place) (p : Place) → ArePlaces stores ps → (is_client_name p.ns && is_client_name p.store) ≡ true → may_stand stores ps p ≡ true → ArePlaces stores (ps ++ p ∷ [])
+more_places : (stores : Lines) (ps : List Place) (p : Place) → ArePlaces stores ps → (is_client_name p.ns && is_client_name p.store) ≡ true → may_be_placed stores ps p ≡ true → ArePlaces stores (ps ++ p ∷ [])
 more_places stores ps p a named stands =
     let rest = and_second (not (bytes_eq p.ns (codes "scalardb"))) _ stands in
     record {
@@ -97,7 +97,7 @@ more_places stores ps p a named stands =
 place_more : (stores front : Lines) (line : List ℕ) (ps : List Place) (desc : Bool) (cat : List Table) (cs : List ScriptClient) (ran : Bool) (ms : List Move) (p : Place)
     → IsBegun stores front (record { places = ps; described = desc; catalog = cat; clients = cs; ran = ran; moves = ms })
     → is_line line ≡ true → line ≡ place_line p → is_first (record { places = ps; described = desc; catalog = cat; clients = cs; ran = ran; moves = ms }) ≡ true
-    → (is_client_name p.ns && is_client_name p.store) ≡ true → may_stand stores ps p ≡ true
+    → (is_client_name p.ns && is_client_name p.store) ≡ true → may_be_placed stores ps p ≡ true
     → IsBegun stores (front ++ line ∷ []) (record { places = ps ++ p ∷ []; described = desc; catalog = cat; clients = cs; ran = ran; moves = ms })
 place_more stores front line ps false cat [] false ms p st fit e first named stands =
     let empty : front ≡ map place_line ps ++ [] =
@@ -177,7 +177,7 @@ client_more stores front line ps desc cat cs true ms name st fit e before named 
 
 ---- a statement
 
-told_more : (c : ScriptClient) (text : List ℕ) → IsClient c → 0 < length text → length c.statements < most_statements → IsClient (more_said c text)
+told_more : (c : ScriptClient) (text : List ℕ) → IsClient c → 0 < length text → length c.statements < most_statements → IsClient (with_statement c text)
 told_more c text is some few = record {
   named = is.named;
   said = All-push (λ t. 0 < length t) c.statements text is.said some;
@@ -186,7 +186,7 @@ told_more c text is some few = record {
 
 each_more : (cs : List ScriptClient) (text : List ℕ) → All IsClient cs → 0 < length text → last_count cs < most_statements → All IsClient (add_text cs text)
 each_more [] text a some few = a
-each_more (c ∷ []) text a some few = All-cons IsClient (more_said c text) [] (told_more c text (All-head IsClient c [] a) some few) (All-nil IsClient)
+each_more (c ∷ []) text a some few = All-cons IsClient (with_statement c text) [] (told_more c text (All-head IsClient c [] a) some few) (All-nil IsClient)
 each_more (c ∷ d ∷ cs) text a some few = All-cons IsClient c (add_text (d ∷ cs) text) (All-head IsClient c (d ∷ cs) a) (each_more (d ∷ cs) text (All-tail IsClient c (d ∷ cs) a) some few)
 
 names_stay : (cs : List ScriptClient) (text : List ℕ) → map (λ (c : ScriptClient). c.name) (add_text cs text) ≡ map (λ (c : ScriptClient). c.name) cs
@@ -202,7 +202,7 @@ count_stays (c ∷ d ∷ cs) text = let k = count_stays (d ∷ cs) text in omega
 lines_more : (cs : List ScriptClient) (text : List ℕ) → 0 < length cs → flat_map client_lines (add_text cs text) ≡ flat_map client_lines cs ++ text_line text ∷ []
 lines_more [] text h = absurd (omega arith)
 lines_more (c ∷ []) text h =
-    append-nil (client_lines (more_said c text)) ∙ ap (λ (x : Lines). client_line c.name ∷ x) (map-append text_line c.statements (text ∷ []))
+    append-nil (client_lines (with_statement c text)) ∙ ap (λ (x : Lines). client_line c.name ∷ x) (map-append text_line c.statements (text ∷ []))
     ∙ ap (λ (x : Lines). x ++ text_line text ∷ []) (sym (append-nil (client_lines c)))
 lines_more (c ∷ d ∷ cs) text h =
     ap (λ (x : Lines). client_lines c ++ x) (lines_more (d ∷ cs) text (omega arith)) ∙ sym (append_assoc (client_lines c) (flat_map client_lines (d ∷ cs)) (text_line text ∷ []))
@@ -258,7 +258,7 @@ run_more stores front line ps desc cat cs true ms st fit e before = absurd (let 
 
 move_more : (stores front : Lines) (line : List ℕ) (ps : List Place) (desc : Bool) (cat : List Table) (cs : List ScriptClient) (ran : Bool) (ms : List Move) (m : Move)
     → IsBegun stores front (record { places = ps; described = desc; catalog = cat; clients = cs; ran = ran; moves = ms })
-    → is_line line ≡ true → SaysMove line m → ran ≡ true → is_move (length cs) m ≡ true → turns_of ms + turns m ≤ most_moves
+    → is_line line ≡ true → IsMoveText line m → ran ≡ true → is_move (length cs) m ≡ true → turns_of ms + turns m ≤ most_moves
     → IsBegun stores (front ++ line ∷ []) (record { places = ps; described = desc; catalog = cat; clients = cs; ran = ran; moves = ms ++ m ∷ [] })
 move_more stores front line ps desc cat cs true ms m st fit said behind is few =
     let e : line ≡ move_line m = move_text (length cs) line m st.clients.few is (omega (arith, few)) said in
@@ -278,10 +278,10 @@ move_more stores front line ps desc cat cs false ms m st fit said behind is few 
 
 ---- any line
 
-pub more_begun : (stores front : Lines) (line : List ℕ) (d e : Draft) (s : Said) → IsBegun stores front d → Comes d line s → past stores d s ≡ Ok e → IsBegun stores (front ++ line ∷ []) e
-more_begun stores front line d e (PlaceOf p) st c h =
+pub more_begun : (stores front : Lines) (line : List ℕ) (d e : Draft) (s : LineMeaning) → IsBegun stores front d → MayComeNext d line s → past stores d s ≡ Ok e → IsBegun stores (front ++ line ∷ []) e
+more_begun stores front line d e (PlaceLine p) st c h =
     let first = and_first (is_first d) _ c.2 in
-    by_test (may_stand stores d.places p)
+    by_test (may_be_placed stores d.places p)
     (λ t. subst (IsBegun stores (front ++ line ∷ [])) (ok_is (rw t at h))
     (place_more stores front line d.places d.described d.catalog d.clients d.ran d.moves p st c.0 c.1 first (and_second (is_first d) _ c.2) t))
     (λ t. err_ok _ e (rw t at h))

@@ -13,15 +13,15 @@ use Rattle.sdb_model.specs.declared.script.Act.TheVariants as act
 use Rattle.sdb_model.specs.declared.script.Move.{Move}
 use Rattle.sdb_model.specs.declared.script.Move.TheVariants as move
 use Rattle.sdb_script.specs.Words.{Counts, numeral_in}
-use Rattle.sdb_script.specs.Lines.{act_line, move_line, SaysAct, SaysMove, is_client, is_act, is_move, turns, latest}
-use Rattle.sdb_script.specs.Told.{client_in, act_in, repeat_of, step_in, clock_of, clock_in, rest_in, clock_or, stop_or, drop_or, lose_or, move_in}
+use Rattle.sdb_script.specs.Lines.{act_line, move_line, IsActText, IsMoveText, is_client, is_act, is_move, turns, latest}
+use Rattle.sdb_script.specs.Reading.{client_in, act_in, repeat_of, step_in, clock_of, clock_in, rest_in, clock_or, stop_or, drop_or, lose_or, move_in}
 use Rattle.sdb_script.proofs.Pieces.{same_bytes, no_some, map_is, bind_is, map_or_is}
 use Rattle.sdb_script.proofs.Numerals.{numeral_no_space, around_again, around_none, around_is, counted_is, counted_again, text_counts, counts_text}
 use Rattle.sdb_types.proofs.Basics.{by_test, some_is}
 use Rattle.sdb_types.specs.NameText.{around}
 
 abbrev Says : ℕ → List ℕ → Move → Type 0
-Says n line m = SaysMove line m × (is_move n m ≡ true)
+Says n line m = IsMoveText line m × (is_move n m ≡ true)
 
 ---- what is read is said
 
@@ -99,7 +99,7 @@ lose_or_is n line m h =
       | inr g ↦ drop_or_is n line m g.1
     ]
 
-pub move_is : (n : ℕ) (line : List ℕ) (m : Move) → move_in n line ≡ Some m → SaysMove line m × (is_move n m ≡ true)
+pub move_is : (n : ℕ) (line : List ℕ) (m : Move) → move_in n line ≡ Some m → IsMoveText line m × (is_move n m ≡ true)
 unfolding move_in
 move_is n line m h =
     elim (map_or_is (step_in n) (lose_or n line) (after_front (codes "step ") line) (Some m) h) [
@@ -126,7 +126,7 @@ clock_again word ms k late =
     let t : nat_le ms 9007199254740992 ≡ true = grind (arith, nat_tests) in
     rw (counted_again word ms k, t) refl
 
-act_line_again : (n : ℕ) (line : List ℕ) (a : Act) → SaysAct line a → is_act n a ≡ true → move_in n line ≡ Some (move.Act a)
+act_line_again : (n : ℕ) (line : List ℕ) (a : Act) → IsActText line a → is_act n a ≡ true → move_in n line ≡ Some (move.Act a)
 unfolding move_in
 act_line_again n line (act.Step c) s h = subst (λ (x : List ℕ). move_in n x ≡ Some (move.Act (act.Step c))) (sym s.1) (step_again n s.0 c s.2 h)
 act_line_again n line (act.Lose c) s h = subst (λ (x : List ℕ). move_in n x ≡ Some (move.Act (act.Lose c))) (sym s.1) (act_again n act.Lose s.0 c s.2 h)
@@ -136,7 +136,7 @@ act_line_again n line (act.Clock (pos ms)) s h =
     subst (λ (x : List ℕ). move_in n x ≡ Some (move.Act (act.Clock (pos ms)))) (sym s.1) (clock_again s.0 ms s.2 (and_second (int_le (pos 0) (pos ms)) _ h))
 act_line_again n line (act.Clock (negsuc ms)) s h = absurd s
 
-pub move_again : (n : ℕ) (line : List ℕ) (m : Move) → SaysMove line m → is_move n m ≡ true → move_in n line ≡ Some m
+pub move_again : (n : ℕ) (line : List ℕ) (m : Move) → IsMoveText line m → is_move n m ≡ true → move_in n line ≡ Some m
 unfolding move_in
 move_again n line (move.Act a) s h = act_line_again n line a s h
 move_again n line (move.Repeat c k) s h =
@@ -151,7 +151,7 @@ client_small n c few h = let k = and_second (nat_le 1 c) _ h in grind (arith, na
 numbered : (front line : List ℕ) (n c : ℕ) → n ≤ 64 → is_client n c ≡ true → (word : List ℕ) × (line ≡ front ++ word) × Counts word c → line ≡ front ++ decimal c
 numbered front line n c few h s = s.1 ∙ ap (λ (x : List ℕ). front ++ x) (counts_text s.0 c s.2 (client_small n c few h))
 
-act_text : (n : ℕ) (line : List ℕ) (a : Act) → n ≤ 64 → is_act n a ≡ true → SaysAct line a → line ≡ act_line a
+act_text : (n : ℕ) (line : List ℕ) (a : Act) → n ≤ 64 → is_act n a ≡ true → IsActText line a → line ≡ act_line a
 act_text n line (act.Step c) few h s = numbered (codes "step ") line n c few h s
 act_text n line (act.Lose c) few h s = numbered (codes "lose ") line n c few h s
 act_text n line (act.Discard c) few h s = numbered (codes "drop ") line n c few h s
@@ -162,7 +162,7 @@ act_text n line (act.Clock (pos ms)) few h s =
     s.1 ∙ ap (λ (x : List ℕ). codes "clock " ++ x) (counts_text s.0 ms s.2 small)
 act_text n line (act.Clock (negsuc ms)) few h s = absurd s
 
-pub move_text : (n : ℕ) (line : List ℕ) (m : Move) → n ≤ 64 → is_move n m ≡ true → turns m ≤ 200000 → SaysMove line m → line ≡ move_line m
+pub move_text : (n : ℕ) (line : List ℕ) (m : Move) → n ≤ 64 → is_move n m ≡ true → turns m ≤ 200000 → IsMoveText line m → line ≡ move_line m
 move_text n line (move.Act a) few h small s = act_text n line a few h s
 move_text n line (move.Repeat c k) few h small s =
     let lt : k < 2 ^ 64 = omega arith in
@@ -173,7 +173,7 @@ move_text n line move.Rest few h small s = s
 said : (n c : ℕ) → n ≤ 64 → is_client n c ≡ true → Counts (decimal c) c
 said n c few h = text_counts c (client_small n c few h)
 
-text_act : (n : ℕ) (a : Act) → n ≤ 64 → is_act n a ≡ true → SaysAct (act_line a) a
+text_act : (n : ℕ) (a : Act) → n ≤ 64 → is_act n a ≡ true → IsActText (act_line a) a
 text_act n (act.Step c) few h = (decimal c, refl, said n c few h)
 text_act n (act.Lose c) few h = (decimal c, refl, said n c few h)
 text_act n (act.Discard c) few h = (decimal c, refl, said n c few h)
@@ -184,7 +184,7 @@ text_act n (act.Clock (pos ms)) few h =
     (decimal ms, refl, text_counts ms small)
 text_act n (act.Clock (negsuc ms)) few h = absurd (let k : false ≡ true = and_first (int_le (pos 0) (negsuc ms)) (int_le (negsuc ms) latest) h in cc)
 
-pub text_move : (n : ℕ) (m : Move) → n ≤ 64 → is_move n m ≡ true → turns m ≤ 200000 → SaysMove (move_line m) m
+pub text_move : (n : ℕ) (m : Move) → n ≤ 64 → is_move n m ≡ true → turns m ≤ 200000 → IsMoveText (move_line m) m
 text_move n (move.Act a) few h small = text_act n a few h
 text_move n (move.Repeat c k) few h small =
     let lt : k < 2 ^ 64 = omega arith in

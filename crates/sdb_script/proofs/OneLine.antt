@@ -22,7 +22,7 @@ use Rattle.sdb_loader.specs.Words.{is_open, names_table, table_named}
 use Rattle.sdb_loader.specs.Fields.{clustering_key, columns, partition_key, secondary_index}
 use Rattle.sdb_loader.specs.declared.fault.SchemaFault.{SchemaFault}
 use Rattle.sdb_loader.specs.declared.fault.SchemaFault.TheVariants as schema
-use Rattle.sdb_loader.specs.Described.{bad_name, named, table_of, untransactional, bad_field, unknown_type, bad_table, first_said, refuse, within_limit, described_tables, described_members, described, json_of, catalog_in}
+use Rattle.sdb_loader.specs.Described.{bad_name, named, table_of, untransactional, bad_field, unknown_type, bad_table, first_given, refuse, within_limit, described_tables, described_members, described, json_of, catalog_in}
 use Rattle.sdb_loader.proofs.Names.{text_of}
 use Rattle.sdb_catalog.specs.Definition.{kind_text, order_text, columns_data, names_data, orders_data, definition_text}
 use Rattle.sdb_script.specs.Printed.{member_text, catalog_text}
@@ -165,13 +165,13 @@ tables_are : (tds : List (TableName × Data)) (ts : List Table) → described_ta
 unfolding described_tables
 tables_are tds ts h =
     let limit = within_limit (map table_of tds) in
-    let tables = refuse (first_said bad_table tds) (λ f. schema.BadTable f.0 f.1) limit in
-    let kinds = refuse (first_said unknown_type tds) (λ f. schema.UnknownType f.0 f.1) tables in
-    let fields = refuse (first_said bad_field tds) (λ f. schema.BadField f.0 f.1) kinds in
-    let first : fields ≡ Ok ts = refuse_ok (first_said untransactional tds) schema.NonTransactional fields ts h in
-    let second : kinds ≡ Ok ts = refuse_ok (first_said bad_field tds) (λ f. schema.BadField f.0 f.1) kinds ts first in
-    let third : tables ≡ Ok ts = refuse_ok (first_said unknown_type tds) (λ f. schema.UnknownType f.0 f.1) tables ts second in
-    limited (map table_of tds) ts (refuse_ok (first_said bad_table tds) (λ f. schema.BadTable f.0 f.1) limit ts third)
+    let tables = refuse (first_given bad_table tds) (λ f. schema.BadTable f.0 f.1) limit in
+    let kinds = refuse (first_given unknown_type tds) (λ f. schema.UnknownType f.0 f.1) tables in
+    let fields = refuse (first_given bad_field tds) (λ f. schema.BadField f.0 f.1) kinds in
+    let first : fields ≡ Ok ts = refuse_ok (first_given untransactional tds) schema.NonTransactional fields ts h in
+    let second : kinds ≡ Ok ts = refuse_ok (first_given bad_field tds) (λ f. schema.BadField f.0 f.1) kinds ts first in
+    let third : tables ≡ Ok ts = refuse_ok (first_given unknown_type tds) (λ f. schema.UnknownType f.0 f.1) tables ts second in
+    limited (map table_of tds) ts (refuse_ok (first_given bad_table tds) (λ f. schema.BadTable f.0 f.1) limit ts third)
   where
     limited : (us ts : List Table) → within_limit us ≡ Ok ts → us ≡ ts
     limited us ts k = by_test (nat_le (length us) 64) (λ t. ok_tables us ts (rw t at k)) (λ t. absurd (let q = rw t at k in cc))

@@ -18,7 +18,7 @@ use Rattle.sdb_model.specs.Form.{lines_of, onto_first, client_line}
 use Rattle.sdb_script.specs.Lines.{most_bytes, most_line, place_line, schema_line, text_line, client_lines, move_line, is_line}
 use Rattle.sdb_script.specs.Begun.{IsBegun, IsSchema, run_lines}
 use Rattle.sdb_script.specs.Whole.{whole, IsScript}
-use Rattle.sdb_script.specs.Printed.{catalog_text, schema_text, place_text, client_text, script_text_of, schema_lines, keeps_line}
+use Rattle.sdb_script.specs.Printed.{catalog_text, schema_text, place_text, client_text, script_text_of, schema_lines, fits_line}
 use Rattle.sdb_script.proofs.CatalogBack.{catalog_again}
 use Rattle.sdb_script.proofs.OneLine.{is_single, json_single, json_may, may_name}
 use Rattle.sdb_types.proofs.Basics.{by_test}
@@ -165,7 +165,7 @@ printed_again stores text s is back small =
 
 ---- of a catalog that a text described
 
-read_back : (ts : List Table) → list_all may_name ts ≡ true → is_catalog ts ≡ true → keeps_line ts ≡ true → IsReadBack ts
+read_back : (ts : List Table) → list_all may_name ts ≡ true → is_catalog ts ≡ true → fits_line ts ≡ true → IsReadBack ts
 read_back [] h c k = tt
 read_back (t ∷ ts) h c k =
     let n = length (schema_line (catalog_text (t ∷ ts))) in
@@ -179,9 +179,9 @@ names_may false ts lines h = ap (list_all may_name) h.1
 names_may true ts lines h = json_may h.0 ts h.2
 
 -- what is printed of a script that some text is
-pub printed_back : (stores : Lines) (text : List ℕ) (s : Script) → IsScript stores text s → is_catalog s.catalog ≡ true → keeps_line s.catalog ≡ true → length (script_text_of s) ≤ most_bytes → IsScript stores (script_text_of s) s
+pub printed_back : (stores : Lines) (text : List ℕ) (s : Script) → IsScript stores text s → is_catalog s.catalog ≡ true → fits_line s.catalog ≡ true → length (script_text_of s) ≤ most_bytes → IsScript stores (script_text_of s) s
 printed_back stores text s is c k small = printed_again stores text s is (read_back s.catalog (names_may is.described s.catalog is.lines.schema is.lines.described) c k) small
 
-pub again_of : {E : Type 0} (result : Result (List ℕ) E) (s : Script) → is_catalog s.catalog ≡ true → IfOk result (λ t. t ≡ script_text_of s) → (stores : Lines) (text : List ℕ) → IsScript stores text s → keeps_line s.catalog ≡ true → length (script_text_of s) ≤ most_bytes → IfOk result (λ t. IsScript stores t s)
+pub again_of : {E : Type 0} (result : Result (List ℕ) E) (s : Script) → is_catalog s.catalog ≡ true → IfOk result (λ t. t ≡ script_text_of s) → (stores : Lines) (text : List ℕ) → IsScript stores text s → fits_line s.catalog ≡ true → length (script_text_of s) ≤ most_bytes → IfOk result (λ t. IsScript stores t s)
 again_of (Ok t) s c e stores text is k small = subst (λ (x : List ℕ). IsScript stores x s) (sym e) (printed_back stores text s is c k small)
 again_of (Err x) s c e stores text is k small = tt

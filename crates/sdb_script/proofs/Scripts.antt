@@ -14,7 +14,7 @@ use Rattle.sdb_script.specs.declared.fault.ScriptRefused.TheVariants.{BadLine, L
 use Rattle.sdb_script.specs.Lines.{most_bytes}
 use Rattle.sdb_script.specs.Begun.{Draft, nothing, IsBegun, Stops, IsFirstWrong}
 use Rattle.sdb_script.specs.Whole.{whole, IsScript, last_line, IsRefused}
-use Rattle.sdb_script.specs.Told.{told, at_line, told_next, told_from, script_of, ended, ended_at, script_in, Agrees}
+use Rattle.sdb_script.specs.Reading.{read_line_on, at_line, read_next, read_from, script_of, ended, ended_at, script_in, Agrees}
 use Rattle.sdb_script.proofs.Steps.{told_is, cause_is, cause_again}
 use Rattle.sdb_script.proofs.Growth.{none_begun, more_begun}
 use Rattle.sdb_script.proofs.Sections.{begun_goes}
@@ -26,10 +26,10 @@ Lines = List (List ℕ)
 ---- all lines
 
 -- What lines lead to has begun.
-goes_begun : (stores front ls : Lines) (d e : Draft) (n : ℕ) → IsBegun stores front d → told_from stores n d ls ≡ Ok e → IsBegun stores (front ++ ls) e
+goes_begun : (stores front ls : Lines) (d e : Draft) (n : ℕ) → IsBegun stores front d → read_from stores n d ls ≡ Ok e → IsBegun stores (front ++ ls) e
 goes_begun stores front [] d e n st h = let same : d ≡ e = cc in subst (λ (x : Lines). IsBegun stores x e) (sym (append-nil front)) (subst (IsBegun stores front) same st)
 goes_begun stores front (l ∷ ls) d e n st h =
-    elim (told stores d l) as (λ r. told stores d l ≡ r → told_next n r (λ x. told_from stores (n + 1) x ls) ≡ Ok e → IsBegun stores (front ++ l ∷ ls) e) [
+    elim (read_line_on stores d l) as (λ r. read_line_on stores d l ≡ r → read_next n r (λ x. read_from stores (n + 1) x ls) ≡ Ok e → IsBegun stores (front ++ l ∷ ls) e) [
       | Ok f ↦ λ q k.
           let s = told_is stores d f l q in
           subst (λ (x : Lines). IsBegun stores x e) (append_assoc front (l ∷ []) ls) (goes_begun stores (front ++ l ∷ []) ls f e (n + 1) (more_begun stores front l d f s.0 st s.1 s.2) k)
@@ -43,10 +43,10 @@ pub record Wrong (stores lines : Lines) (r : ScriptRefused) : Type 0 where
   pub is : r ≡ at_line number refusal
   pub first : IsFirstWrong stores lines number refusal
 
-wrong_of : (stores front ls : Lines) (d : Draft) (n : ℕ) (r : ScriptRefused) → IsBegun stores front d → n ≡ length front + 1 → told_from stores n d ls ≡ Err r → Wrong stores (front ++ ls) r
+wrong_of : (stores front ls : Lines) (d : Draft) (n : ℕ) (r : ScriptRefused) → IsBegun stores front d → n ≡ length front + 1 → read_from stores n d ls ≡ Err r → Wrong stores (front ++ ls) r
 wrong_of stores front [] d n r st counted h = absurd cc
 wrong_of stores front (l ∷ ls) d n r st counted h =
-    elim (told stores d l) as (λ o. told stores d l ≡ o → told_next n o (λ x. told_from stores (n + 1) x ls) ≡ Err r → Wrong stores (front ++ l ∷ ls) r) [
+    elim (read_line_on stores d l) as (λ o. read_line_on stores d l ≡ o → read_next n o (λ x. read_from stores (n + 1) x ls) ≡ Err r → Wrong stores (front ++ l ∷ ls) r) [
       | Ok f ↦ λ q k.
           let s = told_is stores d f l q in
           subst (λ (x : Lines). Wrong stores x r) (append_assoc front (l ∷ []) ls)
@@ -83,10 +83,10 @@ script_is stores text s h =
     by_test (nat_le (length text) most_bytes)
     (λ t.
     let small : length text ≤ most_bytes = grind (arith, nat_tests) in
-    by_lines small (told_from stores 1 nothing (lines_of text)) refl (rw t at h))
+    by_lines small (read_from stores 1 nothing (lines_of text)) refl (rw t at h))
     (λ t. script_err _ s (rw t at h))
   where
-    by_lines : length text ≤ most_bytes → (o : Result Draft ScriptRefused) → told_from stores 1 nothing (lines_of text) ≡ o → ended_at (length (lines_of text) + 1) o ≡ Ok s → IsScript stores text s
+    by_lines : length text ≤ most_bytes → (o : Result Draft ScriptRefused) → read_from stores 1 nothing (lines_of text) ≡ o → ended_at (length (lines_of text) + 1) o ≡ Ok s → IsScript stores text s
     by_lines small (Ok d) q k =
         by_test d.ran
         (λ t.
@@ -96,8 +96,8 @@ script_is stores text s h =
         (λ t. script_err _ s (rw t at k))
     by_lines small (Err r) q k = script_err r s k
 
-all_told : (stores lines : Lines) (d : Draft) → IsBegun stores lines d → told_from stores 1 nothing lines ≡ Ok d
-all_told stores lines d st = ap (told_from stores 1 nothing) (sym (append-nil lines)) ∙ begun_goes stores lines d st 1 []
+all_told : (stores lines : Lines) (d : Draft) → IsBegun stores lines d → read_from stores 1 nothing lines ≡ Ok d
+all_told stores lines d st = ap (read_from stores 1 nothing) (sym (append-nil lines)) ∙ begun_goes stores lines d st 1 []
 
 pub script_again : (stores : Lines) (text : List ℕ) (s : Script) → IsScript stores text s → script_in stores text ≡ Ok s
 script_again stores text s is =
@@ -124,12 +124,12 @@ refused_is stores text r h =
     by_test (nat_le (length text) most_bytes)
     (λ t.
     let small : length text ≤ most_bytes = grind (arith, nat_tests) in
-    by_lines small (told_from stores 1 nothing (lines_of text)) refl (rw t at h))
+    by_lines small (read_from stores 1 nothing (lines_of text)) refl (rw t at h))
     (λ t.
     let long : most_bytes < length text = grind (arith, nat_tests) in
     subst (IsRefused stores text) (err_script (Limit (last_line text) which.InputBytes) r (rw t at h)) (inl (long, refl, refl)))
   where
-    by_lines : length text ≤ most_bytes → (o : Result Draft ScriptRefused) → told_from stores 1 nothing (lines_of text) ≡ o → ended_at (length (lines_of text) + 1) o ≡ Err r → IsRefused stores text r
+    by_lines : length text ≤ most_bytes → (o : Result Draft ScriptRefused) → read_from stores 1 nothing (lines_of text) ≡ o → ended_at (length (lines_of text) + 1) o ≡ Err r → IsRefused stores text r
     by_lines small (Ok d) q k =
         by_test d.ran
         (λ t. script_ok r (script_of d) (rw t at k))
@@ -150,18 +150,18 @@ refused_is stores text r h =
     by_lines small (Err e) q k = subst (IsRefused stores text) (err_script e r k) (refusal_at stores text e small (wrong_of stores [] (lines_of text) nothing 1 e (none_begun stores) refl q))
 
 -- what lines are refused for, seen from their end
-ends_at : (stores front rest : Lines) (d : Draft) (n : ℕ) (e : LineRefused) → n ≡ length front + 1 → Stops stores d rest e → ended_at (length (front ++ rest) + 1) (told_from stores n d rest) ≡ Err (at_line n e)
+ends_at : (stores front rest : Lines) (d : Draft) (n : ℕ) (e : LineRefused) → n ≡ length front + 1 → Stops stores d rest e → ended_at (length (front ++ rest) + 1) (read_from stores n d rest) ≡ Err (at_line n e)
 ends_at stores front [] d n e counted h =
     let count : length (front ++ []) + 1 ≡ n = omega (arith, counted, length-append front []) in
     rw (h.0, h.1, count) refl
 ends_at stores front (l ∷ ls) d n e counted h = rw (cause_again stores d l e h) refl
 
-wrong_again : (stores lines : Lines) (n : ℕ) (e : LineRefused) → IsFirstWrong stores lines n e → ended_at (length lines + 1) (told_from stores 1 nothing lines) ≡ Err (at_line n e)
+wrong_again : (stores lines : Lines) (n : ℕ) (e : LineRefused) → IsFirstWrong stores lines n e → ended_at (length lines + 1) (read_from stores 1 nothing lines) ≡ Err (at_line n e)
 wrong_again stores lines n e w =
     let same : 1 + length w.front ≡ n = omega (arith, w.number) in
-    let read : told_from stores 1 nothing lines ≡ told_from stores n w.draft w.rest =
-    ap (told_from stores 1 nothing) w.split ∙ begun_goes stores w.front w.draft w.before 1 w.rest ∙ ap (λ (m : ℕ). told_from stores m w.draft w.rest) same in
-    ap (λ (x : Lines). ended_at (length x + 1) (told_from stores 1 nothing lines)) w.split ∙ ap (ended_at (length (w.front ++ w.rest) + 1)) read ∙ ends_at stores w.front w.rest w.draft n e w.number w.here
+    let read : read_from stores 1 nothing lines ≡ read_from stores n w.draft w.rest =
+    ap (read_from stores 1 nothing) w.split ∙ begun_goes stores w.front w.draft w.before 1 w.rest ∙ ap (λ (m : ℕ). read_from stores m w.draft w.rest) same in
+    ap (λ (x : Lines). ended_at (length x + 1) (read_from stores 1 nothing lines)) w.split ∙ ap (ended_at (length (w.front ++ w.rest) + 1)) read ∙ ends_at stores w.front w.rest w.draft n e w.number w.here
 
 small_again : (stores : Lines) (text : List ℕ) (n : ℕ) (e : LineRefused) → length text ≤ most_bytes → IsFirstWrong stores (lines_of text) n e → script_in stores text ≡ Err (at_line n e)
 small_again stores text n e small w =
@@ -209,13 +209,13 @@ all_refused stores text (Err (BadLine n f)) h = inr (refused_is stores text (Bad
 all_refused stores text (Err (Limit n w)) h = inr (refused_is stores text (Limit n w) h)
 all_refused stores text (Err OutOfMemory) h = inl refl
 
-pub ended_ok : (stores : Lines) (text : List ℕ) (d : Draft) (n : ℕ) (r : Result Script ScriptRefused) → length text ≤ most_bytes → told_from stores 1 nothing (lines_of text) ≡ Ok d → n ≡ length (lines_of text) + 1 → IfOk r (λ s. ended n d ≡ Ok s) → IfOk r (λ s. script_in stores text ≡ Ok s)
+pub ended_ok : (stores : Lines) (text : List ℕ) (d : Draft) (n : ℕ) (r : Result Script ScriptRefused) → length text ≤ most_bytes → read_from stores 1 nothing (lines_of text) ≡ Ok d → n ≡ length (lines_of text) + 1 → IfOk r (λ s. ended n d ≡ Ok s) → IfOk r (λ s. script_in stores text ≡ Ok s)
 ended_ok stores text d n (Ok s) small q count h =
     let t : nat_le (length text) most_bytes ≡ true = grind (arith, nat_tests) in
     rw t (ap (ended_at (length (lines_of text) + 1)) q ∙ ap (λ (m : ℕ). ended m d) (sym count) ∙ h)
 ended_ok stores text d n (Err e) small q count h = tt
 
-pub ended_bad : (stores : Lines) (text : List ℕ) (d : Draft) (n : ℕ) (r : Result Script ScriptRefused) → length text ≤ most_bytes → told_from stores 1 nothing (lines_of text) ≡ Ok d → n ≡ length (lines_of text) + 1 → IfErr r (Agrees (ended n d)) → IfErr r (Agrees (script_in stores text))
+pub ended_bad : (stores : Lines) (text : List ℕ) (d : Draft) (n : ℕ) (r : Result Script ScriptRefused) → length text ≤ most_bytes → read_from stores 1 nothing (lines_of text) ≡ Ok d → n ≡ length (lines_of text) + 1 → IfErr r (Agrees (ended n d)) → IfErr r (Agrees (script_in stores text))
 ended_bad stores text d n (Ok s) small q count h = tt
 ended_bad stores text d n (Err e) small q count h =
     let t : nat_le (length text) most_bytes ≡ true = grind (arith, nat_tests) in

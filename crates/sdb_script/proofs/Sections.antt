@@ -15,8 +15,8 @@ use Rattle.sdb_model.specs.declared.script.ScriptClient.{ScriptClient}
 use Rattle.sdb_model.specs.Form.{client_line, is_client_name}
 use Rattle.sdb_script.specs.declared.fault.LineRefused.{LineRefused}
 use Rattle.sdb_script.specs.Lines.{most_clients, most_statements, most_moves, place_line, schema_line, text_line, client_lines, move_line, is_line, is_move, turns, turns_of}
-use Rattle.sdb_script.specs.Begun.{Draft, nothing, ArePlaces, IsSchema, IsClient, AreClients, AreMoves, run_lines, IsBegun, Said, PlaceOf, SchemaOf, ClientOf, StatementOf, Runs, MoveOf, is_known, may_stand, last_count, Comes}
-use Rattle.sdb_script.specs.Told.{with_catalog, new_client, told_next, told_from}
+use Rattle.sdb_script.specs.Begun.{Draft, nothing, ArePlaces, IsSchema, IsClient, AreClients, AreMoves, run_lines, IsBegun, LineMeaning, PlaceLine, SchemaOf, ClientOf, StatementOf, Runs, MoveOf, is_known, may_be_placed, last_count, MayComeNext}
+use Rattle.sdb_script.specs.Reading.{with_catalog, new_client, read_next, read_from}
 use Rattle.sdb_script.proofs.Pieces.{same_bytes}
 use Rattle.sdb_script.proofs.MoveLines.{text_move}
 use Rattle.sdb_script.proofs.BlockLaws.{add_last, count_last}
@@ -31,18 +31,18 @@ Lines = List (List ℕ)
 
 -- These lines lead from what was said before to what is said with them.
 abbrev pub Goes : Lines → Draft → Lines → Draft → Type 0
-Goes stores d lines e = (n : ℕ) (rest : Lines) → told_from stores n d (lines ++ rest) ≡ told_from stores (n + length lines) e rest
+Goes stores d lines e = (n : ℕ) (rest : Lines) → read_from stores n d (lines ++ rest) ≡ read_from stores (n + length lines) e rest
 
 goes_none : (stores : Lines) (d : Draft) → Goes stores d [] d
-goes_none stores d n rest = let e : n ≡ n + 0 = omega arith in ap (λ (m : ℕ). told_from stores m d rest) e
+goes_none stores d n rest = let e : n ≡ n + 0 = omega arith in ap (λ (m : ℕ). read_from stores m d rest) e
 
-goes_one : (stores : Lines) (d e : Draft) (line : List ℕ) (s : Said) → Comes d line s → past stores d s ≡ Ok e → Goes stores d (line ∷ []) e
-goes_one stores d e line s c h n rest = ap (λ (r : Result Draft LineRefused). told_next n r (λ x. told_from stores (n + 1) x rest)) (told_again stores d line s c ∙ h)
+goes_one : (stores : Lines) (d e : Draft) (line : List ℕ) (s : LineMeaning) → MayComeNext d line s → past stores d s ≡ Ok e → Goes stores d (line ∷ []) e
+goes_one stores d e line s c h n rest = ap (λ (r : Result Draft LineRefused). read_next n r (λ x. read_from stores (n + 1) x rest)) (told_again stores d line s c ∙ h)
 
 goes_then : (stores : Lines) (d e f : Draft) (xs ys : Lines) → Goes stores d xs e → Goes stores e ys f → Goes stores d (xs ++ ys) f
 goes_then stores d e f xs ys g h n rest =
     let count : n + length xs + length ys ≡ n + length (xs ++ ys) = omega (arith, length-append xs ys) in
-    ap (told_from stores n d) (append_assoc xs ys rest) ∙ g n (ys ++ rest) ∙ h (n + length xs) rest ∙ ap (λ (m : ℕ). told_from stores m f rest) count
+    ap (read_from stores n d) (append_assoc xs ys rest) ∙ g n (ys ++ rest) ∙ h (n + length xs) rest ∙ ap (λ (m : ℕ). read_from stores m f rest) count
 
 fit_first : (xs ys : Lines) → list_all is_line (xs ++ ys) ≡ true → list_all is_line xs ≡ true
 fit_first xs ys h = and_first (list_all is_line xs) (list_all is_line ys) (sym (list_all-append is_line xs ys) ∙ h)
@@ -61,7 +61,7 @@ differs a b h = by_test (bytes_eq a b) (λ t. absurd (h (same_bytes a b t))) (λ
 isnt : (b : Bool) → b ≡ false → not b ≡ true
 isnt b h = rw h refl
 
-stands : (stores : Lines) (done : List Place) (p : Place) (ps : List Place) → ArePlaces stores (done ++ p ∷ ps) → may_stand stores done p ≡ true
+stands : (stores : Lines) (done : List Place) (p : Place) (ps : List Place) → ArePlaces stores (done ++ p ∷ ps) → may_be_placed stores done p ≡ true
 stands stores done p ps a =
     and_both (not (bytes_eq p.ns (codes "scalardb"))) _ (differs p.ns (codes "scalardb") (at_next (λ q. q.ns ≢ codes "scalardb") done p ps a.free))
     (and_both _ _ (attached_again stores p.store (at_next (λ q. Contains stores q.store) done p ps a.attached)) (isnt _ (new_again (λ (q : Place). q.ns) done p ps a.once)))
@@ -71,7 +71,7 @@ places_go stores done [] a fit = subst (λ (x : List Place). Goes stores (with_p
 places_go stores done (p ∷ ps) a fit =
     let named = at_next (λ q. (is_client_name q.ns ≡ true) × (is_client_name q.store ≡ true)) done p ps a.named in
     let one : Goes stores (with_places done) (place_line p ∷ []) (with_places (done ++ p ∷ [])) =
-    goes_one stores (with_places done) (with_places (done ++ p ∷ [])) (place_line p) (PlaceOf p)
+    goes_one stores (with_places done) (with_places (done ++ p ∷ [])) (place_line p) (PlaceLine p)
     (and_first (is_line (place_line p)) _ fit, refl, and_both (is_client_name p.ns) (is_client_name p.store) named.0 named.1)
     (rw (stands stores done p ps a) refl) in
     let split : (done ++ p ∷ []) ++ ps ≡ done ++ p ∷ ps = append_assoc done (p ∷ []) ps in

@@ -16,8 +16,8 @@ use Rattle.sdb_script.specs.declared.fault.LineFault.TheVariants as fault
 use Rattle.sdb_script.specs.declared.fault.LineRefused.{LineRefused}
 use Rattle.sdb_script.specs.declared.fault.LineRefused.TheVariants as refused
 use Rattle.sdb_script.specs.Lines.{most_line, most_clients, most_statements, most_moves, is_line, turns, turns_of}
-use Rattle.sdb_script.specs.Begun.{Draft, Said, PlaceOf, SchemaOf, ClientOf, StatementOf, Runs, MoveOf, Says, is_first, is_known, may_come, may_stand, last_count, Comes, IsCause}
-use Rattle.sdb_script.specs.Told.{move_in, form, with_place, with_words, take_place, with_catalog, take_schema, with_client, take_client, with_text, take_text, run_of, place_or, schema_or, client_or, text_or, take_head, with_move, take_move, take_text_line, told}
+use Rattle.sdb_script.specs.Begun.{Draft, LineMeaning, PlaceLine, SchemaOf, ClientOf, StatementOf, Runs, MoveOf, IsSpelledAs, is_first, is_known, may_come, may_be_placed, last_count, MayComeNext, IsCause}
+use Rattle.sdb_script.specs.Reading.{move_in, form, with_place, with_words, take_place, with_catalog, take_schema, with_client, take_client, with_text, take_text, run_of, place_or, schema_or, client_or, text_or, take_head, with_move, take_move, take_text_line, read_line_on}
 use Rattle.sdb_script.proofs.Pieces.{same_bytes}
 use Rattle.sdb_script.proofs.Numerals.{name_no_space, around_again, around_is}
 use Rattle.sdb_script.proofs.MoveLines.{move_is, move_again}
@@ -25,8 +25,8 @@ use Rattle.sdb_types.proofs.Basics.{by_test, not_true}
 use Rattle.sdb_types.specs.NameText.{around}
 
 -- what comes of something that may come next
-abbrev pub past : List (List ℕ) → Draft → Said → Result Draft LineRefused
-past stores d (PlaceOf p) = with_place stores d p.ns p.store
+abbrev pub past : List (List ℕ) → Draft → LineMeaning → Result Draft LineRefused
+past stores d (PlaceLine p) = with_place stores d p.ns p.store
 past stores d (SchemaOf json) = with_catalog d (catalog_in json)
 past stores d (ClientOf name) = with_client d name
 past stores d (StatementOf text) = with_text d text
@@ -38,9 +38,9 @@ past stores d (MoveOf m) = with_move d m
 head_again : (stores : List (List ℕ)) (d : Draft) (line : List ℕ) → d.ran ≡ false → take_text_line stores d line ≡ take_head stores d line
 head_again stores d line e = rw e refl
 
-again : (stores : List (List ℕ)) (d : Draft) (line : List ℕ) (s : Said) → Says line s → may_come d s ≡ true → take_text_line stores d line ≡ past stores d s
+again : (stores : List (List ℕ)) (d : Draft) (line : List ℕ) (s : LineMeaning) → IsSpelledAs line s → may_come d s ≡ true → take_text_line stores d line ≡ past stores d s
 unfolding take_head
-again stores d line (PlaceOf p) e h =
+again stores d line (PlaceLine p) e h =
     let first = and_first (is_first d) _ h in
     let named = and_second (is_first d) _ h in
     let ran : d.ran ≡ false = not_true d.ran (and_first (not d.ran) _ first) in
@@ -63,7 +63,7 @@ again stores d line (MoveOf m) e h =
 
 -- What comes of a line has no form, or the line says something that may come next.
 abbrev FormOr : Draft → List ℕ → Result Draft LineRefused → Type 0
-FormOr d line r = (r ≡ form) ⊎ ((s : Said) × Says line s × (may_come d s ≡ true))
+FormOr d line r = (r ≡ form) ⊎ ((s : LineMeaning) × IsSpelledAs line s × (may_come d s ≡ true))
 
 place_said : (stores : List (List ℕ)) (d : Draft) (line words : List ℕ) → d.ran ≡ false → line ≡ codes "place " ++ words → FormOr d line (take_place stores d words)
 place_said stores d line words ran e =
@@ -72,7 +72,7 @@ place_said stores d line words ran e =
     elim (around 32 words) as (λ o. around 32 words ≡ o → FormOr d line (cond (is_first d) (option_map_or (with_words stores d) o form) form)) [
       | Some w ↦ λ q.
           by_test (is_client_name w.0 && is_client_name w.1)
-          (λ t. inr (PlaceOf (record { ns = w.0; store = w.1 }), e ∙ ap (λ (x : List ℕ). codes "place " ++ x) (around_is words w q), and_both (is_first d) _ first t))
+          (λ t. inr (PlaceLine (record { ns = w.0; store = w.1 }), e ∙ ap (λ (x : List ℕ). codes "place " ++ x) (around_is words w q), and_both (is_first d) _ first t))
           (λ t. inl (rw (first, t) refl))
       | None ↦ λ q. inl (rw first refl)
     ] refl)
@@ -143,8 +143,8 @@ said_or_form stores d line =
 
 ---- what may come isn't refused for its form
 
-form_apart : (stores : List (List ℕ)) (d : Draft) (s : Said) → past stores d s ≡ form → ⊥
-form_apart stores d (PlaceOf p) h = by_test (may_stand stores d.places p) (λ t. let k = rw t at h in absurd cc) (λ t. let k = rw t at h in absurd cc)
+form_apart : (stores : List (List ℕ)) (d : Draft) (s : LineMeaning) → past stores d s ≡ form → ⊥
+form_apart stores d (PlaceLine p) h = by_test (may_be_placed stores d.places p) (λ t. let k = rw t at h in absurd cc) (λ t. let k = rw t at h in absurd cc)
 form_apart stores d (SchemaOf json) h = catalog_apart (catalog_in json) h
   where
     catalog_apart : (r : Result (List Table) SchemaFault) → with_catalog d r ≡ form → ⊥
@@ -155,16 +155,16 @@ form_apart stores d (StatementOf text) h = by_test (nat_lt (last_count d.clients
 form_apart stores d Runs h = absurd cc
 form_apart stores d (MoveOf m) h = by_test (nat_le (turns_of d.moves + turns m) most_moves) (λ t. let k = rw t at h in absurd cc) (λ t. let k = rw t at h in absurd cc)
 
-nothing_comes : (stores : List (List ℕ)) (d : Draft) (line : List ℕ) → take_text_line stores d line ≡ form → (s : Said) → Says line s → may_come d s ≡ false
+nothing_comes : (stores : List (List ℕ)) (d : Draft) (line : List ℕ) → take_text_line stores d line ≡ form → (s : LineMeaning) → IsSpelledAs line s → may_come d s ≡ false
 nothing_comes stores d line h s e = by_test (may_come d s) (λ t. absurd (form_apart stores d s (sym (again stores d line s e t) ∙ h))) (λ t. t)
 
 ---- a line that is taken
 
-line_again : (stores : List (List ℕ)) (d : Draft) (line : List ℕ) → is_line line ≡ true → told stores d line ≡ take_text_line stores d line
-unfolding told
+line_again : (stores : List (List ℕ)) (d : Draft) (line : List ℕ) → is_line line ≡ true → read_line_on stores d line ≡ take_text_line stores d line
+unfolding read_line_on
 line_again stores d line fit = rw (and_first (nat_le (length line) most_line) _ fit, and_second (nat_le (length line) most_line) _ fit) refl
 
-pub told_again : (stores : List (List ℕ)) (d : Draft) (line : List ℕ) (s : Said) → Comes d line s → told stores d line ≡ past stores d s
+pub told_again : (stores : List (List ℕ)) (d : Draft) (line : List ℕ) (s : LineMeaning) → MayComeNext d line s → read_line_on stores d line ≡ past stores d s
 told_again stores d line s c = line_again stores d line c.0 ∙ again stores d line s c.1 c.2
 
 err_is : (r s : LineRefused) → ◌≡◌ {A = Result Draft LineRefused} (Err r) (Err s) → r ≡ s
@@ -176,8 +176,8 @@ ok_err d r e = absurd cc
 err_ok : {G : Type 0} (d : Draft) (r : LineRefused) → ◌≡◌ {A = Result Draft LineRefused} (Ok d) (Err r) → G
 err_ok d r e = absurd cc
 
-pub told_is : (stores : List (List ℕ)) (d e : Draft) (line : List ℕ) → told stores d line ≡ Ok e → (s : Said) × Comes d line s × (past stores d s ≡ Ok e)
-unfolding told
+pub told_is : (stores : List (List ℕ)) (d e : Draft) (line : List ℕ) → read_line_on stores d line ≡ Ok e → (s : LineMeaning) × MayComeNext d line s × (past stores d s ≡ Ok e)
+unfolding read_line_on
 told_is stores d e line h =
     by_test (nat_le (length line) most_line)
     (λ t.
@@ -193,9 +193,9 @@ told_is stores d e line h =
 
 ---- a line that is refused
 
-past_cause : (stores : List (List ℕ)) (d : Draft) (line : List ℕ) (s : Said) (r : LineRefused) → Comes d line s → past stores d s ≡ Err r → IsCause stores d line r
-past_cause stores d line (PlaceOf p) r c h =
-    by_test (may_stand stores d.places p)
+past_cause : (stores : List (List ℕ)) (d : Draft) (line : List ℕ) (s : LineMeaning) (r : LineRefused) → MayComeNext d line s → past stores d s ≡ Err r → IsCause stores d line r
+past_cause stores d line (PlaceLine p) r c h =
+    by_test (may_be_placed stores d.places p)
     (λ t. err_ok _ r (rw t at h))
     (λ t. subst (IsCause stores d line) (err_is (refused.Bad fault.Store) r (rw t at h)) (p, c, t))
 past_cause stores d line (SchemaOf json) r c h = by_catalog (catalog_in json) refl h
@@ -217,8 +217,8 @@ past_cause stores d line (MoveOf m) r c h =
     (λ t. err_ok _ r (rw t at h))
     (λ t. let full : most_moves < turns_of d.moves + turns m = grind (arith, nat_tests) in subst (IsCause stores d line) (err_is (refused.Limit which.Moves) r (rw t at h)) (m, c, full))
 
-pub cause_is : (stores : List (List ℕ)) (d : Draft) (line : List ℕ) (r : LineRefused) → told stores d line ≡ Err r → IsCause stores d line r
-unfolding told
+pub cause_is : (stores : List (List ℕ)) (d : Draft) (line : List ℕ) (r : LineRefused) → read_line_on stores d line ≡ Err r → IsCause stores d line r
+unfolding read_line_on
 cause_is stores d line r h =
     by_test (nat_le (length line) most_line)
     (λ t.
@@ -234,19 +234,19 @@ cause_is stores d line r h =
     (λ u. subst (IsCause stores d line) (err_is (refused.Bad fault.Text) r (rw (t, u) at h)) (short, u)))
     (λ t. let long : most_line < length line = grind (arith, nat_tests) in subst (IsCause stores d line) (err_is (refused.Limit which.LineBytes) r (rw t at h)) long)
 
-no_form_again : (stores : List (List ℕ)) (d : Draft) (line : List ℕ) → is_line line ≡ true → ((s : Said) → Says line s → may_come d s ≡ false) → told stores d line ≡ form
+no_form_again : (stores : List (List ℕ)) (d : Draft) (line : List ℕ) → is_line line ≡ true → ((s : LineMeaning) → IsSpelledAs line s → may_come d s ≡ false) → read_line_on stores d line ≡ form
 no_form_again stores d line fit h =
     elim (said_or_form stores d line) [
       | inr s ↦ absurd (let k : true ≡ false = sym s.2 ∙ h s.0 s.1 in cc)
       | inl f ↦ line_again stores d line fit ∙ f
     ]
 
-pub cause_again : (stores : List (List ℕ)) (d : Draft) (line : List ℕ) (r : LineRefused) → IsCause stores d line r → told stores d line ≡ Err r
-unfolding told
+pub cause_again : (stores : List (List ℕ)) (d : Draft) (line : List ℕ) (r : LineRefused) → IsCause stores d line r → read_line_on stores d line ≡ Err r
+unfolding read_line_on
 cause_again stores d line (refused.Limit which.LineBytes) h = let t : nat_le (length line) most_line ≡ false = grind (arith, nat_tests) in rw t refl
 cause_again stores d line (refused.Bad fault.Text) h = let t : nat_le (length line) most_line ≡ true = grind (arith, nat_tests) in rw (t, h.1) refl
 cause_again stores d line (refused.Bad fault.Form) h = no_form_again stores d line h.0 h.1
-cause_again stores d line (refused.Bad fault.Store) h = told_again stores d line (PlaceOf h.0) h.1 ∙ rw h.2 refl
+cause_again stores d line (refused.Bad fault.Store) h = told_again stores d line (PlaceLine h.0) h.1 ∙ rw h.2 refl
 cause_again stores d line (refused.Bad (fault.Schema f)) h = told_again stores d line (SchemaOf h.0) h.1 ∙ ap (with_catalog d) h.2
 cause_again stores d line (refused.Limit which.Clients) h =
     let t : nat_lt (length d.clients) most_clients ≡ false = grind (arith, nat_tests) in

@@ -12,7 +12,7 @@ use Rattle.sdb_model.specs.Form.{client_line, is_client_name}
 use Rattle.sdb_script.specs.declared.fault.LineFault.TheVariants as fault
 use Rattle.sdb_script.specs.declared.fault.LineRefused.{LineRefused}
 use Rattle.sdb_script.specs.declared.fault.LineRefused.TheVariants as refused
-use Rattle.sdb_script.specs.Lines.{most_line, most_clients, most_statements, most_moves, place_line, schema_line, text_line, client_lines, move_line, SaysMove, is_line, is_move, turns, turns_of}
+use Rattle.sdb_script.specs.Lines.{most_line, most_clients, most_statements, most_moves, place_line, schema_line, text_line, client_lines, move_line, IsMoveText, is_line, is_move, turns, turns_of}
 
 -- What the lines so far say: the places, whether there was a schema, its catalog, the clients, whether `run` came, and the moves.
 pub record Draft : Type 0 where
@@ -78,24 +78,24 @@ pub record IsBegun (stores : List (List ℕ)) (lines : List (List ℕ)) (d : Dra
 
 ---- what one more line says
 
-pub data Said : Type 0 where
-  PlaceOf : Place → Said
-  SchemaOf : List ℕ → Said
-  ClientOf : List ℕ → Said
-  StatementOf : List ℕ → Said
-  Runs : Said
-  MoveOf : Move → Said
+pub data LineMeaning : Type 0 where
+  PlaceLine : Place → LineMeaning
+  SchemaOf : List ℕ → LineMeaning
+  ClientOf : List ℕ → LineMeaning
+  StatementOf : List ℕ → LineMeaning
+  Runs : LineMeaning
+  MoveOf : Move → LineMeaning
 
 -- A line is spelled as one that says this.
-abbrev pub Says : List ℕ → Said → Type 0
-Says line (PlaceOf p) = line ≡ place_line p
-Says line (SchemaOf json) = line ≡ schema_line json
-Says line (ClientOf name) = line ≡ client_line name
-Says line (StatementOf text) = line ≡ text_line text
-Says line Runs = line ≡ codes "run"
-Says line (MoveOf m) = SaysMove line m
+abbrev pub IsSpelledAs : List ℕ → LineMeaning → Type 0
+IsSpelledAs line (PlaceLine p) = line ≡ place_line p
+IsSpelledAs line (SchemaOf json) = line ≡ schema_line json
+IsSpelledAs line (ClientOf name) = line ≡ client_line name
+IsSpelledAs line (StatementOf text) = line ≡ text_line text
+IsSpelledAs line Runs = line ≡ codes "run"
+IsSpelledAs line (MoveOf m) = IsMoveText line m
 
--- nothing but places was said
+-- there were only places
 abbrev pub is_first : Draft → Bool
 is_first d = not d.ran && (not d.described && length d.clients == 0)
 
@@ -104,8 +104,8 @@ is_known clients name = list_any (λ c. bytes_eq c.name name) clients
 
 -- What may come next, but for stores, the schema's JSON and the limits: a place or the schema first; a client of a new name before
 -- `run`; a statement that isn't empty in a client's block; one `run`; and after it moves.
-abbrev pub may_come : Draft → Said → Bool
-may_come d (PlaceOf p) = is_first d && (is_client_name p.ns && is_client_name p.store)
+abbrev pub may_come : Draft → LineMeaning → Bool
+may_come d (PlaceLine p) = is_first d && (is_client_name p.ns && is_client_name p.store)
 may_come d (SchemaOf json) = is_first d
 may_come d (ClientOf name) = not d.ran && (is_client_name name && not (is_known d.clients name))
 may_come d (StatementOf text) = not d.ran && (nat_lt 0 (length d.clients) && nat_lt 0 (length text))
@@ -119,8 +119,8 @@ abbrev pub is_attached : List (List ℕ) → List ℕ → Bool
 is_attached stores store = list_any (bytes_eq store) stores
 
 -- a place in an attached store, of a namespace that may be placed and was not placed before
-abbrev pub may_stand : List (List ℕ) → List Place → Place → Bool
-may_stand stores places p = not (bytes_eq p.ns (codes "scalardb")) && (is_attached stores p.store && not (is_placed places p.ns))
+abbrev pub may_be_placed : List (List ℕ) → List Place → Place → Bool
+may_be_placed stores places p = not (bytes_eq p.ns (codes "scalardb")) && (is_attached stores p.store && not (is_placed places p.ns))
 
 -- how many statements the last client has
 abbrev pub last_count : List ScriptClient → ℕ
@@ -131,20 +131,20 @@ last_count (c ∷ d ∷ cs) = last_count (d ∷ cs)
 ---- why a line may not come
 
 -- A line that is a line of text says something that may come next.
-abbrev pub Comes : Draft → List ℕ → Said → Type 0
-Comes d line s = (is_line line ≡ true) × Says line s × (may_come d s ≡ true)
+abbrev pub MayComeNext : Draft → List ℕ → LineMeaning → Type 0
+MayComeNext d line s = (is_line line ≡ true) × IsSpelledAs line s × (may_come d s ≡ true)
 
 -- The cause of each refusal of a line. The length is looked at first, then UTF-8, then what the line says, then its store or its
 -- JSON, and then how many clients, statements and moves there are.
 abbrev pub IsCause : List (List ℕ) → Draft → List ℕ → LineRefused → Type 0
 IsCause stores d line (refused.Limit which.LineBytes) = most_line < length line
 IsCause stores d line (refused.Bad fault.Text) = (length line ≤ most_line) × (is_utf8 line ≡ false)
-IsCause stores d line (refused.Bad fault.Form) = (is_line line ≡ true) × ((s : Said) → Says line s → may_come d s ≡ false)
-IsCause stores d line (refused.Bad fault.Store) = (p : Place) × Comes d line (PlaceOf p) × (may_stand stores d.places p ≡ false)
-IsCause stores d line (refused.Bad (fault.Schema f)) = (json : List ℕ) × Comes d line (SchemaOf json) × (catalog_in json ≡ Err f)
-IsCause stores d line (refused.Limit which.Clients) = (name : List ℕ) × Comes d line (ClientOf name) × (most_clients ≤ length d.clients)
-IsCause stores d line (refused.Limit which.Statements) = (text : List ℕ) × Comes d line (StatementOf text) × (most_statements ≤ last_count d.clients)
-IsCause stores d line (refused.Limit which.Moves) = (m : Move) × Comes d line (MoveOf m) × (most_moves < turns_of d.moves + turns m)
+IsCause stores d line (refused.Bad fault.Form) = (is_line line ≡ true) × ((s : LineMeaning) → IsSpelledAs line s → may_come d s ≡ false)
+IsCause stores d line (refused.Bad fault.Store) = (p : Place) × MayComeNext d line (PlaceLine p) × (may_be_placed stores d.places p ≡ false)
+IsCause stores d line (refused.Bad (fault.Schema f)) = (json : List ℕ) × MayComeNext d line (SchemaOf json) × (catalog_in json ≡ Err f)
+IsCause stores d line (refused.Limit which.Clients) = (name : List ℕ) × MayComeNext d line (ClientOf name) × (most_clients ≤ length d.clients)
+IsCause stores d line (refused.Limit which.Statements) = (text : List ℕ) × MayComeNext d line (StatementOf text) × (most_statements ≤ last_count d.clients)
+IsCause stores d line (refused.Limit which.Moves) = (m : Move) × MayComeNext d line (MoveOf m) × (most_moves < turns_of d.moves + turns m)
 IsCause stores d line (refused.Bad fault.Missing) = ⊥
 IsCause stores d line (refused.Limit which.InputBytes) = ⊥
 IsCause stores d line refused.NoMemory = ⊥

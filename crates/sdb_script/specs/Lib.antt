@@ -5,4 +5,4 @@ pub mod Words
 pub mod Lines
 pub mod Begun
 pub mod Whole
-pub mod Told
+pub mod Reading

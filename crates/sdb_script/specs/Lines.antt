@@ -69,19 +69,19 @@ move_line (move.Repeat c k) = codes "step " ++ (decimal c ++ 32 ∷ decimal k)
 move_line move.Rest = codes "rest"
 
 -- A line says an act, whose number may be of any size.
-abbrev pub SaysAct : List ℕ → Act → Type 0
-SaysAct line (act.Step c) = (word : List ℕ) × (line ≡ codes "step " ++ word) × Counts word c
-SaysAct line (act.Lose c) = (word : List ℕ) × (line ≡ codes "lose " ++ word) × Counts word c
-SaysAct line (act.Discard c) = (word : List ℕ) × (line ≡ codes "drop " ++ word) × Counts word c
-SaysAct line (act.Stop c) = (word : List ℕ) × (line ≡ codes "stop " ++ word) × Counts word c
-SaysAct line (act.Clock (pos n)) = (word : List ℕ) × (line ≡ codes "clock " ++ word) × Counts word n
-SaysAct line (act.Clock (negsuc n)) = ⊥
+abbrev pub IsActText : List ℕ → Act → Type 0
+IsActText line (act.Step c) = (word : List ℕ) × (line ≡ codes "step " ++ word) × Counts word c
+IsActText line (act.Lose c) = (word : List ℕ) × (line ≡ codes "lose " ++ word) × Counts word c
+IsActText line (act.Discard c) = (word : List ℕ) × (line ≡ codes "drop " ++ word) × Counts word c
+IsActText line (act.Stop c) = (word : List ℕ) × (line ≡ codes "stop " ++ word) × Counts word c
+IsActText line (act.Clock (pos n)) = (word : List ℕ) × (line ≡ codes "clock " ++ word) × Counts word n
+IsActText line (act.Clock (negsuc n)) = ⊥
 
 -- A line says a move, whose numbers may be of any size.
-abbrev pub SaysMove : List ℕ → Move → Type 0
-SaysMove line (move.Act a) = SaysAct line a
-SaysMove line (move.Repeat c k) = (word : List ℕ) × (more : List ℕ) × (line ≡ codes "step " ++ (word ++ 32 ∷ more)) × Counts word c × Counts more k
-SaysMove line move.Rest = line ≡ codes "rest"
+abbrev pub IsMoveText : List ℕ → Move → Type 0
+IsMoveText line (move.Act a) = IsActText line a
+IsMoveText line (move.Repeat c k) = (word : List ℕ) × (more : List ℕ) × (line ≡ codes "step " ++ (word ++ 32 ∷ more)) × Counts word c × Counts more k
+IsMoveText line move.Rest = line ≡ codes "rest"
 
 ---- what lines may say
 

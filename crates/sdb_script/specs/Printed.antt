@@ -55,5 +55,5 @@ schema_lines [] = []
 schema_lines (t ∷ ts) = schema_line (catalog_text (t ∷ ts)) ∷ []
 
 -- a catalog's line keeps the limit of a line; without tables there is none
-abbrev pub keeps_line : List Table → Bool
-keeps_line ts = list_all (λ line. nat_le (length line) most_line) (schema_lines ts)
+abbrev pub fits_line : List Table → Bool
+fits_line ts = list_all (λ line. nat_le (length line) most_line) (schema_lines ts)

@@ -2,7 +2,7 @@
 ghost use Rattle.std.specs.Prelude.{◌≡◌, ◌<◌, ◌≤◌, [], ◌∷◌, ◌++◌, length, option_to_list, OnOk, OnErr, IfOk};
 ghost use Rattle.sdb_script.specs.Begun.{is_known, last_count};
 ghost use Rattle.std.specs.Option.{option_map};
-ghost use Rattle.sdb_script.specs.Told.{add_text, more_said, new_client};
+ghost use Rattle.sdb_script.specs.Reading.{add_text, with_statement, new_client};
 
 use sdb_model::{Clients, ScriptClient, Texts};
 use sdb_types::{Name, NoMemory, Txt};
@@ -60,7 +60,7 @@ fn said_by(last: &Option<ScriptClient>) -> usize
 
 // Adds a statement to a client, where there is one.
 fn add_to(last: &mut Option<ScriptClient>, text: Txt) -> Result<(), NoMemory>
-    ensures ok { OnOk result (last.new ≡ option_map (λ c. more_said c text) last.old) }
+    ensures ok { OnOk result (last.new ≡ option_map (λ c. with_statement c text) last.old) }
     ensures err { OnErr result (last.new ≡ last.old) }
 {
     match last {

@@ -54,7 +54,7 @@ impl Counted {
     }
 
     /// Whether there is room for a move.
-    pub fn takes(&self, m: Move) -> bool
+    pub fn accepts(&self, m: Move) -> bool
         ensures { result ≡ nat_le (turns_of self.now + turns_lem m) 200000 }
     {
         turns(m) <= MOST_MOVES - self.turns

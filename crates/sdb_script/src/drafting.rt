@@ -4,7 +4,7 @@ ghost use Rattle.std.specs.List.{list_any};
 ghost use Rattle.std.specs.Str.{bytes_eq};
 ghost use Rattle.sdb_model.specs.Form.{is_client_name};
 ghost use Rattle.sdb_script.specs.Begun.{Draft, nothing, is_first as is_first_lem, is_attached as is_attached_lem};
-ghost use Rattle.sdb_script.specs.Told as spec;
+ghost use Rattle.sdb_script.specs.Reading as spec;
 
 use crate::blocks::Blocks;
 use crate::counted::Counted;
@@ -235,7 +235,7 @@ impl Drafting {
         let Some(m) = move_in(self.clients.len(), line) else {
             return Err(no_form());
         };
-        if !self.moves.takes(m) {
+        if !self.moves.accepts(m) {
             return Err(LineRefused::Limit(Which::Moves));
         }
         self.moves.push(m)?;
@@ -257,8 +257,8 @@ impl Drafting {
     /// Takes one line more.
     #[tactic(auto, unfolding(crate::specs::Told::told))]
     pub fn take(&mut self, alloc: Global, line: &[u8], stores: &Names) -> Result<(), LineRefused>
-        ensures ok { OnOk result (spec.told stores.now self.old line.now ≡ Ok self.new) }
-        ensures bad { IfErr result (spec.Refuses (spec.told stores.now self.old line.now)) }
+        ensures ok { OnOk result (spec.read_line_on stores.now self.old line.now ≡ Ok self.new) }
+        ensures bad { IfErr result (spec.Refuses (spec.read_line_on stores.now self.old line.now)) }
     {
         if line.len() > MOST_LINE {
             return Err(LineRefused::Limit(Which::LineBytes));

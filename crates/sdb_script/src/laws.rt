@@ -5,7 +5,7 @@ ghost use Rattle.sdb_model.specs.declared.script.Script.{Script};
 ghost use Rattle.sdb_script.specs.declared.fault.ScriptRefused.{ScriptRefused};
 ghost use Rattle.sdb_script.specs.Lines.{most_bytes};
 ghost use Rattle.sdb_script.specs.Whole.{IsScript, IsRefused};
-ghost use Rattle.sdb_script.specs.Printed.{keeps_line, script_text_of};
+ghost use Rattle.sdb_script.specs.Printed.{fits_line, script_text_of};
 
 /// A text is one script, or is refused for one cause, and not both.
 pub fn scripts_are_exact()
@@ -18,6 +18,6 @@ pub fn scripts_are_exact()
 /// What is printed of a script that some text is, is that script again, where the printed text keeps the limits of a text and of its
 /// schema's line.
 pub fn printed_scripts_are_read()
-    ensures again { (stores : List (List ℕ)) (text : List ℕ) (s : Script) → IsScript stores text s → is_catalog s.catalog ≡ true → keeps_line s.catalog ≡ true
+    ensures again { (stores : List (List ℕ)) (text : List ℕ) (s : Script) → IsScript stores text s → is_catalog s.catalog ≡ true → fits_line s.catalog ≡ true
         → length (script_text_of s) ≤ most_bytes → IsScript stores (script_text_of s) s }
 {}

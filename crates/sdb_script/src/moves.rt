@@ -2,7 +2,7 @@
 ghost use Rattle.std.specs.Prelude.{◌≡◌, ◌≤◌, ◌^◌, ◌-◌, min};
 ghost use Rattle.std.specs.Option.{option_map, option_copied};
 ghost use Rattle.sdb_model.specs.declared.script.Act.TheVariants as act;
-ghost use Rattle.sdb_script.specs.Told as spec;
+ghost use Rattle.sdb_script.specs.Reading as spec;
 
 use crate::words::{after, around_space, numeral_in};
 use sdb_model::{Act, Move};

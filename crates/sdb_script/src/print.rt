@@ -214,7 +214,7 @@ fn text_of(alloc: Global, script: &Script) -> Result<Txt, NoMemory>
 /// of a schema that may be missing are all written. Takes time and memory linear in the text's length.
 pub fn print_script(alloc: Global, script: &Script) -> Result<Txt, NoMemory>
     ensures text { IfOk result (λ t. t ≡ spec.script_text_of script.now) }
-    ensures again { (stores : List (List ℕ)) (text : List ℕ) → IsScript stores text script.now → spec.keeps_line script.now.catalog ≡ true
+    ensures again { (stores : List (List ℕ)) (text : List ℕ) → IsScript stores text script.now → spec.fits_line script.now.catalog ≡ true
         → length (spec.script_text_of script.now) ≤ most_bytes → IfOk result (λ t. IsScript stores t script.now) }
 {
     let _tables = script.catalog.len();

@@ -4,7 +4,7 @@ ghost use Rattle.sdb_model.specs.Form.{lines_of};
 ghost use Rattle.sdb_script.specs.Lines.{most_bytes};
 ghost use Rattle.sdb_script.specs.Begun.{nothing};
 ghost use Rattle.sdb_script.specs.Whole.{IsScript, IsRefused, last_line as last_line_lem};
-ghost use Rattle.sdb_script.specs.Told as spec;
+ghost use Rattle.sdb_script.specs.Reading as spec;
 
 use crate::drafting::Drafting;
 use crate::fault::{LineFault, LineRefused, ScriptRefused};
@@ -40,8 +40,8 @@ fn at_line(number: u64, refused: LineRefused) -> ScriptRefused
 
 // What all lines say, and the number of the line after the last.
 fn read_lines(alloc: Global, bytes: &[u8], stores: &Names) -> Result<(Drafting, u64), ScriptRefused>
-    ensures ok { IfOk result (λ d. (spec.told_from stores.now 1 nothing (lines_of bytes.now) ≡ Ok d.0) × (d.1 ≡ length (lines_of bytes.now) + 1)) }
-    ensures bad { IfErr result (spec.Agrees (spec.told_from stores.now 1 nothing (lines_of bytes.now))) }
+    ensures ok { IfOk result (λ d. (spec.read_from stores.now 1 nothing (lines_of bytes.now) ≡ Ok d.0) × (d.1 ≡ length (lines_of bytes.now) + 1)) }
+    ensures bad { IfErr result (spec.Agrees (spec.read_from stores.now 1 nothing (lines_of bytes.now))) }
 {
     let mut drafting = Drafting::new(alloc);
     let mut rest = bytes;

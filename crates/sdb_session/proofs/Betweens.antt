@@ -12,10 +12,10 @@ use Rattle.sdb_exec.specs.Plans.{Planned}
 use Rattle.sdb_snapshot.specs.Seen.{Seen}
 use Rattle.sdb_client.specs.Client.{ClientAt}
 use Rattle.sdb_session.specs.Database.{Database}
-use Rattle.sdb_session.specs.Between.{Answered, Begun, Between, Ended, IsStill, IsTxnOf, OpenTransaction, RolledBack, StatementEnds, Swept, Turned}
-use Rattle.sdb_session.specs.Chain.{Answers, Exchanged, Starved, open_after, open_of, transaction_of}
+use Rattle.sdb_session.specs.Between.{Answered, Begun, Between, Ended, IsStill, IsTxnOf, OpenTransaction, RolledBack, StatementEnds, Vacuumed, Turned}
+use Rattle.sdb_session.specs.Chain.{Answers, Exchanged, OutOfMemory, open_after, open_of, transaction_of}
 use Rattle.sdb_session.specs.Clients.{Added, AnsweredAlone, IsAskedFor, Kept, OpenAlone}
-use Rattle.sdb_session.specs.Session.{Exchange, Part, Parts, begins, body_in, ends, is_begin, is_commit, is_rollback, no_parts, part_after, parts_after, parts_of, statements_in, turned_away}
+use Rattle.sdb_session.specs.Session.{Exchange, Part, Parts, begins, body_in, ends, is_begin, is_commit, is_rollback, no_parts, part_after, parts_after, parts_of, statements_in, rejected}
 use Rattle.sdb_session.proofs.Sessions.{away_none, away_open, idle_meek, map_more, mild_meek, no_word, none_open, one_open, rows_meek, stays_by}
 
 and_false : (b : Bool) → (b && false) ≡ false
@@ -69,7 +69,7 @@ module _ (catalog : List Table) (g h : Database) (ts : List Part) (e : Exchange)
   commit_ends k = ap (λ b. b || (is_conflict (Some e.answer) || (is_rollback e.says && is_done (Some e.answer)))) k
 
   -- turned away
-  turned : (p : Option Part) → turned_away catalog (is_some (open_of p)) e.says ≡ Some e.answer → Between catalog h (open_of p) c → After p
+  turned : (p : Option Part) → rejected catalog (is_some (open_of p)) e.says ≡ Some e.answer → Between catalog h (open_of p) c → After p
   turned None away k = let a = away_none catalog e.says e.answer away in outside (ap (λ b. b && is_done (Some e.answer)) a.begin) k
   turned (Some t) away k =
       let a = away_open catalog e.says e.answer away in
@@ -77,9 +77,9 @@ module _ (catalog : List Table) (g h : Database) (ts : List Part) (e : Exchange)
       nothing t (stays_by e a.commit m.0.conflict a.rollback) m.1 k
 
   -- out of memory as it was taken
-  starved : (p : Option Part) → e.answer ≡ answer.NoMemory → (is_commit e.says ≡ true → Between catalog h None c) → (is_commit e.says ≡ false → Between catalog h (open_of p) c) → After p
-  starved None gone commit other = outside (ap (λ z. is_begin e.says && is_done (Some z)) gone ∙ and_false (is_begin e.says)) (by_test (is_commit e.says) commit other)
-  starved (Some t) gone commit other = by_test (is_commit e.says)
+  out_of_memory : (p : Option Part) → e.answer ≡ answer.NoMemory → (is_commit e.says ≡ true → Between catalog h None c) → (is_commit e.says ≡ false → Between catalog h (open_of p) c) → After p
+  out_of_memory None gone commit other = outside (ap (λ z. is_begin e.says && is_done (Some z)) gone ∙ and_false (is_begin e.says)) (by_test (is_commit e.says) commit other)
+  out_of_memory (Some t) gone commit other = by_test (is_commit e.says)
       (λ k. over t (commit_ends k) (commit k))
       (λ k. nothing t (ap (λ b. b || (is_conflict (Some e.answer) || (is_rollback e.says && is_done (Some e.answer)))) k ∙ ap (λ z. is_conflict (Some z) || (is_rollback e.says && is_done (Some z))) gone ∙ and_false (is_rollback e.says)) (ap changes_nothing gone) (other k))
 
@@ -117,12 +117,12 @@ module _ (catalog : List Table) (g h : Database) (ts : List Part) (e : Exchange)
       answered t st p a s is of asked (subst (λ (x : OpenTransaction). AnsweredAlone catalog h x.statements x.answers st a e.moment x.id e.answer s) (sym (some_is (transaction_of t) b some)) so) (subst (λ (x : OpenTransaction). IsStill x s c) (sym (some_is (transaction_of t) b some)) still)
   ends_between None (Ended b s is some opened later ends left) = none_some b some
   ends_between (Some t) (Ended b s is some opened later ends left) = over t (commit_ends (ap is_commit is)) left
-  ends_between None (Swept is none quiet all left) = outside (ap (λ x. is_begin x && is_done (Some e.answer)) is) left
-  ends_between (Some t) (Swept is none quiet all left) = none_some (transaction_of t) (sym none)
+  ends_between None (Vacuumed is none quiet all left) = outside (ap (λ x. is_begin x && is_done (Some e.answer)) is) left
+  ends_between (Some t) (Vacuumed is none quiet all left) = none_some (transaction_of t) (sym none)
 
   pub between_after : (p : Option Part) → Exchanged catalog g (open_of p) e h c → After p
   between_after p (Answers ends) = ends_between p ends
-  between_after p (Starved gone same commit other) = starved p gone commit other
+  between_after p (OutOfMemory gone same commit other) = out_of_memory p gone commit other
 
 -- one exchange more
 fold_more : (p : Parts) (es : List Exchange) (e : Exchange) → fold parts_after p (es ++ e ∷ []) ≡ parts_after (fold parts_after p es) e

@@ -16,7 +16,7 @@ use Rattle.sdb_types.proofs.Replies.{rows_in-are_rows_of}
 use Rattle.sdb_model.specs.declared.event.How.{How}
 use Rattle.sdb_stores.specs.declared.place.Place.{Place}
 use Rattle.sdb_model.specs.Rows.{Name}
-use Rattle.sdb_model.specs.Events.{Shelf, standing, table_asked, IsCall}
+use Rattle.sdb_model.specs.Events.{StoreContents, standing, table_asked, IsCall}
 use Rattle.sdb_laws.proofs.Effects.{AtCall, at_call, after_put, after_delete}
 use Rattle.sdb_laws.proofs.Shown.{row_there, span_table}
 use Rattle.sdb_session.specs.Database.{database_of, Same, Wrote, Done, Undone, Got, Found, NotFound, Scanned, Returned, NotReturned, Called}
@@ -31,7 +31,7 @@ met : (c : Condition) (x : Option Record) → holds c x ≡ true → put_reply c
 met c x h = rw h refl
 
 -- a request that is a write of one key
-module _ (places : List Place) (q : Request) (key : Key) (c : Condition) (new : Option Record) (r : Reply) (before now : List Shelf) (ns : key.table.ns ≡ (table_asked q).ns)
+module _ (places : List Place) (q : Request) (key : Key) (c : Condition) (new : Option Record) (r : Reply) (before now : List StoreContents) (ns : key.table.ns ≡ (table_asked q).ns)
     (replies : (m : Contents) → reply_to q m ≡ put_reply c (record_at m key))
     (afters : (m : Contents) (k : Key) → record_at (after q m) k ≡ (if holds c (record_at m key) && same_key k key then new else record_at m k))
     (a : AtCall places q r before now) (held : holds c (standing places before key) ≡ true) where
@@ -63,7 +63,7 @@ module _ (places : List Place) (q : Request) (key : Key) (c : Condition) (new : 
   ]
 
 -- a write whose condition fails changes nothing
-missed : (places : List Place) (q : Request) (key : Key) (c : Condition) (new : Option Record) (r : Reply) (before now : List Shelf) → key.table.ns ≡ (table_asked q).ns
+missed : (places : List Place) (q : Request) (key : Key) (c : Condition) (new : Option Record) (r : Reply) (before now : List StoreContents) → key.table.ns ≡ (table_asked q).ns
     → ((m : Contents) (k : Key) → record_at (after q m) k ≡ (if holds c (record_at m key) && same_key k key then new else record_at m k))
     → AtCall places q r before now → holds c (standing places before key) ≡ false → Same (database_of places before) (database_of places now)
 missed places q key c new r before now ns afters a fails k = elim (a.there k) [
@@ -74,22 +74,22 @@ missed places q key c new r before now ns afters a fails k = elim (a.there k) [
   | inr x ↦ x.0
 ]
 
-pub wrote_put : (places : List Place) (store : Name) (rec : Record) (c : Condition) (how : How) (r : Reply) (before now : List Shelf) → IsCall places store (ask.PutIf rec c) how r before now → holds c (standing places before rec.key) ≡ true → Wrote rec.key (Some rec) r (database_of places before) (database_of places now)
+pub wrote_put : (places : List Place) (store : Name) (rec : Record) (c : Condition) (how : How) (r : Reply) (before now : List StoreContents) → IsCall places store (ask.PutIf rec c) how r before now → holds c (standing places before rec.key) ≡ true → Wrote rec.key (Some rec) r (database_of places before) (database_of places now)
 wrote_put places store rec c how r before now call held = wrote places (ask.PutIf rec c) rec.key c (Some rec) r before now refl (λ m. refl) (after_put rec c) (at_call places store (ask.PutIf rec c) how r before now call) held
 
-pub wrote_delete : (places : List Place) (store : Name) (key : Key) (c : Condition) (how : How) (r : Reply) (before now : List Shelf) → IsCall places store (ask.DeleteIf key c) how r before now → holds c (standing places before key) ≡ true → Wrote key None r (database_of places before) (database_of places now)
+pub wrote_delete : (places : List Place) (store : Name) (key : Key) (c : Condition) (how : How) (r : Reply) (before now : List StoreContents) → IsCall places store (ask.DeleteIf key c) how r before now → holds c (standing places before key) ≡ true → Wrote key None r (database_of places before) (database_of places now)
 wrote_delete places store key c how r before now call held = wrote places (ask.DeleteIf key c) key c None r before now refl (λ m. refl) (after_delete key c) (at_call places store (ask.DeleteIf key c) how r before now call) held
 
 ---- reads
 
 -- what a read leaves
-read_same : (places : List Place) (q : Request) (r : Reply) (before now : List Shelf) → ((m : Contents) → after q m ≡ m) → AtCall places q r before now → Same (database_of places before) (database_of places now)
+read_same : (places : List Place) (q : Request) (r : Reply) (before now : List StoreContents) → ((m : Contents) → after q m ≡ m) → AtCall places q r before now → Same (database_of places before) (database_of places now)
 read_same places q r before now keeps a k = elim (a.there k) [
   | inl x ↦ x.1 ∙ ap (λ m. record_at m k) (elim a.moved [ inl m ↦ m.0 ∙ keeps a.held | inr m ↦ m.0 ]) ∙ sym x.0
   | inr x ↦ x.0
 ]
 
-pub got : (places : List Place) (store : Name) (key : Key) (how : How) (r : Reply) (before now : List Shelf) → IsCall places store (ask.Get key) how r before now → Same (database_of places before) (database_of places now) × Got key r (database_of places before)
+pub got : (places : List Place) (store : Name) (key : Key) (how : How) (r : Reply) (before now : List StoreContents) → IsCall places store (ask.Get key) how r before now → Same (database_of places before) (database_of places now) × Got key r (database_of places before)
 got places store key how r before now call = (
   read_same places (ask.Get key) r before now (λ m. refl) a,
   elim a.moved [
@@ -101,7 +101,7 @@ got places store key how r before now call = (
     a : AtCall places (ask.Get key) r before now
     a = at_call places store (ask.Get key) how r before now call
 
-pub scanned : (places : List Place) (store : Name) (span : Span) (how : How) (r : Reply) (before now : List Shelf) → IsCall places store (ask.Scan span) how r before now → Same (database_of places before) (database_of places now) × Scanned span r (database_of places before)
+pub scanned : (places : List Place) (store : Name) (span : Span) (how : How) (r : Reply) (before now : List StoreContents) → IsCall places store (ask.Scan span) how r before now → Same (database_of places before) (database_of places now) × Scanned span r (database_of places before)
 scanned places store span how r before now call = (
   read_same places (ask.Scan span) r before now (λ m. refl) a,
   elim a.moved [
@@ -117,7 +117,7 @@ scanned places store span how r before now call = (
     at k inside = row_there span k a.held inside ∙ sym (a.here k (span_table span k inside)).0
 
 -- Each call on stores is such a call.
-pub called : (places : List Place) (store : Name) (q : Request) (how : How) (r : Reply) (before now : List Shelf) → IsCall places store q how r before now → Called q r (database_of places before) (database_of places now)
+pub called : (places : List Place) (store : Name) (q : Request) (how : How) (r : Reply) (before now : List StoreContents) → IsCall places store q how r before now → Called q r (database_of places before) (database_of places now)
 called places store (ask.Get key) how r before now c = got places store key how r before now c
 called places store (ask.Scan span) how r before now c = scanned places store span how r before now c
 called places store (ask.PutIf rec c) how r before now call = (wrote_put places store rec c how r before now call, missed places (ask.PutIf rec c) rec.key c (Some rec) r before now refl (after_put rec c) (at_call places store (ask.PutIf rec c) how r before now call))

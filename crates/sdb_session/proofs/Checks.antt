@@ -25,9 +25,9 @@ use Rattle.sdb_phases.specs.Work.{Work}
 use Rattle.sdb_phases.specs.Checks.{base_of, check_of_read, check_of_scan, checks, first_difference, wanted}
 use Rattle.sdb_phases.specs.Steps.{judged, validate_step}
 use Rattle.sdb_turns.proofs.Lists.{each_filter, each_map}
-use Rattle.sdb_validate.specs.Rescan.{IsFirstLost, is_kept, kept_by}
+use Rattle.sdb_validate.specs.Rescan.{IsFirstLost, is_unchanged_at, is_unchanged_by}
 use Rattle.sdb_validate.proofs.Rescans.{first_lost}
-use Rattle.sdb_session.specs.Database.{Called, Found, Got, Database, HasFailed, NotFound, NotReturned, Same, Scanned, Returned, is_firm, is_listed}
+use Rattle.sdb_session.specs.Database.{Called, Found, Got, Database, HasFailed, NotFound, NotReturned, Same, Scanned, Returned, is_committed_or_none, is_listed}
 use Rattle.sdb_session.specs.OnlyResolves.{IsApart, IsSound}
 use Rattle.sdb_session.specs.Commits.{OthersUnchanged, IsReadCurrent, IsScanCurrent, WorkAlone}
 use Rattle.sdb_session.proofs.Resolves.{row_key}
@@ -58,7 +58,7 @@ module _ (catalog : List Table) (apart : IsApart catalog) (start : Database) (so
     | inr n ↦ n.0
   ])
 
-  still : (k : Key) → is_listed catalog k ≡ true → is_firm (start k) ≡ true → holds (condition_of (version_of (start k))) (start k) ≡ true
+  still : (k : Key) → is_listed catalog k ≡ true → is_committed_or_none (start k) ≡ true → holds (condition_of (version_of (start k))) (start k) ≡ true
   still k listed firm = version_holds (start k) firm (λ r e. sound.taken k r listed e)
 
   ---- gets
@@ -76,7 +76,7 @@ module _ (catalog : List Table) (apart : IsApart catalog) (start : Database) (so
   ---- scans
 
   module _ (x : Scan) (s : IsScanCurrent catalog start x) (rows : List Record) (at : (k : Key) → in_span x.span k ≡ true → record_among rows k ≡ g k) (inside : are_rows_of x.span rows ≡ true) where
-    kept_inside : (k : Key) → in_span x.span k ≡ true → (o : Option Write) → write_among p.writes k ≡ o → kept_by (option_map (λ w. version_of w.base) o) (version_among x.found k) (record_among rows k) ≡ true
+    kept_inside : (k : Key) → in_span x.span k ≡ true → (o : Option Write) → write_among p.writes k ≡ o → is_unchanged_by (option_map (λ w. version_of w.base) o) (version_among x.found k) (record_among rows k) ≡ true
     kept_inside k within None e =
         let i = s.inside k within in
         ap (λ v. is_unchanged (record_among rows k) v) (sym i.2) ∙ ap (λ o. is_unchanged o (version_of (start k))) (at k within ∙ unwritten k i.0 (ap (λ o. is_some o) e)) ∙ still k i.0 i.1
@@ -97,12 +97,12 @@ module _ (catalog : List Table) (apart : IsApart catalog) (start : Database) (so
             one (inl e) ih = false_true (sym without ∙ ap (in_span x.span) e.1 ∙ and_first (in_span x.span r.key) (list_all (λ y. in_span x.span y.key) rs) h)
             one (inr n) ih = rw n.0 ih
 
-    kept : (k : Key) → is_kept p.writes x rows k ≡ true
+    kept : (k : Key) → is_unchanged_at p.writes x rows k ≡ true
     kept k = by (in_span x.span k) refl
       where
-        by : (b : Bool) → in_span x.span k ≡ b → is_kept p.writes x rows k ≡ true
-        by true e = ap (λ b. kept_by (if b then base_of p.writes k else None) (version_among x.found k) (record_among rows k)) e ∙ ap (λ o. kept_by o (version_among x.found k) (record_among rows k)) (base_is p.writes k) ∙ kept_inside k e (write_among p.writes k) refl
-        by false e = ap (λ b. kept_by (if b then base_of p.writes k else None) (version_among x.found k) (record_among rows k)) e ∙ ap (λ v. is_unchanged (record_among rows k) v) (s.outside k e) ∙ ap (λ o. is_unchanged o None) (none_outside k e)
+        by : (b : Bool) → in_span x.span k ≡ b → is_unchanged_at p.writes x rows k ≡ true
+        by true e = ap (λ b. is_unchanged_by (if b then base_of p.writes k else None) (version_among x.found k) (record_among rows k)) e ∙ ap (λ o. is_unchanged_by o (version_among x.found k) (record_among rows k)) (base_is p.writes k) ∙ kept_inside k e (write_among p.writes k) refl
+        by false e = ap (λ b. is_unchanged_by (if b then base_of p.writes k else None) (version_among x.found k) (record_among rows k)) e ∙ ap (λ v. is_unchanged (record_among rows k) v) (s.outside k e) ∙ ap (λ o. is_unchanged o None) (none_outside k e)
 
     no_difference : first_difference (wanted p.writes x) rows ≡ None
     no_difference = by (first_difference (wanted p.writes x) rows) refl (first_lost p.writes x rows s.rise (and_first (rise rows) (list_all (λ r. in_span x.span r.key) rows) inside))

@@ -22,7 +22,7 @@ use Rattle.sdb_record.specs.declared.coordinator.Decision.{Decision}
 use Rattle.sdb_record.specs.declared.coordinator.Decision.TheVariants as decision
 use Rattle.sdb_record.specs.declared.write.Write.{Write}
 use Rattle.sdb_record.specs.Coordinator.{coordinator_key_of, coordinator_row_of, decision_in}
-use Rattle.sdb_record.specs.Meta.{is_taken}
+use Rattle.sdb_record.specs.Meta.{is_transactional}
 use Rattle.sdb_record.specs.Moved.{condition_of, version_of}
 use Rattle.sdb_record.specs.Rolls.{IsBaseOf, forward_record, prepared_record, undo}
 use Rattle.sdb_record.proofs.ImageLaws.{row-decision, row-key}
@@ -37,11 +37,11 @@ use Rattle.sdb_phases.specs.declared.step.DecideStep.{DecideStep}
 use Rattle.sdb_phases.specs.declared.step.DecideStep.TheVariants as decide
 use Rattle.sdb_phases.specs.declared.step.PrepareStep.TheVariants as prepare
 use Rattle.sdb_phases.specs.declared.step.ValidateStep.TheVariants as validate
-use Rattle.sdb_phases.specs.Work.{Work, back_of, forward_of, prepare_of, prepares, stands_prepared}
+use Rattle.sdb_phases.specs.Work.{Work, back_of, forward_of, prepare_of, prepares, is_as_prepared}
 use Rattle.sdb_phases.specs.Checks.{checks}
-use Rattle.sdb_phases.specs.Steps.{followed, prepare_step, told, touched_after, validate_step}
+use Rattle.sdb_phases.specs.Steps.{followed, prepare_step, step_of_row, touched_after, validate_step}
 use Rattle.sdb_phases.specs.Commit.{Stage, Preparing, Checking, Deciding, Forward, Stopping, Back, Over, after_check, after_prepare, back, checking, decided, forward, pending, step}
-use Rattle.sdb_session.specs.Database.{Called, Done, Found, Got, Database, HasFailed, IsWith, NotFound, Same, Undone, Wrote, decided_in, is_firm}
+use Rattle.sdb_session.specs.Database.{Called, Done, Found, Got, Database, HasFailed, IsWith, NotFound, Same, Undone, Wrote, decided_in, is_committed_or_none}
 use Rattle.sdb_session.specs.OnlyResolves.{IsApart, IsSound}
 use Rattle.sdb_session.specs.Recovers.{IsAborted, IsCommittedAt, IsUndecided}
 use Rattle.sdb_session.specs.Commits.{ArePrepared, CommitAlone, EachWrite, EndedAlone, IsDone, IsFailure, IsGivenUp, IsLoose, IsPrepared, IsWon, OthersUnchanged, StageAlone, WorkAlone}
@@ -134,8 +134,8 @@ module _ (catalog : List Table) (apart : IsApart catalog) (start : Database) (so
   followed_committed : (g : Database) (x : Record) (aborted : DecideStep) → g row ≡ Some x → IsCommittedAt g p.id p.now → EachWrite p (IsPrepared p) g → OthersUnchanged p start g → CommitAlone catalog start p g (decided p (phase.Ended, followed p.id aborted x))
   followed_committed g x aborted e at each others = by (decision_in x) (sym (ap row_at e) ∙ at)
     where
-      by : (y : Result Decided (List ℕ)) → result_ok y ≡ Some (record { decision = decision.Committed; created_at = p.now }) → CommitAlone catalog start p g (decided p (phase.Ended, told p.id aborted y))
-      by (Ok z) f = subst (λ y. CommitAlone catalog start p g (decided p (phase.Ended, told p.id aborted (Ok y)))) (sym (some_is z (record { decision = decision.Committed; created_at = p.now }) f)) (present g (forward p 0) others (to_forward g (at, won_all p g each) 0))
+      by : (y : Result Decided (List ℕ)) → result_ok y ≡ Some (record { decision = decision.Committed; created_at = p.now }) → CommitAlone catalog start p g (decided p (phase.Ended, step_of_row p.id aborted y))
+      by (Ok z) f = subst (λ y. CommitAlone catalog start p g (decided p (phase.Ended, step_of_row p.id aborted (Ok y)))) (sym (some_is z (record { decision = decision.Committed; created_at = p.now }) f)) (present g (forward p 0) others (to_forward g (at, won_all p g each) 0))
       by (Err name) f = none_some (record { decision = decision.Committed; created_at = p.now }) f
 
   -- and one that says ABORTED
@@ -145,7 +145,7 @@ module _ (catalog : List Table) (apart : IsApart catalog) (start : Database) (so
       to : (y : Decision) → y ≡ decision.Aborted → CommitAlone catalog start p g (decided p (phase.Ended, elim y [ decision.Committed ↦ decide.Committed | decision.Aborted ↦ decide.Faulted ]))
       to y f = subst (λ z. CommitAlone catalog start p g (decided p (phase.Ended, elim z [ decision.Committed ↦ decide.Committed | decision.Aborted ↦ decide.Faulted ]))) (sym f) (present g (back outcome.Faulted (length p.writes) 0) others (to_back g outcome.Faulted (length p.writes) 0 at (loose_all p g each) tt))
 
-      by : (y : Result Decided (List ℕ)) → IsSomeAnd (result_ok y) (λ d. d.decision ≡ decision.Aborted) → CommitAlone catalog start p g (decided p (phase.Ended, told p.id decide.Faulted y))
+      by : (y : Result Decided (List ℕ)) → IsSomeAnd (result_ok y) (λ d. d.decision ≡ decision.Aborted) → CommitAlone catalog start p g (decided p (phase.Ended, step_of_row p.id decide.Faulted y))
       by (Ok z) f = to z.decision f
       by (Err name) f = absurd f
 
@@ -240,15 +240,15 @@ module _ (catalog : List Table) (apart : IsApart catalog) (start : Database) (so
   back_rolls : (g h : Database) (i : ℕ) (w : Write) (r : Reply) → slice_get p.writes i ≡ Some w → Called (back_of p.id w) r g h → Rolled g h w w.base
   back_rolls g h i w r at called = by w.base refl called
     where
-      by : (o : Option Record) → w.base ≡ o → Called (undo (stands_prepared p.id w) w.key o) r g h → Rolled g h w o
-      by None e c = delete_rolls g h w (stands_prepared p.id w) r c
-      by (Some b) e c = put_rolls g h w b (stands_prepared p.id w) r (base_key b e) c
+      by : (o : Option Record) → w.base ≡ o → Called (undo (is_as_prepared p.id w) w.key o) r g h → Rolled g h w o
+      by None e c = delete_rolls g h w (is_as_prepared p.id w) r c
+      by (Some b) e c = put_rolls g h w b (is_as_prepared p.id w) r (base_key b e) c
         where
           base_key : (b : Record) → w.base ≡ Some b → b.key ≡ w.key
           base_key b e = let is_write = subst (λ o. IfSome o (IsBaseOf w.key)) e (based_at catalog apart start p work i w at).is_write.base in is_write.0
 
   forward_rolls : (g h : Database) (w : Write) (r : Reply) → Called (forward_of p.id p.now w) r g h → Rolled g h w (Some (forward_record (prepared_record w p.id p.now) p.now))
-  forward_rolls g h w r c = put_rolls g h w (forward_record (prepared_record w p.id p.now) p.now) (stands_prepared p.id w) r (forward-key (prepared_record w p.id p.now) p.now ∙ prepared-key w p.id p.now) c
+  forward_rolls g h w r c = put_rolls g h w (forward_record (prepared_record w p.id p.now) p.now) (is_as_prepared p.id w) r (forward-key (prepared_record w p.id p.now) p.now ∙ prepared-key w p.id p.now) c
 
   back_next : (g h : Database) (a : Outcome) (n i : ℕ) (w : Write) (r : Reply) → OthersUnchanged p start g → StageAlone p g (Back a n i) → slice_get p.writes i ≡ Some w → Rolled g h w w.base → CommitAlone catalog start p h (step p (Back a n i) r)
   back_next g h a n i w r others s at rolled = elim rolled.by [
@@ -270,14 +270,14 @@ module _ (catalog : List Table) (apart : IsApart catalog) (start : Database) (so
     abbrev prep : Record
     prep = prepared_record w p.id p.now
 
-    base_firm : is_firm w.base ≡ true
+    base_firm : is_committed_or_none w.base ≡ true
     base_firm = by w.base (based_at catalog apart start p work i w at).is_write.base
       where
-        by : (o : Option Record) → IfSome o (IsBaseOf w.key) → is_firm o ≡ true
+        by : (o : Option Record) → IfSome o (IsBaseOf w.key) → is_committed_or_none o ≡ true
         by None f = refl
         by (Some b) f = f.2
 
-    base_taken : (b : Record) → w.base ≡ Some b → is_taken b ≡ true
+    base_taken : (b : Record) → w.base ≡ Some b → is_transactional b ≡ true
     base_taken b e = let is_write = subst (λ o. IfSome o (IsBaseOf w.key)) e (based_at catalog apart start p work i w at).is_write.base in is_write.1
 
     may : holds (condition_of (version_of w.base)) (g prep.key) ≡ true

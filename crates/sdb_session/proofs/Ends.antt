@@ -15,7 +15,7 @@ use Rattle.sdb_record.specs.declared.coordinator.Decision.TheVariants as decisio
 use Rattle.sdb_record.specs.declared.write.Write.{Write}
 use Rattle.sdb_record.specs.Among.{write_among}
 use Rattle.sdb_record.specs.Coordinator.{coordinator_key_of, decision_in, is_coordinator_table}
-use Rattle.sdb_record.specs.Meta.{is_in, is_taken, moment_in, moment_in_value}
+use Rattle.sdb_record.specs.Meta.{is_in, is_transactional, moment_in, moment_in_value}
 use Rattle.sdb_record.specs.Names.{tx_prepared_at}
 use Rattle.sdb_record.specs.Rolls.{IsBaseOf, IsWrite, base_columns, new_columns, next_version, prepared_record, state_of_change}
 use Rattle.sdb_record.proofs.ImageLaws.{prepared-unresolved, prepared-version, version-writer}
@@ -26,9 +26,9 @@ use Rattle.sdb_schema.specs.declared.table.Table.{Table}
 use Rattle.sdb_model.specs.Exec.{Tables}
 use Rattle.sdb_phases.specs.Work.{Work}
 use Rattle.sdb_snapshot.specs.Rows.{with_own}
-use Rattle.sdb_steps.specs.Fitting.{row_fits}
+use Rattle.sdb_steps.specs.Fitting.{row_is_well_typed}
 use Rattle.sdb_session.specs.Database.{Database, decided_in, is_listed, row_in}
-use Rattle.sdb_session.specs.OnlyResolves.{IsApart, IsHeldFor, SaysAborted, IsSound}
+use Rattle.sdb_session.specs.OnlyResolves.{IsApart, IsPreparedFor, IsAbortedRow, IsSound}
 use Rattle.sdb_session.specs.Recovers.{IsAborted, IsCommittedAt, IsUndecided}
 use Rattle.sdb_session.specs.Commits.{IsDone, IsGivenUp, IsLoose, IsWon, OthersUnchanged, WorkAlone}
 use Rattle.sdb_session.specs.Later.{IsOwn, IsOwnRow, Later}
@@ -61,17 +61,17 @@ module _ (catalog : List Table) (apart : IsApart catalog) (start : Database) (so
   base_of : (w : Write) → IsWrite w → (r : Record) → w.base ≡ Some r → IsBaseOf w.key r
   base_of w f r e = subst (λ o. IfSome o (IsBaseOf w.key)) e f.base
 
-  prepared_taken : (w : Write) → IsWrite w → (r : Record) → Some (prepared_record w p.id p.now) ≡ Some r → is_taken r ≡ true
-  prepared_taken w f r e = subst (λ x. is_taken x ≡ true) (some_is _ r e) (and_first (is_taken (prepared_record w p.id p.now)) _ (prepared-unresolved w p.id p.now f work.fits work.time))
+  prepared_taken : (w : Write) → IsWrite w → (r : Record) → Some (prepared_record w p.id p.now) ≡ Some r → is_transactional r ≡ true
+  prepared_taken w f r e = subst (λ x. is_transactional x ≡ true) (some_is _ r e) (and_first (is_transactional (prepared_record w p.id p.now)) _ (prepared-unresolved w p.id p.now f work.fits work.time))
 
   -- each write leaves a record that passes the checks
-  loose_taken : (w : Write) → IsWrite w → (o : Option Record) → IsLoose p w o → (r : Record) → o ≡ Some r → is_taken r ≡ true
+  loose_taken : (w : Write) → IsWrite w → (o : Option Record) → IsLoose p w o → (r : Record) → o ≡ Some r → is_transactional r ≡ true
   loose_taken w f o (inl e) r g = (base_of w f r (sym e ∙ g)).1
   loose_taken w f o (inr e) r g = prepared_taken w f r (sym e ∙ g)
 
-  won_taken : (w : Write) → IsWrite w → (o : Option Record) → IsWon p w o → (r : Record) → o ≡ Some r → is_taken r ≡ true
+  won_taken : (w : Write) → IsWrite w → (o : Option Record) → IsWon p w o → (r : Record) → o ≡ Some r → is_transactional r ≡ true
   won_taken w f o (inl e) r g = prepared_taken w f r (sym e ∙ g)
-  won_taken w f o (inr e) r g = subst (λ x. is_taken x ≡ true) (some_is _ r (sym e ∙ g)) (forward-taken (prepared_record w p.id p.now) p.now (prepared-unresolved w p.id p.now f work.fits work.time) work.time)
+  won_taken w f o (inr e) r g = subst (λ x. is_transactional x ≡ true) (some_is _ r (sym e ∙ g)) (forward-taken (prepared_record w p.id p.now) p.now (prepared-unresolved w p.id p.now f work.fits work.time) work.time)
 
   -- an unresolved one that it leaves is its own
   own_prepared : (w : Write) (r : Record) → Some (prepared_record w p.id p.now) ≡ Some r → IsOwn (Some (record { id = p.id; at = p.now })) r
@@ -97,7 +97,7 @@ module _ (catalog : List Table) (apart : IsApart catalog) (start : Database) (so
     | inr n ↦ others k (row_unwritten catalog apart start sound p work h others k there) n.0 ∙ e
   ]
 
-  row_new : (k : Key) (x : Record) → is_coordinator_table k.table ≡ true → start k ≡ None → h k ≡ Some x → (SaysAborted x × IsHeldFor catalog start k) ⊎ IsOwnRow (Some (record { id = p.id; at = p.now })) k
+  row_new : (k : Key) (x : Record) → is_coordinator_table k.table ≡ true → start k ≡ None → h k ≡ Some x → (IsAbortedRow x × IsPreparedFor catalog start k) ⊎ IsOwnRow (Some (record { id = p.id; at = p.now })) k
   row_new k x there e f = elim (same_key_tells k row) [
     | inl s ↦ inr (record { o = record { id = p.id; at = p.now }; is = refl; key = s.1 })
     | inr n ↦ none_some x (sym (others k (row_unwritten catalog apart start sound p work h others k there) n.0 ∙ e) ∙ f)
@@ -132,7 +132,7 @@ module _ (catalog : List Table) (apart : IsApart catalog) (start : Database) (so
   given_up_later up = record {
     sound = record {
       own = own;
-      taken = λ k r listed e. at_key (λ x. is_taken x ≡ true) k listed r e (λ f. sound.taken k r listed f) (λ j w at s f. loose_taken w (is_write j w at) (h w.key) (up.1 j w at) r f);
+      taken = λ k r listed e. at_key (λ x. is_transactional x ≡ true) k listed r e (λ f. sound.taken k r listed f) (λ j w at s f. loose_taken w (is_write j w at) (h w.key) (up.1 j w at) r f);
       rows = rows_ok (known up.0);
       fits = λ k columns listed e. sound.fits k columns listed (sym (given_up_rows catalog apart start sound p work h others up k listed) ∙ e);
     };
@@ -146,11 +146,11 @@ module _ (catalog : List Table) (apart : IsApart catalog) (start : Database) (so
       known (inr a) = inr (aborted_known a)
 
   -- Done: all stays sound, where the tables with its writes fit.
-  pub done_later : IsDone p h → (d : Tables) → AreImagesOf catalog start d → ((k : Key) (columns : List Pair) → get (with_own d p.writes) k ≡ Some columns → row_fits catalog k columns ≡ true) → Later catalog (Some (record { id = p.id; at = p.now })) start h
+  pub done_later : IsDone p h → (d : Tables) → AreImagesOf catalog start d → ((k : Key) (columns : List Pair) → get (with_own d p.writes) k ≡ Some columns → row_is_well_typed catalog k columns ≡ true) → Later catalog (Some (record { id = p.id; at = p.now })) start h
   done_later done d are_images fit = record {
     sound = record {
       own = own;
-      taken = λ k r listed e. at_key (λ x. is_taken x ≡ true) k listed r e (λ f. sound.taken k r listed f) (λ j w at s f. won_taken w (is_write j w at) (h w.key) (done.1 j w at) r f);
+      taken = λ k r listed e. at_key (λ x. is_transactional x ≡ true) k listed r e (λ f. sound.taken k r listed f) (λ j w at s f. won_taken w (is_write j w at) (h w.key) (done.1 j w at) r f);
       rows = rows_ok (inr (committed_known done.0));
       fits = λ k columns listed e. fit k columns (done_images catalog apart start sound p work h others d are_images done k ∙ ap (λ b. if b then row_in h k else None) listed ∙ e);
     };

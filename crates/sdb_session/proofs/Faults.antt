@@ -47,7 +47,7 @@ use Rattle.sdb_phases.specs.declared.step.RecoverStep.{RecoverStep}
 use Rattle.sdb_phases.specs.declared.step.RecoverStep.TheVariants as steps
 use Rattle.sdb_phases.specs.Work.{Work, prepares}
 use Rattle.sdb_phases.specs.Checks.{checks, difference_in}
-use Rattle.sdb_phases.specs.Steps.{judged, prepare_step, told, touched_after, validate_step}
+use Rattle.sdb_phases.specs.Steps.{judged, prepare_step, step_of_row, touched_after, validate_step}
 use Rattle.sdb_phases.specs.Commit.{Back, Checking, Deciding, Forward, Over, Preparing, Stage, Stopping, after_abort, after_check, after_decide, after_prepare, back, checking, forward, preparing, step as commit_step}
 use Rattle.sdb_phases.specs.Recover.{recover_next, roll_to, undecided}
 use Rattle.sdb_validate.specs.Inside.{Judges}
@@ -58,19 +58,19 @@ use Rattle.sdb_txn.specs.declared.progress.Progress.{Progress}
 use Rattle.sdb_txn.specs.declared.progress.Progress.TheVariants as progress
 use Rattle.sdb_txn.specs.declared.txn.Doing.{Doing}
 use Rattle.sdb_txn.specs.declared.txn.Doing.TheVariants as doing
-use Rattle.sdb_txn.specs.Txn.{CommitTold, IsCommitting, TxnAt, committing, progress_of, reading, work_of as txn_work}
+use Rattle.sdb_txn.specs.Txn.{CommitPost, IsCommitting, TxnAt, committing, progress_of, reading, work_of as txn_work}
 use Rattle.sdb_vacuum.specs.declared.work.VacuumStep.{VacuumStep}
 use Rattle.sdb_vacuum.specs.declared.work.VacuumStep.TheVariants as sweep
-use Rattle.sdb_vacuum.specs.Vacuum.{First, Gives, Malformed, Nothing, Tombstone, Unresolved, VacuumAt, VacuumStage, Scanning, Removing, Over as SweptOver, Resolving as SweepResolving, answered as sweep_answered, first_of, going, removal_answered, resolved as sweep_resolved, tombstone_or, vacuum_step}
+use Rattle.sdb_vacuum.specs.Vacuum.{First, Gives, Malformed, Nothing, Tombstone, Unresolved, VacuumAt, VacuumStage, Scanning, Removing, Over as SweptOver, Resolving as SweepResolving, answered as sweep_answered, first_of, next_of_row, removal_answered, resolved as sweep_resolved, tombstone_or, vacuum_step}
 use Rattle.sdb_client.specs.declared.next.Next.{Next}
 use Rattle.sdb_client.specs.declared.next.Next.TheVariants as next
-use Rattle.sdb_client.specs.Client.{AskTold, BeginTold, CallTold, ClientAt, CommitNext, CommitTaken, GateTold, ImagesTold, IsIdle, IsTold, NextTold, OpenTold, ReplyTold, RollbackTold, RowsTold, SaidTold, StageTold, StatementTold, SweepTold, Taking, VacuumTold, after, answer_in, answer_of, given_answer, gives, is_covered, next_of, noting, plan_of, too_many, vacuum_left}
+use Rattle.sdb_client.specs.Client.{AskPost, BeginPost, CallPost, ClientAt, CommitNext, CommitStartPost, GatePost, RowsReadPost, IsIdle, IsAnsweredAtOnce, NextPost, OpenTxnPost, ReplyPost, RollbackPost, RowsPost, ParsedPost, StagePost, StatementPost, VacuumPost, Taking, VacuumStartPost, after, answer_in, answer_of, given_answer, gives, is_covered, next_of, with_rows_read, plan_of, too_many, vacuum_left}
 use Rattle.sdb_steps.proofs.Fitted.{by_next}
 use Rattle.sdb_steps.proofs.Whole.{by_memory}
 use Rattle.sdb_types.proofs.Basics.{by_test}
 use Rattle.sdb_session.specs.Session.{is_of_fault}
-use Rattle.sdb_session.specs.Working.{Commits, IsAtWork, Reads, RepliedBy, Sweeps, TakenBy}
-use Rattle.sdb_session.specs.Faults.{ComesOfFault, CommitsAfterFault, DoesAfterFault, IsAfterFault, IsOutcomeOfFault, ReadsAfterFault, RecoversAfterFault, SweepsAfterFault, WorksAfterFault}
+use Rattle.sdb_session.specs.Working.{Commits, IsAtWork, Reads, RepliedBy, InVacuum, ExecutedBy}
+use Rattle.sdb_session.specs.Faults.{IsOfFault, CommitsAfterFault, DoesAfterFault, IsAfterFault, IsOutcomeOfFault, ReadsAfterFault, RecoversAfterFault, VacuumsAfterFault, WorksAfterFault}
 
 ---- recoveries
 
@@ -217,7 +217,7 @@ validates_fault more (Some c) (reply.Found found) e = absurd (judges_fault more 
 validates_fault more (Some c) (reply.Rows rows) e = absurd (judges_fault more (difference_in c (reply.Rows rows)) e)
 
 -- a row that a put has met
-commit_followed : (p : Work) (d : DecidePhase) (x : Result Decided (List ℕ)) → CommitsAfterFault (after_decide p d (told p.id (decide.Expired p.id) x)) → ⊥
+commit_followed : (p : Work) (d : DecidePhase) (x : Result Decided (List ℕ)) → CommitsAfterFault (after_decide p d (step_of_row p.id (decide.Expired p.id) x)) → ⊥
 commit_followed p d (Err column) h = h
 commit_followed p d (Ok x) h = by x.decision h
   where
@@ -289,11 +289,11 @@ over_of_fault (Back a n i) h = absurd h
 
 -- it ends as faulted, or goes on after a fault
 abbrev SweepOfFault : VacuumAt × VacuumStep → Type 0
-SweepOfFault (v, sweep.More) = SweepsAfterFault v.stage
-SweepOfFault (v, sweep.Faulted) = Unit {0}
+SweepOfFault (v, vacuuming.More) = VacuumsAfterFault v.stage
+SweepOfFault (v, vacuuming.Faulted) = Unit {0}
 SweepOfFault (v, s) = ⊥
 
-goes : (ss : List Span) (n : ℕ) (f : First) → SweepOfFault (going ss n f) → ⊥
+goes : (ss : List Span) (n : ℕ) (f : First) → SweepOfFault (next_of_row ss n f) → ⊥
 goes [] n Nothing h = h
 goes (s ∷ ss) n Nothing h = h
 goes ss n (Tombstone b left) h = h
@@ -314,7 +314,7 @@ removes ss n left r h = absurd h
 sweep_image : (ss : List Span) (n : ℕ) (left : List Record) (b : Record) → SweepOfFault (tombstone_or ss n left b) → ⊥
 sweep_image ss n left b h = by (is_tombstone b) h
   where
-    by : (x : Bool) → SweepOfFault (if◌then◌else◌ {A = VacuumAt × VacuumStep} x (record { stage = Removing b left; spans = ss; removed = n }, sweep.More) (going ss n (first_of left))) → ⊥
+    by : (x : Bool) → SweepOfFault (if◌then◌else◌ {A = VacuumAt × VacuumStep} x (record { stage = Removing b left; spans = ss; removed = n }, vacuuming.More) (next_of_row ss n (first_of left))) → ⊥
     by true h = h
     by false h = goes ss n (first_of left) h
 
@@ -327,10 +327,10 @@ sweep_resolves ss n rec meta left (p, steps.Faulted) h = tt
 sweep_resolves ss n rec meta left (p, steps.BadRecord key) h = h
 sweep_resolves ss n rec meta left (p, steps.NoMemory) h = h
 
-sweep_of_fault : (v : VacuumAt) (now : ℤ) (r : Reply) → SweepOfFault (vacuum_step v now r) → SweepsAfterFault v.stage ⊎ (r ≡ reply.Fault)
+sweep_of_fault : (v : VacuumAt) (now : ℤ) (r : Reply) → SweepOfFault (vacuum_step v now r) → VacuumsAfterFault v.stage ⊎ (r ≡ reply.Fault)
 sweep_of_fault v now r h = by v.stage h
   where
-    by : (s : VacuumStage) → SweepOfFault (vacuum_step (record v { stage = s }) now r) → SweepsAfterFault s ⊎ (r ≡ reply.Fault)
+    by : (s : VacuumStage) → SweepOfFault (vacuum_step (record v { stage = s }) now r) → VacuumsAfterFault s ⊎ (r ≡ reply.Fault)
     by (Scanning span) h = inr (sweep_answers v.spans v.removed r h)
     by (SweepResolving rec meta p left) h = recovers rec meta p now r (sweep_resolves v.spans v.removed rec meta left (recover_next rec meta p now r) h)
     by (Removing b left) h = inr (removes v.spans v.removed left r h)
@@ -380,7 +380,7 @@ clean z f t = clash (sym t ∙ f)
 module _ (c : ClientAt) (free : c.vacuum ≡ None) where
   -- where a reply leads a transaction
   abbrev Left : Next → TxnAt → Type 0
-  Left n u = ComesOfFault (answer_in n) (after c n u)
+  Left n u = IsOfFault (answer_in n) (after c n u)
 
   waits : (u : TxnAt) → Left next.Call u → DoesAfterFault u.doing
   waits u h = subst (λ (o : Option VacuumAt). WorksAfterFault o (Some u)) free h
@@ -390,137 +390,137 @@ module _ (c : ClientAt) (free : c.vacuum ≡ None) where
     as_next : (n m : Next) (u v : TxnAt) → n ≡ m → u ≡ v → Left n u → Left m v
     as_next n m u v e k h = subst (λ (y : TxnAt). Left m y) k (subst (λ (y : Next). Left y u) e h)
 
-    images_left : (images : List Record) (n : Next) (u : TxnAt) → ImagesTold t p a images n u → Left n u → ⊥
-    images_left images (next.Answer z) u told h = clean z (ap is_of_fault told.1 ∙ given_clean p _ (noting t a images) (ap (λ y. is_some (table_of y)) of ∙ on)) h
-    images_left images (next.End (answer.Conflict key found)) u told h = cc
-    images_left images next.Call u told h = told
-    images_left images (next.End z) u told h = told
+    images_left : (images : List Record) (n : Next) (u : TxnAt) → RowsReadPost t p a images n u → Left n u → ⊥
+    images_left images (next.Answer z) u step_of_row h = clean z (ap is_of_fault step_of_row.1 ∙ given_clean p _ (with_rows_read t a images) (ap (λ y. is_some (table_of y)) of ∙ on)) h
+    images_left images (next.End (answer.Conflict key found)) u step_of_row h = cc
+    images_left images next.Call u step_of_row h = step_of_row
+    images_left images (next.End z) u step_of_row h = step_of_row
 
     going_left : (s : ReadStage) (n : Next) (u : TxnAt) → (n ≡ next.Call) × (u ≡ record t { doing = doing.Read a (record x { stage = s }) }) → Left n u → ReadsAfterFault s
-    going_left s n u told h = waits (record t { doing = doing.Read a (record x { stage = s }) }) (as_next n next.Call u _ told.0 told.1 h)
+    going_left s n u step_of_row h = waits (record t { doing = doing.Read a (record x { stage = s }) }) (as_next n next.Call u _ step_of_row.0 step_of_row.1 h)
 
-    stage_left : (s : ReadStage) (n : Next) (u : TxnAt) → StageTold t p a x s (read_result s) n u → Left n u → ReadsAfterFault s
-    stage_left Asking n u told h = going_left Asking n u told h
-    stage_left (Resolving images rec meta q left) n u told h = going_left (Resolving images rec meta q left) n u told h
-    stage_left (Ended step.More) n u told h = going_left (Ended step.More) n u told h
-    stage_left (Ended (step.Images images)) n u told h = images_left images n u told h
-    stage_left (Ended (step.Busy key id at)) n u told h = clean (answer.Busy key id at) refl (as_next n _ u _ told.0 told.1 h)
-    stage_left (Ended step.Faulted) n u told h = tt
-    stage_left (Ended (step.BadRecord key)) n u told h = clean (answer.BadRecord key) refl (as_next n _ u _ told.0 told.1 h)
-    stage_left (Ended step.NoMemory) n u told h = told
+    stage_left : (s : ReadStage) (n : Next) (u : TxnAt) → StagePost t p a x s (read_result s) n u → Left n u → ReadsAfterFault s
+    stage_left Asking n u step_of_row h = going_left Asking n u step_of_row h
+    stage_left (Resolving images rec meta q left) n u step_of_row h = going_left (Resolving images rec meta q left) n u step_of_row h
+    stage_left (Ended step.More) n u step_of_row h = going_left (Ended step.More) n u step_of_row h
+    stage_left (Ended (step.Images images)) n u step_of_row h = images_left images n u step_of_row h
+    stage_left (Ended (step.Busy key id at)) n u step_of_row h = clean (answer.Busy key id at) refl (as_next n _ u _ step_of_row.0 step_of_row.1 h)
+    stage_left (Ended step.Faulted) n u step_of_row h = tt
+    stage_left (Ended (step.BadRecord key)) n u step_of_row h = clean (answer.BadRecord key) refl (as_next n _ u _ step_of_row.0 step_of_row.1 h)
+    stage_left (Ended step.NoMemory) n u step_of_row h = step_of_row
 
-    call_left : (r : Reply) (now : ℤ) (n : Next) (u : TxnAt) → CallTold t p a x r now n u → Left n u → ReadsAfterFault x.stage ⊎ (r ≡ reply.Fault)
-    call_left r now n u told h =
+    call_left : (r : Reply) (now : ℤ) (n : Next) (u : TxnAt) → CallPost t p a x r now n u → Left n u → ReadsAfterFault x.stage ⊎ (r ≡ reply.Fault)
+    call_left r now n u step_of_row h =
         by_next n
         (λ e. clean answer.NoMemory refl (as_next n (next.Answer answer.NoMemory) u u e refl h))
-        (λ e. read_of_fault x.stage now r (stage_left (read_step x.stage now r) n u (told.told e) h))
+        (λ e. read_of_fault x.stage now r (stage_left (read_step x.stage now r) n u (step_of_row.told e) h))
 
   -- a COMMIT
   module _ (t : TxnAt) (k : CommitAt) (r : Reply) where
     committing_left : (d : Doing) → IsCommitting d (λ m. (m.work ≡ k.work) × IsNext k.work k.stage r m.stage) → DoesAfterFault d → CommitsAfterFault k.stage ⊎ (r ≡ reply.Fault)
-    committing_left (doing.Commit m) told h = next_of_fault k.work k.stage r m.stage told.1 h
-    committing_left doing.Idle told h = absurd told
-    committing_left (doing.Read a x) told h = absurd told
-    committing_left doing.Over told h = absurd told
+    committing_left (doing.Commit m) step_of_row h = next_of_fault k.work k.stage r m.stage step_of_row.1 h
+    committing_left doing.Idle step_of_row h = absurd step_of_row
+    committing_left (doing.Read a x) step_of_row h = absurd step_of_row
+    committing_left doing.Over step_of_row h = absurd step_of_row
 
     ended_left : (g : Progress) → g ≡ progress_of (ended_at (commit_step k.work k.stage r)) → IsProgressOfFault g → CommitsAfterFault k.stage ⊎ (r ≡ reply.Fault)
     ended_left g e h = commit_of_fault k.work k.stage r (over_of_fault (commit_step k.work k.stage r) (subst IsProgressOfFault e h))
 
-    progress_left : (g : Progress) (u : TxnAt) → CommitTold t k r g u → Left (next_of g) u → CommitsAfterFault k.stage ⊎ (r ≡ reply.Fault)
-    progress_left progress.More u told h = committing_left u.doing (told.next refl) (waits u h)
-    progress_left progress.Faulted u told h = ended_left progress.Faulted told.answer tt
-    progress_left (progress.Unknown id) u told h = ended_left (progress.Unknown id) told.answer tt
-    progress_left (progress.Rows rows) u told h = cc
-    progress_left (progress.Busy key id at) u told h = cc
-    progress_left (progress.BadRecord key) u told h = cc
-    progress_left progress.NoMemory u told h = cc
-    progress_left (progress.Conflict key found) u told h = cc
-    progress_left progress.Committed u told h = cc
-    progress_left (progress.Expired id) u told h = cc
+    progress_left : (g : Progress) (u : TxnAt) → CommitPost t k r g u → Left (next_of g) u → CommitsAfterFault k.stage ⊎ (r ≡ reply.Fault)
+    progress_left progress.More u step_of_row h = committing_left u.doing (step_of_row.next refl) (waits u h)
+    progress_left progress.Faulted u step_of_row h = ended_left progress.Faulted step_of_row.answer tt
+    progress_left (progress.Unknown id) u step_of_row h = ended_left (progress.Unknown id) step_of_row.answer tt
+    progress_left (progress.Rows rows) u step_of_row h = cc
+    progress_left (progress.Busy key id at) u step_of_row h = cc
+    progress_left (progress.BadRecord key) u step_of_row h = cc
+    progress_left progress.NoMemory u step_of_row h = cc
+    progress_left (progress.Conflict key found) u step_of_row h = cc
+    progress_left progress.Committed u step_of_row h = cc
+    progress_left (progress.Expired id) u step_of_row h = cc
 
     commit_left : (n : Next) (u : TxnAt) → CommitNext t k r n u → Left n u → CommitsAfterFault k.stage ⊎ (r ≡ reply.Fault)
-    commit_left n u told h = progress_left told.progress u told.told (subst (λ (y : Next). Left y u) told.next h)
+    commit_left n u step_of_row h = progress_left step_of_row.progress u step_of_row.told (subst (λ (y : Next). Left y u) step_of_row.next h)
 
 -- a VACUUM
-swept_left : (c : ClientAt) (v w : VacuumAt) (s : VacuumStep) (now : ℤ) (r : Reply) → Gives (vacuum_step v now r) w s → ComesOfFault (answer_of s) (record c { vacuum = vacuum_left s w }) → SweepsAfterFault v.stage ⊎ (r ≡ reply.Fault)
-swept_left c v w sweep.More now r told h = sweep_of_fault v now r (as_more (vacuum_step v now r) told)
+swept_left : (c : ClientAt) (v w : VacuumAt) (s : VacuumStep) (now : ℤ) (r : Reply) → Gives (vacuum_step v now r) w s → IsOfFault (answer_of s) (record c { vacuum = vacuum_left s w }) → VacuumsAfterFault v.stage ⊎ (r ≡ reply.Fault)
+swept_left c v w vacuuming.More now r step_of_row h = sweep_of_fault v now r (as_more (vacuum_step v now r) step_of_row)
   where
-    as_more : (x : VacuumAt × VacuumStep) → (w ≡ x.0) × (sweep.More ≡ x.1) → SweepOfFault x
-    as_more (y, z) k = subst (λ (s : VacuumStep). SweepOfFault (y, s)) k.1 (subst (λ (v : VacuumAt). SweepsAfterFault v.stage) k.0 h)
-swept_left c v w sweep.Faulted now r told h = sweep_of_fault v now r (as_faulted (vacuum_step v now r) told)
+    as_more : (x : VacuumAt × VacuumStep) → (w ≡ x.0) × (vacuuming.More ≡ x.1) → SweepOfFault x
+    as_more (y, z) k = subst (λ (s : VacuumStep). SweepOfFault (y, s)) k.1 (subst (λ (v : VacuumAt). VacuumsAfterFault v.stage) k.0 h)
+swept_left c v w vacuuming.Faulted now r step_of_row h = sweep_of_fault v now r (as_faulted (vacuum_step v now r) step_of_row)
   where
-    as_faulted : (x : VacuumAt × VacuumStep) → (w ≡ x.0) × (sweep.Faulted ≡ x.1) → SweepOfFault x
+    as_faulted : (x : VacuumAt × VacuumStep) → (w ≡ x.0) × (vacuuming.Faulted ≡ x.1) → SweepOfFault x
     as_faulted (y, z) k = subst (λ (s : VacuumStep). SweepOfFault (y, s)) k.1 tt
-swept_left c v w (sweep.Count n) now r told h = cc
-swept_left c v w (sweep.BadRecord key) now r told h = cc
-swept_left c v w sweep.NoMemory now r told h = cc
+swept_left c v w (vacuuming.Count n) now r step_of_row h = cc
+swept_left c v w (vacuuming.BadRecord key) now r step_of_row h = cc
+swept_left c v w vacuuming.NoMemory now r step_of_row h = cc
 
-come_as : (result r : Option Answer) (d u : ClientAt) → result ≡ r → d ≡ u → ComesOfFault result d → ComesOfFault r u
-come_as result r d u e k h = subst (λ (x : Option Answer). ComesOfFault x u) e (subst (λ (x : ClientAt). ComesOfFault result x) k h)
+come_as : (result r : Option Answer) (d u : ClientAt) → result ≡ r → d ≡ u → IsOfFault result d → IsOfFault r u
+come_as result r d u e k h = subst (λ (x : Option Answer). IsOfFault x u) e (subst (λ (x : ClientAt). IsOfFault result x) k h)
 
-replied : (st : Statement) (opened : Bool) (c : ClientAt) → IsAtWork st opened c → (r : Reply) (now : ℤ) (result : Option Answer) (d : ClientAt) → ReplyTold c c.vacuum r now result d → ComesOfFault result d → IsAfterFault c ⊎ (r ≡ reply.Fault)
+replied : (st : Statement) (opened : Bool) (c : ClientAt) → IsAtWork st opened c → (r : Reply) (now : ℤ) (result : Option Answer) (d : ClientAt) → ReplyPost c c.vacuum r now result d → IsOfFault result d → IsAfterFault c ⊎ (r ≡ reply.Fault)
 replied st opened c (Reads t p a x free txn plan does of table inside) r now result d h come =
-    let open_case : OpenTold c (Some t) r now result d = subst (λ (o : Option TxnAt). OpenTold c o r now result d) txn (subst (λ (o : Option VacuumAt). ReplyTold c o r now result d) free h) in
-    let told : CallTold t p a x r now open_case.next open_case.left = subst (λ (o : Option Planned). NextTold t (doing.Read a x) o r now open_case.next open_case.left) plan (subst (λ (o : Doing). NextTold t o c.plan r now open_case.next open_case.left) does open_case.told) in
-    back (call_left c free st table t p a x of r now open_case.next open_case.left told (come_as result (answer_in open_case.next) d (after c open_case.next open_case.left) open_case.answer open_case.client come))
+    let open_case : OpenTxnPost c (Some t) r now result d = subst (λ (o : Option TxnAt). OpenTxnPost c o r now result d) txn (subst (λ (o : Option VacuumAt). ReplyPost c o r now result d) free h) in
+    let step_of_row : CallPost t p a x r now open_case.next open_case.left = subst (λ (o : Option Planned). NextPost t (doing.Read a x) o r now open_case.next open_case.left) plan (subst (λ (o : Doing). NextPost t o c.plan r now open_case.next open_case.left) does open_case.told) in
+    back (call_left c free st table t p a x of r now open_case.next open_case.left step_of_row (come_as result (answer_in open_case.next) d (after c open_case.next open_case.left) open_case.answer open_case.client come))
   where
     back : ReadsAfterFault x.stage ⊎ (r ≡ reply.Fault) → IsAfterFault c ⊎ (r ≡ reply.Fault)
     back (inr f) = inr f
     back (inl k) = inl (subst (λ (o : Option VacuumAt). WorksAfterFault o c.txn) (sym free) (subst (λ (o : Option TxnAt). WorksAfterFault None o) (sym txn) (subst DoesAfterFault (sym does) k)))
 replied st opened c (Commits t k free txn plan does commit inside) r now result d h come =
-    let open_case : OpenTold c (Some t) r now result d = subst (λ (o : Option TxnAt). OpenTold c o r now result d) txn (subst (λ (o : Option VacuumAt). ReplyTold c o r now result d) free h) in
-    let told : CommitNext t k r open_case.next open_case.left = subst (λ (o : Option Planned). NextTold t (doing.Commit k) o r now open_case.next open_case.left) plan (subst (λ (o : Doing). NextTold t o c.plan r now open_case.next open_case.left) does open_case.told) in
-    back (commit_left c free t k r open_case.next open_case.left told (come_as result (answer_in open_case.next) d (after c open_case.next open_case.left) open_case.answer open_case.client come))
+    let open_case : OpenTxnPost c (Some t) r now result d = subst (λ (o : Option TxnAt). OpenTxnPost c o r now result d) txn (subst (λ (o : Option VacuumAt). ReplyPost c o r now result d) free h) in
+    let step_of_row : CommitNext t k r open_case.next open_case.left = subst (λ (o : Option Planned). NextPost t (doing.Commit k) o r now open_case.next open_case.left) plan (subst (λ (o : Doing). NextPost t o c.plan r now open_case.next open_case.left) does open_case.told) in
+    back (commit_left c free t k r open_case.next open_case.left step_of_row (come_as result (answer_in open_case.next) d (after c open_case.next open_case.left) open_case.answer open_case.client come))
   where
     back : CommitsAfterFault k.stage ⊎ (r ≡ reply.Fault) → IsAfterFault c ⊎ (r ≡ reply.Fault)
     back (inr f) = inr f
     back (inl m) = inl (subst (λ (o : Option VacuumAt). WorksAfterFault o c.txn) (sym free) (subst (λ (o : Option TxnAt). WorksAfterFault None o) (sym txn) (subst DoesAfterFault (sym does) m)))
-replied st opened c (Sweeps v runs txn vacuum outside) r now result d h come =
-    let sweep_case : SweepTold v r now result d.vacuum × (d ≡ record c { vacuum = d.vacuum }) = subst (λ (o : Option VacuumAt). ReplyTold c o r now result d) runs h in
+replied st opened c (InVacuum v runs txn vacuum outside) r now result d h come =
+    let sweep_case : VacuumPost v r now result d.vacuum × (d ≡ record c { vacuum = d.vacuum }) = subst (λ (o : Option VacuumAt). ReplyPost c o r now result d) runs h in
     back (swept_left c v sweep_case.0.left sweep_case.0.step now r sweep_case.0.told (come_as result (answer_of sweep_case.0.step) d (record c { vacuum = vacuum_left sweep_case.0.step sweep_case.0.left }) sweep_case.0.answer (sweep_case.1 ∙ ap (λ (o : Option VacuumAt). record c { vacuum = o }) sweep_case.0.goes) come))
   where
-    back : SweepsAfterFault v.stage ⊎ (r ≡ reply.Fault) → IsAfterFault c ⊎ (r ≡ reply.Fault)
+    back : VacuumsAfterFault v.stage ⊎ (r ≡ reply.Fault) → IsAfterFault c ⊎ (r ≡ reply.Fault)
     back (inr f) = inr f
     back (inl k) = inl (subst (λ (o : Option VacuumAt). WorksAfterFault o c.txn) (sym runs) k)
 
-pub faults_replied : (r : RepliedBy) → ComesOfFault r.result r.after → IsAfterFault r.before ⊎ (r.reply ≡ reply.Fault)
+pub faults_replied : (r : RepliedBy) → IsOfFault r.result r.after → IsAfterFault r.before ⊎ (r.reply ≡ reply.Fault)
 faults_replied r come = replied r.statement r.opened r.before r.works r.reply r.now r.result r.after r.took come
 
 ---- a taking
 
-module _ (q : Taking) (c : ClientAt) (idle : IsIdle c) (result : Option Answer) (d : ClientAt) (come : ComesOfFault result d) where
+module _ (q : Taking) (c : ClientAt) (idle : IsIdle c) (result : Option Answer) (d : ClientAt) (come : IsOfFault result d) where
   at_once : (z : Answer) → is_of_fault z ≡ false → result ≡ Some z → ⊥
   at_once z f e = clean z f (come_as result (Some z) d d e refl come)
 
-  turned : (z : Answer) → is_of_fault z ≡ false → IsTold c z result d → ⊥
+  turned : (z : Answer) → is_of_fault z ≡ false → IsAnsweredAtOnce c z result d → ⊥
   turned z f h = at_once z f h.answer
 
-  begin_taken : (x : Option TxnAt) → BeginTold q.gate q.fresh c x result d → ⊥
+  begin_taken : (x : Option TxnAt) → BeginPost q.gate q.fresh c x result d → ⊥
   begin_taken (Some t) h = turned (refused 4) refl h
   begin_taken None h = by q.gate.vacuum_runs h
     where
-      by : (b : Bool) → GateTold b q.fresh c result d → ⊥
+      by : (b : Bool) → GatePost b q.fresh c result d → ⊥
       by true h = turned answer.Vacuuming refl h
       by false h = at_once answer.Done refl h.0
 
-  commit_taken : (x : Option TxnAt) → CommitTaken q.now c x result d → ⊥
+  commit_taken : (x : Option TxnAt) → CommitStartPost q.now c x result d → ⊥
   commit_taken None h = turned (refused 5) refl h
   commit_taken (Some t) h = commit_preparing (txn_work t q.now) 0 (waits c idle.free (committing t q.now) (come_as result None d _ h.0 h.1 come))
 
-  rollback_taken : (x : Option TxnAt) → RollbackTold c x result d → ⊥
+  rollback_taken : (x : Option TxnAt) → RollbackPost c x result d → ⊥
   rollback_taken None h = turned (refused 5) refl h
   rollback_taken (Some t) h = at_once answer.Done refl h.0
 
-  vacuum_taken : (b : Bool) (ts : List Table) → VacuumTold b ts c result d → ⊥
+  vacuum_taken : (b : Bool) (ts : List Table) → VacuumStartPost b ts c result d → ⊥
   vacuum_taken true ts h = turned answer.OpenTransactions refl h
   vacuum_taken false [] h = turned (answer.Count 0) refl h
   vacuum_taken false (t ∷ ts) h = come_as result None d _ h.0 h.1 come
 
-  asked : (st : Statement) → is_some (table_of st) ≡ true → (x : Option TxnAt) → AskTold q.catalog st c x result d → ⊥
+  asked : (st : Statement) → is_some (table_of st) ≡ true → (x : Option TxnAt) → AskPost q.catalog st c x result d → ⊥
   asked st on None h = turned (refused 5) refl h
   asked st on (Some t) h = by_refusal (refusal_of q.catalog st) refl
     where
-      rows_taken : (table : Table) → RowsTold (plan_of table st) (access_of table st) c t result d → ⊥
+      rows_taken : (table : Table) → RowsPost (plan_of table st) (access_of table st) c t result d → ⊥
       rows_taken table r = by_test (is_covered t.seen (access_of table st))
           (λ k. at_once (given_answer t (gives (plan_of table st) (access_of table st) t)) (given_clean (plan_of table st) _ t on) (r.known k).0)
           (λ k. waits c idle.free (reading t (access_of table st)) (come_as result None d _ (r.unknown k).0 (r.unknown k).1 come))
@@ -533,7 +533,7 @@ module _ (q : Taking) (c : ClientAt) (idle : IsIdle c) (result : Option Answer) 
       by_refusal (Some r) k = turned (answer.Refused r) refl (h.refused r k)
       by_refusal None k = by_table (named_table q.catalog st) k refl
 
-  statement_taken : (st : Statement) → StatementTold q st c result d → ⊥
+  statement_taken : (st : Statement) → StatementPost q st c result d → ⊥
   statement_taken statement.Begin h = begin_taken c.txn h
   statement_taken statement.Commit h = commit_taken c.txn h
   statement_taken statement.Rollback h = rollback_taken c.txn h
@@ -544,11 +544,11 @@ module _ (q : Taking) (c : ClientAt) (idle : IsIdle c) (result : Option Answer) 
   statement_taken (statement.Delete s) h = asked (statement.Delete s) refl c.txn h
   statement_taken (statement.Select s) h = asked (statement.Select s) refl c.txn h
 
-  text_taken : (says : Result Statement Refusal) → SaidTold q says c result d → ⊥
+  text_taken : (says : Result Statement Refusal) → ParsedPost q says c result d → ⊥
   text_taken (Ok st) h = statement_taken st h
   text_taken (Err r) h = turned (answer.Refused r) refl h
 
-pub faults_taken : (t : TakenBy) → ComesOfFault t.result t.after → ⊥
+pub faults_taken : (t : ExecutedBy) → IsOfFault t.result t.after → ⊥
 faults_taken t come =
     by_memory t.result
     (λ e. at_once t.taking t.before t.idle t.result t.after come answer.NoMemory refl e)

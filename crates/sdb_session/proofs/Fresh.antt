@@ -1,7 +1,7 @@
 -- Where the ids at hand differ, each transaction has an id of its own.
 use Rattle.sdb_session.specs.Chain.{Chain, Exchanged, IsReached, open_of}
 use Rattle.sdb_session.specs.Seen.{AreImagesOf}
-use Rattle.sdb_steps.specs.Fitting.{tables_fit}
+use Rattle.sdb_steps.specs.Fitting.{tables_are_well_typed}
 use Rattle.sdb_client.specs.Client.{ClientAt}
 use Rattle.sdb_types.specs.declared.record.Record.{Record}
 use Rattle.sdb_types.specs.declared.key.Key.{Key}
@@ -76,7 +76,7 @@ module _ (catalog : List Table) (apart : IsApart catalog) (start : Database) (be
       by false f a rest = rest a (kept_outside p.ended p.opened e id (λ g. false_true (sym f ∙ g)) x)
 
   -- What is so after a session: the database is sound and has plain tables that fit, and an id that was new and wasn't used is new.
-  pub reached : IsSound catalog start → AreImagesOf catalog start before → tables_fit catalog before ≡ true → (es : List Exchange) (last : Database) → AreNewIds catalog start (begun_ids es) → Chain catalog start no_parts es last → IsReached catalog start last before es
+  pub reached : IsSound catalog start → AreImagesOf catalog start before → tables_are_well_typed catalog before ≡ true → (es : List Exchange) (last : Database) → AreNewIds catalog start (begun_ids es) → Chain catalog start no_parts es last → IsReached catalog start last before es
   reached sound are_images fit es last new chain =
       let so = (session_at catalog apart start before no_parts start es last (begins_serial catalog apart start before sound are_images fit) (fresh_ids es new) chain).0 in
       record { sound = so.sound; are_images = so.are_images; fit = so.fit; unused = λ id n a. so.unused id n (outside_of no_parts es id a (tt, tt)) }

@@ -22,11 +22,11 @@ use Rattle.sdb_model.specs.declared.statement.Statement.{Statement}
 use Rattle.sdb_model.specs.declared.statement.Statement.TheVariants as statement
 use Rattle.sdb_model.specs.Access.{rows_at}
 use Rattle.sdb_model.specs.Exec.{Tables, all_rows, exec, is_row_of, key_of, named_table, passes, with_named}
-use Rattle.sdb_model.specs.Told.{run_body}
+use Rattle.sdb_model.specs.Serial.{run_body}
 use Rattle.sdb_exec.specs.Plans.{are_shaped, changes_on, has_shape, put_row}
 use Rattle.sdb_exec.specs.Reads.{access_of}
 use Rattle.sdb_exec.proofs.Local.{found_at, passing}
-use Rattle.sdb_snapshot.specs.Noted.{Note}
+use Rattle.sdb_snapshot.specs.Reads.{ReadRecord}
 use Rattle.sdb_snapshot.specs.Written.{most_writes, with_write, with_writes, write_of}
 use Rattle.sdb_txn.specs.Txn.{TxnAt}
 use Rattle.sdb_client.specs.Client.{too_many}
@@ -43,9 +43,9 @@ one_key (x ∷ ws) w = by (same_key w.key x.key) (list_any (same_key w.key) (map
     by false true h = ap (λ ks. x.key ∷ ks) h
     by false false h = ap (λ ks. x.key ∷ ks) h
 
-pub keys_with : (notes : List Note) (ws : List Write) (ks : List Keyed) → map (λ (w : Write). w.key) (with_writes notes ws ks) ≡ with_keys (map (λ (w : Write). w.key) ws) (map (λ (k : Keyed). k.key) ks)
-keys_with notes ws [] = refl
-keys_with notes ws (k ∷ ks) = keys_with notes (with_write ws (write_of notes k)) ks ∙ ap (λ qs. with_keys qs (map (λ (x : Keyed). x.key) ks)) (one_key ws (write_of notes k))
+pub keys_with : (read_set : List ReadRecord) (ws : List Write) (ks : List Keyed) → map (λ (w : Write). w.key) (with_writes read_set ws ks) ≡ with_keys (map (λ (w : Write). w.key) ws) (map (λ (k : Keyed). k.key) ks)
+keys_with read_set ws [] = refl
+keys_with read_set ws (k ∷ ks) = keys_with read_set (with_write ws (write_of read_set k)) ks ∙ ap (λ qs. with_keys qs (map (λ (x : Keyed). x.key) ks)) (one_key ws (write_of read_set k))
 
 ---- rows that fit have the shape of their table
 
@@ -101,7 +101,7 @@ keys_changed catalog t st d table named fit = changes_on_table t st d table (all
 
 pub many_is : (t : TxnAt) (ks : List Keyed) → too_many t ks ≡ pass_with (map (λ (w : Write). w.key) t.seen.writes) (map (λ (k : Keyed). k.key) ks)
 many_is t [] = refl
-many_is t (k ∷ ks) = ap (nat_lt most_writes) (sym (length-map (with_writes t.seen.notes t.seen.writes (k ∷ ks)) (λ (w : Write). w.key)) ∙ ap (λ (qs : List Key). length qs) (keys_with t.seen.notes t.seen.writes (k ∷ ks)))
+many_is t (k ∷ ks) = ap (nat_lt most_writes) (sym (length-map (with_writes t.seen.read_set t.seen.writes (k ∷ ks)) (λ (w : Write). w.key)) ∙ ap (λ (qs : List Key). length qs) (keys_with t.seen.read_set t.seen.writes (k ∷ ks)))
 
 ---- one statement more
 

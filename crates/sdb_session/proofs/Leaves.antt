@@ -30,7 +30,7 @@ use Rattle.sdb_model.specs.Exec.{Tables}
 use Rattle.sdb_phases.specs.Work.{Work}
 use Rattle.sdb_snapshot.specs.Rows.{with_own}
 use Rattle.sdb_snapshot.proofs.Shown.{get_own, own_row}
-use Rattle.sdb_session.specs.Database.{Database, decided_in, decided_on, image_in, is_firm, is_listed, row_in}
+use Rattle.sdb_session.specs.Database.{Database, decided_in, decided_on, image_in, is_committed_or_none, is_listed, row_in}
 use Rattle.sdb_session.specs.OnlyResolves.{IsApart, IsSound}
 use Rattle.sdb_session.specs.Recovers.{IsAborted, IsUndecided}
 use Rattle.sdb_session.specs.Commits.{IsDone, IsGivenUp, IsLoose, IsWon, OthersUnchanged, WorkAlone}
@@ -116,7 +116,7 @@ module _ (catalog : List Table) (apart : IsApart catalog) (start : Database) (so
       let s = based_at catalog apart start p work j w at in
       e ∙ sym (ap (λ o. option_and_then (λ r. image_of r (decided_on start r)) o) s.base ∙ firm_image w.base (decided_on start) (firm w.base s.is_write.base))
     where
-      firm : (o : Option Record) → IfSome o (IsBaseOf w.key) → is_firm o ≡ true
+      firm : (o : Option Record) → IfSome o (IsBaseOf w.key) → is_committed_or_none o ≡ true
       firm None f = refl
       firm (Some b) f = f.2
 
@@ -137,7 +137,7 @@ module _ (catalog : List Table) (apart : IsApart catalog) (start : Database) (so
           let s = based_at catalog apart start p work j w at in
           base_image j w at (ap (λ o. option_and_then (λ r. image_of r (decided_on h r)) o) based ∙ firm_image w.base (decided_on h) (firm w.base s.is_write.base))
         where
-          firm : (o : Option Record) → IfSome o (IsBaseOf w.key) → is_firm o ≡ true
+          firm : (o : Option Record) → IfSome o (IsBaseOf w.key) → is_committed_or_none o ≡ true
           firm None f = refl
           firm (Some b) f = f.2
       loose j w at (inr prepared) = base_image j w at (image_prepared w w.key prepared ∙ undecided w up.0 ∙ prepared-base w p.id p.now (based_at catalog apart start p work j w at).is_write)

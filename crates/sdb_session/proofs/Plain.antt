@@ -21,19 +21,19 @@ use Rattle.sdb_types.proofs.KeyOrder.{key_total}
 use Rattle.sdb_types.proofs.Keys.{same_key_is, same_key_tells}
 use Rattle.sdb_schema.specs.declared.table.Table.{Table}
 use Rattle.sdb_model.specs.Access.{with_row}
-use Rattle.sdb_model.specs.Events.{Shelf, held_by, standing, store_of}
+use Rattle.sdb_model.specs.Events.{StoreContents, contents_under, standing, store_of}
 use Rattle.sdb_model.specs.Exec.{Tables, row_of_entry}
 use Rattle.sdb_model.specs.Rows.{Name, same_name}
 use Rattle.sdb_stores.specs.declared.place.Place.{Place}
 use Rattle.sdb_exec.proofs.Laid.{by_key, get-with_row}
-use Rattle.sdb_steps.specs.Fitting.{row_fits}
+use Rattle.sdb_steps.specs.Fitting.{row_is_well_typed}
 use Rattle.sdb_session.specs.Database.{Database, database_of, is_listed, row_in, decided_on}
 use Rattle.sdb_session.specs.OnlyResolves.{IsSound}
 use Rattle.sdb_session.specs.Seen.{AreImagesOf, HasTables}
 
 ---- the keys of stores
 
-abbrev keys_held : List Shelf → List Key
+abbrev keys_held : List StoreContents → List Key
 keys_held [] = []
 keys_held (s ∷ ss) = map (λ e. e.0) (entries s.contents) ++ keys_held ss
 
@@ -46,15 +46,15 @@ among_entries (e ∷ es) k cs h = by (is_eq (key_cmp k e.0)) refl (among_entries
     by true f rest = ap (λ b. b || list_any (same_key k) (map (λ x. x.0) es)) (same_key_is k e.0 ∙ f)
     by false f rest = or_second (same_key k e.0) (list_any (same_key k) (map (λ x. x.0) es)) (rest (sym (ap (λ b. cond b (Some e.1) (find_key key_cmp k es)) f) ∙ h))
 
-among_shelves : (ss : List Shelf) (name : Name) (m : Contents) (k : Key) (cs : List Pair) → held_by ss name ≡ Some m → get m k ≡ Some cs → list_any (same_key k) (keys_held ss) ≡ true
+among_shelves : (ss : List StoreContents) (name : Name) (m : Contents) (k : Key) (cs : List Pair) → contents_under ss name ≡ Some m → get m k ≡ Some cs → list_any (same_key k) (keys_held ss) ≡ true
 among_shelves [] name m k cs h g = none_some m h
 among_shelves (s ∷ ss) name m k cs h g = list_any-append (same_key k) (map (λ e. e.0) (entries s.contents)) (keys_held ss) ∙ by (same_name s.name name) refl (among_shelves ss name m k cs)
   where
-    by : (b : Bool) → same_name s.name name ≡ b → (held_by ss name ≡ Some m → get m k ≡ Some cs → list_any (same_key k) (keys_held ss) ≡ true) → (list_any (same_key k) (map (λ e. e.0) (entries s.contents)) || list_any (same_key k) (keys_held ss)) ≡ true
+    by : (b : Bool) → same_name s.name name ≡ b → (contents_under ss name ≡ Some m → get m k ≡ Some cs → list_any (same_key k) (keys_held ss) ≡ true) → (list_any (same_key k) (map (λ e. e.0) (entries s.contents)) || list_any (same_key k) (keys_held ss)) ≡ true
     by true f rest =
-        let same : s.contents ≡ m = some_is s.contents m (sym (ap (λ b. option_map (λ (x : Shelf). x.contents) (if b then Some s else find (λ x. same_name x.name name) ss)) f) ∙ h) in
+        let same : s.contents ≡ m = some_is s.contents m (sym (ap (λ b. option_map (λ (x : StoreContents). x.contents) (if b then Some s else find (λ x. same_name x.name name) ss)) f) ∙ h) in
         ap (λ b. b || list_any (same_key k) (keys_held ss)) (among_entries (entries s.contents) k cs (sym (get-entries s.contents k) ∙ ap (λ x. get x k) same ∙ g))
-    by false f rest = or_second (list_any (same_key k) (map (λ e. e.0) (entries s.contents))) (list_any (same_key k) (keys_held ss)) (rest (sym (ap (λ b. option_map (λ (x : Shelf). x.contents) (if b then Some s else find (λ x. same_name x.name name) ss)) f) ∙ h) g)
+    by false f rest = or_second (list_any (same_key k) (map (λ e. e.0) (entries s.contents))) (list_any (same_key k) (keys_held ss)) (rest (sym (ap (λ b. option_map (λ (x : StoreContents). x.contents) (if b then Some s else find (λ x. same_name x.name name) ss)) f) ∙ h) g)
 
 ---- tables with rows at keys
 
@@ -97,17 +97,17 @@ module _ (P : Key → List Pair → Bool) where
 abbrev row_listed : List Table → Database → Key → Option (List Pair)
 row_listed catalog g k = if is_listed catalog k then row_in g k else None
 
-pub plain_tables : (catalog : List Table) (places : List Place) (shelves : List Shelf) → IsSound catalog (database_of places shelves) → HasTables catalog (database_of places shelves)
+pub plain_tables : (catalog : List Table) (places : List Place) (shelves : List StoreContents) → IsSound catalog (database_of places shelves) → HasTables catalog (database_of places shelves)
 plain_tables catalog places shelves sound = record {
   tables = rows_of (row_listed catalog (database_of places shelves)) (keys_held shelves);
   are_images = are_images;
-  fit = found_pass (row_fits catalog) (entries (rows_of (row_listed catalog (database_of places shelves)) (keys_held shelves))) (true_from_T _ (entries_sorted (rows_of (row_listed catalog (database_of places shelves)) (keys_held shelves)))) (λ q cs found. fits q cs (get-entries (rows_of (row_listed catalog (database_of places shelves)) (keys_held shelves)) q ∙ found));
+  fit = found_pass (row_is_well_typed catalog) (entries (rows_of (row_listed catalog (database_of places shelves)) (keys_held shelves))) (true_from_T _ (entries_sorted (rows_of (row_listed catalog (database_of places shelves)) (keys_held shelves)))) (λ q cs found. fits q cs (get-entries (rows_of (row_listed catalog (database_of places shelves)) (keys_held shelves)) q ∙ found));
 }
   where
     absent : (k : Key) → list_any (same_key k) (keys_held shelves) ≡ false → (if is_listed catalog k then row_in (database_of places shelves) k else None) ≡ None
     absent k free = by (is_listed catalog k)
       where
-        none : (o : Option Contents) → held_by shelves (store_of places shelves k.table.ns) ≡ o → option_map_or (λ m. record_at m k) o None ≡ None
+        none : (o : Option Contents) → contents_under shelves (store_of places shelves k.table.ns) ≡ o → option_map_or (λ m. record_at m k) o None ≡ None
         none None e = refl
         none (Some m) e = on (get m k) refl
           where
@@ -116,7 +116,7 @@ plain_tables catalog places shelves sound = record {
             on (Some cs) f = false_true (sym free ∙ among_shelves shelves (store_of places shelves k.table.ns) m k cs e f)
 
         nothing : standing places shelves k ≡ None
-        nothing = none (held_by shelves (store_of places shelves k.table.ns)) refl
+        nothing = none (contents_under shelves (store_of places shelves k.table.ns)) refl
 
         by : (b : Bool) → (if b then row_in (database_of places shelves) k else None) ≡ None
         by true = ap (λ o. option_and_then row_of_image (option_and_then (λ r. image_of r (decided_on (database_of places shelves) r)) o)) nothing
@@ -129,16 +129,16 @@ plain_tables catalog places shelves sound = record {
         by true e = ap (λ b. if b then (if is_listed catalog k then row_in (database_of places shelves) k else None) else None) e
         by false e = ap (λ b. if b then (if is_listed catalog k then row_in (database_of places shelves) k else None) else None) e ∙ sym (absent k e)
 
-    fits : (q : Key) (cs : List Pair) → get (rows_of (row_listed catalog (database_of places shelves)) (keys_held shelves)) q ≡ Some cs → row_fits catalog q cs ≡ true
+    fits : (q : Key) (cs : List Pair) → get (rows_of (row_listed catalog (database_of places shelves)) (keys_held shelves)) q ≡ Some cs → row_is_well_typed catalog q cs ≡ true
     fits q cs e = by (is_listed catalog q) refl (sym (are_images q) ∙ e)
       where
-        by : (b : Bool) → is_listed catalog q ≡ b → (if is_listed catalog q then row_in (database_of places shelves) q else None) ≡ Some cs → row_fits catalog q cs ≡ true
+        by : (b : Bool) → is_listed catalog q ≡ b → (if is_listed catalog q then row_in (database_of places shelves) q else None) ≡ Some cs → row_is_well_typed catalog q cs ≡ true
         by true f h = sound.fits q cs f (sym (ap (λ b. if b then row_in (database_of places shelves) q else None) f) ∙ h)
         by false f h = none_some cs (sym (ap (λ b. if b then row_in (database_of places shelves) q else None) f) ∙ h)
 
 -- a record is at its own key
-pub own_at : (places : List Place) (shelves : List Shelf) (k : Key) (r : Record) → standing places shelves k ≡ Some r → r.key ≡ k
-own_at places shelves k r e = by (held_by shelves (store_of places shelves k.table.ns)) e
+pub own_at : (places : List Place) (shelves : List StoreContents) (k : Key) (r : Record) → standing places shelves k ≡ Some r → r.key ≡ k
+own_at places shelves k r e = by (contents_under shelves (store_of places shelves k.table.ns)) e
   where
     on : (o : Option (List Pair)) → option_map (λ (columns : List Pair). record { key = k; columns = columns }) o ≡ Some r → r.key ≡ k
     on None f = none_some r f

@@ -18,7 +18,7 @@ use Rattle.sdb_types.proofs.Keys.{same_key_exact, same_key_is, same_key_of, same
 use Rattle.sdb_record.specs.declared.access.Access.{Access}
 use Rattle.sdb_record.specs.declared.access.Access.TheVariants as access
 use Rattle.sdb_record.specs.declared.meta.Meta.{Meta}
-use Rattle.sdb_record.specs.Meta.{checked, is_in, is_moment, is_taken, is_unresolved}
+use Rattle.sdb_record.specs.Meta.{checked, is_in, is_moment, is_transactional, is_unresolved}
 use Rattle.sdb_record.specs.Parts.{are_stored}
 use Rattle.sdb_schema.specs.declared.table.Table.{Table}
 use Rattle.sdb_model.specs.Access.{in_access}
@@ -27,13 +27,13 @@ use Rattle.sdb_phases.specs.declared.step.RecoverStep.TheVariants as steps
 use Rattle.sdb_phases.specs.declared.step.RecoverPhase.{RecoverPhase}
 use Rattle.sdb_phases.specs.Recover.{recover_next}
 use Rattle.sdb_read.specs.Read.{Kind, Firm, Bad, ReadStage, Asking, Resolving, Ended, answered, kind_of, opened, read_pending_at, read_step, request_of, resolved, settle, settle_one}
-use Rattle.sdb_turns.specs.ReadAt.{InPlace, Rise, keys_of}
+use Rattle.sdb_turns.specs.ReadAt.{AreInOrder, Rise, keys_of}
 use Rattle.sdb_turns.proofs.Lists.{each_more, each_unmap}
 use Rattle.sdb_turns.proofs.Rows.{found_each, inside_each, rise_is}
 use Rattle.sdb_session.specs.Database.{Called, Found, Database, NotFound, NotReturned, Same, Returned, is_listed}
 use Rattle.sdb_session.specs.OnlyResolves.{IsApart, OnlyResolves, IsSound}
 use Rattle.sdb_session.specs.Recovers.{IsUndecided, RecoversTo}
-use Rattle.sdb_session.specs.Reads.{AreFirm, IsOfTables, ReadAlone, AreRowsAt}
+use Rattle.sdb_session.specs.Reads.{AreCommitted, IsOfTables, ReadAlone, AreRowsAt}
 use Rattle.sdb_session.proofs.Resolves.{settles_refl, sound_stays}
 use Rattle.sdb_session.proofs.Recovers.{one_database, recovers}
 
@@ -101,25 +101,25 @@ module _ (catalog : List Table) (apart : IsApart catalog) (a : Access) (tables :
       (within, sym (s.all x.key within) ∙ found_middle xs x ys s.place.0)
 
   -- Each row is committed, or the first that isn't is looked up.
-  settles_on : (g : Database) (images left : List Record) → IsSound catalog g → AreRowsAt g a (images ++ left) → AreFirm images → ReadAlone catalog g a now (settle images left)
+  settles_on : (g : Database) (images left : List Record) → IsSound catalog g → AreRowsAt g a (images ++ left) → AreCommitted images → ReadAlone catalog g a now (settle images left)
   settles_on g images [] sound s firm = (subst (AreRowsAt g a) (append-nil images) s, firm)
-  settles_on g images (r ∷ left) sound s firm = by (is_taken r) refl (is_in state.Committed r.columns) refl (checked r.columns) refl
+  settles_on g images (r ∷ left) sound s firm = by (is_transactional r) refl (is_in state.Committed r.columns) refl (checked r.columns) refl
       (λ f. settles_on g (images ++ r ∷ []) left sound (subst (AreRowsAt g a) (sym (append_assoc images (r ∷ []) left)) s) (each_more (λ x. is_in state.Committed x.columns ≡ true) images r firm f))
     where
       here : (in_access a r.key ≡ true) × (g r.key ≡ Some r)
       here = row_present g images r left s
 
-      is_write : is_taken r ≡ true
+      is_write : is_transactional r ≡ true
       is_write = sound.taken r.key r (tables r.key here.0) here.1
 
       G : Kind → Type 0
       G k = ReadAlone catalog g a now (settle_one k images r left (settle (images ++ r ∷ []) left))
 
-      by : (t : Bool) → is_taken r ≡ t → (c : Bool) → is_in state.Committed r.columns ≡ c → (m : Result Meta (List ℕ)) → checked r.columns ≡ m → (is_in state.Committed r.columns ≡ true → ReadAlone catalog g a now (settle (images ++ r ∷ []) left)) → G (kind_of r)
+      by : (t : Bool) → is_transactional r ≡ t → (c : Bool) → is_in state.Committed r.columns ≡ c → (m : Result Meta (List ℕ)) → checked r.columns ≡ m → (is_in state.Committed r.columns ≡ true → ReadAlone catalog g a now (settle (images ++ r ∷ []) left)) → G (kind_of r)
       by false e c f m h rest = false_true (sym e ∙ is_write)
       by true e true f m h rest = subst G (sym (ap (λ b. if b then (if is_in state.Committed r.columns then Firm else opened (checked r.columns)) else Bad) e ∙ ap (λ b. if b then Firm else opened (checked r.columns)) f)) (rest f)
       by true e false f (Ok meta) h rest = subst G (sym (ap (λ b. if b then (if is_in state.Committed r.columns then Firm else opened (checked r.columns)) else Bad) e ∙ ap (λ b. if b then Firm else opened (checked r.columns)) f ∙ ap opened h))
-          (s, firm, record { present = here.1; listed = tables r.key here.0; unresolved = and_both (is_taken r) _ is_write (ap not f); says = h; phase = tt })
+          (s, firm, record { present = here.1; listed = tables r.key here.0; unresolved = and_both (is_transactional r) _ is_write (ap not f); says = h; phase = tt })
       by true e false f (Err name) h rest = false_true (sym (ap is_ok h) ∙ and_second (are_stored r.columns) (is_ok (checked r.columns)) is_write)
 
 ---- the first reply
@@ -127,7 +127,7 @@ module _ (catalog : List Table) (apart : IsApart catalog) (a : Access) (tables :
 key_itself : (k q : Key) → q ≡ k → in_access (access.Get k) q ≡ true
 key_itself k q e = sym (same_key_is k q) ∙ same_key_of k q (sym e)
 
-key_place : (k : Key) (x : Record) → x.key ≡ k → InPlace (access.Get k) (keys_of (x ∷ []))
+key_place : (k : Key) (x : Record) → x.key ≡ k → AreInOrder (access.Get k) (keys_of (x ∷ []))
 key_place k x e = ((tt, tt), (key_itself k x.key e, tt))
 
 key_is : (k q : Key) → in_access (access.Get k) q ≡ true → q ≡ k
@@ -156,7 +156,7 @@ asked_on catalog apart now g h sound (access.Scan span) tables r (same, NotRetur
 
 ---- a reply to a recovery
 
-module _ (catalog : List Table) (apart : IsApart catalog) (now : ℤ) (g h : Database) (a : Access) (tables : IsOfTables catalog a) (images : List Record) (rec : Record) (meta : Meta) (left : List Record) (rows : AreRowsAt g a (images ++ rec ∷ left)) (firm : AreFirm images) where
+module _ (catalog : List Table) (apart : IsApart catalog) (now : ℤ) (g h : Database) (a : Access) (tables : IsOfTables catalog a) (images : List Record) (rec : Record) (meta : Meta) (left : List Record) (rows : AreRowsAt g a (images ++ rec ∷ left)) (firm : AreCommitted images) where
   -- at another key of the access all is as it was
   module _ (others : (k : Key) → is_listed catalog k ≡ true → k ≢ rec.key → h k ≡ g k) where
     elsewhere : (k : Key) → in_access a k ≡ true → same_key k rec.key ≡ false → k ≢ rec.key → record_among (images ++ left) k ≡ h k
@@ -192,8 +192,8 @@ module _ (catalog : List Table) (apart : IsApart catalog) (now : ℤ) (g h : Dat
       ];
     })
       where
-        place : InPlace a (keys_of (images ++ b ∷ left))
-        place = subst (InPlace a) (keys_same images rec b left key) rows.place
+        place : AreInOrder a (keys_of (images ++ b ∷ left))
+        place = subst (AreInOrder a) (keys_same images rec b left key) rows.place
 
   resolved_on : ((k : Key) (r : Record) → h k ≡ Some r → r.key ≡ k) → IsSound catalog h → is_unresolved rec ≡ true → checked rec.columns ≡ Ok meta → (n : RecoverPhase × RecoverStep) → RecoversTo catalog g h rec meta now n → ReadAlone catalog h a now (resolved images rec meta left n)
   resolved_on own sound loose says (p, steps.More) x = (rows_stay x.others x.leads_to.present, firm, x.leads_to)

@@ -29,10 +29,10 @@ use Rattle.sdb_phases.specs.declared.step.RecoverStep.{RecoverStep}
 use Rattle.sdb_phases.specs.declared.step.RecoverStep.TheVariants as steps
 use Rattle.sdb_phases.specs.declared.step.RecoverPhase.{RecoverPhase}
 use Rattle.sdb_phases.specs.declared.step.RecoverPhase.TheVariants as phase
-use Rattle.sdb_phases.specs.Recover.{recover_next, recover_request_at, roll_to, row_followed, undecided, stands_found}
+use Rattle.sdb_phases.specs.Recover.{recover_next, recover_request_at, roll_to, row_followed, undecided, is_as_found}
 use Rattle.sdb_turns.specs.Reader.{IsMetaOf}
 use Rattle.sdb_turns.proofs.Meta.{before_firm, meta_of}
-use Rattle.sdb_session.specs.Database.{Called, Done, Found, Got, Database, IsWith, NotFound, Same, Undone, Wrote, decided_in, is_firm, is_listed}
+use Rattle.sdb_session.specs.Database.{Called, Done, Found, Got, Database, IsWith, NotFound, Same, Undone, Wrote, decided_in, is_committed_or_none, is_listed}
 use Rattle.sdb_session.specs.OnlyResolves.{IsApart, OnlyResolves, IsSound}
 use Rattle.sdb_session.specs.Recovers.{RecoveryLeadsTo, IsAborted, PhaseAlone, RecoverAlone, RecoversTo}
 use Rattle.sdb_session.proofs.Resolves.{abort_settles, roll_settles, row_key, settles_refl, under_aborted}
@@ -159,10 +159,10 @@ module _ (catalog : List Table) (apart : IsApart catalog) (rec : Record) (meta :
   forward_next g h at r alone (Undone (inr replied) same) = subst (λ x. RecoversTo catalog g h rec meta moment (recover_next rec meta (phase.Forward at) moment x)) (sym replied) (stays g h (phase.Ended, steps.NoMemory) same tt)
 
   -- what there was before is a committed record, or none
-  before_is_firm : is_unresolved rec ≡ true → is_firm (before_record rec) ≡ true
+  before_is_firm : is_unresolved rec ≡ true → is_committed_or_none (before_record rec) ≡ true
   before_is_firm loose = by (before_record rec) refl
     where
-      by : (o : Option Record) → before_record rec ≡ o → is_firm o ≡ true
+      by : (o : Option Record) → before_record rec ≡ o → is_committed_or_none o ≡ true
       by None e = refl
       by (Some b) e = (before_firm rec b loose e).committed
 
@@ -180,11 +180,11 @@ module _ (catalog : List Table) (apart : IsApart catalog) (rec : Record) (meta :
       by (Some d) e a (Undone (inr replied) same) = subst (λ x. RecoversTo catalog g h rec meta moment (recover_next rec meta phase.Back moment x)) (sym replied) (stays g h (phase.Ended, steps.NoMemory) same tt)
 
   -- the condition of a roll holds of the record
-  found_holds : (g : Database) (p : RecoverPhase) (k : Key) → k ≡ rec.key → RecoverAlone catalog g rec meta p → holds (stands_found meta) (g k) ≡ true
-  found_holds g p k e alone = ap (λ x. holds (stands_found meta) (g x)) e ∙ ap (holds (stands_found meta)) alone.present ∙ checked-version rec meta alone.says
+  found_holds : (g : Database) (p : RecoverPhase) (k : Key) → k ≡ rec.key → RecoverAlone catalog g rec meta p → holds (is_as_found meta) (g k) ≡ true
+  found_holds g p k e alone = ap (λ x. holds (is_as_found meta) (g x)) e ∙ ap (holds (is_as_found meta)) alone.present ∙ checked-version rec meta alone.says
 
   -- a call of the request that is pending
-  back_called : (g h : Database) (r : Reply) → RecoverAlone catalog g rec meta phase.Back → (o : Option Record) → before_record rec ≡ o → Called (undo (stands_found meta) rec.key o) r g h → Wrote rec.key o r g h
+  back_called : (g h : Database) (r : Reply) → RecoverAlone catalog g rec meta phase.Back → (o : Option Record) → before_record rec ≡ o → Called (undo (is_as_found meta) rec.key o) r g h → Wrote rec.key o r g h
   back_called g h r alone None e w = w.0 (found_holds g phase.Back rec.key refl alone)
   back_called g h r alone (Some b) e w =
       let at = (before_firm rec b alone.unresolved e).key in

@@ -34,25 +34,25 @@ use Rattle.sdb_snapshot.specs.Seen.{Seen}
 use Rattle.sdb_txn.specs.declared.txn.Doing.{Doing}
 use Rattle.sdb_txn.specs.declared.txn.Doing.TheVariants as doing
 use Rattle.sdb_txn.specs.Txn.{TxnAt, IsCommitting, pending_in, progress_of}
-use Rattle.sdb_turns.specs.Noted.{work_of}
+use Rattle.sdb_turns.specs.Reads.{work_of}
 use Rattle.sdb_vacuum.specs.declared.work.VacuumStep.{VacuumStep}
 use Rattle.sdb_vacuum.specs.declared.work.VacuumStep.TheVariants as sweep
 use Rattle.sdb_vacuum.specs.Vacuum.{Gives, VacuumAt, vacuum_step}
 use Rattle.sdb_client.specs.declared.next.Next.{Next}
 use Rattle.sdb_client.specs.declared.next.Next.TheVariants as next
-use Rattle.sdb_client.specs.Client.{CallTold, ClientAt, CommitNext, NextTold, OpenTold, ReplyTold, SweepTold, TxnTold, after, answer_in, answer_of, client_pending, next_of, pending_by, pending_of, vacuum_left}
-use Rattle.sdb_steps.specs.Fitting.{row_fits, tables_fit}
+use Rattle.sdb_client.specs.Client.{CallPost, ClientAt, CommitNext, NextPost, OpenTxnPost, ReplyPost, VacuumPost, TxnPost, after, answer_in, answer_of, client_pending, next_of, pending_by, pending_of, vacuum_left}
+use Rattle.sdb_steps.specs.Fitting.{row_is_well_typed, tables_are_well_typed}
 use Rattle.sdb_session.specs.Database.{Called, Database, is_listed, row_in}
 use Rattle.sdb_session.specs.OnlyResolves.{IsApart, OnlyResolves, IsSound}
 use Rattle.sdb_session.specs.Commits.{CommitAlone, IsDone, IsGivenUp}
 use Rattle.sdb_session.specs.Reads.{ReadAlone}
 use Rattle.sdb_session.specs.Seen.{AreImagesOf}
-use Rattle.sdb_session.specs.Sweeps.{Quiet, SweepAlone, SweepLeadsTo}
+use Rattle.sdb_session.specs.Vacuums.{Quiet, VacuumAlone, VacuumLeadsTo}
 use Rattle.sdb_session.specs.Tombstones.{HasVacuumed}
 use Rattle.sdb_session.specs.Clients.{AnsweredAlone, IsAskedFor, LedAlone, OpenAlone}
 use Rattle.sdb_session.specs.Later.{Later}
-use Rattle.sdb_session.specs.Session.{turned_away}
-use Rattle.sdb_session.specs.Between.{Answered, Between, LeadsTo, CommitEnds, Commits, Ended, Lost, More, Reads, OpenTransaction, Sweeps, Swept, Answers, IsTxnOf, SweptBy, Waits, Won}
+use Rattle.sdb_session.specs.Session.{rejected}
+use Rattle.sdb_session.specs.Between.{Answered, Between, LeadsTo, CommitEnds, Commits, Ended, Lost, More, Reads, OpenTransaction, InVacuum, Vacuumed, Answers, IsTxnOf, VacuumedBy, Waits, Won}
 use Rattle.sdb_session.proofs.Commits.{commits}
 use Rattle.sdb_session.proofs.Ends.{done_later, given_up_later}
 use Rattle.sdb_session.proofs.Leaves.{done_images, done_written, given_up_images, given_up_same}
@@ -104,7 +104,7 @@ pub record Leaves (catalog : List Table) (was g : Database) (id : TxId) (now : �
   later : Later catalog (Some (record { id = id; at = now })) was g
   ends : CommitEnds catalog was g id now s z
 
-module _ (catalog : List Table) (apart : IsApart catalog) (was g : Database) (sound : IsSound catalog was) (own : (k : Key) (x : Record) → g k ≡ Some x → x.key ≡ k) (id : TxId) (now : ℤ) (s : Seen) (d : Tables) (are_images : AreImagesOf catalog was d) (fit : (k : Key) (columns : List Pair) → get (with_own d s.writes) k ≡ Some columns → row_fits catalog k columns ≡ true) where
+module _ (catalog : List Table) (apart : IsApart catalog) (was g : Database) (sound : IsSound catalog was) (own : (k : Key) (x : Record) → g k ≡ Some x → x.key ≡ k) (id : TxId) (now : ℤ) (s : Seen) (d : Tables) (are_images : AreImagesOf catalog was d) (fit : (k : Key) (columns : List Pair) → get (with_own d s.writes) k ≡ Some columns → row_is_well_typed catalog k columns ≡ true) where
   abbrev p : Work
   p = work_of id now s
 
@@ -136,57 +136,57 @@ module _ (catalog : List Table) (apart : IsApart catalog) (was g : Database) (so
 
 ---- a reply
 
-module _ (catalog : List Table) (apart : IsApart catalog) (was : Database) (sound_was : IsSound catalog was) (d_was : Tables) (shows_was : AreImagesOf catalog was d_was) (fit_was : tables_fit catalog d_was ≡ true) (fresh : TxId) (now : ℤ) (time : is_moment now ≡ true) (st : Statement)
-    (g h : Database) (own_g : (k : Key) (x : Record) → g k ≡ Some x → x.key ≡ k) (own : (k : Key) (x : Record) → h k ≡ Some x → x.key ≡ k) (q : Request) (r : Reply) (called : Called q r g h) (o : Option OpenTransaction) (c : ClientAt) (asked : client_pending c ≡ Some q) (result : Option Answer) (e : ClientAt) (took : ReplyTold c c.vacuum r now result e) where
+module _ (catalog : List Table) (apart : IsApart catalog) (was : Database) (sound_was : IsSound catalog was) (d_was : Tables) (shows_was : AreImagesOf catalog was d_was) (fit_was : tables_are_well_typed catalog d_was ≡ true) (fresh : TxId) (now : ℤ) (time : is_moment now ≡ true) (st : Statement)
+    (g h : Database) (own_g : (k : Key) (x : Record) → g k ≡ Some x → x.key ≡ k) (own : (k : Key) (x : Record) → h k ≡ Some x → x.key ≡ k) (q : Request) (r : Reply) (called : Called q r g h) (o : Option OpenTransaction) (c : ClientAt) (asked : client_pending c ≡ Some q) (result : Option Answer) (e : ClientAt) (took : ReplyPost c c.vacuum r now result e) where
   abbrev Goal : Type 0
   Goal = LeadsTo catalog was fresh now (Ok st) h o result e
 
   ---- VACUUM
 
-  module _ (v : VacuumAt) (none : o ≡ None) (is : st ≡ statement.Vacuum) (runs : c.vacuum ≡ Some v) (txn : c.txn ≡ None) (plan : c.plan ≡ None) (alone : SweepAlone catalog was now g v) (quiet : Quiet catalog was g) where
-    swept_called : Quiet catalog g h × SweepLeadsTo catalog was now h (vacuum_step v now r)
+  module _ (v : VacuumAt) (none : o ≡ None) (is : st ≡ statement.Vacuum) (runs : c.vacuum ≡ Some v) (txn : c.txn ≡ None) (plan : c.plan ≡ None) (alone : VacuumAlone catalog was now g v) (quiet : Quiet catalog was g) where
+    swept_called : Quiet catalog g h × VacuumLeadsTo catalog was now h (vacuum_step v now r)
     swept_called = sweeps catalog apart now time was g h v.spans v.removed v.stage q r quiet own alone.0 alone.1 (subst (λ (w : Option VacuumAt). pending_by w c.txn ≡ Some q) runs asked) called
 
     quiet_now : Quiet catalog was h
     quiet_now = quiet_trans catalog was g h quiet swept_called.0
 
-    sweep_answered : SweepTold v r now result e.vacuum × (e ≡ record c { vacuum = e.vacuum })
-    sweep_answered = subst (λ (w : Option VacuumAt). ReplyTold c w r now result e) runs took
+    sweep_answered : VacuumPost v r now result e.vacuum × (e ≡ record c { vacuum = e.vacuum })
+    sweep_answered = subst (λ (w : Option VacuumAt). ReplyPost c w r now result e) runs took
 
     rests : e.vacuum ≡ None → Between catalog h None e
     rests f = record { free = f; plan = ap (λ (x : ClientAt). x.plan) sweep_answered.1 ∙ plan; txn = subst (IsTxnOf catalog h None) (sym (ap (λ (x : ClientAt). x.txn) sweep_answered.1 ∙ txn)) tt }
 
-    over : (z : Answer) → result ≡ Some z → SweptBy catalog was h now z → e.vacuum ≡ None → Goal
-    over z replied all f = Answers z replied (Swept (ap Ok is) none quiet_now all (rests f))
+    over : (z : Answer) → result ≡ Some z → VacuumedBy catalog was h now z → e.vacuum ≡ None → Goal
+    over z replied all f = Answers z replied (Vacuumed (ap Ok is) none quiet_now all (rests f))
 
     by_step : (s : VacuumStep) → sweep_answered.0.step ≡ s → Goal
-    by_step sweep.More f = More st refl (sweep_answered.0.answer ∙ ap answer_of f)
-        (Sweeps sweep_answered.0.left none is (sweep_answered.0.goes ∙ ap (λ (x : VacuumStep). vacuum_left x sweep_answered.0.left) f) (ap (λ (x : ClientAt). x.txn) sweep_answered.1 ∙ txn) (ap (λ (x : ClientAt). x.plan) sweep_answered.1 ∙ plan) stage_now quiet_now)
+    by_step vacuuming.More f = More st refl (sweep_answered.0.answer ∙ ap answer_of f)
+        (InVacuum sweep_answered.0.left none is (sweep_answered.0.goes ∙ ap (λ (x : VacuumStep). vacuum_left x sweep_answered.0.left) f) (ap (λ (x : ClientAt). x.txn) sweep_answered.1 ∙ txn) (ap (λ (x : ClientAt). x.plan) sweep_answered.1 ∙ plan) stage_now quiet_now)
       where
-        gives : Gives (vacuum_step v now r) sweep_answered.0.left sweep.More
+        gives : Gives (vacuum_step v now r) sweep_answered.0.left vacuuming.More
         gives = subst (Gives (vacuum_step v now r) sweep_answered.0.left) f sweep_answered.0.told
 
-        stage_now : SweepAlone catalog was now h sweep_answered.0.left
-        stage_now = subst (SweepAlone catalog was now h) (sym gives.0) (subst (λ (s : VacuumStep). SweepLeadsTo catalog was now h ((vacuum_step v now r).0, s)) (sym gives.1) swept_called.1)
-    by_step (sweep.Count n) f = over (answer.Count n) (sweep_answered.0.answer ∙ ap answer_of f) (inr (inr (n, refl, all))) (sweep_answered.0.goes ∙ ap (λ (x : VacuumStep). vacuum_left x sweep_answered.0.left) f)
+        stage_now : VacuumAlone catalog was now h sweep_answered.0.left
+        stage_now = subst (VacuumAlone catalog was now h) (sym gives.0) (subst (λ (s : VacuumStep). VacuumLeadsTo catalog was now h ((vacuum_step v now r).0, s)) (sym gives.1) swept_called.1)
+    by_step (vacuuming.Count n) f = over (answer.Count n) (sweep_answered.0.answer ∙ ap answer_of f) (inr (inr (n, refl, all))) (sweep_answered.0.goes ∙ ap (λ (x : VacuumStep). vacuum_left x sweep_answered.0.left) f)
       where
-        gives : Gives (vacuum_step v now r) sweep_answered.0.left (sweep.Count n)
+        gives : Gives (vacuum_step v now r) sweep_answered.0.left (vacuuming.Count n)
         gives = subst (Gives (vacuum_step v now r) sweep_answered.0.left) f sweep_answered.0.told
 
         all : HasVacuumed catalog was h now n
-        all = subst (λ (s : VacuumStep). SweepLeadsTo catalog was now h ((vacuum_step v now r).0, s)) (sym gives.1) swept_called.1
-    by_step sweep.Faulted f = over answer.Faulted (sweep_answered.0.answer ∙ ap answer_of f) (inl refl) (sweep_answered.0.goes ∙ ap (λ (x : VacuumStep). vacuum_left x sweep_answered.0.left) f)
-    by_step sweep.NoMemory f = over answer.NoMemory (sweep_answered.0.answer ∙ ap answer_of f) (inr (inl refl)) (sweep_answered.0.goes ∙ ap (λ (x : VacuumStep). vacuum_left x sweep_answered.0.left) f)
-    by_step (sweep.BadRecord key) f = absurd (subst (λ (s : VacuumStep). SweepLeadsTo catalog was now h ((vacuum_step v now r).0, s)) (sym gives.1) swept_called.1)
+        all = subst (λ (s : VacuumStep). VacuumLeadsTo catalog was now h ((vacuum_step v now r).0, s)) (sym gives.1) swept_called.1
+    by_step vacuuming.Faulted f = over answer.Faulted (sweep_answered.0.answer ∙ ap answer_of f) (inl refl) (sweep_answered.0.goes ∙ ap (λ (x : VacuumStep). vacuum_left x sweep_answered.0.left) f)
+    by_step vacuuming.NoMemory f = over answer.NoMemory (sweep_answered.0.answer ∙ ap answer_of f) (inr (inl refl)) (sweep_answered.0.goes ∙ ap (λ (x : VacuumStep). vacuum_left x sweep_answered.0.left) f)
+    by_step (vacuuming.BadRecord key) f = absurd (subst (λ (s : VacuumStep). VacuumLeadsTo catalog was now h ((vacuum_step v now r).0, s)) (sym gives.1) swept_called.1)
       where
-        gives : Gives (vacuum_step v now r) sweep_answered.0.left (sweep.BadRecord key)
+        gives : Gives (vacuum_step v now r) sweep_answered.0.left (vacuuming.BadRecord key)
         gives = subst (Gives (vacuum_step v now r) sweep_answered.0.left) f sweep_answered.0.told
 
   ---- a transaction's call
 
   module _ (b : OpenTransaction) (t : TxnAt) (some : o ≡ Some b) (free : c.vacuum ≡ None) (txn : c.txn ≡ Some t) where
-    open_answered : TxnTold c t r now result e
-    open_answered = subst (λ (x : Option TxnAt). OpenTold c x r now result e) txn (subst (λ (w : Option VacuumAt). ReplyTold c w r now result e) free took)
+    open_answered : TxnPost c t r now result e
+    open_answered = subst (λ (x : Option TxnAt). OpenTxnPost c x r now result e) txn (subst (λ (w : Option VacuumAt). ReplyPost c w r now result e) free took)
 
     pends : pending_in t.doing ≡ Some q
     pends = subst (λ (x : Option TxnAt). pending_of x ≡ Some q) txn (subst (λ (w : Option VacuumAt). pending_by w c.txn ≡ Some q) free asked)
@@ -199,12 +199,12 @@ module _ (catalog : List Table) (apart : IsApart catalog) (was : Database) (soun
 
     ---- a COMMIT
 
-    module _ (k : CommitAt) (s : Seen) (commit : st ≡ statement.Commit) (plan : c.plan ≡ None) (does : t.doing ≡ doing.Commit k) (work : k.work ≡ work_of b.id now s) (opened : OpenAlone catalog was b.statements b.answers b.id s) (alone : CommitAlone catalog was k.work g k.stage) (fits : (y : Key) (columns : List Pair) → get (with_own d_was s.writes) y ≡ Some columns → row_fits catalog y columns ≡ true) where
+    module _ (k : CommitAt) (s : Seen) (commit : st ≡ statement.Commit) (plan : c.plan ≡ None) (does : t.doing ≡ doing.Commit k) (work : k.work ≡ work_of b.id now s) (opened : OpenAlone catalog was b.statements b.answers b.id s) (alone : CommitAlone catalog was k.work g k.stage) (fits : (y : Key) (columns : List Pair) → get (with_own d_was s.writes) y ≡ Some columns → row_is_well_typed catalog y columns ≡ true) where
       goes : CommitAlone catalog was k.work h (commit_step k.work k.stage r)
       goes = commits catalog apart was sound_was k.work g h k.stage q r alone (subst (λ (x : Doing). pending_in x ≡ Some q) does pends) called
 
       commit_answered : CommitNext t k r open_answered.next open_answered.left
-      commit_answered = subst (λ (x : Option Planned). NextTold t (doing.Commit k) x r now open_answered.next open_answered.left) plan (subst (λ (x : Doing). NextTold t x c.plan r now open_answered.next open_answered.left) does open_answered.told)
+      commit_answered = subst (λ (x : Option Planned). NextPost t (doing.Commit k) x r now open_answered.next open_answered.left) plan (subst (λ (x : Doing). NextPost t x c.plan r now open_answered.next open_answered.left) does open_answered.told)
 
       ended_over : (a : Outcome) → commit_step k.work k.stage r ≡ Over a → (z : Answer) × (next_of (progress_of (Some a)) ≡ next.End z) × Leaves catalog was h b.id now s z → open_answered.next ≡ next_of (progress_of (Some a)) → Goal
       ended_over a f x n = Answers x.0 (result_is (next.End x.0) (n ∙ x.1)) (Ended b s (ap Ok commit) some opened x.2.later x.2.ends (subst (Between catalog h None) (sym (client_is (next.End x.0) (n ∙ x.1))) (record { free = free; plan = refl; txn = tt })))
@@ -231,9 +231,9 @@ module _ (catalog : List Table) (apart : IsApart catalog) (was : Database) (soun
     ---- a read
 
     module _ (p : Planned) (a : Access) (x : ReadAt) (plan : c.plan ≡ Some p) (does : t.doing ≡ doing.Read a x) (of : p.statement ≡ st) (k : IsAskedFor catalog p a) (request : x.request ≡ request_of a) (id : t.id ≡ b.id) (opened : OpenAlone catalog g b.statements b.answers t.id t.seen) (alone : ReadAlone catalog g a now x.stage) (resolves : OnlyResolves catalog was g) (sound : IsSound catalog g)
-        (stays : turned_away catalog true (Ok st) ≡ None) where
-      call_answered : CallTold t p a x r now open_answered.next open_answered.left
-      call_answered = subst (λ (y : Option Planned). NextTold t (doing.Read a x) y r now open_answered.next open_answered.left) plan (subst (λ (y : Doing). NextTold t y c.plan r now open_answered.next open_answered.left) does open_answered.told)
+        (stays : rejected catalog true (Ok st) ≡ None) where
+      call_answered : CallPost t p a x r now open_answered.next open_answered.left
+      call_answered = subst (λ (y : Option Planned). NextPost t (doing.Read a x) y r now open_answered.next open_answered.left) plan (subst (λ (y : Doing). NextPost t y c.plan r now open_answered.next open_answered.left) does open_answered.told)
 
       pends_there : read_pending_at (request_of a) x.stage ≡ Some q
       pends_there = subst (λ (y : Request). read_pending_at y x.stage ≡ Some q) request (subst (λ (y : Doing). pending_in y ≡ Some q) does pends)
@@ -271,9 +271,9 @@ module _ (catalog : List Table) (apart : IsApart catalog) (was : Database) (soun
 
   -- a reply leads a statement that waits on, or to its answer
   pub replies : Waits catalog was now st g o c → Goal
-  replies (Sweeps v none is runs txn plan alone quiet) = by_step v none is runs txn plan alone quiet (sweep_answered v none is runs txn plan alone quiet).0.step refl
+  replies (InVacuum v none is runs txn plan alone quiet) = by_step v none is runs txn plan alone quiet (sweep_answered v none is runs txn plan alone quiet).0.step refl
   replies (Commits b t k s some commit free txn plan does work opened alone) = commit_case b t some free txn k s commit plan does work opened alone (own_fit b s opened)
     where
-      own_fit : (b : OpenTransaction) (s : Seen) → OpenAlone catalog was b.statements b.answers b.id s → (y : Key) (columns : List Pair) → get (with_own d_was s.writes) y ≡ Some columns → row_fits catalog y columns ≡ true
+      own_fit : (b : OpenTransaction) (s : Seen) → OpenAlone catalog was b.statements b.answers b.id s → (y : Key) (columns : List Pair) → get (with_own d_was s.writes) y ≡ Some columns → row_is_well_typed catalog y columns ≡ true
       own_fit b s opened y columns e = fits_there catalog (with_own d_was s.writes) y columns (opened.body.fits d_was fit_was (agrees_all catalog opened.past was sound_was s opened.seen d_was shows_was)) e
   replies (Reads b t p a x some free txn plan does of k request id opened alone resolves stays) = read_case b t some free txn p a x plan does of k request id opened alone resolves (sound_stays catalog was g resolves sound_was own_g) stays

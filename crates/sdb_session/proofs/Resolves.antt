@@ -13,14 +13,14 @@ use Rattle.sdb_types.proofs.Keys.{same_key_tells}
 use Rattle.sdb_record.specs.declared.coordinator.Decided.{Decided}
 use Rattle.sdb_record.specs.declared.coordinator.Decision.TheVariants as decision
 use Rattle.sdb_record.specs.Coordinator.{coordinator_key_of, coordinator_row_of, decision_in, is_coordinator_table}
-use Rattle.sdb_record.specs.Meta.{id_in, is_in, is_moment, is_taken}
+use Rattle.sdb_record.specs.Meta.{id_in, is_in, is_moment, is_transactional}
 use Rattle.sdb_record.specs.Parts.{before_record}
 use Rattle.sdb_record.specs.Rolls.{image_of, image_under, row_of_image}
 use Rattle.sdb_read.proofs.Images.{decided_at}
 use Rattle.sdb_record.proofs.ImageLaws.{image-is, image-open, image-settled, has_moment, row-decision}
 use Rattle.sdb_schema.specs.declared.table.Table.{Table}
-use Rattle.sdb_session.specs.Database.{Database, IsWith, decided_in, decided_on, image_in, is_firm, is_listed, row_in}
-use Rattle.sdb_session.specs.OnlyResolves.{IsApart, IsHeldFor, IsResolved, SaysAborted, OnlyResolves, IsSound}
+use Rattle.sdb_session.specs.Database.{Database, IsWith, decided_in, decided_on, image_in, is_committed_or_none, is_listed, row_in}
+use Rattle.sdb_session.specs.OnlyResolves.{IsApart, IsPreparedFor, IsResolved, IsAbortedRow, OnlyResolves, IsSound}
 
 ---- coordinator rows
 
@@ -34,15 +34,15 @@ pub under_aborted : (r : Record) (d : Decided) → d.decision ≡ decision.Abort
 under_aborted r d e = rw e refl
 
 -- what a committed record, or none, means
-pub firm_image : (o : Option Record) (f : Record → Option Decided) → is_firm o ≡ true → option_and_then (λ r. image_of r (f r)) o ≡ o
+pub firm_image : (o : Option Record) (f : Record → Option Decided) → is_committed_or_none o ≡ true → option_and_then (λ r. image_of r (f r)) o ≡ o
 firm_image None f h = refl
 firm_image (Some r) f h = image-settled r (f r) h
 
 -- an unresolved record, of which a decision is known that has a moment, means a committed record or none
-pub under_firm : (r : Record) (d : Option Decided) → is_taken r ≡ true → is_in state.Committed r.columns ≡ false → has_moment d → is_firm (image_under r d) ≡ true
+pub under_firm : (r : Record) (d : Option Decided) → is_transactional r ≡ true → is_in state.Committed r.columns ≡ false → has_moment d → is_committed_or_none (image_under r d) ≡ true
 under_firm r d taken loose moment = by (image_under r d) refl
   where
-    by : (o : Option Record) → image_under r d ≡ o → is_firm o ≡ true
+    by : (o : Option Record) → image_under r d ≡ o → is_committed_or_none o ≡ true
     by None e = refl
     by (Some i) e = (image-is r i d taken moment (image-open r d loose ∙ e)).committed
 
@@ -63,7 +63,7 @@ row_moment g r d e = by (id_in r.columns) e
     by (Some id) e = at (g (coordinator_key_of id)) e
 
 -- a row that says ABORTED is well formed
-aborted_ok : (row : Record) → SaysAborted row → is_ok (decision_in row) ≡ true
+aborted_ok : (row : Record) → IsAbortedRow row → is_ok (decision_in row) ≡ true
 aborted_ok row a = by (decision_in row) a
   where
     by : (x : Result Decided (List ℕ)) → IsSomeAnd (result_ok x) (λ d. d.decision ≡ decision.Aborted) → is_ok x ≡ true
@@ -84,7 +84,7 @@ module _ (catalog : List Table) (g h : Database) (s : OnlyResolves catalog g h) 
       took : Option Record → Option Decided
       took o = option_and_then (λ row. result_ok (decision_in row)) o
 
-      aborted : (row : Record) → SaysAborted row → (d : Option Decided) → result_ok (decision_in row) ≡ d → image_under r d ≡ before_record r
+      aborted : (row : Record) → IsAbortedRow row → (d : Option Decided) → result_ok (decision_in row) ≡ d → image_under r d ≡ before_record r
       aborted row a None e = refl
       aborted row a (Some d) e = under_aborted r d (subst (λ o. IsSomeAnd o (λ x. x.decision ≡ decision.Aborted)) e a)
 
@@ -106,8 +106,8 @@ module _ (catalog : List Table) (g h : Database) (s : OnlyResolves catalog g h) 
       by (Some id) e = at id (g (coordinator_key_of id)) refl e
 
   -- what an unresolved record was resolved to is a committed record or none
-  pub resolved_firm : (k : Key) (r : Record) → is_taken r ≡ true → is_in state.Committed r.columns ≡ false → IsResolved h k r → is_firm (h k) ≡ true
-  resolved_firm k r taken loose x = subst (λ o. is_firm o ≡ true) (sym x.present) (under_firm r (Some x.d) taken loose (row_moment h r x.d x.decided))
+  pub resolved_firm : (k : Key) (r : Record) → is_transactional r ≡ true → is_in state.Committed r.columns ≡ false → IsResolved h k r → is_committed_or_none (h k) ≡ true
+  resolved_firm k r taken loose x = subst (λ o. is_committed_or_none o ≡ true) (sym x.present) (under_firm r (Some x.d) taken loose (row_moment h r x.d x.decided))
 
   module _ (sound : IsSound catalog g) where
     -- The image at each key stays.
@@ -117,9 +117,9 @@ module _ (catalog : List Table) (g h : Database) (s : OnlyResolves catalog g h) 
         means : Database → Option Record → Option Record
         means j o = option_and_then (λ r. image_of r (decided_on j r)) o
 
-        firm : (o : Option Record) → g k ≡ o → is_firm o ≡ true → image_in h k ≡ image_in g k
+        firm : (o : Option Record) → g k ≡ o → is_committed_or_none o ≡ true → image_in h k ≡ image_in g k
         firm o e f =
-            let stays = s.firm k listed (subst (λ x. is_firm x ≡ true) (sym e) f) in
+            let stays = s.firm k listed (subst (λ x. is_committed_or_none x ≡ true) (sym e) f) in
             ap (means h) (stays ∙ e) ∙ firm_image o (decided_on h) f ∙ sym (ap (means g) e ∙ firm_image o (decided_on g) f)
 
         open_same : (r : Record) → is_in state.Committed r.columns ≡ false → image_of r (decided_on h r) ≡ image_of r (decided_on g r)
@@ -143,19 +143,19 @@ module _ (catalog : List Table) (g h : Database) (s : OnlyResolves catalog g h) 
     pub unresolved_before : (k : Key) (r : Record) → is_listed catalog k ≡ true → h k ≡ Some r → is_in state.Committed r.columns ≡ false → g k ≡ Some r
     unresolved_before k r listed e loose = by (g k) refl
       where
-        no_firm : is_firm (h k) ≡ true → ⊥
-        no_firm f = false_true (sym loose ∙ subst (λ o. is_firm o ≡ true) e f)
+        no_firm : is_committed_or_none (h k) ≡ true → ⊥
+        no_firm f = false_true (sym loose ∙ subst (λ o. is_committed_or_none o ≡ true) e f)
 
         held : (was : Record) → g k ≡ Some was → is_in state.Committed was.columns ≡ false → (h k ≡ Some was) ⊎ IsResolved h k was → g k ≡ Some r
         held was f loose (inl stays) = f ∙ sym stays ∙ e
         held was f loose (inr x) = absurd (no_firm (resolved_firm k was (sound.taken k was listed f) loose x))
 
         some : (was : Record) → g k ≡ Some was → (b : Bool) → is_in state.Committed was.columns ≡ b → g k ≡ Some r
-        some was f true firm = absurd (no_firm (subst (λ o. is_firm o ≡ true) (sym (s.firm k listed (subst (λ o. is_firm o ≡ true) (sym f) firm) ∙ f)) firm))
+        some was f true firm = absurd (no_firm (subst (λ o. is_committed_or_none o ≡ true) (sym (s.firm k listed (subst (λ o. is_committed_or_none o ≡ true) (sym f) firm) ∙ f)) firm))
         some was f false loose = held was f loose (s.held k was listed f loose)
 
         by : (o : Option Record) → g k ≡ o → g k ≡ Some r
-        by None f = none_some r (sym (s.firm k listed (subst (λ o. is_firm o ≡ true) (sym f) refl) ∙ f) ∙ e)
+        by None f = none_some r (sym (s.firm k listed (subst (λ o. is_committed_or_none o ≡ true) (sym f) refl) ∙ f) ∙ e)
         by (Some was) f = some was f (is_in state.Committed was.columns) refl
 
     pub row_stays : (k : Key) → is_listed catalog k ≡ true → row_in h k ≡ row_in g k
@@ -170,21 +170,21 @@ module _ (catalog : List Table) (g h : Database) (s : OnlyResolves catalog g h) 
       fits = λ k columns listed e. sound.fits k columns listed (sym (row_stays k listed) ∙ e);
     }
       where
-        resolved : (k : Key) (r was : Record) → is_listed catalog k ≡ true → g k ≡ Some was → is_in state.Committed was.columns ≡ false → h k ≡ Some r → IsResolved h k was → is_taken r ≡ true
+        resolved : (k : Key) (r was : Record) → is_listed catalog k ≡ true → g k ≡ Some was → is_in state.Committed was.columns ≡ false → h k ≡ Some r → IsResolved h k was → is_transactional r ≡ true
         resolved k r was listed e loose f x =
             let is_write = sound.taken k was listed e in
             (image-is was r (Some x.d) is_write (row_moment h was x.d x.decided) (image-open was (Some x.d) loose ∙ sym x.present ∙ f)).taken
 
-        held : (k : Key) (r was : Record) → is_listed catalog k ≡ true → g k ≡ Some was → is_in state.Committed was.columns ≡ false → h k ≡ Some r → (h k ≡ Some was) ⊎ IsResolved h k was → is_taken r ≡ true
-        held k r was listed e loose f (inl stays) = subst (λ x. is_taken x ≡ true) (some_is was r (sym stays ∙ f)) (sound.taken k was listed e)
+        held : (k : Key) (r was : Record) → is_listed catalog k ≡ true → g k ≡ Some was → is_in state.Committed was.columns ≡ false → h k ≡ Some r → (h k ≡ Some was) ⊎ IsResolved h k was → is_transactional r ≡ true
+        held k r was listed e loose f (inl stays) = subst (λ x. is_transactional x ≡ true) (some_is was r (sym stays ∙ f)) (sound.taken k was listed e)
         held k r was listed e loose f (inr x) = resolved k r was listed e loose f x
 
-        was_some : (k : Key) (r was : Record) → is_listed catalog k ≡ true → h k ≡ Some r → g k ≡ Some was → (b : Bool) → is_in state.Committed was.columns ≡ b → is_taken r ≡ true
-        was_some k r was listed f e true firm = subst (λ x. is_taken x ≡ true) (some_is was r (sym (s.firm k listed (subst (λ o. is_firm o ≡ true) (sym e) firm) ∙ e) ∙ f)) (sound.taken k was listed e)
+        was_some : (k : Key) (r was : Record) → is_listed catalog k ≡ true → h k ≡ Some r → g k ≡ Some was → (b : Bool) → is_in state.Committed was.columns ≡ b → is_transactional r ≡ true
+        was_some k r was listed f e true firm = subst (λ x. is_transactional x ≡ true) (some_is was r (sym (s.firm k listed (subst (λ o. is_committed_or_none o ≡ true) (sym e) firm) ∙ e) ∙ f)) (sound.taken k was listed e)
         was_some k r was listed f e false loose = held k r was listed e loose f (s.held k was listed e loose)
 
-        taken : (k : Key) (r : Record) → is_listed catalog k ≡ true → h k ≡ Some r → (o : Option Record) → g k ≡ o → is_taken r ≡ true
-        taken k r listed f None e = none_some r (sym (s.firm k listed (subst (λ o. is_firm o ≡ true) (sym e) refl) ∙ e) ∙ f)
+        taken : (k : Key) (r : Record) → is_listed catalog k ≡ true → h k ≡ Some r → (o : Option Record) → g k ≡ o → is_transactional r ≡ true
+        taken k r listed f None e = none_some r (sym (s.firm k listed (subst (λ o. is_committed_or_none o ≡ true) (sym e) refl) ∙ e) ∙ f)
         taken k r listed f (Some was) e = was_some k r was listed f e (is_in state.Committed was.columns) refl
 
         rows : (k : Key) (row : Record) → is_coordinator_table k.table ≡ true → h k ≡ Some row → (o : Option Record) → g k ≡ o → is_ok (decision_in row) ≡ true
@@ -203,7 +203,7 @@ settles_refl catalog g = record {
 
 pub settles_trans : (catalog : List Table) (g h j : Database) → IsSound catalog g → OnlyResolves catalog g h → OnlyResolves catalog h j → OnlyResolves catalog g j
 settles_trans catalog g h j sound s t = record {
-  firm = λ k listed f. t.firm k listed (subst (λ o. is_firm o ≡ true) (sym (s.firm k listed f)) f) ∙ s.firm k listed f;
+  firm = λ k listed f. t.firm k listed (subst (λ o. is_committed_or_none o ≡ true) (sym (s.firm k listed f)) f) ∙ s.firm k listed f;
   held = λ k r listed e loose. held k r listed e loose (s.held k r listed e loose);
   rows = λ k row there e. t.rows k row there (s.rows k row there e);
   fresh = λ k row there e f. fresh k row there e f (h k) refl;
@@ -218,12 +218,12 @@ settles_trans catalog g h j sound s t = record {
     })
 
     -- an unresolved record that is there later was there before
-    held_before : (k : Key) → IsHeldFor catalog h k → IsHeldFor catalog g k
+    held_before : (k : Key) → IsPreparedFor catalog h k → IsPreparedFor catalog g k
     held_before k x = record { at = x.at; r = x.r; id = x.id; listed = x.listed; present = unresolved_before catalog g h s sound x.at x.r x.listed x.present x.loose; loose = x.loose; writer = x.writer; key = x.key }
 
-    fresh : (k : Key) (row : Record) → is_coordinator_table k.table ≡ true → g k ≡ None → j k ≡ Some row → (o : Option Record) → h k ≡ o → SaysAborted row × IsHeldFor catalog g k
+    fresh : (k : Key) (row : Record) → is_coordinator_table k.table ≡ true → g k ≡ None → j k ≡ Some row → (o : Option Record) → h k ≡ o → IsAbortedRow row × IsPreparedFor catalog g k
     fresh k row there e f None m = let x = t.fresh k row there m f in (x.0, held_before k x.1)
-    fresh k row there e f (Some was) m = let x = s.fresh k was there e m in (subst SaysAborted (some_is was row (sym (t.rows k was there m) ∙ f)) x.0, x.1)
+    fresh k row there e f (Some was) m = let x = s.fresh k was there e m in (subst IsAbortedRow (some_is was row (sym (t.rows k was there m) ∙ f)) x.0, x.1)
 
 ---- single moves
 
@@ -253,12 +253,12 @@ abort_settles catalog g h id moment rec apart rec_listed rec_present rec_open re
     rows k row e (inl s) = none_some row (sym none ∙ ap g (sym s.1) ∙ e)
     rows k row e (inr n) = now k ∙ ap (λ b. if b then Some aborted else g k) n.0 ∙ e
 
-    says : SaysAborted aborted
+    says : IsAbortedRow aborted
     says = subst (λ x. IsSomeAnd (result_ok x) (λ d. d.decision ≡ decision.Aborted)) (sym (row-decision id decision.Aborted moment fits time)) refl
 
-    fresh : (k : Key) (row : Record) → g k ≡ None → h k ≡ Some row → ((same_key k key ≡ true) × (k ≡ key)) ⊎ ((same_key k key ≡ false) × (k ≢ key)) → SaysAborted row × IsHeldFor catalog g k
+    fresh : (k : Key) (row : Record) → g k ≡ None → h k ≡ Some row → ((same_key k key ≡ true) × (k ≡ key)) ⊎ ((same_key k key ≡ false) × (k ≢ key)) → IsAbortedRow row × IsPreparedFor catalog g k
     fresh k row e f (inl s) = (
-      subst SaysAborted (some_is aborted row (sym (now k ∙ ap (λ b. if b then Some aborted else g k) s.0) ∙ f)) says,
+      subst IsAbortedRow (some_is aborted row (sym (now k ∙ ap (λ b. if b then Some aborted else g k) s.0) ∙ f)) says,
       record { at = rec.key; r = rec; id = id; listed = rec_listed; present = rec_present; loose = rec_open; writer = rec_writer; key = s.1 },
     )
     fresh k row e f (inr n) = none_some row (sym (now k ∙ ap (λ b. if b then Some aborted else g k) n.0 ∙ e) ∙ f)
@@ -275,8 +275,8 @@ roll_settles catalog g h rec d apart listed present loose decided now = record {
     new : Option Record
     new = image_under rec (Some d)
 
-    firm : (k : Key) → is_firm (g k) ≡ true → ((same_key k rec.key ≡ true) × (k ≡ rec.key)) ⊎ ((same_key k rec.key ≡ false) × (k ≢ rec.key)) → h k ≡ g k
-    firm k f (inl s) = false_true (sym loose ∙ subst (λ o. is_firm o ≡ true) (ap g s.1 ∙ present) f)
+    firm : (k : Key) → is_committed_or_none (g k) ≡ true → ((same_key k rec.key ≡ true) × (k ≡ rec.key)) ⊎ ((same_key k rec.key ≡ false) × (k ≢ rec.key)) → h k ≡ g k
+    firm k f (inl s) = false_true (sym loose ∙ subst (λ o. is_committed_or_none o ≡ true) (ap g s.1 ∙ present) f)
     firm k f (inr n) = now k ∙ ap (λ b. if b then new else g k) n.0
 
     other : (k : Key) → is_coordinator_table k.table ≡ true → h k ≡ g k

@@ -33,7 +33,7 @@ use Rattle.sdb_model.specs.declared.statement.Statement.TheVariants as statement
 use Rattle.sdb_model.specs.Access.{in_access}
 use Rattle.sdb_model.specs.Exec.{Tables, find_table, named_table, table_of}
 use Rattle.sdb_model.specs.Refused.{refusal_of}
-use Rattle.sdb_model.specs.Told.{run_body}
+use Rattle.sdb_model.specs.Serial.{run_body}
 use Rattle.sdb_model.specs.Transactions.{changes_nothing, is_answered_from_rows, is_conflict, is_done}
 use Rattle.sdb_exec.specs.Plans.{Planned}
 use Rattle.sdb_exec.proofs.Whole.{own}
@@ -44,17 +44,17 @@ use Rattle.sdb_txn.specs.Txn.{TxnAt}
 use Rattle.sdb_turns.proofs.Meta.{meta_of}
 use Rattle.sdb_client.specs.Client.{ClientAt}
 use Rattle.sdb_story.specs.Body.{AgreesAll}
-use Rattle.sdb_steps.specs.Fitting.{tables_fit}
+use Rattle.sdb_steps.specs.Fitting.{tables_are_well_typed}
 use Rattle.sdb_session.specs.Database.{Database, decided_in, is_listed, row_in}
 use Rattle.sdb_session.specs.OnlyResolves.{IsApart, OnlyResolves, IsSound}
 use Rattle.sdb_session.specs.Recovers.{IsAborted, IsCommittedAt, IsUndecided}
 use Rattle.sdb_session.specs.Seen.{AreImagesOf}
-use Rattle.sdb_session.specs.Sweeps.{Quiet}
+use Rattle.sdb_session.specs.Vacuums.{Quiet}
 use Rattle.sdb_session.specs.Clients.{Added, AnsweredAlone, IdleAlone, IsAskedFor, IsUnused, Kept, OpenAlone}
 use Rattle.sdb_session.specs.Later.{IsOwn, Later, Own}
-use Rattle.sdb_session.specs.Between.{Answered, Begun, Between, CommitEnds, Ended, Lost, RolledBack, OpenTransaction, Swept, SweptBy, Turned, IsTxnOf, Won}
-use Rattle.sdb_session.specs.Session.{AreSerialParts, Exchange, IfBusy, IfUnknown, IsBusyAlone, IsOfOpening, IsOfSession, IsSerialPart, NeverComes, Part, Parts, all_parts, answers_in, begins, body_in, ends, in_body, is_begin, is_commit, is_held_committed, is_recorded, is_recorded_by, is_rollback, is_vacuum, leaves_records, no_parts, part_after, parts_after, statements_in, tables_after, turned_away, AreLimited, IsLimited}
-use Rattle.sdb_session.specs.Chain.{Chain, Exchanged, Starved, Answers, transaction_of, open_of}
+use Rattle.sdb_session.specs.Between.{Answered, Begun, Between, CommitEnds, Ended, Lost, RolledBack, OpenTransaction, Vacuumed, VacuumedBy, Turned, IsTxnOf, Won}
+use Rattle.sdb_session.specs.Session.{AreSerialParts, Exchange, IfBusy, IfUnknown, IsBusyAlone, IsOfOpening, IsOfSession, IsSerialPart, IsImpossible, Part, Parts, all_parts, answers_in, begins, body_in, ends, in_body, is_begin, is_commit, is_recorded_in, is_recorded, is_recorded_by, is_rollback, is_vacuum, leaves_records, no_parts, part_after, parts_after, statements_in, tables_after, rejected, AreLimited, IsLimited}
+use Rattle.sdb_session.specs.Chain.{Chain, Exchanged, OutOfMemory, Answers, transaction_of, open_of}
 use Rattle.sdb_session.proofs.Resolves.{row_key}
 use Rattle.sdb_session.proofs.Statements.{agrees_all, rows_change}
 use Rattle.sdb_session.proofs.Recovers.{row_at}
@@ -93,7 +93,7 @@ pub record IsAway (says : Result Statement Refusal) (z : Answer) : Type 0 where
   pub rollback : is_rollback says ≡ false
   pub mild : (z ≡ answer.OpenTransactions) ⊎ ((r : Refusal) × (z ≡ answer.Refused r))
 
-pub away_open : (catalog : List Table) (says : Result Statement Refusal) (z : Answer) → turned_away catalog true says ≡ Some z → IsAway says z
+pub away_open : (catalog : List Table) (says : Result Statement Refusal) (z : Answer) → rejected catalog true says ≡ Some z → IsAway says z
 away_open catalog (Err r) z e = record { commit = refl; rollback = refl; mild = inr (r, sym (some_is (answer.Refused r) z e)) }
 away_open catalog (Ok statement.Begin) z e = record { commit = refl; rollback = refl; mild = inr (_, sym (some_is _ z e)) }
 away_open catalog (Ok statement.Commit) z e = none_some z e
@@ -109,7 +109,7 @@ pub record IsAwayOutside (says : Result Statement Refusal) (z : Answer) : Type 0
   pub begin : is_begin says ≡ false
   pub mild : (r : Refusal) × (z ≡ answer.Refused r)
 
-pub away_none : (catalog : List Table) (says : Result Statement Refusal) (z : Answer) → turned_away catalog false says ≡ Some z → IsAwayOutside says z
+pub away_none : (catalog : List Table) (says : Result Statement Refusal) (z : Answer) → rejected catalog false says ≡ Some z → IsAwayOutside says z
 away_none catalog (Err r) z e = record { begin = refl; mild = (r, sym (some_is (answer.Refused r) z e)) }
 away_none catalog (Ok statement.Begin) z e = none_some z e
 away_none catalog (Ok statement.Commit) z e = record { begin = refl; mild = (_, sym (some_is _ z e)) }
@@ -157,7 +157,7 @@ many_append catalog d front [] e a m = (subst (λ fs. IsLimited catalog d fs e) 
 many_append catalog d front (x ∷ es) e a m = (a.0, many_append catalog d (front ++ x ∷ []) es e a.1 (subst (λ fs. IsLimited catalog d fs e) (sym (append_assoc front (x ∷ []) es)) m))
 
 -- one that changed nothing, and isn't refused so
-few_nothing : (catalog : List Table) (d : Tables) (front : List Exchange) (e : Exchange) → changes_nothing e.answer ≡ true → (turned_away catalog true e.says ≡ None → is_too_many e.answer ≡ true → ⊥) → IsLimited catalog d front e
+few_nothing : (catalog : List Table) (d : Tables) (front : List Exchange) (e : Exchange) → changes_nothing e.answer ≡ true → (rejected catalog true e.says ≡ None → is_too_many e.answer ≡ true → ⊥) → IsLimited catalog d front e
 few_nothing catalog d front e nothing other = record { fits = λ st says stays passes. nothing; too_many = λ st says stays many. absurd (other stays many) }
 
 ---- answers
@@ -165,7 +165,7 @@ few_nothing catalog d front e nothing other = record { fits = λ st says stays p
 -- an answer of a statement that isn't the last of its transaction, and never one of those that never come
 pub record IsMeek (z : Answer) : Type 0 where
   pub conflict : is_conflict (Some z) ≡ false
-  pub never : NeverComes z → ⊥
+  pub never : IsImpossible z → ⊥
 
 pub rows_meek : (z : Answer) → is_answered_from_rows z ≡ true → IsMeek z × ((P : Key → TxId → ℤ → Type 0) → IfBusy z P)
 rows_meek (answer.Rows rows) h = (record { conflict = refl; never = λ n. n }, λ P. tt)
@@ -242,8 +242,8 @@ module _ (catalog : List Table) (apart : IsApart catalog) (start : Database) (be
   pub record So (g : Database) (p : Parts) : Type 0 where
     pub sound : IsSound catalog g
     pub are_images : AreImagesOf catalog g (tables_after catalog g before p.ended)
-    pub fit : tables_fit catalog (tables_after catalog g before p.ended) ≡ true
-    pub rows : AllByRecursion (λ (t : Part). is_held_committed g t.id ≡ is_recorded g t) p.ended
+    pub fit : tables_are_well_typed catalog (tables_after catalog g before p.ended) ≡ true
+    pub rows : AllByRecursion (λ (t : Part). is_recorded_in g t.id ≡ is_recorded g t) p.ended
     pub parts : AreSerialParts catalog start g [] before p.ended
     pub current : IfSome p.opened (IsCurrent g p.ended)
     pub origins : Origins g p.ended
@@ -292,7 +292,7 @@ module _ (catalog : List Table) (apart : IsApart catalog) (start : Database) (be
   remade g h ended opened now so quiet current less = record {
     sound = quiet.sound;
     are_images = subst (AreImagesOf catalog h) (sym same) (quiet_images g h quiet (tables_after catalog g before ended) so.are_images);
-    fit = ap (tables_fit catalog) same ∙ so.fit;
+    fit = ap (tables_are_well_typed catalog) same ∙ so.fit;
     rows = rows_same catalog None g h later ended (none_other ended so.fits) so.rows;
     parts = parts_same catalog None g h later start [] before ended (none_other ended so.fits) so.parts;
     current = current;
@@ -340,12 +340,12 @@ module _ (catalog : List Table) (apart : IsApart catalog) (start : Database) (be
     serial_part : IsSerialPart catalog start ended (tables_after catalog h before ended) (ended_by t e)
     serial_part = record { answers = ap (λ d. (run_body catalog (statements_in t.inside) d).0) same ∙ ap (λ (q : List Answer × Tables). q.0) runs; busy = so.current.busy; many = subst (λ d. AreLimited catalog d [] t.inside) (sym same) so.current.many; last = unknown }
 
-    pub ended_more : is_held_committed h t.id ≡ is_recorded h (ended_by t e) → (after : Tables) → (if is_recorded h (ended_by t e) then (run_body catalog (statements_in t.inside) D).1 else D) ≡ after → AreImagesOf catalog h after → tables_fit catalog after ≡ true → So h (record { ended = ended ++ ended_by t e ∷ []; opened = None })
+    pub ended_more : is_recorded_in h t.id ≡ is_recorded h (ended_by t e) → (after : Tables) → (if is_recorded h (ended_by t e) then (run_body catalog (statements_in t.inside) D).1 else D) ≡ after → AreImagesOf catalog h after → tables_are_well_typed catalog after ≡ true → So h (record { ended = ended ++ ended_by t e ∷ []; opened = None })
     ended_more row after is are_images fit = record {
       sound = later.sound;
       are_images = subst (AreImagesOf catalog h) (sym all) are_images;
-      fit = ap (tables_fit catalog) all ∙ fit;
-      rows = each_more (λ (x : Part). is_held_committed h x.id ≡ is_recorded h x) ended (ended_by t e) (rows_same catalog own g h later ended others so.rows) row;
+      fit = ap (tables_are_well_typed catalog) all ∙ fit;
+      rows = each_more (λ (x : Part). is_recorded_in h x.id ≡ is_recorded h x) ended (ended_by t e) (rows_same catalog own g h later ended others so.rows) row;
       parts = parts_append catalog start h [] before ended (ended_by t e) (parts_same catalog own g h later start [] before ended others so.parts) serial_part;
       current = tt;
       origins = origins_later own g h later ended (ended ++ ended_by t e ∷ []) (of_more ended (ended_by t e)) left so.origins;
@@ -361,7 +361,7 @@ module _ (catalog : List Table) (apart : IsApart catalog) (start : Database) (be
   ---- the cases
 
   abbrev Goal : Database → List Part → Option Part → Exchange → Type 0
-  Goal h ended opened e = So h (part_after ended opened e) × (NeverComes e.answer → ⊥)
+  Goal h ended opened e = So h (part_after ended opened e) × (IsImpossible e.answer → ⊥)
 
   -- nothing was recorded
   quiet_same : (g h : Database) (ended : List Part) (o : Option Part) → So g (record { ended = ended; opened = o }) → Quiet catalog g h → tables_after catalog h before ended ≡ tables_after catalog g before ended
@@ -453,36 +453,36 @@ module _ (catalog : List Table) (apart : IsApart catalog) (start : Database) (be
       (outside_stays g h ended e so (still g h so.sound same) (ap (λ b. b && is_done (Some e.answer)) a.begin), (mild_meek e.answer (inr a.mild)).0.never)
   outside_step ended g h e c so own_h new (Answers (Begun is none done same left)) = (
     subst (λ j. So j (part_after ended None e)) (sym same) (outside_begins g ended e c so is done (new (ap (λ s. is_begin s && is_done (Some e.answer)) is ∙ ap (λ z. is_done (Some z)) done)) (subst (λ j. Between catalog j (Some (record { id = e.id; statements = []; answers = [] })) c) same left)),
-    subst (λ z. NeverComes z → ⊥) (sym done) (λ x. x),
+    subst (λ z. IsImpossible z → ⊥) (sym done) (λ x. x),
   )
   outside_step ended g h e c so own_h new (Answers (RolledBack b is some done unmoved left)) = none_some b some
   outside_step ended g h e c so own_h new (Answers (Answered b st p a s is of asked stays some resolves x y)) = none_some b some
   outside_step ended g h e c so own_h new (Answers (Ended b s is some opened later ends left)) = none_some b some
-  outside_step ended g h e c so own_h new (Answers (Swept is none quiet all left)) = (outside_stays g h ended e so quiet (ap (λ s. is_begin s && is_done (Some e.answer)) is), never all)
+  outside_step ended g h e c so own_h new (Answers (Vacuumed is none quiet all left)) = (outside_stays g h ended e so quiet (ap (λ s. is_begin s && is_done (Some e.answer)) is), never all)
     where
-      never : SweptBy catalog g h e.moment e.answer → NeverComes e.answer → ⊥
-      never (inl f) = subst (λ z. NeverComes z → ⊥) (sym f) (λ x. x)
-      never (inr (inl f)) = subst (λ z. NeverComes z → ⊥) (sym f) (λ x. x)
-      never (inr (inr x)) = subst (λ z. NeverComes z → ⊥) (sym x.1) (λ y. y)
-  outside_step ended g h e c so own_h new (Starved none same commit other) =
-      (outside_stays g h ended e so (still g h so.sound same) (ap (λ z. is_begin e.says && is_done (Some z)) none ∙ and_false (is_begin e.says)), subst (λ z. NeverComes z → ⊥) (sym none) (λ x. x))
+      never : VacuumedBy catalog g h e.moment e.answer → IsImpossible e.answer → ⊥
+      never (inl f) = subst (λ z. IsImpossible z → ⊥) (sym f) (λ x. x)
+      never (inr (inl f)) = subst (λ z. IsImpossible z → ⊥) (sym f) (λ x. x)
+      never (inr (inr x)) = subst (λ z. IsImpossible z → ⊥) (sym x.1) (λ y. y)
+  outside_step ended g h e c so own_h new (OutOfMemory none same commit other) =
+      (outside_stays g h ended e so (still g h so.sound same) (ap (λ z. is_begin e.says && is_done (Some z)) none ∙ and_false (is_begin e.says)), subst (λ z. IsImpossible z → ⊥) (sym none) (λ x. x))
 
   module _ (ended : List Part) (t : Part) (g h : Database) (e : Exchange) (c : ClientAt) (so : So g (record { ended = ended; opened = Some t })) (own_h : (k : Key) (r : Record) → h k ≡ Some r → r.key ≡ k) where
     abbrev Inside : Type 0
     Inside = Goal h ended (Some t) e
 
     -- the client is where it was
-    goes_on : (s : Seen) → h ≡ g → OpenAlone catalog h (statements_in t.inside) (answers_in t.inside) t.id s → ends e ≡ false → changes_nothing e.answer ≡ true → IfBusy e.answer (IsBusyAlone start ended e) → (turned_away catalog true e.says ≡ None → is_too_many e.answer ≡ true → ⊥) → So h (part_after ended (Some t) e)
+    goes_on : (s : Seen) → h ≡ g → OpenAlone catalog h (statements_in t.inside) (answers_in t.inside) t.id s → ends e ≡ false → changes_nothing e.answer ≡ true → IfBusy e.answer (IsBusyAlone start ended e) → (rejected catalog true e.says ≡ None → is_too_many e.answer ≡ true → ⊥) → So h (part_after ended (Some t) e)
     goes_on s same opened stays nothing busy other = inside_stays g h ended t e so (still g h so.sound same) stays (same_current g h ended t e s so.current nothing opened busy (quiet_same g h ended (Some t) so (still g h so.sound same)) (few_nothing catalog (tables_after catalog g before ended) t.inside e nothing other))
 
     -- it ends, and is not recorded
-    unrecorded : (own : Option Own) → ((o : Own) → own ≡ Some o → o.id ≡ t.id) → Later catalog own g h → ((o : Own) → own ≡ Some o → IsUndecided h o.id → IsOfSession (ended ++ ended_by t e ∷ []) o.id o.at) → IfUnknown e.answer (λ id. id ≡ t.id) → ends e ≡ true → is_held_committed h t.id ≡ false → is_recorded_by h t.id e.answer ≡ false → AreImagesOf catalog h (tables_after catalog g before ended) → So h (part_after ended (Some t) e)
+    unrecorded : (own : Option Own) → ((o : Own) → own ≡ Some o → o.id ≡ t.id) → Later catalog own g h → ((o : Own) → own ≡ Some o → IsUndecided h o.id → IsOfSession (ended ++ ended_by t e ∷ []) o.id o.at) → IfUnknown e.answer (λ id. id ≡ t.id) → ends e ≡ true → is_recorded_in h t.id ≡ false → is_recorded_by h t.id e.answer ≡ false → AreImagesOf catalog h (tables_after catalog g before ended) → So h (part_after ended (Some t) e)
     unrecorded own own_id later left unknown goes bare none are_images =
         inside_ends h ended t e goes (ended_more g h ended t so own own_id later e left unknown (bare ∙ sym none) (tables_after catalog g before ended) (ap (λ b. if b then (run_body catalog (statements_in t.inside) (tables_after catalog g before ended)).1 else tables_after catalog g before ended) none) are_images so.fit)
 
     -- its id is new, and so it has no row
-    no_row : h ≡ g → is_held_committed h t.id ≡ false
-    no_row same = ap (λ (j : Database). is_held_committed j t.id) same ∙ ap (λ o. is_committed_by (row_at o)) so.current.opened.new.undecided
+    no_row : h ≡ g → is_recorded_in h t.id ≡ false
+    no_row same = ap (λ (j : Database). is_recorded_in j t.id) same ∙ ap (λ o. is_committed_by (row_at o)) so.current.opened.new.undecided
 
     none_own : (o : Own) → None ≡ Some o → o.id ≡ t.id
     none_own o f = none_some o f
@@ -490,7 +490,7 @@ module _ (catalog : List Table) (apart : IsApart catalog) (start : Database) (be
     none_left : (o : Own) → None ≡ Some o → IsUndecided h o.id → IsOfSession (ended ++ ended_by t e ∷ []) o.id o.at
     none_left o f = none_some o f
 
-    turned_step : turned_away catalog true e.says ≡ Some e.answer → h ≡ g → Between catalog h (Some (transaction_of t)) c → Inside
+    turned_step : rejected catalog true e.says ≡ Some e.answer → h ≡ g → Between catalog h (Some (transaction_of t)) c → Inside
     turned_step away same left =
         let a = away_open catalog e.says e.answer away in
         let m = mild_meek e.answer a.mild in
@@ -502,7 +502,7 @@ module _ (catalog : List Table) (apart : IsApart catalog) (start : Database) (be
       unrecorded None none_own (later_of catalog None g h (still g h so.sound same)) none_left (subst (λ z. IfUnknown z (λ id. id ≡ t.id)) (sym done) tt)
           (ap (λ s. is_commit s || (is_conflict (Some e.answer) || (is_rollback s && is_done (Some e.answer)))) is ∙ ap (λ z. is_conflict (Some z) || is_done (Some z)) done)
           (no_row same) (ap (is_recorded_by h t.id) done) (subst (λ j. AreImagesOf catalog j (tables_after catalog g before ended)) (sym same) so.are_images),
-      subst (λ z. NeverComes z → ⊥) (sym done) (λ x. x),
+      subst (λ z. IsImpossible z → ⊥) (sym done) (λ x. x),
     )
 
     answered_step : (st : Statement) (p : Planned) (a : Access) (s : Seen) → e.says ≡ Ok st → p.statement ≡ st → IsAskedFor catalog p a → OnlyResolves catalog g h → AnsweredAlone catalog h (statements_in t.inside) (answers_in t.inside) st a e.moment t.id e.answer s → Inside
@@ -544,7 +544,7 @@ module _ (catalog : List Table) (apart : IsApart catalog) (start : Database) (be
         agree : AgreesAll s E
         agree = agrees_all catalog opened.past g so.sound s opened.seen E so.are_images
 
-        held : is_held_committed h t.id ≡ true
+        held : is_recorded_in h t.id ≡ true
         held = ap is_committed_by decided
 
         recorded : (e.answer ≡ answer.Committed) ⊎ (e.answer ≡ answer.Unknown t.id) → is_recorded_by h t.id e.answer ≡ true
@@ -555,9 +555,9 @@ module _ (catalog : List Table) (apart : IsApart catalog) (start : Database) (be
         unknown (inl f) = subst (λ z. IfUnknown z (λ id. id ≡ t.id)) (sym f) tt
         unknown (inr f) = subst (λ z. IfUnknown z (λ id. id ≡ t.id)) (sym f) refl
 
-        never : (e.answer ≡ answer.Committed) ⊎ (e.answer ≡ answer.Unknown t.id) → NeverComes e.answer → ⊥
-        never (inl f) = subst (λ z. NeverComes z → ⊥) (sym f) (λ x. x)
-        never (inr f) = subst (λ z. NeverComes z → ⊥) (sym f) (λ x. x)
+        never : (e.answer ≡ answer.Committed) ⊎ (e.answer ≡ answer.Unknown t.id) → IsImpossible e.answer → ⊥
+        never (inl f) = subst (λ z. IsImpossible z → ⊥) (sym f) (λ x. x)
+        never (inr f) = subst (λ z. IsImpossible z → ⊥) (sym f) (λ x. x)
 
     lost_step : e.says ≡ Ok statement.Commit → Later catalog (Some (record { id = t.id; at = e.moment })) g h → (e.answer ≡ answer.Faulted) ⊎ ((e.answer ≡ answer.NoMemory) ⊎ (e.answer ≡ answer.Unknown t.id)) → IsUndecided h t.id ⊎ IsAborted h t.id → AreImagesOf catalog h E → Inside
     lost_step is later replied decided are_images = (
@@ -565,7 +565,7 @@ module _ (catalog : List Table) (apart : IsApart catalog) (start : Database) (be
       never replied,
     )
       where
-        held : IsUndecided h t.id ⊎ IsAborted h t.id → is_held_committed h t.id ≡ false
+        held : IsUndecided h t.id ⊎ IsAborted h t.id → is_recorded_in h t.id ≡ false
         held (inl none) = ap (λ o. is_committed_by (row_at o)) none
         held (inr a) = aborted_not (decided_in h t.id) a
 
@@ -584,17 +584,17 @@ module _ (catalog : List Table) (apart : IsApart catalog) (start : Database) (be
         unknown (inr (inl f)) = subst (λ z. IfUnknown z (λ id. id ≡ t.id)) (sym f) tt
         unknown (inr (inr f)) = subst (λ z. IfUnknown z (λ id. id ≡ t.id)) (sym f) refl
 
-        never : (e.answer ≡ answer.Faulted) ⊎ ((e.answer ≡ answer.NoMemory) ⊎ (e.answer ≡ answer.Unknown t.id)) → NeverComes e.answer → ⊥
-        never (inl f) = subst (λ z. NeverComes z → ⊥) (sym f) (λ x. x)
-        never (inr (inl f)) = subst (λ z. NeverComes z → ⊥) (sym f) (λ x. x)
-        never (inr (inr f)) = subst (λ z. NeverComes z → ⊥) (sym f) (λ x. x)
+        never : (e.answer ≡ answer.Faulted) ⊎ ((e.answer ≡ answer.NoMemory) ⊎ (e.answer ≡ answer.Unknown t.id)) → IsImpossible e.answer → ⊥
+        never (inl f) = subst (λ z. IsImpossible z → ⊥) (sym f) (λ x. x)
+        never (inr (inl f)) = subst (λ z. IsImpossible z → ⊥) (sym f) (λ x. x)
+        never (inr (inr f)) = subst (λ z. IsImpossible z → ⊥) (sym f) (λ x. x)
 
     ended_step : (s : Seen) → e.says ≡ Ok statement.Commit → OpenAlone catalog g (statements_in t.inside) (answers_in t.inside) t.id s → Later catalog (Some (record { id = t.id; at = e.moment })) g h → CommitEnds catalog g h t.id e.moment s e.answer → Inside
     ended_step s is opened later (Won replied decided left written) = won_step s is opened later replied decided (left E so.are_images)
     ended_step s is opened later (Lost replied decided left images) = lost_step is later replied decided (left E so.are_images)
 
     starved_step : e.answer ≡ answer.NoMemory → h ≡ g → (is_commit e.says ≡ false → Between catalog h (Some (transaction_of t)) c) → Inside
-    starved_step none same other = (by (is_commit e.says) refl, subst (λ z. NeverComes z → ⊥) (sym none) (λ x. x))
+    starved_step none same other = (by (is_commit e.says) refl, subst (λ z. IsImpossible z → ⊥) (sym none) (λ x. x))
       where
         by : (b : Bool) → is_commit e.says ≡ b → So h (part_after ended (Some t) e)
         by true f = unrecorded None none_own (later_of catalog None g h (still g h so.sound same)) none_left (subst (λ z. IfUnknown z (λ id. id ≡ t.id)) (sym none) tt) (ap (λ b. b || (is_conflict (Some e.answer) || (is_rollback e.says && is_done (Some e.answer)))) f) (no_row same) (ap (is_recorded_by h t.id) none) (subst (λ j. AreImagesOf catalog j E) (sym same) so.are_images)
@@ -610,15 +610,15 @@ module _ (catalog : List Table) (apart : IsApart catalog) (start : Database) (be
     inside_step (Answers (Ended b s is some opened later ends left)) =
         let same = sym (some_is (transaction_of t) b some) in
         ended_step s is (subst (λ (z : OpenTransaction). OpenAlone catalog g z.statements z.answers z.id s) same opened) (subst (λ (z : OpenTransaction). Later catalog (Some (record { id = z.id; at = e.moment })) g h) same later) (subst (λ (z : OpenTransaction). CommitEnds catalog g h z.id e.moment s e.answer) same ends)
-    inside_step (Answers (Swept is none quiet all left)) = none_some (transaction_of t) (sym none)
-    inside_step (Starved none same commit other) = starved_step none same other
+    inside_step (Answers (Vacuumed is none quiet all left)) = none_some (transaction_of t) (sym none)
+    inside_step (OutOfMemory none same commit other) = starved_step none same other
 
   ---- the whole
 
-  pub step : (p : Parts) (g h : Database) (e : Exchange) (c : ClientAt) → So g p → ((k : Key) (r : Record) → h k ≡ Some r → r.key ≡ k) → (begins e ≡ true → IsOutside p.ended p.opened e.id) → Exchanged catalog g (open_of p.opened) e h c → So h (parts_after p e) × (NeverComes e.answer → ⊥)
+  pub step : (p : Parts) (g h : Database) (e : Exchange) (c : ClientAt) → So g p → ((k : Key) (r : Record) → h k ≡ Some r → r.key ≡ k) → (begins e ≡ true → IsOutside p.ended p.opened e.id) → Exchanged catalog g (open_of p.opened) e h c → So h (parts_after p e) × (IsImpossible e.answer → ⊥)
   step p g h e c so own_h new x = by p.opened refl
     where
-      by : (o : Option Part) → p.opened ≡ o → So h (parts_after p e) × (NeverComes e.answer → ⊥)
+      by : (o : Option Part) → p.opened ≡ o → So h (parts_after p e) × (IsImpossible e.answer → ⊥)
       by None f =
           let q = outside_step p.ended g h e c (subst (λ o. So g (record { ended = p.ended; opened = o })) f so) own_h (subst (λ o. begins e ≡ true → IsOutside p.ended o e.id) f new) (subst (λ o. Exchanged catalog g (open_of o) e h c) f x) in
           (subst (λ o. So h (part_after p.ended o e)) (sym f) q.0, q.1)
@@ -631,7 +631,7 @@ module _ (catalog : List Table) (apart : IsApart catalog) (start : Database) (be
   AreFresh p [] = Unit {0}
   AreFresh p (e ∷ es) = (begins e ≡ true → IsOutside p.ended p.opened e.id) × AreFresh (parts_after p e) es
 
-  pub session_at : (p : Parts) (g : Database) (es : List Exchange) (last : Database) → So g p → AreFresh p es → Chain catalog g p es last → So last (fold parts_after p es) × AllByRecursion (λ e. NeverComes e.answer → ⊥) es
+  pub session_at : (p : Parts) (g : Database) (es : List Exchange) (last : Database) → So g p → AreFresh p es → Chain catalog g p es last → So last (fold parts_after p es) × AllByRecursion (λ e. IsImpossible e.answer → ⊥) es
   session_at p g [] last so new is = (subst (λ j. So j p) (sym is) so, tt)
   session_at p g (e ∷ es) last so new (h, c, own_h, x, rest) =
       let q = step p g h e c so own_h new.0 x in
@@ -652,7 +652,7 @@ module _ (catalog : List Table) (apart : IsApart catalog) (start : Database) (be
       })
 
   -- before its first statement
-  pub begins_serial : IsSound catalog start → AreImagesOf catalog start before → tables_fit catalog before ≡ true → So start no_parts
+  pub begins_serial : IsSound catalog start → AreImagesOf catalog start before → tables_are_well_typed catalog before ≡ true → So start no_parts
   begins_serial sound are_images fit = record {
     sound = sound;
     are_images = are_images;

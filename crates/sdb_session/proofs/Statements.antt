@@ -17,7 +17,7 @@ use Rattle.sdb_types.specs.declared.record.Request.{Request}
 use Rattle.sdb_types.specs.declared.record.Reply.{Reply}
 use Rattle.sdb_types.specs.Contents.{in_span}
 use Rattle.sdb_types.specs.Order.{same_key}
-use Rattle.sdb_types.specs.Exactness.{span_tells}
+use Rattle.sdb_types.specs.Exactness.{span_is_exact}
 use Rattle.sdb_types.proofs.Basics.{by_test, false_true, none_some, or_second, or_true}
 use Rattle.sdb_record.specs.declared.access.Access.{Access}
 use Rattle.sdb_record.specs.declared.access.Access.TheVariants as access
@@ -43,10 +43,10 @@ use Rattle.sdb_exec.specs.declared.plan.PlanStep.TheVariants.{Finished}
 use Rattle.sdb_exec.specs.Plans.{Planned, finished, first_unfit, step_at, step_of, changes_on}
 use Rattle.sdb_exec.specs.Reads.{access_of}
 use Rattle.sdb_exec.proofs.Places.{named_is_table}
-use Rattle.sdb_laws.specs.Lawful.{Played}
+use Rattle.sdb_laws.specs.Lawful.{Labelled}
 use Rattle.sdb_read.specs.declared.read.ReadStep.TheVariants as step
 use Rattle.sdb_read.specs.Read.{ReadAt, ReadStage, Asking, Resolving, Ended, read_pending_at, read_result, read_step, request_of}
-use Rattle.sdb_snapshot.specs.Noted.{base_at, is_noted, reads_of}
+use Rattle.sdb_snapshot.specs.Reads.{base_at, is_key_read, reads_of}
 use Rattle.sdb_snapshot.specs.Rows.{row_found, with_own}
 use Rattle.sdb_snapshot.specs.Seen.{Seen, is_scanned, overlay, same_span, with_written}
 use Rattle.sdb_snapshot.specs.Written.{AreChanges}
@@ -55,19 +55,19 @@ use Rattle.sdb_txn.specs.declared.txn.Doing.TheVariants as doing
 use Rattle.sdb_txn.specs.Txn.{TxnAt, idle as idle_of}
 use Rattle.sdb_client.specs.declared.next.Next.{Next}
 use Rattle.sdb_client.specs.declared.next.Next.TheVariants as next
-use Rattle.sdb_client.specs.Client.{CallTold, ImagesTold, IsAsRead, IsMovedAt, StageTold, gives, given_answer, given_left, noting, too_many, written}
-use Rattle.sdb_client.specs.Inside.{IsFine, IsKeyRead, MayWrite}
+use Rattle.sdb_client.specs.Client.{CallPost, RowsReadPost, IsAsRead, IsChangedAt, StagePost, gives, given_answer, given_left, with_rows_read, too_many, written}
+use Rattle.sdb_client.specs.Inside.{IsValidPlan, IsKeyRead, MayWrite}
 use Rattle.sdb_client.proofs.Calls.{last_noted}
 use Rattle.sdb_client.proofs.Writable.{may_write}
-use Rattle.sdb_turns.specs.Noted.{first_image, with_read}
+use Rattle.sdb_turns.specs.Reads.{first_image, with_read}
 use Rattle.sdb_story.specs.Body.{AgreesAll, AnswersOn, BodyOk, IsCovered, ReadAgrees, ScanAgrees}
 use Rattle.sdb_story.proofs.Bodies.{access_agrees, body_read, body_step}
-use Rattle.sdb_steps.specs.Fitting.{tables_fit}
+use Rattle.sdb_steps.specs.Fitting.{tables_are_well_typed}
 use Rattle.sdb_steps.proofs.Fitted.{by_next}
 use Rattle.sdb_steps.proofs.RowsFit.{answers_on, found_itself}
-use Rattle.sdb_session.specs.Database.{Called, Database, decided_on, is_firm, is_listed, row_in}
+use Rattle.sdb_session.specs.Database.{Called, Database, decided_on, is_committed_or_none, is_listed, row_in}
 use Rattle.sdb_session.specs.OnlyResolves.{IsApart, OnlyResolves, IsSound}
-use Rattle.sdb_session.specs.Reads.{AreFirm, ReadAlone, AreRowsAt}
+use Rattle.sdb_session.specs.Reads.{AreCommitted, ReadAlone, AreRowsAt}
 use Rattle.sdb_session.specs.Clients.{Added, IdleAlone, IsAskedFor, IsUnused, Kept, LedAlone, OpenAlone, Passes}
 use Rattle.sdb_session.specs.Commits.{IsScanCurrent}
 use Rattle.sdb_session.specs.Seen.{SeenAlone, AreImagesOf, was_covered}
@@ -80,15 +80,15 @@ use Rattle.sdb_session.proofs.Writes.{taken_id}
 ---- what a read has noted
 
 scanned_last : (xs : List Scan) (x : Scan) → is_scanned (xs ++ x ∷ []) x.span ≡ true
-scanned_last [] x = ap (λ (b : Bool). b || false) ((span_tells x.span x.span).1 refl)
+scanned_last [] x = ap (λ (b : Bool). b || false) ((span_is_exact x.span x.span).1 refl)
 scanned_last (y ∷ xs) x = or_second (same_span y.span x.span) (is_scanned (xs ++ x ∷ []) x.span) (scanned_last xs x)
 
 covered_now : (s : Seen) (a : Access) (images : List Record) → IsCovered (with_read s a images) a
-covered_now s (access.Get key) images = last_noted s.notes key (first_image images)
+covered_now s (access.Get key) images = last_noted s.read_set key (first_image images)
 covered_now s (access.Scan span) images = scanned_last s.scans (record { span = span; found = reads_of images })
 
-key_read_now : (s : Seen) (a : Access) (images : List Record) → IsKeyRead (with_read s a images).notes a
-key_read_now s (access.Get key) images = last_noted s.notes key (first_image images)
+key_read_now : (s : Seen) (a : Access) (images : List Record) → IsKeyRead (with_read s a images).read_set a
+key_read_now s (access.Get key) images = last_noted s.read_set key (first_image images)
 key_read_now s (access.Scan span) images = tt
 
 record IsNoting (t : TxnAt) (a : Access) (images : List Record) (v : TxnAt) : Type 0 where
@@ -96,31 +96,31 @@ record IsNoting (t : TxnAt) (a : Access) (images : List Record) (v : TxnAt) : Ty
   seen : v.seen ≡ with_read t.seen a images
   idle : v.doing ≡ doing.Idle
 
-noting_first : (t : TxnAt) (key : Key) (images : List Record) → IsNoting t (access.Get key) images (noting t (access.Get key) images)
+noting_first : (t : TxnAt) (key : Key) (images : List Record) → IsNoting t (access.Get key) images (with_rows_read t (access.Get key) images)
 noting_first t key [] = record { id = refl; seen = refl; idle = refl }
 noting_first t key (r ∷ rs) = record { id = refl; seen = refl; idle = refl }
 
-is_noting : (t : TxnAt) (a : Access) (images : List Record) → IsNoting t a images (noting t a images)
+is_noting : (t : TxnAt) (a : Access) (images : List Record) → IsNoting t a images (with_rows_read t a images)
 is_noting t (access.Get key) images = noting_first t key images
 is_noting t (access.Scan span) images = record { id = refl; seen = refl; idle = refl }
 
 ---- tables that are the images agree with all that was read
 
-module _ (catalog : List Table) (past : List Played) (g : Database) (sound : IsSound catalog g) (s : Seen) (alone : SeenAlone catalog past g s) (d : Tables) (are_images : AreImagesOf catalog g d) where
-  row_there : (q : Key) → was_covered s q ≡ true → row_found (base_at s.notes q) ≡ get d q
+module _ (catalog : List Table) (past : List Labelled) (g : Database) (sound : IsSound catalog g) (s : Seen) (alone : SeenAlone catalog past g s) (d : Tables) (are_images : AreImagesOf catalog g d) where
+  row_there : (q : Key) → was_covered s q ≡ true → row_found (base_at s.read_set q) ≡ get d q
   row_there q covered =
       let x = alone.matches q covered in
-      let firm = ap is_firm x.1 ∙ base_firm s.notes alone.ok.kept.bases q in
+      let firm = ap is_committed_or_none x.1 ∙ base_firm s.read_set alone.ok.kept.bases q in
       ap row_found (sym x.1) ∙ ap row_found (sym (firm_image (g q) (decided_on g) firm)) ∙ sym (are_images q ∙ ap (λ b. if b then row_in g q else None) x.0)
 
-  read_agrees : (r : Read) → (is_noted s.notes r.key ≡ true) × (r.version ≡ version_of (base_at s.notes r.key)) → ReadAgrees s d r
+  read_agrees : (r : Read) → (is_key_read s.read_set r.key ≡ true) × (r.version ≡ version_of (base_at s.read_set r.key)) → ReadAgrees s d r
   read_agrees r x = row_there r.key (ap (λ b. b || list_any (λ y. in_span y.span r.key) s.scans) x.0)
 
   -- a key of a scanned span with no version has no record
   none_there : (x : Scan) → IsScanCurrent catalog g x → (q : Key) → in_span x.span q ≡ true → version_among x.found q ≡ None → get d q ≡ None
   none_there x a q within none = are_images q ∙ ap (λ b. if b then row_in g q else None) i.0 ∙ by (g q) refl
     where
-      i : (is_listed catalog q ≡ true) × (is_firm (g q) ≡ true) × (version_of (g q) ≡ version_among x.found q)
+      i : (is_listed catalog q ≡ true) × (is_committed_or_none (g q) ≡ true) × (version_of (g q) ≡ version_among x.found q)
       i = a.inside q within
 
       by : (o : Option Record) → g q ≡ o → row_in g q ≡ None
@@ -140,7 +140,7 @@ module _ (catalog : List Table) (past : List Played) (g : Database) (sound : IsS
 
   scan_agrees : (pre : List Scan) (x : Scan) (post : List Scan) → s.scans ≡ pre ++ x ∷ post → IsScanCurrent catalog g x → ScanAgrees s d x
   scan_agrees pre x post at a q within = (
-    λ found. row_there q (ap (λ b. is_noted s.notes q || b) (ap (list_any (λ y. in_span y.span q)) at ∙ any_middle pre) ∙ or_true (is_noted s.notes q)),
+    λ found. row_there q (ap (λ b. is_key_read s.read_set q || b) (ap (list_any (λ y. in_span y.span q)) at ∙ any_middle pre) ∙ or_true (is_key_read s.read_set q)),
     λ free. none_there x a q within (not_found x.found q free),
   )
     where
@@ -151,7 +151,7 @@ module _ (catalog : List Table) (past : List Played) (g : Database) (sound : IsS
   pub agrees_all : AgreesAll s d
   agrees_all = record { reads = each_read s.reads alone.ok.reads; scans = each_scan [] s.scans refl alone.scans }
     where
-      each_read : (rs : List Read) → AllByRecursion (λ r. (is_noted s.notes r.key ≡ true) × (r.version ≡ version_of (base_at s.notes r.key))) rs → AllByRecursion (ReadAgrees s d) rs
+      each_read : (rs : List Read) → AllByRecursion (λ r. (is_key_read s.read_set r.key ≡ true) × (r.version ≡ version_of (base_at s.read_set r.key))) rs → AllByRecursion (ReadAgrees s d) rs
       each_read [] a = tt
       each_read (r ∷ rs) a = (read_agrees r a.0, each_read rs a.1)
 
@@ -208,7 +208,7 @@ id_stays catalog g h id sound s new = record {
         let held = (s.fresh key row (row_key id) new.undecided e).1 in
         absurd (new.unused held.at held.r held.listed held.present held.loose (held.writer ∙ ap (λ x. Some x) (row_names id held.id new.fits (writer_fits held.r held.id held.writer) held.key)))
 
-module _ (catalog : List Table) (apart : IsApart catalog) (g h : Database) (sound : IsSound catalog g) (own : (k : Key) (x : Record) → h k ≡ Some x → x.key ≡ k) (d : Tables) (are_images : AreImagesOf catalog h d) (fit : tables_fit catalog d ≡ true)
+module _ (catalog : List Table) (apart : IsApart catalog) (g h : Database) (sound : IsSound catalog g) (own : (k : Key) (x : Record) → h k ≡ Some x → x.key ≡ k) (d : Tables) (are_images : AreImagesOf catalog h d) (fit : tables_are_well_typed catalog d ≡ true)
     (before now : ℤ) (time : is_moment now ≡ true) (statements : List Statement) (answers : List Answer) (t : TxnAt) (p : Planned) (a : Access) (k : IsAskedFor catalog p a) (x : ReadAt) (q : Request) (r : Reply)
     (opened : OpenAlone catalog g statements answers t.id t.seen) (alone : ReadAlone catalog g a before x.stage) (asked : read_pending_at (request_of a) x.stage ≡ Some q) (called : Called q r g h) where
   went : OnlyResolves catalog g h × ReadAlone catalog h a now (read_step x.stage now r)
@@ -233,14 +233,14 @@ module _ (catalog : List Table) (apart : IsApart catalog) (g h : Database) (soun
   as_led : (n m : Next) (u v : TxnAt) → n ≡ m → u ≡ v → Led m v → Led n u
   as_led n m u v e f s = subst (λ y. Led y u) (sym e) (subst (λ y. Led m y) (sym f) s)
 
-  is_write : IsFine p
+  is_write : IsValidPlan p
   is_write = record { asked = k.asked; table = named_is_table catalog p.statement p.table k.is k.named; taken = sym (ap (λ (o : Option Table). refusal_by o p.statement) k.named) ∙ k.taken; literals = k.literals }
 
-  module _ (images : List Record) (rows : AreRowsAt h a images) (firm : AreFirm images) (as_read : IsAsRead t a images) where
+  module _ (images : List Record) (rows : AreRowsAt h a images) (firm : AreCommitted images) (as_read : IsAsRead t a images) where
     abbrev seen : Seen
     seen = with_read t.seen a images
 
-    abbrev past : List Played
+    abbrev past : List Labelled
     past = events_of images opened.past
 
     seen_now : SeenAlone catalog past h seen
@@ -250,14 +250,14 @@ module _ (catalog : List Table) (apart : IsApart catalog) (g h : Database) (soun
         by (access.Get key) e = subst (λ b. SeenAlone catalog past h (with_read t.seen b images)) (sym e) (gotten catalog apart opened.past h sound_now t.seen still_seen a k.tables images rows firm key e (subst (λ b. IsAsRead t b images) e as_read))
         by (access.Scan span) e = subst (λ b. SeenAlone catalog past h (with_read t.seen b images)) (sym e) (scanned catalog apart opened.past h sound_now t.seen still_seen a k.tables images rows firm span e)
 
-    body_now : BodyOk catalog (tables_fit catalog) statements answers seen
-    body_now = body_read opened.past catalog (tables_fit catalog) statements answers t.seen a images opened.seen.ok opened.body
+    body_now : BodyOk catalog (tables_are_well_typed catalog) statements answers seen
+    body_now = body_read opened.past catalog (tables_are_well_typed catalog) statements answers t.seen a images opened.seen.ok opened.body
 
     step_seen : (v : TxnAt) (b : Answer) (ks : List Keyed) → IsNoting t a images v → gives p a v ≡ Finished b ks → step_of p (overlay (access_of p.table p.statement) seen) ≡ Finished b ks
     step_seen v b ks n e = sym (ap (λ (c : Access). step_of p (overlay c seen)) k.access) ∙ ap (λ (s : Seen). step_of p (overlay a s)) (sym n.seen) ∙ e
 
-    on_tables : (b : Answer) (ks : List Keyed) → step_of p (overlay (access_of p.table p.statement) seen) ≡ Finished b ks → AnswersOn catalog (tables_fit catalog) seen p.statement a b ks
-    on_tables b ks e = subst (λ (c : Access). AnswersOn catalog (tables_fit catalog) seen p.statement c b ks) (sym k.access) (answers_on catalog p seen b ks k.is k.named k.asked k.taken k.literals e)
+    on_tables : (b : Answer) (ks : List Keyed) → step_of p (overlay (access_of p.table p.statement) seen) ≡ Finished b ks → AnswersOn catalog (tables_are_well_typed catalog) seen p.statement a b ks
+    on_tables b ks e = subst (λ (c : Access). AnswersOn catalog (tables_are_well_typed catalog) seen p.statement c b ks) (sym k.access) (answers_on catalog p seen b ks k.is k.named k.asked k.taken k.literals e)
 
     -- what is given is answered from rows
     answered : (b : Answer) (ks : List Keyed) → step_of p (overlay (access_of p.table p.statement) seen) ≡ Finished b ks → is_answered_from_rows b ≡ true
@@ -282,7 +282,7 @@ module _ (catalog : List Table) (apart : IsApart catalog) (g h : Database) (soun
         ap (λ (q : List Answer × Tables). passes_most catalog p.statement q.1 (keys_of_body catalog statements e [])) (body_now.runs e fits agree)
         ∙ ap (λ qs. passes_most catalog p.statement left qs) own_keys ∙ ap (pass_with (map (λ (w : Write). w.key) v.seen.writes)) (sym written_keys) ∙ sym (many_is v ks) ∙ many
 
-    keys_now : (v : TxnAt) (ks : List Keyed) → IsNoting t a images v → ks ≡ changes_on p.table p.statement (overlay a v.seen) → (e : Tables) → AreImagesOf catalog h e → tables_fit catalog e ≡ true → keys_of_body catalog (statements ++ p.statement ∷ []) e [] ≡ map (λ (w : Write). w.key) (with_written v.seen ks).writes
+    keys_now : (v : TxnAt) (ks : List Keyed) → IsNoting t a images v → ks ≡ changes_on p.table p.statement (overlay a v.seen) → (e : Tables) → AreImagesOf catalog h e → tables_are_well_typed catalog e ≡ true → keys_of_body catalog (statements ++ p.statement ∷ []) e [] ≡ map (λ (w : Write). w.key) (with_written v.seen ks).writes
     keys_now v ks n is e same_rows fits =
         let agree = agrees_all catalog past h sound_now seen seen_now e same_rows in
         let left : Tables = with_own e seen.writes in
@@ -290,18 +290,18 @@ module _ (catalog : List Table) (apart : IsApart catalog) (g h : Database) (soun
         let written_keys : map (λ (x : Keyed). x.key) ks ≡ keys_written catalog p.statement left = ap (map (λ (x : Keyed). x.key)) (is ∙ ap (changes_on p.table p.statement) over) ∙ keys_changed catalog p.table p.statement left is_write.table k.named (all_in_fit catalog p.table (all_rows left) (found_itself catalog (table_of p.statement) p.table k.named) (body_now.fits e fits agree)) in
         let own_keys : keys_of_body catalog statements e [] ≡ map (λ (w : Write). w.key) v.seen.writes = open_now.keys e same_rows fits ∙ ap (map (λ (w : Write). w.key)) (sym (writes_same a refl) ∙ ap (λ (y : Seen). y.writes) (sym n.seen)) in
         keys_more catalog statements p.statement e [] ∙ ap (λ (q : List Answer × Tables). with_keys (keys_of_body catalog statements e []) (keys_written catalog p.statement q.1)) (body_now.runs e fits agree)
-        ∙ ap (λ qs. with_keys qs (keys_written catalog p.statement left)) own_keys ∙ ap (with_keys (map (λ (w : Write). w.key) v.seen.writes)) (sym written_keys) ∙ sym (keys_with v.seen.notes v.seen.writes ks)
+        ∙ ap (λ qs. with_keys qs (keys_written catalog p.statement left)) own_keys ∙ ap (with_keys (map (λ (w : Write). w.key) v.seen.writes)) (sym written_keys) ∙ sym (keys_with v.seen.read_set v.seen.writes ks)
 
     added : (v : TxnAt) (b : Answer) (ks : List Keyed) → IsNoting t a images v → gives p a v ≡ Finished b ks → ks ≡ changes_on p.table p.statement (overlay a v.seen) → is_answered_from_rows b ≡ true → too_many v ks ≡ false → Led (next.Answer b) (written v ks)
     added v b ks n gave is some few =
         let e = step_seen v b ks n gave in
-        let changes : AreChanges seen.notes ks = subst (MayWrite seen.notes) e (may_write seen p is_write seen_now.ok.kept (subst (IsKeyRead seen.notes) k.access (key_read_now t.seen a images))) in (
+        let changes : AreChanges seen.read_set ks = subst (MayWrite seen.read_set) e (may_write seen p is_write seen_now.ok.kept (subst (IsKeyRead seen.read_set) k.access (key_read_now t.seen a images))) in (
           n.idle,
           n.id,
           Added some (passes_is v ks n is false few) (record {
             past = past;
             seen = subst (λ s. SeenAlone catalog past h (with_written s ks)) (sym n.seen) (seen_written catalog past h seen ks seen_now changes);
-            body = subst (λ s. BodyOk catalog (tables_fit catalog) (statements ++ p.statement ∷ []) (answers ++ b ∷ []) (with_written s ks)) (sym n.seen) (body_step past catalog (tables_fit catalog) statements answers seen p.statement a b ks body_now seen_now.ok (covered_now t.seen a images) (on_tables b ks e));
+            body = subst (λ s. BodyOk catalog (tables_are_well_typed catalog) (statements ++ p.statement ∷ []) (answers ++ b ∷ []) (with_written s ks)) (sym n.seen) (body_step past catalog (tables_are_well_typed catalog) statements answers seen p.statement a b ks body_now seen_now.ok (covered_now t.seen a images) (on_tables b ks e));
             keys = keys_now v ks n is;
             new = open_now.new;
           }),
@@ -315,7 +315,7 @@ module _ (catalog : List Table) (apart : IsApart catalog) (g h : Database) (soun
       Kept refl refl (λ _. passes_is v ks n is true many) (record {
         past = past;
         seen = subst (SeenAlone catalog past h) (sym n.seen) seen_now;
-        body = subst (BodyOk catalog (tables_fit catalog) statements answers) (sym n.seen) body_now;
+        body = subst (BodyOk catalog (tables_are_well_typed catalog) statements answers) (sym n.seen) body_now;
         keys = λ e same_rows fits. open_now.keys e same_rows fits ∙ ap (map (λ (w : Write). w.key)) (sym (writes_same a refl) ∙ ap (λ (y : Seen). y.writes) (sym n.seen));
         new = open_now.new;
       }),
@@ -340,18 +340,18 @@ module _ (catalog : List Table) (apart : IsApart catalog) (g h : Database) (soun
         by None e = subst (Answers v) (sym (gave None e)) (finished_at v _ _ n (gave None e) refl)
         by (Some key) e = false_true (answered (answer.BadRecord key) [] (step_seen v (answer.BadRecord key) [] n (gave (Some key) e)))
 
-  images_case : (images : List Record) → AreRowsAt h a images → AreFirm images → (n : Next) (u : TxnAt) → ImagesTold t p a images n u → Led n u
+  images_case : (images : List Record) → AreRowsAt h a images → AreCommitted images → (n : Next) (u : TxnAt) → RowsReadPost t p a images n u → Led n u
   images_case images rows firm (next.Answer z) u e =
-      as_led (next.Answer z) (next.Answer (given_answer (noting t a images) (gives p a (noting t a images)))) u (given_left (idle_of t) (noting t a images) (gives p a (noting t a images))) (ap next.Answer e.1) e.2
-      (took images rows firm e.0 (noting t a images) (is_noting t a images))
+      as_led (next.Answer z) (next.Answer (given_answer (with_rows_read t a images) (gives p a (with_rows_read t a images)))) u (given_left (idle_of t) (with_rows_read t a images) (gives p a (with_rows_read t a images))) (ap next.Answer e.1) e.2
+      (took images rows firm e.0 (with_rows_read t a images) (is_noting t a images))
   images_case images rows firm (next.End (answer.Conflict key found)) u e = by a refl e
     where
-      by : (b : Access) → a ≡ b → IsMovedAt t b images key found → ⊥
+      by : (b : Access) → a ≡ b → IsChangedAt t b images key found → ⊥
       by (access.Get key2) f m = absurd m
       by (access.Scan span) f m = false_true (sym (unmoved catalog apart opened.past h sound_now t.seen still_seen a k.tables images rows firm span f key m.inside) ∙ m.moved)
   images_case images rows firm n u e = absurd e
 
-  stage_case : (s : ReadStage) → ReadAlone catalog h a now s → (n : Next) (u : TxnAt) → StageTold t p a x s (read_result s) n u → Led n u
+  stage_case : (s : ReadStage) → ReadAlone catalog h a now s → (n : Next) (u : TxnAt) → StagePost t p a x s (read_result s) n u → Led n u
   stage_case Asking w n u e = as_led n next.Call u (record t { doing = doing.Read a (record x { stage = Asking }) }) e.0 e.1 (open_now, refl, record x { stage = Asking }, refl, refl, w)
   stage_case (Resolving images rec meta f left) w n u e = as_led n next.Call u (record t { doing = doing.Read a (record x { stage = Resolving images rec meta f left }) }) e.0 e.1 (open_now, refl, record x { stage = Resolving images rec meta f left }, refl, refl, w)
   stage_case (Ended step.More) w n u e = as_led n next.Call u (record t { doing = doing.Read a (record x { stage = Ended step.More }) }) e.0 e.1 (open_now, refl, record x { stage = Ended step.More }, refl, refl, w)
@@ -362,7 +362,7 @@ module _ (catalog : List Table) (apart : IsApart catalog) (g h : Database) (soun
   stage_case (Ended step.NoMemory) w n u e = absurd e
 
   -- Whatever call of a statement's read is pending, and whatever its reply.
-  pub read_answered : (n : Next) (u : TxnAt) → CallTold t p a x r now n u → OnlyResolves catalog g h × Led n u
+  pub read_answered : (n : Next) (u : TxnAt) → CallPost t p a x r now n u → OnlyResolves catalog g h × Led n u
   read_answered n u e = (
     went.0,
     by_next n

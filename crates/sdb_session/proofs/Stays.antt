@@ -17,13 +17,13 @@ use Rattle.sdb_schema.specs.declared.table.Table.{Table}
 use Rattle.sdb_model.specs.declared.answer.Answer.{Answer}
 use Rattle.sdb_model.specs.declared.answer.Answer.TheVariants as answer
 use Rattle.sdb_model.specs.Exec.{Tables}
-use Rattle.sdb_model.specs.Told.{run_body, serial}
+use Rattle.sdb_model.specs.Serial.{run_body, serial}
 use Rattle.sdb_session.specs.Database.{Database, is_listed}
-use Rattle.sdb_session.specs.OnlyResolves.{IsHeldFor, SaysAborted}
+use Rattle.sdb_session.specs.OnlyResolves.{IsPreparedFor, IsAbortedRow}
 use Rattle.sdb_session.specs.Clients.{IsUnused}
 use Rattle.sdb_session.specs.Later.{IsOwn, IsOwnRow, Later, Own}
-use Rattle.sdb_session.specs.Sweeps.{Quiet}
-use Rattle.sdb_session.specs.Session.{AreSerialParts, Exchange, IsSerialPart, Part, answers_in, is_held_committed, is_recorded, is_recorded_by, recorded_of, statements_in, tables_after}
+use Rattle.sdb_session.specs.Vacuums.{Quiet}
+use Rattle.sdb_session.specs.Session.{AreSerialParts, Exchange, IsSerialPart, Part, answers_in, is_recorded_in, is_recorded, is_recorded_by, recorded_of, statements_in, tables_after}
 use Rattle.sdb_session.proofs.Leaves.{row_names, writer_fits}
 use Rattle.sdb_session.proofs.Recovers.{row_at}
 use Rattle.sdb_session.proofs.Resolves.{row_key}
@@ -49,17 +49,17 @@ abbrev pub IsOther : Option Own → TxId → Type 0
 IsOther own id = (o : Own) → own ≡ Some o → (o.id.0 < 2 ^ 128) × (id ≢ o.id)
 
 module _ (catalog : List Table) (own : Option Own) (g h : Database) (s : Later catalog own g h) where
-  held_same : (id : TxId) → id.0 < 2 ^ 128 → IsOther own id → is_held_committed h id ≡ is_held_committed g id
+  held_same : (id : TxId) → id.0 < 2 ^ 128 → IsOther own id → is_recorded_in h id ≡ is_recorded_in g id
   held_same id fits other = by (g (coordinator_key_of id)) refl (h (coordinator_key_of id)) refl
     where
       fresh : (row : Record) → g (coordinator_key_of id) ≡ None → h (coordinator_key_of id) ≡ Some row → is_committed_by (row_at (Some row)) ≡ false
       fresh row e f = on (s.fresh (coordinator_key_of id) row (row_key id) e f)
         where
-          on : (SaysAborted row × IsHeldFor catalog g (coordinator_key_of id)) ⊎ IsOwnRow own (coordinator_key_of id) → is_committed_by (row_at (Some row)) ≡ false
+          on : (IsAbortedRow row × IsPreparedFor catalog g (coordinator_key_of id)) ⊎ IsOwnRow own (coordinator_key_of id) → is_committed_by (row_at (Some row)) ≡ false
           on (inl x) = aborted_not (result_ok (decision_in row)) x.0
           on (inr x) = absurd ((other x.o x.is).1 (sym (row_names id x.o.id fits (other x.o x.is).0 x.key)))
 
-      by : (a : Option Record) → g (coordinator_key_of id) ≡ a → (b : Option Record) → h (coordinator_key_of id) ≡ b → is_held_committed h id ≡ is_held_committed g id
+      by : (a : Option Record) → g (coordinator_key_of id) ≡ a → (b : Option Record) → h (coordinator_key_of id) ≡ b → is_recorded_in h id ≡ is_recorded_in g id
       by None e None f = ap (λ o. is_committed_by (row_at o)) (f ∙ sym e)
       by None e (Some row) f = ap (λ o. is_committed_by (row_at o)) f ∙ fresh row e f ∙ sym (ap (λ o. is_committed_by (row_at o)) e)
       by (Some row) e b f = ap (λ o. is_committed_by (row_at o)) (s.rows (coordinator_key_of id) row (row_key id) e ∙ sym e)
@@ -97,7 +97,7 @@ module _ (catalog : List Table) (own : Option Own) (g h : Database) (s : Later c
   tables_same d (t ∷ ts) a = ap (λ b. tables_after catalog h (if b then (run_body catalog (statements_in t.inside) d).1 else d) ts) (recorded_same t a.0) ∙ tables_same (if is_recorded g t then (run_body catalog (statements_in t.inside) d).1 else d) ts a.1
 
   -- the recorded ones are those whose row says COMMITTED
-  pub rows_same : (ts : List Part) → AllByRecursion IsApartFrom ts → AllByRecursion (λ (t : Part). is_held_committed g t.id ≡ is_recorded g t) ts → AllByRecursion (λ (t : Part). is_held_committed h t.id ≡ is_recorded h t) ts
+  pub rows_same : (ts : List Part) → AllByRecursion IsApartFrom ts → AllByRecursion (λ (t : Part). is_recorded_in g t.id ≡ is_recorded g t) ts → AllByRecursion (λ (t : Part). is_recorded_in h t.id ≡ is_recorded h t) ts
   rows_same [] a r = tt
   rows_same (t ∷ ts) a r = (held_same t.id a.0.0 a.0.1 ∙ r.0 ∙ sym (recorded_same t a.0), rows_same ts a.1 r.1)
 
@@ -113,7 +113,7 @@ module _ (catalog : List Table) (own : Option Own) (g h : Database) (s : Later c
     unused = λ k r listed e loose writer. on k r listed loose writer (s.loose k r listed e loose);
   }
     where
-      fresh : (row : Record) → (SaysAborted row × IsHeldFor catalog g (coordinator_key_of id)) ⊎ IsOwnRow own (coordinator_key_of id) → ⊥
+      fresh : (row : Record) → (IsAbortedRow row × IsPreparedFor catalog g (coordinator_key_of id)) ⊎ IsOwnRow own (coordinator_key_of id) → ⊥
       fresh row (inl x) = let held = x.1 in new.unused held.at held.r held.listed held.present held.loose (held.writer ∙ ap (λ y. Some y) (row_names id held.id new.fits (writer_fits held.r held.id held.writer) held.key))
       fresh row (inr x) = (other x.o x.is).1 (sym (row_names id x.o.id new.fits (other x.o x.is).0 x.key))
 

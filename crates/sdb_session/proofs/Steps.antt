@@ -16,16 +16,16 @@ use Rattle.sdb_model.specs.declared.statement.Statement.TheVariants as statement
 use Rattle.sdb_model.specs.Exec.{Tables}
 use Rattle.sdb_client.specs.Client.{ClientAt}
 use Rattle.sdb_snapshot.specs.Seen.{Seen}
-use Rattle.sdb_steps.specs.Fitting.{tables_fit}
+use Rattle.sdb_steps.specs.Fitting.{tables_are_well_typed}
 use Rattle.sdb_session.specs.Database.{Database, decided_in}
 use Rattle.sdb_session.specs.OnlyResolves.{IsApart, IsSound}
 use Rattle.sdb_session.specs.Recovers.{IsAborted, IsCommittedAt, IsUndecided}
 use Rattle.sdb_session.specs.Seen.{AreImagesOf}
 use Rattle.sdb_session.specs.Clients.{OpenAlone}
 use Rattle.sdb_session.specs.Tombstones.{AllClean, HasVacuumed, HasWritten, OnlyRemoves, SameImages, is_among, is_clean}
-use Rattle.sdb_session.specs.Between.{Answered, Begun, CommitEnds, Ended, Lost, OpenTransaction, RolledBack, StatementEnds, Swept, SweptBy, Turned, Won}
-use Rattle.sdb_session.specs.Session.{AreSteps, Exchange, IsSerialSession, IsStep, IsSwept, Part, Parts, answers_in, is_commit, is_count, is_held_committed, is_recorded_by, is_recorded_commit, is_vacuum, is_written_by, no_parts, parts_after, parts_of, statements_in, tables_after, turned_away}
-use Rattle.sdb_session.specs.Chain.{Answers, Chain, Exchanged, Starved, open_of, transaction_of}
+use Rattle.sdb_session.specs.Between.{Answered, Begun, CommitEnds, Ended, Lost, OpenTransaction, RolledBack, StatementEnds, Vacuumed, VacuumedBy, Turned, Won}
+use Rattle.sdb_session.specs.Session.{AreSteps, Exchange, IsSerialSession, IsStep, IsVacuumed, Part, Parts, answers_in, is_commit, is_count, is_recorded_in, is_recorded_by, is_recorded_commit, is_vacuum, is_written_by, no_parts, parts_after, parts_of, statements_in, tables_after, rejected}
+use Rattle.sdb_session.specs.Chain.{Answers, Chain, Exchanged, OutOfMemory, open_of, transaction_of}
 use Rattle.sdb_session.proofs.Recovers.{row_at}
 use Rattle.sdb_session.proofs.Resolves.{image_stays}
 use Rattle.sdb_session.proofs.Stays.{aborted_not, is_committed_by, serial_answered}
@@ -64,7 +64,7 @@ module _ (catalog : List Table) (d : Tables) (g h : Database) (e : Exchange) whe
   no_memory : (n : ℕ) → e.answer ≡ answer.NoMemory → e.answer ≡ answer.Count n → ⊥
   no_memory n f c = let x : answer.NoMemory ≡ answer.Count n = sym f ∙ c in cc
 
-  turned_step : (o : Option Part) → turned_away catalog (is_some o) e.says ≡ Some e.answer → h ≡ g → IsStep catalog g d o e h
+  turned_step : (o : Option Part) → rejected catalog (is_some o) e.says ≡ Some e.answer → h ≡ g → IsStep catalog g d o e h
   turned_step None away same =
       let a = away_none catalog e.says e.answer away in
       same_step None (unmoved same) (and_none (is_commit e.says)) (λ n v c. refused_none n (inr a.mild) c)
@@ -83,7 +83,7 @@ module _ (catalog : List Table) (d : Tables) (g h : Database) (e : Exchange) whe
   plain_step : (o : Option Part) → is_commit e.says ≡ false → is_vacuum e.says ≡ false → SameImages catalog g h → IsStep catalog g d o e h
   plain_step o commit vacuum same = same_step o same (ap (λ b. b && option_map_or (λ t. is_recorded_by h t.id e.answer) o false) commit) (λ n v c. false_true (sym vacuum ∙ v))
 
-  vacuum_step : (o : Option Part) → e.says ≡ Ok statement.Vacuum → OnlyRemoves catalog g h → SweptBy catalog g h e.moment e.answer → IsStep catalog g d o e h
+  vacuum_step : (o : Option Part) → e.says ≡ Ok statement.Vacuum → OnlyRemoves catalog g h → VacuumedBy catalog g h e.moment e.answer → IsStep catalog g d o e h
   vacuum_step o is removes swept = record {
     committed = λ t f r. false_true (sym (ap (λ x. is_commit x && option_map_or (λ y. is_recorded_by h y.id e.answer) o false) is) ∙ r);
     removed = λ v. removes;
@@ -91,7 +91,7 @@ module _ (catalog : List Table) (d : Tables) (g h : Database) (e : Exchange) whe
     same = λ b v. false_true (sym v ∙ ap is_vacuum is);
   }
     where
-      by : (n : ℕ) → e.answer ≡ answer.Count n → SweptBy catalog g h e.moment e.answer → HasVacuumed catalog g h e.moment n
+      by : (n : ℕ) → e.answer ≡ answer.Count n → VacuumedBy catalog g h e.moment e.answer → HasVacuumed catalog g h e.moment n
       by n f (inl x) = let y : answer.Faulted ≡ answer.Count n = sym x ∙ f in absurd (cc)
       by n f (inr (inl x)) = let y : answer.NoMemory ≡ answer.Count n = sym x ∙ f in absurd (cc)
       by n f (inr (inr (m, x, all))) = subst (HasVacuumed catalog g h e.moment) (let y : answer.Count m ≡ answer.Count n = sym x ∙ f in cc) all
@@ -105,7 +105,7 @@ module _ (catalog : List Table) (d : Tables) (g h : Database) (e : Exchange) whe
     no_vacuum : is_vacuum e.says ≡ false
     no_vacuum = ap is_vacuum is
 
-    won_step : OpenAlone catalog g (statements_in t.inside) (answers_in t.inside) t.id s → AreImagesOf catalog g d → tables_fit catalog d ≡ true → (e.answer ≡ answer.Committed) ⊎ (e.answer ≡ answer.Unknown t.id) → IsCommittedAt h t.id e.moment → HasWritten catalog (is_written s.writes) g h → IsStep catalog g d (Some t) e h
+    won_step : OpenAlone catalog g (statements_in t.inside) (answers_in t.inside) t.id s → AreImagesOf catalog g d → tables_are_well_typed catalog d ≡ true → (e.answer ≡ answer.Committed) ⊎ (e.answer ≡ answer.Unknown t.id) → IsCommittedAt h t.id e.moment → HasWritten catalog (is_written s.writes) g h → IsStep catalog g d (Some t) e h
     won_step opened are_images fit replied decided written = record {
       committed = λ u f r. subst (λ (x : Part). HasWritten catalog (is_written_by catalog d x) g h) (some_is t u f) written_by;
       removed = λ v. false_true (sym no_vacuum ∙ v);
@@ -126,7 +126,7 @@ module _ (catalog : List Table) (d : Tables) (g h : Database) (e : Exchange) whe
     lost_step : (e.answer ≡ answer.Faulted) ⊎ ((e.answer ≡ answer.NoMemory) ⊎ (e.answer ≡ answer.Unknown t.id)) → IsUndecided h t.id ⊎ IsAborted h t.id → SameImages catalog g h → IsStep catalog g d (Some t) e h
     lost_step replied decided same = same_step (Some t) same (recorded_is false (unrecorded replied)) (λ n v f. false_true (sym no_vacuum ∙ v))
       where
-        held : IsUndecided h t.id ⊎ IsAborted h t.id → is_held_committed h t.id ≡ false
+        held : IsUndecided h t.id ⊎ IsAborted h t.id → is_recorded_in h t.id ≡ false
         held (inl none) = ap (λ o. is_committed_by (row_at o)) none
         held (inr a) = aborted_not (decided_in h t.id) a
 
@@ -135,20 +135,20 @@ module _ (catalog : List Table) (d : Tables) (g h : Database) (e : Exchange) whe
         unrecorded (inr (inl f)) = ap (is_recorded_by h t.id) f
         unrecorded (inr (inr f)) = ap (is_recorded_by h t.id) f ∙ held decided
 
-    commit_step : OpenAlone catalog g (statements_in t.inside) (answers_in t.inside) t.id s → AreImagesOf catalog g d → tables_fit catalog d ≡ true → CommitEnds catalog g h t.id e.moment s e.answer → IsStep catalog g d (Some t) e h
+    commit_step : OpenAlone catalog g (statements_in t.inside) (answers_in t.inside) t.id s → AreImagesOf catalog g d → tables_are_well_typed catalog d ≡ true → CommitEnds catalog g h t.id e.moment s e.answer → IsStep catalog g d (Some t) e h
     commit_step opened are_images fit (Won replied decided left written) = won_step opened are_images fit replied decided written
     commit_step opened are_images fit (Lost replied decided left same) = lost_step replied decided same
 
   ---- any statement
 
-  module _ (sound : IsSound catalog g) (are_images : AreImagesOf catalog g d) (fit : tables_fit catalog d ≡ true) (c : ClientAt) where
+  module _ (sound : IsSound catalog g) (are_images : AreImagesOf catalog g d) (fit : tables_are_well_typed catalog d ≡ true) (c : ClientAt) where
     ended_step : (o : Option Part) (b : OpenTransaction) (s : Seen) → open_of o ≡ Some b → e.says ≡ Ok statement.Commit → OpenAlone catalog g b.statements b.answers b.id s → CommitEnds catalog g h b.id e.moment s e.answer → IsStep catalog g d o e h
     ended_step None b s some is opened ends = none_some b some
     ended_step (Some t) b s some is opened ends =
         let same = sym (some_is (transaction_of t) b some) in
         commit_step t s is (subst (λ (z : OpenTransaction). OpenAlone catalog g z.statements z.answers z.id s) same opened) are_images fit (subst (λ (z : OpenTransaction). CommitEnds catalog g h z.id e.moment s e.answer) same ends)
 
-    turned_at : (o : Option Part) → turned_away catalog (is_some (open_of o)) e.says ≡ Some e.answer → h ≡ g → IsStep catalog g d o e h
+    turned_at : (o : Option Part) → rejected catalog (is_some (open_of o)) e.says ≡ Some e.answer → h ≡ g → IsStep catalog g d o e h
     turned_at None away same = turned_step None away same
     turned_at (Some t) away same = turned_step (Some t) away same
 
@@ -161,11 +161,11 @@ module _ (catalog : List Table) (d : Tables) (g h : Database) (e : Exchange) whe
         let says = is ∙ ap (λ x. Ok x) (sym of) in
         plain_step o (ap is_commit says ∙ word.commit) (ap is_vacuum says ∙ word.vacuum) (image_stays catalog g h resolves sound)
     ends_step o (Ended b s is some opened later ends left) = ended_step o b s some is opened ends
-    ends_step o (Swept is none quiet all left) = vacuum_step o is quiet.images all
+    ends_step o (Vacuumed is none quiet all left) = vacuum_step o is quiet.images all
 
     exchanged_step : (o : Option Part) → Exchanged catalog g (open_of o) e h c → IsStep catalog g d o e h
     exchanged_step o (Answers ends) = ends_step o ends
-    exchanged_step o (Starved none same commit other) = starved_step o none same
+    exchanged_step o (OutOfMemory none same commit other) = starved_step o none same
 
 ---- the whole
 
@@ -178,7 +178,7 @@ last_step : (catalog : List Table) (before : Tables) (g : Database) (p : Parts) 
 last_step catalog before g p [] e last (h, images, x, is) = (g, tables_after catalog g before p.ended, p.opened, subst (IsStep catalog g (tables_after catalog g before p.ended) p.opened e) (sym is) x)
 last_step catalog before g p (y ∷ front) e last (h, images, x, rest) = last_step catalog before h (parts_after p y) front e last rest
 
-swept_clean : (catalog : List Table) (last : Database) → AllClean catalog last → IsSwept catalog last
+swept_clean : (catalog : List Table) (last : Database) → AllClean catalog last → IsVacuumed catalog last
 swept_clean catalog last all k r listed present firm = not_both (is_tombstone r) (sym (ap (λ b. not (b && is_tombstone r)) firm) ∙ sym (ap is_clean present) ∙ all k listed)
   where
     not_both : (b : Bool) → not b ≡ true → b ≡ false
@@ -193,7 +193,7 @@ module _ (catalog : List Table) (apart : IsApart catalog) (start : Database) (be
       (h, q.0.are_images, exchanged_step catalog (tables_after catalog g before p.ended) g h e so.sound so.are_images so.fit c p.opened x, steps_at (parts_after p e) h es last q.0 new.1 rest)
 
   -- What a session of a client that is alone owes.
-  pub session_serial : IsSound catalog start → AreImagesOf catalog start before → tables_fit catalog before ≡ true → (es : List Exchange) (last : Database) → AreFresh catalog apart start before no_parts es → Chain catalog start no_parts es last → IsSerialSession catalog start last before es
+  pub session_serial : IsSound catalog start → AreImagesOf catalog start before → tables_are_well_typed catalog before ≡ true → (es : List Exchange) (last : Database) → AreFresh catalog apart start before no_parts es → Chain catalog start no_parts es last → IsSerialSession catalog start last before es
   session_serial sound are_images fit es last new chain =
       let begins = begins_serial catalog apart start before sound are_images fit in
       let so = session_at catalog apart start before no_parts start es last begins new chain in

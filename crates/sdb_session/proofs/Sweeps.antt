@@ -22,7 +22,7 @@ use Rattle.sdb_types.proofs.Keys.{same_key_of, same_key_self, same_key_tells}
 use Rattle.sdb_record.specs.declared.coordinator.Decided.{Decided}
 use Rattle.sdb_record.specs.declared.meta.Meta.{Meta}
 use Rattle.sdb_record.specs.Coordinator.{coordinator_key_of, decision_in, is_coordinator_table, is_expired}
-use Rattle.sdb_record.specs.Meta.{checked, id_in, is_in, is_moment, is_taken, is_unresolved}
+use Rattle.sdb_record.specs.Meta.{checked, id_in, is_in, is_moment, is_transactional, is_unresolved}
 use Rattle.sdb_record.specs.Moved.{condition_of}
 use Rattle.sdb_record.specs.Parts.{are_stored, user_columns}
 use Rattle.sdb_record.specs.Rolls.{image_of, is_tombstone, remove_request, row_of_image}
@@ -33,15 +33,15 @@ use Rattle.sdb_phases.specs.declared.step.RecoverPhase.{RecoverPhase}
 use Rattle.sdb_phases.specs.declared.step.RecoverPhase.TheVariants as phase
 use Rattle.sdb_phases.specs.Recover.{recover_next}
 use Rattle.sdb_read.specs.Read.{Kind, Firm, Bad, kind_of, opened}
-use Rattle.sdb_vacuum.specs.Vacuum.{Removing, Resolving, Scanning, Tombstone, VacuumStage, Over, answered, first_of, first_one, goes_on, going, next_table, pending_at, removal_answered, resolved, step_at}
+use Rattle.sdb_vacuum.specs.Vacuum.{Removing, Resolving, Scanning, Tombstone, VacuumStage, Over, answered, first_of, first_one, with_call, next_of_row, next_table, pending_at, removal_answered, resolved, step_at}
 use Rattle.sdb_turns.specs.ReadAt.{Rise, keys_of}
 use Rattle.sdb_turns.proofs.Lists.{each_both, each_unmap}
 use Rattle.sdb_turns.proofs.Meta.{meta_of}
 use Rattle.sdb_turns.proofs.Rows.{found_each, inside_each, rise_is}
-use Rattle.sdb_session.specs.Database.{Called, Done, Database, IsWith, NotReturned, Scanned, Returned, Undone, Wrote, decided_in, decided_on, image_in, is_firm, is_listed, row_in}
-use Rattle.sdb_session.specs.OnlyResolves.{IsApart, IsHeldFor, SaysAborted, OnlyResolves, IsSound}
+use Rattle.sdb_session.specs.Database.{Called, Done, Database, IsWith, NotReturned, Scanned, Returned, Undone, Wrote, decided_in, decided_on, image_in, is_committed_or_none, is_listed, row_in}
+use Rattle.sdb_session.specs.OnlyResolves.{IsApart, IsPreparedFor, IsAbortedRow, OnlyResolves, IsSound}
 use Rattle.sdb_session.specs.Recovers.{RecoveryLeadsTo}
-use Rattle.sdb_session.specs.Sweeps.{IsSweptAt, LeftAlone, Quiet, RemovedSoFar, SweepLeadsTo, SweepStageAlone}
+use Rattle.sdb_session.specs.Vacuums.{IsVacuumedAt, LeftAlone, Quiet, RemovedSoFar, VacuumLeadsTo, VacuumStageAlone}
 use Rattle.sdb_session.specs.Tombstones.{HasVacuumed, IsPassedOver, is_among, is_clean, is_deleted, is_removed}
 use Rattle.sdb_session.proofs.Resolves.{firm_image, image_stays, row_key, row_stays, sound_stays, unresolved_before}
 use Rattle.sdb_session.proofs.Reading.{others_apart}
@@ -86,12 +86,12 @@ quiet_trans catalog g h j s t = record {
     images k (inr x) (inl f) = inr (x.0, f ∙ x.1)
     images k (inr x) (inr y) = inr (x.0, y.1)
 
-    held_before : (k : Key) → IsHeldFor catalog h k → IsHeldFor catalog g k
+    held_before : (k : Key) → IsPreparedFor catalog h k → IsPreparedFor catalog g k
     held_before k x = record { at = x.at; r = x.r; id = x.id; listed = x.listed; present = s.loose x.at x.r x.listed x.present x.loose; loose = x.loose; writer = x.writer; key = x.key }
 
-    fresh : (k : Key) (row : Record) → is_coordinator_table k.table ≡ true → g k ≡ None → j k ≡ Some row → (o : Option Record) → h k ≡ o → SaysAborted row × IsHeldFor catalog g k
+    fresh : (k : Key) (row : Record) → is_coordinator_table k.table ≡ true → g k ≡ None → j k ≡ Some row → (o : Option Record) → h k ≡ o → IsAbortedRow row × IsPreparedFor catalog g k
     fresh k row there e f None m = let x = t.fresh k row there m f in (x.0, held_before k x.1)
-    fresh k row there e f (Some was) m = let x = s.fresh k was there e m in (subst SaysAborted (some_is was row (sym (t.rows k was there m) ∙ f)) x.0, x.1)
+    fresh k row there e f (Some was) m = let x = s.fresh k was there e m in (subst IsAbortedRow (some_is was row (sym (t.rows k was there m) ∙ f)) x.0, x.1)
 
 pub quiet_of : (catalog : List Table) (g h : Database) → IsSound catalog g → ((k : Key) (r : Record) → h k ≡ Some r → r.key ≡ k) → OnlyResolves catalog g h → Quiet catalog g h
 quiet_of catalog g h sound own s = record {
@@ -185,7 +185,7 @@ removed_resolved catalog was g h n sound s r = record {
   keys = r.keys;
   once = r.once;
   count = r.count;
-  gone = λ k e. let x = r.gone k e in (x.0, x.1, s.firm k x.0 (ap is_firm x.2) ∙ x.2);
+  gone = λ k e. let x = r.gone k e in (x.0, x.1, s.firm k x.0 (ap is_committed_or_none x.2) ∙ x.2);
   others = λ k listed away. image_stays catalog g h s sound k listed ∙ r.others k listed away;
 }
 
@@ -220,7 +220,7 @@ removed_more catalog apart was g h n b r listed present firm dead now = record {
     ]
 
 -- Where each key of a table is done, so is the VACUUM.
-pub has_vacuumed : (catalog : List Table) (was g : Database) (at : ℤ) (n : ℕ) → RemovedSoFar catalog was g n → ((k : Key) → is_listed catalog k ≡ true → IsSweptAt was g at k) → HasVacuumed catalog was g at n
+pub has_vacuumed : (catalog : List Table) (was g : Database) (at : ℤ) (n : ℕ) → RemovedSoFar catalog was g n → ((k : Key) → is_listed catalog k ≡ true → IsVacuumedAt was g at k) → HasVacuumed catalog was g at n
 has_vacuumed catalog was g at n r swept = record {
   keys = r.keys;
   once = r.once;
@@ -247,11 +247,11 @@ has_vacuumed catalog was g at n r swept = record {
 ---- rows that are left
 
 -- where nothing is
-none_swept : (was g : Database) (at : ℤ) (k : Key) → g k ≡ None → IsSweptAt was g at k
+none_swept : (was g : Database) (at : ℤ) (k : Key) → g k ≡ None → IsVacuumedAt was g at k
 none_swept was g at k e = record { clean = ap is_clean e; passed = λ dead. false_true (sym (ap is_dead (ap (means g) e)) ∙ dead) }
 
 -- where a committed record is that isn't a tombstone
-firm_swept : (was g : Database) (at : ℤ) (k : Key) (r : Record) → g k ≡ Some r → is_in state.Committed r.columns ≡ true → is_tombstone r ≡ false → IsSweptAt was g at k
+firm_swept : (was g : Database) (at : ℤ) (k : Key) (r : Record) → g k ≡ Some r → is_in state.Committed r.columns ≡ true → is_tombstone r ≡ false → IsVacuumedAt was g at k
 firm_swept was g at k r present firm live = record {
   clean = ap is_clean present ∙ ap (λ b. not (b && is_tombstone r)) firm ∙ ap not live;
   passed = λ dead. false_true (sym (ap is_dead (firm_means g k r present firm) ∙ live) ∙ dead);
@@ -259,49 +259,49 @@ firm_swept was g at k r present firm live = record {
 
 module _ (catalog : List Table) (was : Database) (moment : ℤ) (g : Database) where
   -- a row that is done is passed over
-  passed : (ss : List Span) (r : Record) (left : List Record) → LeftAlone catalog was moment g ss (r ∷ left) → IsSweptAt was g moment r.key → LeftAlone catalog was moment g ss left
+  passed : (ss : List Span) (r : Record) (left : List Record) → LeftAlone catalog was moment g ss (r ∷ left) → IsVacuumedAt was g moment r.key → LeftAlone catalog was moment g ss left
   passed ss r left l c = record {
     tables = l.tables;
     rise = l.rise.1;
     matches = l.matches.1;
     swept = λ k listed outside none. elim (same_key_tells k r.key) [
-      | inl e ↦ subst (IsSweptAt was g moment) (sym e.1) c
+      | inl e ↦ subst (IsVacuumedAt was g moment) (sym e.1) c
       | inr n ↦ l.swept k listed outside (ap (λ b. if b then Some r else record_among left k) n.0 ∙ none)
     ];
   }
 
-  next_alone : (ss : List Span) (n : ℕ) → RemovedSoFar catalog was g n → LeftAlone catalog was moment g ss [] → SweepLeadsTo catalog was moment g (next_table ss n)
+  next_alone : (ss : List Span) (n : ℕ) → RemovedSoFar catalog was g n → LeftAlone catalog was moment g ss [] → VacuumLeadsTo catalog was moment g (next_table ss n)
   next_alone [] n removed l = has_vacuumed catalog was g moment n removed (λ k listed. l.swept k listed refl refl)
   next_alone (s ∷ ss) n removed l = (removed, l)
 
-  more_alone : IsSound catalog g → (ss : List Span) (n : ℕ) → RemovedSoFar catalog was g n → (left : List Record) → LeftAlone catalog was moment g ss left → SweepLeadsTo catalog was moment g (going ss n (first_of left))
+  more_alone : IsSound catalog g → (ss : List Span) (n : ℕ) → RemovedSoFar catalog was g n → (left : List Record) → LeftAlone catalog was moment g ss left → VacuumLeadsTo catalog was moment g (next_of_row ss n (first_of left))
   more_alone sound ss n removed [] l = next_alone ss n removed l
-  more_alone sound ss n removed (r ∷ left) l = by (is_taken r) refl (is_in state.Committed r.columns) refl (checked r.columns) refl (more_alone sound ss n removed left)
+  more_alone sound ss n removed (r ∷ left) l = by (is_transactional r) refl (is_in state.Committed r.columns) refl (checked r.columns) refl (more_alone sound ss n removed left)
     where
-      is_write : is_taken r ≡ true
+      is_write : is_transactional r ≡ true
       is_write = sound.taken r.key r l.matches.0.0 l.matches.0.1
 
       Rest : Type 0
-      Rest = LeftAlone catalog was moment g ss left → SweepLeadsTo catalog was moment g (going ss n (first_of left))
+      Rest = LeftAlone catalog was moment g ss left → VacuumLeadsTo catalog was moment g (next_of_row ss n (first_of left))
 
       G : Kind → Type 0
-      G k = SweepLeadsTo catalog was moment g (going ss n (first_one k r left (first_of left)))
+      G k = VacuumLeadsTo catalog was moment g (next_of_row ss n (first_one k r left (first_of left)))
 
       firm : is_in state.Committed r.columns ≡ true → (b : Bool) → is_tombstone r ≡ b → Rest → G Firm
-      firm f true t rest = subst (λ b. SweepLeadsTo catalog was moment g (going ss n (if b then Tombstone r left else first_of left))) (sym t) (removed, (l, f, t))
-      firm f false t rest = subst (λ b. SweepLeadsTo catalog was moment g (going ss n (if b then Tombstone r left else first_of left))) (sym t) (rest (passed ss r left l (firm_swept was g moment r.key r l.matches.0.1 f t)))
+      firm f true t rest = subst (λ b. VacuumLeadsTo catalog was moment g (next_of_row ss n (if b then Tombstone r left else first_of left))) (sym t) (removed, (l, f, t))
+      firm f false t rest = subst (λ b. VacuumLeadsTo catalog was moment g (next_of_row ss n (if b then Tombstone r left else first_of left))) (sym t) (rest (passed ss r left l (firm_swept was g moment r.key r l.matches.0.1 f t)))
 
-      by : (t : Bool) → is_taken r ≡ t → (c : Bool) → is_in state.Committed r.columns ≡ c → (m : Result Meta (List ℕ)) → checked r.columns ≡ m → Rest → G (kind_of r)
+      by : (t : Bool) → is_transactional r ≡ t → (c : Bool) → is_in state.Committed r.columns ≡ c → (m : Result Meta (List ℕ)) → checked r.columns ≡ m → Rest → G (kind_of r)
       by false e c f m h rest = false_true (sym e ∙ is_write)
       by true e true f m h rest = subst G (sym (ap (λ b. if b then (if is_in state.Committed r.columns then Firm else opened (checked r.columns)) else Bad) e ∙ ap (λ b. if b then Firm else opened (checked r.columns)) f)) (firm f (is_tombstone r) refl rest)
       by true e false f (Ok meta) h rest = subst G (sym (ap (λ b. if b then (if is_in state.Committed r.columns then Firm else opened (checked r.columns)) else Bad) e ∙ ap (λ b. if b then Firm else opened (checked r.columns)) f ∙ ap opened h))
-          (removed, (l, record { present = l.matches.0.1; listed = l.matches.0.0; unresolved = and_both (is_taken r) _ is_write (ap not f); says = h; phase = tt }))
+          (removed, (l, record { present = l.matches.0.1; listed = l.matches.0.0; unresolved = and_both (is_transactional r) _ is_write (ap not f); says = h; phase = tt }))
       by true e false f (Err name) h rest = false_true (sym (ap is_ok h) ∙ and_second (are_stored r.columns) (is_ok (checked r.columns)) is_write)
 
   ---- a scan
 
-  scanned_alone : IsSound catalog g → (span : Span) (ss : List Span) (n : ℕ) → RemovedSoFar catalog was g n → LeftAlone catalog was moment g (span ∷ ss) [] → (r : Reply) → Scanned span r g → SweepLeadsTo catalog was moment g (answered ss n r)
-  scanned_alone sound span ss n removed l r (Returned rows replied at inside) = subst (λ x. SweepLeadsTo catalog was moment g (answered ss n x)) (sym replied) (more_alone sound ss n removed rows (record {
+  scanned_alone : IsSound catalog g → (span : Span) (ss : List Span) (n : ℕ) → RemovedSoFar catalog was g n → LeftAlone catalog was moment g (span ∷ ss) [] → (r : Reply) → Scanned span r g → VacuumLeadsTo catalog was moment g (answered ss n r)
+  scanned_alone sound span ss n removed l r (Returned rows replied at inside) = subst (λ x. VacuumLeadsTo catalog was moment g (answered ss n x)) (sym replied) (more_alone sound ss n removed rows (record {
     tables = l.tables.1;
     rise = up;
     matches = each_both (λ x. record_among rows x.key ≡ Some x) (λ x. in_span span x.key ≡ true) (λ x. (is_listed catalog x.key ≡ true) × (g x.key ≡ Some x)) rows (λ x f i. (l.tables.0 x.key i, sym (at x.key i) ∙ f)) (found_each rows up) (each_unmap (λ k. in_span span k ≡ true) (λ (x : Record). x.key) rows within);
@@ -314,11 +314,11 @@ module _ (catalog : List Table) (was : Database) (moment : ℤ) (g : Database) w
       within : AllByRecursion (λ k. in_span span k ≡ true) (keys_of rows)
       within = inside_each span rows (and_second (rise rows) (list_all (λ x. in_span span x.key) rows) inside)
 
-      swept : (k : Key) → is_listed catalog k ≡ true → list_any (λ s. in_span s k) ss ≡ false → record_among rows k ≡ None → (b : Bool) → in_span span k ≡ b → IsSweptAt was g moment k
+      swept : (k : Key) → is_listed catalog k ≡ true → list_any (λ s. in_span s k) ss ≡ false → record_among rows k ≡ None → (b : Bool) → in_span span k ≡ b → IsVacuumedAt was g moment k
       swept k listed outside none true e = none_swept was g moment k (sym (at k e) ∙ none)
       swept k listed outside none false e = l.swept k listed (ap (λ b. b || list_any (λ s. in_span s k) ss) e ∙ outside) refl
-  scanned_alone sound span ss n removed l r (NotReturned (inl replied)) = subst (λ x. SweepLeadsTo catalog was moment g (answered ss n x)) (sym replied) tt
-  scanned_alone sound span ss n removed l r (NotReturned (inr replied)) = subst (λ x. SweepLeadsTo catalog was moment g (answered ss n x)) (sym replied) tt
+  scanned_alone sound span ss n removed l r (NotReturned (inl replied)) = subst (λ x. VacuumLeadsTo catalog was moment g (answered ss n x)) (sym replied) tt
+  scanned_alone sound span ss n removed l r (NotReturned (inr replied)) = subst (λ x. VacuumLeadsTo catalog was moment g (answered ss n x)) (sym replied) tt
 
 ---- the first of the rows changes
 
@@ -335,20 +335,20 @@ module _ (catalog : List Table) (was : Database) (moment : ℤ) (g h : Database)
   left_present = apart_left left (others_apart [] rec left l.rise) l.matches.1
 
   -- a key that is done stays so
-  swept_stays : (k : Key) → is_listed catalog k ≡ true → k ≢ rec.key → IsSweptAt was g moment k → IsSweptAt was h moment k
+  swept_stays : (k : Key) → is_listed catalog k ≡ true → k ≢ rec.key → IsVacuumedAt was g moment k → IsVacuumedAt was h moment k
   swept_stays k listed other s = record {
     clean = ap is_clean (stays.records k listed other) ∙ s.clean;
     passed = λ dead. let x = s.passed (ap is_dead (sym (stays.images k listed other)) ∙ dead) in record { id = x.id; moment = x.moment; busy = x.busy; same = stays.records k listed other ∙ x.same };
   }
 
   -- it is done
-  gone : IsSweptAt was h moment rec.key → LeftAlone catalog was moment h ss left
+  gone : IsVacuumedAt was h moment rec.key → LeftAlone catalog was moment h ss left
   gone c = record {
     tables = l.tables;
     rise = l.rise.1;
     matches = left_present;
     swept = λ k listed outside none. elim (same_key_tells k rec.key) [
-      | inl e ↦ subst (IsSweptAt was h moment) (sym e.1) c
+      | inl e ↦ subst (IsVacuumedAt was h moment) (sym e.1) c
       | inr n ↦ swept_stays k listed n.1 (l.swept k listed outside (ap (λ b. if b then Some rec else record_among left k) n.0 ∙ none))
     ];
   }
@@ -384,7 +384,7 @@ module _ (catalog : List Table) (now : ℤ) (was g h : Database) (ss : List Span
       undecided None e = e
       undecided (Some row) e = none_some row (sym x.2 ∙ quiet.rows (coordinator_key_of meta.id) row (row_key meta.id) e)
 
-  resolved_alone : Quiet catalog was h → RemovedSoFar catalog was h n → is_in state.Committed rec.columns ≡ false → StaysBut catalog rec.key g h → (next : RecoverPhase × RecoverStep) → RecoveryLeadsTo catalog h rec meta now next → SweepLeadsTo catalog was now h (resolved ss n rec meta left next)
+  resolved_alone : Quiet catalog was h → RemovedSoFar catalog was h n → is_in state.Committed rec.columns ≡ false → StaysBut catalog rec.key g h → (next : RecoverPhase × RecoverStep) → RecoveryLeadsTo catalog h rec meta now next → VacuumLeadsTo catalog was now h (resolved ss n rec meta left next)
   resolved_alone quiet removed loose stays (p, steps.More) x = (removed, (replaced catalog was now g h ss rec left l stays rec refl x.present, x))
   resolved_alone quiet removed loose stays (p, steps.Image None) x = more_alone catalog was now h quiet.sound ss n removed left (gone catalog was now g h ss rec left l stays (none_swept was h now rec.key x.0))
   resolved_alone quiet removed loose stays (p, steps.Image (Some b)) x = by (is_tombstone b) refl
@@ -392,9 +392,9 @@ module _ (catalog : List Table) (now : ℤ) (was g h : Database) (ss : List Span
       key : b.key ≡ rec.key
       key = quiet.sound.own rec.key b x.0
 
-      by : (d : Bool) → is_tombstone b ≡ d → SweepLeadsTo catalog was now h (resolved ss n rec meta left (p, steps.Image (Some b)))
-      by true e = subst (λ c. SweepLeadsTo catalog was now h (if c then goes_on ss n (Removing b left) else going ss n (first_of left))) (sym e) (removed, (replaced catalog was now g h ss rec left l stays b key x.0, x.1, e))
-      by false e = subst (λ c. SweepLeadsTo catalog was now h (if c then goes_on ss n (Removing b left) else going ss n (first_of left))) (sym e) (more_alone catalog was now h quiet.sound ss n removed left (gone catalog was now g h ss rec left l stays (firm_swept was h now rec.key b x.0 x.1 e)))
+      by : (d : Bool) → is_tombstone b ≡ d → VacuumLeadsTo catalog was now h (resolved ss n rec meta left (p, steps.Image (Some b)))
+      by true e = subst (λ c. VacuumLeadsTo catalog was now h (if c then with_call ss n (Removing b left) else next_of_row ss n (first_of left))) (sym e) (removed, (replaced catalog was now g h ss rec left l stays b key x.0, x.1, e))
+      by false e = subst (λ c. VacuumLeadsTo catalog was now h (if c then with_call ss n (Removing b left) else next_of_row ss n (first_of left))) (sym e) (more_alone catalog was now h quiet.sound ss n removed left (gone catalog was now g h ss rec left l stays (firm_swept was h now rec.key b x.0 x.1 e)))
   resolved_alone quiet removed loose stays (p, steps.Busy id at) x = more_alone catalog was now h quiet.sound ss n removed left (gone catalog was now g h ss rec left l stays (record { clean = ap is_clean x.4 ∙ ap (λ c. not (c && is_tombstone rec)) loose; passed = λ dead. busy_passed quiet loose id at x }))
   resolved_alone quiet removed loose stays (p, steps.Faulted) x = tt
   resolved_alone quiet removed loose stays (p, steps.BadRecord key) x = absurd x
@@ -412,25 +412,25 @@ module _ (catalog : List Table) (apart : IsApart catalog) (moment : ℤ) (was g 
       differs : (k : Key) → k ≢ b.key → same_key k b.key ≡ false
       differs k other = elim (same_key_tells k b.key) [ inl e ↦ absurd (other e.1) | inr f ↦ f.0 ]
 
-  removed_alone : RemovedSoFar catalog was g n → (r : Reply) → Wrote b.key None r g h → Quiet catalog g h × SweepLeadsTo catalog was moment h (removal_answered ss n left r)
+  removed_alone : RemovedSoFar catalog was g n → (r : Reply) → Wrote b.key None r g h → Quiet catalog g h × VacuumLeadsTo catalog was moment h (removal_answered ss n left r)
   removed_alone removed r (Done replied now) = (quiet, by replied)
     where
       quiet : Quiet catalog g h
       quiet = removed_quiet catalog apart g h b sound l.matches.0.0 l.matches.0.1 firm dead now
 
-      by : (r ≡ reply.Applied) ⊎ (r ≡ reply.Fault) → SweepLeadsTo catalog was moment h (removal_answered ss n left r)
-      by (inl e) = subst (λ x. SweepLeadsTo catalog was moment h (removal_answered ss n left x)) (sym e)
+      by : (r ≡ reply.Applied) ⊎ (r ≡ reply.Fault) → VacuumLeadsTo catalog was moment h (removal_answered ss n left r)
+      by (inl e) = subst (λ x. VacuumLeadsTo catalog was moment h (removal_answered ss n left x)) (sym e)
           (more_alone catalog was moment h quiet.sound ss (n + 1) (removed_more catalog apart was g h n b removed l.matches.0.0 l.matches.0.1 firm dead now) left
           (gone catalog was moment g h ss b left l (removed_stays now) (none_swept was h moment b.key (now b.key ∙ ap (λ x. if x then None else g b.key) (same_key_self b.key)))))
-      by (inr e) = subst (λ x. SweepLeadsTo catalog was moment h (removal_answered ss n left x)) (sym e) tt
-  removed_alone removed r (Undone (inl replied) same) = subst (λ j. Quiet catalog g j × SweepLeadsTo catalog was moment j (removal_answered ss n left r)) (one_database g h same) (quiet_refl catalog g sound, subst (λ x. SweepLeadsTo catalog was moment g (removal_answered ss n left x)) (sym replied) tt)
-  removed_alone removed r (Undone (inr replied) same) = subst (λ j. Quiet catalog g j × SweepLeadsTo catalog was moment j (removal_answered ss n left r)) (one_database g h same) (quiet_refl catalog g sound, subst (λ x. SweepLeadsTo catalog was moment g (removal_answered ss n left x)) (sym replied) tt)
+      by (inr e) = subst (λ x. VacuumLeadsTo catalog was moment h (removal_answered ss n left x)) (sym e) tt
+  removed_alone removed r (Undone (inl replied) same) = subst (λ j. Quiet catalog g j × VacuumLeadsTo catalog was moment j (removal_answered ss n left r)) (one_database g h same) (quiet_refl catalog g sound, subst (λ x. VacuumLeadsTo catalog was moment g (removal_answered ss n left x)) (sym replied) tt)
+  removed_alone removed r (Undone (inr replied) same) = subst (λ j. Quiet catalog g j × VacuumLeadsTo catalog was moment j (removal_answered ss n left r)) (one_database g h same) (quiet_refl catalog g sound, subst (λ x. VacuumLeadsTo catalog was moment g (removal_answered ss n left x)) (sym replied) tt)
 
   removal_called : (q : Request) (r : Reply) → remove_request b ≡ Some q → Called q r g h → Wrote b.key None r g h
   removal_called q r asked called = by (id_in b.columns) refl
     where
-      is_write : (x : Record) → Some b ≡ Some x → is_taken x ≡ true
-      is_write x e = subst (λ y. is_taken y ≡ true) (some_is b x e) (sound.taken b.key b l.matches.0.0 l.matches.0.1)
+      is_write : (x : Record) → Some b ≡ Some x → is_transactional x ≡ true
+      is_write x e = subst (λ y. is_transactional y ≡ true) (some_is b x e) (sound.taken b.key b l.matches.0.0 l.matches.0.1)
 
       of : (id : TxId) → id_in b.columns ≡ Some id → Called (ask.DeleteIf b.key (condition.Version id state.Committed)) r g h → Wrote b.key None r g h
       of id e w = w.0 (ap (holds (condition.Version id state.Committed)) l.matches.0.1 ∙ ap (λ o. holds (condition_of o) (Some b)) (sym e) ∙ version_holds (Some b) firm is_write)
@@ -441,10 +441,10 @@ module _ (catalog : List Table) (apart : IsApart catalog) (moment : ℤ) (was g 
 
 -- Whatever call of a VACUUM is pending, and whatever its reply.
 pub sweeps : (catalog : List Table) → IsApart catalog → (now : ℤ) → is_moment now ≡ true → (was g h : Database) (ss : List Span) (n : ℕ) (s : VacuumStage) (q : Request) (r : Reply) → Quiet catalog was g → ((k : Key) (x : Record) → h k ≡ Some x → x.key ≡ k)
-    → RemovedSoFar catalog was g n → SweepStageAlone catalog was now g ss s → pending_at s ≡ Some q → Called q r g h → Quiet catalog g h × SweepLeadsTo catalog was now h (step_at ss n s now r)
+    → RemovedSoFar catalog was g n → VacuumStageAlone catalog was now g ss s → pending_at s ≡ Some q → Called q r g h → Quiet catalog g h × VacuumLeadsTo catalog was now h (step_at ss n s now r)
 sweeps catalog apart now time was g h ss n (Scanning span) q r quiet own removed alone asked called =
     let x = subst (λ y. Called y r g h) (sym (some_is (ask.Scan span) q asked)) called in
-    subst (λ j. Quiet catalog g j × SweepLeadsTo catalog was now j (answered ss n r)) (one_database g h x.0) (quiet_refl catalog g quiet.sound, scanned_alone catalog was now g quiet.sound span ss n removed alone r x.1)
+    subst (λ j. Quiet catalog g j × VacuumLeadsTo catalog was now j (answered ss n r)) (one_database g h x.0) (quiet_refl catalog g quiet.sound, scanned_alone catalog was now g quiet.sound span ss n removed alone r x.1)
 sweeps catalog apart now time was g h ss n (Resolving rec meta p left) q r quiet own removed alone asked called =
     let x = recovers catalog apart rec meta now time g h p q r quiet.sound alone.1 asked called in
     let moved = quiet_of catalog g h quiet.sound own x.resolves in

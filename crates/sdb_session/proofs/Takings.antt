@@ -53,14 +53,14 @@ use Rattle.sdb_snapshot.specs.Written.{AreChanges}
 use Rattle.sdb_snapshot.proofs.Shown.{overlay_is}
 use Rattle.sdb_txn.specs.declared.txn.Doing.TheVariants as doing
 use Rattle.sdb_txn.specs.Txn.{TxnAt, committing, reading, work_of as txn_work}
-use Rattle.sdb_turns.specs.Noted.{work_of}
+use Rattle.sdb_turns.specs.Reads.{work_of}
 use Rattle.sdb_vacuum.specs.Vacuum.{begun as sweeping, spans_of, whole}
-use Rattle.sdb_client.specs.Client.{AskTold, BeginTold, ClientAt, CommitTaken, GateTold, IsTold, RollbackTold, RowsTold, SaidTold, StatementTold, Taking, Says, VacuumTold, given_answer, given_left, gives, is_covered, plan_of, too_many, written}
-use Rattle.sdb_client.specs.Inside.{IsFine, IsKeyRead, MayWrite}
+use Rattle.sdb_client.specs.Client.{AskPost, BeginPost, ClientAt, CommitStartPost, GatePost, IsAnsweredAtOnce, RollbackPost, RowsPost, ParsedPost, StatementPost, Taking, Parses, VacuumStartPost, given_answer, given_left, gives, is_covered, plan_of, too_many, written}
+use Rattle.sdb_client.specs.Inside.{IsValidPlan, IsKeyRead, MayWrite}
 use Rattle.sdb_client.proofs.Writable.{may_write}
 use Rattle.sdb_story.specs.Body.{AnswersOn, IsCovered}
 use Rattle.sdb_story.proofs.Bodies.{access_agrees, body_begins, body_step}
-use Rattle.sdb_steps.specs.Fitting.{tables_fit}
+use Rattle.sdb_steps.specs.Fitting.{tables_are_well_typed}
 use Rattle.sdb_steps.proofs.RowsFit.{answers_on, found_itself}
 use Rattle.sdb_steps.proofs.Whole.{literals_read}
 use Rattle.sdb_session.specs.Database.{Database}
@@ -68,10 +68,10 @@ use Rattle.sdb_session.specs.OnlyResolves.{IsApart, IsSound}
 use Rattle.sdb_session.specs.Commits.{CommitAlone, EachWrite, IsPrepared, StageAlone, WorkAlone, IsBaseCurrent}
 use Rattle.sdb_session.specs.Reads.{IsOfTables}
 use Rattle.sdb_session.specs.Seen.{SeenAlone, AreImagesOf}
-use Rattle.sdb_session.specs.Sweeps.{IsOfCatalog, LeftAlone}
+use Rattle.sdb_session.specs.Vacuums.{IsOfCatalog, LeftAlone}
 use Rattle.sdb_session.specs.Clients.{Added, AnsweredAlone, IdleAlone, IsAskedFor, IsUnused, Kept, OpenAlone, Passes}
-use Rattle.sdb_session.specs.Session.{turned_away}
-use Rattle.sdb_session.specs.Between.{Answered, Begun, Between, LeadsTo, Commits, More, Reads, RolledBack, OpenTransaction, Sweeps, Swept, Answers, Turned, IsTxnOf}
+use Rattle.sdb_session.specs.Session.{rejected}
+use Rattle.sdb_session.specs.Between.{Answered, Begun, Between, LeadsTo, Commits, More, Reads, RolledBack, OpenTransaction, InVacuum, Vacuumed, Answers, Turned, IsTxnOf}
 use Rattle.sdb_session.proofs.Resolves.{settles_refl}
 use Rattle.sdb_session.proofs.Statements.{agrees_all, answered_at, rows_change}
 use Rattle.sdb_session.proofs.Seen.{seen_written}
@@ -85,25 +85,25 @@ covered_is : (s : Seen) (a : Access) → is_covered s a ≡ true → IsCovered s
 covered_is s (access.Get key) h = h
 covered_is s (access.Scan span) h = h
 
-key_read : (s : Seen) (a : Access) → is_covered s a ≡ true → IsKeyRead s.notes a
+key_read : (s : Seen) (a : Access) → is_covered s a ≡ true → IsKeyRead s.read_set a
 key_read s (access.Get key) h = h
 key_read s (access.Scan span) h = tt
 
-module _ (catalog : List Table) (g : Database) (sound : IsSound catalog g) (d : Tables) (are_images : AreImagesOf catalog g d) (fit : tables_fit catalog d ≡ true) (now : ℤ) (statements : List Statement) (answers : List Answer) (t : TxnAt) (idle : t.doing ≡ doing.Idle) (p : Planned) (a : Access) (k : IsAskedFor catalog p a) (opened : OpenAlone catalog g statements answers t.id t.seen) (covered : is_covered t.seen a ≡ true) where
+module _ (catalog : List Table) (g : Database) (sound : IsSound catalog g) (d : Tables) (are_images : AreImagesOf catalog g d) (fit : tables_are_well_typed catalog d ≡ true) (now : ℤ) (statements : List Statement) (answers : List Answer) (t : TxnAt) (idle : t.doing ≡ doing.Idle) (p : Planned) (a : Access) (k : IsAskedFor catalog p a) (opened : OpenAlone catalog g statements answers t.id t.seen) (covered : is_covered t.seen a ≡ true) where
   abbrev AtOnce : Answer → TxnAt → Type 0
   AtOnce z u = (u.doing ≡ doing.Idle) × (u.id ≡ t.id) × AnsweredAlone catalog g statements answers p.statement a now t.id z u.seen
 
   kept : (z : Answer) → changes_nothing z ≡ true → IdleAlone g a now z → (is_too_many z ≡ true → Passes catalog g statements p.statement true) → AtOnce z t
   kept z same why many = (idle, refl, Kept same why many opened)
 
-  is_write : IsFine p
+  is_write : IsValidPlan p
   is_write = record { asked = k.asked; table = named_is_table catalog p.statement p.table k.is k.named; taken = sym (ap (λ (o : Option Table). refusal_by o p.statement) k.named) ∙ k.taken; literals = k.literals }
 
   at_access : (b : Answer) (ks : List Keyed) → gives p a t ≡ Finished b ks → step_of p (overlay (access_of p.table p.statement) t.seen) ≡ Finished b ks
   at_access b ks e = sym (ap (λ (c : Access). step_of p (overlay c t.seen)) k.access) ∙ e
 
-  on_tables : (b : Answer) (ks : List Keyed) → step_of p (overlay (access_of p.table p.statement) t.seen) ≡ Finished b ks → AnswersOn catalog (tables_fit catalog) t.seen p.statement a b ks
-  on_tables b ks e = subst (λ (c : Access). AnswersOn catalog (tables_fit catalog) t.seen p.statement c b ks) (sym k.access) (answers_on catalog p t.seen b ks k.is k.named k.asked k.taken k.literals e)
+  on_tables : (b : Answer) (ks : List Keyed) → step_of p (overlay (access_of p.table p.statement) t.seen) ≡ Finished b ks → AnswersOn catalog (tables_are_well_typed catalog) t.seen p.statement a b ks
+  on_tables b ks e = subst (λ (c : Access). AnswersOn catalog (tables_are_well_typed catalog) t.seen p.statement c b ks) (sym k.access) (answers_on catalog p t.seen b ks k.is k.named k.asked k.taken k.literals e)
 
   answered : (b : Answer) (ks : List Keyed) → step_of p (overlay (access_of p.table p.statement) t.seen) ≡ Finished b ks → is_answered_from_rows b ≡ true
   answered b ks e =
@@ -123,7 +123,7 @@ module _ (catalog : List Table) (g : Database) (sound : IsSound catalog g) (d : 
       ap (λ (q : List Answer × Tables). passes_most catalog p.statement q.1 (keys_of_body catalog statements e [])) (opened.body.runs e fits agree)
       ∙ ap (λ qs. passes_most catalog p.statement left qs) own_keys ∙ ap (pass_with (map (λ (w : Write). w.key) t.seen.writes)) (sym written_keys) ∙ sym (many_is t ks) ∙ many
 
-  keys_now : (ks : List Keyed) → ks ≡ changes_on p.table p.statement (overlay a t.seen) → (e : Tables) → AreImagesOf catalog g e → tables_fit catalog e ≡ true → keys_of_body catalog (statements ++ p.statement ∷ []) e [] ≡ map (λ (w : Write). w.key) (with_written t.seen ks).writes
+  keys_now : (ks : List Keyed) → ks ≡ changes_on p.table p.statement (overlay a t.seen) → (e : Tables) → AreImagesOf catalog g e → tables_are_well_typed catalog e ≡ true → keys_of_body catalog (statements ++ p.statement ∷ []) e [] ≡ map (λ (w : Write). w.key) (with_written t.seen ks).writes
   keys_now ks is e same_rows fits =
       let agree = agrees_all catalog opened.past g sound t.seen opened.seen e same_rows in
       let left : Tables = with_own e t.seen.writes in
@@ -131,18 +131,18 @@ module _ (catalog : List Table) (g : Database) (sound : IsSound catalog g) (d : 
       let written_keys : map (λ (x : Keyed). x.key) ks ≡ keys_written catalog p.statement left = ap (map (λ (x : Keyed). x.key)) (is ∙ ap (changes_on p.table p.statement) over) ∙ keys_changed catalog p.table p.statement left is_write.table k.named (all_in_fit catalog p.table (all_rows left) (found_itself catalog (table_of p.statement) p.table k.named) (opened.body.fits e fits agree)) in
       let own_keys : keys_of_body catalog statements e [] ≡ map (λ (w : Write). w.key) t.seen.writes = opened.keys e same_rows fits in
       keys_more catalog statements p.statement e [] ∙ ap (λ (q : List Answer × Tables). with_keys (keys_of_body catalog statements e []) (keys_written catalog p.statement q.1)) (opened.body.runs e fits agree)
-      ∙ ap (λ qs. with_keys qs (keys_written catalog p.statement left)) own_keys ∙ ap (with_keys (map (λ (w : Write). w.key) t.seen.writes)) (sym written_keys) ∙ sym (keys_with t.seen.notes t.seen.writes ks)
+      ∙ ap (λ qs. with_keys qs (keys_written catalog p.statement left)) own_keys ∙ ap (with_keys (map (λ (w : Write). w.key) t.seen.writes)) (sym written_keys) ∙ sym (keys_with t.seen.read_set t.seen.writes ks)
 
   added : (b : Answer) (ks : List Keyed) → gives p a t ≡ Finished b ks → ks ≡ changes_on p.table p.statement (overlay a t.seen) → is_answered_from_rows b ≡ true → too_many t ks ≡ false → AtOnce b (written t ks)
   added b ks gave is some few =
       let e = at_access b ks gave in
-      let changes : AreChanges t.seen.notes ks = subst (MayWrite t.seen.notes) e (may_write t.seen p is_write opened.seen.ok.kept (subst (IsKeyRead t.seen.notes) k.access (key_read t.seen a covered))) in (
+      let changes : AreChanges t.seen.read_set ks = subst (MayWrite t.seen.read_set) e (may_write t.seen p is_write opened.seen.ok.kept (subst (IsKeyRead t.seen.read_set) k.access (key_read t.seen a covered))) in (
         idle,
         refl,
         Added some (passes_is ks is false few) (record {
           past = opened.past;
           seen = seen_written catalog opened.past g t.seen ks opened.seen changes;
-          body = body_step opened.past catalog (tables_fit catalog) statements answers t.seen p.statement a b ks opened.body opened.seen.ok (covered_is t.seen a covered) (on_tables b ks e);
+          body = body_step opened.past catalog (tables_are_well_typed catalog) statements answers t.seen p.statement a b ks opened.body opened.seen.ok (covered_is t.seen a covered) (on_tables b ks e);
           keys = keys_now ks is;
           new = opened.new;
         }),
@@ -172,7 +172,7 @@ module _ (catalog : List Table) (g : Database) (sound : IsSound catalog g) (d : 
 -- nothing has been read
 nothing_seen : (catalog : List Table) (g : Database) → SeenAlone catalog [] g nothing
 nothing_seen catalog g = record {
-  ok = record { kept = record { read = λ q h. absurd (cc); bases = tt; fine = tt; based = tt; once = tt }; notes = tt; reads = tt; scans = tt; found = tt; noted = λ q h. absurd (cc) };
+  ok = record { kept = record { read = λ q h. absurd (cc); bases = tt; valid = tt; based = tt; once = tt }; read_set = tt; reads = tt; scans = tt; found = tt; as_read = λ q h. absurd (cc) };
   scans = tt;
   matches = λ k h. absurd (cc);
 }
@@ -231,7 +231,7 @@ access_listed catalog st table named k h =
 
 ---- the whole
 
-module _ (q : Taking) (apart : IsApart q.catalog) (is : is_catalog q.catalog ≡ true) (gate : (q.gate.vacuum_runs ≡ false) × (q.gate.open_elsewhere ≡ false)) (time : is_moment q.now ≡ true) (g : Database) (sound : IsSound q.catalog g) (d : Tables) (are_images : AreImagesOf q.catalog g d) (fit : tables_fit q.catalog d ≡ true) (o : Option OpenTransaction) (c : ClientAt) (between : Between q.catalog g o c) (new : IsUnused q.catalog g q.fresh) (result : Option Answer) (e : ClientAt) where
+module _ (q : Taking) (apart : IsApart q.catalog) (is : is_catalog q.catalog ≡ true) (gate : (q.gate.vacuum_runs ≡ false) × (q.gate.open_elsewhere ≡ false)) (time : is_moment q.now ≡ true) (g : Database) (sound : IsSound q.catalog g) (d : Tables) (are_images : AreImagesOf q.catalog g d) (fit : tables_are_well_typed q.catalog d ≡ true) (o : Option OpenTransaction) (c : ClientAt) (between : Between q.catalog g o c) (new : IsUnused q.catalog g q.fresh) (result : Option Answer) (e : ClientAt) where
   abbrev fresh : TxId
   fresh = q.fresh
 
@@ -239,24 +239,24 @@ module _ (q : Taking) (apart : IsApart q.catalog) (is : is_catalog q.catalog ≡
   abbrev Taken : Result Statement Refusal → Type 0
   Taken says = LeadsTo q.catalog g fresh q.now says g o result e
 
-  turned : (says : Result Statement Refusal) (z : Answer) → turned_away q.catalog (is_some o) says ≡ Some z → IsTold c z result e → Taken says
+  turned : (says : Result Statement Refusal) (z : Answer) → rejected q.catalog (is_some o) says ≡ Some z → IsAnsweredAtOnce c z result e → Taken says
   turned says z away took = Answers z took.answer (Turned away refl (subst (Between q.catalog g o) (sym took.same) between))
 
   ---- BEGIN, COMMIT, ROLLBACK
 
   starts : OpenAlone q.catalog g [] [] fresh nothing
-  starts = record { past = []; seen = nothing_seen q.catalog g; body = body_begins q.catalog (tables_fit q.catalog); keys = λ e same_rows fits. refl; new = new }
+  starts = record { past = []; seen = nothing_seen q.catalog g; body = body_begins q.catalog (tables_are_well_typed q.catalog); keys = λ e same_rows fits. refl; new = new }
 
-  begin_case : (x : Option TxnAt) → c.txn ≡ x → (y : Option OpenTransaction) → o ≡ y → IsTxnOf q.catalog g y x → BeginTold q.gate fresh c x result e → Taken (Ok statement.Begin)
-  begin_case (Some t) f (Some b) u s took = turned (Ok statement.Begin) (refused 4) (ap (λ w. turned_away q.catalog (is_some w) (Ok statement.Begin)) u) took
+  begin_case : (x : Option TxnAt) → c.txn ≡ x → (y : Option OpenTransaction) → o ≡ y → IsTxnOf q.catalog g y x → BeginPost q.gate fresh c x result e → Taken (Ok statement.Begin)
+  begin_case (Some t) f (Some b) u s took = turned (Ok statement.Begin) (refused 4) (ap (λ w. rejected q.catalog (is_some w) (Ok statement.Begin)) u) took
   begin_case (Some t) f None u s took = absurd s
   begin_case None f (Some b) u s took = absurd s
   begin_case None f None u s took =
-      let k : GateTold false fresh c result e = subst (λ w. GateTold w fresh c result e) gate.0 took in
+      let k : GatePost false fresh c result e = subst (λ w. GatePost w fresh c result e) gate.0 took in
       Answers answer.Done k.0 (Begun refl u refl refl (subst (Between q.catalog g (Some (record { id = fresh; statements = []; answers = [] }))) (sym k.1) (record { free = refl; plan = refl; txn = (refl, refl, starts) })))
 
-  commit_case : (x : Option TxnAt) → c.txn ≡ x → (y : Option OpenTransaction) → o ≡ y → IsTxnOf q.catalog g y x → CommitTaken q.now c x result e → Taken (Ok statement.Commit)
-  commit_case None f None u s took = turned (Ok statement.Commit) (refused 5) (ap (λ w. turned_away q.catalog (is_some w) (Ok statement.Commit)) u) took
+  commit_case : (x : Option TxnAt) → c.txn ≡ x → (y : Option OpenTransaction) → o ≡ y → IsTxnOf q.catalog g y x → CommitStartPost q.now c x result e → Taken (Ok statement.Commit)
+  commit_case None f None u s took = turned (Ok statement.Commit) (refused 5) (ap (λ w. rejected q.catalog (is_some w) (Ok statement.Commit)) u) took
   commit_case None f (Some b) u s took = absurd s
   commit_case (Some t) f None u s took = absurd s
   commit_case (Some t) f (Some b) u s took =
@@ -267,37 +267,37 @@ module _ (q : Taking) (apart : IsApart q.catalog) (is : is_catalog q.catalog ≡
       work : txn_work t q.now ≡ work_of b.id q.now t.seen
       work = ap (λ (i : TxId). work_of i q.now t.seen) s.1
 
-  rollback_case : (x : Option TxnAt) → c.txn ≡ x → (y : Option OpenTransaction) → o ≡ y → IsTxnOf q.catalog g y x → RollbackTold c x result e → Taken (Ok statement.Rollback)
-  rollback_case None f None u s took = turned (Ok statement.Rollback) (refused 5) (ap (λ w. turned_away q.catalog (is_some w) (Ok statement.Rollback)) u) took
+  rollback_case : (x : Option TxnAt) → c.txn ≡ x → (y : Option OpenTransaction) → o ≡ y → IsTxnOf q.catalog g y x → RollbackPost c x result e → Taken (Ok statement.Rollback)
+  rollback_case None f None u s took = turned (Ok statement.Rollback) (refused 5) (ap (λ w. rejected q.catalog (is_some w) (Ok statement.Rollback)) u) took
   rollback_case None f (Some b) u s took = absurd s
   rollback_case (Some t) f None u s took = absurd s
   rollback_case (Some t) f (Some b) u s took = Answers answer.Done took.0 (RolledBack b refl u refl refl (subst (Between q.catalog g None) (sym took.1) (record { free = between.free; plan = refl; txn = tt })))
 
   ---- VACUUM
 
-  vacuum_case : (x : Option TxnAt) → c.txn ≡ x → (y : Option OpenTransaction) → o ≡ y → IsTxnOf q.catalog g y x → (ts : List Table) → q.catalog ≡ ts → VacuumTold (is_some x || q.gate.open_elsewhere) ts c result e → Taken (Ok statement.Vacuum)
-  vacuum_case (Some t) f (Some b) u s ts k took = turned (Ok statement.Vacuum) answer.OpenTransactions (ap (λ w. turned_away q.catalog (is_some w) (Ok statement.Vacuum)) u) took
+  vacuum_case : (x : Option TxnAt) → c.txn ≡ x → (y : Option OpenTransaction) → o ≡ y → IsTxnOf q.catalog g y x → (ts : List Table) → q.catalog ≡ ts → VacuumStartPost (is_some x || q.gate.open_elsewhere) ts c result e → Taken (Ok statement.Vacuum)
+  vacuum_case (Some t) f (Some b) u s ts k took = turned (Ok statement.Vacuum) answer.OpenTransactions (ap (λ w. rejected q.catalog (is_some w) (Ok statement.Vacuum)) u) took
   vacuum_case (Some t) f None u s ts k took = absurd s
   vacuum_case None f (Some b) u s ts k took = absurd s
   vacuum_case None f None u s [] k took =
-      let h : IsTold c (answer.Count 0) result e = subst (λ w. VacuumTold w [] c result e) gate.1 took in
-      Answers (answer.Count 0) h.answer (Swept refl u (quiet_refl q.catalog g sound) (inr (inr (0, refl, has_vacuumed q.catalog g g q.now 0 (removed_none q.catalog g) (λ y listed. absurd (nowhere y (subst (λ xs. is_some (find_table xs y.table) ≡ true) k listed)))))) (subst (Between q.catalog g None) (sym h.same) (subst (λ w. Between q.catalog g w c) u between)))
+      let h : IsAnsweredAtOnce c (answer.Count 0) result e = subst (λ w. VacuumStartPost w [] c result e) gate.1 took in
+      Answers (answer.Count 0) h.answer (Vacuumed refl u (quiet_refl q.catalog g sound) (inr (inr (0, refl, has_vacuumed q.catalog g g q.now 0 (removed_none q.catalog g) (λ y listed. absurd (nowhere y (subst (λ xs. is_some (find_table xs y.table) ≡ true) k listed)))))) (subst (Between q.catalog g None) (sym h.same) (subst (λ w. Between q.catalog g w c) u between)))
     where
       nowhere : (y : Key) → is_some (find_table [] y.table) ≡ true → ⊥
       nowhere y h = cc
   vacuum_case None f None u s (t ∷ ts) k took =
-      let h : (result ≡ None) × (e ≡ record c { vacuum = Some (sweeping (t ∷ ts)) }) = subst (λ w. VacuumTold w (t ∷ ts) c result e) gate.1 took in
-      More statement.Vacuum refl h.0 (Sweeps (sweeping (t ∷ ts)) u refl (ap (λ (w : ClientAt). w.vacuum) h.1) (ap (λ (w : ClientAt). w.txn) h.1 ∙ f) (ap (λ (w : ClientAt). w.plan) h.1 ∙ between.plan) (removed_none q.catalog g, sweep_begins q.catalog q.now g t ts k) (quiet_refl q.catalog g sound))
+      let h : (result ≡ None) × (e ≡ record c { vacuum = Some (sweeping (t ∷ ts)) }) = subst (λ w. VacuumStartPost w (t ∷ ts) c result e) gate.1 took in
+      More statement.Vacuum refl h.0 (InVacuum (sweeping (t ∷ ts)) u refl (ap (λ (w : ClientAt). w.vacuum) h.1) (ap (λ (w : ClientAt). w.txn) h.1 ∙ f) (ap (λ (w : ClientAt). w.plan) h.1 ∙ between.plan) (removed_none q.catalog g, sweep_begins q.catalog q.now g t ts k) (quiet_refl q.catalog g sound))
 
   ---- a statement on a table
 
   -- neither a word nor refused
   record IsOnTable (st : Statement) : Type 0 where
-    away_open : turned_away q.catalog true (Ok st) ≡ option_map (λ r. answer.Refused r) (refusal_of q.catalog st)
-    away_none : turned_away q.catalog false (Ok st) ≡ Some (refused 5)
+    away_open : rejected q.catalog true (Ok st) ≡ option_map (λ r. answer.Refused r) (refusal_of q.catalog st)
+    away_none : rejected q.catalog false (Ok st) ≡ Some (refused 5)
 
-  ask_case : (st : Statement) → has_all_literals st ≡ true → IsOnTable st → (x : Option TxnAt) → c.txn ≡ x → (y : Option OpenTransaction) → o ≡ y → IsTxnOf q.catalog g y x → AskTold q.catalog st c x result e → Taken (Ok st)
-  ask_case st literals on None f None u s took = turned (Ok st) (refused 5) (ap (λ w. turned_away q.catalog (is_some w) (Ok st)) u ∙ on.away_none) took
+  ask_case : (st : Statement) → has_all_literals st ≡ true → IsOnTable st → (x : Option TxnAt) → c.txn ≡ x → (y : Option OpenTransaction) → o ≡ y → IsTxnOf q.catalog g y x → AskPost q.catalog st c x result e → Taken (Ok st)
+  ask_case st literals on None f None u s took = turned (Ok st) (refused 5) (ap (λ w. rejected q.catalog (is_some w) (Ok st)) u ∙ on.away_none) took
   ask_case st literals on None f (Some b) u s took = absurd s
   ask_case st literals on (Some t) f None u s took = absurd s
   ask_case st literals on (Some t) f (Some b) u s took = by_refusal (refusal_of q.catalog st) refl
@@ -305,7 +305,7 @@ module _ (q : Taking) (apart : IsApart q.catalog) (is : is_catalog q.catalog ≡
       opened : OpenAlone q.catalog g b.statements b.answers t.id t.seen
       opened = subst (λ (i : TxId). OpenAlone q.catalog g b.statements b.answers i t.seen) (sym s.1) s.2
 
-      rows : (table : Table) → refusal_of q.catalog st ≡ None → named_table q.catalog st ≡ Some table → RowsTold (plan_of table st) (access_of table st) c t result e → Taken (Ok st)
+      rows : (table : Table) → refusal_of q.catalog st ≡ None → named_table q.catalog st ≡ Some table → RowsPost (plan_of table st) (access_of table st) c t result e → Taken (Ok st)
       rows table taken named r = by_test (is_covered t.seen (access_of table st))
           (λ k.
           let w = at_once q.catalog g sound d are_images fit q.now b.statements b.answers t s.0 (plan_of table st) (access_of table st) asked opened k in
@@ -319,7 +319,7 @@ module _ (q : Taking) (apart : IsApart q.catalog) (is : is_catalog q.catalog ≡
           asked : IsAskedFor q.catalog (plan_of table st) (access_of table st)
           asked = record { is = is; named = named; asked = refl; taken = taken; literals = literals; access = refl; tables = access_listed q.catalog st table named }
 
-          stays : turned_away q.catalog true (Ok st) ≡ None
+          stays : rejected q.catalog true (Ok st) ≡ None
           stays = on.away_open ∙ ap (option_map (λ r. answer.Refused r)) taken
 
       by_table : (w : Option Table) → refusal_of q.catalog st ≡ None → named_table q.catalog st ≡ w → Taken (Ok st)
@@ -327,12 +327,12 @@ module _ (q : Taking) (apart : IsApart q.catalog) (is : is_catalog q.catalog ≡
       by_table None taken named = absurd (let k : Some (record { kind = 6; place = 0 }) ≡ None = sym (ap (λ (w : Option Table). refusal_by w st) named) ∙ taken in cc)
 
       by_refusal : (w : Option Refusal) → refusal_of q.catalog st ≡ w → Taken (Ok st)
-      by_refusal (Some r) k = turned (Ok st) (answer.Refused r) (ap (λ w. turned_away q.catalog (is_some w) (Ok st)) u ∙ on.away_open ∙ ap (option_map (λ r. answer.Refused r)) k) (took.refused r k)
+      by_refusal (Some r) k = turned (Ok st) (answer.Refused r) (ap (λ w. rejected q.catalog (is_some w) (Ok st)) u ∙ on.away_open ∙ ap (option_map (λ r. answer.Refused r)) k) (took.refused r k)
       by_refusal None k = by_table (named_table q.catalog st) k refl
 
   ---- the whole
 
-  statement_case : (text : List ℕ) (st : Statement) → ReadsAs text st → StatementTold q st c result e → Taken (Ok st)
+  statement_case : (text : List ℕ) (st : Statement) → ReadsAs text st → StatementPost q st c result e → Taken (Ok st)
   statement_case text statement.Begin h took = begin_case c.txn refl o refl between.txn took
   statement_case text statement.Commit h took = commit_case c.txn refl o refl between.txn took
   statement_case text statement.Rollback h took = rollback_case c.txn refl o refl between.txn took
@@ -344,6 +344,6 @@ module _ (q : Taking) (apart : IsApart q.catalog) (is : is_catalog q.catalog ≡
   statement_case text (statement.Select s) h took = ask_case (statement.Select s) (literals_read text (statement.Select s) h) (record { away_open = refl; away_none = refl }) c.txn refl o refl between.txn took
 
   -- Whatever a client that is alone takes.
-  pub takes : (text : List ℕ) (says : Result Statement Refusal) → Says text says → SaidTold q says c result e → Taken says
+  pub takes : (text : List ℕ) (says : Result Statement Refusal) → Parses text says → ParsedPost q says c result e → Taken says
   takes text (Ok st) h took = statement_case text st h took
   takes text (Err r) h took = turned (Err r) (answer.Refused r) refl took

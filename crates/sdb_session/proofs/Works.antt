@@ -9,26 +9,26 @@ use Rattle.sdb_record.specs.Meta.{is_moment}
 use Rattle.sdb_record.specs.Moved.{version_of}
 use Rattle.sdb_record.specs.Rolls.{IsWrite}
 use Rattle.sdb_schema.specs.declared.table.Table.{Table}
-use Rattle.sdb_laws.specs.Lawful.{Played}
-use Rattle.sdb_snapshot.specs.Noted.{base_at, is_noted}
+use Rattle.sdb_laws.specs.Lawful.{Labelled}
+use Rattle.sdb_snapshot.specs.Reads.{base_at, is_key_read}
 use Rattle.sdb_snapshot.specs.Seen.{Seen}
-use Rattle.sdb_turns.specs.Noted.{IsReadOk, work_of}
+use Rattle.sdb_turns.specs.Reads.{IsReadOk, work_of}
 use Rattle.sdb_turns.proofs.Lists.{each_both}
-use Rattle.sdb_session.specs.Database.{Database, is_firm, is_listed}
+use Rattle.sdb_session.specs.Database.{Database, is_committed_or_none, is_listed}
 use Rattle.sdb_session.specs.Commits.{IsReadCurrent, WorkAlone, IsBaseCurrent}
 use Rattle.sdb_session.specs.Clients.{IsUnused}
 use Rattle.sdb_session.specs.Seen.{SeenAlone}
 use Rattle.sdb_session.proofs.Seen.{base_firm}
 
-module _ (catalog : List Table) (past : List Played) (g : Database) (s : Seen) (alone : SeenAlone catalog past g s) where
-  notes_current : (k : Key) → is_noted s.notes k ≡ true → (is_listed catalog k ≡ true) × (g k ≡ base_at s.notes k)
-  notes_current k noted = alone.matches k (ap (λ b. b || list_any (λ x. in_span x.span k) s.scans) noted)
+module _ (catalog : List Table) (past : List Labelled) (g : Database) (s : Seen) (alone : SeenAlone catalog past g s) where
+  notes_current : (k : Key) → is_key_read s.read_set k ≡ true → (is_listed catalog k ≡ true) × (g k ≡ base_at s.read_set k)
+  notes_current k as_read = alone.matches k (ap (λ b. b || list_any (λ x. in_span x.span k) s.scans) as_read)
 
   writes_current : AllByRecursion (IsBaseCurrent catalog g) s.writes
-  writes_current = each_both (λ w. (is_noted s.notes w.key ≡ true) × (w.base ≡ base_at s.notes w.key)) IsWrite (IsBaseCurrent catalog g) s.writes (λ w b f. let x = notes_current w.key b.0 in record { is_write = f; listed = x.0; base = x.1 ∙ sym b.1 }) alone.ok.kept.based alone.ok.kept.fine
+  writes_current = each_both (λ w. (is_key_read s.read_set w.key ≡ true) × (w.base ≡ base_at s.read_set w.key)) IsWrite (IsBaseCurrent catalog g) s.writes (λ w b f. let x = notes_current w.key b.0 in record { is_write = f; listed = x.0; base = x.1 ∙ sym b.1 }) alone.ok.kept.based alone.ok.kept.valid
 
   reads_current : AllByRecursion (IsReadCurrent catalog g) s.reads
-  reads_current = each_both (IsReadOk s.notes) (IsReadOk s.notes) (IsReadCurrent catalog g) s.reads (λ r x y. let n = notes_current r.key x.0 in record { listed = n.0; firm = ap is_firm n.1 ∙ base_firm s.notes alone.ok.kept.bases r.key; version = x.1 ∙ ap version_of (sym n.1) }) alone.ok.reads alone.ok.reads
+  reads_current = each_both (IsReadOk s.read_set) (IsReadOk s.read_set) (IsReadCurrent catalog g) s.reads (λ r x y. let n = notes_current r.key x.0 in record { listed = n.0; firm = ap is_committed_or_none n.1 ∙ base_firm s.read_set alone.ok.kept.bases r.key; version = x.1 ∙ ap version_of (sym n.1) }) alone.ok.reads alone.ok.reads
 
   pub work_alone : (id : TxId) (now : ℤ) → IsUnused catalog g id → is_moment now ≡ true → WorkAlone catalog g (work_of id now s)
   work_alone id now new time = record {

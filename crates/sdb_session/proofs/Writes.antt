@@ -22,7 +22,7 @@ use Rattle.sdb_record.specs.declared.write.Write.{Write}
 use Rattle.sdb_record.specs.Among.{is_written, write_among}
 use Rattle.sdb_record.specs.Coordinator.{coordinator_key_of, is_coordinator_table}
 use Rattle.sdb_record.specs.declared.meta.Meta.{Meta}
-use Rattle.sdb_record.specs.Meta.{checked, id_in, id_in_value, is_in, is_taken}
+use Rattle.sdb_record.specs.Meta.{checked, id_in, id_in_value, is_in, is_transactional}
 use Rattle.sdb_record.specs.Parts.{are_stored}
 use Rattle.sdb_record.proofs.Fine.{taken}
 use Rattle.sdb_record.proofs.IdLemmas.{id_of_text-is}
@@ -31,7 +31,7 @@ use Rattle.sdb_schema.specs.declared.table.Table.{Table}
 use Rattle.sdb_phases.specs.Work.{Work}
 use Rattle.sdb_snapshot.specs.Written.{HaveKeysOnce}
 use Rattle.sdb_turns.proofs.Lists.{each_at}
-use Rattle.sdb_session.specs.Database.{Database, IsWith, is_firm}
+use Rattle.sdb_session.specs.Database.{Database, IsWith, is_committed_or_none}
 use Rattle.sdb_session.specs.OnlyResolves.{IsApart}
 use Rattle.sdb_session.specs.Commits.{EachWrite, OthersUnchanged, WorkAlone, IsBaseCurrent}
 use Rattle.sdb_session.proofs.Resolves.{row_key}
@@ -90,7 +90,7 @@ writer_value (Some (value.Text text)) id h = subst (λ (t : List ℕ). has_value
 writer_value (Some v) id h = absurd (cc)
 
 -- a committed record has its version
-firm_holds : (r : Record) → is_taken r ≡ true → is_in state.Committed r.columns ≡ true → holds (condition_of (version_of (Some r))) (Some r) ≡ true
+firm_holds : (r : Record) → is_transactional r ≡ true → is_in state.Committed r.columns ≡ true → holds (condition_of (version_of (Some r))) (Some r) ≡ true
 firm_holds r is_write firm = by (checked r.columns) refl (and_second (are_stored r.columns) (is_ok (checked r.columns)) is_write)
   where
     of : (id : TxId) → id_in r.columns ≡ Some id → holds (condition_of (version_of (Some r))) (Some r) ≡ true
@@ -101,7 +101,7 @@ firm_holds r is_write firm = by (checked r.columns) refl (and_second (are_stored
     by (Err name) e ok = absurd (cc)
 
 -- a record that passes the checks has a writer
-pub taken_id : (r : Record) → is_taken r ≡ true → (id : TxId) × (id_in r.columns ≡ Some id)
+pub taken_id : (r : Record) → is_transactional r ≡ true → (id : TxId) × (id_in r.columns ≡ Some id)
 taken_id r is_write = by (checked r.columns) refl (and_second (are_stored r.columns) (is_ok (checked r.columns)) is_write)
   where
     by : (c : Result Meta (List ℕ)) → checked r.columns ≡ c → is_ok c ≡ true → (id : TxId) × (id_in r.columns ≡ Some id)
@@ -109,7 +109,7 @@ taken_id r is_write = by (checked r.columns) refl (and_second (are_stored r.colu
     by (Err name) e ok = absurd (cc)
 
 -- the record there still has its version
-pub version_holds : (o : Option Record) → is_firm o ≡ true → ((r : Record) → o ≡ Some r → is_taken r ≡ true) → holds (condition_of (version_of o)) o ≡ true
+pub version_holds : (o : Option Record) → is_committed_or_none o ≡ true → ((r : Record) → o ≡ Some r → is_transactional r ≡ true) → holds (condition_of (version_of o)) o ≡ true
 version_holds None firm is_write = refl
 version_holds (Some r) firm is_write = firm_holds r (is_write r refl) firm
 

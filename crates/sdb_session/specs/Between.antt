@@ -17,7 +17,7 @@ use Rattle.sdb_snapshot.specs.Rows.{with_own}
 use Rattle.sdb_snapshot.specs.Seen.{Seen}
 use Rattle.sdb_txn.specs.declared.txn.Doing.TheVariants as doing
 use Rattle.sdb_txn.specs.Txn.{TxnAt}
-use Rattle.sdb_turns.specs.Noted.{work_of}
+use Rattle.sdb_turns.specs.Reads.{work_of}
 use Rattle.sdb_vacuum.specs.Vacuum.{VacuumAt}
 use Rattle.sdb_client.specs.Client.{ClientAt}
 use Rattle.sdb_session.specs.Database.{Database}
@@ -28,9 +28,9 @@ use Rattle.sdb_session.specs.Seen.{AreImagesOf}
 use Rattle.sdb_session.specs.Reads.{ReadAlone}
 use Rattle.sdb_session.specs.Clients.{AnsweredAlone, IsAskedFor, OpenAlone}
 use Rattle.sdb_session.specs.Later.{Later}
-use Rattle.sdb_session.specs.Sweeps.{Quiet, SweepAlone}
+use Rattle.sdb_session.specs.Vacuums.{Quiet, VacuumAlone}
 use Rattle.sdb_session.specs.Tombstones.{HasVacuumed, HasWritten, SameImages}
-use Rattle.sdb_session.specs.Session.{turned_away}
+use Rattle.sdb_session.specs.Session.{rejected}
 
 -- an open transaction: its id, the statements of its body, and their answers
 pub record OpenTransaction : Type 0 where
@@ -52,25 +52,25 @@ pub record Between (catalog : List Table) (g : Database) (o : Option OpenTransac
 
 ---- while a statement waits
 
--- A statement waits for a reply, since it was taken over the database of that time: it reads, it commits, or it sweeps.
+-- A statement waits for a reply, since it was taken over the database of that time: it reads, it commits, or it runs VACUUM.
 pub data Waits (catalog : List Table) (was : Database) (now : ℤ) (st : Statement) (g : Database) (o : Option OpenTransaction) (c : ClientAt) : Type 0 where
   Reads : (b : OpenTransaction) (t : TxnAt) (p : Planned) (a : Access) (x : ReadAt) (is : o ≡ Some b) (free : c.vacuum ≡ None) (txn : c.txn ≡ Some t) (plan : c.plan ≡ Some p) (does : t.doing ≡ doing.Read a x) (of : p.statement ≡ st) (asked : IsAskedFor catalog p a) (request : x.request ≡ request_of a) (id : t.id ≡ b.id)
-      (opened : OpenAlone catalog g b.statements b.answers t.id t.seen) (alone : ReadAlone catalog g a now x.stage) (resolves : OnlyResolves catalog was g) (stays : turned_away catalog true (Ok st) ≡ None) → Waits catalog was now st g o c
+      (opened : OpenAlone catalog g b.statements b.answers t.id t.seen) (alone : ReadAlone catalog g a now x.stage) (resolves : OnlyResolves catalog was g) (stays : rejected catalog true (Ok st) ≡ None) → Waits catalog was now st g o c
   Commits : (b : OpenTransaction) (t : TxnAt) (k : CommitAt) (s : Seen) (is : o ≡ Some b) (commit : st ≡ statement.Commit) (free : c.vacuum ≡ None) (txn : c.txn ≡ Some t) (plan : c.plan ≡ None) (does : t.doing ≡ doing.Commit k) (work : k.work ≡ work_of b.id now s)
       (opened : OpenAlone catalog was b.statements b.answers b.id s) (alone : CommitAlone catalog was k.work g k.stage) → Waits catalog was now st g o c
-  Sweeps : (v : VacuumAt) (is : o ≡ None) (vacuum : st ≡ statement.Vacuum) (runs : c.vacuum ≡ Some v) (txn : c.txn ≡ None) (plan : c.plan ≡ None) (alone : SweepAlone catalog was now g v) (quiet : Quiet catalog was g) → Waits catalog was now st g o c
+  InVacuum : (v : VacuumAt) (is : o ≡ None) (vacuum : st ≡ statement.Vacuum) (runs : c.vacuum ≡ Some v) (txn : c.txn ≡ None) (plan : c.plan ≡ None) (alone : VacuumAlone catalog was now g v) (quiet : Quiet catalog was g) → Waits catalog was now st g o c
 
 ---- how it ends
 
--- A COMMIT was answered so. It is committed, plain tables that were the images are so now with its writes over them, and no other image
+-- A COMMIT has this answer. It is committed, plain tables that were the images are now the images with its writes over them, and no other image
 -- changed; or it never will be, and each image is as it was.
 pub data CommitEnds (catalog : List Table) (was g : Database) (id : TxId) (now : ℤ) (s : Seen) (z : Answer) : Type 0 where
   Won : (replied : (z ≡ answer.Committed) ⊎ (z ≡ answer.Unknown id)) (decided : IsCommittedAt g id now) (left : (d : Tables) → AreImagesOf catalog was d → AreImagesOf catalog g (with_own d s.writes)) (written : HasWritten catalog (is_written s.writes) was g) → CommitEnds catalog was g id now s z
   Lost : (replied : (z ≡ answer.Faulted) ⊎ ((z ≡ answer.NoMemory) ⊎ (z ≡ answer.Unknown id))) (decided : IsUndecided g id ⊎ IsAborted g id) (left : (d : Tables) → AreImagesOf catalog was d → AreImagesOf catalog g d) (images : SameImages catalog was g) → CommitEnds catalog was g id now s z
 
 -- A VACUUM was answered so: a call failed, or all tombstones were removed that could be, and counted.
-abbrev pub SweptBy : List Table → Database → Database → ℤ → Answer → Type 0
-SweptBy catalog was g now z = (z ≡ answer.Faulted) ⊎ ((z ≡ answer.NoMemory) ⊎ ((n : ℕ) × (z ≡ answer.Count n) × HasVacuumed catalog was g now n))
+abbrev pub VacuumedBy : List Table → Database → Database → ℤ → Answer → Type 0
+VacuumedBy catalog was g now z = (z ≡ answer.Faulted) ⊎ ((z ≡ answer.NoMemory) ⊎ ((n : ℕ) × (z ≡ answer.Count n) × HasVacuumed catalog was g now n))
 
 -- an open transaction makes no call, and has seen so much
 pub record IsStill (b : OpenTransaction) (s : Seen) (c : ClientAt) : Type 0 where
@@ -84,12 +84,12 @@ pub record IsStill (b : OpenTransaction) (s : Seen) (c : ClientAt) : Type 0 wher
 
 -- What a statement was answered that wasn't out of memory as it was taken, and what its client and the database are then.
 pub data StatementEnds (catalog : List Table) (was : Database) (fresh : TxId) (now : ℤ) (says : Result Statement Refusal) (g : Database) (o : Option OpenTransaction) (z : Answer) (c : ClientAt) : Type 0 where
-  Turned : (away : turned_away catalog (is_some o) says ≡ Some z) (same : g ≡ was) (left : Between catalog g o c) → StatementEnds catalog was fresh now says g o z c
+  Turned : (away : rejected catalog (is_some o) says ≡ Some z) (same : g ≡ was) (left : Between catalog g o c) → StatementEnds catalog was fresh now says g o z c
   Begun : (is : says ≡ Ok statement.Begin) (none : o ≡ None) (done : z ≡ answer.Done) (same : g ≡ was) (left : Between catalog g (Some (record { id = fresh; statements = []; answers = [] })) c) → StatementEnds catalog was fresh now says g o z c
   RolledBack : (b : OpenTransaction) (is : says ≡ Ok statement.Rollback) (some : o ≡ Some b) (done : z ≡ answer.Done) (same : g ≡ was) (left : Between catalog g None c) → StatementEnds catalog was fresh now says g o z c
-  Answered : (b : OpenTransaction) (st : Statement) (p : Planned) (a : Access) (s : Seen) (is : says ≡ Ok st) (of : p.statement ≡ st) (asked : IsAskedFor catalog p a) (stays : turned_away catalog true (Ok st) ≡ None) (some : o ≡ Some b) (resolves : OnlyResolves catalog was g) (so : AnsweredAlone catalog g b.statements b.answers st a now b.id z s) (still : IsStill b s c) → StatementEnds catalog was fresh now says g o z c
+  Answered : (b : OpenTransaction) (st : Statement) (p : Planned) (a : Access) (s : Seen) (is : says ≡ Ok st) (of : p.statement ≡ st) (asked : IsAskedFor catalog p a) (stays : rejected catalog true (Ok st) ≡ None) (some : o ≡ Some b) (resolves : OnlyResolves catalog was g) (so : AnsweredAlone catalog g b.statements b.answers st a now b.id z s) (still : IsStill b s c) → StatementEnds catalog was fresh now says g o z c
   Ended : (b : OpenTransaction) (s : Seen) (is : says ≡ Ok statement.Commit) (some : o ≡ Some b) (opened : OpenAlone catalog was b.statements b.answers b.id s) (later : Later catalog (Some (record { id = b.id; at = now })) was g) (ends : CommitEnds catalog was g b.id now s z) (left : Between catalog g None c) → StatementEnds catalog was fresh now says g o z c
-  Swept : (is : says ≡ Ok statement.Vacuum) (none : o ≡ None) (quiet : Quiet catalog was g) (all : SweptBy catalog was g now z) (left : Between catalog g None c) → StatementEnds catalog was fresh now says g o z c
+  Vacuumed : (is : says ≡ Ok statement.Vacuum) (none : o ≡ None) (quiet : Quiet catalog was g) (all : VacuumedBy catalog was g now z) (left : Between catalog g None c) → StatementEnds catalog was fresh now says g o z c
 
 -- Where the taking of a statement or a reply leads: the statement waits, or is answered.
 pub data LeadsTo (catalog : List Table) (was : Database) (fresh : TxId) (now : ℤ) (says : Result Statement Refusal) (g : Database) (o : Option OpenTransaction) (result : Option Answer) (c : ClientAt) : Type 0 where

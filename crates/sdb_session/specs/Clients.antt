@@ -1,4 +1,4 @@
--- What is so of a client that is alone, between two of its statements and while one of them waits for a reply.
+-- What holds of a client that is alone, between two of its statements and while one of them waits for a reply.
 use Rattle.std.specs.Prelude.{◌≡◌, ◌<◌, ◌^◌, ℤ, true, false, List, [], ◌∷◌, ◌++◌, Some, None, map, Bool}
 use Rattle.sdb_types.specs.declared.key.Key.{Key}
 use Rattle.sdb_types.specs.declared.txid.TxId.{TxId}
@@ -11,7 +11,7 @@ use Rattle.sdb_record.specs.declared.access.Access.{Access}
 use Rattle.sdb_model.specs.Access.{in_access}
 use Rattle.sdb_model.specs.Causes.{refused}
 use Rattle.sdb_model.specs.Exec.{Tables, named_table}
-use Rattle.sdb_model.specs.Told.{run_body}
+use Rattle.sdb_model.specs.Serial.{run_body}
 use Rattle.sdb_model.specs.Refused.{refusal_of}
 use Rattle.sdb_model.specs.Transactions.{changes_nothing, is_answered_from_rows}
 use Rattle.sdb_model.specs.declared.answer.Answer.{Answer}
@@ -24,10 +24,10 @@ use Rattle.sdb_txn.specs.Txn.{TxnAt}
 use Rattle.sdb_client.specs.declared.next.Next.{Next}
 use Rattle.sdb_client.specs.declared.next.Next.TheVariants as next
 use Rattle.sdb_model.specs.declared.statement.Statement.{Statement}
-use Rattle.sdb_laws.specs.Lawful.{Played}
+use Rattle.sdb_laws.specs.Lawful.{Labelled}
 use Rattle.sdb_snapshot.specs.Seen.{Seen}
 use Rattle.sdb_story.specs.Body.{BodyOk}
-use Rattle.sdb_steps.specs.Fitting.{tables_fit}
+use Rattle.sdb_steps.specs.Fitting.{tables_are_well_typed}
 use Rattle.sdb_session.specs.Database.{Database, is_listed}
 use Rattle.sdb_session.specs.Recovers.{IsUndecided}
 use Rattle.sdb_session.specs.Reads.{IsOfTables, ReadAlone, IsBusyRecord}
@@ -43,10 +43,10 @@ pub record IsUnused (catalog : List Table) (g : Database) (id : TxId) : Type 0 w
 -- An open transaction between two of its statements: what it has read is current, and what it wrote is what the statements of its body come
 -- to, with their answers.
 pub record OpenAlone (catalog : List Table) (g : Database) (statements : List Statement) (answers : List Answer) (id : TxId) (s : Seen) : Type 0 where
-  pub past : List Played
+  pub past : List Labelled
   pub seen : SeenAlone catalog past g s
-  pub body : BodyOk catalog (tables_fit catalog) statements answers s
-  pub keys : (d : Tables) → AreImagesOf catalog g d → tables_fit catalog d ≡ true → keys_of_body catalog statements d [] ≡ map (λ w. w.key) s.writes
+  pub body : BodyOk catalog (tables_are_well_typed catalog) statements answers s
+  pub keys : (d : Tables) → AreImagesOf catalog g d → tables_are_well_typed catalog d ≡ true → keys_of_body catalog statements d [] ≡ map (λ w. w.key) s.writes
   pub new : IsUnused catalog g id
 
 -- Why a statement on a table was answered as one that changed nothing: it met an unresolved record that may still be decided, its writes
@@ -60,7 +60,7 @@ IdleAlone g a now z = ⊥
 
 -- On plain tables that are the images, a statement after others would make the writes of a transaction too many; or not.
 abbrev pub Passes : List Table → Database → List Statement → Statement → Bool → Type 0
-Passes catalog g statements st b = (d : Tables) → AreImagesOf catalog g d → tables_fit catalog d ≡ true → passes_most catalog st (run_body catalog statements d).1 (keys_of_body catalog statements d []) ≡ b
+Passes catalog g statements st b = (d : Tables) → AreImagesOf catalog g d → tables_are_well_typed catalog d ≡ true → passes_most catalog st (run_body catalog statements d).1 (keys_of_body catalog statements d []) ≡ b
 
 -- What a statement was answered, and where that leaves its transaction: as it was, or with the statement in its body.
 pub data AnsweredAlone (catalog : List Table) (g : Database) (statements : List Statement) (answers : List Answer) (st : Statement) (a : Access) (now : ℤ) (id : TxId) (z : Answer) (s : Seen) : Type 0 where

@@ -1,4 +1,4 @@
--- What is so of a COMMIT where its client is alone.
+-- What holds of a COMMIT where its client is alone.
 use Rattle.std.specs.Prelude.{◌≡◌, ◌⊎◌, ◌<◌, ◌≤◌, ◌^◌, ℕ, true, false, slice_get, List, Option, Some, None}
 use Rattle.std.specs.List.{AllByRecursion}
 use Rattle.sdb_types.specs.declared.key.Key.{Key}
@@ -23,7 +23,7 @@ use Rattle.sdb_phases.specs.Work.{Work}
 use Rattle.sdb_phases.specs.Commit.{Stage, Preparing, Checking, Deciding, Forward, Stopping, Back, Over}
 use Rattle.sdb_snapshot.specs.Written.{HaveKeysOnce}
 use Rattle.sdb_validate.specs.Rescan.{reads_rise}
-use Rattle.sdb_session.specs.Database.{Database, is_firm, is_listed}
+use Rattle.sdb_session.specs.Database.{Database, is_committed_or_none, is_listed}
 use Rattle.sdb_session.specs.Recovers.{IsAborted, IsCommittedAt, IsUndecided}
 
 ---- what a COMMIT is taken with
@@ -31,14 +31,14 @@ use Rattle.sdb_session.specs.Recovers.{IsAborted, IsCommittedAt, IsUndecided}
 -- a get read the record that is at its key
 pub record IsReadCurrent (catalog : List Table) (g : Database) (r : Read) : Type 0 where
   pub listed : is_listed catalog r.key ≡ true
-  pub firm : is_firm (g r.key) ≡ true
+  pub firm : is_committed_or_none (g r.key) ≡ true
   pub version : r.version ≡ version_of (g r.key)
 
 -- a scan found what is in its span, and nothing else
 pub record IsScanCurrent (catalog : List Table) (g : Database) (x : Scan) : Type 0 where
   pub rise : reads_rise x.found ≡ true
   pub outside : (k : Key) → in_span x.span k ≡ false → version_among x.found k ≡ None
-  pub inside : (k : Key) → in_span x.span k ≡ true → (is_listed catalog k ≡ true) × (is_firm (g k) ≡ true) × (version_of (g k) ≡ version_among x.found k)
+  pub inside : (k : Key) → in_span x.span k ≡ true → (is_listed catalog k ≡ true) × (is_committed_or_none (g k) ≡ true) × (version_of (g k) ≡ version_among x.found k)
 
 -- a write is fit, of a table's key, over the record that is there
 pub record IsBaseCurrent (catalog : List Table) (g : Database) (w : Write) : Type 0 where
@@ -59,7 +59,7 @@ pub record WorkAlone (catalog : List Table) (start : Database) (p : Work) : Type
 
 ---- the keys that it writes
 
--- this is so of each write, and of the record at its key
+-- this holds of each write, and of the record at its key
 abbrev pub EachWrite : Work → (Write → Option Record → Type 0) → Database → Type 0
 EachWrite p P g = (j : ℕ) (w : Write) → slice_get p.writes j ≡ Some w → P w (g w.key)
 

@@ -20,7 +20,7 @@ use Rattle.sdb_record.specs.Meta.{id_in, is_in}
 use Rattle.sdb_record.specs.Rolls.{image_of, row_of_image}
 use Rattle.sdb_schema.specs.declared.table.Table.{Table}
 use Rattle.sdb_model.specs.Exec.{find_table}
-use Rattle.sdb_model.specs.Events.{Shelf, standing}
+use Rattle.sdb_model.specs.Events.{StoreContents, standing}
 use Rattle.sdb_stores.specs.declared.place.Place.{Place}
 
 -- A database: the record at each key, if there is one.
@@ -32,7 +32,7 @@ abbrev pub AreOwn : Database → Type 0
 AreOwn g = (k : Key) (r : Record) → g k ≡ Some r → r.key ≡ k
 
 -- the records of the tables of stores, by their places
-abbrev pub database_of : List Place → List Shelf → Database
+abbrev pub database_of : List Place → List StoreContents → Database
 database_of places shelves k = standing places shelves k
 
 -- a key of a table of the catalog
@@ -58,9 +58,9 @@ abbrev pub row_in : Database → Key → Option (List Pair)
 row_in g k = option_and_then row_of_image (image_in g k)
 
 -- nothing, or a committed record
-abbrev pub is_firm : Option Record → Bool
-is_firm None = true
-is_firm (Some r) = is_in state.Committed r.columns
+abbrev pub is_committed_or_none : Option Record → Bool
+is_committed_or_none None = true
+is_committed_or_none (Some r) = is_in state.Committed r.columns
 
 ---- what a call does
 

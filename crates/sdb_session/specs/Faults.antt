@@ -51,9 +51,9 @@ ReadsAfterFault Asking = ⊥
 ReadsAfterFault (Resolving images rec meta p left) = RecoversAfterFault p
 ReadsAfterFault (Ended s) = IsReadFaulted s
 
-abbrev pub SweepsAfterFault : VacuumStage → Type 0
-SweepsAfterFault (SweepResolving rec meta p left) = RecoversAfterFault p
-SweepsAfterFault s = ⊥
+abbrev pub VacuumsAfterFault : VacuumStage → Type 0
+VacuumsAfterFault (SweepResolving rec meta p left) = RecoversAfterFault p
+VacuumsAfterFault s = ⊥
 
 abbrev pub DoesAfterFault : Doing → Type 0
 DoesAfterFault (doing.Read a x) = ReadsAfterFault x.stage
@@ -61,7 +61,7 @@ DoesAfterFault (doing.Commit k) = CommitsAfterFault k.stage
 DoesAfterFault d = ⊥
 
 abbrev pub WorksAfterFault : Option VacuumAt → Option TxnAt → Type 0
-WorksAfterFault (Some v) t = SweepsAfterFault v.stage
+WorksAfterFault (Some v) t = VacuumsAfterFault v.stage
 WorksAfterFault None (Some t) = DoesAfterFault t.doing
 WorksAfterFault None None = ⊥
 
@@ -70,6 +70,6 @@ abbrev pub IsAfterFault : ClientAt → Type 0
 IsAfterFault c = WorksAfterFault c.vacuum c.txn
 
 -- A statement has an answer for which a store has to have failed; or it waits for a reply after a fault.
-abbrev pub ComesOfFault : Option Answer → ClientAt → Type 0
-ComesOfFault (Some z) d = is_of_fault z ≡ true
-ComesOfFault None d = IsAfterFault d
+abbrev pub IsOfFault : Option Answer → ClientAt → Type 0
+IsOfFault (Some z) d = is_of_fault z ≡ true
+IsOfFault None d = IsAfterFault d

@@ -9,7 +9,7 @@ use Rattle.sdb_record.specs.Meta.{id_in, is_in, moment_in}
 use Rattle.sdb_record.specs.Names.{tx_prepared_at}
 use Rattle.sdb_schema.specs.declared.table.Table.{Table}
 use Rattle.sdb_session.specs.Database.{Database, is_listed}
-use Rattle.sdb_session.specs.OnlyResolves.{IsHeldFor, SaysAborted, IsSound}
+use Rattle.sdb_session.specs.OnlyResolves.{IsPreparedFor, IsAbortedRow, IsSound}
 
 -- the transaction that a statement commits, with its moment
 pub record Own : Type 0 where
@@ -36,4 +36,4 @@ pub record Later (catalog : List Table) (own : Option Own) (g h : Database) : Ty
   pub sound : IsSound catalog h
   pub loose : (k : Key) (r : Record) → is_listed catalog k ≡ true → h k ≡ Some r → is_in state.Committed r.columns ≡ false → (g k ≡ Some r) ⊎ IsOwn own r
   pub rows : (k : Key) (row : Record) → is_coordinator_table k.table ≡ true → g k ≡ Some row → h k ≡ Some row
-  pub fresh : (k : Key) (row : Record) → is_coordinator_table k.table ≡ true → g k ≡ None → h k ≡ Some row → (SaysAborted row × IsHeldFor catalog g k) ⊎ IsOwnRow own k
+  pub fresh : (k : Key) (row : Record) → is_coordinator_table k.table ≡ true → g k ≡ None → h k ≡ Some row → (IsAbortedRow row × IsPreparedFor catalog g k) ⊎ IsOwnRow own k

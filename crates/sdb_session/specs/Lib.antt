@@ -5,7 +5,7 @@ pub mod Commits
 pub mod Reads
 pub mod Seen
 pub mod Tombstones
-pub mod Sweeps
+pub mod Vacuums
 pub mod Later
 pub mod Keys
 pub mod Clients

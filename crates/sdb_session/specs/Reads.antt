@@ -1,4 +1,4 @@
--- What is so of a read where its client is alone.
+-- What holds of a read where its client is alone.
 use Rattle.std.specs.Prelude.{◌≡◌, ℤ, true, false, List, ◌∷◌, ◌++◌, Some, Ok}
 use Rattle.std.specs.List.{AllByRecursion}
 use Rattle.sdb_types.specs.declared.key.Key.{Key}
@@ -15,7 +15,7 @@ use Rattle.sdb_model.specs.Access.{in_access}
 use Rattle.sdb_read.specs.declared.read.ReadStep.{ReadStep}
 use Rattle.sdb_read.specs.declared.read.ReadStep.TheVariants as read
 use Rattle.sdb_read.specs.Read.{ReadStage, Asking, Resolving, Ended}
-use Rattle.sdb_turns.specs.ReadAt.{InPlace, keys_of}
+use Rattle.sdb_turns.specs.ReadAt.{AreInOrder, keys_of}
 use Rattle.sdb_session.specs.Database.{Database, is_listed}
 use Rattle.sdb_session.specs.Recovers.{IsUndecided, RecoverAlone}
 
@@ -25,11 +25,11 @@ IsOfTables catalog a = (k : Key) → in_access a k ≡ true → is_listed catalo
 
 -- These rows are the records at the keys of an access, in the order of their keys.
 pub record AreRowsAt (g : Database) (a : Access) (rows : List Record) : Type 0 where
-  pub place : InPlace a (keys_of rows)
+  pub place : AreInOrder a (keys_of rows)
   pub all : (k : Key) → in_access a k ≡ true → record_among rows k ≡ g k
 
-abbrev pub AreFirm : List Record → Type 0
-AreFirm rs = AllByRecursion (λ r. is_in state.Committed r.columns ≡ true) rs
+abbrev pub AreCommitted : List Record → Type 0
+AreCommitted rs = AllByRecursion (λ r. is_in state.Committed r.columns ≡ true) rs
 
 -- A key has an unresolved record of a transaction, which no row decides, and it has not expired.
 pub record IsBusyRecord (g : Database) (now : ℤ) (key : Key) (id : TxId) (at : ℤ) : Type 0 where
@@ -46,7 +46,7 @@ pub record IsBusyRecord (g : Database) (now : ℤ) (key : Key) (id : TxId) (at :
 -- The database where a read is: images, the record in hand, and the rows left are all that its access has; it never meets a bad
 -- record.
 abbrev pub EndedAlone : List Table → Database → Access → ℤ → ReadStep → Type 0
-EndedAlone catalog g a now (read.Images images) = AreRowsAt g a images × AreFirm images
+EndedAlone catalog g a now (read.Images images) = AreRowsAt g a images × AreCommitted images
 EndedAlone catalog g a now (read.Busy key id at) = (in_access a key ≡ true) × IsBusyRecord g now key id at
 EndedAlone catalog g a now (read.BadRecord key) = ⊥
 EndedAlone catalog g a now read.More = Unit {0}
@@ -55,5 +55,5 @@ EndedAlone catalog g a now read.NoMemory = Unit {0}
 
 abbrev pub ReadAlone : List Table → Database → Access → ℤ → ReadStage → Type 0
 ReadAlone catalog g a now Asking = Unit {0}
-ReadAlone catalog g a now (Resolving images rec meta p left) = AreRowsAt g a (images ++ rec ∷ left) × AreFirm images × RecoverAlone catalog g rec meta p
+ReadAlone catalog g a now (Resolving images rec meta p left) = AreRowsAt g a (images ++ rec ∷ left) × AreCommitted images × RecoverAlone catalog g rec meta p
 ReadAlone catalog g a now (Ended s) = EndedAlone catalog g a now s

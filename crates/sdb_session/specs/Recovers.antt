@@ -1,4 +1,4 @@
--- What is so of a recovery where its client is alone.
+-- What holds of a recovery where its client is alone.
 use Rattle.std.specs.Prelude.{◌≡◌, ◌≢◌, ℤ, true, false, List, Some, None, Ok, IsSomeAnd}
 use Rattle.sdb_types.specs.declared.key.Key.{Key}
 use Rattle.sdb_types.specs.declared.txid.TxId.{TxId}
@@ -12,7 +12,7 @@ use Rattle.sdb_phases.specs.declared.step.RecoverStep.{RecoverStep}
 use Rattle.sdb_phases.specs.declared.step.RecoverStep.TheVariants as steps
 use Rattle.sdb_phases.specs.declared.step.RecoverPhase.{RecoverPhase}
 use Rattle.sdb_phases.specs.declared.step.RecoverPhase.TheVariants as phase
-use Rattle.sdb_session.specs.Database.{Database, decided_in, is_firm, is_listed}
+use Rattle.sdb_session.specs.Database.{Database, decided_in, is_committed_or_none, is_listed}
 use Rattle.sdb_session.specs.OnlyResolves.{OnlyResolves}
 
 -- no decision on a transaction is there
@@ -48,7 +48,7 @@ pub record RecoverAlone (catalog : List Table) (g : Database) (rec : Record) (me
 -- has not expired. It never meets a bad row.
 abbrev pub RecoveryLeadsTo : List Table → Database → Record → Meta → ℤ → RecoverPhase × RecoverStep → Type 0
 RecoveryLeadsTo catalog h rec meta now (p, steps.More) = RecoverAlone catalog h rec meta p
-RecoveryLeadsTo catalog h rec meta now (p, steps.Image image) = (h rec.key ≡ image) × (is_firm image ≡ true)
+RecoveryLeadsTo catalog h rec meta now (p, steps.Image image) = (h rec.key ≡ image) × (is_committed_or_none image ≡ true)
 RecoveryLeadsTo catalog h rec meta now (p, steps.Busy id at) = (id ≡ meta.id) × (at ≡ meta.prepared_at) × IsUndecided h meta.id × (is_expired at now ≡ false) × (h rec.key ≡ Some rec)
 RecoveryLeadsTo catalog h rec meta now (p, steps.Faulted) = Unit {0}
 RecoveryLeadsTo catalog h rec meta now (p, steps.BadRecord key) = ⊥

@@ -7,23 +7,23 @@ use Rattle.sdb_types.specs.declared.key.Key.{Key}
 use Rattle.sdb_types.specs.Contents.{in_span}
 use Rattle.sdb_schema.specs.declared.table.Table.{Table}
 use Rattle.sdb_model.specs.Exec.{Tables}
-use Rattle.sdb_snapshot.specs.Noted.{base_at, is_noted}
+use Rattle.sdb_snapshot.specs.Reads.{base_at, is_key_read}
 use Rattle.sdb_snapshot.specs.Seen.{Seen}
-use Rattle.sdb_laws.specs.Lawful.{Played}
-use Rattle.sdb_turns.specs.Noted.{SeenOk}
+use Rattle.sdb_laws.specs.Lawful.{Labelled}
+use Rattle.sdb_turns.specs.Reads.{SeenOk}
 use Rattle.sdb_session.specs.Commits.{IsScanCurrent}
-use Rattle.sdb_steps.specs.Fitting.{tables_fit}
+use Rattle.sdb_steps.specs.Fitting.{tables_are_well_typed}
 use Rattle.sdb_session.specs.Database.{Database, is_listed, row_in}
 
 -- a key was read by a get, or lies in a span that was scanned
 abbrev pub was_covered : Seen → Key → Bool
-was_covered s k = is_noted s.notes k || list_any (λ x. in_span x.span k) s.scans
+was_covered s k = is_key_read s.read_set k || list_any (λ x. in_span x.span k) s.scans
 
 -- Each key that was read has the record that was read there, or none where none was; and each span that was scanned has what was found.
-pub record SeenAlone (catalog : List Table) (past : List Played) (g : Database) (s : Seen) : Type 0 where
+pub record SeenAlone (catalog : List Table) (past : List Labelled) (g : Database) (s : Seen) : Type 0 where
   pub ok : SeenOk past s
   pub scans : AllByRecursion (IsScanCurrent catalog g) s.scans
-  pub matches : (k : Key) → was_covered s k ≡ true → (is_listed catalog k ≡ true) × (g k ≡ base_at s.notes k)
+  pub matches : (k : Key) → was_covered s k ≡ true → (is_listed catalog k ≡ true) × (g k ≡ base_at s.read_set k)
 
 -- plain tables are the rows of the database
 abbrev pub AreImagesOf : List Table → Database → Tables → Type 0
@@ -33,4 +33,4 @@ AreImagesOf catalog g d = (k : Key) → get d k ≡ (if is_listed catalog k then
 pub record HasTables (catalog : List Table) (g : Database) : Type 0 where
   pub tables : Tables
   pub are_images : AreImagesOf catalog g tables
-  pub fit : tables_fit catalog tables ≡ true
+  pub fit : tables_are_well_typed catalog tables ≡ true

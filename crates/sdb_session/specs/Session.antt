@@ -20,7 +20,7 @@ use Rattle.sdb_model.specs.declared.statement.Statement.TheVariants as statement
 use Rattle.sdb_model.specs.Causes.{refused}
 use Rattle.sdb_model.specs.Exec.{Tables, table_of}
 use Rattle.sdb_model.specs.Refused.{refusal_of}
-use Rattle.sdb_model.specs.Told.{run_body, serial}
+use Rattle.sdb_model.specs.Serial.{run_body, serial}
 use Rattle.sdb_model.specs.Transactions.{changes_nothing, is_conflict, is_done}
 use Rattle.sdb_session.specs.Database.{Database, decided_in, is_listed}
 use Rattle.sdb_session.specs.Clients.{IsUnused}
@@ -113,13 +113,13 @@ answers_in es = map (λ b. b.1) (body_in es)
 ---- which are recorded
 
 -- a transaction's row says COMMITTED
-abbrev pub is_held_committed : Database → TxId → Bool
-is_held_committed last id = option_map_or (λ d. same_decision d.decision decision.Committed) (decided_in last id) false
+abbrev pub is_recorded_in : Database → TxId → Bool
+is_recorded_in last id = option_map_or (λ d. same_decision d.decision decision.Committed) (decided_in last id) false
 
 -- A transaction is recorded where its COMMIT is answered Committed, or Unknown and the last contents hold its row COMMITTED.
 abbrev pub is_recorded_by : Database → TxId → Answer → Bool
 is_recorded_by last id answer.Committed = true
-is_recorded_by last id (answer.Unknown x) = is_held_committed last id
+is_recorded_by last id (answer.Unknown x) = is_recorded_in last id
 is_recorded_by last id a = false
 
 abbrev pub is_recorded : Database → Part → Bool
@@ -134,13 +134,13 @@ tables_after catalog last d (t ∷ ts) = tables_after catalog last (if is_record
 
 -- The answer with which a statement is turned away as it is taken, inside of a transaction or outside: it is no statement, is on the
 -- wrong side, or the catalog refuses it; VACUUM has to be outside.
-abbrev pub turned_away : List Table → Bool → Result Statement Refusal → Option Answer
-turned_away catalog opened (Err r) = Some (answer.Refused r)
-turned_away catalog opened (Ok statement.Begin) = if opened then Some (refused 4) else None
-turned_away catalog opened (Ok statement.Vacuum) = if opened then Some answer.OpenTransactions else None
-turned_away catalog opened (Ok statement.Commit) = if opened then None else Some (refused 5)
-turned_away catalog opened (Ok statement.Rollback) = if opened then None else Some (refused 5)
-turned_away catalog opened (Ok st) = if opened then option_map (λ r. answer.Refused r) (refusal_of catalog st) else Some (refused 5)
+abbrev pub rejected : List Table → Bool → Result Statement Refusal → Option Answer
+rejected catalog opened (Err r) = Some (answer.Refused r)
+rejected catalog opened (Ok statement.Begin) = if opened then Some (refused 4) else None
+rejected catalog opened (Ok statement.Vacuum) = if opened then Some answer.OpenTransactions else None
+rejected catalog opened (Ok statement.Commit) = if opened then None else Some (refused 5)
+rejected catalog opened (Ok statement.Rollback) = if opened then None else Some (refused 5)
+rejected catalog opened (Ok st) = if opened then option_map (λ r. answer.Refused r) (refusal_of catalog st) else Some (refused 5)
 
 -- The answer of a statement that isn't turned away: of the refusals only that for too many writes, and nothing that other clients cause.
 abbrev pub MayAnswer : Answer → Type 0
@@ -150,13 +150,13 @@ MayAnswer (answer.Refused r) = is_too_many (answer.Refused r) ≡ true
 MayAnswer a = Unit {0}
 
 -- Turned away exactly where it has to be, unless memory ran out.
-pub record IsTaken (catalog : List Table) (opened : Bool) (e : Exchange) : Type 0 where
-  pub away : (a : Answer) → turned_away catalog opened e.says ≡ Some a → (e.answer ≡ a) ⊎ (e.answer ≡ answer.NoMemory)
-  pub stays : turned_away catalog opened e.says ≡ None → MayAnswer e.answer
+pub record IsAccepted (catalog : List Table) (opened : Bool) (e : Exchange) : Type 0 where
+  pub away : (a : Answer) → rejected catalog opened e.says ≡ Some a → (e.answer ≡ a) ⊎ (e.answer ≡ answer.NoMemory)
+  pub stays : rejected catalog opened e.says ≡ None → MayAnswer e.answer
 
--- So is each statement, by whether a transaction is open before it.
-abbrev pub AreTaken : List Table → List Exchange → Type 0
-AreTaken catalog es = (front : List Exchange) (e : Exchange) (back : List Exchange) → es ≡ front ++ e ∷ back → IsTaken catalog (is_some (parts_of front).opened) e
+-- The same for each statement, by whether a transaction is open before it.
+abbrev pub AreAccepted : List Table → List Exchange → Type 0
+AreAccepted catalog es = (front : List Exchange) (e : Exchange) (back : List Exchange) → es ≡ front ++ e ∷ back → IsAccepted catalog (is_some (parts_of front).opened) e
 
 -- an answer for which a store has to have failed
 abbrev pub is_of_fault : Answer → Bool
@@ -170,11 +170,11 @@ faults_in es = count_by (λ e. is_of_fault e.answer) es
 ---- why each answer, over stores of known contents
 
 -- These never come to a client that is alone on sound stores.
-abbrev pub NeverComes : Answer → Type 0
-NeverComes (answer.Conflict key found) = Unit {0}
-NeverComes (answer.Expired id) = Unit {0}
-NeverComes (answer.BadRecord key) = Unit {0}
-NeverComes a = ⊥
+abbrev pub IsImpossible : Answer → Type 0
+IsImpossible (answer.Conflict key found) = Unit {0}
+IsImpossible (answer.Expired id) = Unit {0}
+IsImpossible (answer.BadRecord key) = Unit {0}
+IsImpossible a = ⊥
 
 -- Busy: the opening holds the record, unresolved, and no row of its transaction ..
 pub record IsOfOpening (opening : Database) (key : Key) (id : TxId) (at : ℤ) : Type 0 where
@@ -220,8 +220,8 @@ IfUnknown a P = Unit {0}
 -- One statement of a transaction that isn't turned away is refused for too many writes exactly where it would make them, unless it is
 -- answered that it changed nothing for another cause.
 pub record IsLimited (catalog : List Table) (d : Tables) (front : List Exchange) (e : Exchange) : Type 0 where
-  pub fits : (st : Statement) → e.says ≡ Ok st → turned_away catalog true e.says ≡ None → passes_most catalog st (run_body catalog (statements_in front) d).1 (keys_of_body catalog (statements_in front) d []) ≡ true → changes_nothing e.answer ≡ true
-  pub too_many : (st : Statement) → e.says ≡ Ok st → turned_away catalog true e.says ≡ None → is_too_many e.answer ≡ true → passes_most catalog st (run_body catalog (statements_in front) d).1 (keys_of_body catalog (statements_in front) d []) ≡ true
+  pub fits : (st : Statement) → e.says ≡ Ok st → rejected catalog true e.says ≡ None → passes_most catalog st (run_body catalog (statements_in front) d).1 (keys_of_body catalog (statements_in front) d []) ≡ true → changes_nothing e.answer ≡ true
+  pub too_many : (st : Statement) → e.says ≡ Ok st → rejected catalog true e.says ≡ None → is_too_many e.answer ≡ true → passes_most catalog st (run_body catalog (statements_in front) d).1 (keys_of_body catalog (statements_in front) d []) ≡ true
 
 abbrev pub AreLimited : List Table → Tables → List Exchange → List Exchange → Type 0
 AreLimited catalog d front [] = Unit {0}
@@ -235,7 +235,7 @@ pub record IsSerialPart (catalog : List Table) (opening : Database) (earlier : L
   pub many : AreLimited catalog d [] t.inside
   pub last : IfSome t.last (λ e. IfUnknown e.answer (λ id. id ≡ t.id))
 
--- each transaction of a list is so, after others
+-- it holds of each transaction of a list, after others
 abbrev pub AreSerialParts : List Table → Database → Database → List Part → Tables → List Part → Type 0
 AreSerialParts catalog opening last earlier d [] = Unit {0}
 AreSerialParts catalog opening last earlier d (t ∷ ts) = IsSerialPart catalog opening earlier d t × AreSerialParts catalog opening last (earlier ++ t ∷ []) (tables_after catalog last d (t ∷ [])) ts
@@ -258,7 +258,7 @@ pub record IsStep (catalog : List Table) (was : Database) (d : Tables) (opened :
   pub counted : (n : ℕ) → is_vacuum e.says ≡ true → e.answer ≡ answer.Count n → HasVacuumed catalog was now e.moment n
   pub same : is_recorded_commit now opened e ≡ false → is_vacuum e.says ≡ false → SameImages catalog was now
 
--- So is each statement, from a first database to the last one, through one after each statement, whose rows are the tables that the
+-- The same for each statement, from a first database to the last one, through one after each statement, whose rows are the tables that the
 -- recorded transactions so far left.
 abbrev pub AreSteps : List Table → Tables → Database → Parts → List Exchange → Database → Type 0
 AreSteps catalog before g p [] last = last ≡ g
@@ -266,8 +266,8 @@ AreSteps catalog before g p (e ∷ es) last =
     (h : Database) × AreImagesOf catalog h (tables_after catalog h before (parts_after p e).ended) × IsStep catalog g (tables_after catalog g before p.ended) p.opened e h × AreSteps catalog before h (parts_after p e) es last
 
 -- Where VACUUM comes last and is answered Count, no tombstone is left in a table of the catalog.
-abbrev pub IsSwept : List Table → Database → Type 0
-IsSwept catalog last = (k : Key) (r : Record) → is_listed catalog k ≡ true → last k ≡ Some r → is_in state.Committed r.columns ≡ true → is_tombstone r ≡ false
+abbrev pub IsVacuumed : List Table → Database → Type 0
+IsVacuumed catalog last = (k : Key) (r : Record) → is_listed catalog k ≡ true → last k ≡ Some r → is_in state.Committed r.columns ≡ true → is_tombstone r ≡ false
 
 abbrev pub is_count : Answer → Bool
 is_count (answer.Count n) = true
@@ -284,11 +284,11 @@ recorded_of last ts = filter (is_recorded last) ts
 pub record IsSerialSession (catalog : List Table) (opening last : Database) (before : Tables) (es : List Exchange) : Type 0 where
   pub serial : serial catalog (map (λ t. statements_in t.inside) (recorded_of last (parts_of es).ended)) before ≡ (map (λ t. answers_in t.inside) (recorded_of last (parts_of es).ended), tables_after catalog last before (parts_of es).ended)
   pub images : AreImagesOf catalog last (tables_after catalog last before (parts_of es).ended)
-  pub rows : AllByRecursion (λ t. is_held_committed last t.id ≡ is_recorded last t) (parts_of es).ended
+  pub rows : AllByRecursion (λ t. is_recorded_in last t.id ≡ is_recorded last t) (parts_of es).ended
   pub parts : AreSerialParts catalog opening last [] before (all_parts (parts_of es))
-  pub never : AllByRecursion (λ e. NeverComes e.answer → ⊥) es
+  pub never : AllByRecursion (λ e. IsImpossible e.answer → ⊥) es
   pub steps : AreSteps catalog before opening no_parts es last
-  pub swept : (front : List Exchange) (e : Exchange) → es ≡ front ++ e ∷ [] → is_vacuum e.says ≡ true → is_count e.answer ≡ true → IsSwept catalog last
+  pub swept : (front : List Exchange) (e : Exchange) → es ≡ front ++ e ∷ [] → is_vacuum e.says ≡ true → is_count e.answer ≡ true → IsVacuumed catalog last
 
 ---- the premises
 

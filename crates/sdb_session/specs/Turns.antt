@@ -13,11 +13,11 @@ use Rattle.sdb_model.specs.declared.answer.Refusal.{Refusal}
 use Rattle.sdb_model.specs.declared.statement.Statement.{Statement}
 use Rattle.sdb_model.specs.declared.event.How.{How}
 use Rattle.sdb_stores.specs.declared.place.Place.{Place}
-use Rattle.sdb_model.specs.Events.{IsCall, Shelf}
+use Rattle.sdb_model.specs.Events.{IsCall, StoreContents}
 use Rattle.sdb_model.specs.Exec.{Tables}
 use Rattle.sdb_model.specs.Rows.{Name}
-use Rattle.sdb_client.specs.Client.{ClientAt, ReplyTold, SaidTold, Says, Taking, client_pending}
-use Rattle.sdb_steps.specs.Fitting.{tables_fit}
+use Rattle.sdb_client.specs.Client.{ClientAt, ReplyPost, ParsedPost, Parses, Taking, client_pending}
+use Rattle.sdb_steps.specs.Fitting.{tables_are_well_typed}
 use Rattle.sdb_session.specs.Database.{AreOwn, Called, Database}
 use Rattle.sdb_session.specs.OnlyResolves.{IsApart, IsSound}
 use Rattle.sdb_session.specs.Seen.{AreImagesOf}
@@ -40,7 +40,7 @@ pub record IsWellFormed (catalog : List Table) (g : Database) : Type 0 where
   pub sound : IsSound catalog g
   pub tables : Tables
   pub are_images : AreImagesOf catalog g tables
-  pub fit : tables_fit catalog tables ≡ true
+  pub fit : tables_are_well_typed catalog tables ≡ true
 
 -- The reply to the pending call of a recovery.
 pub record RecoveryReplied : Type 0 where
@@ -77,7 +77,7 @@ pub record CommitReplied : Type 0 where
   pub called : Called request reply g h
 
 -- A client between two statements takes a text; no other client is there, and the id of a transaction that it may begin is new.
-pub record TakenAlone : Type 0 where
+pub record ExecutedAlone : Type 0 where
   pub taking : Taking
   pub g : Database
   pub well_formed : IsWellFormed taking.catalog g
@@ -90,10 +90,10 @@ pub record TakenAlone : Type 0 where
   pub new : IsUnused taking.catalog g taking.fresh
   pub text : List ℕ
   pub says : Result Statement Refusal
-  pub reads : Says text says
+  pub reads : Parses text says
   pub result : Option Answer
   pub after : ClientAt
-  pub took : SaidTold taking says before result after
+  pub took : ParsedPost taking says before result after
 
 -- A client that waits gets the reply to its call.
 pub record RepliedAlone : Type 0 where
@@ -117,7 +117,7 @@ pub record RepliedAlone : Type 0 where
   pub waits : Waits catalog was now statement g opened before
   pub result : Option Answer
   pub after : ClientAt
-  pub took : ReplyTold before before.vacuum reply now result after
+  pub took : ReplyPost before before.vacuum reply now result after
 
 -- Statements of a client that is alone, over a sound database with plain tables that fit: they were answered one after the other, and the
 -- ids of the transactions that they began are new.
@@ -128,7 +128,7 @@ pub record SessionAlone : Type 0 where
   pub sound : IsSound catalog opening
   pub before : Tables
   pub are_images : AreImagesOf catalog opening before
-  pub fit : tables_fit catalog before ≡ true
+  pub fit : tables_are_well_typed catalog before ≡ true
   pub exchanges : List Exchange
   pub last : Database
   pub new : AreNewIds catalog opening (begun_ids exchanges)
@@ -151,12 +151,12 @@ pub record StoresCalled : Type 0 where
   pub request : Request
   pub how : How
   pub reply : Reply
-  pub old : List Shelf
-  pub new : List Shelf
+  pub old : List StoreContents
+  pub new : List StoreContents
   pub is : IsCall places store request how reply old new
 
 -- A client between two statements takes a text and is out of memory.
-pub record TakenStarved : Type 0 where
+pub record ExecutedOutOfMemory : Type 0 where
   pub catalog : List Table
   pub g : Database
   pub opened : Option OpenTransaction
@@ -164,7 +164,7 @@ pub record TakenStarved : Type 0 where
   pub between : Between catalog g opened before
   pub text : List ℕ
   pub exchange : Exchange
-  pub reads : Says text exchange.says
+  pub reads : Parses text exchange.says
   pub memory : exchange.answer ≡ answer.NoMemory
 
 -- One statement was answered after others.

@@ -11,11 +11,11 @@ ghost use Rattle.sdb_model.specs.declared.answer.Refusal.{Refusal};
 ghost use Rattle.sdb_model.specs.declared.event.How.{How};
 ghost use Rattle.sdb_stores.specs.declared.place.Place.{Place};
 ghost use Rattle.sdb_model.specs.declared.statement.Statement.{Statement};
-ghost use Rattle.sdb_model.specs.Events.{IsCall, Shelf};
+ghost use Rattle.sdb_model.specs.Events.{IsCall, StoreContents};
 ghost use Rattle.sdb_model.specs.Rows.{Name};
 ghost use Rattle.sdb_phases.specs.Commit.{step};
 ghost use Rattle.sdb_phases.specs.Recover.{recover_next};
-ghost use Rattle.sdb_client.specs.Client.{ClientAt, IsIdle, Says, starved};
+ghost use Rattle.sdb_client.specs.Client.{ClientAt, IsIdle, Parses, out_of_memory};
 ghost use Rattle.sdb_session.specs.Database.{AreOwn, Called, Database, database_of};
 ghost use Rattle.sdb_session.specs.OnlyResolves.{IsSound};
 ghost use Rattle.sdb_session.specs.Recovers.{RecoversTo};
@@ -25,9 +25,9 @@ ghost use Rattle.sdb_session.specs.Session.{Exchange, IsSerialSession, no_parts}
 ghost use Rattle.sdb_session.specs.Tombstones.{HasNoTombstone, HasVacuumed};
 ghost use Rattle.sdb_session.specs.Between.{Between, LeadsTo, OpenTransaction};
 ghost use Rattle.sdb_session.specs.Chain.{Chain, Exchanged, IsReached, open_after};
-ghost use Rattle.sdb_session.specs.Working.{IsAtWork, LeadsOn, RepliedBy, TakenBy};
-ghost use Rattle.sdb_session.specs.Faults.{ComesOfFault, IsAfterFault};
-ghost use Rattle.sdb_session.specs.Turns.{ChainMore, CommitReplied, ExchangedNext, RecoveryReplied, RepliedAlone, SessionAlone, StoresCalled, TakenAlone, TakenStarved, VacuumSession, with_next};
+ghost use Rattle.sdb_session.specs.Working.{IsAtWork, LeadsOn, RepliedBy, ExecutedBy};
+ghost use Rattle.sdb_session.specs.Faults.{IsOfFault, IsAfterFault};
+ghost use Rattle.sdb_session.specs.Turns.{ChainMore, CommitReplied, ExchangedNext, RecoveryReplied, RepliedAlone, SessionAlone, StoresCalled, ExecutedAlone, ExecutedOutOfMemory, VacuumSession, with_next};
 
 /// A call on stores returns what is at its key, and changes the database there alone.
 pub fn calls_are_local()
@@ -46,23 +46,23 @@ pub fn commits_lead_on()
 
 /// Each text reads as a statement, or is refused.
 pub fn texts_are_read()
-    ensures { (text : List ℕ) → (x : Result Statement Refusal) × Says text x }
+    ensures { (text : List ℕ) → (x : Result Statement Refusal) × Parses text x }
 {}
 
 /// Each record of a database is at its own key. Whatever stores contain, where it is sound plain tables that fit are its rows.
 pub fn databases_have_tables()
-    ensures own { (places : List Place) (shelves : List Shelf) → AreOwn (database_of places shelves) }
-    ensures tables { (catalog : List Table) (places : List Place) (shelves : List Shelf) → IsSound catalog (database_of places shelves) → HasTables catalog (database_of places shelves) }
+    ensures own { (places : List Place) (shelves : List StoreContents) → AreOwn (database_of places shelves) }
+    ensures tables { (catalog : List Table) (places : List Place) (shelves : List StoreContents) → IsSound catalog (database_of places shelves) → HasTables catalog (database_of places shelves) }
 {}
 
 /// A client that is alone takes a statement: it is answered at once, or waits for a reply.
 pub fn takings_lead_on()
-    ensures { (t : TakenAlone) → LeadsTo t.taking.catalog t.g t.taking.fresh t.taking.now t.says t.g t.opened t.result t.after }
+    ensures { (t : ExecutedAlone) → LeadsTo t.taking.catalog t.g t.taking.fresh t.taking.now t.says t.g t.opened t.result t.after }
 {}
 
 /// It may be out of memory as it takes a statement: a COMMIT ends its transaction, and all else is as it was.
 pub fn takings_run_out()
-    ensures { (t : TakenStarved) → Exchanged t.catalog t.g t.opened t.exchange t.g (starved t.text t.before) }
+    ensures { (t : ExecutedOutOfMemory) → Exchanged t.catalog t.g t.opened t.exchange t.g (out_of_memory t.text t.before) }
 {}
 
 /// It gets the reply to its call: its statement waits for another, or is answered.
@@ -73,7 +73,7 @@ pub fn replies_lead_on()
 /// Whatever stores answer, a client that takes a statement has answered it or is at work on it: where the statement is turned away, and
 /// whether a transaction is open then, is as the definitions say.
 pub fn takings_end()
-    ensures { (t : TakenBy) → LeadsOn t.taking.catalog (is_some t.before.txn) t.says t.taking.now t.taking.fresh t.result t.after }
+    ensures { (t : ExecutedBy) → LeadsOn t.taking.catalog (is_some t.before.txn) t.says t.taking.now t.taking.fresh t.result t.after }
 {}
 
 /// Whatever reply a client at work gets, it has answered its statement or is at work on it, and waits for a statement only where it isn't.
@@ -85,11 +85,11 @@ pub fn replies_end()
 /// Whatever stores answer, a statement is answered Faulted or Unknown only where a reply to one of its calls was a fault: no taking leads
 /// there, and a reply does only where it is a fault or a call before it has faulted.
 pub fn faults_are_replied()
-    ensures taken { (t : TakenBy) → ComesOfFault t.result t.after → ⊥ }
-    ensures replied { (r : RepliedBy) → ComesOfFault r.result r.after → IsAfterFault r.before ⊎ (r.reply ≡ reply.Fault) }
+    ensures taken { (t : ExecutedBy) → IsOfFault t.result t.after → ⊥ }
+    ensures replied { (r : RepliedBy) → IsOfFault r.result r.after → IsAfterFault r.before ⊎ (r.reply ≡ reply.Fault) }
 {}
 
-/// One statement more; and what is so after these statements.
+/// One statement more; and what holds after these statements.
 pub fn chains_are_extended()
     ensures longer { (m : ChainMore) → Chain m.next.catalog m.start no_parts (with_next m.next) m.next.h }
     ensures between { (n : ExchangedNext) → Between n.catalog n.h (open_after (with_next n)) n.after }

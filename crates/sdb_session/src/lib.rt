@@ -1,5 +1,5 @@
-//! A session of one client that is alone, over whatever its stores contained: what is so of the database while it reads, recovers, commits
-//! and sweeps, and of its answers.
+//! A session of one client that is alone, over whatever its stores contained: what holds of the database while it reads, recovers, commits
+//! and runs VACUUM, and of its answers.
 //!
 //! It speaks of the record at each key, of the models of the machines, and of no event. Each law is the contract of a function with
 //! an empty body.

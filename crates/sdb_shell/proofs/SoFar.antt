@@ -6,15 +6,15 @@ use Rattle.std.specs.Str.{is_utf8}
 use Rattle.std.proofs.lemmas.List.{append-nil}
 use Rattle.std.proofs.lemmas.Bool.Decides.{nat_tests}
 use Rattle.sdb_types.specs.Bytes.{Appends, IsAtEnd, Takes}
-use Rattle.sdb_types.specs.Draws.{Tells}
+use Rattle.sdb_types.specs.Draws.{IsAppended}
 use Rattle.sdb_types.proofs.Pieces.{appends_more, takes_more}
 use Rattle.sdb_schema.specs.declared.table.Table.{Table}
 use Rattle.sdb_model.specs.Form.{lines_of, onto_first}
 use Rattle.sdb_model.specs.Rows.{Name}
-use Rattle.sdb_stores.specs.Shelf.{Attached, AreDistinct, home, place_of, placed_on}
-use Rattle.sdb_board.specs.Board.{GoOn, HoldTheSame, shown}
+use Rattle.sdb_stores.specs.Views.{Attached, AreDistinct, home, place_of, route_of}
+use Rattle.sdb_board.specs.Board.{GoOn, HoldTheSame, contents_of_views}
 use Rattle.sdb_board.proofs.GoesOn.{some_more}
-use Rattle.sdb_client.specs.Client.{Says, nothing_done}
+use Rattle.sdb_client.specs.Client.{Parses, nothing_done}
 use Rattle.sdb_session.specs.Database.{Database, database_of}
 use Rattle.sdb_session.specs.Between.{Between}
 use Rattle.sdb_session.specs.Chain.{Chain, open_after}
@@ -30,7 +30,7 @@ use Rattle.sdb_shell.specs.declared.refused.SessionRefused.TheVariants as refuse
 use Rattle.sdb_shell.specs.Answers.{answer_line_of}
 use Rattle.sdb_shell.specs.Handed.{Handed}
 use Rattle.sdb_shell.specs.Lines.{IsLine, has_lf, most_input, most_line, with_end}
-use Rattle.sdb_shell.specs.Session.{AreTakenFrom, CutShort, HasPassed, HasReplied, HasStopped, HasTakenLine, IsAnsweredSoFar, IsCutLine, IsCutSession, IsSoFar, Refused, Starved, Starves, Unwritten, IsWhole, answer_lines, filled, is_line, is_text, with_lfs}
+use Rattle.sdb_shell.specs.Session.{AreExecutedFrom, CutShort, HasPassed, HasReplied, HasStopped, HasExecutedLine, IsAnsweredSoFar, IsCutLine, IsCutSession, IsSoFar, Refused, OutOfMemory, Starves, Unwritten, IsWhole, answer_lines, filled, is_line, is_text, with_lfs}
 
 ---- lists with one more
 
@@ -63,7 +63,7 @@ filled_one (y ∷ xs) x n = by (nat_lt 0 (length y)) (filled_one xs x n)
     by true h = ap (λ ys. y ∷ ys) h
     by false h = h
 
-taken_more : (ls : List (List ℕ)) (es : List Exchange) (l : List ℕ) (e : Exchange) → AreTakenFrom ls es → Says l e.says → AreTakenFrom (ls ++ l ∷ []) (es ++ e ∷ [])
+taken_more : (ls : List (List ℕ)) (es : List Exchange) (l : List ℕ) (e : Exchange) → AreExecutedFrom ls es → Parses l e.says → AreExecutedFrom (ls ++ l ∷ []) (es ++ e ∷ [])
 taken_more [] [] l e h s = (s, tt)
 taken_more (k ∷ ls) (d ∷ es) l e h s = (h.0, taken_more ls es l e h.1 s)
 taken_more [] (d ∷ es) l e h s = absurd h
@@ -139,7 +139,7 @@ at_end bytes (Some r) h = let p = nil_parts bytes r h in (p.1, ap (λ xs. Some (
 
 -- stores that hold what they held, at their places
 same_database : (old new : Attached) → GoOn old new → HoldTheSame old new → database_in new ≡ database_in old
-same_database old new goes held = ap (λ ps. database_of ps (shown new.shelves)) goes.places ∙ ap (λ ss. database_of old.places ss) held
+same_database old new goes held = ap (λ ps. database_of ps (contents_of_views new.views)) goes.places ∙ ap (λ ss. database_of old.places ss) held
 
 session_same : (catalog : List Table) (old mid new : Attached) (clock clock_mid : Option (List ℤ)) (ids ids_mid : Option (List ℕ)) (es : List Exchange) (s : SessionAt) → IsSessionSoFar catalog old mid clock clock_mid ids ids_mid es s → GoOn mid new → HoldTheSame mid new → IsSessionSoFar catalog old new clock clock_mid ids ids_mid es s
 session_same catalog old mid new clock clock_mid ids ids_mid es s so goes held = record {
@@ -161,7 +161,7 @@ session_same catalog old mid new clock clock_mid ids ids_mid es s so goes held =
   chain = λ f w n. subst (λ (g : Database). Chain catalog (database_in old) no_parts es g × Between catalog g (open_after es) s.client) (sym (same_database mid new goes held)) (so.chain f w n);
 }
 
-pub so_start : (catalog : List Table) (old : Attached) (clock : Option (List ℤ)) (ids ids_then : Option (List ℕ)) (written left left_then : Option (List ℕ)) (used : ℕ) (s : SessionAt) → s.client ≡ nothing_done 1 → ((draw : ℕ) × Tells draw ids ids_then × (s.fresh ≡ drawn_id draw)) → Takes [] left left_then → used ≡ 0 → IsSoFar catalog old old clock clock ids ids_then written written left left_then used 1 s
+pub so_start : (catalog : List Table) (old : Attached) (clock : Option (List ℤ)) (ids ids_then : Option (List ℕ)) (written left left_then : Option (List ℕ)) (used : ℕ) (s : SessionAt) → s.client ≡ nothing_done 1 → ((draw : ℕ) × IsAppended draw ids ids_then × (s.fresh ≡ drawn_id draw)) → Takes [] left left_then → used ≡ 0 → IsSoFar catalog old old clock clock ids ids_then written written left left_then used 1 s
 so_start catalog old clock ids ids_then written left left_then used s client fresh taken none = record {
   lines = [];
   es = [];
@@ -207,9 +207,9 @@ so_passed catalog old mid new clock clock_mid clock_then ids ids_mid ids_then wr
 }
 
 -- the same stores, with the places and the known contents of those before them
-session_held : (catalog : List Table) (old mid : Attached) (clock clock_mid : Option (List ℤ)) (ids ids_mid : Option (List ℕ)) (es : List Exchange) (s : SessionAt) → IsSessionSoFar catalog old mid clock clock_mid ids ids_mid es s → GoOn old mid → IsSessionSoFar catalog old (record old { shelves = mid.shelves }) clock clock_mid ids ids_mid es s
+session_held : (catalog : List Table) (old mid : Attached) (clock clock_mid : Option (List ℤ)) (ids ids_mid : Option (List ℕ)) (es : List Exchange) (s : SessionAt) → IsSessionSoFar catalog old mid clock clock_mid ids ids_mid es s → GoOn old mid → IsSessionSoFar catalog old (record old { views = mid.views }) clock clock_mid ids ids_mid es s
 session_held catalog old mid clock clock_mid ids ids_mid es s so goes =
-    let same : database_in (record old { shelves = mid.shelves }) ≡ database_in mid = ap (λ ps. database_of ps (shown mid.shelves)) (sym goes.places) in
+    let same : database_in (record old { views = mid.views }) ≡ database_in mid = ap (λ ps. database_of ps (contents_of_views mid.views)) (sym goes.places) in
     record {
       moments = so.moments;
       drawn = so.drawn;
@@ -225,8 +225,8 @@ session_held catalog old mid clock clock_mid ids ids_mid es s so goes =
       fit = λ f. record {
         some = some_more _ _ goes.names f.some;
         distinct = subst (λ (ns : List Name). AreDistinct ns) (sym goes.names) f.distinct;
-        homed = λ ns. subst (λ (xs : List Name). IfSome (placed_on ns old.places) (λ store. IsSome (place_of store xs))) (sym goes.names) (f.homed ns);
-        telling = λ table about. subst (λ (xs : List Name). old.tells (home table.ns old.places xs)) (sym goes.names) (f.telling table about);
+        homed = λ ns. subst (λ (xs : List Name). IfSome (route_of ns old.places) (λ store. IsSome (place_of store xs))) (sym goes.names) (f.homed ns);
+        where_known = λ table about. subst (λ (xs : List Name). old.known (home table.ns old.places xs)) (sym goes.names) (f.where_known table about);
       };
       chain = λ f w n. subst (λ (g : Database). Chain catalog (database_in old) no_parts es g × Between catalog g (open_after es) s.client) (sym same) (so.chain f w n);
     }
@@ -238,7 +238,7 @@ starves catalog old mid clock clock_mid ids ids_mid written written_mid written_
   n = n;
   used = used;
   left = left_mid;
-  held = mid.shelves;
+  held = mid.views;
   clock_mid = clock_mid;
   ids_mid = ids_mid;
   before = record {
@@ -250,7 +250,7 @@ starves catalog old mid clock clock_mid ids ids_mid written written_mid written_
     number = so.number;
     answered = so.answered;
     output = subst (Appends (answer_lines so.es) written) (sym written_same) so.output;
-    session = session_whole catalog old (record old { shelves = mid.shelves }) clock clock_mid ids ids_mid so.es s (session_held catalog old mid clock clock_mid ids ids_mid so.es s so.session goes);
+    session = session_whole catalog old (record old { views = mid.views }) clock clock_mid ids ids_mid so.es s (session_held catalog old mid clock clock_mid ids ids_mid so.es s so.session goes);
   };
 })
 
@@ -268,7 +268,7 @@ module _ (catalog : List Table) (old mid new : Attached) (clock clock_mid clock_
   record HasDone (line : List ℕ) : Type 0 where
     es : List Exchange
     fits : is_line line ≡ true
-    answered : AreTakenFrom (filled (so.lines ++ line ∷ [])) es
+    answered : AreExecutedFrom (filled (so.lines ++ line ∷ [])) es
     output : Appends (answer_lines es) written written_then
     session : IsSessionSoFar catalog old new clock clock_then ids ids_then es t
 
@@ -276,7 +276,7 @@ module _ (catalog : List Table) (old mid new : Attached) (clock clock_mid clock_
   passed line one few none h = record {
     es = so.es;
     fits = subst (λ l. is_line l ≡ true) (sym none) refl;
-    answered = subst (λ ls. AreTakenFrom ls so.es) (sym (ap (λ l. filled (so.lines ++ l ∷ [])) none ∙ filled_none so.lines)) so.answered;
+    answered = subst (λ ls. AreExecutedFrom ls so.es) (sym (ap (λ l. filled (so.lines ++ l ∷ [])) none ∙ filled_none so.lines)) so.answered;
     output = subst (Appends (answer_lines so.es) written) (sym h.written_same) so.output;
     session = subst (λ (x : SessionAt). IsSessionSoFar catalog old new clock clock_then ids ids_then so.es x) (sym h.same)
         (subst (λ i. IsSessionSoFar catalog old new clock clock_then ids i so.es s) (sym h.ids_same) (subst (λ c. IsSessionSoFar catalog old new clock c ids ids_mid so.es s) (sym h.clock_same) (session_same catalog old mid new clock clock_mid ids ids_mid so.es s so.session goes h.held)));
@@ -288,7 +288,7 @@ module _ (catalog : List Table) (old mid new : Attached) (clock clock_mid clock_
       record {
         es = so.es ++ e ∷ [];
         fits = line_fits line one few utf8;
-        answered = subst (λ ls. AreTakenFrom ls (so.es ++ e ∷ [])) (sym (filled_one so.lines line some)) (taken_more (filled so.lines) so.es line e so.answered h.answered.answered.reads);
+        answered = subst (λ ls. AreExecutedFrom ls (so.es ++ e ∷ [])) (sym (filled_one so.lines line some)) (taken_more (filled so.lines) so.es line e so.answered h.answered.answered.reads);
         output = subst (λ bs. Appends bs written written_then) (sym (flat_more (λ (x : Exchange). answer_line_of x.answer) so.es e)) (appends_more (answer_lines so.es) (answer_line_of h.answer) written written_mid written_then so.output h.put);
         session = session_more catalog old mid new clock clock_mid clock_then ids ids_mid ids_then so.es s t line h.answer so.session h.answered goes;
       }
@@ -296,7 +296,7 @@ module _ (catalog : List Table) (old mid new : Attached) (clock clock_mid clock_
   -- a statement stops the session
   stopped : (goes_mid : GoOn old mid) (ahead : List ℕ) (remaining_then : Option (List ℕ)) (why : SessionRefused) (end : LineEnd) (line : List ℕ) → IsLine left_mid (option_map (λ rest. ahead ++ rest) remaining_then) used used_then end line → line ≢ [] → is_utf8 line ≡ true → HasStopped catalog line u s t why
       → IsCutSession catalog old new clock clock_then ids ids_then written written_then left remaining_then why
-  stopped goes_mid ahead remaining_then why end line read some utf8 (Starved is written_same) = starves catalog old mid clock clock_mid ids ids_mid written written_mid written_then left left_mid remaining_then used n s why so goes_mid is written_same
+  stopped goes_mid ahead remaining_then why end line read some utf8 (OutOfMemory is written_same) = starves catalog old mid clock clock_mid ids ids_mid written written_mid written_then left left_mid remaining_then used n s why so goes_mid is written_same
   stopped goes_mid ahead remaining_then why end line read some utf8 (Unwritten kind a answered put) =
       let e : Exchange = exchange answered.answered.says answered.now s.fresh a in
       CutShort kind (record {
@@ -321,7 +321,7 @@ module _ (catalog : List Table) (old mid new : Attached) (clock clock_mid clock_
   done_of line one few (inl h) = passed line one few h.0 h.1
   done_of line one few (inr h) = replied line one few h.0 h.1 h.2
 
-  pub so_more : HasTakenLine catalog u (record { left = left_mid; left_then = left_then; used = used; used_then = used_then }) s t line_end.Lf → IsSoFar catalog old new clock clock_then ids ids_then written written_then left left_then used_then (n + 1) t
+  pub so_more : HasExecutedLine catalog u (record { left = left_mid; left_then = left_then; used = used; used_then = used_then }) s t line_end.Lf → IsSoFar catalog old new clock clock_then ids ids_then written written_then left left_then used_then (n + 1) t
   so_more h =
       let d = done_of h.line h.read.one h.read.fits h.done in
       let grown : with_lfs (so.lines ++ h.line ∷ []) ≡ with_lfs so.lines ++ (h.line ++ 10 ∷ []) = flat_more (λ l. l ++ 10 ∷ []) so.lines h.line in
@@ -337,7 +337,7 @@ module _ (catalog : List Table) (old mid new : Attached) (clock clock_mid clock_
         session = d.session;
       }
 
-  pub so_whole : HasTakenLine catalog u (record { left = left_mid; left_then = left_then; used = used; used_then = used_then }) s t line_end.Input → used_then ≤ most_input → (remaining_then : Option (List ℕ)) → IsAtEnd remaining_then → left_then ≡ remaining_then → IsWhole catalog old new clock clock_then ids ids_then written written_then left remaining_then
+  pub so_whole : HasExecutedLine catalog u (record { left = left_mid; left_then = left_then; used = used; used_then = used_then }) s t line_end.Input → used_then ≤ most_input → (remaining_then : Option (List ℕ)) → IsAtEnd remaining_then → left_then ≡ remaining_then → IsWhole catalog old new clock clock_then ids ids_then written written_then left remaining_then
   so_whole h few remaining_then ends same =
       let d = done_of h.line h.read.one h.read.fits h.done in
       let text : List ℕ = with_lfs so.lines ++ h.line in
@@ -350,7 +350,7 @@ module _ (catalog : List Table) (old mid new : Attached) (clock clock_mid clock_
         ends = ends;
         most = subst (λ k. k ≤ most_input) (sym size) few;
         fit = subst (λ ls. list_all is_line ls ≡ true) (sym cut) (last_fits h.line d.fits);
-        answered = subst (λ ls. AreTakenFrom ls d.es) (sym (ap filled cut ∙ last_filled h.line)) d.answered;
+        answered = subst (λ ls. AreExecutedFrom ls d.es) (sym (ap filled cut ∙ last_filled h.line)) d.answered;
         output = d.output;
         session = session_whole catalog old new clock clock_then ids ids_then d.es t d.session;
       }

@@ -1,6 +1,6 @@
 -- What the contracts of a session see of what a call is handed.
 use Rattle.std.specs.Prelude.{ℕ, ℤ, List, Option}
-use Rattle.sdb_stores.specs.Shelf.{Attached}
+use Rattle.sdb_stores.specs.Views.{Attached}
 use Rattle.sdb_shell.specs.Ahead.{left}
 use Rattle.sdb_shell.specs.declared.bytes.Bytes.{Bytes}
 

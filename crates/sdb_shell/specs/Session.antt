@@ -6,9 +6,9 @@ use Rattle.sdb_types.specs.Bytes.{Appends, IsAtEnd, Takes}
 use Rattle.sdb_schema.specs.declared.table.Table.{Table}
 use Rattle.sdb_model.specs.declared.answer.Answer.{Answer}
 use Rattle.sdb_model.specs.Form.{lines_of}
-use Rattle.sdb_stores.specs.Shelf.{Attached, Shelf}
+use Rattle.sdb_stores.specs.Views.{Attached, StoreView}
 use Rattle.sdb_board.specs.Board.{HoldTheSame}
-use Rattle.sdb_client.specs.Client.{Says}
+use Rattle.sdb_client.specs.Client.{Parses}
 use Rattle.sdb_session.specs.Session.{Exchange}
 use Rattle.sdb_answer.specs.Sessions.{HasAnswered, IsSession, IsSessionSoFar, SessionAt}
 use Rattle.sdb_shell.specs.Answers.{IsPrefix, answer_line_of}
@@ -36,10 +36,10 @@ abbrev pub filled : List (List ℕ) → List (List ℕ)
 filled lines = filter (λ l. nat_lt 0 (length l)) lines
 
 -- each of these lines was taken as a statement, in turn
-abbrev pub AreTakenFrom : List (List ℕ) → List Exchange → Type 0
-AreTakenFrom [] [] = Unit {0}
-AreTakenFrom (l ∷ ls) (e ∷ es) = Says l e.says × AreTakenFrom ls es
-AreTakenFrom ls es = ⊥
+abbrev pub AreExecutedFrom : List (List ℕ) → List Exchange → Type 0
+AreExecutedFrom [] [] = Unit {0}
+AreExecutedFrom (l ∷ ls) (e ∷ es) = Parses l e.says × AreExecutedFrom ls es
+AreExecutedFrom ls es = ⊥
 
 -- the lines of the answers
 abbrev pub answer_lines : List Exchange → List ℕ
@@ -60,7 +60,7 @@ IsUnwritten r = ⊥
 -- A statement stops a session: it was out of memory before its answer, and nothing was written; or it was answered, and a prefix of the
 -- line of its answer was written.
 pub data HasStopped (catalog : List Table) (text : List ℕ) (u : Handed) (s t : SessionAt) (why : SessionRefused) : Type 0 where
-  Starved : (is : why ≡ refused.NoMemory) (written_same : u.written_then ≡ u.written) → HasStopped catalog text u s t why
+  OutOfMemory : (is : why ≡ refused.NoMemory) (written_same : u.written_then ≡ u.written) → HasStopped catalog text u s t why
   Unwritten : (kind : IsUnwritten why) (answer : Answer) (answered : HasAnswered catalog text u.old u.new u.clock u.clock_then u.ids u.ids_then s answer t) (put : IsPrefix (answer_line_of answer) u.written u.written_then) → HasStopped catalog text u s t why
 
 -- Nothing was done: an empty line was read.
@@ -72,7 +72,7 @@ pub record HasPassed (u : Handed) (s t : SessionAt) : Type 0 where
   pub same : t ≡ s
 
 -- A line was read; its statement was answered, or it is empty.
-pub record HasTakenLine (catalog : List Table) (u : Handed) (r : Reading) (s t : SessionAt) (end : LineEnd) : Type 0 where
+pub record HasExecutedLine (catalog : List Table) (u : Handed) (r : Reading) (s t : SessionAt) (end : LineEnd) : Type 0 where
   pub line : List ℕ
   pub read : IsLine r.left r.left_then r.used r.used_then end line
   pub done : ((line ≡ []) × HasPassed u s t) ⊎ ((line ≢ []) × (is_utf8 line ≡ true) × HasReplied catalog line u s t)
@@ -98,7 +98,7 @@ pub record IsSoFar (catalog : List Table) (old new : Attached) (clock clock_then
   pub fit : list_all is_line lines ≡ true
   pub counted : used ≡ length (with_lfs lines)
   pub number : n ≡ length lines + 1
-  pub answered : AreTakenFrom (filled lines) es
+  pub answered : AreExecutedFrom (filled lines) es
   pub output : Appends (answer_lines es) written written_then
   pub session : IsSessionSoFar catalog old new clock clock_then ids ids_then es s
 
@@ -111,7 +111,7 @@ pub record IsWhole (catalog : List Table) (old new : Attached) (clock clock_then
   pub ends : IsAtEnd remaining_then
   pub most : length text ≤ most_input
   pub fit : list_all is_line (lines_of text) ≡ true
-  pub answered : AreTakenFrom (filled (lines_of text)) es
+  pub answered : AreExecutedFrom (filled (lines_of text)) es
   pub output : Appends (answer_lines es) written written_then
   pub session : IsSession catalog old new clock clock_then ids ids_then es
 
@@ -124,7 +124,7 @@ pub record IsAnsweredSoFar (catalog : List Table) (old new : Attached) (clock cl
   pub fit : list_all is_line lines ≡ true
   pub counted : used ≡ length (with_lfs lines)
   pub number : n ≡ length lines + 1
-  pub answered : AreTakenFrom (filled lines) es
+  pub answered : AreExecutedFrom (filled lines) es
   pub output : Appends (answer_lines es) written written_then
   pub session : IsSession catalog old new clock clock_then ids ids_then es
 
@@ -153,28 +153,28 @@ pub record IsCutShort (catalog : List Table) (old new : Attached) (clock clock_t
   pub fit : list_all is_line lines ≡ true
   pub fits : is_line line ≡ true
   pub some : line ≢ []
-  pub answered : AreTakenFrom (filled lines ++ line ∷ []) (es ++ last ∷ [])
+  pub answered : AreExecutedFrom (filled lines ++ line ∷ []) (es ++ last ∷ [])
   pub output : Appends (answer_lines es) written written_mid
   pub prefix : IsPrefix (answer_line_of last.answer) written_mid written_then
   pub session : IsSession catalog old new clock clock_then ids ids_then (es ++ last ∷ [])
 
 -- More calls of a statement, or more lines, than can be counted are out of memory: the lines before that of a number were answered, the
 -- stores held this then, and nothing was written after their answers.
-pub record IsStarved (catalog : List Table) (old : Attached) (clock : Option (List ℤ)) (ids : Option (List ℕ)) (written written_then : Option (List ℕ)) (remaining : Option (List ℕ)) : Type 0 where
+pub record IsOutOfMemory (catalog : List Table) (old : Attached) (clock : Option (List ℤ)) (ids : Option (List ℕ)) (written written_then : Option (List ℕ)) (remaining : Option (List ℕ)) : Type 0 where
   pub n : ℕ
   pub used : ℕ
   pub left : Option (List ℕ)
-  pub held : List Shelf
+  pub held : List StoreView
   pub clock_mid : Option (List ℤ)
   pub ids_mid : Option (List ℕ)
-  pub before : IsAnsweredSoFar catalog old (record old { shelves = held }) clock clock_mid ids ids_mid written written_then remaining left used n
+  pub before : IsAnsweredSoFar catalog old (record old { views = held }) clock clock_mid ids ids_mid written written_then remaining left used n
 
 -- Why a session has no end: its input stopped it, the line of an answer wasn't written whole, or it was out of memory. The output has the
 -- answers of the lines before, and then at most a prefix of one more.
 pub data IsCutSession (catalog : List Table) (old new : Attached) (clock clock_then : Option (List ℤ)) (ids ids_then : Option (List ℕ)) (written written_then : Option (List ℕ)) (remaining remaining_then : Option (List ℕ)) (why : SessionRefused) : Type 0 where
   Refused : (refused : IsRefused catalog old new clock clock_then ids ids_then written written_then remaining remaining_then why) → IsCutSession catalog old new clock clock_then ids ids_then written written_then remaining remaining_then why
   CutShort : (kind : IsUnwritten why) (cut : IsCutShort catalog old new clock clock_then ids ids_then written written_then remaining remaining_then) → IsCutSession catalog old new clock clock_then ids ids_then written written_then remaining remaining_then why
-  Starves : (is : why ≡ refused.NoMemory) (starved : IsStarved catalog old clock ids written written_then remaining) → IsCutSession catalog old new clock clock_then ids ids_then written written_then remaining remaining_then why
+  Starves : (is : why ≡ refused.NoMemory) (out_of_memory : IsOutOfMemory catalog old clock ids written written_then remaining) → IsCutSession catalog old new clock clock_then ids ids_then written written_then remaining remaining_then why
 
 ---- in contracts
 

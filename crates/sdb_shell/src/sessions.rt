@@ -28,7 +28,7 @@ pub fn session<S: Registry, R: Source, W: Sink, C: Clock, I: Ids>(
     clock: &mut C,
     ids: &mut I,
 ) -> Result<(), SessionRefused>
-    requires some { 0 < length (S.state stores.old).shelves }
+    requires some { 0 < length (S.state stores.old).views }
     ensures done { OnOk result (IsDone catalog.now (handed (views S.state C.told I.told W.written)
         stores.old stores.new clock.old clock.new ids.old ids.new output.old output.new) (R.remaining input.old) (R.remaining input.new)) }
     ensures cut { IfErr result (IsCutOff catalog.now (handed (views S.state C.told I.told W.written)

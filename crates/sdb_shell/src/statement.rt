@@ -44,7 +44,7 @@ pub(crate) fn reply<S: Registry, W: Sink, C: Clock, I: Ids>(
     clock: &mut C,
     ids: &mut I,
 ) -> Result<(), SessionRefused>
-    requires some { 0 < length (S.state stores.old).shelves }
+    requires some { 0 < length (S.state stores.old).views }
     requires idle { IsIdle session.old.client }
     requires short { length text.now < 2 ^ 32 }
     ensures replied { OnOk result (HasReplied catalog.now text.now (handed (views S.state C.told I.told W.written)

@@ -4,7 +4,7 @@ ghost use Rattle.sdb_types.specs.Bytes.{HasRisen};
 ghost use Rattle.sdb_board.specs.Board.{GoOn};
 ghost use Rattle.sdb_client.specs.Client.{IsIdle};
 ghost use Rattle.sdb_shell.specs.Handed.{handed, reading, views};
-ghost use Rattle.sdb_shell.specs.Session.{HasTakenLine, IsCutLine};
+ghost use Rattle.sdb_shell.specs.Session.{HasExecutedLine, IsCutLine};
 
 use crate::bytes::Bytes;
 use crate::lines::LineEnd;
@@ -31,9 +31,9 @@ pub(crate) fn take_line<S: Registry, R: Source, W: Sink, C: Clock, I: Ids>(
     clock: &mut C,
     ids: &mut I,
 ) -> Result<LineEnd, SessionRefused>
-    requires some { 0 < length (S.state stores.old).shelves }
+    requires some { 0 < length (S.state stores.old).views }
     requires idle { IsIdle session.old.client }
-    ensures taken { IfOk result (HasTakenLine catalog.now (handed (views S.state C.told I.told W.written)
+    ensures taken { IfOk result (HasExecutedLine catalog.now (handed (views S.state C.told I.told W.written)
         stores.old stores.new clock.old clock.new ids.old ids.new output.old output.new)
         (reading R.remaining bytes.old bytes.new input.old input.new) session.old session.new) }
     ensures cut { IfErr result (IsCutLine catalog.now n (handed (views S.state C.told I.told W.written)

@@ -7,7 +7,7 @@ use Rattle.std.specs.Option.{option_copied}
 use Rattle.std.specs.Borrow.{Bor}
 use Rattle.std.proofs.lemmas.Option.{slice_get-get_or}
 use Rattle.std.proofs.lemmas.Bool.Decides.{nat_tests}
-use Rattle.sdb_snapshot.specs.Held.{StartsWith}
+use Rattle.sdb_snapshot.specs.Sets.{StartsWith}
 
 pub starts_itself : {A : Type 0} (xs : List A) → StartsWith xs xs
 starts_itself [] = tt

@@ -7,8 +7,8 @@ use Rattle.sdb_types.proofs.Keys.{same_key_self}
 use Rattle.sdb_record.specs.declared.write.Write.{Write}
 use Rattle.sdb_record.specs.declared.write.Keyed.{Keyed}
 use Rattle.sdb_record.specs.Among.{write_among, is_written}
-use Rattle.sdb_snapshot.specs.Held.{StartsWith}
-use Rattle.sdb_snapshot.specs.Noted.{Note}
+use Rattle.sdb_snapshot.specs.Sets.{StartsWith}
+use Rattle.sdb_snapshot.specs.Reads.{ReadRecord}
 use Rattle.sdb_snapshot.specs.Written.{with_write, with_writes, write_of}
 use Rattle.sdb_snapshot.specs.Opened.{with_new, with_news, with_laid, with_laids}
 use Rattle.sdb_snapshot.proofs.Fronts.{starts_more}
@@ -31,13 +31,13 @@ opened_is (x ∷ xs) w =
       | false ↦ cons_cond (is_some (write_among xs w.key)) x xs (xs ++ w ∷ []) ∙ ap (λ ys. x ∷ ys) rest
     ]
 
-laid_opened : (notes : List Note) (ws : List Write) (k : Keyed) → with_laid (opened ws (write_of notes k)) k ≡ with_write ws (write_of notes k)
-laid_opened notes [] k = ap (λ (b : Bool). cond b (laid_on (write_of notes k) k ∷ []) (write_of notes k ∷ [])) (same_key_self k.key)
-laid_opened notes (x ∷ xs) k =
-    let rest : with_laid (opened xs (write_of notes k)) k ≡ with_write xs (write_of notes k) = laid_opened notes xs k in
-    elim (same_key k.key x.key) as (λ b. same_key k.key x.key ≡ b → with_laid (cond b (x ∷ xs) (x ∷ opened xs (write_of notes k))) k ≡ cond b (laid_on x k ∷ xs) (x ∷ with_write xs (write_of notes k))) [
+laid_opened : (read_set : List ReadRecord) (ws : List Write) (k : Keyed) → with_laid (opened ws (write_of read_set k)) k ≡ with_write ws (write_of read_set k)
+laid_opened read_set [] k = ap (λ (b : Bool). cond b (laid_on (write_of read_set k) k ∷ []) (write_of read_set k ∷ [])) (same_key_self k.key)
+laid_opened read_set (x ∷ xs) k =
+    let rest : with_laid (opened xs (write_of read_set k)) k ≡ with_write xs (write_of read_set k) = laid_opened read_set xs k in
+    elim (same_key k.key x.key) as (λ b. same_key k.key x.key ≡ b → with_laid (cond b (x ∷ xs) (x ∷ opened xs (write_of read_set k))) k ≡ cond b (laid_on x k ∷ xs) (x ∷ with_write xs (write_of read_set k))) [
       | true ↦ λ t. ap (λ (b : Bool). cond b (laid_on x k ∷ xs) (x ∷ with_laid xs k)) t
-      | false ↦ λ t. ap (λ (b : Bool). cond b (laid_on x k ∷ opened xs (write_of notes k)) (x ∷ with_laid (opened xs (write_of notes k)) k)) t ∙ ap (λ ys. x ∷ ys) rest
+      | false ↦ λ t. ap (λ (b : Bool). cond b (laid_on x k ∷ opened xs (write_of read_set k)) (x ∷ with_laid (opened xs (write_of read_set k)) k)) t ∙ ap (λ ys. x ∷ ys) rest
     ] refl
 
 written_step : {A : Type 0} (b : Bool) (x : A) (o p : Option A) → is_some (cond b (Some x) o) ≡ true → (is_some o ≡ true → is_some p ≡ true) → is_some (cond b (Some x) p) ≡ true
@@ -80,20 +80,20 @@ opened_has (x ∷ xs) v =
 new_keeps : (ws : List Write) (v : Write) (q : Key) → is_written ws q ≡ true → is_written (with_new ws v) q ≡ true
 new_keeps ws v q h = ap (λ xs. is_written xs q) (opened_is ws v) ∙ opened_keeps ws v q h
 
-laid_past : (notes : List Note) (ws : List Write) (k : Keyed) (ks : List Keyed) → is_written ws k.key ≡ true → with_laid (with_news notes ws ks) k ≡ with_news notes (with_laid ws k) ks
-laid_past notes ws k [] h = refl
-laid_past notes ws k (j ∷ ks) h =
-    laid_past notes (with_new ws (write_of notes j)) k ks (new_keeps ws (write_of notes j) k.key h)
-    ∙ ap (λ xs. with_news notes xs ks) (ap (λ xs. with_laid xs k) (opened_is ws (write_of notes j)) ∙ sym (laid_past_one ws k (write_of notes j) h) ∙ sym (opened_is (with_laid ws k) (write_of notes j)))
+laid_past : (read_set : List ReadRecord) (ws : List Write) (k : Keyed) (ks : List Keyed) → is_written ws k.key ≡ true → with_laid (with_news read_set ws ks) k ≡ with_news read_set (with_laid ws k) ks
+laid_past read_set ws k [] h = refl
+laid_past read_set ws k (j ∷ ks) h =
+    laid_past read_set (with_new ws (write_of read_set j)) k ks (new_keeps ws (write_of read_set j) k.key h)
+    ∙ ap (λ xs. with_news read_set xs ks) (ap (λ xs. with_laid xs k) (opened_is ws (write_of read_set j)) ∙ sym (laid_past_one ws k (write_of read_set j) h) ∙ sym (opened_is (with_laid ws k) (write_of read_set j)))
 
 -- the two steps give the writes
-pub laid_all : (notes : List Note) (ws : List Write) (ks : List Keyed) → with_laids (with_news notes ws ks) ks ≡ with_writes notes ws ks
-laid_all notes ws [] = refl
-laid_all notes ws (k ∷ ks) =
-    let new = with_new ws (write_of notes k) in
-    let has : is_written new k.key ≡ true = ap (λ xs. is_written xs k.key) (opened_is ws (write_of notes k)) ∙ opened_has ws (write_of notes k) in
-    ap (λ xs. with_laids xs ks) (laid_past notes new k ks has ∙ ap (λ xs. with_news notes xs ks) (ap (λ xs. with_laid xs k) (opened_is ws (write_of notes k)) ∙ laid_opened notes ws k))
-    ∙ laid_all notes (with_write ws (write_of notes k)) ks
+pub laid_all : (read_set : List ReadRecord) (ws : List Write) (ks : List Keyed) → with_laids (with_news read_set ws ks) ks ≡ with_writes read_set ws ks
+laid_all read_set ws [] = refl
+laid_all read_set ws (k ∷ ks) =
+    let new = with_new ws (write_of read_set k) in
+    let has : is_written new k.key ≡ true = ap (λ xs. is_written xs k.key) (opened_is ws (write_of read_set k)) ∙ opened_has ws (write_of read_set k) in
+    ap (λ xs. with_laids xs ks) (laid_past read_set new k ks has ∙ ap (λ xs. with_news read_set xs ks) (ap (λ xs. with_laid xs k) (opened_is ws (write_of read_set k)) ∙ laid_opened read_set ws k))
+    ∙ laid_all read_set (with_write ws (write_of read_set k)) ks
 
 length_laid : (ws : List Write) (k : Keyed) → length (with_laid ws k) ≡ length ws
 length_laid [] k = refl
@@ -105,8 +105,8 @@ length_laids : (ws : List Write) (ks : List Keyed) → length (with_laids ws ks)
 length_laids ws [] = refl
 length_laids ws (k ∷ ks) = length_laids (with_laid ws k) ks ∙ length_laid ws k
 
-pub length_writes : (notes : List Note) (ws : List Write) (ks : List Keyed) → length (with_writes notes ws ks) ≡ length (with_news notes ws ks)
-length_writes notes ws ks = sym (ap length (laid_all notes ws ks)) ∙ length_laids (with_news notes ws ks) ks
+pub length_writes : (read_set : List ReadRecord) (ws : List Write) (ks : List Keyed) → length (with_writes read_set ws ks) ≡ length (with_news read_set ws ks)
+length_writes read_set ws ks = sym (ap length (laid_all read_set ws ks)) ∙ length_laids (with_news read_set ws ks) ks
 
 -- what was written stays first
 pub new_front : (xs ws : List Write) (w : Write) → StartsWith xs ws → StartsWith xs (with_new ws w)

@@ -13,10 +13,10 @@ use Rattle.sdb_types.specs.Contents.{Contents, in_span, rows_among, rows_in, rec
 use Rattle.sdb_types.proofs.KeyOrder.{key_total, key_exact}
 use Rattle.sdb_types.proofs.Replies.{rows_in-are_rows_of}
 use Rattle.sdb_keyed.specs.Entries.{value_at, with_value}
-use Rattle.sdb_snapshot.specs.Held.{InOrder}
-use Rattle.sdb_snapshot.specs.Noted.{Note, is_noted, has_key, AreKeysOf}
-use Rattle.sdb_snapshot.specs.Noted.{with_note}
-use Rattle.sdb_snapshot.specs.Held.{StartsWith}
+use Rattle.sdb_snapshot.specs.Sets.{InOrder}
+use Rattle.sdb_snapshot.specs.Reads.{ReadRecord, is_key_read, has_key, AreKeysOf}
+use Rattle.sdb_snapshot.specs.Reads.{with_read_record}
+use Rattle.sdb_snapshot.specs.Sets.{StartsWith}
 use Rattle.sdb_snapshot.proofs.Fronts.{starts_more}
 use Rattle.sdb_snapshot.proofs.Keys.{value_last, value_take, put_new}
 use Rattle.sdb_types.proofs.Basics.{by_test, or_else}
@@ -30,8 +30,8 @@ inserted true c o h = refl
 inserted false c o h = h
 
 -- a tree with one key more
-pub in_order_put : (notes : List Note) (m : Contents) (k : Key) (c : List Pair) → InOrder notes m → InOrder notes (insert m k c)
-in_order_put notes m k c h q noted = ap is_some (get-insert key_total m k c q) ∙ inserted (is_eq (key_cmp q k)) c (get m q) (h q noted)
+pub in_order_put : (read_set : List ReadRecord) (m : Contents) (k : Key) (c : List Pair) → InOrder read_set m → InOrder read_set (insert m k c)
+in_order_put read_set m k c h q as_read = ap is_some (get-insert key_total m k c q) ∙ inserted (is_eq (key_cmp q k)) c (get m q) (h q as_read)
 
 either : (b : Bool) (f : Option Record) (c : List Pair) (o : Option (Option Record)) (p : Option (List Pair)) → (is_some o ≡ true → is_some p ≡ true) → is_some (or_else o (cond b (Some f) None)) ≡ true → is_some (cond b (Some c) p) ≡ true
 either true f c o p g h = refl
@@ -39,14 +39,14 @@ either false f c None p g h = absurd (cc)
 either false f c (Some x) p g h = g refl
 
 -- and noted
-pub in_order_new : (notes : List Note) (m : Contents) (k : Key) (f : Option Record) (c : List Pair) → InOrder notes m → InOrder (notes ++ (k, f) ∷ []) (insert m k c)
-in_order_new notes m k f c h q noted =
-    let at : is_some (or_else (value_at notes q) (cond (same_key q k) (Some f) None)) ≡ true = sym (ap is_some (value_last notes k f q)) ∙ noted in
-    let tied : is_some (or_else (value_at notes q) (cond (is_eq (key_cmp q k)) (Some f) None)) ≡ true = subst (λ (b : Bool). is_some (or_else (value_at notes q) (cond b (Some f) None)) ≡ true) (same_key_is q k) at in
-    ap is_some (get-insert key_total m k c q) ∙ either (is_eq (key_cmp q k)) f c (value_at notes q) (get m q) (h q) tied
+pub in_order_new : (read_set : List ReadRecord) (m : Contents) (k : Key) (f : Option Record) (c : List Pair) → InOrder read_set m → InOrder (read_set ++ (k, f) ∷ []) (insert m k c)
+in_order_new read_set m k f c h q as_read =
+    let at : is_some (or_else (value_at read_set q) (cond (same_key q k) (Some f) None)) ≡ true = sym (ap is_some (value_last read_set k f q)) ∙ as_read in
+    let tied : is_some (or_else (value_at read_set q) (cond (is_eq (key_cmp q k)) (Some f) None)) ≡ true = subst (λ (b : Bool). is_some (or_else (value_at read_set q) (cond b (Some f) None)) ≡ true) (same_key_is q k) at in
+    ap is_some (get-insert key_total m k c q) ∙ either (is_eq (key_cmp q k)) f c (value_at read_set q) (get m q) (h q) tied
 
-pub in_order_take : (notes : List Note) (m : Contents) (n : ℕ) → InOrder notes m → InOrder (take n notes) m
-in_order_take notes m n h q noted = h q (value_take notes n q noted)
+pub in_order_take : (read_set : List ReadRecord) (m : Contents) (n : ℕ) → InOrder read_set m → InOrder (take n read_set) m
+in_order_take read_set m n h q as_read = h q (value_take read_set n q as_read)
 
 any_row : (span : Span) (q : Key) (es : List (Key × List Pair)) → in_span span q ≡ true → is_some (find key_cmp q es) ≡ true → has_key (rows_among span es) q ≡ true
 any_row span q [] inside h = absurd (cc)
@@ -60,30 +60,30 @@ any_row span q (e ∷ es) inside h =
     (λ u. ap (λ (b : Bool). has_key (map record_of (cond b (e ∷ filter (λ x. in_span span x.0) es) (filter (λ x. in_span span x.0) es))) q) u ∙ more))
 
 -- the records of a span in the tree have each key that was noted
-pub keys_listed : (notes : List Note) (m : Contents) (span : Span) → InOrder notes m → AreKeysOf notes span (rows_in span m)
-keys_listed notes m span h = record {
+pub keys_listed : (read_set : List ReadRecord) (m : Contents) (span : Span) → InOrder read_set m → AreKeysOf read_set span (rows_in span m)
+keys_listed read_set m span h = record {
   rows = rows_in-are_rows_of span m;
-  noted = λ q inside noted. any_row span q (entries m) inside (sym (ap is_some (get-entries m q)) ∙ h q noted);
+  as_read = λ q inside as_read. any_row span q (entries m) inside (sym (ap is_some (get-entries m q)) ∙ h q as_read);
 }
 
 -- whether or not it could be noted
-pub in_order_either : {A E : Type 0} (r : Result A E) (notes later : List Note) (m : Contents) (k : Key) (f : Option Record) (c : List Pair) → is_noted notes k ≡ false → InOrder notes m
-    → OnOk r (later ≡ with_value notes k f) → OnErr r (later ≡ notes) → InOrder later (insert m k c)
-in_order_either (Ok x) notes later m k f c new h ok err = subst (λ (ns : List Note). InOrder ns (insert m k c)) (sym (ok ∙ put_new notes k f new)) (in_order_new notes m k f c h)
-in_order_either (Err e) notes later m k f c new h ok err = subst (λ (ns : List Note). InOrder ns (insert m k c)) (sym err) (in_order_put notes m k c h)
+pub in_order_either : {A E : Type 0} (r : Result A E) (read_set later : List ReadRecord) (m : Contents) (k : Key) (f : Option Record) (c : List Pair) → is_key_read read_set k ≡ false → InOrder read_set m
+    → OnOk r (later ≡ with_value read_set k f) → OnErr r (later ≡ read_set) → InOrder later (insert m k c)
+in_order_either (Ok x) read_set later m k f c new h ok err = subst (λ (ns : List ReadRecord). InOrder ns (insert m k c)) (sym (ok ∙ put_new read_set k f new)) (in_order_new read_set m k f c h)
+in_order_either (Err e) read_set later m k f c new h ok err = subst (λ (ns : List ReadRecord). InOrder ns (insert m k c)) (sym err) (in_order_put read_set m k c h)
 
-pub noted_last : {A E : Type 0} (r : Result A E) (notes later : List Note) (k : Key) (f : Option Record) → is_noted notes k ≡ false → OnOk r (later ≡ with_value notes k f) → OnOk r (later ≡ notes ++ (k, f) ∷ [])
-noted_last (Ok x) notes later k f new ok = ok ∙ put_new notes k f new
-noted_last (Err e) notes later k f new ok = tt
+pub noted_last : {A E : Type 0} (r : Result A E) (read_set later : List ReadRecord) (k : Key) (f : Option Record) → is_key_read read_set k ≡ false → OnOk r (later ≡ with_value read_set k f) → OnOk r (later ≡ read_set ++ (k, f) ∷ [])
+noted_last (Ok x) read_set later k f new ok = ok ∙ put_new read_set k f new
+noted_last (Err e) read_set later k f new ok = tt
 
 -- what was noted stays first
-pub note_front : (xs notes : List Note) (k : Key) (f : Option Record) → StartsWith xs notes → StartsWith xs (with_note notes k f)
-note_front xs notes k f h = by_noted (is_noted notes k)
+pub note_front : (xs read_set : List ReadRecord) (k : Key) (f : Option Record) → StartsWith xs read_set → StartsWith xs (with_read_record read_set k f)
+note_front xs read_set k f h = by_noted (is_key_read read_set k)
   where
-    by_noted : (b : Bool) → StartsWith xs (cond b notes (notes ++ (k, f) ∷ []))
+    by_noted : (b : Bool) → StartsWith xs (cond b read_set (read_set ++ (k, f) ∷ []))
     by_noted true = h
-    by_noted false = starts_more xs notes ((k, f) ∷ []) h
+    by_noted false = starts_more xs read_set ((k, f) ∷ []) h
 
-pub keys_told : {E : Type 0} (r : Result (List Record) E) (notes : List Note) (m : Contents) (span : Span) → InOrder notes m → IfOk r (λ rs. rs ≡ rows_in span m) → IfOk r (λ rs. AreKeysOf notes span rs)
-keys_told (Ok rs) notes m span h is = subst (AreKeysOf notes span) (sym is) (keys_listed notes m span h)
-keys_told (Err e) notes m span h is = tt
+pub keys_told : {E : Type 0} (r : Result (List Record) E) (read_set : List ReadRecord) (m : Contents) (span : Span) → InOrder read_set m → IfOk r (λ rs. rs ≡ rows_in span m) → IfOk r (λ rs. AreKeysOf read_set span rs)
+keys_told (Ok rs) read_set m span h is = subst (AreKeysOf read_set span) (sym is) (keys_listed read_set m span h)
+keys_told (Err e) read_set m span h is = tt

@@ -9,9 +9,9 @@ use Rattle.sdb_record.specs.declared.write.Write.{Write}
 use Rattle.sdb_record.specs.declared.write.Keyed.{Keyed}
 use Rattle.sdb_record.specs.Rolls.{IsBaseOf, AreCommitted}
 use Rattle.sdb_record.specs.Among.{is_written, write_among}
-use Rattle.sdb_snapshot.specs.Noted.{Note, is_noted, base_at, with_images}
+use Rattle.sdb_snapshot.specs.Reads.{ReadRecord, is_key_read, base_at, with_images}
 use Rattle.sdb_snapshot.specs.Written.{AreChanges, HaveBases, HaveKeysOnce, with_write, with_writes, with_change_of, write_of}
-use Rattle.sdb_snapshot.specs.Held.{AreKept}
+use Rattle.sdb_snapshot.specs.Sets.{IsSetInvariant}
 use Rattle.sdb_snapshot.proofs.Keys.{value_last}
 use Rattle.sdb_snapshot.proofs.Differences.{or_there, noted_images, noted_last_keeps, still_noted, bases_last, bases_images, writes_fine, writes_read}
 use Rattle.sdb_types.proofs.Basics.{by_test}
@@ -21,33 +21,33 @@ use Rattle.sdb_types.proofs.Keys.{same_key_self, same_key_exact}
 ---- bases
 
 -- notes that keep what was found at each key that was read
-abbrev pub Keeps : List Note → List Note → Type 0
-Keeps notes later = (q : Key) → is_noted notes q ≡ true → value_at later q ≡ value_at notes q
+abbrev pub Keeps : List ReadRecord → List ReadRecord → Type 0
+Keeps read_set later = (q : Key) → is_key_read read_set q ≡ true → value_at later q ≡ value_at read_set q
 
-keeps_last : (notes : List Note) (k : Key) (f : Option Record) → Keeps notes (notes ++ (k, f) ∷ [])
-keeps_last notes k f q h = value_last notes k f q ∙ or_there (value_at notes q) (cond (same_key q k) (Some f) None) h
+keeps_last : (read_set : List ReadRecord) (k : Key) (f : Option Record) → Keeps read_set (read_set ++ (k, f) ∷ [])
+keeps_last read_set k f q h = value_last read_set k f q ∙ or_there (value_at read_set q) (cond (same_key q k) (Some f) None) h
 
-keeps_images : (notes : List Note) (rs : List Record) → Keeps notes (with_images notes rs)
-keeps_images notes rs q h = noted_images notes rs q ∙ or_there (value_at notes q) _ h
+keeps_images : (read_set : List ReadRecord) (rs : List Record) → Keeps read_set (with_images read_set rs)
+keeps_images read_set rs q h = noted_images read_set rs q ∙ or_there (value_at read_set q) _ h
 
-based_later : (notes later : List Note) (ws : List Write) → Keeps notes later → HaveBases notes ws → HaveBases later ws
-based_later notes later [] keep h = tt
-based_later notes later (w ∷ ws) keep h = (
+based_later : (read_set later : List ReadRecord) (ws : List Write) → Keeps read_set later → HaveBases read_set ws → HaveBases later ws
+based_later read_set later [] keep h = tt
+based_later read_set later (w ∷ ws) keep h = (
   (ap is_some (keep w.key h.0.0) ∙ h.0.0, h.0.1 ∙ sym (ap (option_and_then (λ x. x)) (keep w.key h.0.0))),
-  based_later notes later ws keep h.1,
+  based_later read_set later ws keep h.1,
 )
 
-based_write : (notes : List Note) (ws : List Write) (w : Write) → HaveBases notes ws → (is_noted notes w.key ≡ true) × (w.base ≡ base_at notes w.key) → HaveBases notes (with_write ws w)
-based_write notes [] w h g = (g, tt)
-based_write notes (x ∷ xs) w h g = by_same (same_key w.key x.key) (based_write notes xs w h.1 g)
+based_write : (read_set : List ReadRecord) (ws : List Write) (w : Write) → HaveBases read_set ws → (is_key_read read_set w.key ≡ true) × (w.base ≡ base_at read_set w.key) → HaveBases read_set (with_write ws w)
+based_write read_set [] w h g = (g, tt)
+based_write read_set (x ∷ xs) w h g = by_same (same_key w.key x.key) (based_write read_set xs w h.1 g)
   where
-    by_same : (b : Bool) → HaveBases notes (with_write xs w) → HaveBases notes (cond b (with_change_of x w ∷ xs) (x ∷ with_write xs w))
+    by_same : (b : Bool) → HaveBases read_set (with_write xs w) → HaveBases read_set (cond b (with_change_of x w ∷ xs) (x ∷ with_write xs w))
     by_same true rest = h
     by_same false rest = (h.0, rest)
 
-based_writes : (notes : List Note) (ws : List Write) (ks : List Keyed) → HaveBases notes ws → AreChanges notes ks → HaveBases notes (with_writes notes ws ks)
-based_writes notes ws [] h g = h
-based_writes notes ws (k ∷ ks) h g = based_writes notes (with_write ws (write_of notes k)) ks (based_write notes ws (write_of notes k) h (g.0.0, refl)) g.1
+based_writes : (read_set : List ReadRecord) (ws : List Write) (ks : List Keyed) → HaveBases read_set ws → AreChanges read_set ks → HaveBases read_set (with_writes read_set ws ks)
+based_writes read_set ws [] h g = h
+based_writes read_set ws (k ∷ ks) h g = based_writes read_set (with_write ws (write_of read_set k)) ks (based_write read_set ws (write_of read_set k) h (g.0.0, refl)) g.1
 
 ---- keys
 
@@ -78,42 +78,42 @@ once_write (x ∷ xs) w h =
     (λ t. subst (λ (b : Bool). HaveKeysOnce (cond b (with_change_of x w ∷ xs) (x ∷ with_write xs w))) (sym t)
     (written_other xs w x.key (other_way w.key x.key t) ∙ h.0, once_write xs w h.1))
 
-once_writes : (notes : List Note) (ws : List Write) (ks : List Keyed) → HaveKeysOnce ws → HaveKeysOnce (with_writes notes ws ks)
-once_writes notes ws [] h = h
-once_writes notes ws (k ∷ ks) h = once_writes notes (with_write ws (write_of notes k)) ks (once_write ws (write_of notes k) h)
+once_writes : (read_set : List ReadRecord) (ws : List Write) (ks : List Keyed) → HaveKeysOnce ws → HaveKeysOnce (with_writes read_set ws ks)
+once_writes read_set ws [] h = h
+once_writes read_set ws (k ∷ ks) h = once_writes read_set (with_write ws (write_of read_set k)) ks (once_write ws (write_of read_set k) h)
 
 ---- kept
 
-pub kept_get : (notes : List Note) (ws : List Write) (k : Key) (f : Option Record) → AreKept notes ws → IfSome f (IsBaseOf k) → AreKept (notes ++ (k, f) ∷ []) ws
-kept_get notes ws k f h image = record {
-  read = λ q w. noted_last_keeps notes k f q (h.read q w);
-  bases = bases_last notes k f h.bases image;
-  fine = h.fine;
-  based = based_later notes (notes ++ (k, f) ∷ []) ws (keeps_last notes k f) h.based;
+pub kept_get : (read_set : List ReadRecord) (ws : List Write) (k : Key) (f : Option Record) → IsSetInvariant read_set ws → IfSome f (IsBaseOf k) → IsSetInvariant (read_set ++ (k, f) ∷ []) ws
+kept_get read_set ws k f h image = record {
+  read = λ q w. noted_last_keeps read_set k f q (h.read q w);
+  bases = bases_last read_set k f h.bases image;
+  valid = h.valid;
+  based = based_later read_set (read_set ++ (k, f) ∷ []) ws (keeps_last read_set k f) h.based;
   once = h.once;
 }
 
-pub kept_scan : (notes : List Note) (ws : List Write) (rs : List Record) → AreKept notes ws → AreCommitted rs → AreKept (with_images notes rs) ws
-kept_scan notes ws rs h images = record {
-  read = λ q w. still_noted notes rs q (h.read q w);
-  bases = bases_images notes rs h.bases images;
-  fine = h.fine;
-  based = based_later notes (with_images notes rs) ws (keeps_images notes rs) h.based;
+pub kept_scan : (read_set : List ReadRecord) (ws : List Write) (rs : List Record) → IsSetInvariant read_set ws → AreCommitted rs → IsSetInvariant (with_images read_set rs) ws
+kept_scan read_set ws rs h images = record {
+  read = λ q w. still_noted read_set rs q (h.read q w);
+  bases = bases_images read_set rs h.bases images;
+  valid = h.valid;
+  based = based_later read_set (with_images read_set rs) ws (keeps_images read_set rs) h.based;
   once = h.once;
 }
 
-kept_writes : (notes : List Note) (ws : List Write) (ks : List Keyed) → AreKept notes ws → AreChanges notes ks → AreKept notes (with_writes notes ws ks)
-kept_writes notes ws ks h changes = record {
-  read = writes_read notes ws ks h.read changes;
+kept_writes : (read_set : List ReadRecord) (ws : List Write) (ks : List Keyed) → IsSetInvariant read_set ws → AreChanges read_set ks → IsSetInvariant read_set (with_writes read_set ws ks)
+kept_writes read_set ws ks h changes = record {
+  read = writes_read read_set ws ks h.read changes;
   bases = h.bases;
-  fine = writes_fine notes ws ks h.bases h.fine changes;
-  based = based_writes notes ws ks h.based changes;
-  once = once_writes notes ws ks h.once;
+  valid = writes_fine read_set ws ks h.bases h.valid changes;
+  based = based_writes read_set ws ks h.based changes;
+  once = once_writes read_set ws ks h.once;
 }
 
 -- whether or not the changes could be written
-pub kept_either : {A E : Type 0} (r : Result A E) (notes seen : List Note) (ws later : List Write) (ks : List Keyed) → notes ≡ seen → AreKept notes ws → AreChanges seen ks
-    → OnOk r (later ≡ with_writes notes ws ks) → OnErr r (later ≡ ws) → AreKept notes later
-kept_either (Ok x) notes seen ws later ks view h changes ok err =
-    subst (AreKept notes) (sym ok) (kept_writes notes ws ks h (subst (λ (ns : List Note). AreChanges ns ks) (sym view) changes))
-kept_either (Err e) notes seen ws later ks view h changes ok err = subst (AreKept notes) (sym err) h
+pub kept_either : {A E : Type 0} (r : Result A E) (read_set seen : List ReadRecord) (ws later : List Write) (ks : List Keyed) → read_set ≡ seen → IsSetInvariant read_set ws → AreChanges seen ks
+    → OnOk r (later ≡ with_writes read_set ws ks) → OnErr r (later ≡ ws) → IsSetInvariant read_set later
+kept_either (Ok x) read_set seen ws later ks view h changes ok err =
+    subst (IsSetInvariant read_set) (sym ok) (kept_writes read_set ws ks h (subst (λ (ns : List ReadRecord). AreChanges ns ks) (sym view) changes))
+kept_either (Err e) read_set seen ws later ks view h changes ok err = subst (IsSetInvariant read_set) (sym err) h

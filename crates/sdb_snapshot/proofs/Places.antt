@@ -12,7 +12,7 @@ use Rattle.sdb_keyed.specs.Entries.{value_at, with_value}
 use Rattle.sdb_record.specs.declared.write.Write.{Write}
 use Rattle.sdb_record.specs.declared.write.Keyed.{Keyed}
 use Rattle.sdb_record.specs.Among.{write_among, is_written}
-use Rattle.sdb_snapshot.specs.Held.{ArePlaces}
+use Rattle.sdb_snapshot.specs.Sets.{AreIndexed}
 use Rattle.sdb_snapshot.specs.Opened.{with_new, with_laid}
 use Rattle.sdb_snapshot.proofs.Fronts.{starts_itself, starts_more, starts_take}
 use Rattle.sdb_snapshot.proofs.Keys.{put_new}
@@ -34,7 +34,7 @@ length_map (w ∷ ws) = ap suc (length_map ws)
 abbrev pub place_in : List Write → Key → Option ℕ
 place_in ws key = position (λ w. same_key key w.key) ws
 
-pub place_is : (places : List (Key × Unit {0})) (ws : List Write) (key : Key) → ArePlaces places ws → position (same_key key) (keys_of places) ≡ place_in ws key
+pub place_is : (places : List (Key × Unit {0})) (ws : List Write) (key : Key) → AreIndexed places ws → position (same_key key) (keys_of places) ≡ place_in ws key
 place_is places ws key h =
     ap (position (same_key key)) h
     ∙ ap (λ n. cond (nat_lt n (length (map key_of ws))) (Some n) None) (count_map key ws)
@@ -148,16 +148,16 @@ position_value : (places : List (Key × Unit {0})) (k : Key) → position (same_
 position_value places k h = found_value places k (no_place (same_key k) (keys_of places) h)
 
 -- a write whose key is new goes last, and so does its place
-pub placed_last : (places : List (Key × Unit {0})) (ws : List Write) (k : Key) (w : Write) → ArePlaces places ws → place_in ws k ≡ None → k ≡ w.key → ArePlaces (with_value places k tt) (ws ++ w ∷ [])
+pub placed_last : (places : List (Key × Unit {0})) (ws : List Write) (k : Key) (w : Write) → AreIndexed places ws → place_in ws k ≡ None → k ≡ w.key → AreIndexed (with_value places k tt) (ws ++ w ∷ [])
 placed_last places ws k w h none is =
     ap keys_of (put_new places k tt (position_value places k (place_is places ws k h ∙ none)))
     ∙ keys_last places k tt ∙ ap (λ ks. ks ++ k ∷ []) h ∙ ap (λ (q : Key). map key_of ws ++ q ∷ []) is ∙ sym (map-append key_of ws (w ∷ []))
 
-pub placed_first : (places : List (Key × Unit {0})) (ws : List Write) (n : ℕ) → ArePlaces places ws → ArePlaces (take n places) (take n ws)
+pub placed_first : (places : List (Key × Unit {0})) (ws : List Write) (n : ℕ) → AreIndexed places ws → AreIndexed (take n places) (take n ws)
 placed_first places ws n h = sym (take-map (λ (e : Key × Unit {0}). e.0) n places) ∙ ap (take n) h ∙ take-map key_of n ws
 
 -- and where the write could not be put, its place goes
-pub placed_back : (places : List (Key × Unit {0})) (ws : List Write) (k : Key) (n : ℕ) → ArePlaces places ws → place_in ws k ≡ None → n ≡ length ws → ArePlaces (take n (with_value places k tt)) ws
+pub placed_back : (places : List (Key × Unit {0})) (ws : List Write) (k : Key) (n : ℕ) → AreIndexed places ws → place_in ws k ≡ None → n ≡ length ws → AreIndexed (take n (with_value places k tt)) ws
 placed_back places ws k n h none is =
     let keys = map key_of ws in
     sym (take-map (λ (e : Key × Unit {0}). e.0) n (with_value places k tt))
@@ -183,11 +183,11 @@ some_written ws k (Some i) h some = written (slice_get ws i) (write_among ws k) 
     written x y e g = sym (ap is_some e) ∙ there ws i g
 
 -- a key that has a place is written
-pub present : (places : List (Key × Unit {0})) (ws : List Write) (w : Write) (o : Option ℕ) → ArePlaces places ws → o ≡ position (same_key w.key) (keys_of places) → is_some o ≡ true → with_new ws w ≡ ws
+pub present : (places : List (Key × Unit {0})) (ws : List Write) (w : Write) (o : Option ℕ) → AreIndexed places ws → o ≡ position (same_key w.key) (keys_of places) → is_some o ≡ true → with_new ws w ≡ ws
 present places ws w o h is some =
     ap (λ b. cond b ws (ws ++ w ∷ [])) (some_written ws w.key o (sym (is ∙ place_is places ws w.key h)) some)
 
-pub no_place_in : (places : List (Key × Unit {0})) (ws : List Write) (k : Key) (o : Option ℕ) → ArePlaces places ws → o ≡ position (same_key k) (keys_of places) → is_some o ≡ false → place_in ws k ≡ None
+pub no_place_in : (places : List (Key × Unit {0})) (ws : List Write) (k : Key) (o : Option ℕ) → AreIndexed places ws → o ≡ position (same_key k) (keys_of places) → is_some o ≡ false → place_in ws k ≡ None
 no_place_in places ws k o h is none = sym (is ∙ place_is places ws k h) ∙ none_is o none
 
 pub absent : (ws : List Write) (w : Write) → place_in ws w.key ≡ None → with_new ws w ≡ ws ++ w ∷ []

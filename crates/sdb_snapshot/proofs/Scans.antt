@@ -4,15 +4,15 @@ use Rattle.std.specs.Prelude.{Result, Ok, Err, OnOk, OnErr, find}
 use Rattle.std.specs.Option.{option_map_or}
 use Rattle.std.proofs.lemmas.List.Folds.{find_at}
 use Rattle.sdb_types.specs.declared.record.Span.{Span}
-use Rattle.sdb_types.specs.Exactness.{span_tells}
+use Rattle.sdb_types.specs.Exactness.{span_is_exact}
 use Rattle.sdb_types.proofs.Basics.{by_test, clash, false_by, one_more, or_second, some_is}
 use Rattle.sdb_record.specs.declared.access.Scan.{Scan}
-use Rattle.sdb_snapshot.specs.Held.{HaveFirstPlaces, first_scan, is_scan_at}
+use Rattle.sdb_snapshot.specs.Sets.{HaveFirstIndexes, first_scan, is_scan_at}
 use Rattle.sdb_snapshot.specs.Seen.{is_scanned, same_span}
 
 -- of two equal spans both were scanned or none
 same_scanned : (scans : List Scan) (k q : Span) (b : Bool) → same_span k q ≡ true → is_scanned scans k ≡ b → is_scanned scans q ≡ b
-same_scanned scans k q b t h = subst (λ (x : Span). is_scanned scans x ≡ b) ((span_tells k q).0 t) h
+same_scanned scans k q b t h = subst (λ (x : Span). is_scanned scans x ≡ b) ((span_is_exact k q).0 t) h
 
 ---- a prefix
 
@@ -28,7 +28,7 @@ scanned_first (x ∷ xs) zero q h = absurd (cc)
 scanned_first (x ∷ xs) (suc n) q h =
     first_step (same_span x.span q) (is_scanned (take n xs) q) (is_scanned xs q) (first_scan (take n xs) q) (first_scan xs q) h (scanned_first xs n q)
 
-pub places_first : (scans : List Scan) (n : ℕ) (place : Span → Option ℕ) → HaveFirstPlaces scans place → HaveFirstPlaces (take n scans) place
+pub places_first : (scans : List Scan) (n : ℕ) (place : Span → Option ℕ) → HaveFirstIndexes scans place → HaveFirstIndexes (take n scans) place
 places_first scans n place h q s = let r = scanned_first scans n q s in h q r.0 ∙ ap Some (sym r.1)
 
 ---- a scan more
@@ -62,8 +62,8 @@ scanned_before [] x q f h = or_none (same_span x.span q) h f
 scanned_before (y ∷ ys) x q f h = or_step (same_span y.span q) (is_scanned (ys ++ x ∷ []) q) (is_scanned ys q) h (scanned_before ys x q f)
 
 -- of a span that was not scanned, with its place
-places_new : (scans : List Scan) (x : Scan) (place next : Span → Option ℕ) → is_scanned scans x.span ≡ false → HaveFirstPlaces scans place
-    → ((q : Span) → next q ≡ cond (same_span x.span q) (Some (length scans)) (place q)) → HaveFirstPlaces (scans ++ x ∷ []) next
+places_new : (scans : List Scan) (x : Scan) (place next : Span → Option ℕ) → is_scanned scans x.span ≡ false → HaveFirstIndexes scans place
+    → ((q : Span) → next q ≡ cond (same_span x.span q) (Some (length scans)) (place q)) → HaveFirstIndexes (scans ++ x ∷ []) next
 places_new scans x place next new h is q s =
     by_test (same_span x.span q)
     (λ t. is q ∙ ap (λ b. cond b (Some (length scans)) (place q)) t ∙ ap Some (sym (first_new scans x q (same_scanned scans x.span q false t new) t)))
@@ -71,29 +71,29 @@ places_new scans x place next new h is q s =
     is q ∙ ap (λ b. cond b (Some (length scans)) (place q)) f ∙ h q old ∙ ap Some (sym (first_before scans x q old)))
 
 -- a place of a span that was not scanned
-places_stale : (scans : List Scan) (k : Span) (n : ℕ) (place next : Span → Option ℕ) → is_scanned scans k ≡ false → HaveFirstPlaces scans place
-    → ((q : Span) → next q ≡ cond (same_span k q) (Some n) (place q)) → HaveFirstPlaces scans next
+places_stale : (scans : List Scan) (k : Span) (n : ℕ) (place next : Span → Option ℕ) → is_scanned scans k ≡ false → HaveFirstIndexes scans place
+    → ((q : Span) → next q ≡ cond (same_span k q) (Some n) (place q)) → HaveFirstIndexes scans next
 places_stale scans k n place next new h is q s =
     by_test (same_span k q)
     (λ t. clash (sym s ∙ same_scanned scans k q false t new))
     (λ f. is q ∙ ap (λ b. cond b (Some n) (place q)) f ∙ h q s)
 
 -- of a span that was scanned
-places_again : (scans : List Scan) (x : Scan) (place : Span → Option ℕ) → is_scanned scans x.span ≡ true → HaveFirstPlaces scans place → HaveFirstPlaces (scans ++ x ∷ []) place
+places_again : (scans : List Scan) (x : Scan) (place : Span → Option ℕ) → is_scanned scans x.span ≡ true → HaveFirstIndexes scans place → HaveFirstIndexes (scans ++ x ∷ []) place
 places_again scans x place old h q s =
     let scanned : is_scanned scans q ≡ true = by_test (same_span x.span q) (λ t. same_scanned scans x.span q true t old) (λ f. scanned_before scans x q f s) in
     h q scanned ∙ ap Some (sym (first_before scans x q scanned))
 
 -- whether or not the scan could be put
-pub places_pushed : {A E : Type 0} (r : Result A E) (scans later : List Scan) (x : Scan) (place : Span → Option ℕ) → is_scanned scans x.span ≡ true → HaveFirstPlaces scans place
-    → OnOk r (later ≡ scans ++ x ∷ []) → OnErr r (later ≡ scans) → HaveFirstPlaces later place
-places_pushed (Ok a) scans later x place old h ok err = subst (λ (xs : List Scan). HaveFirstPlaces xs place) (sym ok) (places_again scans x place old h)
-places_pushed (Err e) scans later x place old h ok err = subst (λ (xs : List Scan). HaveFirstPlaces xs place) (sym err) h
+pub places_pushed : {A E : Type 0} (r : Result A E) (scans later : List Scan) (x : Scan) (place : Span → Option ℕ) → is_scanned scans x.span ≡ true → HaveFirstIndexes scans place
+    → OnOk r (later ≡ scans ++ x ∷ []) → OnErr r (later ≡ scans) → HaveFirstIndexes later place
+places_pushed (Ok a) scans later x place old h ok err = subst (λ (xs : List Scan). HaveFirstIndexes xs place) (sym ok) (places_again scans x place old h)
+places_pushed (Err e) scans later x place old h ok err = subst (λ (xs : List Scan). HaveFirstIndexes xs place) (sym err) h
 
-pub places_opened : {A E : Type 0} (r : Result A E) (scans later : List Scan) (x : Scan) (place next : Span → Option ℕ) → is_scanned scans x.span ≡ false → HaveFirstPlaces scans place
-    → ((q : Span) → next q ≡ cond (same_span x.span q) (Some (length scans)) (place q)) → OnOk r (later ≡ scans ++ x ∷ []) → OnErr r (later ≡ scans) → HaveFirstPlaces later next
-places_opened (Ok a) scans later x place next new h is ok err = subst (λ (xs : List Scan). HaveFirstPlaces xs next) (sym ok) (places_new scans x place next new h is)
-places_opened (Err e) scans later x place next new h is ok err = subst (λ (xs : List Scan). HaveFirstPlaces xs next) (sym err) (places_stale scans x.span (length scans) place next new h is)
+pub places_opened : {A E : Type 0} (r : Result A E) (scans later : List Scan) (x : Scan) (place next : Span → Option ℕ) → is_scanned scans x.span ≡ false → HaveFirstIndexes scans place
+    → ((q : Span) → next q ≡ cond (same_span x.span q) (Some (length scans)) (place q)) → OnOk r (later ≡ scans ++ x ∷ []) → OnErr r (later ≡ scans) → HaveFirstIndexes later next
+places_opened (Ok a) scans later x place next new h is ok err = subst (λ (xs : List Scan). HaveFirstIndexes xs next) (sym ok) (places_new scans x place next new h is)
+places_opened (Err e) scans later x place next new h is ok err = subst (λ (xs : List Scan). HaveFirstIndexes xs next) (sym err) (places_stale scans x.span (length scans) place next new h is)
 
 ---- a span is looked up
 
@@ -119,7 +119,7 @@ stands_anywhere [] (suc i) q h = absurd (cc)
 stands_anywhere (x ∷ xs) zero q h = ap (λ b. b || is_scanned xs q) h
 stands_anywhere (x ∷ xs) (suc i) q h = or_second (same_span x.span q) (is_scanned xs q) (stands_anywhere xs i q h)
 
-pub looked_up : (scans : List Scan) (place : Span → Option ℕ) (q : Span) (i : ℕ) → HaveFirstPlaces scans place → place q ≡ Some i → is_scan_at scans i q ≡ is_scanned scans q
+pub looked_up : (scans : List Scan) (place : Span → Option ℕ) (q : Span) (i : ℕ) → HaveFirstIndexes scans place → place q ≡ Some i → is_scan_at scans i q ≡ is_scanned scans q
 looked_up scans place q i h at =
     by_test (is_scanned scans q)
     (λ t. let first : i ≡ first_scan scans q = some_is i (first_scan scans q) (sym at ∙ h q t) in

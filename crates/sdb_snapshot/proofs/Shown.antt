@@ -25,11 +25,11 @@ use Rattle.sdb_record.specs.declared.write.Keyed.{Keyed}
 use Rattle.sdb_record.specs.Rolls.{row_of_change}
 use Rattle.sdb_record.specs.Among.{write_among}
 use Rattle.sdb_model.specs.Exec.{Tables, all_rows, row_of_entry}
-use Rattle.sdb_snapshot.specs.Noted.{Note, is_noted, base_at, has_key, AreKeysOf}
+use Rattle.sdb_snapshot.specs.Reads.{ReadRecord, is_key_read, base_at, has_key, AreKeysOf}
 use Rattle.sdb_snapshot.specs.Written.{with_write, with_writes, with_change_of, write_of}
 use Rattle.sdb_model.specs.Access.{in_access, rows_at, with_row, with_changes}
-use Rattle.sdb_snapshot.specs.Rows.{with_own, row_found, tables_of_notes}
-use Rattle.sdb_snapshot.specs.Held.{WereRead}
+use Rattle.sdb_snapshot.specs.Rows.{with_own, row_found, tables_of_reads}
+use Rattle.sdb_snapshot.specs.Sets.{WereRead}
 use Rattle.sdb_snapshot.specs.Seen.{Seen, tables_seen, overlay, Agrees, row_with, row_seen, images_with, images_at}
 use Rattle.sdb_types.proofs.Basics.{by_test, less_of, t_both, both_t as t_two, cond_some as each}
 use Rattle.sdb_types.proofs.Keys.{same_key_is, same_key_exact}
@@ -45,11 +45,11 @@ found_step : (b : Bool) (f : Option Record) (o : Option (Option Record)) → con
 found_step true f o = refl
 found_step false f o = refl
 
-pub get_notes : (notes : List Note) (q : Key) → get (tables_of_notes notes) q ≡ row_found (base_at notes q)
+pub get_notes : (read_set : List ReadRecord) (q : Key) → get (tables_of_reads read_set) q ≡ row_found (base_at read_set q)
 get_notes [] q = get-empty key_cmp q
 get_notes (e ∷ es) q =
-    get-with_row (tables_of_notes es) e.0 (row_found e.1) q
-    ∙ ap (λ b. cond b (row_found e.1) (get (tables_of_notes es) q)) (sym (same_key_is q e.0))
+    get-with_row (tables_of_reads es) e.0 (row_found e.1) q
+    ∙ ap (λ b. cond b (row_found e.1) (get (tables_of_reads es) q)) (sym (same_key_is q e.0))
     ∙ ap (λ o. cond (same_key q e.0) (row_found e.1) o) (get_notes es q)
     ∙ found_step (same_key q e.0) e.1 (value_at es q)
 
@@ -73,8 +73,8 @@ row_is : (x : Option Write) (found : Option Record) → own_row x (row_found fou
 row_is None found = refl
 row_is (Some w) found = refl
 
-pub get_seen : (notes : List Note) (ws : List Write) (q : Key) → get (with_own (tables_of_notes notes) ws) q ≡ row_seen notes ws q
-get_seen notes ws q = get_own (tables_of_notes notes) ws q ∙ ap (own_row (write_among ws q)) (get_notes notes q) ∙ row_is (write_among ws q) (base_at notes q)
+pub get_seen : (read_set : List ReadRecord) (ws : List Write) (q : Key) → get (with_own (tables_of_reads read_set) ws) q ≡ row_seen read_set ws q
+get_seen read_set ws q = get_own (tables_of_reads read_set) ws q ∙ ap (own_row (write_among ws q)) (get_notes read_set q) ∙ row_is (write_among ws q) (base_at read_set q)
 
 ---- rows at the keys of an access
 
@@ -192,8 +192,8 @@ shown_key f d k is =
     ∙ ap (λ b. cond b (f k) None) ((eq_by_cmp_equiv key_total).symm q k)
     ∙ each (is_eq (key_cmp k q)) (f k) (get d q) (λ t. ap f (key_exact k q (equal_of (key_cmp k q) t)) ∙ sym (is q)))
 
-pub no_row : (notes : List Note) (ws : List Write) (q : Key) → WereRead notes ws → is_some (row_seen notes ws q) ≡ true → is_noted notes q ≡ true
-no_row notes ws q read h = by_write (write_among ws q) (value_at notes q) (read q) h
+pub no_row : (read_set : List ReadRecord) (ws : List Write) (q : Key) → WereRead read_set ws → is_some (row_seen read_set ws q) ≡ true → is_key_read read_set q ≡ true
+no_row read_set ws q read h = by_write (write_among ws q) (value_at read_set q) (read q) h
   where
     by_write : (x : Option Write) (o : Option (Option Record)) → (is_some x ≡ true → is_some o ≡ true) → is_some (row_with x (option_and_then (λ y. y) o)) ≡ true → is_some o ≡ true
     by_write (Some w) o g h = g refl
@@ -201,18 +201,18 @@ no_row notes ws q read h = by_write (write_among ws q) (value_at notes q) (read 
     by_write None None g h = absurd (cc)
 
 -- the rows seen at the keys of a span
-pub span_shown : (notes : List Note) (ws : List Write) (span : Span) (ks : List Record) → WereRead notes ws → AreKeysOf notes span ks → images_at (row_seen notes ws) ks ≡ rows_at (access.Scan span) (with_own (tables_of_notes notes) ws)
-span_shown notes ws span ks read keys =
-    shown_span (row_seen notes ws) (with_own (tables_of_notes notes) ws) span ks keys.rows (get_seen notes ws) (λ q inside some. keys.noted q inside (no_row notes ws q read some))
+pub span_shown : (read_set : List ReadRecord) (ws : List Write) (span : Span) (ks : List Record) → WereRead read_set ws → AreKeysOf read_set span ks → images_at (row_seen read_set ws) ks ≡ rows_at (access.Scan span) (with_own (tables_of_reads read_set) ws)
+span_shown read_set ws span ks read keys =
+    shown_span (row_seen read_set ws) (with_own (tables_of_reads read_set) ws) span ks keys.rows (get_seen read_set ws) (λ q inside some. keys.as_read q inside (no_row read_set ws q read some))
 
-pub key_shown : (notes : List Note) (ws : List Write) (k : Key) → images_with k (row_seen notes ws k) ≡ rows_at (access.Get k) (with_own (tables_of_notes notes) ws)
-key_shown notes ws k = shown_key (row_seen notes ws) (with_own (tables_of_notes notes) ws) k (get_seen notes ws)
+pub key_shown : (read_set : List ReadRecord) (ws : List Write) (k : Key) → images_with k (row_seen read_set ws k) ≡ rows_at (access.Get k) (with_own (tables_of_reads read_set) ws)
+key_shown read_set ws k = shown_key (row_seen read_set ws) (with_own (tables_of_reads read_set) ws) k (get_seen read_set ws)
 
 -- where the notes agree with tables, the overlay is their rows with the transaction's own writes
 pub overlay_is : (s : Seen) (a : Access) (d : Tables) → Agrees s a d → overlay a s ≡ rows_at a (with_own d s.writes)
 overlay_is s a d h =
     agree_rows a (tables_seen s) (with_own d s.writes) (λ q inside.
-    get_own (tables_of_notes s.notes) s.writes q ∙ ap (own_row (write_among s.writes q)) (get_notes s.notes q ∙ h q inside) ∙ sym (get_own d s.writes q))
+    get_own (tables_of_reads s.read_set) s.writes q ∙ ap (own_row (write_among s.writes q)) (get_notes s.read_set q ∙ h q inside) ∙ sym (get_own d s.writes q))
 
 ---- own writes are changes
 
@@ -243,6 +243,6 @@ own_one d ws w = same_map key_total key_exact _ _ (λ q.
     ∙ ap (λ o. cond (is_eq (key_cmp q w.key)) (row_of_change w.change) o) (sym (get_own d ws q))
     ∙ sym (get-with_row (with_own d ws) w.key (row_of_change w.change) q))
 
-pub own_is : (d : Tables) (notes : List Note) (ws : List Write) (ks : List Keyed) → with_own d (with_writes notes ws ks) ≡ with_changes (with_own d ws) ks
-own_is d notes ws [] = refl
-own_is d notes ws (k ∷ ks) = own_is d notes (with_write ws (write_of notes k)) ks ∙ ap (λ e. with_changes e ks) (own_one d ws (write_of notes k))
+pub own_is : (d : Tables) (read_set : List ReadRecord) (ws : List Write) (ks : List Keyed) → with_own d (with_writes read_set ws ks) ≡ with_changes (with_own d ws) ks
+own_is d read_set ws [] = refl
+own_is d read_set ws (k ∷ ks) = own_is d read_set (with_write ws (write_of read_set k)) ks ∙ ap (λ e. with_changes e ks) (own_one d ws (write_of read_set k))

@@ -1,6 +1,6 @@
-pub mod Noted
+pub mod Reads
 pub mod Written
 pub mod Rows
-pub mod Held
+pub mod Sets
 pub mod Opened
 pub mod Seen

@@ -4,16 +4,16 @@ use Rattle.sdb_types.specs.Order.{same_key}
 use Rattle.sdb_record.specs.declared.write.Write.{Write}
 use Rattle.sdb_record.specs.declared.write.Keyed.{Keyed}
 use Rattle.sdb_record.specs.Among.{is_written}
-use Rattle.sdb_snapshot.specs.Noted.{Note}
+use Rattle.sdb_snapshot.specs.Reads.{ReadRecord}
 use Rattle.sdb_snapshot.specs.Written.{write_of}
 
 -- with a write whose key is new
 abbrev pub with_new : List Write → Write → List Write
 with_new ws w = if is_written ws w.key then ws else ws ++ w ∷ []
 
-abbrev pub with_news : List Note → List Write → List Keyed → List Write
-with_news notes ws [] = ws
-with_news notes ws (k ∷ ks) = with_news notes (with_new ws (write_of notes k)) ks
+abbrev pub with_news : List ReadRecord → List Write → List Keyed → List Write
+with_news read_set ws [] = ws
+with_news read_set ws (k ∷ ks) = with_news read_set (with_new ws (write_of read_set k)) ks
 
 -- with the change of a key that is written
 abbrev pub with_laid : List Write → Keyed → List Write

@@ -7,13 +7,13 @@ ghost use Rattle.sdb_record.specs.declared.access.Access.{Access};
 ghost use Rattle.sdb_record.specs.declared.write.Keyed.{Keyed};
 ghost use Rattle.sdb_record.specs.declared.write.Write.{Write};
 ghost use Rattle.sdb_model.specs.Exec.{Tables};
-ghost use Rattle.sdb_snapshot.specs.Noted.{Note};
+ghost use Rattle.sdb_snapshot.specs.Reads.{ReadRecord};
 ghost use Rattle.sdb_model.specs.Access.{rows_at, with_changes};
 ghost use Rattle.sdb_snapshot.specs.Rows.{with_own};
 ghost use Rattle.sdb_snapshot.specs.Seen.{Agrees, Seen, forgotten, mark_of, overlay, with_get, with_scan};
 ghost use Rattle.sdb_snapshot.specs.Written.{with_writes};
 
-/// Where the notes have the rows of tables at the keys of an access, the overlay there has the rows of these tables with
+/// Where the read set has the rows of tables at the keys of an access, the overlay there has the rows of these tables with
 /// the transaction's own writes laid over them, in the order of their keys.
 pub fn overlay_is_rows()
     ensures { (s : Seen) (a : Access) (d : Tables) → Agrees s a d → overlay a s ≡ rows_at a (with_own d s.writes) }
@@ -21,7 +21,7 @@ pub fn overlay_is_rows()
 
 /// Changes that are written leave the tables that a transaction sees as the changes do, one after the other.
 pub fn writes_are_changes()
-    ensures { (d : Tables) (notes : List Note) (ws : List Write) (ks : List Keyed) → with_own d (with_writes notes ws ks) ≡ with_changes (with_own d ws) ks }
+    ensures { (d : Tables) (read_set : List ReadRecord) (ws : List Write) (ks : List Keyed) → with_own d (with_writes read_set ws ks) ≡ with_changes (with_own d ws) ks }
 {}
 
 /// A read that is forgotten leaves what there was before it.

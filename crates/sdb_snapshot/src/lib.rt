@@ -2,16 +2,16 @@
 #![tactic(auto)]
 
 mod difference;
-mod drafts;
 pub mod laws;
-mod notes;
 mod overlay;
 mod prefix;
+mod read_set;
 mod row;
 mod scan_list;
 mod snapshot;
+mod write_set;
 
-pub use drafts::{MOST_WRITES, WriteRefused};
 pub use row::row_of;
 pub use sdb_record::{Access, Read, Reads, Scan, Scans};
 pub use snapshot::{Mark, NoteRefused, Snapshot};
+pub use write_set::{MOST_WRITES, WriteRefused};

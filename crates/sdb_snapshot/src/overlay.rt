@@ -1,21 +1,21 @@
 //! The rows that a transaction sees.
 ghost use Rattle.std.specs.Prelude.{◌≡◌, ◌++◌, IfOk, OnOk};
-ghost use Rattle.sdb_snapshot.specs.Noted.{base_at};
+ghost use Rattle.sdb_snapshot.specs.Reads.{base_at};
 ghost use Rattle.sdb_snapshot.specs.Rows.{row_found};
 ghost use Rattle.sdb_snapshot.specs.Seen.{images_at, images_with, row_seen};
 
-use crate::drafts::Drafts;
-use crate::notes::Notes;
+use crate::read_set::ReadSet;
 use crate::row::{row_of_change, row_of_found};
+use crate::write_set::WriteSet;
 use sdb_record::{Image, Images};
 use sdb_types::{Columns, Duplicate, Key, NoMemory, Record};
 use std::alloc::Global;
 
 // The row of what was found at a key.
-fn row_noted(alloc: Global, notes: &Notes, key: &Key) -> Result<Option<Columns>, NoMemory>
-    ensures { IfOk result (λ row. row ≡ row_found (base_at notes.now key.now)) }
+fn row_noted(alloc: Global, read_set: &ReadSet, key: &Key) -> Result<Option<Columns>, NoMemory>
+    ensures { IfOk result (λ row. row ≡ row_found (base_at read_set.now key.now)) }
 {
-    match notes.get(key) {
+    match read_set.get(key) {
         Some(found) => row_of_found(alloc, found),
         None => Ok(None),
     }
@@ -24,15 +24,15 @@ fn row_noted(alloc: Global, notes: &Notes, key: &Key) -> Result<Option<Columns>,
 // The row that is seen at a key: what was written there, or else the row of what was found.
 fn row_at(
     alloc: Global,
-    notes: &Notes,
-    drafts: &Drafts,
+    read_set: &ReadSet,
+    write_set: &WriteSet,
     key: &Key,
 ) -> Result<Option<Columns>, NoMemory>
-    ensures { IfOk result (λ row. row ≡ row_seen notes.now drafts.now key.now) }
+    ensures { IfOk result (λ row. row ≡ row_seen read_set.now write_set.now key.now) }
 {
-    match drafts.get(key) {
+    match write_set.get(key) {
         Some(write) => row_of_change(&write.change),
-        None => row_noted(alloc, notes, key),
+        None => row_noted(alloc, read_set, key),
     }
 }
 
@@ -52,14 +52,14 @@ fn put_image(images: &mut Images, key: &Key, row: Option<Columns>) -> Result<(),
 /// The row that is seen at a key, as an image.
 pub fn image_of_key(
     alloc: Global,
-    notes: &Notes,
-    drafts: &Drafts,
+    read_set: &ReadSet,
+    write_set: &WriteSet,
     key: &Key,
 ) -> Result<Images, NoMemory>
-    ensures { IfOk result (λ images. images ≡ images_with key.now (row_seen notes.now drafts.now key.now)) }
+    ensures { IfOk result (λ images. images ≡ images_with key.now (row_seen read_set.now write_set.now key.now)) }
 {
     let mut images = Images::new(alloc);
-    let row = row_at(alloc, notes, drafts, key)?;
+    let row = row_at(alloc, read_set, write_set, key)?;
     put_image(&mut images, key, row)?;
     Ok(images)
 }
@@ -68,14 +68,14 @@ pub fn image_of_key(
 fn put_images(
     alloc: Global,
     images: &mut Images,
-    notes: &Notes,
-    drafts: &Drafts,
+    read_set: &ReadSet,
+    write_set: &WriteSet,
     keys: &[Record],
 ) -> Result<(), NoMemory>
-    ensures { OnOk result (images.new ≡ images.old ++ images_at (row_seen notes.now drafts.now) keys.now) }
+    ensures { OnOk result (images.new ≡ images.old ++ images_at (row_seen read_set.now write_set.now) keys.now) }
 {
     for rec in keys {
-        let row = row_at(alloc, notes, drafts, &rec.key)?;
+        let row = row_at(alloc, read_set, write_set, &rec.key)?;
         put_image(images, &rec.key, row)?;
     }
     Ok(())
@@ -84,13 +84,13 @@ fn put_images(
 /// The rows that are seen at keys, as images.
 pub fn images_of_keys(
     alloc: Global,
-    notes: &Notes,
-    drafts: &Drafts,
+    read_set: &ReadSet,
+    write_set: &WriteSet,
     keys: &[Record],
 ) -> Result<Images, NoMemory>
-    ensures { IfOk result (λ images. images ≡ images_at (row_seen notes.now drafts.now) keys.now) }
+    ensures { IfOk result (λ images. images ≡ images_at (row_seen read_set.now write_set.now) keys.now) }
 {
     let mut images = Images::new(alloc);
-    put_images(alloc, &mut images, notes, drafts, keys)?;
+    put_images(alloc, &mut images, read_set, write_set, keys)?;
     Ok(images)
 }

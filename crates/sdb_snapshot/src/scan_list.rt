@@ -1,6 +1,6 @@
 //! The scans that a transaction made, found by their spans.
 ghost use Rattle.std.specs.Prelude.{◌≡◌, ◌++◌, [], ◌∷◌, OnOk, OnErr, length, take, false};
-ghost use Rattle.sdb_snapshot.specs.Held.{is_scan_at as is_scan_at_lem};
+ghost use Rattle.sdb_snapshot.specs.Sets.{is_scan_at as is_scan_at_lem};
 ghost use Rattle.sdb_snapshot.specs.Seen.{is_scanned};
 
 use crate::prefix::cut;
@@ -34,14 +34,14 @@ impl Model for ScanList {
     ghost use Rattle.std.specs.Prelude.{List};
     ghost use Rattle.indexmap.specs.IndexMap.{get};
     ghost use Rattle.sdb_record.specs.declared.access.Scan.{Scan as ScanValue};
-    ghost use Rattle.sdb_snapshot.specs.Held.{HaveFirstPlaces};
+    ghost use Rattle.sdb_snapshot.specs.Sets.{HaveFirstIndexes};
     ghost use Rattle.sdb_snapshot.specs.Seen.{same_span};
 
     ghost Value = { List ScanValue };
 
     ghost view = { λ l. l.scans };
 
-    ghost invariant = { λ l. HaveFirstPlaces l.scans (get same_span l.places) };
+    ghost invariant = { λ l. HaveFirstIndexes l.scans (get same_span l.places) };
 }
 
 // Whether the scan at a place is of a span.

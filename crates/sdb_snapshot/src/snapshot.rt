@@ -6,26 +6,26 @@ ghost use Rattle.sdb_types.specs.declared.key.Key.{Key as KeyValue};
 ghost use Rattle.sdb_types.specs.declared.record.Record.{Record as RecordValue};
 ghost use Rattle.sdb_record.specs.declared.access.Access.TheVariants as access;
 ghost use Rattle.sdb_record.specs.Rolls.{IsBaseOf, AreCommitted};
-ghost use Rattle.sdb_snapshot.specs.Noted.{IsFirstDifference, IsUnmoved, is_noted, note_at, with_images};
+ghost use Rattle.sdb_snapshot.specs.Reads.{IsFirstDifference, IsUnmoved, is_key_read, record_read_at, with_images};
 ghost use Rattle.sdb_snapshot.specs.Written.{AreChanges, AreWrites, HaveBases, HaveKeysOnce, most_writes};
-ghost use Rattle.sdb_snapshot.specs.Held.{AreKept};
+ghost use Rattle.sdb_snapshot.specs.Sets.{IsSetInvariant};
 ghost use Rattle.sdb_snapshot.specs.Seen.{forgotten, is_scanned, mark_of, nothing, overlay, with_get, with_scan, with_written};
-ghost use Rattle.sdb_snapshot.specs.declared.drafts.WriteRefused.TheVariants as refused;
+ghost use Rattle.sdb_snapshot.specs.declared.write_set.WriteRefused.TheVariants as refused;
 ghost use Rattle.sdb_snapshot.specs.declared.snapshot.NoteRefused.TheVariants as refused_note;
 
-use crate::difference::{first_moved, versions_of};
-use crate::drafts::{Drafts, WriteRefused};
-use crate::notes::Notes;
+use crate::difference::{first_changed, versions_of};
 use crate::overlay::{image_of_key, images_of_keys};
 use crate::prefix::cut;
+use crate::read_set::ReadSet;
 use crate::scan_list::ScanList;
+use crate::write_set::{WriteRefused, WriteSet};
 use sdb_record::{Changes, Images, Read, Reads, Scan, Scans, Writes, version_of};
 use sdb_types::{Duplicate, Key, NoMemory, Record, Records, Span};
 use std::alloc::Global;
 use std::marker::Model;
 use thiserror::Error;
 
-/// Why a scan was not noted.
+/// Why a scan was not recorded.
 #[derive(Debug, Drop, Error, PartialEq, Eq)]
 pub enum NoteRefused {
     /// A key that was read has another version now: the record of the scan there, or none.
@@ -45,13 +45,13 @@ impl From<NoMemory> for NoteRefused {
 
 /// What a transaction has read and written.
 ///
-/// Noted records are found by a hash of the key, and so are own writes; noted scans are found by a hash of the span. So
+/// Records of the read set are found by a hash of the key, and so are own writes; scans are found by a hash of the span. So
 /// `lookup` and `scanned` take constant time, and `write` constant time for each change, as far as hashes don't collide. The
-/// noted keys are in a tree in their own order too, so that `overlay_span` looks at the keys of its span alone.
+/// keys read are in a tree in their own order too, so that `overlay_span` looks at the keys of its span alone.
 pub struct Snapshot {
     alloc: Global,
-    notes: Notes,
-    drafts: Drafts,
+    read_set: ReadSet,
+    write_set: WriteSet,
     reads: Reads,
     scans: ScanList,
 }
@@ -61,8 +61,8 @@ impl Drop for Snapshot {
     fn drop(self) {
         let Snapshot {
             alloc: _,
-            notes: _,
-            drafts: _,
+            read_set: _,
+            write_set: _,
             reads: _,
             scans: _,
         } = self;
@@ -70,20 +70,20 @@ impl Drop for Snapshot {
 }
 
 impl Model for Snapshot {
-    ghost use Rattle.sdb_snapshot.specs.Held.{AreKept};
+    ghost use Rattle.sdb_snapshot.specs.Sets.{IsSetInvariant};
     ghost use Rattle.sdb_snapshot.specs.Seen.{Seen};
 
     ghost Value = { Seen };
 
-    ghost view = { λ s. record { notes = s.notes; reads = s.reads; scans = s.scans; writes = s.drafts } };
+    ghost view = { λ s. record { read_set = s.read_set; reads = s.reads; scans = s.scans; writes = s.write_set } };
 
-    ghost invariant = { λ s. AreKept s.notes s.drafts };
+    ghost invariant = { λ s. IsSetInvariant s.read_set s.write_set };
 }
 
-/// How much a transaction had noted at a moment.
+/// How large a transaction's read set was at a moment.
 #[derive(Clone, Copy, Debug, PartialEq, Eq)]
 pub struct Mark {
-    pub notes: usize,
+    pub read_set: usize,
     pub reads: usize,
     pub scans: usize,
 }
@@ -95,8 +95,8 @@ impl Snapshot {
     {
         Snapshot {
             alloc,
-            notes: Notes::new(alloc),
-            drafts: Drafts::new(alloc),
+            read_set: ReadSet::new(alloc),
+            write_set: WriteSet::new(alloc),
             reads: Reads::new(alloc),
             scans: ScanList::new(alloc),
         }
@@ -104,24 +104,24 @@ impl Snapshot {
 
     /// What was found at a key, where it was read: by a get, or as a row of a scan. Takes no memory.
     pub fn lookup(&self, key: &Key) -> Option<Option<&Record>>
-        ensures { option_map option_copied result ≡ note_at self.now.notes key.now }
+        ensures { option_map option_copied result ≡ record_read_at self.now.read_set key.now }
     {
-        match self.notes.get(key) {
+        match self.read_set.get(key) {
             Some(found) => Some(found.as_ref()),
             None => None,
         }
     }
 
-    // Notes a get that made a call.
+    // Records a get that made a call.
     fn note_read(&mut self, key: Key, image: Option<Record>, read: Read) -> Result<(), NoMemory>
-        requires unread { is_noted self.old.notes key ≡ false }
+        requires unread { is_key_read self.old.read_set key ≡ false }
         requires image { IfSome image (IsBaseOf key) }
-        ensures ok { OnOk result (self.new ≡ record self.old { notes = self.old.notes ++ (key, image) ∷ []; reads = self.old.reads ++ read ∷ [] }) }
+        ensures ok { OnOk result (self.new ≡ record self.old { read_set = self.old.read_set ++ (key, image) ∷ []; reads = self.old.reads ++ read ∷ [] }) }
         ensures err { OnErr result (self.new ≡ self.old) }
     {
         let len = self.reads.len();
         self.reads.push(read)?;
-        match self.notes.note(key, image) {
+        match self.read_set.record_found(key, image) {
             Ok(()) => Ok(()),
             Err(NoMemory) => {
                 self.reads.remove(len);
@@ -130,9 +130,9 @@ impl Snapshot {
         }
     }
 
-    /// Notes a get that made a call: of a key that was not read, with its committed record or none.
+    /// Records a get that made a call: of a key that was not read, with its committed record or none.
     pub fn note_get(&mut self, key: Key, image: Option<Record>) -> Result<(), NoMemory>
-        requires unread { is_noted self.old.notes key ≡ false }
+        requires unread { is_key_read self.old.read_set key ≡ false }
         requires image { IfSome image (IsBaseOf key) }
         ensures ok { OnOk result (self.new ≡ with_get self.old key image) }
         ensures err { OnErr result (self.new ≡ self.old) }
@@ -153,30 +153,30 @@ impl Snapshot {
 
     // Finds the first difference between what was read and a scan.
     fn find_moved(&self, span: &Span, images: &Records) -> Result<(), NoteRefused>
-        ensures unmoved { OnOk result (IsUnmoved self.now.notes span.now images.now) }
-        ensures differs { (key : KeyValue) (found : Option RecordValue) → result ≡ Err (refused_note.Differs key found) → IsFirstDifference self.now.notes span.now images.now key found }
+        ensures unmoved { OnOk result (IsUnmoved self.now.read_set span.now images.now) }
+        ensures differs { (key : KeyValue) (found : Option RecordValue) → result ≡ Err (refused_note.Differs key found) → IsFirstDifference self.now.read_set span.now images.now key found }
     {
-        let keys = self.notes.keys_in(span)?;
+        let keys = self.read_set.keys_in(span)?;
         if keys.len() == 0 {
             return Ok(());
         }
-        let mut now = Notes::new(self.alloc);
-        now.note_all(images.as_slice())?;
-        match first_moved(&self.notes, &now, keys.as_slice()) {
+        let mut now = ReadSet::new(self.alloc);
+        now.record_all(images.as_slice())?;
+        match first_changed(&self.read_set, &now, keys.as_slice()) {
             Some(rec) => Err(NoteRefused::Differs(rec.key.copy()?, now.base(&rec.key)?)),
             None => Ok(()),
         }
     }
 
-    // Notes a scan that differs nowhere.
+    // Records a scan that differs nowhere.
     fn note_rows(&mut self, scan: Scan, images: &Records) -> Result<(), NoMemory>
         requires { AreCommitted images.now }
-        ensures ok { OnOk result (self.new ≡ record self.old { notes = with_images self.old.notes images.now; scans = self.old.scans ++ scan ∷ [] }) }
+        ensures ok { OnOk result (self.new ≡ record self.old { read_set = with_images self.old.read_set images.now; scans = self.old.scans ++ scan ∷ [] }) }
         ensures err { OnErr result (self.new ≡ self.old) }
     {
         let len = self.scans.len();
         self.scans.push(scan)?;
-        match self.notes.note_all(images.as_slice()) {
+        match self.read_set.record_all(images.as_slice()) {
             Ok(()) => Ok(()),
             Err(NoMemory) => {
                 self.scans.cut(len);
@@ -185,15 +185,15 @@ impl Snapshot {
         }
     }
 
-    /// Notes a scan that made a call, with the committed records found, tombstones included: those of keys that were not
-    /// read are noted. Where a key that was read has another version among them, it returns the first such key, and notes
+    /// Records a scan that made a call, with the committed records found, tombstones included: those of keys that were not
+    /// read are added. Where a key that was read has another version among them, it returns the first such key, and records
     /// nothing.
     pub fn note_scan(&mut self, span: Span, images: Records) -> Result<(), NoteRefused>
         requires rows { are_rows_of span images ≡ true }
         requires committed { AreCommitted images }
         ensures ok { OnOk result (self.new ≡ with_scan self.old span images) }
-        ensures unmoved { OnOk result (IsUnmoved self.old.notes span images) }
-        ensures differs { (key : KeyValue) (found : Option RecordValue) → result ≡ Err (refused_note.Differs key found) → IsFirstDifference self.old.notes span images key found }
+        ensures unmoved { OnOk result (IsUnmoved self.old.read_set span images) }
+        ensures differs { (key : KeyValue) (found : Option RecordValue) → result ≡ Err (refused_note.Differs key found) → IsFirstDifference self.old.read_set span images key found }
         ensures err { OnErr result (self.new ≡ self.old) }
     {
         match self.find_moved(&span, &images) {
@@ -210,49 +210,49 @@ impl Snapshot {
     pub fn overlay_key(&self, key: &Key) -> Result<Images, NoMemory>
         ensures { IfOk result (λ images. images ≡ overlay (access.Get key.now) self.now) }
     {
-        image_of_key(self.alloc, &self.notes, &self.drafts, key)
+        image_of_key(self.alloc, &self.read_set, &self.write_set, key)
     }
 
-    /// The rows that are seen in a span, in the order of their keys: all that were noted there, also those that another
-    /// read noted, with what was written laid over them; tombstones and deleted rows are left out. With m keys noted in the
+    /// The rows that are seen in a span, in the order of their keys: all that were recorded there, also those that another
+    /// read, with what was written laid over them; tombstones and deleted rows are left out. With m keys read in the
     /// span among n in all it takes time in the order of m + log n, since their tree is read from the span's least key on.
     pub fn overlay_span(&self, span: &Span) -> Result<Images, NoMemory>
         ensures { IfOk result (λ images. images ≡ overlay (access.Scan span.now) self.now) }
     {
-        let keys = self.notes.keys_in(span)?;
-        images_of_keys(self.alloc, &self.notes, &self.drafts, keys.as_slice())
+        let keys = self.read_set.keys_in(span)?;
+        images_of_keys(self.alloc, &self.read_set, &self.write_set, keys.as_slice())
     }
 
     /// Writes changes of keys that were read, in order: all or, where they are refused, none. A key that was written keeps
     /// its place and its base, and takes the change.
     pub fn write(&mut self, changes: Changes) -> Result<(), WriteRefused>
-        requires { AreChanges self.old.notes changes }
+        requires { AreChanges self.old.read_set changes }
         ensures ok { OnOk result (self.new ≡ with_written self.old changes) }
         ensures fits { OnOk result (length (with_written self.old changes).writes ≤ most_writes) }
         ensures many { result ≡ Err refused.TooManyWrites → most_writes < length (with_written self.old changes).writes }
         ensures err { OnErr result (self.new ≡ self.old) }
     {
-        self.drafts.write(&self.notes, changes)
+        self.write_set.write(&self.read_set, changes)
     }
 
-    /// How much is noted now. Takes no memory.
+    /// How much is recorded now. Takes no memory.
     pub fn mark(&self) -> Mark
         ensures mark { result ≡ mark_of self.now }
-        ensures kept { AreKept self.now.notes self.now.writes }
+        ensures kept { IsSetInvariant self.now.read_set self.now.writes }
     {
         Mark {
-            notes: self.notes.len(),
+            read_set: self.read_set.len(),
             reads: self.reads.len(),
             scans: self.scans.len(),
         }
     }
 
-    /// Forgets what was noted after a mark, of which nothing was written. Takes no memory.
+    /// Forgets what was recorded after a mark, of which nothing was written. Takes no memory.
     pub fn forget(&mut self, mark: Mark)
-        requires { AreKept (take mark.notes self.old.notes) self.old.writes }
+        requires { IsSetInvariant (take mark.read_set self.old.read_set) self.old.writes }
         ensures { self.new ≡ forgotten mark self.old }
     {
-        self.notes.cut(mark.notes);
+        self.read_set.cut(mark.read_set);
         cut(self.alloc, &mut self.reads, mark.reads);
         self.scans.cut(mark.scans);
     }
@@ -260,28 +260,28 @@ impl Snapshot {
     /// The writes, reads and scans, as a COMMIT takes them. Takes no memory.
     pub fn into_parts(self) -> (Writes, Reads, Scans)
         ensures writes { result.0 ≡ self.writes }
-        ensures fine { AreWrites self.writes }
+        ensures valid { AreWrites self.writes }
         ensures reads { result.1 ≡ self.reads }
         ensures scans { result.2 ≡ self.scans }
     {
         let Snapshot {
             alloc: _,
-            notes: _,
-            drafts,
+            read_set: _,
+            write_set,
             reads,
             scans,
         } = self;
-        (drafts.into_writes(), reads, scans.into_scans())
+        (write_set.into_writes(), reads, scans.into_scans())
     }
 
     /// The writes: one for each key, with its base, in the order of first writing. Each may be prepared. Takes no memory.
     pub fn writes(&self) -> &Writes
         ensures all { result.now ≡ self.now.writes }
-        ensures fine { AreWrites self.now.writes }
-        ensures based { HaveBases self.now.notes self.now.writes }
+        ensures valid { AreWrites self.now.writes }
+        ensures based { HaveBases self.now.read_set self.now.writes }
         ensures once { HaveKeysOnce self.now.writes }
     {
-        self.drafts.all()
+        self.write_set.all()
     }
 
     /// The gets that made a call, in their order. Takes no memory.

@@ -21,12 +21,12 @@ use Rattle.sdb_model.specs.declared.event.How.{How}
 use Rattle.sdb_model.specs.declared.event.How.TheVariants.{Seen}
 use Rattle.sdb_stores.specs.declared.place.Place.{Place}
 use Rattle.sdb_model.specs.Rows.{Name}
-use Rattle.sdb_model.specs.Events.{Shelf, store_of, table_asked, IsCall}
+use Rattle.sdb_model.specs.Events.{StoreContents, store_of, table_asked, IsCall}
 use Rattle.sdb_laws.proofs.Effects.{after_put, after_delete, stands_in_store, stands_anywhere}
 use Rattle.sdb_spread.specs.Spread.{HoldAs}
 use Rattle.sdb_types.proofs.Basics.{and_false}
 use Rattle.sdb_types.proofs.Keys.{same_key_tells}
-use Rattle.sdb_model.specs.Tables.{is_played}
+use Rattle.sdb_model.specs.Tables.{is_table_of_run}
 
 ---- contents that agree on a table
 
@@ -82,11 +82,11 @@ left_apart (ask.DeleteIf key condition) m k n =
 
 ---- one call
 
-pub about_key : (catalog : List Table) (table : TableName) (k : Key) → k.table ≡ table → is_played catalog table ≡ true → is_played catalog k.table ≡ true
-about_key catalog table k e t = ap (is_played catalog) e ∙ t
+pub about_key : (catalog : List Table) (table : TableName) (k : Key) → k.table ≡ table → is_table_of_run catalog table ≡ true → is_table_of_run catalog k.table ≡ true
+about_key catalog table k e t = ap (is_table_of_run catalog) e ∙ t
 
 -- what becomes of the stores, where their store's contents changed as those of the one store
-pub held_as : (catalog : List Table) (places : List Place) (store : Name) (q : Request) (how : How) (r : Reply) (before now : List Shelf) (held left : Contents) → (c : IsCall places store q how r before now) → HoldAs catalog places before held
+pub held_as : (catalog : List Table) (places : List Place) (store : Name) (q : Request) (how : How) (r : Reply) (before now : List StoreContents) (held left : Contents) → (c : IsCall places store q how r before now) → HoldAs catalog places before held
     → ((k : Key) → record_at c.held k ≡ record_at held k → record_at c.left k ≡ record_at left k)
     → ((k : Key) → k.table.ns ≢ (table_asked q).ns → record_at left k ≡ record_at held k)
     → HoldAs catalog places now left
@@ -97,8 +97,8 @@ held_as catalog places store q how r before now held left c h here there = recor
   ];
 }
 
-pub called : (catalog : List Table) (places : List Place) (store : Name) (q : Request) (r : Reply) (before now : List Shelf) (held : Contents)
-    → IsCall places store q Seen r before now → r ≢ reply.NoMemory → is_played catalog (table_asked q) ≡ true → HoldAs catalog places before held
+pub called : (catalog : List Table) (places : List Place) (store : Name) (q : Request) (r : Reply) (before now : List StoreContents) (held : Contents)
+    → IsCall places store q Seen r before now → r ≢ reply.NoMemory → is_table_of_run catalog (table_asked q) ≡ true → HoldAs catalog places before held
     → (r ≡ reply_to q held) × HoldAs catalog places now (after q held)
 called catalog places store q r before now held c memory about h = elim c.performed [
   | inl p ↦ (

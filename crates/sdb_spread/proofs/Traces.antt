@@ -16,33 +16,33 @@ use Rattle.sdb_model.specs.declared.event.How.{How}
 use Rattle.sdb_model.specs.declared.event.How.TheVariants.{Seen, Lost, Discarded, Broken}
 use Rattle.sdb_stores.specs.declared.place.Place.{Place}
 use Rattle.sdb_model.specs.Rows.{Name, same_name}
-use Rattle.sdb_model.specs.Events.{Shelf, held_by, with_contents, store_of, standing, table_asked, IsPerformed, IsCall, Effect, IsTrace}
+use Rattle.sdb_model.specs.Events.{StoreContents, contents_under, with_contents, store_of, standing, table_asked, IsPerformed, IsCall, Effect, IsTrace}
 use Rattle.sdb_laws.proofs.Effects.{store_same, held_there, held_elsewhere}
-use Rattle.sdb_spread.specs.Spread.{one_shelf, moved_event, moved_events, AreAbout, HoldAs, AreShelved}
+use Rattle.sdb_spread.specs.Spread.{one_store, relocated_event, relocated_events, AreAbout, HoldAs, AreShelved}
 use Rattle.sdb_spread.proofs.Calls.{SameOf, same_reply, same_after, left_apart, held_as}
 use Rattle.sdb_types.proofs.Basics.{some_is as some_same}
 use Rattle.sdb_spread.proofs.Single.{one_held, one_left}
-use Rattle.sdb_model.specs.Tables.{is_played}
+use Rattle.sdb_model.specs.Tables.{is_table_of_run}
 
 ---- the one store
 
-abbrev contents_of : List Shelf → Contents
+abbrev contents_of : List StoreContents → Contents
 contents_of [] = empty
 contents_of (s ∷ ss) = s.contents
 
 -- a call on the one store: what it leaves there
-record OneCall (name : Name) (q : Request) (how : How) (r : Reply) (m : Contents) (now : List Shelf) : Type 0 where
+record OneCall (name : Name) (q : Request) (how : How) (r : Reply) (m : Contents) (now : List StoreContents) : Type 0 where
   left : Contents
   performed : IsPerformed q how r m left
-  same : now ≡ one_shelf name left
+  same : now ≡ one_store name left
 
-one_call : (name store : Name) (q : Request) (how : How) (r : Reply) (m : Contents) (now : List Shelf) → IsCall [] store q how r (one_shelf name m) now → OneCall name q how r m now
+one_call : (name store : Name) (q : Request) (how : How) (r : Reply) (m : Contents) (now : List StoreContents) → IsCall [] store q how r (one_store name m) now → OneCall name q how r m now
 one_call name store q how r m now c =
-    let there : c.held ≡ m = sym (some_same m c.held (sym (one_held name m) ∙ sym (ap (held_by (one_shelf name m)) c.placed) ∙ c.found)) in
+    let there : c.held ≡ m = sym (some_same m c.held (sym (one_held name m) ∙ sym (ap (contents_under (one_store name m)) c.placed) ∙ c.found)) in
     record {
       left = c.left;
       performed = subst (λ (held : Contents). IsPerformed q how r held c.left) there c.performed;
-      same = c.others ∙ ap (λ (n : Name). with_contents (one_shelf name m) n c.left) c.placed ∙ one_left name m c.left;
+      same = c.others ∙ ap (λ (n : Name). with_contents (one_store name m) n c.left) c.placed ∙ one_left name m c.left;
     }
 
 ---- the same on contents that agree on the call's table
@@ -87,7 +87,7 @@ performed_too q Broken r h m left s p = elim p.1 [
 ---- the shelves of namespaces
 
 -- which store each namespace has
-abbrev AreAt : List Place → List Shelf → (Name → Name) → Type 0
+abbrev AreAt : List Place → List StoreContents → (Name → Name) → Type 0
 AreAt places shelves at = (ns : Name) → store_of places shelves ns ≡ at ns
 
 taken_out : {A : Type 0} (o : Option A) → IsSome o → (x : A) × (o ≡ Some x)
@@ -97,42 +97,42 @@ taken_out (Some x) h = (x, refl)
 some_of : {A : Type 0} (o : Option A) (x : A) → o ≡ Some x → IsSome o
 some_of o x e = ap is_some e
 
-shelved_more : (places : List Place) (shelves : List Shelf) (store : Name) (held left : Contents) → held_by shelves store ≡ Some held → AreShelved places shelves → AreShelved places (with_contents shelves store left)
+shelved_more : (places : List Place) (shelves : List StoreContents) (store : Name) (held left : Contents) → contents_under shelves store ≡ Some held → AreShelved places shelves → AreShelved places (with_contents shelves store left)
 shelved_more places shelves store held left found all ns = by (same_name store (store_of places shelves ns)) refl
   where
-    by : (b : Bool) → same_name store (store_of places shelves ns) ≡ b → IsSome (held_by (with_contents shelves store left) (store_of places (with_contents shelves store left) ns))
+    by : (b : Bool) → same_name store (store_of places shelves ns) ≡ b → IsSome (contents_under (with_contents shelves store left) (store_of places (with_contents shelves store left) ns))
     by true e =
-        some_of _ left (ap (held_by (with_contents shelves store left)) (store_same places shelves store left ns ∙ sym (same_name-true store (store_of places shelves ns) e)) ∙ held_there shelves store left held found)
+        some_of _ left (ap (contents_under (with_contents shelves store left)) (store_same places shelves store left ns ∙ sym (same_name-true store (store_of places shelves ns) e)) ∙ held_there shelves store left held found)
     by false e =
-        subst IsSome (sym (ap (held_by (with_contents shelves store left)) (store_same places shelves store left ns) ∙ held_elsewhere shelves store (store_of places shelves ns) left (λ same. no (sym e ∙ ap (same_name store) (sym same) ∙ same_name-itself store)))) (all ns)
+        subst IsSome (sym (ap (contents_under (with_contents shelves store left)) (store_same places shelves store left ns) ∙ held_elsewhere shelves store (store_of places shelves ns) left (λ same. no (sym e ∙ ap (same_name store) (sym same) ∙ same_name-itself store)))) (all ns)
       where
         no : false ≡ true → ⊥
         no x = absurd (cc)
 
 ---- one call on several stores
 
-record ManyCall (catalog : List Table) (places : List Place) (at : Name → Name) (q : Request) (how : How) (r : Reply) (before : List Shelf) (left : Contents) : Type 0 where
-  now : List Shelf
+record ManyCall (catalog : List Table) (places : List Place) (at : Name → Name) (q : Request) (how : How) (r : Reply) (before : List StoreContents) (left : Contents) : Type 0 where
+  now : List StoreContents
   called : IsCall places (at (table_asked q).ns) q how r before now
   holds : HoldAs catalog places now left
   shelved : AreShelved places now
   ats : AreAt places now at
 
 -- what is at a key of the call's table
-stands_here : (places : List Place) (at : Name → Name) (q : Request) (before : List Shelf) (h : Contents) → AreAt places before at → held_by before (at (table_asked q).ns) ≡ Some h
+stands_here : (places : List Place) (at : Name → Name) (q : Request) (before : List StoreContents) (h : Contents) → AreAt places before at → contents_under before (at (table_asked q).ns) ≡ Some h
     → (k : Key) → k.table ≡ table_asked q → standing places before k ≡ record_at h k
 stands_here places at q before h ats found k e =
-    ap (λ (n : Name). option_map_or (λ m. record_at m k) (held_by before n) None) (ap (λ (t : TableName). store_of places before t.ns) e ∙ ats (table_asked q).ns)
+    ap (λ (n : Name). option_map_or (λ m. record_at m k) (contents_under before n) None) (ap (λ (t : TableName). store_of places before t.ns) e ∙ ats (table_asked q).ns)
     ∙ ap (λ (o : Option Contents). option_map_or (λ m. record_at m k) o None) found
 
-same_there : (catalog : List Table) (places : List Place) (at : Name → Name) (q : Request) (before : List Shelf) (m h : Contents) → is_played catalog (table_asked q) ≡ true
-    → AreAt places before at → HoldAs catalog places before m → held_by before (at (table_asked q).ns) ≡ Some h → SameOf h m (table_asked q)
+same_there : (catalog : List Table) (places : List Place) (at : Name → Name) (q : Request) (before : List StoreContents) (m h : Contents) → is_table_of_run catalog (table_asked q) ≡ true
+    → AreAt places before at → HoldAs catalog places before m → contents_under before (at (table_asked q).ns) ≡ Some h → SameOf h m (table_asked q)
 same_there catalog places at q before m h about ats holds found k e =
-    sym (stands_here places at q before h ats found k e) ∙ holds.at k (ap (is_played catalog) e ∙ about)
+    sym (stands_here places at q before h ats found k e) ∙ holds.at k (ap (is_table_of_run catalog) e ∙ about)
 
-many_found : (catalog : List Table) (places : List Place) (at : Name → Name) (q : Request) (how : How) (r : Reply) (before : List Shelf) (m left : Contents) → is_played catalog (table_asked q) ≡ true
+many_found : (catalog : List Table) (places : List Place) (at : Name → Name) (q : Request) (how : How) (r : Reply) (before : List StoreContents) (m left : Contents) → is_table_of_run catalog (table_asked q) ≡ true
     → AreAt places before at → AreShelved places before → HoldAs catalog places before m → IsPerformed q how r m left
-    → (h : Contents) → held_by before (at (table_asked q).ns) ≡ Some h → ManyCall catalog places at q how r before left
+    → (h : Contents) → contents_under before (at (table_asked q).ns) ≡ Some h → ManyCall catalog places at q how r before left
 many_found catalog places at q how r before m left about ats shelved holds performed h found =
     let p = performed_too q how r h m left (same_there catalog places at q before m h about ats holds found) performed in
     let c : IsCall places (at (table_asked q).ns) q how r before (with_contents before (at (table_asked q).ns) p.now) =
@@ -145,48 +145,48 @@ many_found catalog places at q how r before m left about ats shelved holds perfo
       ats = λ ns. store_same places before (at (table_asked q).ns) p.now ns ∙ ats ns;
     }
 
-many_call : (catalog : List Table) (places : List Place) (at : Name → Name) (q : Request) (how : How) (r : Reply) (before : List Shelf) (m left : Contents) → is_played catalog (table_asked q) ≡ true
+many_call : (catalog : List Table) (places : List Place) (at : Name → Name) (q : Request) (how : How) (r : Reply) (before : List StoreContents) (m left : Contents) → is_table_of_run catalog (table_asked q) ≡ true
     → AreAt places before at → AreShelved places before → HoldAs catalog places before m → IsPerformed q how r m left → ManyCall catalog places at q how r before left
 many_call catalog places at q how r before m left about ats shelved holds performed =
-    let home = taken_out (held_by before (store_of places before (table_asked q).ns)) (shelved (table_asked q).ns) in
-    many_found catalog places at q how r before m left about ats shelved holds performed home.0 (ap (held_by before) (sym (ats (table_asked q).ns)) ∙ home.1)
+    let home = taken_out (contents_under before (store_of places before (table_asked q).ns)) (shelved (table_asked q).ns) in
+    many_found catalog places at q how r before m left about ats shelved holds performed home.0 (ap (contents_under before) (sym (ats (table_asked q).ns)) ∙ home.1)
 
 ---- all events
 
-record Many (catalog : List Table) (places : List Place) (at : Name → Name) (events : List Event) (before : List Shelf) (m1 : Contents) : Type 0 where
-  moments : List (List Shelf)
-  closing : List Shelf
-  trace : IsTrace places (moved_events at events) before moments closing
+record Many (catalog : List Table) (places : List Place) (at : Name → Name) (events : List Event) (before : List StoreContents) (m1 : Contents) : Type 0 where
+  moments : List (List StoreContents)
+  closing : List StoreContents
+  trace : IsTrace places (relocated_events at events) before moments closing
   holds : HoldAs catalog places closing m1
 
 -- an event without an effect, and the others
-many_still : (catalog : List Table) (places : List Place) (at : Name → Name) (e : Event) (es : List Event) (before : List Shelf) (m1 : Contents) → Effect places (moved_event at e) before before → Many catalog places at es before m1 → Many catalog places at (e ∷ es) before m1
+many_still : (catalog : List Table) (places : List Place) (at : Name → Name) (e : Event) (es : List Event) (before : List StoreContents) (m1 : Contents) → Effect places (relocated_event at e) before before → Many catalog places at es before m1 → Many catalog places at (e ∷ es) before m1
 many_still catalog places at e es before m1 effect rest = record { moments = before ∷ rest.moments; closing = rest.closing; trace = (effect, rest.trace); holds = rest.holds }
 
-many_traced : (catalog : List Table) (name : Name) (places : List Place) (at : Name → Name) (events : List Event) (singles : List (List Shelf)) (before : List Shelf) (m0 m1 : Contents)
-    → IsTrace [] events (one_shelf name m0) singles (one_shelf name m1) → AreAbout catalog events → AreAt places before at → AreShelved places before → HoldAs catalog places before m0
+many_traced : (catalog : List Table) (name : Name) (places : List Place) (at : Name → Name) (events : List Event) (singles : List (List StoreContents)) (before : List StoreContents) (m0 m1 : Contents)
+    → IsTrace [] events (one_store name m0) singles (one_store name m1) → AreAbout catalog events → AreAt places before at → AreShelved places before → HoldAs catalog places before m0
     → Many catalog places at events before m1
 many_traced catalog name places at [] [] before m0 m1 t about ats shelved holds =
     record { moments = []; closing = before; trace = refl; holds = subst (HoldAs catalog places before) (sym (ap contents_of t)) holds }
 many_traced catalog name places at [] (s ∷ ss) before m0 m1 t about ats shelved holds = absurd t
 many_traced catalog name places at (e ∷ es) [] before m0 m1 t about ats shelved holds = absurd t
 many_traced catalog name places at (event.Take c text given ∷ es) (s ∷ ss) before m0 m1 t about ats shelved holds =
-    many_still catalog places at (event.Take c text given) es before m1 refl (many_traced catalog name places at es ss before m0 m1 (subst (λ (x : List Shelf). IsTrace [] es x ss (one_shelf name m1)) t.0 t.1) about.1 ats shelved holds)
+    many_still catalog places at (event.Take c text given) es before m1 refl (many_traced catalog name places at es ss before m0 m1 (subst (λ (x : List StoreContents). IsTrace [] es x ss (one_store name m1)) t.0 t.1) about.1 ats shelved holds)
 many_traced catalog name places at (event.Stop c ∷ es) (s ∷ ss) before m0 m1 t about ats shelved holds =
-    many_still catalog places at (event.Stop c) es before m1 refl (many_traced catalog name places at es ss before m0 m1 (subst (λ (x : List Shelf). IsTrace [] es x ss (one_shelf name m1)) t.0 t.1) about.1 ats shelved holds)
+    many_still catalog places at (event.Stop c) es before m1 refl (many_traced catalog name places at es ss before m0 m1 (subst (λ (x : List StoreContents). IsTrace [] es x ss (one_store name m1)) t.0 t.1) about.1 ats shelved holds)
 many_traced catalog name places at (event.Clock moment ∷ es) (s ∷ ss) before m0 m1 t about ats shelved holds =
-    many_still catalog places at (event.Clock moment) es before m1 refl (many_traced catalog name places at es ss before m0 m1 (subst (λ (x : List Shelf). IsTrace [] es x ss (one_shelf name m1)) t.0 t.1) about.1 ats shelved holds)
+    many_still catalog places at (event.Clock moment) es before m1 refl (many_traced catalog name places at es ss before m0 m1 (subst (λ (x : List StoreContents). IsTrace [] es x ss (one_store name m1)) t.0 t.1) about.1 ats shelved holds)
 many_traced catalog name places at (event.Idle c ∷ es) (s ∷ ss) before m0 m1 t about ats shelved holds =
-    many_still catalog places at (event.Idle c) es before m1 refl (many_traced catalog name places at es ss before m0 m1 (subst (λ (x : List Shelf). IsTrace [] es x ss (one_shelf name m1)) t.0 t.1) about.1 ats shelved holds)
+    many_still catalog places at (event.Idle c) es before m1 refl (many_traced catalog name places at es ss before m0 m1 (subst (λ (x : List StoreContents). IsTrace [] es x ss (one_store name m1)) t.0 t.1) about.1 ats shelved holds)
 many_traced catalog name places at (event.Call c store q how r given ∷ es) (s ∷ ss) before m0 m1 t about ats shelved holds =
     let one = one_call name store q how r m0 s t.0 in
     let many = many_call catalog places at q how r before m0 one.left about.0 ats shelved holds one.performed in
-    let rest = many_traced catalog name places at es ss many.now one.left m1 (subst (λ (x : List Shelf). IsTrace [] es x ss (one_shelf name m1)) one.same t.1) about.1 many.ats many.shelved many.holds in
+    let rest = many_traced catalog name places at es ss many.now one.left m1 (subst (λ (x : List StoreContents). IsTrace [] es x ss (one_store name m1)) one.same t.1) about.1 many.ats many.shelved many.holds in
     record { moments = many.now ∷ rest.moments; closing = rest.closing; trace = (many.called, rest.trace); holds = rest.holds }
 
-pub traced : (catalog : List Table) (name : Name) (m0 m1 : Contents) (events : List Event) (singles : List (List Shelf)) (places : List Place) (opening : List Shelf)
-    → IsTrace [] events (one_shelf name m0) singles (one_shelf name m1) → AreAbout catalog events → AreShelved places opening → HoldAs catalog places opening m0
-    → (moments : List (List Shelf)) × (closing : List Shelf) × IsTrace places (moved_events (store_of places opening) events) opening moments closing × HoldAs catalog places closing m1
+pub traced : (catalog : List Table) (name : Name) (m0 m1 : Contents) (events : List Event) (singles : List (List StoreContents)) (places : List Place) (opening : List StoreContents)
+    → IsTrace [] events (one_store name m0) singles (one_store name m1) → AreAbout catalog events → AreShelved places opening → HoldAs catalog places opening m0
+    → (moments : List (List StoreContents)) × (closing : List StoreContents) × IsTrace places (relocated_events (store_of places opening) events) opening moments closing × HoldAs catalog places closing m1
 traced catalog name m0 m1 events singles places opening t about shelved holds =
     let many = many_traced catalog name places (store_of places opening) events singles opening m0 m1 t about (λ ns. refl) shelved holds in
     (many.moments, many.closing, many.trace, many.holds)

@@ -9,40 +9,40 @@ use Rattle.sdb_model.specs.declared.event.Event.TheVariants as event
 use Rattle.sdb_model.specs.declared.event.Outcome.{Outcome}
 use Rattle.sdb_stores.specs.declared.place.Place.{Place}
 use Rattle.sdb_model.specs.Rows.{Name}
-use Rattle.sdb_model.specs.Events.{Shelf, held_by, store_of, standing, table_asked}
-use Rattle.sdb_model.specs.Tables.{is_played}
+use Rattle.sdb_model.specs.Events.{StoreContents, contents_under, store_of, standing, table_asked}
+use Rattle.sdb_model.specs.Tables.{is_table_of_run}
 
 -- one store, and nothing else
-abbrev pub one_shelf : Name → Contents → List Shelf
-one_shelf name held = record { name = name; contents = held } ∷ []
+abbrev pub one_store : Name → Contents → List StoreContents
+one_store name held = record { name = name; contents = held } ∷ []
 
 -- an event, with its call made on the store that is given for its table's namespace
-abbrev pub moved_event : (Name → Name) → Event → Event
-moved_event at (event.Take client text answer) = event.Take client text answer
-moved_event at (event.Call client store q how r answer) = event.Call client (at (table_asked q).ns) q how r answer
-moved_event at (event.Stop client) = event.Stop client
-moved_event at (event.Clock moment) = event.Clock moment
-moved_event at (event.Idle client) = event.Idle client
+abbrev pub relocated_event : (Name → Name) → Event → Event
+relocated_event at (event.Take client text answer) = event.Take client text answer
+relocated_event at (event.Call client store q how r answer) = event.Call client (at (table_asked q).ns) q how r answer
+relocated_event at (event.Stop client) = event.Stop client
+relocated_event at (event.Clock moment) = event.Clock moment
+relocated_event at (event.Idle client) = event.Idle client
 
-abbrev pub moved_events : (Name → Name) → List Event → List Event
-moved_events at = map (moved_event at)
+abbrev pub relocated_events : (Name → Name) → List Event → List Event
+relocated_events at = map (relocated_event at)
 
 -- an outcome, with its calls so moved
-abbrev pub moved_outcome : (Name → Name) → Outcome → Outcome
-moved_outcome at o = record { events = moved_events at o.events; order = o.order; tables = o.tables }
+abbrev pub relocated_outcome : (Name → Name) → Outcome → Outcome
+relocated_outcome at o = record { events = relocated_events at o.events; order = o.order; tables = o.tables }
 
 -- a call is about one of them
 abbrev pub IsAbout : List Table → Event → Type 0
-IsAbout catalog (event.Call client store q how r answer) = is_played catalog (table_asked q) ≡ true
+IsAbout catalog (event.Call client store q how r answer) = is_table_of_run catalog (table_asked q) ≡ true
 IsAbout catalog _ = Unit {0}
 
 abbrev pub AreAbout : List Table → List Event → Type 0
 AreAbout catalog events = AllByRecursion (IsAbout catalog) events
 
 -- At each key of these tables the stores hold what the one store does.
-pub record HoldAs (catalog : List Table) (places : List Place) (shelves : List Shelf) (held : Contents) : Type 0 where
-  pub at : (key : Key) → is_played catalog key.table ≡ true → standing places shelves key ≡ record_at held key
+pub record HoldAs (catalog : List Table) (places : List Place) (shelves : List StoreContents) (held : Contents) : Type 0 where
+  pub at : (key : Key) → is_table_of_run catalog key.table ≡ true → standing places shelves key ≡ record_at held key
 
 -- Each namespace has a store that is attached.
-abbrev pub AreShelved : List Place → List Shelf → Type 0
-AreShelved places shelves = (ns : Name) → IsSome (held_by shelves (store_of places shelves ns))
+abbrev pub AreShelved : List Place → List StoreContents → Type 0
+AreShelved places shelves = (ns : Name) → IsSome (contents_under shelves (store_of places shelves ns))

@@ -1,4 +1,4 @@
-//! The law that a run on one store is a run on several.
+//! Placement: a run on one store is a run on several.
 #![tactic(auto)]
 
 pub mod laws;

@@ -23,7 +23,7 @@ use Rattle.sdb_types.proofs.KeyOrder.{key_exact, key_total}
 use Rattle.sdb_codec.specs.Reading.{record_in}
 use Rattle.sdb_sqlite.specs.declared.refused.Stopped.{Stopped}
 use Rattle.sdb_sqlite.specs.declared.refused.Stopped.TheVariants as stopped
-use Rattle.sdb_sqlite.specs.Stopping.{wants_memory, stopped_by}
+use Rattle.sdb_sqlite.specs.Stopping.{is_out_of_memory, stopped_by}
 use Rattle.sdb_sqlite.specs.Rows.{blob_of, own_columns, record_of_body}
 use Rattle.sdb_sqlite.specs.Asked.{Asked, rows_of}
 
@@ -49,12 +49,12 @@ none_read (Blob b) h = absurd (h (b, refl))
 -- Where no bytes are read of a column, there are none, or memory ran out.
 pub unread : (r : Row) (at : ℕ) (e : Error) → (e ≢ SqliteFailure OutOfMemory → at < length r → ¬ ((b : List ℕ) × (column r at ≡ Blob b))) → (stopped_by e ≡ stopped.NoMemory) ⊎ ((stopped_by e ≡ stopped.Refused) × (blob_of (column r at) ≡ None))
 unread r at e h =
-    elim (wants_memory e) as (λ b. wants_memory e ≡ b → (cond {A = Stopped} b stopped.NoMemory stopped.Refused ≡ stopped.NoMemory) ⊎ ((cond {A = Stopped} b stopped.NoMemory stopped.Refused ≡ stopped.Refused) × (blob_of (column r at) ≡ None))) [
+    elim (is_out_of_memory e) as (λ b. is_out_of_memory e ≡ b → (cond {A = Stopped} b stopped.NoMemory stopped.Refused ≡ stopped.NoMemory) ⊎ ((cond {A = Stopped} b stopped.NoMemory stopped.Refused ≡ stopped.Refused) × (blob_of (column r at) ≡ None))) [
       | true ↦ λ t. inl refl
       | false ↦ λ f. inr (
         refl,
         (
-            let other : e ≢ SqliteFailure OutOfMemory = λ s. let b : true ≡ false = sym (ap wants_memory s) ∙ f in cc in
+            let other : e ≢ SqliteFailure OutOfMemory = λ s. let b : true ≡ false = sym (ap is_out_of_memory s) ∙ f in cc in
             elim (cases_Bool (nat_lt at (length r))) [
               | inl low ↦ none_read (column r at) (h other (grind (arith, nat_tests)))
               | inr high ↦ ap blob_of (column_short r at (grind (arith, nat_tests)))

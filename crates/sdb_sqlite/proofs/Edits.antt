@@ -24,10 +24,10 @@ use Rattle.sdb_types.specs.Exact.{equal_of}
 use Rattle.sdb_types.specs.Fits.{record_fits}
 use Rattle.sdb_types.specs.Contents.{record_at, record_of}
 use Rattle.sdb_types.proofs.KeyOrder.{key_exact, key_total}
-use Rattle.sdb_codec.specs.Spelling.{key_bytes, record_bytes, RecordFitsFields}
+use Rattle.sdb_codec.specs.Spelling.{key_bytes, record_bytes, RecordIsEncodable}
 use Rattle.sdb_codec.proofs.RecordLaws.{record_round_trip}
 use Rattle.sdb_sqlite.specs.Spans.{partition_key}
-use Rattle.sdb_sqlite.specs.Rows.{stored, IsTied, row_key, entry_of, own_columns, has_key, rows_at, held_in}
+use Rattle.sdb_sqlite.specs.Rows.{stored, IsRowOfStore, row_key, entry_of, own_columns, has_key, rows_at, contents_of_rows}
 use Rattle.sdb_sqlite.proofs.Lists.{weaker, passed, each_passed, still_passed, none_passed, none_any}
 use Rattle.sdb_sqlite.proofs.Gets.{tied_key, of_key, held_at}
 
@@ -35,18 +35,18 @@ use Rattle.sdb_sqlite.proofs.Gets.{tied_key, of_key, held_at}
 
 module _ (rows news : List Row) (x : Row) where
   changed_at : (o : Option (List Pair)) (xs : List Row) → option_map (λ row. (entry_of row).1) (slice_get xs 0) ≡ o → ((q : Key) → has_key q x ≡ true → rows_at q news ≡ xs) → ((q : Key) → has_key q x ≡ false → rows_at q news ≡ rows_at q rows)
-      → (q : Key) → get (held_in news) q ≡ cond (has_key q x) o (get (held_in rows) q)
+      → (q : Key) → get (contents_of_rows news) q ≡ cond (has_key q x) o (get (contents_of_rows rows) q)
   changed_at o xs is own other q =
-      elim (has_key q x) as (λ b. has_key q x ≡ b → get (held_in news) q ≡ cond b o (get (held_in rows) q)) [
+      elim (has_key q x) as (λ b. has_key q x ≡ b → get (contents_of_rows news) q ≡ cond b o (get (contents_of_rows rows) q)) [
         | true ↦ λ e. held_at q news ∙ ap (λ (ys : List Row). option_map (λ row. (entry_of row).1) (slice_get ys 0)) (own q e) ∙ is
         | false ↦ λ e. held_at q news ∙ ap (λ (ys : List Row). option_map (λ row. (entry_of row).1) (slice_get ys 0)) (other q e) ∙ sym (held_at q rows)
       ] refl
 
-  pub inserted : ((q : Key) → has_key q x ≡ true → rows_at q news ≡ x ∷ []) → ((q : Key) → has_key q x ≡ false → rows_at q news ≡ rows_at q rows) → held_in news ≡ insert (held_in rows) (row_key x) (entry_of x).1
-  inserted own other = same_map key_total key_exact _ _ (λ q. changed_at (Some (entry_of x).1) (x ∷ []) refl own other q ∙ sym (get-insert key_total (held_in rows) (row_key x) (entry_of x).1 q))
+  pub inserted : ((q : Key) → has_key q x ≡ true → rows_at q news ≡ x ∷ []) → ((q : Key) → has_key q x ≡ false → rows_at q news ≡ rows_at q rows) → contents_of_rows news ≡ insert (contents_of_rows rows) (row_key x) (entry_of x).1
+  inserted own other = same_map key_total key_exact _ _ (λ q. changed_at (Some (entry_of x).1) (x ∷ []) refl own other q ∙ sym (get-insert key_total (contents_of_rows rows) (row_key x) (entry_of x).1 q))
 
-  pub removed : ((q : Key) → has_key q x ≡ true → rows_at q news ≡ []) → ((q : Key) → has_key q x ≡ false → rows_at q news ≡ rows_at q rows) → held_in news ≡ remove (held_in rows) (row_key x)
-  removed own other = same_map key_total key_exact _ _ (λ q. changed_at None [] refl own other q ∙ sym (get-remove key_total (held_in rows) (row_key x) q))
+  pub removed : ((q : Key) → has_key q x ≡ true → rows_at q news ≡ []) → ((q : Key) → has_key q x ≡ false → rows_at q news ≡ rows_at q rows) → contents_of_rows news ≡ remove (contents_of_rows rows) (row_key x)
+  removed own other = same_map key_total key_exact _ _ (λ q. changed_at None [] refl own other q ∙ sym (get-remove key_total (contents_of_rows rows) (row_key x) q))
 
   pub once_after : (xs : List Row) → length xs ≤ 1 → ((q : Key) → length (rows_at q rows) ≤ 1) → ((q : Key) → has_key q x ≡ true → rows_at q news ≡ xs) → ((q : Key) → has_key q x ≡ false → rows_at q news ≡ rows_at q rows)
       → (q : Key) → length (rows_at q news) ≤ 1
@@ -91,17 +91,17 @@ filter_put_in p x (r ∷ rows) free it none =
 abbrev pub row_of : ℤ → Record → Row
 row_of id r = stored id (key_bytes r.key) (table_text r.key.table) (key_bytes (partition_key r.key.table r.key.partition)) (record_bytes r)
 
-pub row_tied : (id : ℤ) (r : Record) → record_fits r → RecordFitsFields r → IsTied (row_of id r)
+pub row_tied : (id : ℤ) (r : Record) → record_fits r → RecordIsEncodable r → IsRowOfStore (row_of id r)
 row_tied id r known fits = record { id = id; key = r.key; body = record_bytes r; known = known.key; fits = fits.key; is = refl }
 
-pub row_key_is : (id : ℤ) (r : Record) → record_fits r → RecordFitsFields r → row_key (row_of id r) ≡ r.key
+pub row_key_is : (id : ℤ) (r : Record) → record_fits r → RecordIsEncodable r → row_key (row_of id r) ≡ r.key
 unfolding row_tied
 row_key_is id r known fits = tied_key (row_of id r) (row_tied id r known fits)
 
 own_body : (r : Record) → own_columns r.key (Ok r) ≡ r.columns
 own_body r = ap (λ (o : Ordering). cond (is_eq o) r.columns []) (tied_itself key_total r.key)
 
-pub row_columns_are : (id : ℤ) (r : Record) → record_fits r → RecordFitsFields r → (entry_of (row_of id r)).1 ≡ r.columns
+pub row_columns_are : (id : ℤ) (r : Record) → record_fits r → RecordIsEncodable r → (entry_of (row_of id r)).1 ≡ r.columns
 row_columns_are id r known fits = (λ i. own_columns (row_key_is id r known fits i) (record_round_trip r known fits i)) ∙ own_body r
 
 ---- a row added, where no row has its key
@@ -172,14 +172,14 @@ module _ (rows : List Row) (up : IsTable rows) (key : Key) (y : Row) (id : ℤ) 
     pub changed_other : (q : Key) → has_key q x ≡ false → rows_at q (put_row x (without_rowid id rows)) ≡ rows_at q rows
     changed_other q e = filter_put (has_key q) x (without_rowid id rows) free e ∙ gone_same q (sym (alike q) ∙ e)
 
-pub kept_tied : (id : ℤ) (rows : List Row) → AllByRecursion IsTied rows → AllByRecursion IsTied (without_rowid id rows)
-kept_tied id rows all = weaker (λ r. IsTied r × (not (has_rowid id r) ≡ true)) IsTied (λ r h. h.0) _ (passed IsTied (λ r. not (has_rowid id r)) rows all)
+pub kept_tied : (id : ℤ) (rows : List Row) → AllByRecursion IsRowOfStore rows → AllByRecursion IsRowOfStore (without_rowid id rows)
+kept_tied id rows all = weaker (λ r. IsRowOfStore r × (not (has_rowid id r) ≡ true)) IsRowOfStore (λ r h. h.0) _ (passed IsRowOfStore (λ r. not (has_rowid id r)) rows all)
 
 pub kept_table : (id : ℤ) (rows : List Row) → IsTable rows → IsTable (without_rowid id rows)
 kept_table id rows up = ascending-filter _ (λ r. not (has_rowid id r)) rows up
 
 -- the row that a found record is in
-pub found_row : (q : Key) (rows : List Row) (there : Record) → length (rows_at q rows) ≤ 1 → Some there ≡ record_at (held_in rows) q → (y : Row) × (rows_at q rows ≡ y ∷ [])
+pub found_row : (q : Key) (rows : List Row) (there : Record) → length (rows_at q rows) ≤ 1 → Some there ≡ record_at (contents_of_rows rows) q → (y : Row) × (rows_at q rows ≡ y ∷ [])
 found_row q rows there few is = go (rows_at q rows) few (is ∙ ap (λ o. option_map (λ (columns : List Pair). record_of (q, columns)) o) (held_at q rows))
   where
     go : (xs : List Row) → length xs ≤ 1 → Some there ≡ option_map (λ (columns : List Pair). record_of (q, columns)) (option_map (λ row. (entry_of row).1) (slice_get xs 0)) → (y : Row) × (xs ≡ y ∷ [])
@@ -188,7 +188,7 @@ found_row q rows there few is = go (rows_at q rows) few (is ∙ ap (λ o. option
     go (x ∷ y ∷ xs) few e = absurd (omega arith)
 
 -- and none is in a row
-pub no_row : (q : Key) (rows : List Row) → None ≡ record_at (held_in rows) q → rows_at q rows ≡ []
+pub no_row : (q : Key) (rows : List Row) → None ≡ record_at (contents_of_rows rows) q → rows_at q rows ≡ []
 no_row q rows is = go (rows_at q rows) (is ∙ ap (λ o. option_map (λ (columns : List Pair). record_of (q, columns)) o) (held_at q rows))
   where
     go : (xs : List Row) → None ≡ option_map (λ (columns : List Pair). record_of (q, columns)) (option_map (λ row. (entry_of row).1) (slice_get xs 0)) → xs ≡ []

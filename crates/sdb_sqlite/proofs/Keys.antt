@@ -17,12 +17,12 @@ use Rattle.sdb_types.specs.ValueLaws.{value_exact, value_total}
 use Rattle.sdb_types.specs.Contents.{in_span}
 use Rattle.sdb_types.proofs.Bools.{and_first, and_second, and_both}
 use Rattle.sdb_types.proofs.KeyOrder.{key_exact, key_total, table_exact, table_total, by_text}
-use Rattle.sdb_codec.specs.Spelling.{key_bytes, KeyFitsFields, ValueFitsField}
+use Rattle.sdb_codec.specs.Spelling.{key_bytes, KeyIsEncodable, ValueIsEncodable}
 use Rattle.sdb_codec.proofs.RecordLaws.{key_apart}
-use Rattle.sdb_sqlite.specs.Spans.{partition_key, table_fits}
+use Rattle.sdb_sqlite.specs.Spans.{partition_key, table_is_encodable}
 
 -- the bytes of keys are equal exactly where the keys are
-pub same_key : (q a : Key) → key_fits q → key_fits a → KeyFitsFields q → KeyFitsFields a → bytes_eq (key_bytes a) (key_bytes q) ≡ is_eq (key_cmp q a)
+pub same_key : (q a : Key) → key_fits q → key_fits a → KeyIsEncodable q → KeyIsEncodable a → bytes_eq (key_bytes a) (key_bytes q) ≡ is_eq (key_cmp q a)
 same_key q a known also fits fit =
     let ties = order_decides key_total key_exact q a in
     one_answer {P = q ≡ a} (bytes_eq (key_bytes a) (key_bytes q)) (is_eq (key_cmp q a))
@@ -30,7 +30,7 @@ same_key q a known also fits fit =
     ties
 
 -- the texts of tables are equal exactly where the tables are
-pub same_table : (s t : TableName) → table_fits s → table_fits t → bytes_eq (table_text t) (table_text s) ≡ is_eq (table_cmp s t)
+pub same_table : (s t : TableName) → table_is_encodable s → table_is_encodable t → bytes_eq (table_text t) (table_text s) ≡ is_eq (table_cmp s t)
 same_table s t known also =
     let ties = order_decides table_total table_exact s t in
     let back : is_eq (table_cmp t s) ≡ bytes_eq (table_text t) (table_text s) = ap is_eq (sym (by_text t s also.0 known.0)) ∙ is_eq-slice_cmp (table_text t) (table_text s) in
@@ -40,11 +40,11 @@ same_table s t known also =
 pub partition_known : (key : Key) → key_fits key → key_fits (partition_key key.table key.partition)
 partition_known key known = record { ns = known.ns; table = known.table; partition = known.partition; clustering = All-nil value_fits }
 
-pub partition_fits : (key : Key) → KeyFitsFields key → KeyFitsFields (partition_key key.table key.partition)
-partition_fits key fits = record { partition = fits.partition; clustering = record { count = omega arith; lengths = All-nil ValueFitsField } }
+pub partition_fits : (key : Key) → KeyIsEncodable key → KeyIsEncodable (partition_key key.table key.partition)
+partition_fits key fits = record { partition = fits.partition; clustering = record { count = omega arith; lengths = All-nil ValueIsEncodable } }
 
 -- a row of a partition is told by its table's text and its partition's bytes
-pub same_span : (table : TableName) (part : List Cell) (key : Key) → table_fits table → All value_fits part → KeyFitsFields (partition_key table part) → key_fits key → KeyFitsFields key
+pub same_span : (table : TableName) (part : List Cell) (key : Key) → table_is_encodable table → All value_fits part → KeyIsEncodable (partition_key table part) → key_fits key → KeyIsEncodable key
     → (bytes_eq (table_text key.table) (table_text table) && bytes_eq (key_bytes (partition_key key.table key.partition)) (key_bytes (partition_key table part))) ≡ in_span (record { table = table; partition = Some part }) key
 same_span table part key t p fits known also =
     let q = partition_key table part in

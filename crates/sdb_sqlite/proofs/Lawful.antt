@@ -59,7 +59,7 @@ found_lawful q (Err s) h = stopped_lawful (Get q) s
 
 pub get_lawful : {S : Type 0} (g : Ghosts S) (q : Key) (old new : Connected S) (found : Result (Option Record) Stopped) → Gets g q old new found → CanAnswer (Get q) (got_reply found)
 get_lawful g q old new found (inl unfit) = subst (λ (r : Result (Option Record) Stopped). CanAnswer (Get q) (got_reply r)) (sym unfit.2) tt
-get_lawful g q old new found (inr (fits, inl starved)) = subst (λ (r : Result (Option Record) Stopped). CanAnswer (Get q) (got_reply r)) (sym starved.1) tt
+get_lawful g q old new found (inr (fits, inl out_of_memory)) = subst (λ (r : Result (Option Record) Stopped). CanAnswer (Get q) (got_reply r)) (sym out_of_memory.1) tt
 get_lawful g q old new found (inr (fits, inr got)) = found_lawful q found (got_own g q old new found got)
 
 ---- scans
@@ -115,7 +115,7 @@ rows_lawful span (Err s) h = stopped_lawful (Scan span) s
 
 pub scan_lawful : {S : Type 0} (g : Ghosts S) (span : Span) (old new : Connected S) (result : Result (List Record) Stopped) → Scans g span old new result → CanAnswer (Scan span) (rows_reply result)
 scan_lawful g span old new result (inl unfit) = subst (λ (r : Result (List Record) Stopped). CanAnswer (Scan span) (rows_reply r)) (sym unfit.2) tt
-scan_lawful g span old new result (inr (inl starved)) = subst (λ (r : Result (List Record) Stopped). CanAnswer (Scan span) (rows_reply r)) (sym starved.1) tt
+scan_lawful g span old new result (inr (inl out_of_memory)) = subst (λ (r : Result (List Record) Stopped). CanAnswer (Scan span) (rows_reply r)) (sym out_of_memory.1) tt
 scan_lawful g span old new result (inr (inr (fits, got))) = rows_lawful span result (listed_lawful span got.answer result got.listed)
 
 ---- puts and deletes
@@ -134,7 +134,7 @@ same_ok c k due result e h = subst (λ (r : Result Written Stopped). IfOk r (unm
 
 over_ok : {S : Type 0} (g : Ghosts S) (r : Record) (c : Condition) (old new : Connected S) (result : Result Written Stopped) (found : Option Record) → IfSome found (λ s. s.key ≡ r.key) → PutsOver g r c old new result found → IfOk result (unmet_or c r.key)
 over_ok g r c old new result found own (inl unmet) = same_ok c r.key (Ok (NotMet found)) result unmet.2 (own, unmet.0)
-over_ok g r c old new result found own (inr (h, inl starved)) = same_ok c r.key (Err stopped.NoMemory) result starved.1 tt
+over_ok g r c old new result found own (inr (h, inl out_of_memory)) = same_ok c r.key (Err stopped.NoMemory) result out_of_memory.1 tt
 over_ok g r c old new result found own (inr (h, inr w)) = same_ok c r.key (written_by w.answer) result w.due (written_ok c r.key w.answer)
 
 there_ok : {S : Type 0} (g : Ghosts S) (k : Key) (c : Condition) (old new : Connected S) (result : Result Written Stopped) (found : Option Record) → RemovesThere g k old new result found → IfOk result (unmet_or c k)
@@ -162,12 +162,12 @@ delete_reply_lawful k c (Err s) h = stopped_lawful (DeleteIf k c) s
 
 pub put_lawful : {S : Type 0} (g : Ghosts S) (r : Record) (c : Condition) (old new : Connected S) (result : Result Written Stopped) → Puts g r c old new result → CanAnswer (PutIf r c) (write_reply result)
 put_lawful g r c old new result (inl unfit) = put_reply_lawful r c result (same_ok c r.key (Err stopped.Unfit) result unfit.2 tt)
-put_lawful g r c old new result (inr (fits, inl starved)) = put_reply_lawful r c result (same_ok c r.key (Err stopped.NoMemory) result starved.1 tt)
+put_lawful g r c old new result (inr (fits, inl out_of_memory)) = put_reply_lawful r c result (same_ok c r.key (Err stopped.NoMemory) result out_of_memory.1 tt)
 put_lawful g r c old new result (inr (fits, inr put)) =
     put_reply_lawful r c result (follows_ok c r.key put.mid new result (PutsOver g r c put.mid new result) put.found (got_own g r.key old put.mid put.found put.got) (λ o own next. over_ok g r c put.mid new result o own next) put.next)
 
 pub delete_lawful : {S : Type 0} (g : Ghosts S) (k : Key) (c : Condition) (old new : Connected S) (result : Result Written Stopped) → Removes g k c old new result → CanAnswer (DeleteIf k c) (write_reply result)
 delete_lawful g k c old new result (inl unfit) = delete_reply_lawful k c result (same_ok c k (Err stopped.Unfit) result unfit.2 tt)
-delete_lawful g k c old new result (inr (fits, inl starved)) = delete_reply_lawful k c result (same_ok c k (Err stopped.NoMemory) result starved.1 tt)
+delete_lawful g k c old new result (inr (fits, inl out_of_memory)) = delete_reply_lawful k c result (same_ok c k (Err stopped.NoMemory) result out_of_memory.1 tt)
 delete_lawful g k c old new result (inr (fits, inr gone)) =
     delete_reply_lawful k c result (follows_ok c k gone.mid new result (RemovesOver g k c gone.mid new result) gone.found (got_own g k old gone.mid gone.found gone.got) (λ o own next. gone_ok g k c gone.mid new result o own next) gone.next)

@@ -15,8 +15,8 @@ use Rattle.sqlite.specs.State.{State, Executes, mode_of}
 use Rattle.sqlite.proofs.Callers.{IsPlain, command_of, statement_of, runs_as}
 use Rattle.sdb_sqlite.specs.Statements.{make_table, make_index}
 use Rattle.sdb_sqlite.specs.Table.{records, by_partition, no_schema, table_schema, records_schema}
-use Rattle.sdb_sqlite.specs.Kept.{IsBlank, IsKeptBy, IsKept, IsFormed, held}
-use Rattle.sdb_sqlite.specs.Rows.{held_in}
+use Rattle.sdb_sqlite.specs.Database.{IsBlank, HasForm, HasTable, IsFormed, contents_of_state}
+use Rattle.sdb_sqlite.specs.Rows.{contents_of_rows}
 use Rattle.sdb_sqlite.specs.Making.{IsMade}
 use Rattle.sdb_sqlite.proofs.Texts.{make_is, make_plain, created_is, made_table, made_table_plain, made_both, made_both_plain, index_is, index_plain, indexed_is, index_again, index_again_plain}
 use Rattle.sdb_sqlite.proofs.Queries.{unchanged_keeps}
@@ -24,7 +24,7 @@ use Rattle.sdb_sqlite.proofs.Writes.{went, same_value}
 use Rattle.sdb_sqlite.proofs.Gets.{IsSure}
 
 -- the table is made
-makes_table : (old new : State) (count : ℕ) → IsBlank old → new.step_limit ≡ old.step_limit → Executes make_table [] old new (Ok count) → IsKeptBy table_schema new × (new.now.trees 0 ≡ [])
+makes_table : (old new : State) (count : ℕ) → IsBlank old → new.step_limit ≡ old.step_limit → Executes make_table [] old new (Ok count) → HasForm table_schema new × (new.now.trees 0 ≡ [])
 makes_table old new count it limit h =
     let w = runs_as make_table [] old new no_schema it.schema CreateTable make_is.0 make_plain count h in
     let all = went w.changed in
@@ -49,14 +49,14 @@ makes_table old new count it limit h =
     )
 
 -- a text that does nothing leaves all
-nothing_keeps : {schema : Schema} (text : List ℕ) (is : command_of (understood schema text) ≡ Nothing) (plain : IsPlain (understood schema text)) (old new : State) (count : ℕ) → IsKeptBy schema old → new.step_limit ≡ old.step_limit
-    → Executes text [] old new (Ok count) → IsKeptBy schema new × (new.now ≡ old.now)
+nothing_keeps : {schema : Schema} (text : List ℕ) (is : command_of (understood schema text) ≡ Nothing) (plain : IsPlain (understood schema text)) (old new : State) (count : ℕ) → HasForm schema old → new.step_limit ≡ old.step_limit
+    → Executes text [] old new (Ok count) → HasForm schema new × (new.now ≡ old.now)
 nothing_keeps {schema} text is plain old new count it limit h =
     let ran = runs_as text [] old new schema it.schema Nothing is plain count h in
     unchanged_keeps old new it ran.0 limit
 
 -- the index is made
-makes_index : (old new : State) (count : ℕ) → IsKeptBy table_schema old → new.step_limit ≡ old.step_limit → Executes make_index [] old new (Ok count) → IsKept new × (new.now.trees 0 ≡ old.now.trees 0)
+makes_index : (old new : State) (count : ℕ) → HasForm table_schema old → new.step_limit ≡ old.step_limit → Executes make_index [] old new (Ok count) → HasTable new × (new.now.trees 0 ≡ old.now.trees 0)
 makes_index old new count it limit h =
     let w = runs_as make_index [] old new table_schema it.schema (CreateIndex 0) index_is.0 index_plain count h in
     let text = statement_of make_index (understood table_schema make_index) in
@@ -80,26 +80,26 @@ makes_index old new count it limit h =
     )
 
 module _ {S : Type 0} (g : Ghosts S) (sure : (c : Connected S) → IsSure g c) (old new : Connected S) (made : IsMade g old new) where
-  indexed_told : IsKeptBy table_schema (state g made.mid) → IsKept (state g new) × (held (state g new) ≡ held (state g made.mid))
+  indexed_told : HasForm table_schema (state g made.mid) → HasTable (state g new) × (contents_of_state (state g new) ≡ contents_of_state (state g made.mid))
   indexed_told it =
       let done = makes_index (state g made.mid) (state g new) made.more it made.index.limit (made.index.runs (sure new).1) in
-      (done.0, ap held_in done.1)
+      (done.0, ap contents_of_rows done.1)
 
-  pub blank_told : IsBlank (state g old) → IsKept (state g new) × (held (state g new) ≡ map.empty)
+  pub blank_told : IsBlank (state g old) → HasTable (state g new) × (contents_of_state (state g new) ≡ map.empty)
   blank_told it =
       let first = makes_table (state g old) (state g made.mid) made.rows it made.table.limit (made.table.runs (sure made.mid).1) in
       let then_index = indexed_told first.0 in
-      (then_index.0, then_index.1 ∙ ap held_in first.1)
+      (then_index.0, then_index.1 ∙ ap contents_of_rows first.1)
 
-  pub found_told : IsFormed (state g old) → IsKept (state g new) × (held (state g new) ≡ held (state g old))
+  pub found_told : IsFormed (state g old) → HasTable (state g new) × (contents_of_state (state g new) ≡ contents_of_state (state g old))
   found_told (inl it) =
       let first = nothing_keeps make_table made_table made_table_plain (state g old) (state g made.mid) made.rows it made.table.limit (made.table.runs (sure made.mid).1) in
       let then_index = indexed_told first.0 in
-      (then_index.0, then_index.1 ∙ ap (λ (d : Database). held_in (d.trees 0)) first.1)
+      (then_index.0, then_index.1 ∙ ap (λ (d : Database). contents_of_rows (d.trees 0)) first.1)
   found_told (inr it) =
       let first = nothing_keeps make_table made_both made_both_plain (state g old) (state g made.mid) made.rows it made.table.limit (made.table.runs (sure made.mid).1) in
       let second = nothing_keeps make_index index_again index_again_plain (state g made.mid) (state g new) made.more first.0 made.index.limit (made.index.runs (sure new).1) in
-      (second.0, ap (λ (d : Database). held_in (d.trees 0)) (second.1 ∙ first.1))
+      (second.0, ap (λ (d : Database). contents_of_rows (d.trees 0)) (second.1 ∙ first.1))
 
 ---- a new database in memory
 

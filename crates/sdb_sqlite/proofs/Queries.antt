@@ -26,8 +26,8 @@ use Rattle.sqlite.specs.State.{State, Shown, FailsToQuery, IsNotRun, IsUnchanged
 use Rattle.sqlite.proofs.Callers.{IsPlain}
 use Rattle.sdb_types.specs.declared.key.Key.{Key}
 use Rattle.sdb_sqlite.specs.Table.{records_schema}
-use Rattle.sdb_sqlite.specs.Rows.{IsTied, rows_at}
-use Rattle.sdb_sqlite.specs.Kept.{IsKeptBy, IsKept}
+use Rattle.sdb_sqlite.specs.Rows.{IsRowOfStore, rows_at}
+use Rattle.sdb_sqlite.specs.Database.{HasForm, HasTable}
 use Rattle.sdb_sqlite.proofs.Texts.{selected}
 
 ---- what passes
@@ -76,12 +76,12 @@ answered db terms shown params rows h =
 ---- what stays
 
 -- the contents stay where nothing changed, and where a failure rolled back
-pub unchanged_keeps : {schema : Schema} (old new : State) → IsKeptBy schema old → IsUnchanged old new → new.step_limit ≡ old.step_limit → IsKeptBy schema new × (new.now ≡ old.now)
+pub unchanged_keeps : {schema : Schema} (old new : State) → HasForm schema old → IsUnchanged old new → new.step_limit ≡ old.step_limit → HasForm schema new × (new.now ≡ old.now)
 unchanged_keeps old new it same limit =
     let now = same.0.now_is in (
       record {
         schema = ap (λ (d : Database). d.schema) now ∙ it.schema;
-        rows = subst (λ (d : Database). AllByRecursion IsTied (d.trees 0)) (sym now) it.rows;
+        rows = subst (λ (d : Database). AllByRecursion IsRowOfStore (d.trees 0)) (sym now) it.rows;
         numbered = subst (λ (d : Database). IsTable (d.trees 0)) (sym now) it.numbered;
         once = subst (λ (d : Database). (key : Key) → length (rows_at key (d.trees 0)) ≤ 1) (sym now) it.once;
         settled = same.0.committed_is ∙ it.settled ∙ sym now;
@@ -91,12 +91,12 @@ unchanged_keeps old new it same limit =
       now,
     )
 
-pub undone_keeps : {schema : Schema} (old new : State) → IsKeptBy schema old → IsRolledBack old new → IsTrue new.is_open → new.step_limit ≡ old.step_limit → IsKeptBy schema new × (new.now ≡ old.now)
+pub undone_keeps : {schema : Schema} (old new : State) → HasForm schema old → IsRolledBack old new → IsTrue new.is_open → new.step_limit ≡ old.step_limit → HasForm schema new × (new.now ≡ old.now)
 undone_keeps old new it back is_open limit =
     let now : new.now ≡ old.now = (back.undone is_open).0 ∙ it.settled in (
       record {
         schema = ap (λ (d : Database). d.schema) now ∙ it.schema;
-        rows = subst (λ (d : Database). AllByRecursion IsTied (d.trees 0)) (sym now) it.rows;
+        rows = subst (λ (d : Database). AllByRecursion IsRowOfStore (d.trees 0)) (sym now) it.rows;
         numbered = subst (λ (d : Database). IsTable (d.trees 0)) (sym now) it.numbered;
         once = subst (λ (d : Database). (key : Key) → length (rows_at key (d.trees 0)) ≤ 1) (sym now) it.once;
         settled = (back.undone is_open).1 ∙ it.settled ∙ sym now;
@@ -107,14 +107,14 @@ undone_keeps old new it back is_open limit =
     )
 
 -- A query of a plain text leaves what the database holds, whatever it answers.
-module _ (text : List ℕ) (plain_text : IsPlain (understood records_schema text)) (params : Row) (old new : State) (it : IsKept old) (limit : new.step_limit ≡ old.step_limit) where
-  shown_keeps : (rows : List Row) → Shown text params old new rows → IsKept new × (new.now ≡ old.now)
+module _ (text : List ℕ) (plain_text : IsPlain (understood records_schema text)) (params : Row) (old new : State) (it : HasTable old) (limit : new.step_limit ≡ old.step_limit) where
+  shown_keeps : (rows : List Row) → Shown text params old new rows → HasTable new × (new.now ≡ old.now)
   unfolding Shown
   shown_keeps rows h =
       let plain = subst IsPlain (ap (λ s. understood s text) (sym it.schema) ∙ h.1.is) plain_text in
       unchanged_keeps old new it (rw plain.0 at h.2).3 limit
 
-  failed_keeps : (e : Error) → IsTrue new.is_open → FailsToQuery text params old new e → IsKept new × (new.now ≡ old.now)
+  failed_keeps : (e : Error) → IsTrue new.is_open → FailsToQuery text params old new e → HasTable new × (new.now ≡ old.now)
   unfolding FailsToQuery IsNotRun
   failed_keeps e is_open (inl (inl h)) = unchanged_keeps old new it h.1 limit
   failed_keeps e is_open (inl (inr h)) = undone_keeps old new it h.3 is_open limit
@@ -122,6 +122,6 @@ module _ (text : List ℕ) (plain_text : IsPlain (understood records_schema text
       let plain = subst IsPlain (ap (λ s. understood s text) (sym it.schema) ∙ h.1.is) plain_text in
       unchanged_keeps old new it (rw plain.0 at h.2).3 limit
 
-  pub query_keeps : (answer : Result (List Row) Error) → IsTrue new.is_open → MatchResult answer (Shown text params old new) (FailsToQuery text params old new) → IsKept new × (new.now ≡ old.now)
+  pub query_keeps : (answer : Result (List Row) Error) → IsTrue new.is_open → MatchResult answer (Shown text params old new) (FailsToQuery text params old new) → HasTable new × (new.now ≡ old.now)
   query_keeps (Ok rows) is_open h = shown_keeps rows h
   query_keeps (Err e) is_open h = failed_keeps e is_open h

@@ -14,13 +14,13 @@ use Rattle.sdb_types.proofs.KeyOrder.{key_total}
 use Rattle.sdb_codec.specs.Spelling.{key_bytes}
 use Rattle.sdb_codec.specs.Reading.{record_in}
 use Rattle.sdb_sqlite.specs.Spans.{partition_key}
-use Rattle.sdb_sqlite.specs.Rows.{IsTied, stored, row_key, entry_of, own_columns, has_key, rows_at, held_in}
-use Rattle.sdb_sqlite.specs.Kept.{IsKept, held}
-use Rattle.sdb_sqlite.specs.Released.{IsRowOf, IsHeldIn, IsReleased}
+use Rattle.sdb_sqlite.specs.Rows.{IsRowOfStore, stored, row_key, entry_of, own_columns, has_key, rows_at, contents_of_rows}
+use Rattle.sdb_sqlite.specs.Database.{HasTable, contents_of_state}
+use Rattle.sdb_sqlite.specs.Released.{IsRowOf, IsContainedIn, IsReleased}
 use Rattle.sdb_sqlite.proofs.Gets.{tied_key, of_key, held_at}
 use Rattle.sdb_sqlite.proofs.Lists.{passed}
 
-row_of : (key : Key) (row : Row) → IsTied row → has_key key row ≡ true → IsRowOf (record_of (key, (entry_of row).1)) row
+row_of : (key : Key) (row : Row) → IsRowOfStore row → has_key key row ≡ true → IsRowOf (record_of (key, (entry_of row).1)) row
 row_of key row it has =
     let same : key ≡ it.key = of_key key row has ∙ tied_key row it in
     let body : bytes (column row 4) ≡ it.body = ap (λ r. bytes (column r 4)) it.is in
@@ -33,16 +33,16 @@ row_of key row it has =
 
 ---- one row for each record
 
-each_of : (key : Key) (rows xs : List Row) → rows_at key rows ≡ xs → AllByRecursion (λ x. IsTied x × (has_key key x ≡ true)) xs → length xs ≤ 1
+each_of : (key : Key) (rows xs : List Row) → rows_at key rows ≡ xs → AllByRecursion (λ x. IsRowOfStore x × (has_key key x ≡ true)) xs → length xs ≤ 1
     → IfSome (option_map (λ columns. record_of (key, columns)) (option_map (λ row. (entry_of row).1) (slice_get xs 0))) (λ r. (row : Row) × (rows_at key rows ≡ row ∷ []) × IsRowOf r row)
 each_of key rows [] is all few = tt
 each_of key rows (x ∷ []) is all few = (x, is, row_of key x all.0.0 all.0.1)
 each_of key rows (x ∷ y ∷ xs) is all few = absurd (omega arith)
 
-each_row : (key : Key) (rows : List Row) → AllByRecursion IsTied rows → length (rows_at key rows) ≤ 1 → IfSome (record_at (held_in rows) key) (λ r. (row : Row) × (rows_at key rows ≡ row ∷ []) × IsRowOf r row)
+each_row : (key : Key) (rows : List Row) → AllByRecursion IsRowOfStore rows → length (rows_at key rows) ≤ 1 → IfSome (record_at (contents_of_rows rows) key) (λ r. (row : Row) × (rows_at key rows ≡ row ∷ []) × IsRowOf r row)
 each_row key rows all few =
     subst (λ (o : Option (List Pair)). IfSome (option_map (λ columns. record_of (key, columns)) o) (λ r. (row : Row) × (rows_at key rows ≡ row ∷ []) × IsRowOf r row)) (sym (held_at key rows))
-    (each_of key rows (rows_at key rows) refl (passed IsTied (has_key key) rows all) few)
+    (each_of key rows (rows_at key rows) refl (passed IsRowOfStore (has_key key) rows all) few)
 
 ---- no other row
 
@@ -61,7 +61,7 @@ first_passes p (y ∷ front) back x h few =
       | false ↦ λ one. first_passes p front back x h one
     ] few
 
-held_row : (front back : List Row) (x : Row) → IsTied x → ((key : Key) → length (rows_at key (front ++ x ∷ back)) ≤ 1) → IsHeldIn (held_in (front ++ x ∷ back)) x
+held_row : (front back : List Row) (x : Row) → IsRowOfStore x → ((key : Key) → length (rows_at key (front ++ x ∷ back)) ≤ 1) → IsContainedIn (contents_of_rows (front ++ x ∷ back)) x
 held_row front back x it once =
     let key = row_key x in
     let has : has_key key x ≡ true = ap is_eq (tied_itself key_total key) in
@@ -69,16 +69,16 @@ held_row front back x it once =
     let at = ap (λ (o : Option (List Pair)). option_map (λ columns. record_of (key, columns)) o) (held_at key (front ++ x ∷ back) ∙ ap (option_map (λ row. (entry_of row).1)) first) in
     (record_of (key, (entry_of x).1), at, row_of key x it has)
 
-each_held : (front back : List Row) → AllByRecursion IsTied back → ((key : Key) → length (rows_at key (front ++ back)) ≤ 1) → AllByRecursion (IsHeldIn (held_in (front ++ back))) back
+each_held : (front back : List Row) → AllByRecursion IsRowOfStore back → ((key : Key) → length (rows_at key (front ++ back)) ≤ 1) → AllByRecursion (IsContainedIn (contents_of_rows (front ++ back))) back
 each_held front [] all once = tt
 each_held front (x ∷ back) all once =
     let same = append_assoc front (x ∷ []) back in (
       held_row front back x all.0 once,
-      subst (λ (rows : List Row). AllByRecursion (IsHeldIn (held_in rows)) back) same
+      subst (λ (rows : List Row). AllByRecursion (IsContainedIn (contents_of_rows rows)) back) same
           (each_held (front ++ x ∷ []) back all.1 (λ key. subst (λ (rows : List Row). length (rows_at key rows) ≤ 1) (sym same) (once key))),
     )
 
-pub released : {S : Type 0} (g : Ghosts S) (connection : Connected S) → IsKept (state g connection) → IsReleased g (held (state g connection)) connection
+pub released : {S : Type 0} (g : Ghosts S) (connection : Connected S) → HasTable (state g connection) → IsReleased g (contents_of_state (state g connection)) connection
 released g connection it =
     let rows = (state g connection).now.trees 0 in
     record {

@@ -12,16 +12,16 @@ use Rattle.sdb_sqlite.specs.declared.calls.Written.TheVariants.{Applied, NotMet}
 use Rattle.sdb_sqlite.specs.Asked.{write_reply}
 use Rattle.sdb_sqlite.specs.declared.refused.Stopped.{Stopped}
 use Rattle.sdb_sqlite.specs.Stopping.{stop_reply}
-use Rattle.sdb_sqlite.specs.Kept.{PerformsIn, kept_state}
+use Rattle.sdb_sqlite.specs.Database.{PerformsIn, store_state_of}
 use Rattle.sdb_sqlite.proofs.Lawful.{stopped_lawful}
 
 -- a call that is answered, as a call of a store
 pub answered_call : {S : Type 0} (g : Ghosts S) (tells : Bool) (q : Request) (old new : Connected S) (r due : Reply) (faults now calls later : ℕ) → r ≡ due → CanAnswer q due → now ≡ faults_after due faults → later ≡ next_number calls → PerformsIn g tells q due old new
-    → IsStoreCall q r (kept_state g tells old faults calls) (kept_state g tells new now later)
+    → IsStoreCall q r (store_state_of g tells old faults calls) (store_state_of g tells new now later)
 answered_call g tells q old new r due faults now calls later is lawful cause counted performs =
-    subst (λ (x : Reply). IsStoreCall q x (kept_state g tells old faults calls) (kept_state g tells new now later)) (sym is)
+    subst (λ (x : Reply). IsStoreCall q x (store_state_of g tells old faults calls) (store_state_of g tells new now later)) (sym is)
     (record {
-      telling = λ h. (h.0, (performs h).kept);
+      where_known = λ h. (h.0, (performs h).kept);
       performed = λ h. (performs h).performed;
       lawful = lawful;
       counted = counted;
@@ -35,6 +35,6 @@ written_cause (NotMet found) n = refl
 
 -- a call that stops is answered as such, and its fault is counted
 pub stopped_call : {S : Type 0} (g : Ghosts S) (tells : Bool) (q : Request) (old new : Connected S) (s : Stopped) (r : Reply) (before now calls later : ℕ) → r ≡ stop_reply s → now ≡ faults_after r before → later ≡ next_number calls
-    → PerformsIn g tells q (stop_reply s) old new → IsStoreCall q r (kept_state g tells old before calls) (kept_state g tells new now later)
+    → PerformsIn g tells q (stop_reply s) old new → IsStoreCall q r (store_state_of g tells old before calls) (store_state_of g tells new now later)
 stopped_call g tells q old new s r before now calls later is count counted performs =
     answered_call g tells q old new r (stop_reply s) before now calls later is (stopped_lawful q s) (count ∙ ap (λ (x : Reply). faults_after x before) is) counted performs

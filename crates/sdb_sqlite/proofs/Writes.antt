@@ -30,12 +30,12 @@ use Rattle.sdb_types.specs.declared.key.Key.{Key}
 use Rattle.sdb_types.specs.declared.record.Record.{Record}
 use Rattle.sdb_types.specs.Order.{table_text}
 use Rattle.sdb_types.specs.Fits.{key_fits, record_fits}
-use Rattle.sdb_codec.specs.Spelling.{key_bytes, record_bytes, KeyFitsFields, RecordFitsFields}
+use Rattle.sdb_codec.specs.Spelling.{key_bytes, record_bytes, KeyIsEncodable, RecordIsEncodable}
 use Rattle.sdb_sqlite.specs.Spans.{partition_key}
 use Rattle.sdb_sqlite.specs.Statements.{add_row, change_row, remove_row}
 use Rattle.sdb_sqlite.specs.Table.{records, records_schema}
-use Rattle.sdb_sqlite.specs.Rows.{stored, IsTied, has_key, rows_at, held_in}
-use Rattle.sdb_sqlite.specs.Kept.{IsKept, held}
+use Rattle.sdb_sqlite.specs.Rows.{stored, IsRowOfStore, has_key, rows_at, contents_of_rows}
+use Rattle.sdb_sqlite.specs.Database.{HasTable, contents_of_state}
 use Rattle.sdb_sqlite.proofs.Texts.{by_k, selected, insert_terms, insert_is, insert_plain, update_shown, update_is, update_plain, delete_shown, delete_is, delete_plain}
 use Rattle.sdb_sqlite.proofs.Lists.{few_permutation, passed}
 use Rattle.sdb_sqlite.proofs.Queries.{passes, answered, unchanged_keeps, undone_keeps, shown_by}
@@ -55,7 +55,7 @@ failed_leaves sql params old new e (inr h) =
       | inr runs ↦ elim (rw runs at h.2) [ inl it ↦ inl it.1 | inr it ↦ inr it.3 ]
     ]
 
-pub failed_keeps : (sql : List ℕ) (params : Row) (old new : State) (e : Error) → IsKept old → IsTrue new.is_open → new.step_limit ≡ old.step_limit → Executes sql params old new (Err e) → IsKept new × (new.now ≡ old.now)
+pub failed_keeps : (sql : List ℕ) (params : Row) (old new : State) (e : Error) → HasTable old → IsTrue new.is_open → new.step_limit ≡ old.step_limit → Executes sql params old new (Err e) → HasTable new × (new.now ≡ old.now)
 failed_keeps sql params old new e it is_open limit h = elim (failed_leaves sql params old new e h) [
   | inl same ↦ unchanged_keeps old new it same limit
   | inr back ↦ undone_keeps old new it back is_open limit
@@ -92,10 +92,10 @@ pub record Leaves (old new : State) (left : List Row) : Type 0 where
   pub mode : new.in_transaction ≡ false
 
 -- what is kept then
-kept_by : (old new : State) (rows : List Row) → IsKept old → new.step_limit ≡ old.step_limit → Leaves old new rows → AllByRecursion IsTied rows → IsTable rows → ((key : Key) → length (rows_at key rows) ≤ 1) → IsKept new
+kept_by : (old new : State) (rows : List Row) → HasTable old → new.step_limit ≡ old.step_limit → Leaves old new rows → AllByRecursion IsRowOfStore rows → IsTable rows → ((key : Key) → length (rows_at key rows) ≤ 1) → HasTable new
 kept_by old new rows it limit h tied up once = record {
   schema = h.schema;
-  rows = subst (AllByRecursion IsTied) (sym h.rows) tied;
+  rows = subst (AllByRecursion IsRowOfStore) (sym h.rows) tied;
   numbered = subst IsTable (sym h.rows) up;
   once = subst (λ (xs : List Row). (key : Key) → length (rows_at key xs) ≤ 1) (sym h.rows) once;
   settled = h.settled;
@@ -111,7 +111,7 @@ new_row r rows = row_of (next_rowid rows) r
 abbrev insert_params : Record → Row
 insert_params r = Blob (key_bytes r.key) ∷ Text (table_text r.key.table) ∷ Blob (key_bytes (partition_key r.key.table r.key.partition)) ∷ Blob (record_bytes r) ∷ []
 
-adds : (old new : State) (r : Record) (count : ℕ) → IsKept old → Executes add_row (insert_params r) old new (Ok count)
+adds : (old new : State) (r : Record) (count : ℕ) → HasTable old → Executes add_row (insert_params r) old new (Ok count)
     → Leaves old new (put_row (new_row r (old.now.trees 0)) (old.now.trees 0)) × (is_taken (old.now.trees 0) (new_row r (old.now.trees 0)) ≡ false)
 adds old new r count it h =
     let params = insert_params r in
@@ -141,8 +141,8 @@ adds old new r count it h =
     )
 
 -- An INSERT of a record leaves the map with the record, where it had none of its key.
-pub insert_told : (old new : State) (r : Record) (count : ℕ) → IsKept old → record_fits r → RecordFitsFields r → new.step_limit ≡ old.step_limit → rows_at r.key (old.now.trees 0) ≡ [] → Executes add_row (insert_params r) old new (Ok count)
-    → IsKept new × (held new ≡ insert (held old) r.key r.columns)
+pub insert_told : (old new : State) (r : Record) (count : ℕ) → HasTable old → record_fits r → RecordIsEncodable r → new.step_limit ≡ old.step_limit → rows_at r.key (old.now.trees 0) ≡ [] → Executes add_row (insert_params r) old new (Ok count)
+    → HasTable new × (contents_of_state new ≡ insert (contents_of_state old) r.key r.columns)
 insert_told old new r count it known fits limit none h =
     let rows = old.now.trees 0 in
     let x = new_row r rows in
@@ -151,13 +151,13 @@ insert_told old new r count it known fits limit none h =
     let is = row_key_is id r known fits in
     let own = added_own rows x r.key is none a.1 in
     let other = added_other rows x r.key is none a.1 in (
-      kept_by old new (put_row x rows) it limit a.0 (all-put_row IsTied x rows (row_tied id r known fits) it.rows) (IsTable-put_row x rows it.numbered) (once_after rows (put_row x rows) x (x ∷ []) (omega arith) it.once own other),
-      ap held_in a.0.rows ∙ inserted rows (put_row x rows) x own other ∙ (λ i. insert (held old) (is i) (row_columns_are id r known fits i)),
+      kept_by old new (put_row x rows) it limit a.0 (all-put_row IsRowOfStore x rows (row_tied id r known fits) it.rows) (IsTable-put_row x rows it.numbered) (once_after rows (put_row x rows) x (x ∷ []) (omega arith) it.once own other),
+      ap contents_of_rows a.0.rows ∙ inserted rows (put_row x rows) x own other ∙ (λ i. insert (contents_of_state old) (is i) (row_columns_are id r known fits i)),
     )
 
 ---- the one row that a query by key shows
 
-one_shown : (db : Trees) (shown : List Term) (q : Key) (others : Row) (y : Row) (rows : List Row) → key_fits q → KeyFitsFields q → AllByRecursion IsTied (db 0) → rows_at q (db 0) ≡ y ∷ []
+one_shown : (db : Trees) (shown : List Term) (q : Key) (others : Row) (y : Row) (rows : List Row) → key_fits q → KeyIsEncodable q → AllByRecursion IsRowOfStore (db 0) → rows_at q (db 0) ≡ y ∷ []
     → IsProgramAnswer [] (selected by_k shown) db (Blob (key_bytes q) ∷ others) rows → rows ≡ shown_by by_k shown (Blob (key_bytes q) ∷ others) y ∷ []
 one_shown db shown q others y rows known fits tied one h =
     let params = Blob (key_bytes q) ∷ others in
@@ -166,7 +166,7 @@ one_shown db shown q others y rows known fits tied one h =
 
 ---- the UPDATE
 
-updates : (old new : State) (q : Key) (id : ℤ) (t p b c : List ℕ) (count : ℕ) → IsKept old → key_fits q → KeyFitsFields q → rows_at q (old.now.trees 0) ≡ stored id (key_bytes q) t p b ∷ [] → Executes change_row (Blob (key_bytes q) ∷ Blob c ∷ []) old new (Ok count)
+updates : (old new : State) (q : Key) (id : ℤ) (t p b c : List ℕ) (count : ℕ) → HasTable old → key_fits q → KeyIsEncodable q → rows_at q (old.now.trees 0) ≡ stored id (key_bytes q) t p b ∷ [] → Executes change_row (Blob (key_bytes q) ∷ Blob c ∷ []) old new (Ok count)
     → Leaves old new (put_row (stored id (key_bytes q) t p c) (without_rowid id (old.now.trees 0)))
 updates old new q id t p b c count it known fits one h =
     let k = key_bytes q in
@@ -195,16 +195,16 @@ updates old new q id t p b c count it known fits one h =
 abbrev body_row : ℤ → Key → List ℕ → Row
 body_row id q body = stored id (key_bytes q) (table_text q.table) (key_bytes (partition_key q.table q.partition)) body
 
-the_row : (q : Key) (rows : List Row) (y : Row) → AllByRecursion IsTied rows → rows_at q rows ≡ y ∷ [] → (it : IsTied y) × (has_key q y ≡ true) × (y ≡ body_row it.id q it.body)
+the_row : (q : Key) (rows : List Row) (y : Row) → AllByRecursion IsRowOfStore rows → rows_at q rows ≡ y ∷ [] → (it : IsRowOfStore y) × (has_key q y ≡ true) × (y ≡ body_row it.id q it.body)
 the_row q rows y tied one =
-    let both = subst (AllByRecursion (λ x. IsTied x × (has_key q x ≡ true))) one (passed IsTied (has_key q) rows tied) in
-    let it : IsTied y = both.0.0 in
+    let both = subst (AllByRecursion (λ x. IsRowOfStore x × (has_key q x ≡ true))) one (passed IsRowOfStore (has_key q) rows tied) in
+    let it : IsRowOfStore y = both.0.0 in
     let same : it.key ≡ q = sym (of_key q y both.0.1 ∙ tied_key y it) in
     (it, both.0.1, it.is ∙ ap (λ (k : Key). body_row it.id k it.body) same)
 
 -- An UPDATE of a record's row leaves the map with the record.
-pub update_told : (old new : State) (r : Record) (y : Row) (count : ℕ) → IsKept old → record_fits r → RecordFitsFields r → new.step_limit ≡ old.step_limit → rows_at r.key (old.now.trees 0) ≡ y ∷ []
-    → Executes change_row (Blob (key_bytes r.key) ∷ Blob (record_bytes r) ∷ []) old new (Ok count) → IsKept new × (held new ≡ insert (held old) r.key r.columns)
+pub update_told : (old new : State) (r : Record) (y : Row) (count : ℕ) → HasTable old → record_fits r → RecordIsEncodable r → new.step_limit ≡ old.step_limit → rows_at r.key (old.now.trees 0) ≡ y ∷ []
+    → Executes change_row (Blob (key_bytes r.key) ∷ Blob (record_bytes r) ∷ []) old new (Ok count) → HasTable new × (contents_of_state new ≡ insert (contents_of_state old) r.key r.columns)
 update_told old new r y count it known fits limit one h =
     let rows = old.now.trees 0 in
     let there = the_row r.key rows y it.rows one in
@@ -218,13 +218,13 @@ update_told old new r y count it known fits limit one h =
     let own = changed_own rows it.numbered r.key z id refl of_z one_z x refl is in
     let other = changed_other rows it.numbered r.key z id refl of_z one_z x refl is in
     let news = put_row x (without_rowid id rows) in (
-      kept_by old new news it limit a (all-put_row IsTied x (without_rowid id rows) (row_tied id r known fits) (kept_tied id rows it.rows)) (IsTable-put_row x (without_rowid id rows) (kept_table id rows it.numbered)) (once_after rows news x (x ∷ []) (omega arith) it.once own other),
-      ap held_in a.rows ∙ inserted rows news x own other ∙ (λ i. insert (held old) (is i) (row_columns_are id r known fits i)),
+      kept_by old new news it limit a (all-put_row IsRowOfStore x (without_rowid id rows) (row_tied id r known fits) (kept_tied id rows it.rows)) (IsTable-put_row x (without_rowid id rows) (kept_table id rows it.numbered)) (once_after rows news x (x ∷ []) (omega arith) it.once own other),
+      ap contents_of_rows a.rows ∙ inserted rows news x own other ∙ (λ i. insert (contents_of_state old) (is i) (row_columns_are id r known fits i)),
     )
 
 ---- the DELETE
 
-deletes : (old new : State) (q : Key) (id : ℤ) (t p b : List ℕ) (count : ℕ) → IsKept old → key_fits q → KeyFitsFields q → rows_at q (old.now.trees 0) ≡ stored id (key_bytes q) t p b ∷ [] → Executes remove_row (Blob (key_bytes q) ∷ []) old new (Ok count)
+deletes : (old new : State) (q : Key) (id : ℤ) (t p b : List ℕ) (count : ℕ) → HasTable old → key_fits q → KeyIsEncodable q → rows_at q (old.now.trees 0) ≡ stored id (key_bytes q) t p b ∷ [] → Executes remove_row (Blob (key_bytes q) ∷ []) old new (Ok count)
     → Leaves old new (without_rowid id (old.now.trees 0))
 deletes old new q id t p b count it known fits one h =
     let k = key_bytes q in
@@ -250,8 +250,8 @@ deletes old new q id t p b count it known fits one h =
     }
 
 -- A DELETE of a key's row leaves the map without the key.
-pub delete_told : (old new : State) (q : Key) (y : Row) (count : ℕ) → IsKept old → key_fits q → KeyFitsFields q → new.step_limit ≡ old.step_limit → rows_at q (old.now.trees 0) ≡ y ∷ [] → Executes remove_row (Blob (key_bytes q) ∷ []) old new (Ok count)
-    → IsKept new × (held new ≡ remove (held old) q)
+pub delete_told : (old new : State) (q : Key) (y : Row) (count : ℕ) → HasTable old → key_fits q → KeyIsEncodable q → new.step_limit ≡ old.step_limit → rows_at q (old.now.trees 0) ≡ y ∷ [] → Executes remove_row (Blob (key_bytes q) ∷ []) old new (Ok count)
+    → HasTable new × (contents_of_state new ≡ remove (contents_of_state old) q)
 delete_told old new q y count it known fits limit one h =
     let rows = old.now.trees 0 in
     let there = the_row q rows y it.rows one in
@@ -264,5 +264,5 @@ delete_told old new q y count it known fits limit one h =
     let other = taken_other rows it.numbered q z id refl of_z one_z in
     let news = without_rowid id rows in (
       kept_by old new news it limit a (kept_tied id rows it.rows) (kept_table id rows it.numbered) (once_after rows news z [] (omega arith) it.once own other),
-      ap held_in a.rows ∙ removed rows news z own other ∙ ap (remove (held old)) (sym (of_key q z of_z)),
+      ap contents_of_rows a.rows ∙ removed rows news z own other ∙ ap (remove (contents_of_state old)) (sym (of_key q z of_z)),
     )

@@ -19,14 +19,14 @@ use Rattle.sdb_types.specs.declared.record.Reply.{Reply}
 use Rattle.sdb_types.specs.declared.record.Reply.TheVariants as reply
 use Rattle.sdb_types.specs.Order.{table_text}
 use Rattle.sdb_types.specs.Contents.{holds, in_span, rise}
-use Rattle.sdb_codec.specs.Spelling.{key_bytes, record_bytes, KeyFitsFields, RecordFitsFields}
+use Rattle.sdb_codec.specs.Spelling.{key_bytes, record_bytes, KeyIsEncodable, RecordIsEncodable}
 use Rattle.sdb_codec.specs.Reading.{key_in}
 use Rattle.sdb_sqlite.specs.declared.calls.Written.{Written}
 use Rattle.sdb_sqlite.specs.declared.calls.Written.TheVariants.{Applied, NotMet}
 use Rattle.sdb_sqlite.specs.declared.refused.Stopped.{Stopped}
 use Rattle.sdb_sqlite.specs.declared.refused.Stopped.TheVariants as stopped
 use Rattle.sdb_sqlite.specs.Stopping.{stopped_by, stop_reply}
-use Rattle.sdb_sqlite.specs.Spans.{partition_key, SpanFitsFields}
+use Rattle.sdb_sqlite.specs.Spans.{partition_key, SpanIsEncodable}
 use Rattle.sdb_sqlite.specs.Rows.{blob_of, record_of_body}
 use Rattle.sdb_sqlite.specs.Statements.{get_body, scan_table, scan_partition, add_row, change_row, remove_row}
 
@@ -50,8 +50,8 @@ abbrev pub IsDue : {X : Type 0} → Result X Stopped → Result X Stopped → Ty
 IsDue due result = (result ≡ due) ⊎ (result ≡ Err stopped.NoMemory)
 
 -- nothing was asked, since memory ran out before
-abbrev pub IsStarved : {S X : Type 0} → Connected S → Connected S → Result X Stopped → Type 0
-IsStarved old new result = (new ≡ old) × (result ≡ Err stopped.NoMemory)
+abbrev pub IsOutOfMemory : {S X : Type 0} → Connected S → Connected S → Result X Stopped → Type 0
+IsOutOfMemory old new result = (new ≡ old) × (result ≡ Err stopped.NoMemory)
 
 -- nothing was asked, since something does not fit its field
 abbrev pub IsUnfit : {S X : Type 0} → Type 0 → Connected S → Connected S → Result X Stopped → Type 0
@@ -79,7 +79,7 @@ pub record IsGot {S : Type 0} (g : Ghosts S) (key : Key) (old new : Connected S)
 
 -- A get of a key asks for the body of its row.
 abbrev pub Gets : {S : Type 0} → Ghosts S → Key → Connected S → Connected S → Result (Option Record) Stopped → Type 0
-Gets g key old new result = IsUnfit (KeyFitsFields key) old new result ⊎ (KeyFitsFields key × (IsStarved old new result ⊎ IsGot g key old new result))
+Gets g key old new result = IsUnfit (KeyIsEncodable key) old new result ⊎ (KeyIsEncodable key × (IsOutOfMemory old new result ⊎ IsGot g key old new result))
 
 ---- a scan
 
@@ -95,7 +95,7 @@ abbrev pub row_body : Key → Option (List ℕ) → Result Record Stopped
 row_body key None = Err stopped.Refused
 row_body key (Some body) = Ok (record_of_body key body)
 
--- a key that its bytes don't spell is a fault, and so is one outside the span
+-- a key that its bytes don't spell is a fault, and also one outside the span
 abbrev pub row_keyed : Span → Result Key ℕ → Option (List ℕ) → Result Record Stopped
 row_keyed span (Ok key) body = if in_span span key then row_body key body else Err stopped.Foreign
 row_keyed span (Err place) body = Err stopped.Foreign
@@ -146,7 +146,7 @@ pub record IsScanned {S : Type 0} (g : Ghosts S) (span : Span) (old new : Connec
 
 -- A scan of a span asks for the keys and bodies of the rows of its table, or of its partition.
 abbrev pub Scans : {S : Type 0} → Ghosts S → Span → Connected S → Connected S → Result (List Record) Stopped → Type 0
-Scans g span old new result = IsUnfit (SpanFitsFields span) old new result ⊎ (IsStarved old new result ⊎ (SpanFitsFields span × IsScanned g span old new result))
+Scans g span old new result = IsUnfit (SpanIsEncodable span) old new result ⊎ (IsOutOfMemory old new result ⊎ (SpanIsEncodable span × IsScanned g span old new result))
 
 ---- a put and a delete
 
@@ -162,7 +162,7 @@ pub record IsWritten {S : Type 0} (g : Ghosts S) (text : List ℕ) (params : Row
 
 -- one statement that writes, or none since memory ran out before
 abbrev pub Writes : {S : Type 0} → Ghosts S → List ℕ → Row → Connected S → Connected S → Result Written Stopped → Type 0
-Writes g text params old new result = IsStarved old new result ⊎ IsWritten g text params old new result
+Writes g text params old new result = IsOutOfMemory old new result ⊎ IsWritten g text params old new result
 
 abbrev pub put_text : Option Record → List ℕ
 put_text None = add_row
@@ -207,11 +207,11 @@ pub record IsRemoved {S : Type 0} (g : Ghosts S) (key : Key) (condition : Condit
 
 -- A put finds what is at its key, and writes in one statement where the condition holds of it.
 abbrev pub Puts : {S : Type 0} → Ghosts S → Record → Condition → Connected S → Connected S → Result Written Stopped → Type 0
-Puts g r condition old new result = IsUnfit (RecordFitsFields r) old new result ⊎ (RecordFitsFields r × (IsStarved old new result ⊎ IsPut g r condition old new result))
+Puts g r condition old new result = IsUnfit (RecordIsEncodable r) old new result ⊎ (RecordIsEncodable r × (IsOutOfMemory old new result ⊎ IsPut g r condition old new result))
 
 -- The same of a delete.
 abbrev pub Removes : {S : Type 0} → Ghosts S → Key → Condition → Connected S → Connected S → Result Written Stopped → Type 0
-Removes g key condition old new result = IsUnfit (KeyFitsFields key) old new result ⊎ (KeyFitsFields key × (IsStarved old new result ⊎ IsRemoved g key condition old new result))
+Removes g key condition old new result = IsUnfit (KeyIsEncodable key) old new result ⊎ (KeyIsEncodable key × (IsOutOfMemory old new result ⊎ IsRemoved g key condition old new result))
 
 ---- the reply of a call
 
@@ -228,6 +228,6 @@ write_reply (Ok Applied) = reply.Applied
 write_reply (Ok (NotMet found)) = reply.NotMet found
 write_reply (Err s) = stop_reply s
 
--- what became of a call is so, and the reply is the one to that
+-- what became of a call is that, and the reply is the one to that
 abbrev pub IsAnswered : {X : Type 0} → (X → Reply) → (X → Type 0) → Reply → Type 0
 IsAnswered {X} reply_to Is reply = (result : X) × Is result × (reply ≡ reply_to result)

@@ -4,7 +4,7 @@ pub mod Bodies
 pub mod Statements
 pub mod Table
 pub mod Rows
-pub mod Kept
+pub mod Database
 pub mod Released
 pub mod Asked
 pub mod Making

@@ -9,7 +9,7 @@ use Rattle.sdb_sqlite.specs.declared.refused.Stopped.{Stopped}
 use Rattle.sdb_sqlite.specs.declared.refused.Stopped.TheVariants as stopped
 use Rattle.sdb_sqlite.specs.Stopping.{stopped_by}
 use Rattle.sdb_sqlite.specs.Statements.{make_table, make_index}
-use Rattle.sdb_sqlite.specs.Kept.{IsBlank}
+use Rattle.sdb_sqlite.specs.Database.{IsBlank}
 use Rattle.sdb_sqlite.specs.Asked.{Ran}
 
 -- The table and its index were made, or were there.

@@ -11,7 +11,7 @@ use Rattle.sdb_types.specs.Contents.{Contents, record_at}
 use Rattle.sdb_codec.specs.Spelling.{key_bytes}
 use Rattle.sdb_sqlite.specs.Spans.{partition_key}
 use Rattle.sdb_sqlite.specs.Rows.{stored, record_of_body, rows_at}
-use Rattle.sdb_sqlite.specs.Kept.{IsFormed, held}
+use Rattle.sdb_sqlite.specs.Database.{IsFormed, contents_of_state}
 
 -- The row has the bytes of the record's key, the text of its table and the bytes of its partition, and its body is read as the record.
 pub record IsRowOf (r : Record) (row : Row) : Type 0 where
@@ -21,16 +21,16 @@ pub record IsRowOf (r : Record) (row : Row) : Type 0 where
   pub means : record_of_body r.key body ≡ r
 
 -- The row is that of a record that is held.
-abbrev pub IsHeldIn : Contents → Row → Type 0
-IsHeldIn contents row = (r : Record) × (record_at contents r.key ≡ Some r) × IsRowOf r row
+abbrev pub IsContainedIn : Contents → Row → Type 0
+IsContainedIn contents row = (r : Record) × (record_at contents r.key ≡ Some r) × IsRowOf r row
 
 -- For each record that is held there is one row, and there is no other row.
 pub record AreRowsOf (contents : Contents) (rows : List Row) : Type 0 where
   pub each : (key : Key) → IfSome (record_at contents key) (λ r. (row : Row) × (rows_at key rows ≡ row ∷ []) × IsRowOf r row)
-  pub other : AllByRecursion (IsHeldIn contents) rows
+  pub other : AllByRecursion (IsContainedIn contents) rows
 
 -- The database has the table with its index, whose rows are those of the records held. A store made over it holds the same.
 pub record IsReleased {S : Type 0} (g : Ghosts S) (contents : Contents) (connection : Connected S) : Type 0 where
   pub formed : IsFormed (state g connection)
   pub rows : AreRowsOf contents ((state g connection).now.trees 0)
-  pub same : held (state g connection) ≡ contents
+  pub same : contents_of_state (state g connection) ≡ contents

@@ -11,7 +11,7 @@ use Rattle.sdb_types.specs.declared.record.Record.{Record}
 use Rattle.sdb_types.specs.Order.{key_cmp, table_text}
 use Rattle.sdb_types.specs.Contents.{Contents}
 use Rattle.sdb_types.specs.Fits.{key_fits}
-use Rattle.sdb_codec.specs.Spelling.{key_bytes, KeyFitsFields}
+use Rattle.sdb_codec.specs.Spelling.{key_bytes, KeyIsEncodable}
 use Rattle.sdb_codec.specs.Reading.{key_in, record_in}
 use Rattle.sdb_sqlite.specs.Spans.{partition_key}
 
@@ -41,12 +41,12 @@ stored id k t p r = Int id ∷ Blob k ∷ Text t ∷ Blob p ∷ Blob r ∷ []
 
 -- The row is one that the store writes: it has a key that its bytes spell, the table and the partition of that key, and any
 -- body.
-pub record IsTied (row : Row) : Type 0 where
+pub record IsRowOfStore (row : Row) : Type 0 where
   pub id : ℤ
   pub key : Key
   pub body : List ℕ
   pub known : key_fits key
-  pub fits : KeyFitsFields key
+  pub fits : KeyIsEncodable key
   pub is : row ≡ stored id (key_bytes key) (table_text key.table) (key_bytes (partition_key key.table key.partition)) body
 
 -- the key that bytes spell, or one of no table where they spell none
@@ -61,8 +61,8 @@ abbrev pub entry_of : Row → Key × List Pair
 entry_of row = (row_key row, own_columns (row_key row) (record_in (bytes (column row 4))))
 
 -- what the rows hold
-abbrev pub held_in : List Row → Contents
-held_in rows = from_entries (map entry_of rows)
+abbrev pub contents_of_rows : List Row → Contents
+contents_of_rows rows = from_entries (map entry_of rows)
 
 abbrev pub has_key : Key → Row → Bool
 has_key key row = is_eq (key_cmp key (row_key row))
@@ -74,5 +74,5 @@ rows_at key rows = filter (has_key key) rows
 ---- a row of a scan's answer: the bytes of a key, and the body
 
 -- the record that it means
-abbrev pub shown_record : Row → Record
-shown_record row = record_of_body (key_or_none (key_in (bytes (column row 0)))) (bytes (column row 1))
+abbrev pub record_of_row : Row → Record
+record_of_row row = record_of_body (key_or_none (key_in (bytes (column row 0)))) (bytes (column row 1))

@@ -8,13 +8,13 @@ use Rattle.sdb_types.specs.declared.record.Reply.TheVariants as reply
 use Rattle.sdb_sqlite.specs.declared.refused.Stopped.{Stopped}
 use Rattle.sdb_sqlite.specs.declared.refused.Stopped.TheVariants as stopped
 
-abbrev pub wants_memory : Error → Bool
-wants_memory (SqliteFailure OutOfMemory) = true
-wants_memory _ = false
+abbrev pub is_out_of_memory : Error → Bool
+is_out_of_memory (SqliteFailure OutOfMemory) = true
+is_out_of_memory _ = false
 
 -- what a refused statement stops a call for
 abbrev pub stopped_by : Error → Stopped
-stopped_by e = if wants_memory e then stopped.NoMemory else stopped.Refused
+stopped_by e = if is_out_of_memory e then stopped.NoMemory else stopped.Refused
 
 -- Out of memory is answered as such, and everything else is a fault.
 abbrev pub stop_reply : Stopped → Reply

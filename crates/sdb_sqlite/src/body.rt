@@ -1,7 +1,7 @@
 //! What the columns of a row mean.
 ghost use Rattle.std.specs.Prelude.{◌≡◌, ◌⊎◌, [], None, Some, IfOk, IfErr};
 ghost use Rattle.sqlite.specs.Order.{column};
-ghost use Rattle.sdb_sqlite.specs.Bodies.{StandsFor};
+ghost use Rattle.sdb_sqlite.specs.Bodies.{IsRecordOf};
 ghost use Rattle.sdb_sqlite.specs.Rows.{blob_of, record_of_body};
 
 use crate::refused::Stopped;
@@ -31,7 +31,7 @@ fn bare(alloc: Global, key: Key) -> Record
 /// The record that a row of that key with that body means: the one that the body spells where it is of that key, and
 /// else one without columns.
 pub fn record_at(alloc: Global, key: Key, body: &[u8]) -> Result<Record, NoMemory>
-    ensures stands { IfOk result (StandsFor body.now key) }
+    ensures stands { IfOk result (IsRecordOf body.now key) }
     ensures is { IfOk result (λ r. r ≡ record_of_body key body.now) }
 {
     match read_record(alloc, body) {

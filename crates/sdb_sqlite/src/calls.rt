@@ -1,6 +1,6 @@
 //! The calls on the table.
 ghost use Rattle.std.specs.Prelude.{◌≡◌, Some, None};
-ghost use Rattle.sdb_codec.specs.Spelling.{key_bytes, record_bytes, RecordFitsFields};
+ghost use Rattle.sdb_codec.specs.Spelling.{key_bytes, record_bytes, RecordIsEncodable};
 ghost use Rattle.sdb_sqlite.specs.Asked.{IsDue, found_in, found_by, IsGot, Gets, IsListed, Scans, Writes, PutsOver, RemovesOver, IsPut, IsRemoved, Puts, Removes, put_params, put_text, rows_of, written_by};
 ghost use Rattle.sdb_sqlite.specs.Statements.{add_row as add_text};
 
@@ -147,7 +147,7 @@ fn add<S: Held>(
     spelled: &[u8],
     body: &[u8],
 ) -> Result<Written, Stopped>
-    requires fits { RecordFitsFields rec.now }
+    requires fits { RecordIsEncodable rec.now }
     requires spelled { spelled.now ≡ key_bytes rec.now.key }
     requires body { body.now ≡ record_bytes rec.now }
     ensures { Writes S.Store add_text (put_params rec.now None) connection.old connection.new result }
@@ -166,7 +166,7 @@ fn write_over<S: Held>(
     spelled: &[u8],
     found: Option<Record>,
 ) -> Result<Written, Stopped>
-    requires fits { RecordFitsFields rec.now }
+    requires fits { RecordIsEncodable rec.now }
     requires spelled { spelled.now ≡ key_bytes rec.now.key }
     ensures { Writes S.Store (put_text found) (put_params rec.now found) connection.old connection.new result }
 {
@@ -186,7 +186,7 @@ fn put_over<S: Held>(
     condition: &Condition,
     found: Option<Record>,
 ) -> Result<Written, Stopped>
-    requires fits { RecordFitsFields rec.now }
+    requires fits { RecordIsEncodable rec.now }
     requires spelled { spelled.now ≡ key_bytes rec.now.key }
     ensures { PutsOver S.Store rec.now condition.now connection.old connection.new result found }
 {
@@ -203,7 +203,7 @@ fn put_at<S: Held>(
     spelled: &[u8],
     condition: &Condition,
 ) -> Result<Written, Stopped>
-    requires fits { RecordFitsFields rec.now }
+    requires fits { RecordIsEncodable rec.now }
     requires spelled { spelled.now ≡ key_bytes rec.now.key }
     ensures { IsPut S.Store rec.now condition.now connection.old connection.new result }
 {

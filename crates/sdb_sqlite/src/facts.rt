@@ -3,7 +3,7 @@
 ghost use Rattle.std.specs.Prelude.{◌≡◌, true, All};
 ghost use Rattle.sdb_types.specs.Identifier.{is_name};
 ghost use Rattle.sdb_types.specs.Fits.{AreBytes, text_fits, value_fits, pair_fits, key_fits, columns_fit, record_fits};
-ghost use Rattle.sdb_sqlite.specs.Spans.{table_fits, span_fits};
+ghost use Rattle.sdb_sqlite.specs.Spans.{table_is_encodable, span_is_encodable};
 
 use sdb_types::{Columns, Key, Name, Octets, Pair, Record, Span, TableName, Txt, Value};
 
@@ -74,7 +74,7 @@ fn columns_facts(columns: &Columns)
 }
 
 fn table_facts(table: &TableName)
-    ensures { table_fits table.now }
+    ensures { table_is_encodable table.now }
 {
     name_facts(&table.ns);
     name_facts(&table.table);
@@ -91,7 +91,7 @@ pub fn key_facts(key: &Key)
 
 /// What is known of a span.
 pub fn span_facts(span: &Span)
-    ensures { span_fits span.now }
+    ensures { span_is_encodable span.now }
 {
     table_facts(&span.table);
     if let Some(partition) = &span.partition {

@@ -2,10 +2,10 @@
 ghost use Rattle.std.specs.Prelude.{◌≡◌, ◌⊎◌, Ok, IfOk, IfErr};
 ghost use Rattle.sqlite.specs.Steps.{over_memory};
 ghost use Rattle.sdb_types.specs.declared.record.Request.TheVariants.{Get, Scan, PutIf, DeleteIf};
-ghost use Rattle.sdb_codec.specs.Spelling.{KeyFitsFields, RecordFitsFields};
+ghost use Rattle.sdb_codec.specs.Spelling.{KeyIsEncodable, RecordIsEncodable};
 ghost use Rattle.sdb_store.specs.Store.{IsNewStore, IsStoreCall};
-ghost use Rattle.sdb_sqlite.specs.Spans.{SpanFitsFields};
-ghost use Rattle.sdb_sqlite.specs.Kept.{IsKeptNew, IsKeptOn, kept_state};
+ghost use Rattle.sdb_sqlite.specs.Spans.{SpanIsEncodable};
+ghost use Rattle.sdb_sqlite.specs.Database.{IsNewDatabase, IsStoreOn, store_state_of};
 ghost use Rattle.sdb_sqlite.specs.Released.{IsReleased};
 ghost use Rattle.sdb_sqlite.specs.Making.{IsMade, IsNotMade, IsRefusedIn, refused_by};
 ghost use Rattle.sdb_sqlite.specs.Asked.{Gets, Scans, Puts, Removes, IsAnswered, got_reply, rows_reply, write_reply};
@@ -55,15 +55,15 @@ fn refused(error: Error) -> KeptRefused
 }
 
 impl<S: Held + Drop> Kept<S> {
-    /// A store over a connection. The table is made where there is none of its name, and so is its index by table and
+    /// A store over a connection. The table is made where there is none of its name, and also its index by table and
     /// partition. The connection is dropped where that is refused: `Database` comes only for another cause than memory.
     pub fn new(alloc: Global, mut connection: Connection<S>) -> Result<Kept<S>, KeptRefused>
         ensures made { IfOk result (λ kept. IsMade S.Store connection kept.connection) }
         ensures sound { IfOk result (λ kept. (⟦<Kept<S> as Store>⟧.state kept).faults ≡ 0) }
         ensures unused { IfOk result (λ kept. (⟦<Kept<S> as Store>⟧.state kept).calls ≡ 0) }
         ensures refused { IfErr result (IsNotMade S.Store connection) }
-        ensures blank { IfOk result (λ kept. IsKeptNew S.Store S.Held.tells connection kept.connection) }
-        ensures found { IfOk result (λ kept. IsKeptOn S.Store S.Held.tells connection kept.connection) }
+        ensures blank { IfOk result (λ kept. IsNewDatabase S.Store S.Held.known connection kept.connection) }
+        ensures found { IfOk result (λ kept. IsStoreOn S.Store S.Held.known connection kept.connection) }
     {
         match make_table(&mut connection) {
             Ok(_) => Ok(Kept {
@@ -80,7 +80,7 @@ impl<S: Held + Drop> Kept<S> {
     /// store that is made over it holds the same.
     pub fn release(self) -> Connection<S>
         ensures connection { result ≡ self.connection }
-        ensures released { (⟦<Kept<S> as Store>⟧.state self).tells → IsReleased S.Store (⟦<Kept<S> as Store>⟧.state self).contents result }
+        ensures released { (⟦<Kept<S> as Store>⟧.state self).known → IsReleased S.Store (⟦<Kept<S> as Store>⟧.state self).contents result }
     {
         let Kept {
             alloc: _,
@@ -116,12 +116,12 @@ fn reply_of(written: Written) -> Reply
 
 impl<S: Held + Drop> Store for Kept<S> {
     // In memory its contents are known, where the database has its table and index and nothing else.
-    ghost state = { λ kept. kept_state S.Store S.Held.tells kept.connection kept.faults kept.calls };
+    ghost state = { λ kept. store_state_of S.Store S.Held.known kept.connection kept.faults kept.calls };
 
     fn get(&mut self, key: &Key) -> Reply
         ensures called { IsStoreCall (Get key.now) result (⟦<Kept<S> as Store>⟧.state self.old) (⟦<Kept<S> as Store>⟧.state self.new) }
         ensures asked { IsAnswered got_reply (Gets S.Store key.now self.old.connection self.new.connection) result }
-        ensures unfit { ¬ KeyFitsFields key.now → (result ≡ Reply.Fault) × (self.new.connection ≡ self.old.connection) }
+        ensures unfit { ¬ KeyIsEncodable key.now → (result ≡ Reply.Fault) × (self.new.connection ≡ self.old.connection) }
     {
         key_facts(key);
         self.calls = one_more(self.calls);
@@ -134,7 +134,7 @@ impl<S: Held + Drop> Store for Kept<S> {
     fn scan(&mut self, span: &Span) -> Reply
         ensures called { IsStoreCall (Scan span.now) result (⟦<Kept<S> as Store>⟧.state self.old) (⟦<Kept<S> as Store>⟧.state self.new) }
         ensures asked { IsAnswered rows_reply (Scans S.Store span.now self.old.connection self.new.connection) result }
-        ensures unfit { ¬ SpanFitsFields span.now → ((result ≡ Reply.Fault) ⊎ (result ≡ Reply.NoMemory)) × (self.new.connection ≡ self.old.connection) }
+        ensures unfit { ¬ SpanIsEncodable span.now → ((result ≡ Reply.Fault) ⊎ (result ≡ Reply.NoMemory)) × (self.new.connection ≡ self.old.connection) }
     {
         span_facts(span);
         self.calls = one_more(self.calls);
@@ -147,7 +147,7 @@ impl<S: Held + Drop> Store for Kept<S> {
     fn put_if(&mut self, rec: &Record, condition: &Condition) -> Reply
         ensures called { IsStoreCall (PutIf rec.now condition.now) result (⟦<Kept<S> as Store>⟧.state self.old) (⟦<Kept<S> as Store>⟧.state self.new) }
         ensures asked { IsAnswered write_reply (Puts S.Store rec.now condition.now self.old.connection self.new.connection) result }
-        ensures unfit { ¬ RecordFitsFields rec.now → (result ≡ Reply.Fault) × (self.new.connection ≡ self.old.connection) }
+        ensures unfit { ¬ RecordIsEncodable rec.now → (result ≡ Reply.Fault) × (self.new.connection ≡ self.old.connection) }
     {
         record_facts(rec);
         self.calls = one_more(self.calls);
@@ -160,7 +160,7 @@ impl<S: Held + Drop> Store for Kept<S> {
     fn delete_if(&mut self, key: &Key, condition: &Condition) -> Reply
         ensures called { IsStoreCall (DeleteIf key.now condition.now) result (⟦<Kept<S> as Store>⟧.state self.old) (⟦<Kept<S> as Store>⟧.state self.new) }
         ensures asked { IsAnswered write_reply (Removes S.Store key.now condition.now self.old.connection self.new.connection) result }
-        ensures unfit { ¬ KeyFitsFields key.now → (result ≡ Reply.Fault) × (self.new.connection ≡ self.old.connection) }
+        ensures unfit { ¬ KeyIsEncodable key.now → (result ≡ Reply.Fault) × (self.new.connection ≡ self.old.connection) }
     {
         key_facts(key);
         self.calls = one_more(self.calls);

@@ -2,7 +2,7 @@
 ghost use Rattle.std.specs.Prelude.{◌≡◌, ◌⊎◌, ◌↔◌, IfOk, IfErr, OnOk};
 ghost use Rattle.std.specs.String.{string_bytes};
 ghost use Rattle.sdb_types.specs.Order.{table_text as table_text_lem};
-ghost use Rattle.sdb_codec.specs.Spelling.{key_bytes, KeyFitsFields};
+ghost use Rattle.sdb_codec.specs.Spelling.{key_bytes, KeyIsEncodable};
 ghost use Rattle.sdb_sqlite.specs.Spans.{partition_key as partition_key_lem};
 
 use crate::refused::Stopped;
@@ -33,8 +33,8 @@ fn partition_key(alloc: Global, table: &TableName, partition: &Values) -> Result
 /// The bytes of a key. A key whose counts and lengths don't fit their fields has none.
 pub fn key_spelling(alloc: Global, key: &Key) -> Result<Octets, Stopped>
     ensures ok { IfOk result (λ bytes. bytes ≡ key_bytes key.now) }
-    ensures fits { OnOk result (KeyFitsFields key.now) }
-    ensures err { IfErr result (λ e. ((e ≡ Stopped.Unfit) × (¬ KeyFitsFields key.now)) ⊎ ((e ≡ Stopped.NoMemory) × KeyFitsFields key.now)) }
+    ensures fits { OnOk result (KeyIsEncodable key.now) }
+    ensures err { IfErr result (λ e. ((e ≡ Stopped.Unfit) × (¬ KeyIsEncodable key.now)) ⊎ ((e ≡ Stopped.NoMemory) × KeyIsEncodable key.now)) }
 {
     if !key_has_spelling(key) {
         return Err(Stopped::Unfit);
@@ -48,8 +48,8 @@ pub fn partition_spelling(
     table: &TableName,
     partition: &Values,
 ) -> Result<Octets, Stopped>
-    ensures fits { OnOk result (KeyFitsFields (partition_key_lem table.now partition.now)) }
-    ensures err { IfErr result (λ e. ((e ≡ Stopped.Unfit) × (¬ KeyFitsFields (partition_key_lem table.now partition.now))) ⊎ (e ≡ Stopped.NoMemory)) }
+    ensures fits { OnOk result (KeyIsEncodable (partition_key_lem table.now partition.now)) }
+    ensures err { IfErr result (λ e. ((e ≡ Stopped.Unfit) × (¬ KeyIsEncodable (partition_key_lem table.now partition.now))) ⊎ (e ≡ Stopped.NoMemory)) }
     ensures ok { IfOk result (λ bytes. bytes ≡ key_bytes (partition_key_lem table.now partition.now)) }
 {
     key_spelling(alloc, &partition_key(alloc, table, partition)?)

@@ -21,22 +21,22 @@ use Rattle.sdb_types.proofs.Basics.{some_is, none_some, bind_some}
 use Rattle.sdb_types.specs.Options.{◌>>=◌}
 
 pub run_so : (ts : Tokens) (s n : State) → Fine s → run s ts ≡ Some n → (so_far n ≡ so_far s ++ ts) × Fine n
-run_so [] s n fine h = subst (λ (m : State). (so_far m ≡ so_far s ++ []) × Fine m) (some_is s n h) (sym (append-nil (so_far s)), fine)
-run_so (t ∷ ts) s n fine h =
+run_so [] s n valid h = subst (λ (m : State). (so_far m ≡ so_far s ++ []) × Fine m) (some_is s n h) (sym (append-nil (so_far s)), valid)
+run_so (t ∷ ts) s n valid h =
     let b = bind_some (step s t) (λ m. run m ts) n h in
-    let tells = told s t b.0 fine b.1 in
+    let tells = told s t b.0 valid b.1 in
     let more = run_so ts b.0 n tells.1 b.2 in
     (more.0 ∙ ap (λ (x : Tokens). x ++ ts) tells.0 ∙ append_assoc (so_far s) (t ∷ []) ts, more.1)
 
 -- ---- what is read is spelled so
 
 pub finish_spells : (s : State) (st : Statement) → Fine s → finish s ≡ Some st → IsWhole st × Spells (so_far s) st
-finish_spells (state.Ended x) st fine h = subst (λ (y : Statement). IsWhole y × Spells (statement_tokens x) y) (some_is x st h) (fine, inl refl)
-finish_spells (state.Closed x) st fine h = subst (λ (y : Statement). IsWhole y × Spells (statement_tokens x ++ Mark sign.Semicolon ∷ []) y) (some_is x st h) (fine, inr refl)
-finish_spells (state.Target x) st fine h = subst (λ (y : Statement). IsWhole y × Spells (so_far (state.Target x)) y) (some_is (filtered (untested x) None) st h) (whole_filter x [] fine tt, inl (filter_is x []))
-finish_spells (state.TestEnd f) st fine h =
-    subst (λ (y : Statement). IsWhole y × Spells (so_far (state.TestEnd f)) y) (some_is (filtered f None) st h) (whole_filter f.head f.tests fine.1.0 fine.1.1, inl (filter_is f.head f.tests))
-finish_spells _ st fine h = absurd cc
+finish_spells (state.Ended x) st valid h = subst (λ (y : Statement). IsWhole y × Spells (statement_tokens x) y) (some_is x st h) (valid, inl refl)
+finish_spells (state.Closed x) st valid h = subst (λ (y : Statement). IsWhole y × Spells (statement_tokens x ++ Mark sign.Semicolon ∷ []) y) (some_is x st h) (valid, inr refl)
+finish_spells (state.Target x) st valid h = subst (λ (y : Statement). IsWhole y × Spells (so_far (state.Target x)) y) (some_is (filtered (untested x) None) st h) (whole_filter x [] valid tt, inl (filter_is x []))
+finish_spells (state.TestEnd f) st valid h =
+    subst (λ (y : Statement). IsWhole y × Spells (so_far (state.TestEnd f)) y) (some_is (filtered f None) st h) (whole_filter f.head f.tests valid.1.0 valid.1.1, inl (filter_is f.head f.tests))
+finish_spells _ st valid h = absurd cc
 
 then_ok : (place : ℕ) (r : Option State) (f : State → Result Statement ℕ) (st : Statement) → then (or_at place r) f ≡ Ok st → (n : State) × (r ≡ Some n) × (f n ≡ Ok st)
 then_ok place (Some n) f st e = (n, refl, e)
@@ -47,10 +47,10 @@ or_ok place (Some x) st e = let is : x ≡ st = cc in ap Some is
 or_ok place None st e = absurd cc
 
 pub found_from : (ps : List Placed) (s : State) (end : ℕ) (st : Statement) → Fine s → parse_from s ps end ≡ Ok st → IsWhole st × Spells (so_far s ++ tokens_of ps) st
-found_from [] s end st fine h = subst (λ (ts : Tokens). IsWhole st × Spells ts st) (sym (append-nil (so_far s))) (finish_spells s st fine (or_ok end (finish s) st h))
-found_from (p ∷ ps) s end st fine h =
+found_from [] s end st valid h = subst (λ (ts : Tokens). IsWhole st × Spells ts st) (sym (append-nil (so_far s))) (finish_spells s st valid (or_ok end (finish s) st h))
+found_from (p ∷ ps) s end st valid h =
     let b = then_ok p.at (step s p.token) (λ n. parse_from n ps end) st h in
-    let tells = told s p.token b.0 fine b.1 in
+    let tells = told s p.token b.0 valid b.1 in
     subst (λ (ts : Tokens). IsWhole st × Spells ts st) (ap (λ (ts : Tokens). ts ++ tokens_of ps) tells.0 ∙ append_assoc (so_far s) (p.token ∷ []) (tokens_of ps)) (found_from ps b.0 end st tells.1 b.2)
 
 pub parse_run : (ps : List Placed) (s : State) (end : ℕ) (st : Statement) → (run s (tokens_of ps) >>= finish) ≡ Some st → parse_from s ps end ≡ Ok st

@@ -411,41 +411,41 @@ limit_is (head.Select t cs) (u ∷ us) n h =
     (sym (shape_tested_limit (columns_tokens cs) (separated (Word word.And) test_tokens (u ∷ us)) (Word word.From) (Name t.ns) (Mark sign.Dot) (Name t.table) (Word word.Where) (Word word.Limit) (Number n)))
 
 pub whole_filter : (h : Head) (ts : List Test) → HeadFine h → AllByRecursion IsTest ts → IsWhole (filtered_by h ts None)
-whole_filter (head.Update t sets) ts fine all = (fine.0, fine.1, all)
-whole_filter (head.Delete t) ts fine all = all
-whole_filter (head.Select t cs) ts fine all = (fine, all, tt)
+whole_filter (head.Update t sets) ts valid all = (valid.0, valid.1, all)
+whole_filter (head.Delete t) ts valid all = all
+whole_filter (head.Select t cs) ts valid all = (valid, all, tt)
 
 whole_limit : (h : Head) (ts : List Test) (n : ℤ) → is_select h ≡ true → IsFromZero n → HeadFine h → AllByRecursion IsTest ts → IsWhole (filtered_by h ts (Some n))
-whole_limit (head.Update t sets) ts n h lim fine all = absurd cc
-whole_limit (head.Delete t) ts n h lim fine all = absurd cc
-whole_limit (head.Select t cs) ts n h lim fine all = (fine, all, lim)
+whole_limit (head.Update t sets) ts n h lim valid all = absurd cc
+whole_limit (head.Delete t) ts n h lim valid all = absurd cc
+whole_limit (head.Select t cs) ts n h lim valid all = (valid, all, lim)
 
 -- ---- the steps
 
 told_ending : (f : Filter) (here : State) (t : Token) (n : State) → so_far here ≡ tested f → FilterFine f → ending f t ≡ Some n → Tells here t n
-told_ending f here t n at fine h =
+told_ending f here t n at valid h =
     on_test (is_select f.head && is_word word.Limit t) (Word word.Limit) (Some (state.Limit f)) here t n _
     (λ b. word_is word.Limit t (and_both (is_select f.head) (is_word word.Limit t) b).1)
-    (λ b. one_state here (Word word.Limit) (state.Limit f) n (ap (λ (x : Tokens). x ++ one (Word word.Limit)) (sym at), ((and_both (is_select f.head) (is_word word.Limit t) b).0, fine)))
-    (if_sign sign.Semicolon (state.Closed (filtered f None)) here t n _ (ap (λ (x : Tokens). x ++ one (Mark sign.Semicolon)) (sym (at ∙ filter_is f.head f.tests)), whole_filter f.head f.tests fine.0 fine.1) (none n)) h
+    (λ b. one_state here (Word word.Limit) (state.Limit f) n (ap (λ (x : Tokens). x ++ one (Word word.Limit)) (sym at), ((and_both (is_select f.head) (is_word word.Limit t) b).0, valid)))
+    (if_sign sign.Semicolon (state.Closed (filtered f None)) here t n _ (ap (λ (x : Tokens). x ++ one (Mark sign.Semicolon)) (sym (at ∙ filter_is f.head f.tests)), whole_filter f.head f.tests valid.0 valid.1) (none n)) h
 
 told_more_sets : (h : Head) (n : State) → HeadFine h → more_sets h ≡ Some n → Tells (state.Target h) (Mark sign.Comma) n
-told_more_sets (head.Update t sets) n fine e =
-    one_state (state.Target (head.Update t sets)) (Mark sign.Comma) (state.NextSet t sets) n (some_items (set_so t) (Mark sign.Comma) set_tokens sets fine.0, fine.1) e
-told_more_sets (head.Delete t) n fine e = none n e
-told_more_sets (head.Select t cs) n fine e = none n e
+told_more_sets (head.Update t sets) n valid e =
+    one_state (state.Target (head.Update t sets)) (Mark sign.Comma) (state.NextSet t sets) n (some_items (set_so t) (Mark sign.Comma) set_tokens sets valid.0, valid.1) e
+told_more_sets (head.Delete t) n valid e = none n e
+told_more_sets (head.Select t cs) n valid e = none n e
 
 told_table : (v : Verb) (ns x : List ℕ) → VerbFine v → Tells (state.Table v ns) (Name x) (begun v ns x)
-told_table (verb.Insert u) ns x fine = (refl, (refl, refl))
-told_table verb.Update ns x fine = (refl, tt)
-told_table verb.Delete ns x fine = (refl, tt)
-told_table (verb.Select cs) ns x fine = (refl, fine)
+told_table (verb.Insert u) ns x valid = (refl, (refl, refl))
+told_table verb.Update ns x valid = (refl, tt)
+told_table verb.Delete ns x valid = (refl, tt)
+told_table (verb.Select cs) ns x valid = (refl, valid)
 
 told_test : (f : Filter) (t : Test) (here : State) (last : Token) → before_test f ++ test_tokens t ≡ so_far here ++ one last → FilterFine f → IsTest t → Tells here last (state.TestEnd (with_test f t))
-told_test f t here last shape fine is = (test_more (head_so f.head) f.tests t ∙ shape, (items_more f.tests t, (fine.0, all_more IsTest f.tests t fine.1 is)))
+told_test f t here last shape valid is = (test_more (head_so f.head) f.tests t ∙ shape, (items_more f.tests t, (valid.0, all_more IsTest f.tests t valid.1 is)))
 
 pub told : (s : State) (t : Token) (n : State) → Fine s → step s t ≡ Some n → Tells s t n
-told state.Start t n fine h =
+told state.Start t n valid h =
     if_word word.Begin (state.Ended statement.Begin) state.Start t n _ (refl, tt)
     (if_word word.Commit (state.Ended statement.Commit) state.Start t n _ (refl, tt)
     (if_word word.Rollback (state.Ended statement.Rollback) state.Start t n _ (refl, tt)
@@ -455,65 +455,65 @@ told state.Start t n fine h =
     (if_word word.Update (state.Namespace verb.Update) state.Start t n _ (refl, tt)
     (if_word word.Delete state.DeleteFrom state.Start t n _ (refl, tt)
     (if_word word.Select state.FirstColumn state.Start t n _ (refl, tt) (none n))))))))) h
-told (state.Into u) t n fine h = if_word word.Into (state.Namespace (verb.Insert u)) (state.Into u) t n _ (refl, tt) (none n) h
-told state.DeleteFrom t n fine h = if_word word.From (state.Namespace verb.Delete) state.DeleteFrom t n _ (refl, tt) (none n) h
-told state.FirstColumn t n fine h =
+told (state.Into u) t n valid h = if_word word.Into (state.Namespace (verb.Insert u)) (state.Into u) t n _ (refl, tt) (none n) h
+told state.DeleteFrom t n valid h = if_word word.From (state.Namespace verb.Delete) state.DeleteFrom t n _ (refl, tt) (none n) h
+told state.FirstColumn t n valid h =
     if_sign sign.Star state.StarEnd state.FirstColumn t n _ (refl, tt)
     (if_part IsAny name_of Name name_back (λ x. state.ColumnEnd (x ∷ [])) state.FirstColumn t n (λ x _. (refl, tt))) h
-told (state.NextColumn cs) t n fine h =
+told (state.NextColumn cs) t n valid h =
     if_part IsAny name_of Name name_back (λ x. state.ColumnEnd (cs ++ x ∷ [])) (state.NextColumn cs) t n (λ x _. (one_item_more (one (Word word.Select)) (Mark sign.Comma) name_tokens cs x, items_more cs x)) h
-told (state.ColumnEnd cs) t n fine h =
-    if_sign sign.Comma (state.NextColumn cs) (state.ColumnEnd cs) t n _ (some_items (one (Word word.Select)) (Mark sign.Comma) name_tokens cs fine, fine)
-    (if_word word.From (state.Namespace (verb.Select (Some cs))) (state.ColumnEnd cs) t n _ (refl, fine) (none n)) h
-told state.StarEnd t n fine h = if_word word.From (state.Namespace (verb.Select None)) state.StarEnd t n _ (refl, tt) (none n) h
-told (state.Namespace v) t n fine h = if_part IsAny name_of Name name_back (state.Dot v) (state.Namespace v) t n (λ x _. (refl, fine)) h
-told (state.Dot v ns) t n fine h = if_sign sign.Dot (state.Table v ns) (state.Dot v ns) t n _ (refl, fine) (none n) h
-told (state.Table v ns) t n fine h = if_part IsAny name_of Name name_back (begun v ns) (state.Table v ns) t n (λ x _. told_table v ns x fine) h
-told (state.OpenNames d) t n fine h =
-    if_sign sign.Open (state.NextName d) (state.OpenNames d) t n _ (no_items (opened d) (Mark sign.Comma) name_tokens d.columns fine.0, fine.1) (none n) h
-told (state.NextName d) t n fine h =
-    if_part IsAny name_of Name name_back (λ x. state.NameEnd (with_name d x)) (state.NextName d) t n (λ x _. (one_item_more (opened d) (Mark sign.Comma) name_tokens d.columns x, (items_more d.columns x, fine))) h
-told (state.NameEnd d) t n fine h =
-    if_sign sign.Comma (state.NextName d) (state.NameEnd d) t n _ (some_items (opened d) (Mark sign.Comma) name_tokens d.columns fine.0, fine.1)
-    (if_sign sign.Close (state.Values d) (state.NameEnd d) t n _ (refl, fine) (none n)) h
-told (state.Values d) t n fine h = if_word word.Values (state.OpenLiterals d) (state.Values d) t n _ (refl, fine) (none n) h
-told (state.OpenLiterals d) t n fine h =
-    if_sign sign.Open (state.NextLiteral d) (state.OpenLiterals d) t n _ (no_items (valued d ++ one (Mark sign.Open)) (Mark sign.Comma) literal_tokens d.values fine.1, (fine.0, all_none IsLiteral d.values fine.1)) (none n) h
-told (state.NextLiteral d) t n fine h =
+told (state.ColumnEnd cs) t n valid h =
+    if_sign sign.Comma (state.NextColumn cs) (state.ColumnEnd cs) t n _ (some_items (one (Word word.Select)) (Mark sign.Comma) name_tokens cs valid, valid)
+    (if_word word.From (state.Namespace (verb.Select (Some cs))) (state.ColumnEnd cs) t n _ (refl, valid) (none n)) h
+told state.StarEnd t n valid h = if_word word.From (state.Namespace (verb.Select None)) state.StarEnd t n _ (refl, tt) (none n) h
+told (state.Namespace v) t n valid h = if_part IsAny name_of Name name_back (state.Dot v) (state.Namespace v) t n (λ x _. (refl, valid)) h
+told (state.Dot v ns) t n valid h = if_sign sign.Dot (state.Table v ns) (state.Dot v ns) t n _ (refl, valid) (none n) h
+told (state.Table v ns) t n valid h = if_part IsAny name_of Name name_back (begun v ns) (state.Table v ns) t n (λ x _. told_table v ns x valid) h
+told (state.OpenNames d) t n valid h =
+    if_sign sign.Open (state.NextName d) (state.OpenNames d) t n _ (no_items (opened d) (Mark sign.Comma) name_tokens d.columns valid.0, valid.1) (none n) h
+told (state.NextName d) t n valid h =
+    if_part IsAny name_of Name name_back (λ x. state.NameEnd (with_name d x)) (state.NextName d) t n (λ x _. (one_item_more (opened d) (Mark sign.Comma) name_tokens d.columns x, (items_more d.columns x, valid))) h
+told (state.NameEnd d) t n valid h =
+    if_sign sign.Comma (state.NextName d) (state.NameEnd d) t n _ (some_items (opened d) (Mark sign.Comma) name_tokens d.columns valid.0, valid.1)
+    (if_sign sign.Close (state.Values d) (state.NameEnd d) t n _ (refl, valid) (none n)) h
+told (state.Values d) t n valid h = if_word word.Values (state.OpenLiterals d) (state.Values d) t n _ (refl, valid) (none n) h
+told (state.OpenLiterals d) t n valid h =
+    if_sign sign.Open (state.NextLiteral d) (state.OpenLiterals d) t n _ (no_items (valued d ++ one (Mark sign.Open)) (Mark sign.Comma) literal_tokens d.values valid.1, (valid.0, all_none IsLiteral d.values valid.1)) (none n) h
+told (state.NextLiteral d) t n valid h =
     if_part IsLiteral literal_of literal_token literal_back (λ x. state.LiteralEnd (with_literal d x)) (state.NextLiteral d) t n
-    (λ x is. (one_item_more (valued d ++ one (Mark sign.Open)) (Mark sign.Comma) literal_tokens d.values x, (fine.0, items_more d.values x, all_more IsLiteral d.values x fine.1 is))) h
-told (state.LiteralEnd d) t n fine h =
-    if_sign sign.Comma (state.NextLiteral d) (state.LiteralEnd d) t n _ (some_items (valued d ++ one (Mark sign.Open)) (Mark sign.Comma) literal_tokens d.values fine.1, (fine.0, fine.2))
+    (λ x is. (one_item_more (valued d ++ one (Mark sign.Open)) (Mark sign.Comma) literal_tokens d.values x, (valid.0, items_more d.values x, all_more IsLiteral d.values x valid.1 is))) h
+told (state.LiteralEnd d) t n valid h =
+    if_sign sign.Comma (state.NextLiteral d) (state.LiteralEnd d) t n _ (some_items (valued d ++ one (Mark sign.Open)) (Mark sign.Comma) literal_tokens d.values valid.1, (valid.0, valid.2))
     (λ h. elim (chosen (length d.columns == length d.values) (on_sign sign.Close (state.Ended (inserted d)) t) None (Some n) h) as (λ _. Tells (state.LiteralEnd d) t n) [
       | inl p ↦ if_sign sign.Close (state.Ended (inserted d)) (state.LiteralEnd d) t n _
-          (draft_is d.upsert d.table d.columns d.values, whole_draft d.upsert d.table d.columns d.values fine.0 (same_length (length d.columns) (length d.values) p.0) fine.2) (none n) p.1
+          (draft_is d.upsert d.table d.columns d.values, whole_draft d.upsert d.table d.columns d.values valid.0 (same_length (length d.columns) (length d.values) p.0) valid.2) (none n) p.1
       | inr p ↦ none n p.1
     ]) h
-told (state.Set tn) t n fine h = if_word word.Set (state.NextSet tn []) (state.Set tn) t n _ (refl, tt) (none n) h
-told (state.NextSet tn sets) t n fine h = if_part IsAny name_of Name name_back (state.SetName tn sets) (state.NextSet tn sets) t n (λ x _. (refl, fine)) h
-told (state.SetName tn sets m) t n fine h = if_sign sign.Equal (state.SetTo tn sets m) (state.SetName tn sets m) t n _ (refl, fine) (none n) h
-told (state.SetTo tn sets m) t n fine h =
+told (state.Set tn) t n valid h = if_word word.Set (state.NextSet tn []) (state.Set tn) t n _ (refl, tt) (none n) h
+told (state.NextSet tn sets) t n valid h = if_part IsAny name_of Name name_back (state.SetName tn sets) (state.NextSet tn sets) t n (λ x _. (refl, valid)) h
+told (state.SetName tn sets m) t n valid h = if_sign sign.Equal (state.SetTo tn sets m) (state.SetName tn sets m) t n _ (refl, valid) (none n) h
+told (state.SetTo tn sets m) t n valid h =
     if_part IsLiteral literal_of literal_token literal_back (with_set tn sets m) (state.SetTo tn sets m) t n
-    (λ x is. (one_item_more (set_so tn) (Mark sign.Comma) set_tokens sets (record { name = m; value = x }) ∙ three (before_set tn sets) (Name m) (Mark sign.Equal) (literal_token x), (items_more sets (record { name = m; value = x }), all_more IsSet sets (record { name = m; value = x }) fine is))) h
-told (state.Target hd) t n fine h =
-    if_word word.Where (state.NextTest (untested hd)) (state.Target hd) t n _ (refl, (fine, tt))
-    (if_sign_then sign.Comma (more_sets hd) (state.Target hd) t n _ (told_more_sets hd n fine) (told_ending (untested hd) (state.Target hd) t n refl (fine, tt))) h
-told (state.NextTest f) t n fine h = if_part IsAny name_of Name name_back (state.Compare f) (state.NextTest f) t n (λ x _. (refl, fine)) h
-told (state.Compare f m) t n fine h =
-    if_word word.Is (state.Is f m) (state.Compare f m) t n _ (refl, fine)
-    (if_part IsAny comparison_of (λ c. Mark (comparison_sign c)) comparison_back (state.Right f m) (state.Compare f m) t n (λ x _. (refl, fine))) h
-told (state.Right f m c) t n fine h =
+    (λ x is. (one_item_more (set_so tn) (Mark sign.Comma) set_tokens sets (record { name = m; value = x }) ∙ three (before_set tn sets) (Name m) (Mark sign.Equal) (literal_token x), (items_more sets (record { name = m; value = x }), all_more IsSet sets (record { name = m; value = x }) valid is))) h
+told (state.Target hd) t n valid h =
+    if_word word.Where (state.NextTest (untested hd)) (state.Target hd) t n _ (refl, (valid, tt))
+    (if_sign_then sign.Comma (more_sets hd) (state.Target hd) t n _ (told_more_sets hd n valid) (told_ending (untested hd) (state.Target hd) t n refl (valid, tt))) h
+told (state.NextTest f) t n valid h = if_part IsAny name_of Name name_back (state.Compare f) (state.NextTest f) t n (λ x _. (refl, valid)) h
+told (state.Compare f m) t n valid h =
+    if_word word.Is (state.Is f m) (state.Compare f m) t n _ (refl, valid)
+    (if_part IsAny comparison_of (λ c. Mark (comparison_sign c)) comparison_back (state.Right f m) (state.Compare f m) t n (λ x _. (refl, valid))) h
+told (state.Right f m c) t n valid h =
     if_part IsValue value_of literal_token value_back (λ x. state.TestEnd (with_test f (test.Compare m c x))) (state.Right f m c) t n
-    (λ x is. told_test f (test.Compare m c x) (state.Right f m c) (literal_token x) (three (before_test f) (Name m) (Mark (comparison_sign c)) (literal_token x)) fine is) h
-told (state.Is f m) t n fine h =
-    if_word word.Not (state.Not f m) (state.Is f m) t n _ (refl, fine)
-    (if_word word.Null (state.TestEnd (with_test f (test.IsNull m))) (state.Is f m) t n _ (told_test f (test.IsNull m) (state.Is f m) (Word word.Null) (three (before_test f) (Name m) (Word word.Is) (Word word.Null)) fine tt) (none n)) h
-told (state.Not f m) t n fine h =
-    if_word word.Null (state.TestEnd (with_test f (test.NotNull m))) (state.Not f m) t n _ (told_test f (test.NotNull m) (state.Not f m) (Word word.Null) (four (before_test f) (Name m) (Word word.Is) (Word word.Not) (Word word.Null)) fine tt) (none n) h
-told (state.TestEnd f) t n fine h =
-    if_word word.And (state.NextTest f) (state.TestEnd f) t n _ (one_test_more (head_so f.head) f.tests fine.0, fine.1) (told_ending f (state.TestEnd f) t n refl fine.1) h
-told (state.Limit f) t n fine h =
+    (λ x is. told_test f (test.Compare m c x) (state.Right f m c) (literal_token x) (three (before_test f) (Name m) (Mark (comparison_sign c)) (literal_token x)) valid is) h
+told (state.Is f m) t n valid h =
+    if_word word.Not (state.Not f m) (state.Is f m) t n _ (refl, valid)
+    (if_word word.Null (state.TestEnd (with_test f (test.IsNull m))) (state.Is f m) t n _ (told_test f (test.IsNull m) (state.Is f m) (Word word.Null) (three (before_test f) (Name m) (Word word.Is) (Word word.Null)) valid tt) (none n)) h
+told (state.Not f m) t n valid h =
+    if_word word.Null (state.TestEnd (with_test f (test.NotNull m))) (state.Not f m) t n _ (told_test f (test.NotNull m) (state.Not f m) (Word word.Null) (four (before_test f) (Name m) (Word word.Is) (Word word.Not) (Word word.Null)) valid tt) (none n) h
+told (state.TestEnd f) t n valid h =
+    if_word word.And (state.NextTest f) (state.TestEnd f) t n _ (one_test_more (head_so f.head) f.tests valid.0, valid.1) (told_ending f (state.TestEnd f) t n refl valid.1) h
+told (state.Limit f) t n valid h =
     if_part IsFromZero limit_of Number limit_back (λ x. state.Ended (filtered f (Some x))) (state.Limit f) t n
-    (λ x is. (limit_is f.head f.tests x fine.0, whole_limit f.head f.tests x fine.0 is fine.1.0 fine.1.1)) h
-told (state.Ended st) t n fine h = if_sign sign.Semicolon (state.Closed st) (state.Ended st) t n _ (refl, fine) (none n) h
-told (state.Closed st) t n fine h = none n h
+    (λ x is. (limit_is f.head f.tests x valid.0, whole_limit f.head f.tests x valid.0 is valid.1.0 valid.1.1)) h
+told (state.Ended st) t n valid h = if_sign sign.Semicolon (state.Closed st) (state.Ended st) t n _ (refl, valid) (none n) h
+told (state.Closed st) t n valid h = none n h

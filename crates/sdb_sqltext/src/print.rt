@@ -14,7 +14,7 @@ pub fn print_statement(alloc: Global, statement: &Statement) -> Result<Txt, NoMe
     ensures text { IfOk result (λ t. t ≡ statement_text_of statement.now) }
     // A statement whose parts a text can spell is read again from it.
     ensures read { IfOk result (λ t. IsWhole statement.now → AllByRecursion CanSpell (statement_tokens statement.now) → Reads t statement.now) }
-    // So is a statement that any text is read as.
+    // The same for a statement that any text is read as.
     ensures again { (text : List ℕ) → Reads text statement.now → IfOk result (λ t. Reads t statement.now) }
 {
     statement_text(alloc, statement)

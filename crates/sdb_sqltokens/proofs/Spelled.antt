@@ -95,8 +95,8 @@ blob_fine bytes =
     (λ e. blob_token_fine (quote_place bytes) (take (quote_place bytes) bytes) (decode_of (take (quote_place bytes) bytes)) refl) (λ e. tt)
 
 or_word_fine : (bytes : List ℕ) (r : Option (Token × ℕ)) → begins is_start bytes ≡ true → FineIf r → Fine (or_word bytes r)
-or_word_fine bytes (Some p) h fine = fine
-or_word_fine bytes None h fine = word_fine bytes h
+or_word_fine bytes (Some p) h valid = valid
+or_word_fine bytes None h valid = word_fine bytes h
 
 letter_fine : (bytes : List ℕ) → begins is_start bytes ≡ true → Fine (letter_at bytes)
 unfolding letter_at

@@ -18,7 +18,7 @@ use Rattle.sdb_model.specs.Causes.{refused}
 use Rattle.sdb_model.specs.Exec.{key_of, named_table}
 use Rattle.sdb_model.specs.Refused.{refusal_by, refusal_of}
 use Rattle.sdb_model.specs.Sql.{Reads, reads_commit}
-use Rattle.sdb_model.specs.Noted.{read_finished}
+use Rattle.sdb_model.specs.ReadSet.{read_finished}
 use Rattle.sdb_model.specs.Transactions.{changes_nothing, is_answered_from_rows}
 use Rattle.sdb_exec.specs.declared.plan.PlanStep.{PlanStep}
 use Rattle.sdb_exec.specs.declared.plan.PlanStep.TheVariants.{Finished}
@@ -26,21 +26,21 @@ use Rattle.sdb_exec.specs.Plans.{Planned, answer_on, changes_on, columns_at, fir
 use Rattle.sdb_exec.specs.Reads.{access_of}
 use Rattle.sdb_exec.proofs.Places.{named_is_table}
 use Rattle.sdb_laws.specs.History.{at}
-use Rattle.sdb_snapshot.specs.Held.{AreKept}
+use Rattle.sdb_snapshot.specs.Sets.{IsSetInvariant}
 use Rattle.sdb_snapshot.specs.Seen.{Seen, overlay, with_written}
 use Rattle.sdb_snapshot.specs.Written.{AreChanges}
 use Rattle.sdb_txn.specs.declared.txn.Doing.TheVariants as doing
 use Rattle.sdb_txn.specs.Txn.{TxnAt, reading}
 use Rattle.sdb_client.specs.Client.{ClientAt as Client, given_answer, given_left, gives, holding, is_covered, plan_of, too_many, written}
-use Rattle.sdb_client.specs.Inside.{IsFine, IsKeyRead, MayWrite}
+use Rattle.sdb_client.specs.Inside.{IsValidPlan, IsKeyRead, MayWrite}
 use Rattle.sdb_client.proofs.Writable.{may_write}
 use Rattle.sdb_turns.specs.ReadAt.{IsOfData}
 use Rattle.sdb_turns.specs.System.{ClientAt, Open, with_client}
 use Rattle.sdb_story.specs.Body.{IsCovered}
-use Rattle.sdb_linked.specs.Going.{IsGoing, IsInner}
+use Rattle.sdb_linked.specs.Invariant.{RunInvariant, IsInner}
 use Rattle.sdb_linked.proofs.Steps.{going_answers, going_asks, going_idle}
-use Rattle.sdb_steps.specs.Fitting.{tables_fit}
-use Rattle.sdb_steps.specs.Hands.{Hand, IsReady, doing_of, stands_txn, system_of}
+use Rattle.sdb_steps.specs.Fitting.{tables_are_well_typed}
+use Rattle.sdb_steps.specs.States.{ClientState, IsReady, doing_of, abstract_txn, system_of}
 use Rattle.sdb_steps.proofs.RowsFit.{answers_on}
 use Rattle.sdb_steps.proofs.Taken.{IsSo, at_open, moved}
 use Rattle.sdb_types.proofs.Basics.{by_test}
@@ -49,7 +49,7 @@ covered_is : (s : Seen) (a : Access) → is_covered s a ≡ true → IsCovered s
 covered_is s (access.Get key) h = h
 covered_is s (access.Scan span) h = h
 
-key_read : (s : Seen) (a : Access) → is_covered s a ≡ true → IsKeyRead s.notes a
+key_read : (s : Seen) (a : Access) → is_covered s a ≡ true → IsKeyRead s.read_set a
 key_read s (access.Get key) h = h
 key_read s (access.Scan span) h = tt
 
@@ -74,10 +74,10 @@ pub record IsAsked (catalog : List Table) (text : List ℕ) (st : Statement) (ta
   pub reads : Reads text st
   pub no_commit : reads_commit text ≡ false
 
-module _ (catalog : List Table) (events : List Event) (hands : ℕ → Hand) (g : IsGoing catalog (tables_fit catalog) events (system_of hands) (doing_of hands)) (c : ℕ) (ready : IsReady hands c) (text : List ℕ) (st : Statement) (table : Table) (k : IsAsked catalog text st table)
-    (t : TxnAt) (some : (hands c).client.txn ≡ Some t) (idle : t.doing ≡ doing.Idle) (kept : AreKept t.seen.notes t.seen.writes) where
+module _ (catalog : List Table) (events : List Event) (states : ℕ → ClientState) (g : RunInvariant catalog (tables_are_well_typed catalog) events (system_of states) (doing_of states)) (c : ℕ) (ready : IsReady states c) (text : List ℕ) (st : Statement) (table : Table) (k : IsAsked catalog text st table)
+    (t : TxnAt) (some : (states c).client.txn ≡ Some t) (idle : t.doing ≡ doing.Idle) (kept : IsSetInvariant t.seen.read_set t.seen.writes) where
   abbrev now : Client
-  now = (hands c).client
+  now = (states c).client
 
   abbrev p : Planned
   p = plan_of table st
@@ -88,39 +88,39 @@ module _ (catalog : List Table) (events : List Event) (hands : ℕ → Hand) (g 
   abbrev taken_so : Option Answer → List Event
   taken_so b = events ++ event.Take c text b ∷ []
 
-  fine : IsFine p
-  fine = record { asked = refl; table = named_is_table catalog st table k.is k.named; taken = sym (ap (λ (o : Option Table). refusal_by o st) k.named) ∙ k.taken; literals = k.literals }
+  valid : IsValidPlan p
+  valid = record { asked = refl; table = named_is_table catalog st table k.is k.named; taken = sym (ap (λ (o : Option Table). refusal_by o st) k.named) ∙ k.taken; literals = k.literals }
 
-  here : (system_of hands).clients c ≡ Open t.id t.seen
-  here = at_open catalog (tables_fit catalog) events hands g c ready t some
+  here : (system_of states).clients c ≡ Open t.id t.seen
+  here = at_open catalog (tables_are_well_typed catalog) events states g c ready t some
 
   -- it changes nothing
-  as_it_was : (b : Answer) → changes_nothing b ≡ true → IsSo catalog (tables_fit catalog) hands c (holding now t) (taken_so (Some b))
+  as_it_was : (b : Answer) → changes_nothing b ≡ true → IsSo catalog (tables_are_well_typed catalog) states c (holding now t) (taken_so (Some b))
   as_it_was b nothing =
-      moved catalog (tables_fit catalog) hands c (holding now t) (taken_so (Some b)) ready.idle.free refl
-      (subst (λ (x : ClientAt). IsGoing catalog (tables_fit catalog) (taken_so (Some b)) (with_client (system_of hands) c x) (at (doing_of hands) c None)) (sym by_doing)
-      (going_idle catalog (tables_fit catalog) events (system_of hands) (doing_of hands) g c t.id t.seen here text b nothing k.no_commit))
+      moved catalog (tables_are_well_typed catalog) states c (holding now t) (taken_so (Some b)) ready.idle.free refl
+      (subst (λ (x : ClientAt). RunInvariant catalog (tables_are_well_typed catalog) (taken_so (Some b)) (with_client (system_of states) c x) (at (doing_of states) c None)) (sym by_doing)
+      (going_idle catalog (tables_are_well_typed catalog) events (system_of states) (doing_of states) g c t.id t.seen here text b nothing k.no_commit))
     where
-      by_doing : stands_txn (Some t) ≡ Open t.id t.seen
+      by_doing : abstract_txn (Some t) ≡ Open t.id t.seen
       by_doing = rw idle refl
 
   -- it is answered from rows that were read before
-  from_before : (b : Answer) (ks : List Keyed) → is_covered t.seen a ≡ true → step_of p (overlay a t.seen) ≡ Finished b ks → is_answered_from_rows b ≡ true → IsSo catalog (tables_fit catalog) hands c (holding now (written t ks)) (taken_so (Some b))
+  from_before : (b : Answer) (ks : List Keyed) → is_covered t.seen a ≡ true → step_of p (overlay a t.seen) ≡ Finished b ks → is_answered_from_rows b ≡ true → IsSo catalog (tables_are_well_typed catalog) states c (holding now (written t ks)) (taken_so (Some b))
   from_before b ks covered step rows =
-      let changes : AreChanges t.seen.notes ks = subst (MayWrite t.seen.notes) step (may_write t.seen p fine kept (key_read t.seen a covered)) in
-      moved catalog (tables_fit catalog) hands c (holding now (written t ks)) (taken_so (Some b)) ready.idle.free refl
-      (subst (λ (x : ClientAt). IsGoing catalog (tables_fit catalog) (taken_so (Some b)) (with_client (system_of hands) c x) (at (doing_of hands) c None)) (sym by_doing)
-      (going_answers catalog (tables_fit catalog) events (system_of hands) (doing_of hands) g c t.id t.seen here text b st a ks rows k.no_commit k.reads (covered_is t.seen a covered)
+      let changes : AreChanges t.seen.read_set ks = subst (MayWrite t.seen.read_set) step (may_write t.seen p valid kept (key_read t.seen a covered)) in
+      moved catalog (tables_are_well_typed catalog) states c (holding now (written t ks)) (taken_so (Some b)) ready.idle.free refl
+      (subst (λ (x : ClientAt). RunInvariant catalog (tables_are_well_typed catalog) (taken_so (Some b)) (with_client (system_of states) c x) (at (doing_of states) c None)) (sym by_doing)
+      (going_answers catalog (tables_are_well_typed catalog) events (system_of states) (doing_of states) g c t.id t.seen here text b st a ks rows k.no_commit k.reads (covered_is t.seen a covered)
       (answers_on catalog p t.seen b ks k.is k.named refl k.taken k.literals step) changes))
     where
-      by_doing : stands_txn (Some (written t ks)) ≡ Open t.id (with_written t.seen ks)
+      by_doing : abstract_txn (Some (written t ks)) ≡ Open t.id (with_written t.seen ks)
       by_doing = rw idle refl
 
   abbrev Told : PlanStep → Type 0
-  Told s = IsSo catalog (tables_fit catalog) hands c (holding now (given_left t t s)) (taken_so (Some (given_answer t s)))
+  Told s = IsSo catalog (tables_are_well_typed catalog) states c (holding now (given_left t t s)) (taken_so (Some (given_answer t s)))
 
   -- What it is answered at once is what its plan gives.
-  pub told_known : is_covered t.seen a ≡ true → IsSo catalog (tables_fit catalog) hands c (holding now (given_left t t (gives p a t))) (taken_so (Some (given_answer t (gives p a t))))
+  pub told_known : is_covered t.seen a ≡ true → IsSo catalog (tables_are_well_typed catalog) states c (holding now (given_left t t (gives p a t))) (taken_so (Some (given_answer t (gives p a t))))
   told_known covered = by_unfit (first_unfit table (overlay a t.seen)) refl
     where
       finished_so : (b : Answer) (ks : List Keyed) → gives p a t ≡ Finished b ks → (changes_nothing b ≡ false → is_answered_from_rows b ≡ true) → Told (Finished b ks)
@@ -138,7 +138,7 @@ module _ (catalog : List Table) (events : List Event) (hands : ℕ → Hand) (g 
           subst Told (sym step) (finished_so (answer.BadRecord key) [] step (λ h. absurd (cc)))
 
   -- The call for its rows is pending.
-  pub told_unknown : IsOfData a → IsInner text → IsSo catalog (tables_fit catalog) hands c (record now { txn = Some (reading t a); plan = Some p }) (taken_so None)
+  pub told_unknown : IsOfData a → IsInner text → IsSo catalog (tables_are_well_typed catalog) states c (record now { txn = Some (reading t a); plan = Some p }) (taken_so None)
   told_unknown tables inner =
-      moved catalog (tables_fit catalog) hands c (record now { txn = Some (reading t a); plan = Some p }) (taken_so None) ready.idle.free refl
-      (going_asks catalog (tables_fit catalog) events (system_of hands) (doing_of hands) g c text st t.id t.seen a here tables k.reads inner)
+      moved catalog (tables_are_well_typed catalog) states c (record now { txn = Some (reading t a); plan = Some p }) (taken_so None) ready.idle.free refl
+      (going_asks catalog (tables_are_well_typed catalog) events (system_of states) (doing_of states) g c text st t.id t.seen a here tables k.reads inner)

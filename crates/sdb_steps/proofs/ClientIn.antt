@@ -16,7 +16,7 @@ use Rattle.sdb_model.specs.declared.statement.Statement.TheVariants as statement
 use Rattle.sdb_model.specs.Exec.{find_table, named_table, table_of}
 use Rattle.sdb_model.specs.Refused.{refusal_by, refusal_of}
 use Rattle.sdb_model.specs.Sql.{reads_commit}
-use Rattle.sdb_model.specs.Noted.{read_finished}
+use Rattle.sdb_model.specs.ReadSet.{read_finished}
 use Rattle.sdb_model.specs.Transactions.{changes_nothing}
 use Rattle.sdb_exec.specs.declared.plan.PlanStep.{PlanStep}
 use Rattle.sdb_exec.specs.declared.plan.PlanStep.TheVariants.{Finished, Read as Wants}
@@ -35,7 +35,7 @@ use Rattle.sdb_vacuum.specs.declared.work.VacuumStep.TheVariants as sweep
 use Rattle.sdb_vacuum.specs.Vacuum.{Gives, VacuumAt, begun, vacuum_step}
 use Rattle.sdb_client.specs.declared.next.Next.{Next}
 use Rattle.sdb_client.specs.declared.next.Next.TheVariants as next
-use Rattle.sdb_client.specs.Client.{AskTold, BeginTold, CallTold, ClientAt as Client, CommitNext, CommitTaken, GateTold, ImagesTold, IsIdle, IsTold, NextTold, OpenTold, ReplyTold, RollbackTold, RowsTold, StageTold, StatementTold, TableTold, Taking, TextTold, VacuumTold, after, client_pending, given_answer, given_left, gives, holding, is_covered, next_of, noting, pending_by, pending_of, plan_of, resting, starved, vacuum_left, written, Takes}
+use Rattle.sdb_client.specs.Client.{AskPost, BeginPost, CallPost, ClientAt as Client, CommitNext, CommitStartPost, GatePost, RowsReadPost, IsIdle, IsAnsweredAtOnce, NextPost, OpenTxnPost, ReplyPost, RollbackPost, RowsPost, StagePost, StatementPost, TablePost, Taking, TextPost, VacuumStartPost, after, client_pending, given_answer, given_left, gives, holding, is_covered, next_of, with_rows_read, pending_by, pending_of, plan_of, resting, out_of_memory, vacuum_left, written, TextStep}
 use Rattle.sdb_steps.specs.About.{AreRecordsIn, IsDoingIn, IsListed, IsOfTables, IsReadIn, IsSeenIn, IsStageIn, IsVacuumIn, IsWorkIn}
 use Rattle.sdb_steps.proofs.InTables.{GivesIn, IsPlayed, access_in, access_table, commit_played, get_in, gives_in, read_played, scan_in, stepped_in, swept_in, sweep_played, written_in}
 use Rattle.sdb_steps.proofs.RowsFit.{found_itself}
@@ -81,32 +81,32 @@ module _ (catalog : List Table) where
 
   ---- a text that is taken
 
-  same_in : (c d : Client) (a : Answer) (result : Option Answer) → IsTold c a result d → Of c → Of d
+  same_in : (c d : Client) (a : Answer) (result : Option Answer) → IsAnsweredAtOnce c a result d → Of c → Of d
   same_in c d a result h k = subst Of (sym h.same) k
 
   module _ (q : Taking) (here : q.catalog ≡ catalog) (c d : Client) (result : Option Answer) (waits : IsIdle c) (h : Of c) where
-    begin_in : (o : Option TxnAt) → BeginTold q.gate q.fresh c o result d → Of d
+    begin_in : (o : Option TxnAt) → BeginPost q.gate q.fresh c o result d → Of d
     begin_in (Some t) k = same_in c d _ result k h
     begin_in None k = by_gate q.gate.vacuum_runs k
       where
-        by_gate : (b : Bool) → GateTold b q.fresh c result d → Of d
+        by_gate : (b : Bool) → GatePost b q.fresh c result d → Of d
         by_gate true k = same_in c d _ result k h
-        by_gate false k = subst Of (sym k.1) (record { txn = record { notes = tt; reads = tt; scans = tt; writes = tt }; vacuum = tt })
+        by_gate false k = subst Of (sym k.1) (record { txn = record { read_set = tt; reads = tt; scans = tt; writes = tt }; vacuum = tt })
 
-    commit_in : (o : Option TxnAt) → c.txn ≡ o → CommitTaken q.now c o result d → Of d
+    commit_in : (o : Option TxnAt) → c.txn ≡ o → CommitStartPost q.now c o result d → Of d
     commit_in None e k = same_in c d _ result k h
     commit_in (Some t) e k = let seen = (idle_in c t e waits h).1 in subst Of (sym k.1) (record { txn = record { writes = seen.writes; reads = seen.reads; scans = seen.scans }; vacuum = h.vacuum })
 
-    rollback_in : (o : Option TxnAt) → RollbackTold c o result d → Of d
+    rollback_in : (o : Option TxnAt) → RollbackPost c o result d → Of d
     rollback_in None k = same_in c d _ result k h
     rollback_in (Some t) k = subst Of (sym k.1) (rests_in c h.vacuum)
 
-    vacuum_in : (b : Bool) (ts : List Table) → catalog ≡ ts → VacuumTold b ts c result d → Of d
+    vacuum_in : (b : Bool) (ts : List Table) → catalog ≡ ts → VacuumStartPost b ts c result d → Of d
     vacuum_in true ts e k = same_in c d _ result k h
     vacuum_in false [] e k = same_in c d _ result k h
     vacuum_in false (t ∷ ts) e k = subst Of (sym k.1) (record { txn = h.txn; vacuum = subst (λ (xs : List Table). IsVacuumIn xs (begun (t ∷ ts))) (sym e) (begun_in t ts) })
 
-    rows_in : (st : Statement) (t : TxnAt) (table : Table) → c.txn ≡ Some t → IsListed catalog table.name → RowsTold (plan_of table st) (access_of table st) c t result d → Of d
+    rows_in : (st : Statement) (t : TxnAt) (table : Table) → c.txn ≡ Some t → IsListed catalog table.name → RowsPost (plan_of table st) (access_of table st) c t result d → Of d
     rows_in st t table e listed k =
         let i = idle_in c t e waits h in
         let p : Planned = plan_of table st in
@@ -115,7 +115,7 @@ module _ (catalog : List Table) where
         (λ b. subst Of (sym (k.known b).1) (held_in c (given_left t t (gives p a t)) h.vacuum (left_in t t (gives p a t) i i (gives_in catalog p a t.seen listed refl))))
         (λ b. subst Of (sym (k.unknown b).1) (record { txn = (i.1, record { table = listed; access = refl; asked = refl; stage = tt }); vacuum = h.vacuum }))
 
-    table_in : (st : Statement) (t : TxnAt) → c.txn ≡ Some t → TableTold q.catalog st c t result d → Of d
+    table_in : (st : Statement) (t : TxnAt) → c.txn ≡ Some t → TablePost q.catalog st c t result d → Of d
     table_in st t e k = by_refusal (refusal_of q.catalog st) refl
       where
         by_table : (o : Option Table) → refusal_of q.catalog st ≡ None → named_table q.catalog st ≡ o → Of d
@@ -129,11 +129,11 @@ module _ (catalog : List Table) where
         by_refusal (Some r) taken = same_in c d _ result (k.refused r taken) h
         by_refusal None taken = by_table (named_table q.catalog st) taken refl
 
-    ask_in : (st : Statement) (o : Option TxnAt) → c.txn ≡ o → AskTold q.catalog st c o result d → Of d
+    ask_in : (st : Statement) (o : Option TxnAt) → c.txn ≡ o → AskPost q.catalog st c o result d → Of d
     ask_in st None e k = same_in c d _ result k h
     ask_in st (Some t) e k = table_in st t e k
 
-    statement_in : (st : Statement) → StatementTold q st c result d → Of d
+    statement_in : (st : Statement) → StatementPost q st c result d → Of d
     statement_in statement.Begin k = begin_in c.txn k
     statement_in statement.Commit k = commit_in c.txn refl k
     statement_in statement.Rollback k = rollback_in c.txn k
@@ -144,11 +144,11 @@ module _ (catalog : List Table) where
     statement_in (statement.Delete s) k = ask_in (statement.Delete s) c.txn refl k
     statement_in (statement.Select s) k = ask_in (statement.Select s) c.txn refl k
 
-    text_in : (text : List ℕ) → TextTold q text c result d → Of d
+    text_in : (text : List ℕ) → TextPost q text c result d → Of d
     text_in text (Ok st, reads, k) = statement_in st k
     text_in text (Err r, refuses, k) = same_in c d _ result k h
 
-  starved_in : (text : List ℕ) (c : Client) → Of c → Of (starved text c)
+  starved_in : (text : List ℕ) (c : Client) → Of c → Of (out_of_memory text c)
   starved_in text c h = elim (reads_commit text) as (λ b. Of (cond b (resting c) c)) [ true ↦ rests_in c h.vacuum | false ↦ h ]
 
   ---- a reply that is taken
@@ -164,7 +164,7 @@ module _ (catalog : List Table) where
   after_in c (next.Answer a) u v h = held_in c u v h
   after_in c (next.End a) u v h = rests_in c v
 
-  noting_in : (t : TxnAt) (a : Access) (images : List Record) → IsListed catalog (access_table a) → AreRecordsIn catalog images → IsSeenIn catalog t.seen → IsIdleIn (noting t a images)
+  noting_in : (t : TxnAt) (a : Access) (images : List Record) → IsListed catalog (access_table a) → AreRecordsIn catalog images → IsSeenIn catalog t.seen → IsIdleIn (with_rows_read t a images)
   noting_in t (access.Get key) images k h g = (refl, get_in catalog t.seen key images k h g)
   noting_in t (access.Scan span) images k h g = (refl, scan_in catalog t.seen span images k h g)
 
@@ -180,15 +180,15 @@ module _ (catalog : List Table) where
         subst (λ (m : Next). IsAfterIn m u (Some p)) (sym h.0)
         (subst (λ (v : TxnAt). IsDoingIn catalog v.seen v.doing (Some p)) (sym h.1) (g, record { table = k.table; access = k.access; asked = k.asked; stage = i }))
 
-    images_so : (images : List Record) (n : Next) → AreRecordsIn catalog images → ImagesTold t p a images n u → IsAfterIn n u (Some p)
+    images_so : (images : List Record) (n : Next) → AreRecordsIn catalog images → RowsReadPost t p a images n u → IsAfterIn n u (Some p)
     images_so images next.Call i h = absurd h
     images_so images (next.End z) i h = tt
     images_so images (next.Answer z) i h =
-        let v : TxnAt = noting t a images in
-        let noted : IsIdleIn v = noting_in t a images on_table i g in
-        subst IsIdleIn (sym h.2) (left_in (idle t) v (gives p a v) (refl, g) noted (gives_in catalog p a v.seen k.table k.access))
+        let v : TxnAt = with_rows_read t a images in
+        let as_read : IsIdleIn v = noting_in t a images on_table i g in
+        subst IsIdleIn (sym h.2) (left_in (idle t) v (gives p a v) (refl, g) as_read (gives_in catalog p a v.seen k.table k.access))
 
-    stage_so : (n : Next) (s : ReadStage) → IsStageIn catalog s → StageTold t p a x s (read_result s) n u → IsAfterIn n u (Some p)
+    stage_so : (n : Next) (s : ReadStage) → IsStageIn catalog s → StagePost t p a x s (read_result s) n u → IsAfterIn n u (Some p)
     stage_so n Asking i h = more_so n Asking i h
     stage_so n (Resolving images rec meta phase left) i h = more_so n (Resolving images rec meta phase left) i h
     stage_so n (Ended step.More) i h = more_so n (Ended step.More) i h
@@ -198,7 +198,7 @@ module _ (catalog : List Table) where
     stage_so n (Ended (step.BadRecord key)) i h = idle_so n (answer.BadRecord key) h
     stage_so n (Ended step.NoMemory) i h = absurd h
 
-    call_so : (n : Next) (r : Reply) (now : ℤ) → IsStageIn catalog (read_step x.stage now r) → CallTold t p a x r now n u → IsAfterIn n u (Some p)
+    call_so : (n : Next) (r : Reply) (now : ℤ) → IsStageIn catalog (read_step x.stage now r) → CallPost t p a x r now n u → IsAfterIn n u (Some p)
     call_so next.Call r now i h = stage_so next.Call (read_step x.stage now r) i (h.told (λ e. cc))
     call_so (next.End z) r now i h = tt
     call_so (next.Answer z) r now i h =
@@ -233,7 +233,7 @@ module _ (catalog : List Table) where
   asked_as : (p : Planned) (a : Access) (x : ReadAt) (q : Request) → IsReadIn catalog p a x → read_pending_at x.request x.stage ≡ Some q → read_pending_at (request_of a) x.stage ≡ Some q
   asked_as p a x q k e = subst (λ (y : Request). read_pending_at y x.stage ≡ Some q) k.asked e
 
-  next_so : (t u : TxnAt) (o : Doing) (p : Option Planned) (q : Request) (r : Reply) (now : ℤ) (n : Next) → IsDoingIn catalog t.seen o p → pending_in o ≡ Some q → CanAnswer q r → NextTold t o p r now n u → IsAfterIn n u p
+  next_so : (t u : TxnAt) (o : Doing) (p : Option Planned) (q : Request) (r : Reply) (now : ℤ) (n : Next) → IsDoingIn catalog t.seen o p → pending_in o ≡ Some q → CanAnswer q r → NextPost t o p r now n u → IsAfterIn n u p
   next_so t u doing.Idle p q r now n h e can k = absurd k
   next_so t u (doing.Read a x) None q r now n h e can k = absurd k
   next_so t u (doing.Read a x) (Some p) q r now n h e can k =
@@ -244,20 +244,20 @@ module _ (catalog : List Table) where
 
   -- the VACUUM after a call
   swept_so : (v w : VacuumAt) (e : VacuumStep) (r : Reply) (now : ℤ) → Gives (vacuum_step v now r) w e → IsVacuumIn catalog (vacuum_step v now r).0 → IfSome (vacuum_left e w) (IsVacuumIn catalog)
-  swept_so v w sweep.More r now g h = subst (IsVacuumIn catalog) (sym g.0) h
-  swept_so v w (sweep.Count n) r now g h = tt
-  swept_so v w sweep.Faulted r now g h = tt
-  swept_so v w (sweep.BadRecord key) r now g h = tt
-  swept_so v w sweep.NoMemory r now g h = tt
+  swept_so v w vacuuming.More r now g h = subst (IsVacuumIn catalog) (sym g.0) h
+  swept_so v w (vacuuming.Count n) r now g h = tt
+  swept_so v w vacuuming.Faulted r now g h = tt
+  swept_so v w (vacuuming.BadRecord key) r now g h = tt
+  swept_so v w vacuuming.NoMemory r now g h = tt
 
-  pub replies_in : (c d : Client) (q : Request) (r : Reply) (now : ℤ) (result : Option Answer) → client_pending c ≡ Some q → CanAnswer q r → Of c → ReplyTold c c.vacuum r now result d → Of d
+  pub replies_in : (c d : Client) (q : Request) (r : Reply) (now : ℤ) (result : Option Answer) → client_pending c ≡ Some q → CanAnswer q r → Of c → ReplyPost c c.vacuum r now result d → Of d
   replies_in c d q r now result asked can h told = by_vacuum c.vacuum refl asked told
     where
-      by_txn : (o : Option TxnAt) → c.txn ≡ o → pending_of o ≡ Some q → OpenTold c o r now result d → Of d
+      by_txn : (o : Option TxnAt) → c.txn ≡ o → pending_of o ≡ Some q → OpenTxnPost c o r now result d → Of d
       by_txn None e pends k = absurd k
       by_txn (Some t) e pends k = subst Of (sym k.client) (after_in c k.next k.left h.vacuum (next_so t k.left t.doing c.plan q r now k.next (open_in c t e h) pends can k.told))
 
-      by_vacuum : (v : Option VacuumAt) → c.vacuum ≡ v → pending_by v c.txn ≡ Some q → ReplyTold c v r now result d → Of d
+      by_vacuum : (v : Option VacuumAt) → c.vacuum ≡ v → pending_by v c.txn ≡ Some q → ReplyPost c v r now result d → Of d
       by_vacuum None e pends k = by_txn c.txn refl pends k
       by_vacuum (Some v) e pends k =
           let is : IsVacuumIn catalog v = subst (λ (o : Option VacuumAt). IfSome o (IsVacuumIn catalog)) e h.vacuum in
@@ -284,7 +284,7 @@ module _ (catalog : List Table) where
       by_vacuum None e k = by_txn c.txn refl k
       by_vacuum (Some v) e k = sweep_played catalog v.stage q (subst (λ (o : Option VacuumAt). IfSome o (IsVacuumIn catalog)) e h.vacuum).0 k
 
-pub takes_in : (q : Taking) (text : List ℕ) (c d : Client) (result : Option Answer) → IsIdle c → IsOfTables q.catalog c → Takes q text c result d → IsOfTables q.catalog d
+pub takes_in : (q : Taking) (text : List ℕ) (c d : Client) (result : Option Answer) → IsIdle c → IsOfTables q.catalog c → TextStep q text c result d → IsOfTables q.catalog d
 takes_in q text c d result waits h k =
     by_memory result
     (λ e. subst (IsOfTables q.catalog) (sym (k.memory e)) (starved_in q.catalog text c h))

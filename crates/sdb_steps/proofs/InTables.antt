@@ -63,18 +63,18 @@ use Rattle.sdb_phases.specs.declared.step.RecoverPhase.{RecoverPhase}
 use Rattle.sdb_phases.specs.declared.step.RecoverPhase.TheVariants as recover
 use Rattle.sdb_phases.specs.Checks.{check_of_read, check_of_scan, checks}
 use Rattle.sdb_phases.specs.Commit.{Stage, Preparing, Checking, Deciding, Forward, Stopping, Back, Over, pending}
-use Rattle.sdb_phases.specs.Recover.{recover_back, recover_forward, recover_next, recover_request_at, roll_to, stands_found, undecided}
-use Rattle.sdb_phases.specs.Work.{Work, abort_of, back_of, backs, decide_of, forward_of, forwards, look_of, prepare_of, prepares, stands_prepared}
+use Rattle.sdb_phases.specs.Recover.{recover_back, recover_forward, recover_next, recover_request_at, roll_to, is_as_found, undecided}
+use Rattle.sdb_phases.specs.Work.{Work, abort_of, back_of, backs, decide_of, forward_of, forwards, look_of, prepare_of, prepares, is_as_prepared}
 use Rattle.sdb_read.specs.Read.{Asking, Bad, Ended, Firm, Kind, Open, ReadStage, Resolving, answered, kind_of, read_pending_at, read_step, request_of, resolved, settle, settle_one}
-use Rattle.sdb_snapshot.specs.Noted.{Note, base_at, is_noted, reads_of, with_images, with_note}
+use Rattle.sdb_snapshot.specs.Reads.{ReadRecord, base_at, is_key_read, reads_of, with_images, with_read_record}
 use Rattle.sdb_snapshot.specs.Seen.{Seen, overlay, tables_seen, with_get, with_scan, with_written}
 use Rattle.sdb_snapshot.specs.Written.{with_change_of, with_write, with_writes, write_of}
 use Rattle.sdb_vacuum.specs.declared.work.VacuumStep.{VacuumStep}
-use Rattle.sdb_vacuum.specs.Vacuum.{First, Malformed, Nothing, Over as Ends, Removing, Resolving as Resolves, Scanning as Scans, Tombstone, Unresolved, VacuumAt, VacuumStage, answered as sweep_answered, first_of, first_one, goes_on, going, next_table, pending_at, removal_answered, resolved as sweep_resolved, step_at as swept_at, tombstone_or}
-use Rattle.sdb_steps.specs.About.{AreListed, AreNotesIn, AreRecordsIn, AreWritesIn, IsIn, IsListed, IsRecordIn, IsSeenIn, IsStageIn, IsSweepIn, IsVacuumIn, IsWorkIn}
+use Rattle.sdb_vacuum.specs.Vacuum.{First, Malformed, Nothing, Over as Ends, Removing, Resolving as Resolves, Scanning as Scans, Tombstone, Unresolved, VacuumAt, VacuumStage, answered as sweep_answered, first_of, first_one, with_call, next_of_row, next_table, pending_at, removal_answered, resolved as sweep_resolved, step_at as swept_at, tombstone_or}
+use Rattle.sdb_steps.specs.About.{AreListed, AreReadItemsIn, AreRecordsIn, AreWritesIn, IsIn, IsListed, IsRecordIn, IsSeenIn, IsStageIn, IsVacuumStageIn, IsVacuumIn, IsWorkIn}
 use Rattle.sdb_types.specs.Exact.{equal_of}
 use Rattle.sdb_types.proofs.Basics.{append_all}
-use Rattle.sdb_model.specs.Tables.{is_played}
+use Rattle.sdb_model.specs.Tables.{is_table_of_run}
 
 ---- the keys of an access
 
@@ -156,32 +156,32 @@ module _ (catalog : List Table) where
 
   pub get_in : (s : Seen) (key : Key) (images : List Record) → IsIn catalog key → AreRecordsIn catalog images → IsSeenIn catalog s → IsSeenIn catalog (with_get s key (slice_get images 0))
   get_in s key images k h g = record {
-    notes = append_all (λ (e : Note). IsIn catalog e.0 × IsRecordIn catalog e.1) s.notes ((key, slice_get images 0) ∷ []) g.notes ((k, first_in images h), tt);
+    read_set = append_all (λ (e : ReadRecord). IsIn catalog e.0 × IsRecordIn catalog e.1) s.read_set ((key, slice_get images 0) ∷ []) g.read_set ((k, first_in images h), tt);
     reads = append_all (λ (r : Read). IsIn catalog r.key) s.reads (record { key = key; version = version_of (slice_get images 0) } ∷ []) g.reads (k, tt);
     scans = g.scans;
     writes = g.writes;
   }
 
-  note_in : (notes : List Note) (r : Record) → IsIn catalog r.key → AreNotesIn catalog notes → AreNotesIn catalog (with_note notes r.key (Some r))
-  note_in notes r k h =
-      elim (is_noted notes r.key) as (λ b. AreNotesIn catalog (cond b notes (notes ++ (r.key, Some r) ∷ []))) [
+  note_in : (read_set : List ReadRecord) (r : Record) → IsIn catalog r.key → AreReadItemsIn catalog read_set → AreReadItemsIn catalog (with_read_record read_set r.key (Some r))
+  note_in read_set r k h =
+      elim (is_key_read read_set r.key) as (λ b. AreReadItemsIn catalog (cond b read_set (read_set ++ (r.key, Some r) ∷ []))) [
         | true ↦ h
-        | false ↦ append_all (λ (e : Note). IsIn catalog e.0 × IsRecordIn catalog e.1) notes ((r.key, Some r) ∷ []) h ((k, k), tt)
+        | false ↦ append_all (λ (e : ReadRecord). IsIn catalog e.0 × IsRecordIn catalog e.1) read_set ((r.key, Some r) ∷ []) h ((k, k), tt)
       ]
 
-  images_in : (notes : List Note) (rs : List Record) → AreRecordsIn catalog rs → AreNotesIn catalog notes → AreNotesIn catalog (with_images notes rs)
-  images_in notes [] k h = h
-  images_in notes (r ∷ rs) k h = images_in (with_note notes r.key (Some r)) rs k.1 (note_in notes r k.0 h)
+  images_in : (read_set : List ReadRecord) (rs : List Record) → AreRecordsIn catalog rs → AreReadItemsIn catalog read_set → AreReadItemsIn catalog (with_images read_set rs)
+  images_in read_set [] k h = h
+  images_in read_set (r ∷ rs) k h = images_in (with_read_record read_set r.key (Some r)) rs k.1 (note_in read_set r k.0 h)
 
   pub scan_in : (s : Seen) (span : Span) (images : List Record) → IsListed catalog span.table → AreRecordsIn catalog images → IsSeenIn catalog s → IsSeenIn catalog (with_scan s span images)
   scan_in s span images k h g = record {
-    notes = images_in s.notes images h g.notes;
+    read_set = images_in s.read_set images h g.read_set;
     reads = g.reads;
     scans = append_all (λ (x : Scan). IsListed catalog x.span.table) s.scans (record { span = span; found = reads_of images } ∷ []) g.scans (k, tt);
     writes = g.writes;
   }
 
-  base_in : (notes : List Note) (key : Key) → AreNotesIn catalog notes → IsRecordIn catalog (base_at notes key)
+  base_in : (read_set : List ReadRecord) (key : Key) → AreReadItemsIn catalog read_set → IsRecordIn catalog (base_at read_set key)
   base_in [] key h = tt
   base_in (e ∷ es) key h =
       elim (same_key key e.0) as (λ b. IsRecordIn catalog (option_and_then (λ (found : Option Record). found) (cond b (Some e.1) (value_at es key)))) [ true ↦ h.0.1 | false ↦ base_in es key h.1 ]
@@ -195,12 +195,12 @@ module _ (catalog : List Table) where
   abbrev pub AreChangesIn : List Keyed → Type 0
   AreChangesIn ks = AllByRecursion (λ k. IsIn catalog k.key) ks
 
-  writes_in : (notes : List Note) (ws : List Write) (ks : List Keyed) → AreChangesIn ks → AreNotesIn catalog notes → AreWritesIn catalog ws → AreWritesIn catalog (with_writes notes ws ks)
-  writes_in notes ws [] k n h = h
-  writes_in notes ws (c ∷ cs) k n h = writes_in notes (with_write ws (write_of notes c)) cs k.1 n (write_in ws (write_of notes c) (k.0, base_in notes c.key n) h)
+  writes_in : (read_set : List ReadRecord) (ws : List Write) (ks : List Keyed) → AreChangesIn ks → AreReadItemsIn catalog read_set → AreWritesIn catalog ws → AreWritesIn catalog (with_writes read_set ws ks)
+  writes_in read_set ws [] k n h = h
+  writes_in read_set ws (c ∷ cs) k n h = writes_in read_set (with_write ws (write_of read_set c)) cs k.1 n (write_in ws (write_of read_set c) (k.0, base_in read_set c.key n) h)
 
   pub written_in : (s : Seen) (ks : List Keyed) → AreChangesIn ks → IsSeenIn catalog s → IsSeenIn catalog (with_written s ks)
-  written_in s ks k g = record { notes = g.notes; reads = g.reads; scans = g.scans; writes = writes_in s.notes s.writes ks k g.notes g.writes }
+  written_in s ks k g = record { read_set = g.read_set; reads = g.reads; scans = g.scans; writes = writes_in s.read_set s.writes ks k g.read_set g.writes }
 
   ---- what a plan gives
 
@@ -370,9 +370,9 @@ module _ (catalog : List Table) where
   ---- what is asked
 
   abbrev pub IsPlayed : Request → Type 0
-  IsPlayed q = is_played catalog (table_asked q) ≡ true
+  IsPlayed q = is_table_of_run catalog (table_asked q) ≡ true
 
-  listed_played : (t : TableName) → IsListed catalog t → is_played catalog t ≡ true
+  listed_played : (t : TableName) → IsListed catalog t → is_table_of_run catalog t ≡ true
   listed_played t h = ap (λ (x : Bool). x || is_coordinator_table t) h
 
   or_second : (a b : Bool) → b ≡ true → (a || b) ≡ true
@@ -383,7 +383,7 @@ module _ (catalog : List Table) where
   unfolding coordinator_key_of
   look_played id = or_second (is_some (find_table catalog coordinator_table)) (is_coordinator_table coordinator_table) refl
 
-  row_played : (id : TxId) (d : Decision) (now : ℤ) → is_played catalog (coordinator_row_of id d now).key.table ≡ true
+  row_played : (id : TxId) (d : Decision) (now : ℤ) → is_table_of_run catalog (coordinator_row_of id d now).key.table ≡ true
   unfolding coordinator_row_of coordinator_key_of
   row_played id d now = or_second (is_some (find_table catalog coordinator_table)) (is_coordinator_table coordinator_table) refl
 
@@ -402,7 +402,7 @@ module _ (catalog : List Table) where
   recover_played rec meta (recover.Abort now) q k e = some_is IsPlayed (abort_of meta.id now) q (abort_played meta.id now) e
   recover_played rec meta recover.Again q k e = some_is IsPlayed (look_of meta.id) q (look_played meta.id) e
   recover_played rec meta (recover.Forward at) q k e = some_is IsPlayed (recover_forward rec meta at) q (listed_played (forward_record rec at).key.table (forward_in rec at k)) e
-  recover_played rec meta recover.Back q k e = some_is IsPlayed (recover_back rec meta) q (undo_played (stands_found meta) rec.key (before_record rec) k (before_in rec k)) e
+  recover_played rec meta recover.Back q k e = some_is IsPlayed (recover_back rec meta) q (undo_played (is_as_found meta) rec.key (before_record rec) k (before_in rec k)) e
   recover_played rec meta recover.Ended q k e = absurd (cc)
 
   asked_played : (a : Access) → IsListed catalog (access_table a) → IsPlayed (request_of a)
@@ -425,7 +425,7 @@ module _ (catalog : List Table) where
       listed_played (forward_record (prepared_record w id now) now).key.table (forward_in (prepared_record w id now) now (record_same w.key (prepared_record w id now) (prepared-key w id now) h.0))
 
   back_played : (id : TxId) (w : Write) → IsWriteIn w → IsPlayed (back_of id w)
-  back_played id w h = undo_played (stands_prepared id w) w.key w.base h.0 h.1
+  back_played id w h = undo_played (is_as_prepared id w) w.key w.base h.0 h.1
 
   abbrev IsCheckPlayed : Check → Type 0
   IsCheckPlayed c = IsPlayed c.request
@@ -487,13 +487,13 @@ module _ (catalog : List Table) where
   next_table_in [] n h = (tt, tt)
   next_table_in (s ∷ ss) n h = (h.0, h.1)
 
-  going_in : (ss : List Span) (n : ℕ) (f : First) → AreListed catalog ss → IsFirstIn f → AreSweptIn (going ss n f)
+  going_in : (ss : List Span) (n : ℕ) (f : First) → AreListed catalog ss → IsFirstIn f → AreSweptIn (next_of_row ss n f)
   going_in ss n Nothing h g = next_table_in ss n h
   going_in ss n (Tombstone b left) h g = ((g.0, g.1), h)
   going_in ss n (Unresolved r meta left) h g = ((g.0, g.1), h)
   going_in ss n (Malformed key) h g = (tt, h)
 
-  goes_in : (ss : List Span) (n : ℕ) (left : List Record) → AreListed catalog ss → AreRecordsIn catalog left → AreSweptIn (going ss n (first_of left))
+  goes_in : (ss : List Span) (n : ℕ) (left : List Record) → AreListed catalog ss → AreRecordsIn catalog left → AreSweptIn (next_of_row ss n (first_of left))
   goes_in ss n left h g = going_in ss n (first_of left) h (first_row_in left g)
 
   sweep_rows_in : (ss : List Span) (n : ℕ) (span : Span) (r : Reply) → AreListed catalog ss → IsListed catalog span.table → CanAnswer (ask.Scan span) r → AreSweptIn (sweep_answered ss n r)
@@ -507,7 +507,7 @@ module _ (catalog : List Table) where
   image_swept_in : (ss : List Span) (n : ℕ) (left : List Record) (b : Record) → AreListed catalog ss → AreRecordsIn catalog left → IsIn catalog b.key → AreSweptIn (tombstone_or ss n left b)
   image_swept_in ss n left b h g k = by_mark (is_tombstone b)
     where
-      by_mark : (t : Bool) → AreSweptIn (cond t (goes_on ss n (Removing b left)) (going ss n (first_of left)))
+      by_mark : (t : Bool) → AreSweptIn (cond t (with_call ss n (Removing b left)) (next_of_row ss n (first_of left)))
       by_mark true = ((k, g), h)
       by_mark false = goes_in ss n left h g
 
@@ -529,13 +529,13 @@ module _ (catalog : List Table) where
   removal_in ss n left reply.NoMemory h g = (tt, h)
 
   -- where a reply that the pending call can get leads a VACUUM
-  pub swept_in : (ss : List Span) (n : ℕ) (s : VacuumStage) (q : Request) (now : ℤ) (r : Reply) → IsSweepIn catalog s → AreListed catalog ss → pending_at s ≡ Some q → CanAnswer q r → AreSweptIn (swept_at ss n s now r)
+  pub swept_in : (ss : List Span) (n : ℕ) (s : VacuumStage) (q : Request) (now : ℤ) (r : Reply) → IsVacuumStageIn catalog s → AreListed catalog ss → pending_at s ≡ Some q → CanAnswer q r → AreSweptIn (swept_at ss n s now r)
   swept_in ss n (Scans span) q now r h g e can = sweep_rows_in ss n span r g h (let same : q ≡ ask.Scan span = cc in subst (λ (x : Request). CanAnswer x r) same can)
   swept_in ss n (Resolves rec meta p left) q now r h g e can = resolved_swept_in ss n rec meta left (recover_next rec meta p now r) g h.0 h.1 (recovered_in rec meta p now r h.0)
   swept_in ss n (Removing b left) q now r h g e can = removal_in ss n left r g h.1
   swept_in ss n Ends q now r h g e can = absurd (cc)
 
-  pub sweep_played : (s : VacuumStage) (q : Request) → IsSweepIn catalog s → pending_at s ≡ Some q → IsPlayed q
+  pub sweep_played : (s : VacuumStage) (q : Request) → IsVacuumStageIn catalog s → pending_at s ≡ Some q → IsPlayed q
   sweep_played (Scans span) q h e = some_is IsPlayed (ask.Scan span) q (listed_played span.table h) e
   sweep_played (Resolves rec meta p left) q h e = recover_played rec meta p q h.0 e
   sweep_played (Removing b left) q h e = by_id (id_in b.columns) e

@@ -5,7 +5,7 @@ use Rattle.std.specs.Option.{option_map}
 use Rattle.sdb_types.specs.declared.key.Key.{Key}
 use Rattle.sdb_types.specs.declared.record.Record.{Record}
 use Rattle.sdb_types.specs.declared.record.Request.{Request}
-use Rattle.sdb_types.specs.Exactness.{span_tells}
+use Rattle.sdb_types.specs.Exactness.{span_is_exact}
 use Rattle.sdb_record.specs.declared.access.Access.{Access}
 use Rattle.sdb_record.specs.declared.access.Access.TheVariants as access
 use Rattle.sdb_record.specs.declared.access.Scan.{Scan}
@@ -26,8 +26,8 @@ use Rattle.sdb_exec.proofs.Places.{named_is_table}
 use Rattle.sdb_laws.specs.History.{at}
 use Rattle.sdb_read.specs.declared.read.ReadStep.TheVariants as step
 use Rattle.sdb_read.specs.Read.{ReadAt, ReadStage, Asking, Resolving, Ended, read_pending_at, read_result, read_step, request_of}
-use Rattle.sdb_snapshot.specs.Held.{AreKept}
-use Rattle.sdb_snapshot.specs.Noted.{reads_of}
+use Rattle.sdb_snapshot.specs.Sets.{IsSetInvariant}
+use Rattle.sdb_snapshot.specs.Reads.{reads_of}
 use Rattle.sdb_snapshot.specs.Seen.{Seen, is_scanned, overlay, same_span, with_written}
 use Rattle.sdb_snapshot.specs.Written.{AreChanges}
 use Rattle.sdb_txn.specs.declared.txn.Doing.{Doing}
@@ -36,22 +36,22 @@ use Rattle.sdb_txn.specs.Txn.{TxnAt, idle as idle_of, pending, pending_in}
 use Rattle.sdb_client.specs.declared.next.Next.{Next}
 use Rattle.sdb_client.specs.declared.next.Next.TheVariants as next
 use Rattle.sdb_vacuum.specs.Vacuum.{VacuumAt}
-use Rattle.sdb_client.specs.Client.{CallTold, ClientAt as Client, ImagesTold, IsAsRead, StageTold, after, answer_in, gives, given_answer, given_left, holding, noting, pending_by, pending_of, resting, too_many, written}
-use Rattle.sdb_client.specs.Inside.{IsFine, IsKeyRead, MayWrite}
+use Rattle.sdb_client.specs.Client.{CallPost, ClientAt as Client, RowsReadPost, IsAsRead, StagePost, after, answer_in, gives, given_answer, given_left, holding, with_rows_read, pending_by, pending_of, resting, too_many, written}
+use Rattle.sdb_client.specs.Inside.{IsValidPlan, IsKeyRead, MayWrite}
 use Rattle.sdb_client.proofs.Writable.{may_write}
-use Rattle.sdb_turns.specs.Machine.{machine_kind, stands_at}
-use Rattle.sdb_turns.specs.Noted.{MayNote, first_image, with_read}
+use Rattle.sdb_turns.specs.Machine.{machine_kind, abstract_read}
+use Rattle.sdb_turns.specs.Reads.{MayRecord, first_image, with_read}
 use Rattle.sdb_turns.specs.ReadAt.{Done}
 use Rattle.sdb_turns.specs.ReadAt as laws
 use Rattle.sdb_turns.specs.System.{ClientAt, ClientCall, ClientOk, IsReplyTo, Open, Reading, SystemOk, call_event, with_client}
 use Rattle.sdb_turns.proofs.Machine.{machine_asks, machine_kinds, machine_steps}
-use Rattle.sdb_turns.proofs.Quiet.{notes}
+use Rattle.sdb_turns.proofs.Quiet.{read_set}
 use Rattle.sdb_story.specs.Body.{AnswersOn, IsCovered}
-use Rattle.sdb_linked.specs.Going.{IsGoing}
+use Rattle.sdb_linked.specs.Invariant.{RunInvariant}
 use Rattle.sdb_linked.proofs.Calls.{going_differs, going_fails, going_keeps, going_reads, going_tells}
-use Rattle.sdb_model.specs.Noted.{read_finished}
-use Rattle.sdb_steps.specs.Fitting.{tables_fit}
-use Rattle.sdb_steps.specs.Hands.{Hand, IsAskedBy, IsCalled, doing_of, stands_txn, system_of}
+use Rattle.sdb_model.specs.ReadSet.{read_finished}
+use Rattle.sdb_steps.specs.Fitting.{tables_are_well_typed}
+use Rattle.sdb_steps.specs.States.{ClientState, IsAskedBy, IsCalled, doing_of, abstract_txn, system_of}
 use Rattle.sdb_steps.proofs.RowsFit.{answers_on}
 use Rattle.sdb_steps.proofs.Asked.{from_rows}
 use Rattle.sdb_steps.proofs.Fitted.{by_next}
@@ -62,18 +62,18 @@ use Rattle.sdb_client.proofs.Calls.{last_noted}
 ---- what a read has noted
 
 scanned_last : (xs : List Scan) (x : Scan) → is_scanned (xs ++ x ∷ []) x.span ≡ true
-scanned_last [] x = ap (λ (b : Bool). b || false) ((span_tells x.span x.span).1 refl)
+scanned_last [] x = ap (λ (b : Bool). b || false) ((span_is_exact x.span x.span).1 refl)
 scanned_last (y ∷ xs) x = or_so (same_span y.span x.span) (is_scanned (xs ++ x ∷ []) x.span) (scanned_last xs x)
 
 covered_now : (s : Seen) (a : Access) (images : List Record) → IsCovered (with_read s a images) a
-covered_now s (access.Get key) images = last_noted s.notes key (first_image images)
+covered_now s (access.Get key) images = last_noted s.read_set key (first_image images)
 covered_now s (access.Scan span) images = scanned_last s.scans (record { span = span; found = reads_of images })
 
-key_read_now : (s : Seen) (a : Access) (images : List Record) → IsKeyRead (with_read s a images).notes a
-key_read_now s (access.Get key) images = last_noted s.notes key (first_image images)
+key_read_now : (s : Seen) (a : Access) (images : List Record) → IsKeyRead (with_read s a images).read_set a
+key_read_now s (access.Get key) images = last_noted s.read_set key (first_image images)
 key_read_now s (access.Scan span) images = tt
 
-may_note : (t : TxnAt) (a : Access) (images : List Record) → IsAsRead t a images → MayNote t.seen a images
+may_note : (t : TxnAt) (a : Access) (images : List Record) → IsAsRead t a images → MayRecord t.seen a images
 may_note t (access.Get key) images h = h
 may_note t (access.Scan span) images h = h
 
@@ -83,24 +83,24 @@ record IsNoting (t : TxnAt) (a : Access) (images : List Record) (v : TxnAt) : Ty
   seen : v.seen ≡ with_read t.seen a images
   idle : v.doing ≡ doing.Idle
 
-noting_first : (t : TxnAt) (key : Key) (images : List Record) → IsNoting t (access.Get key) images (noting t (access.Get key) images)
+noting_first : (t : TxnAt) (key : Key) (images : List Record) → IsNoting t (access.Get key) images (with_rows_read t (access.Get key) images)
 noting_first t key [] = record { id = refl; seen = refl; idle = refl }
 noting_first t key (r ∷ rs) = record { id = refl; seen = refl; idle = refl }
 
-is_noting : (t : TxnAt) (a : Access) (images : List Record) → IsNoting t a images (noting t a images)
+is_noting : (t : TxnAt) (a : Access) (images : List Record) → IsNoting t a images (with_rows_read t a images)
 is_noting t (access.Get key) images = noting_first t key images
 is_noting t (access.Scan span) images = record { id = refl; seen = refl; idle = refl }
 
 pub at_itself : {X : Type 0} (f : ℕ → X) (c : ℕ) (x : X) → at f c x c ≡ x
 at_itself f c x = ap (λ (b : Bool). if b then x else f c) (same_number c)
 
-module _ (catalog : List Table) (events : List Event) (hands : ℕ → Hand) (g : IsGoing catalog (tables_fit catalog) events (system_of hands) (doing_of hands)) (y : ClientCall) (is : is_catalog catalog ≡ true) (called : IsCalled catalog hands y) where
+module _ (catalog : List Table) (events : List Event) (states : ℕ → ClientState) (g : RunInvariant catalog (tables_are_well_typed catalog) events (system_of states) (doing_of states)) (y : ClientCall) (is : is_catalog catalog ≡ true) (called : IsCalled catalog states y) where
   abbrev pub now : Client
-  now = (hands y.client).client
+  now = (states y.client).client
 
   -- what ties them is so with the event of the call
   abbrev pub RepliedSo : Option Answer → Client → Type 0
-  RepliedSo result d = IsSo catalog (tables_fit catalog) hands y.client d (events ++ call_event y result ∷ [])
+  RepliedSo result d = IsSo catalog (tables_are_well_typed catalog) states y.client d (events ++ call_event y result ∷ [])
 
   -- where the reply leads
   abbrev pub LedSo : Next → TxnAt → Type 0
@@ -110,7 +110,7 @@ module _ (catalog : List Table) (events : List Event) (hands : ℕ → Hand) (g 
   as_led n m u v e k s = subst (λ (x : Next). LedSo x u) (sym e) (subst (λ (x : TxnAt). LedSo m x) (sym k) s)
 
   module _ (t : TxnAt) (p : Planned) (a : Access) (x : ReadAt) (free : now.vacuum ≡ None) (some : now.txn ≡ Some t) (reads : t.doing ≡ doing.Read a x) (plan : now.plan ≡ Some p) (k : IsAskedBy catalog p a x) where
-    here : (system_of hands).clients y.client ≡ Reading t.id t.seen a (stands_at x.stage)
+    here : (system_of states).clients y.client ≡ Reading t.id t.seen a (abstract_read x.stage)
     here = rw (called.waiting.goes_on, free, some, reads) refl
 
     pends : read_pending_at (request_of a) x.stage ≡ Some y.request
@@ -120,39 +120,39 @@ module _ (catalog : List Table) (events : List Event) (hands : ℕ → Hand) (g 
         let read : read_pending_at x.request x.stage ≡ Some y.request = subst (λ (d : Doing). pending_in d ≡ Some y.request) reads open_txn in
         subst (λ (q : Request). read_pending_at q x.stage ≡ Some y.request) k.request read
 
-    asked : IsReplyTo (laws.read_pending a (stands_at x.stage)) y
+    asked : IsReplyTo (laws.read_pending a (abstract_read x.stage)) y
     asked = record { asked = sym (machine_asks a x.stage) ∙ pends; can = called.can; moment = called.moment }
 
-    runs_it : doing_of hands y.client ≡ Some p.statement
+    runs_it : doing_of states y.client ≡ Some p.statement
     runs_it = ap (λ (o : Option Planned). option_map (λ (q : Planned). q.statement) o) plan
 
-    fine : IsFine p
-    fine = record { asked = k.asked; table = named_is_table catalog p.statement p.table is k.named; taken = sym (ap (λ (o : Option Table). refusal_by o p.statement) k.named) ∙ k.taken; literals = k.literals }
+    valid : IsValidPlan p
+    valid = record { asked = k.asked; table = named_is_table catalog p.statement p.table is k.named; taken = sym (ap (λ (o : Option Table). refusal_by o p.statement) k.named) ∙ k.taken; literals = k.literals }
 
     -- the read goes on
     abbrev read_then : laws.ReadAt
-    read_then = laws.read_step machine_kind (stands_at x.stage) y.now y.reply
+    read_then = laws.read_step machine_kind (abstract_read x.stage) y.now y.reply
 
-    going : IsGoing catalog (tables_fit catalog) (events ++ call_event y None ∷ []) (with_client (system_of hands) y.client (Reading t.id t.seen a read_then)) (at (doing_of hands) y.client (doing_of hands y.client))
-    going = going_reads catalog (tables_fit catalog) events (system_of hands) (doing_of hands) g y.client y.store y.request y.how y.reply y.now machine_kind machine_kinds t.id t.seen a (stands_at x.stage) here asked
+    going : RunInvariant catalog (tables_are_well_typed catalog) (events ++ call_event y None ∷ []) (with_client (system_of states) y.client (Reading t.id t.seen a read_then)) (at (doing_of states) y.client (doing_of states y.client))
+    going = going_reads catalog (tables_are_well_typed catalog) events (system_of states) (doing_of states) g y.client y.store y.request y.how y.reply y.now machine_kind machine_kinds t.id t.seen a (abstract_read x.stage) here asked
 
     reads_on : (s : ReadStage) → read_step x.stage y.now y.reply ≡ s → RepliedSo None (record now { txn = Some (record t { doing = doing.Read a (record x { stage = s }) }) })
     reads_on s e =
-        moved catalog (tables_fit catalog) hands y.client (record now { txn = Some (record t { doing = doing.Read a (record x { stage = s }) }) }) (events ++ call_event y None ∷ []) free refl
-        (subst (λ (z : laws.ReadAt). IsGoing catalog (tables_fit catalog) (events ++ call_event y None ∷ []) (with_client (system_of hands) y.client (Reading t.id t.seen a z)) (at (doing_of hands) y.client (doing_of hands y.client)))
-        (sym (machine_steps x.stage y.now y.reply) ∙ ap stands_at e) going)
+        moved catalog (tables_are_well_typed catalog) states y.client (record now { txn = Some (record t { doing = doing.Read a (record x { stage = s }) }) }) (events ++ call_event y None ∷ []) free refl
+        (subst (λ (z : laws.ReadAt). RunInvariant catalog (tables_are_well_typed catalog) (events ++ call_event y None ∷ []) (with_client (system_of states) y.client (Reading t.id t.seen a z)) (at (doing_of states) y.client (doing_of states y.client)))
+        (sym (machine_steps x.stage y.now y.reply) ∙ ap abstract_read e) going)
 
     -- it is answered as one that changes nothing, and its read has not finished
     fails : (b : Answer) → changes_nothing b ≡ true → read_finished b ≡ false → RepliedSo (Some b) (holding now (idle_of t))
     fails b nothing unfinished =
-        moved catalog (tables_fit catalog) hands y.client (holding now (idle_of t)) (events ++ call_event y (Some b) ∷ []) free refl
-        (going_fails catalog (tables_fit catalog) events (system_of hands) (doing_of hands) g y.client y.store y.request y.how y.reply y.now machine_kind machine_kinds t.id t.seen a (stands_at x.stage) here asked b p.statement runs_it nothing unfinished)
+        moved catalog (tables_are_well_typed catalog) states y.client (holding now (idle_of t)) (events ++ call_event y (Some b) ∷ []) free refl
+        (going_fails catalog (tables_are_well_typed catalog) events (system_of states) (doing_of states) g y.client y.store y.request y.how y.reply y.now machine_kind machine_kinds t.id t.seen a (abstract_read x.stage) here asked b p.statement runs_it nothing unfinished)
 
     -- a key that was read differs
     differs : (key : Key) (found : Option Record) → RepliedSo (Some (answer.Conflict key found)) (resting now)
     differs key found =
-        moved catalog (tables_fit catalog) hands y.client (resting now) (events ++ call_event y (Some (answer.Conflict key found)) ∷ []) free refl
-        (going_differs catalog (tables_fit catalog) events (system_of hands) (doing_of hands) g y.client y.store y.request y.how y.reply y.now machine_kind machine_kinds t.id t.seen a (stands_at x.stage) here asked (answer.Conflict key found) p.statement runs_it refl)
+        moved catalog (tables_are_well_typed catalog) states y.client (resting now) (events ++ call_event y (Some (answer.Conflict key found)) ∷ []) free refl
+        (going_differs catalog (tables_are_well_typed catalog) events (system_of states) (doing_of states) g y.client y.store y.request y.how y.reply y.now machine_kind machine_kinds t.id t.seen a (abstract_read x.stage) here asked (answer.Conflict key found) p.statement runs_it refl)
 
     -- the read is done
     module _ (images : List Record) (ends : read_step x.stage y.now y.reply ≡ Ended (step.Images images)) (as_read : IsAsRead t a images) where
@@ -160,17 +160,17 @@ module _ (catalog : List Table) (events : List Event) (hands : ℕ → Hand) (g 
       seen = with_read t.seen a images
 
       done : read_then ≡ Done images
-      done = sym (machine_steps x.stage y.now y.reply) ∙ ap stands_at ends
+      done = sym (machine_steps x.stage y.now y.reply) ∙ ap abstract_read ends
 
-      noted : SystemOk going.plan going.past (with_client (with_client (system_of hands) y.client (Reading t.id t.seen a read_then)) y.client (Open t.id seen))
-      noted =
-          notes going.plan going.past (with_client (system_of hands) y.client (Reading t.id t.seen a read_then)) y.client t.id t.seen a images
-          (record { ok = going.system; at = at_itself (system_of hands).clients y.client (Reading t.id t.seen a read_then) ∙ ap (Reading t.id t.seen a) done })
+      as_read : SystemOk going.plan going.past (with_client (with_client (system_of states) y.client (Reading t.id t.seen a read_then)) y.client (Open t.id seen))
+      as_read =
+          read_set going.plan going.past (with_client (system_of states) y.client (Reading t.id t.seen a read_then)) y.client t.id t.seen a images
+          (record { ok = going.system; at = at_itself (system_of states).clients y.client (Reading t.id t.seen a read_then) ∙ ap (Reading t.id t.seen a) done })
           (may_note t a images as_read)
 
-      kept : AreKept seen.notes seen.writes
+      kept : IsSetInvariant seen.read_set seen.writes
       kept =
-          (subst (ClientOk going.plan going.past y.client) (at_itself (with_client (system_of hands) y.client (Reading t.id t.seen a read_then)).clients y.client (Open t.id seen)) (noted.each y.client)).1.kept
+          (subst (ClientOk going.plan going.past y.client) (at_itself (with_client (system_of states) y.client (Reading t.id t.seen a read_then)).clients y.client (Open t.id seen)) (as_read.each y.client)).1.kept
 
       step_seen : (v : TxnAt) (b : Answer) (ks : List Keyed) → IsNoting t a images v → gives p a v ≡ Finished b ks → step_of p (overlay (access_of p.table p.statement) seen) ≡ Finished b ks
       step_seen v b ks n h = sym (ap (λ (q : Access). step_of p (overlay q seen)) k.access) ∙ ap (λ (s : Seen). step_of p (overlay a s)) (sym n.seen) ∙ h
@@ -179,25 +179,25 @@ module _ (catalog : List Table) (events : List Event) (hands : ℕ → Hand) (g 
       tells : (v : TxnAt) (b : Answer) (ks : List Keyed) → IsNoting t a images v → gives p a v ≡ Finished b ks → is_answered_from_rows b ≡ true → RepliedSo (Some b) (holding now (written v ks))
       tells v b ks n gave rows =
           let h : step_of p (overlay (access_of p.table p.statement) seen) ≡ Finished b ks = step_seen v b ks n gave in
-          let changes : AreChanges seen.notes ks = subst (MayWrite seen.notes) h (may_write seen p fine kept (subst (IsKeyRead seen.notes) k.access (key_read_now t.seen a images))) in
-          let answers : AnswersOn catalog (tables_fit catalog) seen p.statement a b ks = subst (λ (q : Access). AnswersOn catalog (tables_fit catalog) seen p.statement q b ks) (sym k.access) (answers_on catalog p seen b ks is k.named k.asked k.taken k.literals h) in
-          moved catalog (tables_fit catalog) hands y.client (holding now (written v ks)) (events ++ call_event y (Some b) ∷ []) free refl
-          (subst (λ (z : ClientAt). IsGoing catalog (tables_fit catalog) (events ++ call_event y (Some b) ∷ []) (with_client (system_of hands) y.client z) (at (doing_of hands) y.client None)) (sym by_doing)
-          (going_tells catalog (tables_fit catalog) events (system_of hands) (doing_of hands) g y.client y.store y.request y.how y.reply y.now machine_kind machine_kinds t.id t.seen a (stands_at x.stage) here asked b p.statement runs_it images ks
+          let changes : AreChanges seen.read_set ks = subst (MayWrite seen.read_set) h (may_write seen p valid kept (subst (IsKeyRead seen.read_set) k.access (key_read_now t.seen a images))) in
+          let answers : AnswersOn catalog (tables_are_well_typed catalog) seen p.statement a b ks = subst (λ (q : Access). AnswersOn catalog (tables_are_well_typed catalog) seen p.statement q b ks) (sym k.access) (answers_on catalog p seen b ks is k.named k.asked k.taken k.literals h) in
+          moved catalog (tables_are_well_typed catalog) states y.client (holding now (written v ks)) (events ++ call_event y (Some b) ∷ []) free refl
+          (subst (λ (z : ClientAt). RunInvariant catalog (tables_are_well_typed catalog) (events ++ call_event y (Some b) ∷ []) (with_client (system_of states) y.client z) (at (doing_of states) y.client None)) (sym by_doing)
+          (going_tells catalog (tables_are_well_typed catalog) events (system_of states) (doing_of states) g y.client y.store y.request y.how y.reply y.now machine_kind machine_kinds t.id t.seen a (abstract_read x.stage) here asked b p.statement runs_it images ks
           rows done (may_note t a images as_read) (covered_now t.seen a images) answers changes))
         where
-          by_doing : stands_txn (Some (written v ks)) ≡ Open t.id (with_written seen ks)
+          by_doing : abstract_txn (Some (written v ks)) ≡ Open t.id (with_written seen ks)
           by_doing = rw n.idle (λ i. Open (n.id i) (with_written (n.seen i) ks))
 
       -- it is answered as one that changes nothing, and what it read stays noted
       keeps : (v : TxnAt) (b : Answer) → IsNoting t a images v → changes_nothing b ≡ true → read_finished b ≡ true → RepliedSo (Some b) (holding now v)
       keeps v b n nothing finishes =
-          moved catalog (tables_fit catalog) hands y.client (holding now v) (events ++ call_event y (Some b) ∷ []) free refl
-          (subst (λ (z : ClientAt). IsGoing catalog (tables_fit catalog) (events ++ call_event y (Some b) ∷ []) (with_client (system_of hands) y.client z) (at (doing_of hands) y.client None)) (sym by_doing)
-          (going_keeps catalog (tables_fit catalog) events (system_of hands) (doing_of hands) g y.client y.store y.request y.how y.reply y.now machine_kind machine_kinds t.id t.seen a (stands_at x.stage) here asked b p.statement runs_it images nothing finishes done
+          moved catalog (tables_are_well_typed catalog) states y.client (holding now v) (events ++ call_event y (Some b) ∷ []) free refl
+          (subst (λ (z : ClientAt). RunInvariant catalog (tables_are_well_typed catalog) (events ++ call_event y (Some b) ∷ []) (with_client (system_of states) y.client z) (at (doing_of states) y.client None)) (sym by_doing)
+          (going_keeps catalog (tables_are_well_typed catalog) events (system_of states) (doing_of states) g y.client y.store y.request y.how y.reply y.now machine_kind machine_kinds t.id t.seen a (abstract_read x.stage) here asked b p.statement runs_it images nothing finishes done
           (may_note t a images as_read)))
         where
-          by_doing : stands_txn (Some v) ≡ Open t.id seen
+          by_doing : abstract_txn (Some v) ≡ Open t.id seen
           by_doing = rw n.idle (λ i. Open (n.id i) (n.seen i))
 
       abbrev Told : TxnAt → PlanStep → Type 0
@@ -219,14 +219,14 @@ module _ (catalog : List Table) (events : List Event) (hands : ℕ → Hand) (g 
           by_unfit None e = subst (Told v) (sym (gave None e)) (finished_so v _ _ n (gave None e) (from_rows p.table p.statement (overlay a v.seen)))
           by_unfit (Some key) e = subst (Told v) (sym (gave (Some key) e)) (finished_so v (answer.BadRecord key) [] n (gave (Some key) e) (λ h. absurd (cc)))
 
-    images_case : (images : List Record) → read_step x.stage y.now y.reply ≡ Ended (step.Images images) → (n : Next) (u : TxnAt) → ImagesTold t p a images n u → LedSo n u
+    images_case : (images : List Record) → read_step x.stage y.now y.reply ≡ Ended (step.Images images) → (n : Next) (u : TxnAt) → RowsReadPost t p a images n u → LedSo n u
     images_case images ends (next.Answer z) u h =
-        as_led (next.Answer z) (next.Answer (given_answer (noting t a images) (gives p a (noting t a images)))) u (given_left (idle_of t) (noting t a images) (gives p a (noting t a images))) (ap next.Answer h.1) h.2
-        (told images ends h.0 (noting t a images) (is_noting t a images))
+        as_led (next.Answer z) (next.Answer (given_answer (with_rows_read t a images) (gives p a (with_rows_read t a images)))) u (given_left (idle_of t) (with_rows_read t a images) (gives p a (with_rows_read t a images))) (ap next.Answer h.1) h.2
+        (told images ends h.0 (with_rows_read t a images) (is_noting t a images))
     images_case images ends (next.End (answer.Conflict key found)) u h = differs key found
     images_case images ends n u h = absurd h
 
-    stage_case : (s : ReadStage) → read_step x.stage y.now y.reply ≡ s → (n : Next) (u : TxnAt) → StageTold t p a x s (read_result s) n u → LedSo n u
+    stage_case : (s : ReadStage) → read_step x.stage y.now y.reply ≡ s → (n : Next) (u : TxnAt) → StagePost t p a x s (read_result s) n u → LedSo n u
     stage_case Asking e n u h = as_led n next.Call u (record t { doing = doing.Read a (record x { stage = Asking }) }) h.0 h.1 (reads_on Asking e)
     stage_case (Resolving images rec meta q left) e n u h = as_led n next.Call u (record t { doing = doing.Read a (record x { stage = Resolving images rec meta q left }) }) h.0 h.1 (reads_on (Resolving images rec meta q left) e)
     stage_case (Ended step.More) e n u h = as_led n next.Call u (record t { doing = doing.Read a (record x { stage = Ended step.More }) }) h.0 h.1 (reads_on (Ended step.More) e)
@@ -236,7 +236,7 @@ module _ (catalog : List Table) (events : List Event) (hands : ℕ → Hand) (g 
     stage_case (Ended (step.BadRecord key)) e n u h = as_led n (next.Answer (answer.BadRecord key)) u (idle_of t) h.0 h.1 (fails (answer.BadRecord key) refl refl)
     stage_case (Ended step.NoMemory) e n u h = absurd h
 
-    pub replied_read : (n : Next) (u : TxnAt) → CallTold t p a x y.reply y.now n u → LedSo n u
+    pub replied_read : (n : Next) (u : TxnAt) → CallPost t p a x y.reply y.now n u → LedSo n u
     replied_read n u h =
         by_next n
         (λ e. as_led n (next.Answer answer.NoMemory) u (idle_of t) e (h.memory e) (fails answer.NoMemory refl refl))

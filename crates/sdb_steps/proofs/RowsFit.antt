@@ -30,7 +30,7 @@ use Rattle.sdb_model.specs.Access.{rows_at, with_changes, with_row}
 use Rattle.sdb_model.specs.Exec.{Tables, all_rows, find_table, is_row_of, key_of, named_table, passes, row_of_entry, table_of, with_named}
 use Rattle.sdb_model.specs.Refused.{refusal_by, refusal_of, refusal_on}
 use Rattle.sdb_exec.specs.declared.plan.PlanStep.TheVariants.{Finished}
-use Rattle.sdb_exec.specs.Plans.{IsExec, Planned, change_fits, changes_on, columns_at, finished, first_unfit, has_all_literals, leaves_fit, put_row, step_of}
+use Rattle.sdb_exec.specs.Plans.{IsExec, Planned, change_is_well_typed, changes_on, columns_at, finished, first_unfit, has_all_literals, leaves_well_typed, put_row, step_of}
 use Rattle.sdb_exec.specs.Reads.{access_of}
 use Rattle.sdb_exec.proofs.Fits.{changes_fit}
 use Rattle.sdb_exec.proofs.Laid.{by_key, get-with_row, keyed}
@@ -39,7 +39,7 @@ use Rattle.sdb_exec.proofs.Whole.{fitting_is_exec}
 use Rattle.sdb_snapshot.specs.Seen.{Seen, overlay}
 use Rattle.sdb_story.specs.Body.{AnswersOn}
 use Rattle.sdb_story.specs.Left.{IsFitting}
-use Rattle.sdb_steps.specs.Fitting.{row_fits, tables_fit}
+use Rattle.sdb_steps.specs.Fitting.{row_is_well_typed, tables_are_well_typed}
 use Rattle.sdb_types.proofs.Basics.{less_of, truth as true_from_T, by_test}
 use Rattle.sdb_types.specs.Exact.{equal_of}
 use Rattle.sdb_model.specs.Tables.{is_data}
@@ -81,22 +81,22 @@ module _ (P : Key → List Pair → Bool) where
       let parts = and_parts (below_all key_cmp e.0 es) (is_sorted key_cmp es) h in
       and_both (P e.0 e.1) (rows_pass es) (each e.0 e.1 (rw (tied_itself key_total e.0) refl)) (found_pass es parts.1 (λ q cs found. each q cs (later e es q cs parts.0 found)))
 
-fits_there : (catalog : List Table) (d : Tables) (q : Key) (cs : List Pair) → tables_fit catalog d ≡ true → get d q ≡ Some cs → row_fits catalog q cs ≡ true
-fits_there catalog d q cs h found = passes_found (row_fits catalog) (entries d) q cs h (sym (get-entries d q) ∙ found)
+fits_there : (catalog : List Table) (d : Tables) (q : Key) (cs : List Pair) → tables_are_well_typed catalog d ≡ true → get d q ≡ Some cs → row_is_well_typed catalog q cs ≡ true
+fits_there catalog d q cs h found = passes_found (row_is_well_typed catalog) (entries d) q cs h (sym (get-entries d q) ∙ found)
 
-there_fits : (catalog : List Table) (d : Tables) → ((q : Key) (cs : List Pair) → get d q ≡ Some cs → row_fits catalog q cs ≡ true) → tables_fit catalog d ≡ true
-there_fits catalog d each = found_pass (row_fits catalog) (entries d) (true_from_T _ (entries_sorted d)) (λ q cs found. each q cs (get-entries d q ∙ found))
+there_fits : (catalog : List Table) (d : Tables) → ((q : Key) (cs : List Pair) → get d q ≡ Some cs → row_is_well_typed catalog q cs ≡ true) → tables_are_well_typed catalog d ≡ true
+there_fits catalog d each = found_pass (row_is_well_typed catalog) (entries d) (true_from_T _ (entries_sorted d)) (λ q cs found. each q cs (get-entries d q ∙ found))
 
 ---- fitting tables
 
-no_row : (catalog : List Table) (k : Key) (cs : List Pair) → is_some (find_table catalog k.table) ≡ false → row_fits catalog k cs ≡ true → ⊥
+no_row : (catalog : List Table) (k : Key) (cs : List Pair) → is_some (find_table catalog k.table) ≡ false → row_is_well_typed catalog k cs ≡ true → ⊥
 no_row catalog k cs h fits = by_found (find_table catalog k.table) h fits
   where
     by_found : (o : Option Table) → is_some o ≡ false → option_map_or (λ (t : Table). fits_table t k cs) o false ≡ true → ⊥
     by_found None h fits = absurd (cc)
     by_found (Some t) h fits = absurd (cc)
 
-pub is_fitting : (catalog : List Table) → ((k : Key) → is_some (find_table catalog k.table) ≡ true → is_data k ≡ true) → IsFitting catalog (tables_fit catalog)
+pub is_fitting : (catalog : List Table) → ((k : Key) → is_some (find_table catalog k.table) ≡ true → is_data k ≡ true) → IsFitting catalog (tables_are_well_typed catalog)
 is_fitting catalog apart = record {
   starts = there_fits catalog empty (λ q cs found. absurd (let none : get {R = key_cmp} (empty {X = List Pair}) q ≡ None = get-empty key_cmp q in cc));
   inside = λ d k fit none.
@@ -109,28 +109,28 @@ is_fitting catalog apart = record {
 
 ---- changes of rows that fit
 
-fits_with_row : (catalog : List Table) (d : Tables) (key : Key) (row : Option (List Pair)) → tables_fit catalog d ≡ true → ((cs : List Pair) → row ≡ Some cs → row_fits catalog key cs ≡ true) → tables_fit catalog (with_row d key row) ≡ true
+fits_with_row : (catalog : List Table) (d : Tables) (key : Key) (row : Option (List Pair)) → tables_are_well_typed catalog d ≡ true → ((cs : List Pair) → row ≡ Some cs → row_is_well_typed catalog key cs ≡ true) → tables_are_well_typed catalog (with_row d key row) ≡ true
 fits_with_row catalog d key row fit new =
     there_fits catalog (with_row d key row) (λ q cs found.
-    by_key q (key, []) (λ b. cond b row (get d q) ≡ Some cs → row_fits catalog q cs ≡ true) (λ t i k. ap (λ (x : Key). row_fits catalog x cs) i ∙ new cs k) (λ t k. fits_there catalog d q cs fit k)
+    by_key q (key, []) (λ b. cond b row (get d q) ≡ Some cs → row_is_well_typed catalog q cs ≡ true) (λ t i k. ap (λ (x : Key). row_is_well_typed catalog x cs) i ∙ new cs k) (λ t k. fits_there catalog d q cs fit k)
     (sym (get-with_row d key row q) ∙ found))
 
 -- a change of a row of the table, which leaves one that fits
 abbrev is_in : Table → Keyed → Bool
 is_in t k = is_eq (table_cmp k.key.table t.name)
 
-change_row_fits : (catalog : List Table) (t : Table) (key : Key) (c : Change) (cs : List Pair) → find_table catalog t.name ≡ Some t → is_eq (table_cmp key.table t.name) ≡ true → leaves_fit t key c ≡ true → row_of_change c ≡ Some cs → row_fits catalog key cs ≡ true
+change_row_fits : (catalog : List Table) (t : Table) (key : Key) (c : Change) (cs : List Pair) → find_table catalog t.name ≡ Some t → is_eq (table_cmp key.table t.name) ≡ true → leaves_well_typed t key c ≡ true → row_of_change c ≡ Some cs → row_is_well_typed catalog key cs ≡ true
 change_row_fits catalog t key (change.Row columns) cs found named fits e =
     let same : columns ≡ cs = cc in
     let there : find_table catalog key.table ≡ Some t = ap (find_table catalog) (table_exact key.table t.name (equal_of (table_cmp key.table t.name) named)) ∙ found in
     ap (λ (o : Option Table). option_map_or (λ (u : Table). fits_table u key cs) o false) there ∙ ap (fits_table t key) (sym same) ∙ fits
 change_row_fits catalog t key change.Delete cs found named fits e = absurd (cc)
 
-fits_with_changes : (catalog : List Table) (t : Table) (ks : List Keyed) (d : Tables) → find_table catalog t.name ≡ Some t → list_all (is_in t) ks ≡ true → list_all (change_fits t) ks ≡ true → tables_fit catalog d ≡ true → tables_fit catalog (with_changes d ks) ≡ true
+fits_with_changes : (catalog : List Table) (t : Table) (ks : List Keyed) (d : Tables) → find_table catalog t.name ≡ Some t → list_all (is_in t) ks ≡ true → list_all (change_is_well_typed t) ks ≡ true → tables_are_well_typed catalog d ≡ true → tables_are_well_typed catalog (with_changes d ks) ≡ true
 fits_with_changes catalog t [] d found named fits fit = fit
 fits_with_changes catalog t (k ∷ ks) d found named fits fit =
-    fits_with_changes catalog t ks (with_row d k.key (row_of_change k.change)) found (and_second (is_in t k) _ named) (and_second (change_fits t k) _ fits)
-    (fits_with_row catalog d k.key (row_of_change k.change) fit (λ cs e. change_row_fits catalog t k.key k.change cs found (and_first (is_in t k) _ named) (and_first (change_fits t k) _ fits) e))
+    fits_with_changes catalog t ks (with_row d k.key (row_of_change k.change)) found (and_second (is_in t k) _ named) (and_second (change_is_well_typed t k) _ fits)
+    (fits_with_row catalog d k.key (row_of_change k.change) fit (λ cs e. change_row_fits catalog t k.key k.change cs found (and_first (is_in t k) _ named) (and_first (change_is_well_typed t k) _ fits) e))
 
 ---- a plan's changes are of rows of its table
 
@@ -179,14 +179,14 @@ found_itself catalog None t h = absurd (cc)
 found_itself catalog (Some name) t h = ap (find_table catalog) (found_named catalog name t h) ∙ h
 
 -- where all rows fit, those of a table do
-all_in_fit : (catalog : List Table) (t : Table) (rows : List Image) → find_table catalog t.name ≡ Some t → list_all (λ r. row_fits catalog r.key r.columns) rows ≡ true → list_all (λ r. not (is_row_of t r) || fits_table t r.key r.columns) rows ≡ true
+all_in_fit : (catalog : List Table) (t : Table) (rows : List Image) → find_table catalog t.name ≡ Some t → list_all (λ r. row_is_well_typed catalog r.key r.columns) rows ≡ true → list_all (λ r. not (is_row_of t r) || fits_table t r.key r.columns) rows ≡ true
 all_in_fit catalog t [] found h = refl
 all_in_fit catalog t (r ∷ rows) found h =
-    let rest = all_in_fit catalog t rows found (and_second (row_fits catalog r.key r.columns) _ h) in
+    let rest = all_in_fit catalog t rows found (and_second (row_is_well_typed catalog r.key r.columns) _ h) in
     by_test (is_row_of t r)
     (λ q.
     let there : find_table catalog r.key.table ≡ Some t = ap (find_table catalog) (table_exact r.key.table t.name (equal_of (table_cmp r.key.table t.name) q)) ∙ found in
-    let fits : fits_table t r.key r.columns ≡ true = sym (ap (λ (o : Option Table). option_map_or (λ (u : Table). fits_table u r.key r.columns) o false) there) ∙ and_first (row_fits catalog r.key r.columns) _ h in
+    let fits : fits_table t r.key r.columns ≡ true = sym (ap (λ (o : Option Table). option_map_or (λ (u : Table). fits_table u r.key r.columns) o false) there) ∙ and_first (row_is_well_typed catalog r.key r.columns) _ h in
     rw (q, fits) rest)
     (λ q. rw q rest)
 
@@ -195,17 +195,17 @@ done_is b c ks ls e = cc
 
 -- the tables that it leaves fit
 left_fit : (catalog : List Table) (p : Planned) (rows : List Image) (b : Answer) (ks : List Keyed) (e : Tables) → find_table catalog p.table.name ≡ Some p.table → p.asked ≡ true → refusal_on p.table p.statement ≡ None → has_all_literals p.statement ≡ true
-    → step_of p rows ≡ Finished b ks → tables_fit catalog e ≡ true → tables_fit catalog (with_changes e ks) ≡ true
+    → step_of p rows ≡ Finished b ks → tables_are_well_typed catalog e ≡ true → tables_are_well_typed catalog (with_changes e ks) ≡ true
 left_fit catalog p rows b ks e found asked taken literals step fit =
-    elim (first_unfit p.table rows) as (λ o. first_unfit p.table rows ≡ o → finished p.table p.statement rows o ≡ Finished b ks → tables_fit catalog (with_changes e ks) ≡ true) [
+    elim (first_unfit p.table rows) as (λ o. first_unfit p.table rows ≡ o → finished p.table p.statement rows o ≡ Finished b ks → tables_are_well_typed catalog (with_changes e ks) ≡ true) [
       | None ↦ λ q k.
-          subst (λ (l : List Keyed). tables_fit catalog (with_changes e l) ≡ true) (done_is _ b _ ks k)
+          subst (λ (l : List Keyed). tables_are_well_typed catalog (with_changes e l) ≡ true) (done_is _ b _ ks k)
           (fits_with_changes catalog p.table (changes_on p.table p.statement rows) e found (changes_in p.table p.statement rows) (changes_fit p.table p.statement rows literals taken (none_unfit p.table rows q)) fit)
-      | Some key ↦ λ q k. subst (λ (l : List Keyed). tables_fit catalog (with_changes e l) ≡ true) (done_is _ b [] ks k) fit
+      | Some key ↦ λ q k. subst (λ (l : List Keyed). tables_are_well_typed catalog (with_changes e l) ≡ true) (done_is _ b [] ks k) fit
     ] refl (rw asked at step)
 
 pub answers_on : (catalog : List Table) (p : Planned) (seen : Seen) (b : Answer) (ks : List Keyed) → is_catalog catalog ≡ true → named_table catalog p.statement ≡ Some p.table → p.asked ≡ true → refusal_of catalog p.statement ≡ None → has_all_literals p.statement ≡ true
-    → step_of p (overlay (access_of p.table p.statement) seen) ≡ Finished b ks → AnswersOn catalog (tables_fit catalog) seen p.statement (access_of p.table p.statement) b ks
+    → step_of p (overlay (access_of p.table p.statement) seen) ≡ Finished b ks → AnswersOn catalog (tables_are_well_typed catalog) seen p.statement (access_of p.table p.statement) b ks
 answers_on catalog p seen b ks is named asked taken literals step e fit rows =
     let found : find_table catalog p.table.name ≡ Some p.table = found_itself catalog (table_of p.statement) p.table named in
     let run : IsExec catalog p e (step_of p (rows_at (access_of p.table p.statement) e)) = fitting_is_exec catalog p e (named_is_table catalog p.statement p.table is named) named asked (all_in_fit catalog p.table (all_rows e) found fit) in

@@ -28,15 +28,15 @@ use Rattle.sdb_vacuum.specs.Vacuum as machine
 use Rattle.sdb_vacuum.specs.Vacuum.{VacuumAt, VacuumStage}
 use Rattle.sdb_turns.specs.Machine.{kind_at, machine_kind}
 use Rattle.sdb_turns.specs.ReadAt.{IsOfData}
-use Rattle.sdb_turns.specs.Sweep.{SweepAt, remove_or, sweep, sweep_one, sweep_pending, sweep_removed, sweep_resolved, sweep_rows, sweep_step}
+use Rattle.sdb_turns.specs.Vacuum.{VacuumModel, remove_or, vacuum_rows, vacuum_one, vacuum_call, vacuum_removed, vacuum_resolved, vacuum_scanned, vacuum_model_step}
 use Rattle.sdb_steps.specs.About.{AreListed, IsListed, IsVacuumIn}
-use Rattle.sdb_steps.specs.Sweeps.{sweep_at}
+use Rattle.sdb_steps.specs.Vacuums.{abstract_vacuum}
 use Rattle.sdb_steps.proofs.InTables.{inside_span}
 use Rattle.sdb_model.specs.Tables.{is_data}
 
 ---- the call that is pending
 
-pub sweep_asks : (s : VacuumStage) → machine.pending_at s ≡ sweep_pending (sweep_at s)
+pub sweep_asks : (s : VacuumStage) → machine.pending_at s ≡ vacuum_call (abstract_vacuum s)
 sweep_asks (machine.Scanning span) = refl
 sweep_asks (machine.Resolving rec meta p left) = refl
 sweep_asks (machine.Removing b left) = refl
@@ -45,28 +45,28 @@ sweep_asks machine.Over = refl
 ---- where a reply leads
 
 -- Where another call is pending, it is where the laws lead it, or its table is done and it scans the next.
-abbrev pub Leads : List Span → SweepAt → VacuumAt × VacuumStep → Type 0
-Leads ss w (v, step.More) = ((sweep_at v.stage ≡ w) × (v.spans ≡ ss)) ⊎ ((span : Span) × (v.stage ≡ machine.Scanning span) × (ss ≡ span ∷ v.spans))
+abbrev pub Leads : List Span → VacuumModel → VacuumAt × VacuumStep → Type 0
+Leads ss w (v, step.More) = ((abstract_vacuum v.stage ≡ w) × (v.spans ≡ ss)) ⊎ ((span : Span) × (v.stage ≡ machine.Scanning span) × (ss ≡ span ∷ v.spans))
 Leads ss w (v, s) = Unit {0}
 
-next_leads : (ss : List Span) (n : ℕ) (w : SweepAt) → Leads ss w (machine.next_table ss n)
+next_leads : (ss : List Span) (n : ℕ) (w : VacuumModel) → Leads ss w (machine.next_table ss n)
 next_leads [] n w = tt
 next_leads (s ∷ ss) n w = inr (s, refl, refl)
 
-going_leads : (ss : List Span) (n : ℕ) (left : List Record) → Leads ss (sweep machine_kind left) (machine.going ss n (machine.first_of left))
+going_leads : (ss : List Span) (n : ℕ) (left : List Record) → Leads ss (vacuum_rows machine_kind left) (machine.next_of_row ss n (machine.first_of left))
 going_leads ss n [] = next_leads ss n _
 going_leads ss n (r ∷ left) = by (read.kind_of r) (going_leads ss n left)
   where
-    here : (b : Bool) → Leads ss (sweep machine_kind left) (machine.going ss n (machine.first_of left)) → Leads ss (if b then Rattle.sdb_turns.specs.Sweep.Removing r left else sweep machine_kind left) (machine.going ss n (if b then machine.Tombstone r left else machine.first_of left))
+    here : (b : Bool) → Leads ss (vacuum_rows machine_kind left) (machine.next_of_row ss n (machine.first_of left)) → Leads ss (if b then Rattle.sdb_turns.specs.Vacuum.Removing r left else vacuum_rows machine_kind left) (machine.next_of_row ss n (if b then machine.Tombstone r left else machine.first_of left))
     here true rest = inl (refl, refl)
     here false rest = rest
 
-    by : (k : read.Kind) → Leads ss (sweep machine_kind left) (machine.going ss n (machine.first_of left)) → Leads ss (sweep_one (kind_at k) r left (sweep machine_kind left)) (machine.going ss n (machine.first_one k r left (machine.first_of left)))
+    by : (k : read.Kind) → Leads ss (vacuum_rows machine_kind left) (machine.next_of_row ss n (machine.first_of left)) → Leads ss (vacuum_one (kind_at k) r left (vacuum_rows machine_kind left)) (machine.next_of_row ss n (machine.first_one k r left (machine.first_of left)))
     by read.Firm rest = here (is_tombstone r) rest
     by (read.Open meta) rest = inl (refl, refl)
     by read.Bad rest = tt
 
-answered_leads : (ss : List Span) (n : ℕ) (r : Reply) → Leads ss (sweep_rows machine_kind r) (machine.answered ss n r)
+answered_leads : (ss : List Span) (n : ℕ) (r : Reply) → Leads ss (vacuum_scanned machine_kind r) (machine.answered ss n r)
 answered_leads ss n (reply.Rows rows) = going_leads ss n rows
 answered_leads ss n (reply.Found found) = tt
 answered_leads ss n reply.Applied = tt
@@ -74,14 +74,14 @@ answered_leads ss n (reply.NotMet found) = tt
 answered_leads ss n reply.Fault = tt
 answered_leads ss n reply.NoMemory = tt
 
-image_leads : (ss : List Span) (n : ℕ) (left : List Record) (b : Record) → Leads ss (remove_or b left (sweep machine_kind left)) (machine.tombstone_or ss n left b)
+image_leads : (ss : List Span) (n : ℕ) (left : List Record) (b : Record) → Leads ss (remove_or b left (vacuum_rows machine_kind left)) (machine.tombstone_or ss n left b)
 image_leads ss n left b = by (is_tombstone b)
   where
-    by : (t : Bool) → Leads ss (if t then Rattle.sdb_turns.specs.Sweep.Removing b left else sweep machine_kind left) (if t then machine.goes_on ss n (machine.Removing b left) else machine.going ss n (machine.first_of left))
+    by : (t : Bool) → Leads ss (if t then Rattle.sdb_turns.specs.Vacuum.Removing b left else vacuum_rows machine_kind left) (if t then machine.with_call ss n (machine.Removing b left) else machine.next_of_row ss n (machine.first_of left))
     by true = inl (refl, refl)
     by false = going_leads ss n left
 
-resolved_leads : (ss : List Span) (n : ℕ) (rec : Record) (meta : Meta) (left : List Record) (x : RecoverPhase × RecoverStep) → Leads ss (sweep_resolved machine_kind rec meta left x) (machine.resolved ss n rec meta left x)
+resolved_leads : (ss : List Span) (n : ℕ) (rec : Record) (meta : Meta) (left : List Record) (x : RecoverPhase × RecoverStep) → Leads ss (vacuum_resolved machine_kind rec meta left x) (machine.resolved ss n rec meta left x)
 resolved_leads ss n rec meta left (p, steps.More) = inl (refl, refl)
 resolved_leads ss n rec meta left (p, steps.Image None) = going_leads ss n left
 resolved_leads ss n rec meta left (p, steps.Image (Some b)) = image_leads ss n left b
@@ -90,7 +90,7 @@ resolved_leads ss n rec meta left (p, steps.Faulted) = tt
 resolved_leads ss n rec meta left (p, steps.BadRecord key) = tt
 resolved_leads ss n rec meta left (p, steps.NoMemory) = tt
 
-removal_leads : (ss : List Span) (n : ℕ) (left : List Record) (r : Reply) → Leads ss (sweep_removed machine_kind left r) (machine.removal_answered ss n left r)
+removal_leads : (ss : List Span) (n : ℕ) (left : List Record) (r : Reply) → Leads ss (vacuum_removed machine_kind left r) (machine.removal_answered ss n left r)
 removal_leads ss n left reply.Applied = going_leads ss (n + 1) left
 removal_leads ss n left (reply.NotMet found) = going_leads ss n left
 removal_leads ss n left (reply.Found found) = tt
@@ -98,7 +98,7 @@ removal_leads ss n left (reply.Rows rows) = tt
 removal_leads ss n left reply.Fault = tt
 removal_leads ss n left reply.NoMemory = tt
 
-pub step_leads : (ss : List Span) (n : ℕ) (s : VacuumStage) (now : ℤ) (r : Reply) → Leads ss (sweep_step machine_kind (sweep_at s) now r) (machine.step_at ss n s now r)
+pub step_leads : (ss : List Span) (n : ℕ) (s : VacuumStage) (now : ℤ) (r : Reply) → Leads ss (vacuum_model_step machine_kind (abstract_vacuum s) now r) (machine.step_at ss n s now r)
 step_leads ss n (machine.Scanning span) now r = answered_leads ss n r
 step_leads ss n (machine.Resolving rec meta p left) now r = resolved_leads ss n rec meta left (recover_next rec meta p now r)
 step_leads ss n (machine.Removing b left) now r = removal_leads ss n left r
@@ -114,7 +114,7 @@ module _ (P : Span → Type 0) where
   next_are [] n h = h
   next_are (s ∷ ss) n h = h.1
 
-  going_are : (ss : List Span) (n : ℕ) (f : machine.First) → AllByRecursion P ss → Are (machine.going ss n f)
+  going_are : (ss : List Span) (n : ℕ) (f : machine.First) → AllByRecursion P ss → Are (machine.next_of_row ss n f)
   going_are ss n machine.Nothing h = next_are ss n h
   going_are ss n (machine.Tombstone b left) h = h
   going_are ss n (machine.Unresolved r meta left) h = h
@@ -131,7 +131,7 @@ module _ (P : Span → Type 0) where
   image_are : (ss : List Span) (n : ℕ) (left : List Record) (b : Record) → AllByRecursion P ss → Are (machine.tombstone_or ss n left b)
   image_are ss n left b h = by (is_tombstone b)
     where
-      by : (t : Bool) → Are (if t then machine.goes_on ss n (machine.Removing b left) else machine.going ss n (machine.first_of left))
+      by : (t : Bool) → Are (if t then machine.with_call ss n (machine.Removing b left) else machine.next_of_row ss n (machine.first_of left))
       by true = h
       by false = going_are ss n (machine.first_of left) h
 

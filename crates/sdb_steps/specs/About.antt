@@ -17,7 +17,7 @@ use Rattle.sdb_phases.specs.Work.{Work}
 use Rattle.sdb_read.specs.declared.read.ReadStep.{ReadStep}
 use Rattle.sdb_read.specs.declared.read.ReadStep.TheVariants as step
 use Rattle.sdb_read.specs.Read.{Asking, Ended, ReadAt, ReadStage, Resolving, request_of}
-use Rattle.sdb_snapshot.specs.Noted.{Note}
+use Rattle.sdb_snapshot.specs.Reads.{ReadRecord}
 use Rattle.sdb_snapshot.specs.Seen.{Seen}
 use Rattle.sdb_txn.specs.declared.txn.Doing.{Doing}
 use Rattle.sdb_txn.specs.declared.txn.Doing.TheVariants as doing
@@ -39,8 +39,8 @@ abbrev pub AreRecordsIn : List Table → List Record → Type 0
 AreRecordsIn catalog rs = AllByRecursion (λ r. IsIn catalog r.key) rs
 
 -- a note, and the record that it found
-abbrev pub AreNotesIn : List Table → List Note → Type 0
-AreNotesIn catalog notes = AllByRecursion (λ e. IsIn catalog e.0 × IsRecordIn catalog e.1) notes
+abbrev pub AreReadItemsIn : List Table → List ReadRecord → Type 0
+AreReadItemsIn catalog read_set = AllByRecursion (λ e. IsIn catalog e.0 × IsRecordIn catalog e.1) read_set
 
 -- a write, and its base
 abbrev pub AreWritesIn : List Table → List Write → Type 0
@@ -54,7 +54,7 @@ AreScansIn catalog scans = AllByRecursion (λ s. IsListed catalog s.span.table) 
 
 -- what a transaction has read and written
 pub record IsSeenIn (catalog : List Table) (s : Seen) : Type 0 where
-  pub notes : AreNotesIn catalog s.notes
+  pub read_set : AreReadItemsIn catalog s.read_set
   pub reads : AreReadsIn catalog s.reads
   pub scans : AreScansIn catalog s.scans
   pub writes : AreWritesIn catalog s.writes
@@ -95,16 +95,16 @@ abbrev pub AreListed : List Table → List Span → Type 0
 AreListed catalog spans = AllByRecursion (λ s. IsListed catalog s.table) spans
 
 -- the record in hand and the rows left of a VACUUM
-abbrev pub IsSweepIn : List Table → VacuumStage → Type 0
-IsSweepIn catalog (Scanning span) = IsListed catalog span.table
-IsSweepIn catalog (Resolves rec meta phase left) = IsIn catalog rec.key × AreRecordsIn catalog left
-IsSweepIn catalog (Removing b left) = IsIn catalog b.key × AreRecordsIn catalog left
-IsSweepIn catalog Over = Unit {0}
+abbrev pub IsVacuumStageIn : List Table → VacuumStage → Type 0
+IsVacuumStageIn catalog (Scanning span) = IsListed catalog span.table
+IsVacuumStageIn catalog (Resolves rec meta phase left) = IsIn catalog rec.key × AreRecordsIn catalog left
+IsVacuumStageIn catalog (Removing b left) = IsIn catalog b.key × AreRecordsIn catalog left
+IsVacuumStageIn catalog Over = Unit {0}
 
 abbrev pub IsVacuumIn : List Table → VacuumAt → Type 0
-IsVacuumIn catalog v = IsSweepIn catalog v.stage × AreListed catalog v.spans
+IsVacuumIn catalog v = IsVacuumStageIn catalog v.stage × AreListed catalog v.spans
 
--- A client is about tables of the catalog: all that its open transaction has read, found, written and does is of them, and so is
+-- A client is about tables of the catalog: all that its open transaction has read, found, written and does is of them, and also
 -- what its VACUUM scans, resolves and removes.
 pub record IsOfTables (catalog : List Table) (c : Client) : Type 0 where
   pub txn : IfSome c.txn (λ t. IsDoingIn catalog t.seen t.doing c.plan)

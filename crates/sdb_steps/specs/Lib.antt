@@ -1,5 +1,5 @@
 pub mod Fitting
 pub mod About
-pub mod Sweeps
-pub mod Hands
+pub mod Vacuums
+pub mod States
 pub mod Turns

@@ -16,12 +16,12 @@ use Rattle.sdb_model.specs.Refused.{refusal_of}
 use Rattle.sdb_exec.specs.declared.plan.PlanStep.TheVariants.{Finished}
 use Rattle.sdb_exec.specs.Plans.{Planned, has_all_literals, step_of}
 use Rattle.sdb_exec.specs.Reads.{access_of}
-use Rattle.sdb_client.specs.Client.{ClientAt as Client, ReplyTold, Taking, client_pending, next_id, Takes}
+use Rattle.sdb_client.specs.Client.{ClientAt as Client, ReplyPost, Taking, client_pending, next_id, TextStep}
 use Rattle.sdb_snapshot.specs.Seen.{Seen, overlay}
 use Rattle.sdb_turns.specs.System.{ClientCall, call_event}
-use Rattle.sdb_linked.specs.Going.{IsGoing}
-use Rattle.sdb_steps.specs.Fitting.{tables_fit}
-use Rattle.sdb_steps.specs.Hands.{Hand, IsCalled, IsGated, IsReady, doing_of, system_of, with_hand}
+use Rattle.sdb_linked.specs.Invariant.{RunInvariant}
+use Rattle.sdb_steps.specs.Fitting.{tables_are_well_typed}
+use Rattle.sdb_steps.specs.States.{ClientState, IsCalled, IsGated, IsReady, doing_of, system_of, with_state}
 use Rattle.sdb_model.specs.Tables.{is_data}
 
 ---- plans
@@ -55,7 +55,7 @@ pub record ClientReplied : Type 0 where
   pub result : Option Answer
   pub after : Client
   pub pending : client_pending before ≡ Some request
-  pub told : ReplyTold before before.vacuum reply now result after
+  pub told : ReplyPost before before.vacuum reply now result after
 
 ---- all clients
 
@@ -65,51 +65,51 @@ pub record IsDataCatalog (catalog : List Table) : Type 0 where
   pub apart : (k : Key) → is_some (find_table catalog k.table) ≡ true → is_data k ≡ true
 
 -- Events so far are tied to the clients where they are, over tables that fit.
-abbrev pub GoesWith : List Table → List Event → (ℕ → Hand) → Type 0
-GoesWith catalog events hands = IsGoing catalog (tables_fit catalog) events (system_of hands) (doing_of hands)
+abbrev pub IsInvariantWith : List Table → List Event → (ℕ → ClientState) → Type 0
+IsInvariantWith catalog events states = RunInvariant catalog (tables_are_well_typed catalog) events (system_of states) (doing_of states)
 
 -- A client takes a text, which comes to that answer, or none, and leaves the client so.
-pub record TextTaken : Type 0 where
+pub record TextExecuted : Type 0 where
   pub q : Taking
-  pub hands : ℕ → Hand
+  pub states : ℕ → ClientState
   pub client : ℕ
   pub text : List ℕ
   pub result : Option Answer
   pub after : Client
   pub of_data : IsDataCatalog q.catalog
   pub moment : is_moment q.now ≡ true
-  pub ready : IsReady hands client
+  pub ready : IsReady states client
   pub few : after.begun < 2 ^ 64
-  pub numbered : q.fresh ≡ next_id (hands client).client
-  pub takes : Takes q text (hands client).client result after
+  pub numbered : q.fresh ≡ next_id (states client).client
+  pub takes : TextStep q text (states client).client result after
 
 -- its event
-abbrev pub take_event : TextTaken → Event
+abbrev pub take_event : TextExecuted → Event
 take_event t = event.Take t.client t.text t.result
 
 -- where the clients are with it
-abbrev pub hands_taken : TextTaken → ℕ → Hand
-hands_taken t = with_hand t.hands t.client t.after
+abbrev pub states_after_text : TextExecuted → ℕ → ClientState
+states_after_text t = with_state t.states t.client t.after
 
 -- the gate says so of the other clients
-abbrev pub IsGatedText : TextTaken → Type 0
-IsGatedText t = IsGated t.q.gate t.hands t.client
+abbrev pub IsGatedText : TextExecuted → Type 0
+IsGatedText t = IsGated t.q.gate t.states t.client
 
 -- A client's call gets a reply, which comes to that answer, or none, and leaves the client so.
 pub record CallReplied : Type 0 where
   pub catalog : List Table
-  pub hands : ℕ → Hand
+  pub states : ℕ → ClientState
   pub call : ClientCall
   pub result : Option Answer
   pub after : Client
   pub of_data : IsDataCatalog catalog
-  pub called : IsCalled catalog hands call
-  pub told : ReplyTold (hands call.client).client (hands call.client).client.vacuum call.reply call.now result after
+  pub called : IsCalled catalog states call
+  pub told : ReplyPost (states call.client).client (states call.client).client.vacuum call.reply call.now result after
 
 -- its event
 abbrev pub reply_event : CallReplied → Event
 reply_event r = call_event r.call r.result
 
 -- where the clients are with it
-abbrev pub hands_replied : CallReplied → ℕ → Hand
-hands_replied r = with_hand r.hands r.call.client r.after
+abbrev pub states_after_reply : CallReplied → ℕ → ClientState
+states_after_reply r = with_state r.states r.call.client r.after

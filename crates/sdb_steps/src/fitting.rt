@@ -5,7 +5,7 @@ ghost use Rattle.sdb_schema.specs.declared.table.Table.{Table};
 ghost use Rattle.sdb_model.specs.Exec.{find_table};
 ghost use Rattle.sdb_story.specs.Body.{AnswersOn};
 ghost use Rattle.sdb_story.specs.Left.{IsFitting};
-ghost use Rattle.sdb_steps.specs.Fitting.{tables_fit};
+ghost use Rattle.sdb_steps.specs.Fitting.{tables_are_well_typed};
 ghost use Rattle.sdb_steps.specs.Turns.{FinishedPlan, access_in};
 ghost use Rattle.sdb_model.specs.Tables.{is_data};
 
@@ -13,6 +13,6 @@ ghost use Rattle.sdb_model.specs.Tables.{is_data};
 /// finishes on the rows that a transaction sees, its answer and its changes are those of its statement on all tables that fit and have
 /// these rows there, and the tables that it leaves fit.
 pub fn plans_on_fitting_tables()
-    ensures fitting { (catalog : List Table) → ((k : Key) → is_some (find_table catalog k.table) ≡ true → is_data k ≡ true) → IsFitting catalog (tables_fit catalog) }
-    ensures answers { (p : FinishedPlan) → AnswersOn p.catalog (tables_fit p.catalog) p.seen p.plan.statement (access_in p) p.answer p.changes }
+    ensures fitting { (catalog : List Table) → ((k : Key) → is_some (find_table catalog k.table) ≡ true → is_data k ≡ true) → IsFitting catalog (tables_are_well_typed catalog) }
+    ensures answers { (p : FinishedPlan) → AnswersOn p.catalog (tables_are_well_typed p.catalog) p.seen p.plan.statement (access_in p) p.answer p.changes }
 {}

@@ -1,4 +1,5 @@
-//! What each step of a client comes to, in the words of the laws of clients: what ties the events of a run to its clients is kept.
+//! The client of the program refines the model of a client: each text that it takes and each reply that it gets is a step of the model, which
+//! preserves the invariant between events and clients.
 //!
 //! Each law is the contract of a function with an empty body.
 #![tactic(auto)]
@@ -7,4 +8,4 @@ pub mod about;
 pub mod fitting;
 pub mod keeping;
 pub mod replying;
-pub mod taking;
+pub mod texts;

@@ -6,7 +6,7 @@ use Rattle.sdb_types.specs.Contents.{Contents}
 use Rattle.sdb_types.specs.contracts.key.Key as key
 use Rattle.sdb_types.specs.contracts.pair.Pair as pair
 use Rattle.sdb_store.specs.declared.fail.Fail.{Fail}
-use Rattle.sdb_store.specs.Fate.{Held}
+use Rattle.sdb_store.specs.FaultPlans.{Held}
 
 abbrev pub coded_contents : Coded Contents
 coded_contents = code (key.the_row).coded (coded_list (pair.the_row).coded)
@@ -14,8 +14,8 @@ coded_contents = code (key.the_row).coded (coded_list (pair.the_row).coded)
 abbrev pub coded_fail : Coded Fail
 coded_fail = code_by (ℕ × Bool) (coded× coded_ℕ coded_bool) (λ f. (f.call, f.after)) (λ p. record { call = p.0; after = p.1 }) (λ _. refl)
 
-abbrev pub coded_held : Coded Held
-coded_held =
+abbrev pub code_of_contents : Coded Held
+code_of_contents =
     code_by (Contents × (List Fail × (ℕ × ℕ))) (coded× coded_contents (coded× (coded_list coded_fail) (coded× coded_ℕ coded_ℕ)))
     (λ h. (h.contents, (h.failing, (h.made, h.failed))))
     (λ p. record { contents = p.0; failing = p.1.0; made = p.1.1.0; failed = p.1.1.1 })

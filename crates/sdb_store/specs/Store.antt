@@ -39,14 +39,14 @@ faults_after (reply.NotMet found) faults = faults
 
 -- What a store shows: whether its contents are known, what it then holds, how many calls have failed, and how many were made.
 pub record StoreState : Type 1 where
-  pub tells : Type 0
+  pub known : Type 0
   pub contents : Contents
   pub faults : ℕ
   pub calls : ℕ
 
 -- A store of known contents that holds nothing, and of which no call was made.
 pub record IsNewStore (store : StoreState) : Type 0 where
-  pub telling : store.tells
+  pub where_known : store.known
   pub empty : store.contents ≡ map.empty
   pub sound : store.faults ≡ 0
   pub unused : store.calls ≡ 0
@@ -54,8 +54,8 @@ pub record IsNewStore (store : StoreState) : Type 0 where
 -- One call of a store. The reply is one that the request can get from any store. A store of known contents answers as a
 -- map does, and its contents stay known. It is counted as one call, and as one failure exactly where the reply is a fault.
 pub record IsStoreCall (q : Request) (r : Reply) (old new : StoreState) : Type 0 where
-  pub telling : old.tells → new.tells
-  pub performed : old.tells → Performs q r old.contents new.contents
+  pub where_known : old.known → new.known
+  pub performed : old.known → Performs q r old.contents new.contents
   pub lawful : CanAnswer q r
   pub counted : new.calls ≡ next_number old.calls
   pub cause : new.faults ≡ faults_after r old.faults

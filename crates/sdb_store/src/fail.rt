@@ -2,7 +2,7 @@
 ghost use Rattle.sdb_types.specs.Draws.{counted as next_number};
 ghost use Rattle.std.specs.Prelude.{◌≡◌, ◌≢◌, ◌+◌, ◌<◌, ◌≤◌, find, ◌==◌};
 ghost use Rattle.std.specs.Option.{option_copied};
-ghost use Rattle.sdb_store.specs.Fate.{failed_after, fate_of, listed_fate, reply_after};
+ghost use Rattle.sdb_store.specs.FaultPlans.{failed_after, plan_of_call, listed_plan, reply_after};
 ghost use Rattle.sdb_store.specs.Store.{faults_after};
 
 use sdb_types::{Duplicate, NoMemory, Reply, Seq};
@@ -25,7 +25,7 @@ pub type Fails = Seq<Fail>;
 
 /// What becomes of a call.
 #[derive(Clone, Copy)]
-pub enum Fate {
+pub enum FaultPlan {
     Answers,
     FailsBefore,
     FailsAfter,
@@ -57,16 +57,16 @@ fn entry_at(n: u64, failing: &[Fail]) -> Option<&Fail>
     failing.iter().find(|fail| fail.call == n)
 }
 
-fn fate_listed(entry: Option<&Fail>) -> Fate
-    ensures { result ≡ listed_fate (option_copied entry.entry) }
+fn fate_listed(entry: Option<&Fail>) -> FaultPlan
+    ensures { result ≡ listed_plan (option_copied entry.entry) }
 {
     match entry {
-        None => Fate::Answers,
+        None => FaultPlan::Answers,
         Some(fail) => {
             if fail.after {
-                Fate::FailsAfter
+                FaultPlan::FailsAfter
             } else {
-                Fate::FailsBefore
+                FaultPlan::FailsBefore
             }
         }
     }
@@ -86,16 +86,16 @@ impl Calls {
     }
 
     /// Counts one more call, and says what becomes of it.
-    pub fn next(&mut self) -> Fate
-        ensures fate { result ≡ fate_of (self.old.made + 1) self.old.failing }
+    pub fn next(&mut self) -> FaultPlan
+        ensures fate { result ≡ plan_of_call (self.old.made + 1) self.old.failing }
         ensures failing { self.new.failing ≡ self.old.failing }
         ensures made { self.new.made ≡ next_number self.old.made }
         ensures failed { self.new.failed ≡ self.old.failed }
-        ensures room { result ≢ Fate.Answers → self.new.failed < self.new.made }
+        ensures room { result ≢ FaultPlan.Answers → self.new.failed < self.new.made }
     {
         if self.made >= u64::MAX - 1 {
             self.made = u64::MAX;
-            return Fate::Answers;
+            return FaultPlan::Answers;
         }
         self.made += 1;
         fate_listed(entry_at(self.made, self.failing.as_slice()))

@@ -3,9 +3,9 @@ ghost use Rattle.std.specs.Prelude.{◌≡◌, IfOk, MatchResult};
 ghost use Rattle.std.specs.FinMap as map;
 ghost use Rattle.sdb_types.specs.declared.record.Request.TheVariants.{Get, Scan, PutIf, DeleteIf};
 ghost use Rattle.sdb_store.specs.Store.{Answers, IsStoreCall};
-ghost use Rattle.sdb_store.specs.Fate.{Serves, memory_state};
+ghost use Rattle.sdb_store.specs.FaultPlans.{Serves, memory_state};
 
-use crate::fail::{Calls, Fails, Fate};
+use crate::fail::{Calls, Fails, FaultPlan};
 use crate::rows::Rows;
 use crate::store::Store;
 use sdb_types::{Condition, Key, NoMemory, Record, Reply, Span};
@@ -26,12 +26,12 @@ impl<R: Rows> Drop for Memory<R> {
 }
 
 impl<R: Rows> Model for Memory<R> {
-    ghost use Rattle.sdb_store.specs.Fate.{Held};
-    ghost use Rattle.sdb_store.specs.HeldCode.{coded_held};
+    ghost use Rattle.sdb_store.specs.FaultPlans.{Held};
+    ghost use Rattle.sdb_store.specs.HeldCode.{code_of_contents};
 
     ghost Value = { Held };
 
-    ghost coded = { coded_held };
+    ghost coded = { code_of_contents };
 
     ghost view = { λ m. record { contents = R.contents m.rows; failing = m.calls.failing; made = m.calls.made; failed = m.calls.failed } };
 }
@@ -86,9 +86,9 @@ impl<R: Rows> Store for Memory<R> {
         ensures exact { Serves (Get key.now) result self.old self.new }
     {
         match self.calls.next() {
-            Fate::Answers => reply_of(found(&self.rows, key)),
-            Fate::FailsBefore => self.calls.fail(),
-            Fate::FailsAfter => self.calls.fail_after(found(&self.rows, key)),
+            FaultPlan::Answers => reply_of(found(&self.rows, key)),
+            FaultPlan::FailsBefore => self.calls.fail(),
+            FaultPlan::FailsAfter => self.calls.fail_after(found(&self.rows, key)),
         }
     }
 
@@ -98,9 +98,9 @@ impl<R: Rows> Store for Memory<R> {
         ensures exact { Serves (Scan span.now) result self.old self.new }
     {
         match self.calls.next() {
-            Fate::Answers => reply_of(listed(&self.rows, span)),
-            Fate::FailsBefore => self.calls.fail(),
-            Fate::FailsAfter => self.calls.fail_after(listed(&self.rows, span)),
+            FaultPlan::Answers => reply_of(listed(&self.rows, span)),
+            FaultPlan::FailsBefore => self.calls.fail(),
+            FaultPlan::FailsAfter => self.calls.fail_after(listed(&self.rows, span)),
         }
     }
 
@@ -109,9 +109,9 @@ impl<R: Rows> Store for Memory<R> {
         ensures exact { Serves (PutIf rec.now condition.now) result self.old self.new }
     {
         match self.calls.next() {
-            Fate::Answers => reply_of(self.rows.put(rec, condition)),
-            Fate::FailsBefore => self.calls.fail(),
-            Fate::FailsAfter => self.calls.fail_after(self.rows.put(rec, condition)),
+            FaultPlan::Answers => reply_of(self.rows.put(rec, condition)),
+            FaultPlan::FailsBefore => self.calls.fail(),
+            FaultPlan::FailsAfter => self.calls.fail_after(self.rows.put(rec, condition)),
         }
     }
 
@@ -120,9 +120,9 @@ impl<R: Rows> Store for Memory<R> {
         ensures exact { Serves (DeleteIf key.now condition.now) result self.old self.new }
     {
         match self.calls.next() {
-            Fate::Answers => reply_of(self.rows.delete(key, condition)),
-            Fate::FailsBefore => self.calls.fail(),
-            Fate::FailsAfter => self.calls.fail_after(self.rows.delete(key, condition)),
+            FaultPlan::Answers => reply_of(self.rows.delete(key, condition)),
+            FaultPlan::FailsBefore => self.calls.fail(),
+            FaultPlan::FailsAfter => self.calls.fail_after(self.rows.delete(key, condition)),
         }
     }
 }

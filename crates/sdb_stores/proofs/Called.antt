@@ -17,7 +17,7 @@ use Rattle.sdb_types.specs.declared.record.Reply.TheVariants as reply
 use Rattle.sdb_store.specs.Store.{StoreState, IsStoreCall}
 use Rattle.sdb_store.proofs.Counts.{faults_grown, next_risen}
 use Rattle.sdb_stores.specs.declared.place.Place.{Place}
-use Rattle.sdb_stores.specs.Shelf.{Attached, Shelf, AreSound, IsCallAt, IsTakenOut, HaveCause, attached_as, shelf_of, names_of, place_of, placed_on, places_without, home, home_of, total_faults}
+use Rattle.sdb_stores.specs.Views.{Attached, StoreView, AreSound, IsCallAt, IsTakenOut, HaveCause, attached_as, view_of, names_of, place_of, route_of, places_without, home, home_of, total_faults}
 
 ---- places
 
@@ -31,16 +31,16 @@ position-map f p xs =
     ∙ ap (λ (m : ℕ). cond (nat_lt (prefix_len (λ x. not (p (f x))) xs) m) (Some (prefix_len (λ x. not (p (f x))) xs)) None) (length-map xs f)
 
 -- a place among the items is one among the names that they show
-pub placed : {A : Type 0} (shelf : A → Shelf) (xs ys : List A) (name : List ℕ) (r : Option ℕ) → ys ≡ xs → r ≡ position (λ x. bytes_eq (shelf x).name name) ys → r ≡ place_of name (names_of (map shelf xs))
+pub placed : {A : Type 0} (shelf : A → StoreView) (xs ys : List A) (name : List ℕ) (r : Option ℕ) → ys ≡ xs → r ≡ position (λ x. bytes_eq (shelf x).name name) ys → r ≡ place_of name (names_of (map shelf xs))
 placed shelf xs ys name r same is =
     is ∙ ap (position (λ x. bytes_eq (shelf x).name name)) same
     ∙ sym (position-map (λ s. s.name) (λ n. bytes_eq n name) (map shelf xs) ∙ position-map shelf (λ s. bytes_eq s.name name) xs)
 
-pub names_of-map : {A : Type 0} (shelf : A → Shelf) (xs : List A) → names_of (map shelf xs) ≡ map (λ x. (shelf x).name) xs
+pub names_of-map : {A : Type 0} (shelf : A → StoreView) (xs : List A) → names_of (map shelf xs) ≡ map (λ x. (shelf x).name) xs
 names_of-map shelf [] = refl
 names_of-map shelf (x ∷ xs) = ap (λ ns. (shelf x).name ∷ ns) (names_of-map shelf xs)
 
-pub named : {A E : Type 0} (shelf : A → Shelf) (xs ys : List A) (r : Result (List (List ℕ)) E) → ys ≡ xs → IfOk r (λ names. names ≡ map (λ x. (shelf x).name) ys) → IfOk r (λ names. names ≡ names_of (map shelf xs))
+pub named : {A E : Type 0} (shelf : A → StoreView) (xs ys : List A) (r : Result (List (List ℕ)) E) → ys ≡ xs → IfOk r (λ names. names ≡ map (λ x. (shelf x).name) ys) → IfOk r (λ names. names ≡ names_of (map shelf xs))
 named shelf xs ys r same h =
     let e : map (λ x. (shelf x).name) ys ≡ names_of (map shelf xs) = ap (map (λ x. (shelf x).name)) same ∙ sym (names_of-map shelf xs) in
     subst (λ (ns : List (List ℕ)). IfOk r (λ names. names ≡ ns)) e h
@@ -57,34 +57,34 @@ within_home None names some = some
 within_home (Some store) names some = place_within store names some
 
 -- the store of a namespace is among the stores
-pub home_within : {A : Type 0} (shelf : A → Shelf) (xs : List A) (places : List Place) (ns : List ℕ) (at : ℕ) → 0 < length (map shelf xs) → at ≡ home ns places (names_of (map shelf xs)) → at < length xs
+pub home_within : {A : Type 0} (shelf : A → StoreView) (xs : List A) (places : List Place) (ns : List ℕ) (at : ℕ) → 0 < length (map shelf xs) → at ≡ home ns places (names_of (map shelf xs)) → at < length xs
 home_within shelf xs places ns at some is =
     let same : length (names_of (map shelf xs)) ≡ length xs = length-map (map shelf xs) (λ s. s.name) ∙ length-map xs shelf in
     let n : 0 < length (names_of (map shelf xs)) = omega (arith, same, length-map xs shelf) in
-    let h : home ns places (names_of (map shelf xs)) < length (names_of (map shelf xs)) = within_home (placed_on ns places) (names_of (map shelf xs)) n in
+    let h : home ns places (names_of (map shelf xs)) < length (names_of (map shelf xs)) = within_home (route_of ns places) (names_of (map shelf xs)) n in
     omega (arith, same, is)
 
 -- an index among the shelves is one among the items
-pub shown_within : {A : Type 0} (shelf : A → Shelf) (xs : List A) (at : ℕ) → at < length (map shelf xs) → at < length xs
+pub shown_within : {A : Type 0} (shelf : A → StoreView) (xs : List A) (at : ℕ) → at < length (map shelf xs) → at < length xs
 shown_within shelf xs at inside = omega (arith, inside, length-map xs shelf)
 
-pub shown_inside : {A : Type 0} (shelf : A → Shelf) (xs : List A) (at : ℕ) → at < length xs → at < length (map shelf xs)
+pub shown_inside : {A : Type 0} (shelf : A → StoreView) (xs : List A) (at : ℕ) → at < length xs → at < length (map shelf xs)
 shown_inside shelf xs at inside = omega (arith, inside, length-map xs shelf)
 
 -- where a name is that one of the stores has
-pub named_within : (shelves : List Shelf) (name : List ℕ) (o : Option ℕ) (at : ℕ) → IsSome (place_of name (names_of shelves)) → o ≡ place_of name (names_of shelves) → at ≡ unwrap_or o 0 → at < length shelves
+pub named_within : (shelves : List StoreView) (name : List ℕ) (o : Option ℕ) (at : ℕ) → IsSome (place_of name (names_of shelves)) → o ≡ place_of name (names_of shelves) → at ≡ unwrap_or o 0 → at < length shelves
 named_within shelves name o at some found is =
     let there : unwrap_or (place_of name (names_of shelves)) 0 < length (names_of shelves) = named_there (place_of name (names_of shelves)) some refl in
-    omega (arith, is, ap (λ (p : Option ℕ). unwrap_or p 0) found, there, length-map shelves (λ (s : Shelf). s.name))
+    omega (arith, is, ap (λ (p : Option ℕ). unwrap_or p 0) found, there, length-map shelves (λ (s : StoreView). s.name))
   where
     named_there : (p : Option ℕ) → IsSome p → place_of name (names_of shelves) ≡ p → unwrap_or p 0 < length (names_of shelves)
     named_there None none e = absurd (let f : false ≡ true = none in cc)
     named_there (Some i) h e = (position-Some (λ n. bytes_eq n name) (names_of shelves) i [] e).0
 
-stands_at : {A : Type 0} (shelf : A → Shelf) (xs : List A) (at : ℕ) (x : A) → at < length xs → x ≡ get_or xs at x → slice_get (map shelf xs) at ≡ Some (shelf x)
+stands_at : {A : Type 0} (shelf : A → StoreView) (xs : List A) (at : ℕ) (x : A) → at < length xs → x ≡ get_or xs at x → slice_get (map shelf xs) at ≡ Some (shelf x)
 stands_at shelf xs at x inside is = slice_get-map shelf xs at ∙ ap (option_map shelf) (slice_get-get_or xs at x inside) ∙ ap (λ z. Some (shelf z)) (sym is)
 
-pub name_at : {A : Type 0} (shelf : A → Shelf) (xs : List A) (at home : ℕ) (x : A) → at < length xs → x ≡ get_or xs at x → at ≡ home → slice_get (names_of (map shelf xs)) home ≡ Some (shelf x).name
+pub name_at : {A : Type 0} (shelf : A → StoreView) (xs : List A) (at home : ℕ) (x : A) → at < length xs → x ≡ get_or xs at x → at ≡ home → slice_get (names_of (map shelf xs)) home ≡ Some (shelf x).name
 name_at shelf xs at home x inside is same =
     subst (λ (i : ℕ). slice_get (names_of (map shelf xs)) i ≡ Some (shelf x).name) same
     (slice_get-map (λ s. s.name) (map shelf xs) at ∙ ap (option_map (λ s. s.name)) (stands_at shelf xs at x inside is))
@@ -108,8 +108,8 @@ pub called_at : {A : Type 0} {places later : List Place} (name : A → List ℕ)
     → name y ≡ name x → IsStoreCall q r (see x) (see y) → IsCallAt home q r (attached_as name see places xs) (attached_as name see later (slice_set xs at y))
 called_at {A} {places} {later} name see xs at home q r x y inside is same named called =
     let here : slice_get xs at ≡ Some x = slice_get-get_or xs at x inside ∙ ap Some (sym is) in
-    let shelf : A → Shelf = λ a. shelf_of (name a) (see a) in
-    let tells : A → Type 0 = λ a. (see a).tells in
+    let shelf : A → StoreView = λ a. view_of (name a) (see a) in
+    let tells : A → Type 0 = λ a. (see a).known in
     let call : IsCallAt at q r (attached_as name see places xs) (attached_as name see later (slice_set xs at y)) = record {
       before = shelf x;
       now = shelf y;
@@ -120,7 +120,7 @@ called_at {A} {places} {later} name see xs at home q r x y inside is same named 
       lawful = called.lawful;
       counted = called.counted;
       cause = called.cause;
-      telling = telling_set tells xs at y (λ h. called.telling (told_at tells xs at x here h));
+      where_known = telling_set tells xs at y (λ h. called.where_known (told_at tells xs at x here h));
     } in
     subst (λ (i : ℕ). IsCallAt i q r (attached_as name see places xs) (attached_as name see later (slice_set xs at y))) same call
 
@@ -133,38 +133,38 @@ set_same (y ∷ xs) zero x e = let same : y ≡ x = cc in ap (λ z. z ∷ xs) (s
 set_same (y ∷ xs) (suc at) x e = ap (λ zs. y ∷ zs) (set_same xs at x e)
 
 -- a call changes no name
-pub same_names : (at : ℕ) (q : Request) (r : Reply) (m n : Attached) → IsCallAt at q r m n → names_of n.shelves ≡ names_of m.shelves
+pub same_names : (at : ℕ) (q : Request) (r : Reply) (m n : Attached) → IsCallAt at q r m n → names_of n.views ≡ names_of m.views
 same_names at q r m n call =
-    ap names_of call.rest ∙ map-set (λ s. s.name) m.shelves at call.now ∙ ap (slice_set (names_of m.shelves) at) call.name
-    ∙ set_same (names_of m.shelves) at call.before.name (slice_get-map (λ s. s.name) m.shelves at ∙ ap (option_map (λ s. s.name)) call.stood)
+    ap names_of call.rest ∙ map-set (λ s. s.name) m.views at call.now ∙ ap (slice_set (names_of m.views) at) call.name
+    ∙ set_same (names_of m.views) at call.before.name (slice_get-map (λ s. s.name) m.views at ∙ ap (option_map (λ s. s.name)) call.stood)
 
-balance : (at : ℕ) (q : Request) (r : Reply) (m n : Attached) (call : IsCallAt at q r m n) → total_faults n.shelves + call.before.faults ≡ total_faults m.shelves + call.now.faults
+balance : (at : ℕ) (q : Request) (r : Reply) (m n : Attached) (call : IsCallAt at q r m n) → total_faults n.views + call.before.faults ≡ total_faults m.views + call.now.faults
 balance at q r m n call =
-    let inside : at < length m.shelves = slice_get_within m.shelves at call.before call.stood in
-    let stood : get_or m.shelves at call.before ≡ call.before = get_or_from_slice_get m.shelves at call.before call.before call.stood in
-    ap (λ (k : List Shelf). total_faults k + call.before.faults) call.rest
-    ∙ ap (λ (s : Shelf). total_faults (slice_set m.shelves at call.now) + s.faults) (sym stood)
-    ∙ sum_by-set (λ s. s.faults) m.shelves at call.now call.before inside
+    let inside : at < length m.views = slice_get_within m.views at call.before call.stood in
+    let stood : get_or m.views at call.before ≡ call.before = get_or_from_slice_get m.views at call.before call.before call.stood in
+    ap (λ (k : List StoreView). total_faults k + call.before.faults) call.rest
+    ∙ ap (λ (s : StoreView). total_faults (slice_set m.views at call.now) + s.faults) (sym stood)
+    ∙ sum_by-set (λ s. s.faults) m.views at call.now call.before inside
 
 -- the count of a store does not fall
 pub not_fewer : (at : ℕ) (q : Request) (r : Reply) (m n : Attached) (call : IsCallAt at q r m n) → call.before.faults ≤ call.now.faults
 not_fewer at q r m n call = subst (λ (k : ℕ). call.before.faults ≤ k) (sym call.cause) (faults_grown r call.before.faults)
 
-pub grown : (at : ℕ) (q : Request) (r : Reply) (m n : Attached) → IsCallAt at q r m n → total_faults m.shelves ≤ total_faults n.shelves
+pub grown : (at : ℕ) (q : Request) (r : Reply) (m n : Attached) → IsCallAt at q r m n → total_faults m.views ≤ total_faults n.views
 grown at q r m n call = omega (arith, balance at q r m n call, not_fewer at q r m n call)
 
-risen : (at : ℕ) (q : Request) (r : Reply) (m n : Attached) (call : IsCallAt at q r m n) → HasRisen call.before.faults call.now.faults → (total_faults m.shelves < total_faults n.shelves) ⊎ Any (λ s. 2 ^ 64 - 1 ≤ s.faults) n.shelves
+risen : (at : ℕ) (q : Request) (r : Reply) (m n : Attached) (call : IsCallAt at q r m n) → HasRisen call.before.faults call.now.faults → (total_faults m.views < total_faults n.views) ⊎ Any (λ s. 2 ^ 64 - 1 ≤ s.faults) n.views
 risen at q r m n call h =
     elim h [
       | inl rose ↦ inl (omega (arith, balance at q r m n call, rose))
-      | inr most ↦ inr (subst (Any (λ s. 2 ^ 64 - 1 ≤ s.faults)) (sym call.rest) (any-set (λ s. 2 ^ 64 - 1 ≤ s.faults) m.shelves at call.now (slice_get_within m.shelves at call.before call.stood) most))
+      | inr most ↦ inr (subst (Any (λ s. 2 ^ 64 - 1 ≤ s.faults)) (sym call.rest) (any-set (λ s. 2 ^ 64 - 1 ≤ s.faults) m.views at call.now (slice_get_within m.views at call.before call.stood) most))
     ]
 
-sound : (at : ℕ) (q : Request) (r : Reply) (m n : Attached) (call : IsCallAt at q r m n) → call.now.faults ≡ call.before.faults → AreSound m.shelves n.shelves
+sound : (at : ℕ) (q : Request) (r : Reply) (m n : Attached) (call : IsCallAt at q r m n) → call.now.faults ≡ call.before.faults → AreSound m.views n.views
 sound at q r m n call same = omega (arith, balance at q r m n call, same)
 
 -- a fault raises the count of all stores, and no other reply does
-pub caused : (at : ℕ) (q : Request) (r : Reply) (m n : Attached) → IsCallAt at q r m n → HaveCause r m.shelves n.shelves
+pub caused : (at : ℕ) (q : Request) (r : Reply) (m n : Attached) → IsCallAt at q r m n → HaveCause r m.views n.views
 caused at q reply.Fault m n call = risen at q reply.Fault m n call (subst (HasRisen call.before.faults) (sym call.cause) (next_risen call.before.faults))
 caused at q reply.NoMemory m n call = sound at q reply.NoMemory m n call call.cause
 caused at q (reply.Found found) m n call = sound at q (reply.Found found) m n call call.cause
@@ -190,7 +190,7 @@ told_behind P (x ∷ xs) (suc at) zero most h = absurd (omega arith)
 told_behind P (x ∷ xs) (suc at) (suc i) most h = told_behind P xs at i (omega arith) h
 
 -- a store that has a place is among the stores
-pub found_within : {A : Type 0} (shelf : A → Shelf) (xs : List A) (name : List ℕ) (at : ℕ) → Some at ≡ place_of name (names_of (map shelf xs)) → at < length xs
+pub found_within : {A : Type 0} (shelf : A → StoreView) (xs : List A) (name : List ℕ) (at : ℕ) → Some at ≡ place_of name (names_of (map shelf xs)) → at < length xs
 found_within shelf xs name at found =
     let place : at < length (names_of (map shelf xs)) = (position-Some (λ n. bytes_eq n name) (names_of (map shelf xs)) at [] (sym found)).0 in
     omega (arith, place, length-map (map shelf xs) (λ s. s.name), length-map xs shelf)
@@ -200,11 +200,11 @@ less_one f [] at x e = cc
 less_one f (y ∷ xs) zero x e = let same : y ≡ x = cc in add_comm (sum_by f xs) (f x) ∙ ap (λ z. f z + sum_by f xs) (sym same) ∙ sym (sum_by-cons f y xs)
 less_one f (y ∷ xs) (suc at) x e = ap (λ n. n + f x) (sum_by-cons f y (remove xs at)) ∙ add_assoc (f y) (sum_by f (remove xs at)) (f x) ∙ ap (λ n. f y + n) (less_one f xs at x e) ∙ sym (sum_by-cons f y xs)
 
-pub taken_out : {A : Type 0} {places later : List Place} (name : A → List ℕ) (see : A → StoreState) (xs ys : List A) (own : List ℕ) (at : ℕ) (x : A) → Some at ≡ place_of own (names_of (map (λ a. shelf_of (name a) (see a)) xs)) → x ≡ get_or xs at x
+pub taken_out : {A : Type 0} {places later : List Place} (name : A → List ℕ) (see : A → StoreState) (xs ys : List A) (own : List ℕ) (at : ℕ) (x : A) → Some at ≡ place_of own (names_of (map (λ a. view_of (name a) (see a)) xs)) → x ≡ get_or xs at x
     → ys ≡ remove xs at → later ≡ places_without own places → IsTakenOut own (see x) (attached_as name see places xs) (attached_as name see later ys)
 taken_out {A} name see xs ys own at x found is out left =
-    let shelf : A → Shelf = λ a. shelf_of (name a) (see a) in
-    let tells : A → Type 0 = λ a. (see a).tells in
+    let shelf : A → StoreView = λ a. view_of (name a) (see a) in
+    let tells : A → Type 0 = λ a. (see a).known in
     let place : (at < length (names_of (map shelf xs))) × (bytes_eq (get_or (names_of (map shelf xs)) at []) own ≡ true) × ((k : ℕ) → k < at → bytes_eq (get_or (names_of (map shelf xs)) k []) own ≡ false) = position-Some (λ n. bytes_eq n own) (names_of (map shelf xs)) at [] (sym found) in
     let inside : at < length xs = omega (arith, place.0, length-map (map shelf xs) (λ s. s.name), length-map xs shelf) in
     let stands : slice_get (map shelf xs) at ≡ Some (shelf x) = stands_at shelf xs at x inside is in
@@ -213,11 +213,11 @@ taken_out {A} name see xs ys own at x found is out left =
     record {
       at = at;
       found = sym found;
-      taken = stands ∙ ap (λ n. Some (shelf_of n (see x))) same;
+      taken = stands ∙ ap (λ n. Some (view_of n (see x))) same;
       rest = rest;
       places = left;
-      telling = told_at tells xs at x (slice_get-get_or xs at x inside ∙ ap Some (sym is));
+      where_known = told_at tells xs at x (slice_get-get_or xs at x inside ∙ ap Some (sym is));
       before = λ i less h. subst (λ (zs : List _). IsSomeAnd (slice_get zs i) tells) (sym out) (told_before tells xs at i less h);
       after = λ i most h. subst (λ (zs : List _). IsSomeAnd (slice_get zs i) tells) (sym out) (told_behind tells xs at i most (rw (← add-one) h));
-      counted = ap (λ (k : List Shelf). total_faults k + (see x).faults) rest ∙ less_one (λ s. s.faults) (map shelf xs) at (shelf x) stands;
+      counted = ap (λ (k : List StoreView). total_faults k + (see x).faults) rest ∙ less_one (λ s. s.faults) (map shelf xs) at (shelf x) stands;
     }

@@ -10,12 +10,12 @@ use Rattle.std.proofs.lemmas.Option.{slice_get-map, slice_get-get_or}
 use Rattle.std.proofs.lemmas.Slice.Eq.{bytes_eq-Decides}
 use Rattle.sdb_store.specs.Store.{StoreState}
 use Rattle.sdb_stores.specs.declared.place.Place.{Place}
-use Rattle.sdb_stores.specs.Shelf.{Shelf, AreDistinct, IsAdded, attached_as, shelf_of, names_of, place_of, total_faults}
+use Rattle.sdb_stores.specs.Views.{StoreView, AreDistinct, IsAdded, attached_as, view_of, names_of, place_of, total_faults}
 use Rattle.sdb_stores.proofs.Called.{names_of-map, map-remove, set_same}
 use Rattle.sdb_types.proofs.Basics.{none_before}
 
 -- names that are distinct among the items are so among what they show
-pub shown : {A : Type 0} (shelf : A → Shelf) (xs : List A) → AreDistinct (map (λ a. (shelf a).name) xs) → AreDistinct (names_of (map shelf xs))
+pub shown : {A : Type 0} (shelf : A → StoreView) (xs : List A) → AreDistinct (map (λ a. (shelf a).name) xs) → AreDistinct (names_of (map shelf xs))
 shown shelf xs h = subst AreDistinct (sym (names_of-map shelf xs)) h
 
 ---- one more
@@ -29,7 +29,7 @@ none_of : {A : Type 0} (o : Option A) → is_some o ≡ false → o ≡ None
 none_of None e = refl
 none_of (Some x) e = absurd (let f : true ≡ false = e in cc)
 
-pub attached : {A : Type 0} (shelf : A → Shelf) (xs ys : List A) (x : A) (done : Bool) (o : Option ℕ) → AreDistinct (map (λ a. (shelf a).name) xs) → o ≡ place_of (shelf x).name (names_of (map shelf xs)) → is_some o ≡ false
+pub attached : {A : Type 0} (shelf : A → StoreView) (xs ys : List A) (x : A) (done : Bool) (o : Option ℕ) → AreDistinct (map (λ a. (shelf a).name) xs) → o ≡ place_of (shelf x).name (names_of (map shelf xs)) → is_some o ≡ false
     → ys ≡ (if done then xs ++ x ∷ [] else xs) → AreDistinct (map (λ a. (shelf a).name) ys)
 attached shelf xs ys x false o h found free is = subst (λ (zs : List _). AreDistinct (map (λ a. (shelf a).name) zs)) (sym is) h
 attached shelf xs ys x true o h found free is =
@@ -48,15 +48,15 @@ last P (x ∷ xs) y h = last P xs y h
 
 pub added : {A : Type 0} {places : List Place} (name : A → List ℕ) (see : A → StoreState) (xs ys : List A) (y : A) → ys ≡ xs ++ y ∷ [] → IsAdded (name y) (see y) (attached_as name see places xs) (attached_as name see places ys)
 added {A} name see xs ys y is =
-    let shelf : A → Shelf = λ a. shelf_of (name a) (see a) in
-    let tells : A → Type 0 = λ a. (see a).tells in
+    let shelf : A → StoreView = λ a. view_of (name a) (see a) in
+    let tells : A → Type 0 = λ a. (see a).known in
     let more : map shelf ys ≡ map shelf xs ++ shelf y ∷ [] = ap (map shelf) is ∙ map-append shelf xs (y ∷ []) in
     let told : tells y → IsSomeAnd (slice_get ys (length xs)) tells = λ h. subst (λ (zs : List _). IsSomeAnd (slice_get zs (length xs)) tells) (sym is) (last tells xs y h) in
     record {
-      shelves = more;
+      views = more;
       places = refl;
       others = λ i h. subst (λ (zs : List _). IsSomeAnd (slice_get zs i) tells) (sym is) (kept tells xs y i h);
-      telling = λ h. subst (λ (n : ℕ). IsSomeAnd (slice_get ys n) tells) (sym (length-map xs shelf)) (told h);
+      where_known = λ h. subst (λ (n : ℕ). IsSomeAnd (slice_get ys n) tells) (sym (length-map xs shelf)) (told h);
       counted = omega (arith, ap total_faults more, sum_by-append (λ s. s.faults) (map shelf xs) (shelf y ∷ []));
     }
 

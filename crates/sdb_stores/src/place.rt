@@ -1,7 +1,7 @@
 //! The places of namespaces.
 ghost use Rattle.std.specs.Prelude.{◌≡◌, IfOk, find, filter, not};
 ghost use Rattle.std.specs.Option.{option_copied};
-ghost use Rattle.sdb_stores.specs.Shelf.{placed_on, places_without, table_of as table_of_lem};
+ghost use Rattle.sdb_stores.specs.Views.{route_of, places_without, table_of as table_of_lem};
 ghost use Rattle.sdb_stores.specs.declared.place.PlaceRefused.TheVariants.{NoMemory as OutOfMemory};
 
 use sdb_types::{Duplicate, Name, NoMemory, Request, TableName};
@@ -50,7 +50,7 @@ impl From<NoMemory> for PlaceRefused {
 
 /// The name of the store that a namespace is placed on.
 pub(crate) fn find_store<'a>(places: &'a [Place], ns: &Name) -> Option<&'a Name>
-    ensures { option_copied result ≡ placed_on ns.now places.now }
+    ensures { option_copied result ≡ route_of ns.now places.now }
 {
     places
         .iter()

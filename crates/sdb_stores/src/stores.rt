@@ -2,7 +2,7 @@
 ghost use Rattle.std.specs.Prelude.{◌≡◌, ◌↔◌, ◌⊎◌, ◌<◌, ◌++◌, ◌∷◌, [], ℕ, List, length, map, position, Err, None, IsSome, IfOk, IfSome, IfNone, OnOk, OnErr};
 ghost use Rattle.std.specs.Str.{bytes_eq};
 ghost use Rattle.sdb_store.specs.Store.{IsStoreCall};
-ghost use Rattle.sdb_stores.specs.Shelf.{AreDistinct, IsAdded, IsCallAt, IsTakenOut, StayTheSame, attached_as, home_in, index_in};
+ghost use Rattle.sdb_stores.specs.Views.{AreDistinct, IsAdded, IsCallAt, IsTakenOut, AreUnchanged, attached_as, home_in, index_in};
 ghost use Rattle.sdb_stores.specs.declared.place.Place.{Place};
 
 use crate::place::{Place, PlaceRefused, find_store, leave, table_of};
@@ -74,7 +74,7 @@ fn call_slot(slot: &mut Slot, request: &Request) -> Reply
 impl Stores {
     /// No stores, and no places.
     pub fn new(alloc: Global) -> Stores
-        ensures stores { (⟦<Stores as Registry>⟧.state result).shelves ≡ [] }
+        ensures stores { (⟦<Stores as Registry>⟧.state result).views ≡ [] }
         ensures places { (⟦<Stores as Registry>⟧.state result).places ≡ [] }
     {
         Stores {
@@ -102,7 +102,7 @@ impl Stores {
 
     // One call on the store at an index.
     fn perform_on(&mut self, at: usize, request: &Request) -> Reply
-        requires { at < length (⟦<Stores as Registry>⟧.state self.old).shelves }
+        requires { at < length (⟦<Stores as Registry>⟧.state self.old).views }
         ensures called { IsCallAt at request.now result (⟦<Stores as Registry>⟧.state self.old) (⟦<Stores as Registry>⟧.state self.new) }
         ensures places { (⟦<Stores as Registry>⟧.state self.new).places ≡ (⟦<Stores as Registry>⟧.state self.old).places }
     {
@@ -113,7 +113,7 @@ impl Stores {
     /// Adds a store after the others. A store that is refused is handed back.
     pub fn attach(&mut self, name: Name, store: Box<dyn Store>) -> Result<(), AttachRefused>
         ensures ok { OnOk result (IsAdded name (state store) (⟦<Stores as Registry>⟧.state self.old) (⟦<Stores as Registry>⟧.state self.new)) }
-        ensures err { OnErr result (StayTheSame (⟦<Stores as Registry>⟧.state self.old) (⟦<Stores as Registry>⟧.state self.new)) }
+        ensures err { OnErr result (AreUnchanged (⟦<Stores as Registry>⟧.state self.old) (⟦<Stores as Registry>⟧.state self.new)) }
         ensures taken { (result ≡ Err (AttachRefused.NameTaken store)) ↔ IsSome (index_in (⟦<Stores as Registry>⟧.state self.old) name) }
         ensures back { OnErr result ((result ≡ Err (AttachRefused.NameTaken store)) ⊎ (result ≡ Err (AttachRefused.NoMemory store))) }
     {
@@ -132,7 +132,7 @@ impl Stores {
     /// Takes a store out and hands it back as it is, with the places that name it.
     pub fn detach(&mut self, name: &Name) -> Option<Box<dyn Store>>
         ensures none { IfNone result (index_in (⟦<Stores as Registry>⟧.state self.old) name.now ≡ None) }
-        ensures unchanged { IfNone result (StayTheSame (⟦<Stores as Registry>⟧.state self.old) (⟦<Stores as Registry>⟧.state self.new)) }
+        ensures unchanged { IfNone result (AreUnchanged (⟦<Stores as Registry>⟧.state self.old) (⟦<Stores as Registry>⟧.state self.new)) }
         ensures some { IfSome result (λ s. IsTakenOut name.now (state s) (⟦<Stores as Registry>⟧.state self.old) (⟦<Stores as Registry>⟧.state self.new)) }
     {
         let i = self.index_of(name)?;

@@ -9,33 +9,33 @@ use Rattle.sdb_model.specs.declared.event.Point.{Point}
 use Rattle.sdb_model.specs.declared.event.TableDump.{TableDump}
 use Rattle.sdb_stores.specs.declared.place.Place.{Place}
 use Rattle.sdb_model.specs.declared.statement.Statement.{Statement}
-use Rattle.sdb_model.specs.Events.{Shelf}
+use Rattle.sdb_model.specs.Events.{StoreContents}
 use Rattle.sdb_model.specs.Exec.{Tables, find_table}
 use Rattle.sdb_model.specs.Images.{row_at}
-use Rattle.sdb_model.specs.Told.{AreBodies, AreImages, IsTold, KeepsRealTime, TransactionsInRealTime, CommittedIsOwned, answers_told, dumps_of, serial}
+use Rattle.sdb_model.specs.Serial.{AreBodies, AreImages, IsSerial, RespectsRealTime, TransactionsInRealTime, CommittedIsOwned, answers_given, dumps_of, serial}
 use Rattle.sdb_model.specs.Transactions.{IsOrder}
 use Rattle.sdb_laws.specs.Plan.{Plan}
-use Rattle.sdb_laws.specs.Lawful.{Played}
+use Rattle.sdb_laws.specs.Lawful.{Labelled}
 use Rattle.sdb_laws.specs.Trace.{closing}
 use Rattle.sdb_laws.specs.Explained.{IsRunOf, newest_first, events_of}
 use Rattle.sdb_laws.specs.Faithful.{IsFaithful}
 use Rattle.sdb_laws.proofs.ModelTime.{answers_true, keeps_real_time, ordered_of}
-use Rattle.sdb_story.specs.Left.{Execution, ExecutionOk, BodyIsSaid, AllBodiesSaid, IsFitting, RunsWhole, ShowsTables, numbers_of}
+use Rattle.sdb_story.specs.Left.{Execution, ExecutionOk, BodyIsExecuted, AllBodiesExecuted, IsFitting, RunsWhole, ContainsTables, ordinals_of}
 use Rattle.sdb_story.proofs.Wholes.{order_runs}
 use Rattle.sdb_types.proofs.Basics.{all_each as each_any}
 
 -- the bodies of an order
-bodies_read : (catalog : List Table) (fit : Tables → Bool) (plan : ℕ → Plan) (events : List Event) (past : List Played) (ran : ℕ → Execution) (order : List Point) → AllBodiesSaid catalog fit plan events past ran (numbers_of order) → AreBodies events order (map (λ t. (ran t).body) (numbers_of order))
+bodies_read : (catalog : List Table) (fit : Tables → Bool) (plan : ℕ → Plan) (events : List Event) (past : List Labelled) (ran : ℕ → Execution) (order : List Point) → AllBodiesExecuted catalog fit plan events past ran (ordinals_of order) → AreBodies events order (map (λ t. (ran t).body) (ordinals_of order))
 bodies_read catalog fit plan events past ran [] all = tt
 bodies_read catalog fit plan events past ran (p ∷ ps) all = (all.0.1.read, bodies_read catalog fit plan events past ran ps all.1)
 
 -- and their answers
-answers_are : (catalog : List Table) (fit : Tables → Bool) (plan : ℕ → Plan) (events : List Event) (past : List Played) (ran : ℕ → Execution) (order : List Point) → AllBodiesSaid catalog fit plan events past ran (numbers_of order) → map (answers_told events) order ≡ map (map Some) (map (λ t. (ran t).answers) (numbers_of order))
+answers_are : (catalog : List Table) (fit : Tables → Bool) (plan : ℕ → Plan) (events : List Event) (past : List Labelled) (ran : ℕ → Execution) (order : List Point) → AllBodiesExecuted catalog fit plan events past ran (ordinals_of order) → map (answers_given events) order ≡ map (map Some) (map (λ t. (ran t).answers) (ordinals_of order))
 answers_are catalog fit plan events past ran [] all = refl
-answers_are catalog fit plan events past ran (p ∷ ps) all = ap (λ x. x ∷ map (answers_told events) ps) all.0.1.told ∙ ap (λ xs. map Some (ran p.id.0).answers ∷ xs) (answers_are catalog fit plan events past ran ps all.1)
+answers_are catalog fit plan events past ran (p ∷ ps) all = ap (λ x. x ∷ map (answers_given events) ps) all.0.1.told ∙ ap (λ xs. map Some (ran p.id.0).answers ∷ xs) (answers_are catalog fit plan events past ran ps all.1)
 
 -- the rows that are shown are all
-images_are : (catalog : List Table) (fit : Tables → Bool) (places : List Place) (shelves : List Shelf) (e : Tables) → IsFitting catalog fit → fit e ≡ true → ShowsTables places shelves e → AreImages catalog places shelves e
+images_are : (catalog : List Table) (fit : Tables → Bool) (places : List Place) (shelves : List StoreContents) (e : Tables) → IsFitting catalog fit → fit e ≡ true → ContainsTables places shelves e → AreImages catalog places shelves e
 images_are catalog fit places shelves e fitting f shows k = by (is_some (find_table catalog k.table)) refl
   where
     by : (b : Bool) → is_some (find_table catalog k.table) ≡ b → get e k ≡ (if b then row_at places shelves k else None)
@@ -43,34 +43,34 @@ images_are catalog fit places shelves e fitting f shows k = by (is_some (find_ta
     by false t = fitting.inside e k f t
 
 -- An order that keeps real time among transactions keeps it as clients see it.
-clients_see : (places : List Place) (events : List Event) (shelves : List Shelf) (order : List Point) → TransactionsInRealTime places events shelves order → CommittedIsOwned places events shelves → KeepsRealTime places events shelves order
+clients_see : (places : List Place) (events : List Event) (shelves : List StoreContents) (order : List Point) → TransactionsInRealTime places events shelves order → CommittedIsOwned places events shelves → RespectsRealTime places events shelves order
 clients_see places events shelves order real owned client s within told late fits recorded m n at began less =
     let r = owned client s within told in
     (r.id, r.commit, real r.id late r.fits fits s r.commit told recorded m n at began less)
 
-pub run_told : (catalog : List Table) (fit : Tables → Bool) (plan : ℕ → Plan) (places : List Place) (opening : List Shelf) (played : List Played) (ss : List (List Shelf)) (ran : ℕ → Execution) (order : List Point)
-    → IsRunOf plan places opening (newest_first played) ss → IsFaithful (events_of played) (newest_first played) → IsOrder places (events_of played) (closing opening ss) order → All (λ (p : Point). p.id.0 < 2 ^ 128) order → IsFitting catalog fit → AllBodiesSaid catalog fit plan (events_of played) (newest_first played) ran (numbers_of order)
-    → (tables : List TableDump) × IsTold catalog places (events_of played) (closing opening ss) order tables × KeepsRealTime places (events_of played) (closing opening ss) order
-run_told catalog fit plan places opening played ss ran order run faithful ordered small fitting all = (
+pub run_told : (catalog : List Table) (fit : Tables → Bool) (plan : ℕ → Plan) (places : List Place) (opening : List StoreContents) (labelled : List Labelled) (ss : List (List StoreContents)) (ran : ℕ → Execution) (order : List Point)
+    → IsRunOf plan places opening (newest_first labelled) ss → IsFaithful (events_of labelled) (newest_first labelled) → IsOrder places (events_of labelled) (closing opening ss) order → All (λ (p : Point). p.id.0 < 2 ^ 128) order → IsFitting catalog fit → AllBodiesExecuted catalog fit plan (events_of labelled) (newest_first labelled) ran (ordinals_of order)
+    → (tables : List TableDump) × IsSerial catalog places (events_of labelled) (closing opening ss) order tables × RespectsRealTime places (events_of labelled) (closing opening ss) order
+run_told catalog fit plan places opening labelled ss ran order run faithful ordered small fitting all = (
   dumps_of catalog (serial catalog bodies empty).1,
   record {
     bodies = bodies;
-    read = bodies_read catalog fit plan (events_of played) (newest_first played) ran order all;
-    answers = answers_are catalog fit plan (events_of played) (newest_first played) ran order all ∙ ap (λ (x : List (List Answer) × Tables). map (map Some) x.0) (sym runs.1.runs);
+    read = bodies_read catalog fit plan (events_of labelled) (newest_first labelled) ran order all;
+    answers = answers_are catalog fit plan (events_of labelled) (newest_first labelled) ran order all ∙ ap (λ (x : List (List Answer) × Tables). map (map Some) x.0) (sym runs.1.runs);
     printed = refl;
     images = subst (AreImages catalog places (closing opening ss)) (ap (λ (x : List (List Answer) × Tables). x.1) (sym runs.1.runs)) (images_are catalog fit places (closing opening ss) runs.0 fitting runs.1.fits runs.2);
     committed = true_answers.committed;
     owned = true_answers.owned;
     known = true_answers.known;
   },
-  clients_see places (events_of played) (closing opening ss) order (keeps_real_time plan places opening played ss order run faithful ordered) true_answers.owned,
+  clients_see places (events_of labelled) (closing opening ss) order (keeps_real_time plan places opening labelled ss order run faithful ordered) true_answers.owned,
 )
   where
     bodies : List (List Statement)
-    bodies = map (λ t. (ran t).body) (numbers_of order)
+    bodies = map (λ t. (ran t).body) (ordinals_of order)
 
-    runs : (e : Tables) × RunsWhole catalog fit plan ran (numbers_of order) empty e × ShowsTables places (closing opening ss) e
-    runs = order_runs catalog fit plan places opening (newest_first played) ss ran (numbers_of order) run (ordered_of plan places opening played ss order run faithful ordered small) (each_any (λ t. ExecutionOk catalog fit plan (newest_first played) t (ran t) × BodyIsSaid (events_of played) t (ran t)) (λ t. ExecutionOk catalog fit plan (newest_first played) t (ran t)) (numbers_of order) (λ t h. h.0) all) fitting.starts
+    runs : (e : Tables) × RunsWhole catalog fit plan ran (ordinals_of order) empty e × ContainsTables places (closing opening ss) e
+    runs = order_runs catalog fit plan places opening (newest_first labelled) ss ran (ordinals_of order) run (ordered_of plan places opening labelled ss order run faithful ordered small) (each_any (λ t. ExecutionOk catalog fit plan (newest_first labelled) t (ran t) × BodyIsExecuted (events_of labelled) t (ran t)) (λ t. ExecutionOk catalog fit plan (newest_first labelled) t (ran t)) (ordinals_of order) (λ t h. h.0) all) fitting.starts
 
-    true_answers : Rattle.sdb_laws.specs.Faithful.AnswersAreTrue places (events_of played) (closing opening ss)
-    true_answers = answers_true plan places opening played ss run faithful
+    true_answers : Rattle.sdb_laws.specs.Faithful.AnswersAreTrue places (events_of labelled) (closing opening ss)
+    true_answers = answers_true plan places opening labelled ss run faithful

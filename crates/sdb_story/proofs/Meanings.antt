@@ -41,16 +41,16 @@ use Rattle.sdb_record.proofs.Fine.{refuse-ok, taken}
 use Rattle.sdb_record.proofs.IdLemmas.{id_of_text-is}
 use Rattle.sdb_record.proofs.RollLaws.{before-kept, forward-key}
 use Rattle.sdb_record.proofs.States.{state_value}
-use Rattle.sdb_model.specs.Calls.{Made, key_asked, put_by}
-use Rattle.sdb_model.specs.Noted as noted
-use Rattle.sdb_model.specs.Noted.{condition_asked, meaning_of, rolls}
+use Rattle.sdb_model.specs.Calls.{StoreCall, key_asked, put_by}
+use Rattle.sdb_model.specs.ReadSet as noted
+use Rattle.sdb_model.specs.ReadSet.{condition_asked, meaning_of, rolls}
 use Rattle.sdb_phases.specs.declared.step.RecoverPhase.{RecoverPhase}
 use Rattle.sdb_phases.specs.declared.step.RecoverPhase.TheVariants as phase
 use Rattle.sdb_phases.specs.declared.step.RecoverStep.{RecoverStep}
 use Rattle.sdb_phases.specs.declared.step.RecoverStep.TheVariants as steps
-use Rattle.sdb_phases.specs.Recover.{recover_back, recover_forward, recover_next, recover_request_at, roll_to, stands_found}
+use Rattle.sdb_phases.specs.Recover.{recover_back, recover_forward, recover_next, recover_request_at, roll_to, is_as_found}
 use Rattle.sdb_phases.specs.Work.{abort_of, look_of}
-use Rattle.sdb_snapshot.specs.Noted.{reads_of}
+use Rattle.sdb_snapshot.specs.Reads.{reads_of}
 use Rattle.sdb_story.specs.Calls.{HasMeaning, IsUnrolled}
 use Rattle.sdb_turns.proofs.Meta.{meta_of}
 use Rattle.sdb_turns.proofs.Reading.{waited}
@@ -95,22 +95,22 @@ key_is : (k j : Key) → k ≡ j → is_eq (key_cmp k j) ≡ true
 key_is k j e = ap (λ (x : Key). is_eq (key_cmp x j)) e ∙ ap is_eq (tied_itself key_total j)
 
 -- a put or a delete at a record's key, on condition of its version
-roll_is : (r : Record) (m : Made) (k : Key) (c : Condition) → key_asked m.request ≡ Some k → k ≡ r.key → condition_asked m.request ≡ Some c → holds c (Some r) ≡ true → rolls r m ≡ true
+roll_is : (r : Record) (m : StoreCall) (k : Key) (c : Condition) → key_asked m.request ≡ Some k → k ≡ r.key → condition_asked m.request ≡ Some c → holds c (Some r) ≡ true → rolls r m ≡ true
 roll_is r m k c asks same on met = both_true _ _ (ap (λ o. option_map_or (λ x. is_eq (key_cmp x r.key)) o false) asks ∙ key_is k r.key same) (ap (λ o. option_map_or (λ x. holds x (Some r)) o false) on ∙ met)
 
-abbrev asks_key : Record → Made → Bool
+abbrev asks_key : Record → StoreCall → Bool
 asks_key r m = option_map_or (λ k. is_eq (key_cmp k r.key)) (key_asked m.request) false
 
 -- a read rolls nothing
-pub no_condition : (r : Record) (m : Made) → condition_asked m.request ≡ None → rolls r m ≡ false
+pub no_condition : (r : Record) (m : StoreCall) → condition_asked m.request ≡ None → rolls r m ≡ false
 no_condition r m e = ap (λ o. asks_key r m && option_map_or (λ c. holds c (Some r)) o false) e ∙ and_false (asks_key r m)
 
 -- nor does a put where there is none
-not_met : (r : Record) (m : Made) (c : Condition) → condition_asked m.request ≡ Some c → holds c (Some r) ≡ false → rolls r m ≡ false
+not_met : (r : Record) (m : StoreCall) (c : Condition) → condition_asked m.request ≡ Some c → holds c (Some r) ≡ false → rolls r m ≡ false
 not_met r m c e f = ap (λ o. asks_key r m && option_map_or (λ x. holds x (Some r)) o false) e ∙ ap (λ b. asks_key r m && b) f ∙ and_false (asks_key r m)
 
 -- nor a call at another key
-other_key : (r : Record) (m : Made) (k : Key) → key_asked m.request ≡ Some k → key_cmp k r.key ≡ Less → rolls r m ≡ false
+other_key : (r : Record) (m : StoreCall) (k : Key) → key_asked m.request ≡ Some k → key_cmp k r.key ≡ Less → rolls r m ≡ false
 other_key r m k e less = ap (λ o. option_map_or (λ x. is_eq (key_cmp x r.key)) o false && option_map_or (λ c. holds c (Some r)) (condition_asked m.request) false) e ∙ ap (λ o. is_eq o && option_map_or (λ c. holds c (Some r)) (condition_asked m.request) false) less
 
 -- what a call that rolls a record puts is at its key
@@ -121,7 +121,7 @@ put_key r (ask.DeleteIf key c) (Some b) asks puts = none_some b puts
 put_key r (ask.Get key) (Some b) asks puts = none_some b puts
 put_key r (ask.Scan span) (Some b) asks puts = none_some b puts
 
-found_holds : (p : Made → Bool) (calls : List Made) (m : Made) → find p calls ≡ Some m → p m ≡ true
+found_holds : (p : StoreCall → Bool) (calls : List StoreCall) (m : StoreCall) → find p calls ≡ Some m → p m ≡ true
 found_holds p [] m e = none_some m e
 found_holds p (x ∷ xs) m e = by (p x) refl (λ k. found_holds p xs m k) e
   where
@@ -130,10 +130,10 @@ found_holds p (x ∷ xs) m e = by (p x) refl (λ k. found_holds p xs m k) e
     by false f ih k = ih k
 
 -- what a record means has its key
-pub meaning_key : (calls : List Made) (r : Record) → IfSome (meaning_of calls r) (λ b. b.key ≡ r.key)
+pub meaning_key : (calls : List StoreCall) (r : Record) → IfSome (meaning_of calls r) (λ b. b.key ≡ r.key)
 meaning_key calls r = by (is_in state.Committed r.columns)
   where
-    rolled : (o : Option Made) → find (rolls r) calls ≡ o → IfSome (option_and_then (λ m. put_by m.request) o) (λ b. b.key ≡ r.key)
+    rolled : (o : Option StoreCall) → find (rolls r) calls ≡ o → IfSome (option_and_then (λ m. put_by m.request) o) (λ b. b.key ≡ r.key)
     rolled None e = tt
     rolled (Some m) e = put_key r m.request (put_by m.request) (and_parts (asks_key r m) _ (found_holds (rolls r) calls m e)).0 refl
 
@@ -142,11 +142,11 @@ meaning_key calls r = by (is_in state.Committed r.columns)
     by false = rolled (find (rolls r) calls) refl
 
 -- the reads of what records mean are those of their meanings
-pub reads_meant : (calls : List Made) (rs : List Record) → noted.reads_of calls rs ≡ reads_of (filter_map (meaning_of calls) rs)
+pub reads_meant : (calls : List StoreCall) (rs : List Record) → as_read.reads_of calls rs ≡ reads_of (filter_map (meaning_of calls) rs)
 reads_meant calls [] = refl
-reads_meant calls (r ∷ rs) = ap (cons_option (option_map (λ (image : Record). noted.read_of r.key (Some image)) (meaning_of calls r))) (reads_meant calls rs) ∙ by (meaning_of calls r) (meaning_key calls r)
+reads_meant calls (r ∷ rs) = ap (cons_option (option_map (λ (image : Record). as_read.read_of r.key (Some image)) (meaning_of calls r))) (reads_meant calls rs) ∙ by (meaning_of calls r) (meaning_key calls r)
   where
-    by : (o : Option Record) → IfSome o (λ b. b.key ≡ r.key) → cons_option (option_map (λ (image : Record). noted.read_of r.key (Some image)) o) (reads_of (filter_map (meaning_of calls) rs)) ≡ reads_of (cons_option o (filter_map (meaning_of calls) rs))
+    by : (o : Option Record) → IfSome o (λ b. b.key ≡ r.key) → cons_option (option_map (λ (image : Record). as_read.read_of r.key (Some image)) o) (reads_of (filter_map (meaning_of calls) rs)) ≡ reads_of (cons_option o (filter_map (meaning_of calls) rs))
     by None same = refl
     by (Some b) same = ap (λ k. record { key = k; version = id_in b.columns } ∷ reads_of (filter_map (meaning_of calls) rs)) (sym same)
 
@@ -170,7 +170,7 @@ find_more {X = X} p (y ∷ xs) ys x e = by (p y) (λ h. find_more p xs ys x h) e
     by true ih h = h
     by false ih h = ih h
 
-find_none : (p : Made → Bool) (calls : List Made) (m : Made) → find p calls ≡ None → p m ≡ false → find p (calls ++ m ∷ []) ≡ None
+find_none : (p : StoreCall → Bool) (calls : List StoreCall) (m : StoreCall) → find p calls ≡ None → p m ≡ false → find p (calls ++ m ∷ []) ≡ None
 find_none p [] m e f = ap (λ b. if b then Some m else None) f
 find_none p (x ∷ xs) m e f = by (p x) (λ k. find_none p xs m k f) e
   where
@@ -178,7 +178,7 @@ find_none p (x ∷ xs) m e f = by (p x) (λ k. find_none p xs m k f) e
     by true ih k = none_some x (sym k)
     by false ih k = ih k
 
-pub find_last : (p : Made → Bool) (calls : List Made) (m : Made) → find p calls ≡ None → p m ≡ true → find p (calls ++ m ∷ []) ≡ Some m
+pub find_last : (p : StoreCall → Bool) (calls : List StoreCall) (m : StoreCall) → find p calls ≡ None → p m ≡ true → find p (calls ++ m ∷ []) ≡ Some m
 find_last p [] m e t = ap (λ b. if b then Some m else None) t
 find_last p (x ∷ xs) m e t = by (p x) (λ k. find_last p xs m k t) e
   where
@@ -187,28 +187,28 @@ find_last p (x ∷ xs) m e t = by (p x) (λ k. find_last p xs m k t) e
     by false ih k = ih k
 
 -- what a committed record means, and one that a call rolled
-pub meaning_settled : (calls : List Made) (r : Record) → is_in state.Committed r.columns ≡ true → meaning_of calls r ≡ Some r
+pub meaning_settled : (calls : List StoreCall) (r : Record) → is_in state.Committed r.columns ≡ true → meaning_of calls r ≡ Some r
 meaning_settled calls r e = ap (λ b. if b then Some r else option_and_then (λ x. put_by x.request) (find (rolls r) calls)) e
 
-pub meaning_rolled : (calls : List Made) (r : Record) (m : Made) (o : Option Record) → is_in state.Committed r.columns ≡ false → find (rolls r) calls ≡ Some m → put_by m.request ≡ o → meaning_of calls r ≡ o
+pub meaning_rolled : (calls : List StoreCall) (r : Record) (m : StoreCall) (o : Option Record) → is_in state.Committed r.columns ≡ false → find (rolls r) calls ≡ Some m → put_by m.request ≡ o → meaning_of calls r ≡ o
 meaning_rolled calls r m o loose found puts = ap (λ b. if b then Some r else option_and_then (λ x. put_by x.request) (find (rolls r) calls)) loose ∙ ap (option_and_then (λ x. put_by x.request)) found ∙ puts
 
-meaning_more : (calls : List Made) (m : Made) (r : Record) → HasMeaning calls r → meaning_of (calls ++ m ∷ []) r ≡ meaning_of calls r
+meaning_more : (calls : List StoreCall) (m : StoreCall) (r : Record) → HasMeaning calls r → meaning_of (calls ++ m ∷ []) r ≡ meaning_of calls r
 meaning_more calls m r (inl e) = meaning_settled (calls ++ m ∷ []) r e ∙ sym (meaning_settled calls r e)
 meaning_more calls m r (inr h) = ap (λ o. if is_in state.Committed r.columns then Some r else option_and_then (λ x. put_by x.request) o) (find_more (rolls r) calls (m ∷ []) h.0 h.1 ∙ sym h.1)
 
-has_more : (calls : List Made) (m : Made) (r : Record) → HasMeaning calls r → HasMeaning (calls ++ m ∷ []) r
+has_more : (calls : List StoreCall) (m : StoreCall) (r : Record) → HasMeaning calls r → HasMeaning (calls ++ m ∷ []) r
 has_more calls m r (inl e) = inl e
 has_more calls m r (inr h) = inr (h.0, find_more (rolls r) calls (m ∷ []) h.0 h.1)
 
-pub all_have_more : (calls : List Made) (m : Made) (rs : List Record) → AllByRecursion (HasMeaning calls) rs → AllByRecursion (HasMeaning (calls ++ m ∷ [])) rs
+pub all_have_more : (calls : List StoreCall) (m : StoreCall) (rs : List Record) → AllByRecursion (HasMeaning calls) rs → AllByRecursion (HasMeaning (calls ++ m ∷ [])) rs
 all_have_more calls m rs all = all_each (HasMeaning calls) (HasMeaning (calls ++ m ∷ [])) rs (has_more calls m) all
 
-pub meanings_more : (calls : List Made) (m : Made) (rs : List Record) → AllByRecursion (HasMeaning calls) rs → filter_map (meaning_of (calls ++ m ∷ [])) rs ≡ filter_map (meaning_of calls) rs
+pub meanings_more : (calls : List StoreCall) (m : StoreCall) (rs : List Record) → AllByRecursion (HasMeaning calls) rs → filter_map (meaning_of (calls ++ m ∷ [])) rs ≡ filter_map (meaning_of calls) rs
 meanings_more calls m [] all = refl
 meanings_more calls m (r ∷ rs) all = ap (λ o. cons_option o (filter_map (meaning_of (calls ++ m ∷ [])) rs)) (meaning_more calls m r all.0) ∙ ap (cons_option (meaning_of calls r)) (meanings_more calls m rs all.1)
 
-pub unrolled_more : (calls : List Made) (m : Made) (rs : List Record) → AllByRecursion (IsUnrolled calls) rs → AllByRecursion (λ r. rolls r m ≡ false) rs → AllByRecursion (IsUnrolled (calls ++ m ∷ [])) rs
+pub unrolled_more : (calls : List StoreCall) (m : StoreCall) (rs : List Record) → AllByRecursion (IsUnrolled calls) rs → AllByRecursion (λ r. rolls r m ≡ false) rs → AllByRecursion (IsUnrolled (calls ++ m ∷ [])) rs
 unrolled_more calls m [] all none = tt
 unrolled_more calls m (r ∷ rs) all none = (find_none (rolls r) calls m all.0 none.0, unrolled_more calls m rs all.1 none.1)
 
@@ -217,7 +217,7 @@ each_of P [] f = tt
 each_of P (x ∷ xs) f = (f x, each_of P xs f)
 
 -- a read rolls none of these
-pub read_unrolled : (m : Made) (rs : List Record) → condition_asked m.request ≡ None → AllByRecursion (IsUnrolled (m ∷ [])) rs
+pub read_unrolled : (m : StoreCall) (rs : List Record) → condition_asked m.request ≡ None → AllByRecursion (IsUnrolled (m ∷ [])) rs
 read_unrolled m rs e = each_of (IsUnrolled (m ∷ [])) rs (λ r. ap (λ b. if b then Some m else None) (no_condition r m e))
 
 -- each row after a key is of another
@@ -231,13 +231,13 @@ after_key k (x ∷ rs) s r =
 ---- the recovery of a record
 
 -- A call rolls a record to this.
-pub record IsRollTo (m : Made) (rec : Record) (o : Option Record) : Type 0 where
+pub record IsRollTo (m : StoreCall) (rec : Record) (o : Option Record) : Type 0 where
   pub asks : key_asked m.request ≡ Some rec.key
   pub rolls_it : rolls rec m ≡ true
   pub puts : put_by m.request ≡ o
 
 -- and none of the rows after it
-pub rolls_none_after : (m : Made) (rec : Record) (o : Option Record) (left : List Record) → IsRollTo m rec o → rise (rec ∷ left) ≡ true → AllByRecursion (λ r. rolls r m ≡ false) left
+pub rolls_none_after : (m : StoreCall) (rec : Record) (o : Option Record) (left : List Record) → IsRollTo m rec o → rise (rec ∷ left) ≡ true → AllByRecursion (λ r. rolls r m ≡ false) left
 rolls_none_after m rec o left k r =
     let p = and_parts (starts_after rec.key left) (rise left) r in
     all_each (λ (x : Record). key_cmp rec.key x.key ≡ Less) (λ x. rolls x m ≡ false) left (λ x less. other_key x m rec.key k.asks less) (after_key rec.key left p.0 p.1)
@@ -268,18 +268,18 @@ no_undecided : (meta : Meta) (now : ℤ) (o : Option Record) (b : Bool) → (wai
 no_undecided meta now o true e = absurd (cc)
 no_undecided meta now o false e = absurd (cc)
 
-module _ (rec : Record) (meta : Meta) (open_still : is_unresolved rec ≡ true) (says : checked rec.columns ≡ Ok meta) (m : Made) where
+module _ (rec : Record) (meta : Meta) (open_still : is_unresolved rec ≡ true) (says : checked rec.columns ≡ Ok meta) (m : StoreCall) where
   asked_at : (x : Request) → Some x ≡ Some m.request → m.request ≡ x
   asked_at x e = sym (some_is x m.request e)
 
-  rolls_to : (o : Option Record) → key_asked m.request ≡ Some rec.key → condition_asked m.request ≡ Some (stands_found meta) → put_by m.request ≡ o → IsRollTo m rec o
-  rolls_to o asks on puts = record { asks = asks; rolls_it = roll_is rec m rec.key (stands_found meta) asks refl on (of_version rec meta open_still says); puts = puts }
+  rolls_to : (o : Option Record) → key_asked m.request ≡ Some rec.key → condition_asked m.request ≡ Some (is_as_found meta) → put_by m.request ≡ o → IsRollTo m rec o
+  rolls_to o asks on puts = record { asks = asks; rolls_it = roll_is rec m rec.key (is_as_found meta) asks refl on (of_version rec meta open_still says); puts = puts }
 
   pub forward_rolls_to : (n : ℤ) → m.request ≡ recover_forward rec meta n → IsRollTo m rec (Some (forward_record rec n))
   forward_rolls_to n e = rolls_to (Some (forward_record rec n)) (ap key_asked e ∙ ap Some (forward-key rec n)) (ap condition_asked e) (ap put_by e)
 
   pub back_rolls_to : m.request ≡ recover_back rec meta → IsRollTo m rec (before_record rec)
-  back_rolls_to e = let u = undo_asks (stands_found meta) rec.key (before_record rec) (before_key rec open_still) in rolls_to (before_record rec) (ap key_asked e ∙ u.0) (ap condition_asked e ∙ u.1) (ap put_by e ∙ u.2)
+  back_rolls_to e = let u = undo_asks (is_as_found meta) rec.key (before_record rec) (before_key rec open_still) in rolls_to (before_record rec) (ap key_asked e ∙ u.0) (ap condition_asked e ∙ u.1) (ap put_by e ∙ u.2)
 
   -- a look for the row, or a put of ABORTED, rolls nothing
   pub look_rolls_none : m.request ≡ look_of meta.id → (r : Record) → rolls r m ≡ false

@@ -7,20 +7,20 @@ use Rattle.sdb_types.specs.declared.record.Record.{Record}
 use Rattle.sdb_record.specs.declared.access.Access.{Access}
 use Rattle.sdb_record.specs.declared.access.Access.TheVariants as access
 use Rattle.sdb_record.specs.Moved.{version_of}
-use Rattle.sdb_snapshot.specs.Noted.{reads_of}
+use Rattle.sdb_snapshot.specs.Reads.{reads_of}
 use Rattle.sdb_snapshot.specs.Seen.{Seen}
-use Rattle.sdb_turns.specs.Noted.{first_image, with_read, work_of}
-use Rattle.sdb_story.specs.Calls.{note_with}
+use Rattle.sdb_turns.specs.Reads.{first_image, with_read, work_of}
+use Rattle.sdb_story.specs.Calls.{read_item_with}
 use Rattle.sdb_record.specs.declared.access.Read.{Read}
 use Rattle.sdb_record.specs.declared.access.Scan.{Scan}
 use Rattle.sdb_record.specs.Among.{is_written}
 use Rattle.sdb_model.specs.declared.event.Event.{Event}
-use Rattle.sdb_model.specs.Noted.{Note, Got, Scanned}
+use Rattle.sdb_model.specs.ReadSet.{ReadItem, KeyRead, SpanRead}
 use Rattle.sdb_laws.specs.Plan.{Plan}
-use Rattle.sdb_laws.specs.Lawful.{Played, talk}
-use Rattle.sdb_laws.specs.Faithful.{AreNoted}
+use Rattle.sdb_laws.specs.Lawful.{Labelled, protocol_state}
+use Rattle.sdb_laws.specs.Faithful.{AreReadSets}
 use Rattle.sdb_phases.specs.Work.{Work}
-use Rattle.sdb_turns.specs.Owner.{notes_of, checked_notes, own_notes}
+use Rattle.sdb_turns.specs.Owner.{items_of_work, checked_items, own_items}
 use Rattle.std.specs.List.{AllByRecursion}
 use Rattle.std.proofs.lemmas.List.Elements.{All-contains, All-from_recursion}
 use Rattle.sdb_story.specs.Left.{AreReads, reads_and_scans}
@@ -67,46 +67,46 @@ either_in {A = A} {B = B} f t (x ∷ xs) = by (t x) (either_in f t xs)
     by : (b : Bool) → AllByRecursion (λ y. Contains (map f (filter t xs)) y ⊎ Contains (map f (filter (λ x. not (t x)) xs)) y) (map f xs) → AllByRecursion (λ y. Contains (map f (if b then x ∷ filter t xs else filter t xs)) y ⊎ Contains (map f (if not b then x ∷ filter (λ x. not (t x)) xs else filter (λ x. not (t x)) xs)) y) (f x ∷ map f xs)
     by b ih = (first (filter t xs) (filter (λ x. not (t x)) xs) b, each_any (λ y. Contains (map f (filter t xs)) y ⊎ Contains (map f (filter (λ x. not (t x)) xs)) y) (λ y. Contains (map f (if b then x ∷ filter t xs else filter t xs)) y ⊎ Contains (map f (if not b then x ∷ filter (λ x. not (t x)) xs else filter (λ x. not (t x)) xs)) y) (map f xs) (λ y h. more (filter t xs) (filter (λ x. not (t x)) xs) b y h) ih)
 
----- notes
+---- read items
 
-pub notes_reads : (p : Work) (n : Note) → Contains (notes_of p) n → Contains (reads_and_scans p) n
-notes_reads p n h = by (Contains-append_cases (checked_notes p) (own_notes p) n h)
+pub notes_reads : (p : Work) (n : ReadItem) → Contains (items_of_work p) n → Contains (reads_and_scans p) n
+notes_reads p n h = by (Contains-append_cases (checked_items p) (own_items p) n h)
   where
-    got : (t : Read → Bool) → Contains (map Got (filter t p.reads)) n → Contains (reads_and_scans p) n
-    got t h = Contains-append_left (map Got p.reads) (map Scanned p.scans) n (each_in (Contains (map Got p.reads)) (map Got (filter t p.reads)) n (kept_in Got t p.reads) h)
+    got : (t : Read → Bool) → Contains (map KeyRead (filter t p.reads)) n → Contains (reads_and_scans p) n
+    got t h = Contains-append_left (map KeyRead p.reads) (map SpanRead p.scans) n (each_in (Contains (map KeyRead p.reads)) (map KeyRead (filter t p.reads)) n (kept_in KeyRead t p.reads) h)
 
-    checked : Contains (map Got (filter (λ r. not (is_written p.writes r.key)) p.reads)) n ⊎ Contains (map Scanned p.scans) n → Contains (reads_and_scans p) n
+    checked : Contains (map KeyRead (filter (λ r. not (is_written p.writes r.key)) p.reads)) n ⊎ Contains (map SpanRead p.scans) n → Contains (reads_and_scans p) n
     checked (inl h) = got (λ r. not (is_written p.writes r.key)) h
-    checked (inr h) = Contains-append_right (map Got p.reads) (map Scanned p.scans) n h
+    checked (inr h) = Contains-append_right (map KeyRead p.reads) (map SpanRead p.scans) n h
 
-    by : Contains (checked_notes p) n ⊎ Contains (own_notes p) n → Contains (reads_and_scans p) n
-    by (inl h) = checked (Contains-append_cases (map Got (filter (λ r. not (is_written p.writes r.key)) p.reads)) (map Scanned p.scans) n h)
+    by : Contains (checked_items p) n ⊎ Contains (own_items p) n → Contains (reads_and_scans p) n
+    by (inl h) = checked (Contains-append_cases (map KeyRead (filter (λ r. not (is_written p.writes r.key)) p.reads)) (map SpanRead p.scans) n h)
     by (inr h) = got (λ r. is_written p.writes r.key) h
 
-pub reads_notes : (p : Work) (n : Note) → Contains (reads_and_scans p) n → Contains (notes_of p) n
-reads_notes p n h = by (Contains-append_cases (map Got p.reads) (map Scanned p.scans) n h)
+pub reads_notes : (p : Work) (n : ReadItem) → Contains (reads_and_scans p) n → Contains (items_of_work p) n
+reads_notes p n h = by (Contains-append_cases (map KeyRead p.reads) (map SpanRead p.scans) n h)
   where
-    checked : Contains (checked_notes p) n → Contains (notes_of p) n
-    checked h = Contains-append_left (checked_notes p) (own_notes p) n h
+    checked : Contains (checked_items p) n → Contains (items_of_work p) n
+    checked h = Contains-append_left (checked_items p) (own_items p) n h
 
-    got : Contains (map Got (filter (λ r. is_written p.writes r.key) p.reads)) n ⊎ Contains (map Got (filter (λ r. not (is_written p.writes r.key)) p.reads)) n → Contains (notes_of p) n
-    got (inl h) = Contains-append_right (checked_notes p) (own_notes p) n h
-    got (inr h) = checked (Contains-append_left (map Got (filter (λ r. not (is_written p.writes r.key)) p.reads)) (map Scanned p.scans) n h)
+    got : Contains (map KeyRead (filter (λ r. is_written p.writes r.key) p.reads)) n ⊎ Contains (map KeyRead (filter (λ r. not (is_written p.writes r.key)) p.reads)) n → Contains (items_of_work p) n
+    got (inl h) = Contains-append_right (checked_items p) (own_items p) n h
+    got (inr h) = checked (Contains-append_left (map KeyRead (filter (λ r. not (is_written p.writes r.key)) p.reads)) (map SpanRead p.scans) n h)
 
-    by : Contains (map Got p.reads) n ⊎ Contains (map Scanned p.scans) n → Contains (notes_of p) n
-    by (inl h) = got (each_in (λ y. Contains (map Got (filter (λ r. is_written p.writes r.key) p.reads)) y ⊎ Contains (map Got (filter (λ r. not (is_written p.writes r.key)) p.reads)) y) (map Got p.reads) n (either_in Got (λ r. is_written p.writes r.key) p.reads) h)
-    by (inr h) = checked (Contains-append_right (map Got (filter (λ r. not (is_written p.writes r.key)) p.reads)) (map Scanned p.scans) n h)
+    by : Contains (map KeyRead p.reads) n ⊎ Contains (map SpanRead p.scans) n → Contains (items_of_work p) n
+    by (inl h) = got (each_in (λ y. Contains (map KeyRead (filter (λ r. is_written p.writes r.key) p.reads)) y ⊎ Contains (map KeyRead (filter (λ r. not (is_written p.writes r.key)) p.reads)) y) (map KeyRead p.reads) n (either_in KeyRead (λ r. is_written p.writes r.key) p.reads) h)
+    by (inr h) = checked (Contains-append_right (map KeyRead (filter (λ r. not (is_written p.writes r.key)) p.reads)) (map SpanRead p.scans) n h)
 
 -- Where what each COMMIT took is what the statements noted, so are the notes of the plans.
-pub are_noted : (plan : ℕ → Plan) (events : List Event) (past : List Played) (works : ℕ → Work) → ((t : ℕ) → (talk past).taken t ≡ true → AreReads plan events (works t) t) → AreNoted plan events past
+pub are_noted : (plan : ℕ → Plan) (events : List Event) (past : List Labelled) (works : ℕ → Work) → ((t : ℕ) → (protocol_state past).taken t ≡ true → AreReads plan events (works t) t) → AreReadSets plan events past
 are_noted plan events past works all t taken n = let x = all t taken in (
-  λ h. (x.noted n).0 (notes_reads (works t) n (subst (λ (p : Plan). Contains p.notes n) x.planned h)),
-  λ h. subst (λ (p : Plan). Contains p.notes n) (sym x.planned) (reads_notes (works t) n ((x.noted n).1 h)),
+  λ h. (x.as_read n).0 (notes_reads (works t) n (subst (λ (p : Plan). Contains p.read_set n) x.planned h)),
+  λ h. subst (λ (p : Plan). Contains p.read_set n) (sym x.planned) (reads_notes (works t) n ((x.as_read n).1 h)),
 )
 
 ---- one read more
 
-pub last_cases : (xs : List Note) (x n : Note) → Contains (xs ++ x ∷ []) n → Contains xs n ⊎ (n ≡ x)
+pub last_cases : (xs : List ReadItem) (x n : ReadItem) → Contains (xs ++ x ∷ []) n → Contains xs n ⊎ (n ≡ x)
 last_cases xs x n h = by (Contains-push_cases xs x n h)
   where
     by : Contains xs n ⊎ (x ≡ n) → Contains xs n ⊎ (n ≡ x)
@@ -114,50 +114,50 @@ last_cases xs x n h = by (Contains-push_cases xs x n h)
     by (inr e) = inr (sym e)
 
 -- A read that is noted adds its note.
-pub read_adds : (id : TxId) (now : ℤ) (s : Seen) (a : Access) (images : List Record) (n : Note) → Contains (reads_and_scans (work_of id now (with_read s a images))) n ↔ (Contains (reads_and_scans (work_of id now s)) n ⊎ (n ≡ note_with a images))
-read_adds t now s (access.Get key) images n = (λ h. out (Contains-append_cases (map Got (s.reads ++ r ∷ [])) (map Scanned s.scans) n h), into)
+pub read_adds : (id : TxId) (now : ℤ) (s : Seen) (a : Access) (images : List Record) (n : ReadItem) → Contains (reads_and_scans (work_of id now (with_read s a images))) n ↔ (Contains (reads_and_scans (work_of id now s)) n ⊎ (n ≡ read_item_with a images))
+read_adds t now s (access.Get key) images n = (λ h. out (Contains-append_cases (map KeyRead (s.reads ++ r ∷ [])) (map SpanRead s.scans) n h), into)
   where
     r : Read
     r = record { key = key; version = version_of (first_image images) }
 
-    old : Contains (map Got s.reads) n ⊎ (n ≡ Got r) → Contains (map Got s.reads ++ map Scanned s.scans) n ⊎ (n ≡ Got r)
-    old (inl h) = inl (Contains-append_left (map Got s.reads) (map Scanned s.scans) n h)
+    old : Contains (map KeyRead s.reads) n ⊎ (n ≡ KeyRead r) → Contains (map KeyRead s.reads ++ map SpanRead s.scans) n ⊎ (n ≡ KeyRead r)
+    old (inl h) = inl (Contains-append_left (map KeyRead s.reads) (map SpanRead s.scans) n h)
     old (inr e) = inr e
 
-    out : Contains (map Got (s.reads ++ r ∷ [])) n ⊎ Contains (map Scanned s.scans) n → Contains (map Got s.reads ++ map Scanned s.scans) n ⊎ (n ≡ Got r)
-    out (inl h) = old (last_cases (map Got s.reads) (Got r) n (subst (λ xs. Contains xs n) (map_last Got s.reads r) h))
-    out (inr h) = inl (Contains-append_right (map Got s.reads) (map Scanned s.scans) n h)
+    out : Contains (map KeyRead (s.reads ++ r ∷ [])) n ⊎ Contains (map SpanRead s.scans) n → Contains (map KeyRead s.reads ++ map SpanRead s.scans) n ⊎ (n ≡ KeyRead r)
+    out (inl h) = old (last_cases (map KeyRead s.reads) (KeyRead r) n (subst (λ xs. Contains xs n) (map_last KeyRead s.reads r) h))
+    out (inr h) = inl (Contains-append_right (map KeyRead s.reads) (map SpanRead s.scans) n h)
 
-    again : Contains (map Got s.reads ++ Got r ∷ []) n → Contains (map Got (s.reads ++ r ∷ []) ++ map Scanned s.scans) n
-    again h = Contains-append_left (map Got (s.reads ++ r ∷ [])) (map Scanned s.scans) n (subst (λ xs. Contains xs n) (sym (map_last Got s.reads r)) h)
+    again : Contains (map KeyRead s.reads ++ KeyRead r ∷ []) n → Contains (map KeyRead (s.reads ++ r ∷ []) ++ map SpanRead s.scans) n
+    again h = Contains-append_left (map KeyRead (s.reads ++ r ∷ [])) (map SpanRead s.scans) n (subst (λ xs. Contains xs n) (sym (map_last KeyRead s.reads r)) h)
 
-    keep : Contains (map Got s.reads) n ⊎ Contains (map Scanned s.scans) n → Contains (map Got (s.reads ++ r ∷ []) ++ map Scanned s.scans) n
-    keep (inl h) = again (Contains-append_left (map Got s.reads) (Got r ∷ []) n h)
-    keep (inr h) = Contains-append_right (map Got (s.reads ++ r ∷ [])) (map Scanned s.scans) n h
+    keep : Contains (map KeyRead s.reads) n ⊎ Contains (map SpanRead s.scans) n → Contains (map KeyRead (s.reads ++ r ∷ []) ++ map SpanRead s.scans) n
+    keep (inl h) = again (Contains-append_left (map KeyRead s.reads) (KeyRead r ∷ []) n h)
+    keep (inr h) = Contains-append_right (map KeyRead (s.reads ++ r ∷ [])) (map SpanRead s.scans) n h
 
-    into : Contains (map Got s.reads ++ map Scanned s.scans) n ⊎ (n ≡ Got r) → Contains (map Got (s.reads ++ r ∷ []) ++ map Scanned s.scans) n
-    into (inl h) = keep (Contains-append_cases (map Got s.reads) (map Scanned s.scans) n h)
-    into (inr e) = subst (λ y. Contains (map Got (s.reads ++ r ∷ []) ++ map Scanned s.scans) y) (sym e) (Contains-append_left (map Got (s.reads ++ r ∷ [])) (map Scanned s.scans) (Got r) (subst (λ xs. Contains xs (Got r)) (sym (map_last Got s.reads r)) (Contains-push (map Got s.reads) (Got r))))
-read_adds t now s (access.Scan span) images n = (λ h. out (Contains-append_cases (map Got s.reads) (map Scanned (s.scans ++ x ∷ [])) n h), into)
+    into : Contains (map KeyRead s.reads ++ map SpanRead s.scans) n ⊎ (n ≡ KeyRead r) → Contains (map KeyRead (s.reads ++ r ∷ []) ++ map SpanRead s.scans) n
+    into (inl h) = keep (Contains-append_cases (map KeyRead s.reads) (map SpanRead s.scans) n h)
+    into (inr e) = subst (λ y. Contains (map KeyRead (s.reads ++ r ∷ []) ++ map SpanRead s.scans) y) (sym e) (Contains-append_left (map KeyRead (s.reads ++ r ∷ [])) (map SpanRead s.scans) (KeyRead r) (subst (λ xs. Contains xs (KeyRead r)) (sym (map_last KeyRead s.reads r)) (Contains-push (map KeyRead s.reads) (KeyRead r))))
+read_adds t now s (access.Scan span) images n = (λ h. out (Contains-append_cases (map KeyRead s.reads) (map SpanRead (s.scans ++ x ∷ [])) n h), into)
   where
     x : Scan
     x = record { span = span; found = reads_of images }
 
-    old : Contains (map Scanned s.scans) n ⊎ (n ≡ Scanned x) → Contains (map Got s.reads ++ map Scanned s.scans) n ⊎ (n ≡ Scanned x)
-    old (inl h) = inl (Contains-append_right (map Got s.reads) (map Scanned s.scans) n h)
+    old : Contains (map SpanRead s.scans) n ⊎ (n ≡ SpanRead x) → Contains (map KeyRead s.reads ++ map SpanRead s.scans) n ⊎ (n ≡ SpanRead x)
+    old (inl h) = inl (Contains-append_right (map KeyRead s.reads) (map SpanRead s.scans) n h)
     old (inr e) = inr e
 
-    out : Contains (map Got s.reads) n ⊎ Contains (map Scanned (s.scans ++ x ∷ [])) n → Contains (map Got s.reads ++ map Scanned s.scans) n ⊎ (n ≡ Scanned x)
-    out (inl h) = inl (Contains-append_left (map Got s.reads) (map Scanned s.scans) n h)
-    out (inr h) = old (last_cases (map Scanned s.scans) (Scanned x) n (subst (λ xs. Contains xs n) (map_last Scanned s.scans x) h))
+    out : Contains (map KeyRead s.reads) n ⊎ Contains (map SpanRead (s.scans ++ x ∷ [])) n → Contains (map KeyRead s.reads ++ map SpanRead s.scans) n ⊎ (n ≡ SpanRead x)
+    out (inl h) = inl (Contains-append_left (map KeyRead s.reads) (map SpanRead s.scans) n h)
+    out (inr h) = old (last_cases (map SpanRead s.scans) (SpanRead x) n (subst (λ xs. Contains xs n) (map_last SpanRead s.scans x) h))
 
-    again : (y : Note) → Contains (map Scanned s.scans ++ Scanned x ∷ []) y → Contains (map Got s.reads ++ map Scanned (s.scans ++ x ∷ [])) y
-    again y h = Contains-append_right (map Got s.reads) (map Scanned (s.scans ++ x ∷ [])) y (subst (λ xs. Contains xs y) (sym (map_last Scanned s.scans x)) h)
+    again : (y : ReadItem) → Contains (map SpanRead s.scans ++ SpanRead x ∷ []) y → Contains (map KeyRead s.reads ++ map SpanRead (s.scans ++ x ∷ [])) y
+    again y h = Contains-append_right (map KeyRead s.reads) (map SpanRead (s.scans ++ x ∷ [])) y (subst (λ xs. Contains xs y) (sym (map_last SpanRead s.scans x)) h)
 
-    keep : Contains (map Got s.reads) n ⊎ Contains (map Scanned s.scans) n → Contains (map Got s.reads ++ map Scanned (s.scans ++ x ∷ [])) n
-    keep (inl h) = Contains-append_left (map Got s.reads) (map Scanned (s.scans ++ x ∷ [])) n h
-    keep (inr h) = again n (Contains-append_left (map Scanned s.scans) (Scanned x ∷ []) n h)
+    keep : Contains (map KeyRead s.reads) n ⊎ Contains (map SpanRead s.scans) n → Contains (map KeyRead s.reads ++ map SpanRead (s.scans ++ x ∷ [])) n
+    keep (inl h) = Contains-append_left (map KeyRead s.reads) (map SpanRead (s.scans ++ x ∷ [])) n h
+    keep (inr h) = again n (Contains-append_left (map SpanRead s.scans) (SpanRead x ∷ []) n h)
 
-    into : Contains (map Got s.reads ++ map Scanned s.scans) n ⊎ (n ≡ Scanned x) → Contains (map Got s.reads ++ map Scanned (s.scans ++ x ∷ [])) n
-    into (inl h) = keep (Contains-append_cases (map Got s.reads) (map Scanned s.scans) n h)
-    into (inr e) = subst (λ y. Contains (map Got s.reads ++ map Scanned (s.scans ++ x ∷ [])) y) (sym e) (again (Scanned x) (Contains-push (map Scanned s.scans) (Scanned x)))
+    into : Contains (map KeyRead s.reads ++ map SpanRead s.scans) n ⊎ (n ≡ SpanRead x) → Contains (map KeyRead s.reads ++ map SpanRead (s.scans ++ x ∷ [])) n
+    into (inl h) = keep (Contains-append_cases (map KeyRead s.reads) (map SpanRead s.scans) n h)
+    into (inr e) = subst (λ y. Contains (map KeyRead s.reads ++ map SpanRead (s.scans ++ x ∷ [])) y) (sym e) (again (SpanRead x) (Contains-push (map SpanRead s.scans) (SpanRead x)))

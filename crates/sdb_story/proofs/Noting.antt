@@ -22,21 +22,21 @@ use Rattle.sdb_record.specs.Meta.{is_in, is_unresolved}
 use Rattle.sdb_record.specs.Moved.{version_of}
 use Rattle.sdb_record.specs.Parts.{before_record}
 use Rattle.sdb_record.specs.Rolls.{forward_record, undo}
-use Rattle.sdb_model.specs.Calls.{Made, is_read}
+use Rattle.sdb_model.specs.Calls.{StoreCall, is_read}
 use Rattle.sdb_model.specs.Events.{table_asked}
-use Rattle.sdb_model.specs.Noted.{Got, Scanned, condition_asked, meaning_of, note_of, notes_in, reads_rows, rolls}
+use Rattle.sdb_model.specs.ReadSet.{KeyRead, SpanRead, condition_asked, meaning_of, read_item_of, read_items, reads_rows, rolls}
 use Rattle.sdb_phases.specs.declared.step.RecoverPhase.{RecoverPhase}
 use Rattle.sdb_phases.specs.declared.step.RecoverPhase.TheVariants as phase
 use Rattle.sdb_phases.specs.declared.step.RecoverStep.{RecoverStep}
 use Rattle.sdb_phases.specs.declared.step.RecoverStep.TheVariants as steps
-use Rattle.sdb_phases.specs.Recover.{recover_back, recover_forward, recover_next, recover_request_at, stands_found}
+use Rattle.sdb_phases.specs.Recover.{recover_back, recover_forward, recover_next, recover_request_at, is_as_found}
 use Rattle.sdb_phases.specs.Work.{abort_of, look_of}
 use Rattle.sdb_read.specs.Read.{Bad, Firm, Kind, Open, request_of}
-use Rattle.sdb_snapshot.specs.Noted.{reads_of}
-use Rattle.sdb_turns.specs.Noted.{first_image}
+use Rattle.sdb_snapshot.specs.Reads.{reads_of}
+use Rattle.sdb_turns.specs.Reads.{first_image}
 use Rattle.sdb_turns.specs.ReadAt.{AreKinds, IsKind, ReadAt, Asking, Resolving, Done, Failed, after_recovery, read_pending, read_step, settle, settle_one, settle_reply}
 use Rattle.sdb_turns.proofs.Lists.{each_more}
-use Rattle.sdb_story.specs.Calls.{HasMeaning, IsMade, ReadMade, RowsMade, note_with, rows_of}
+use Rattle.sdb_story.specs.Calls.{HasMeaning, IsMade, ReadMade, RowsMade, read_item_with, rows_of}
 use Rattle.sdb_story.proofs.Meanings.{IsRollTo, all_have_more, each_of, ends_rolled, find_last, goes_on_unrolled, meaning_rolled, meaning_settled, meanings_more, read_unrolled, reads_meant, rolls_none_after, unrolled_more}
 use Rattle.sdb_read.proofs.Images.{held_of}
 
@@ -46,7 +46,7 @@ some_is x y e = cc
 ---- rows
 
 -- one row more is settled
-row_done : (ms : List Made) (a : Access) (images : List Record) (r : Record) (left : List Record) → RowsMade ms a images (r ∷ left) → HasMeaning ms r → (more : List Record) → more ≡ images ++ cons_option (meaning_of ms r) [] → RowsMade ms a more left
+row_done : (ms : List StoreCall) (a : Access) (images : List Record) (r : Record) (left : List Record) → RowsMade ms a images (r ∷ left) → HasMeaning ms r → (more : List Record) → more ≡ images ++ cons_option (meaning_of ms r) [] → RowsMade ms a more left
 row_done ms a images r left made has more e = record {
   first = made.first;
   more = made.more;
@@ -62,7 +62,7 @@ row_done ms a images r left made has more e = record {
   others = made.others;
 }
 
-pub settle_made : (kind : Record → Kind) (ms : List Made) (a : Access) (images left : List Record) → AreKinds kind → RowsMade ms a images left → ReadMade ms a (settle kind images left)
+pub settle_made : (kind : Record → Kind) (ms : List StoreCall) (a : Access) (images left : List Record) → AreKinds kind → RowsMade ms a images left → ReadMade ms a (settle kind images left)
 settle_made kind ms a images [] kinds made = made
 settle_made kind ms a images (r ∷ left) kinds made = by (kind r) (kinds r) (λ firm. settle_made kind ms a (images ++ r ∷ []) left kinds (row_done ms a images r left made (inl firm) (images ++ r ∷ []) (ap (λ o. images ++ cons_option o []) (sym (meaning_settled ms r firm)))))
   where
@@ -84,13 +84,13 @@ pub coordinators : (id : TxId) → is_coordinator_table (coordinator_key_of id).
 unfolding coordinator_key_of
 coordinators id = refl
 
-call_apart : (rec : Record) (meta : Meta) (p : RecoverPhase) (q : Request) (m : Made) → recover_request_at rec meta p ≡ Some q → m.request ≡ q → reads_rows m ≡ false
+call_apart : (rec : Record) (meta : Meta) (p : RecoverPhase) (q : Request) (m : StoreCall) → recover_request_at rec meta p ≡ Some q → m.request ≡ q → reads_rows m ≡ false
 call_apart rec meta p q m e r = at p q e r
   where
     with_request : (x : Request) → m.request ≡ x → (if is_coordinator_table (table_asked x) then false else is_read x) ≡ false → reads_rows m ≡ false
     with_request x e h = ap (λ y. if is_coordinator_table (table_asked y) then false else is_read y) e ∙ h
 
-    undone : (o : Option Record) → (if is_coordinator_table (table_asked (undo (stands_found meta) rec.key o)) then false else is_read (undo (stands_found meta) rec.key o)) ≡ false
+    undone : (o : Option Record) → (if is_coordinator_table (table_asked (undo (is_as_found meta) rec.key o)) then false else is_read (undo (is_as_found meta) rec.key o)) ≡ false
     undone None = none_of (is_coordinator_table rec.key.table)
     undone (Some b) = none_of (is_coordinator_table b.key.table)
 
@@ -105,7 +105,7 @@ call_apart rec meta p q m e r = at p q e r
 ---- one call more
 
 -- a call that rolls none of the rows
-rows_made_more : (ms : List Made) (m : Made) (a : Access) (images left : List Record) → reads_rows m ≡ false → AllByRecursion (λ r. rolls r m ≡ false) left → RowsMade ms a images left → RowsMade (ms ++ m ∷ []) a images left
+rows_made_more : (ms : List StoreCall) (m : StoreCall) (a : Access) (images left : List Record) → reads_rows m ≡ false → AllByRecursion (λ r. rolls r m ≡ false) left → RowsMade ms a images left → RowsMade (ms ++ m ∷ []) a images left
 rows_made_more ms m a images left apart none made = record {
   first = made.first;
   more = made.more ++ m ∷ [];
@@ -122,7 +122,7 @@ rows_made_more ms m a images left apart none made = record {
 }
 
 -- the call that rolls the first of them
-row_rolled : (ms : List Made) (m : Made) (a : Access) (images : List Record) (rec : Record) (left : List Record) (o : Option Record) → reads_rows m ≡ false → is_unresolved rec ≡ true → IsRollTo m rec o → RowsMade ms a images (rec ∷ left) → (more : List Record) → more ≡ images ++ cons_option o [] → RowsMade (ms ++ m ∷ []) a more left
+row_rolled : (ms : List StoreCall) (m : StoreCall) (a : Access) (images : List Record) (rec : Record) (left : List Record) (o : Option Record) → reads_rows m ≡ false → is_unresolved rec ≡ true → IsRollTo m rec o → RowsMade ms a images (rec ∷ left) → (more : List Record) → more ≡ images ++ cons_option o [] → RowsMade (ms ++ m ∷ []) a more left
 row_rolled ms m a images rec left o apart open_still roll made more e = record {
   first = made.first;
   more = made.more ++ m ∷ [];
@@ -144,7 +144,7 @@ row_rolled ms m a images rec left o apart open_still roll made more e = record {
     rolled : find (rolls rec) (ms ++ m ∷ []) ≡ Some m
     rolled = find_last (rolls rec) ms m made.unrolled.0 roll.rolls_it
 
-recovered_made : (kind : Record → Kind) (ms : List Made) (m : Made) (a : Access) (images : List Record) (rec : Record) (meta : Meta) (p : RecoverPhase) (left : List Record) (now : ℤ) (q : Request) (r : Reply) → AreKinds kind → ReadMade ms a (Resolving images rec meta p left) → recover_request_at rec meta p ≡ Some q → IsMade m q r
+recovered_made : (kind : Record → Kind) (ms : List StoreCall) (m : StoreCall) (a : Access) (images : List Record) (rec : Record) (meta : Meta) (p : RecoverPhase) (left : List Record) (now : ℤ) (q : Request) (r : Reply) → AreKinds kind → ReadMade ms a (Resolving images rec meta p left) → recover_request_at rec meta p ≡ Some q → IsMade m q r
     → ReadMade (ms ++ m ∷ []) a (after_recovery kind images rec meta left (recover_next rec meta p now r))
 recovered_made kind ms m a images rec meta p left now q r kinds made e is = by (recover_next rec meta p now r) refl
   where
@@ -169,11 +169,11 @@ recovered_made kind ms m a images rec meta p left now q r kinds made e is = by (
 ---- the first call
 
 -- it rolls nothing
-asks_plainly : (a : Access) (m : Made) (r : Reply) → IsMade m (request_of a) r → condition_asked m.request ≡ None
+asks_plainly : (a : Access) (m : StoreCall) (r : Reply) → IsMade m (request_of a) r → condition_asked m.request ≡ None
 asks_plainly (access.Get key) m r is = ap condition_asked is.request
 asks_plainly (access.Scan span) m r is = ap condition_asked is.request
 
-rows_made : (m : Made) (a : Access) (r : Reply) (rows : List Record) → IsMade m (request_of a) r → CanAnswer (request_of a) r → rows_of r ≡ Some rows → rise rows ≡ true → RowsMade (m ∷ []) a [] rows
+rows_made : (m : StoreCall) (a : Access) (r : Reply) (rows : List Record) → IsMade m (request_of a) r → CanAnswer (request_of a) r → rows_of r ≡ Some rows → rise rows ≡ true → RowsMade (m ∷ []) a [] rows
 rows_made m a r rows is can e rises = record {
   first = m;
   more = [];
@@ -193,7 +193,7 @@ scan_rises : (a : Access) (rows : List Record) → CanAnswer (request_of a) (rep
 scan_rises (access.Get key) rows can = absurd can
 scan_rises (access.Scan span) rows can = (and_parts (rise rows) _ can).0
 
-asked_made : (kind : Record → Kind) (m : Made) (a : Access) (r : Reply) → AreKinds kind → IsMade m (request_of a) r → CanAnswer (request_of a) r → ReadMade (m ∷ []) a (settle_reply kind r)
+asked_made : (kind : Record → Kind) (m : StoreCall) (a : Access) (r : Reply) → AreKinds kind → IsMade m (request_of a) r → CanAnswer (request_of a) r → ReadMade (m ∷ []) a (settle_reply kind r)
 asked_made kind m a (reply.Found None) kinds is can = rows_made m a (reply.Found None) [] is can refl refl
 asked_made kind m a (reply.Found (Some x)) kinds is can = settle_made kind (m ∷ []) a [] (x ∷ []) kinds (rows_made m a (reply.Found (Some x)) (x ∷ []) is can refl refl)
 asked_made kind m a (reply.Rows rows) kinds is can = settle_made kind (m ∷ []) a [] rows kinds (rows_made m a (reply.Rows rows) rows is can refl (scan_rises a rows can))
@@ -203,7 +203,7 @@ asked_made kind m a reply.Fault kinds is can = tt
 asked_made kind m a reply.NoMemory kinds is can = tt
 
 -- Whatever call of a read is pending, with it and its reply the read keeps what its calls showed.
-pub read_made : (kind : Record → Kind) (ms : List Made) (m : Made) (a : Access) (s : ReadAt) (now : ℤ) (q : Request) (r : Reply) → AreKinds kind → ReadMade ms a s → read_pending a s ≡ Some q → CanAnswer q r → IsMade m q r → ReadMade (ms ++ m ∷ []) a (read_step kind s now r)
+pub read_made : (kind : Record → Kind) (ms : List StoreCall) (m : StoreCall) (a : Access) (s : ReadAt) (now : ℤ) (q : Request) (r : Reply) → AreKinds kind → ReadMade ms a s → read_pending a s ≡ Some q → CanAnswer q r → IsMade m q r → ReadMade (ms ++ m ∷ []) a (read_step kind s now r)
 read_made kind ms m a Asking now q r kinds made e can is = subst (λ xs. ReadMade (xs ++ m ∷ []) a (settle_reply kind r)) (sym made) (asked_made kind m a r kinds (record { request = is.request ∙ some_is (request_of a) q e; reply = is.reply }) (subst (λ x. CanAnswer x r) (some_is (request_of a) q e) can))
 read_made kind ms m a (Resolving images rec meta p left) now q r kinds made e can is = recovered_made kind ms m a images rec meta p left now q r kinds made e is
 read_made kind ms m a (Done images) now q r kinds made e can is = absurd (cc)
@@ -216,29 +216,29 @@ first_is None = refl
 first_is (Some b) = refl
 
 -- The calls of a read that is done are noted as it is.
-note_is : (ms : List Made) (a : Access) (images : List Record) → (made : RowsMade ms a images []) → note_of ms made.first.request made.first.reply ≡ Some (note_with a images)
-note_is ms a images made = ap (λ q. note_of ms q made.first.reply) made.asked ∙ by a made.first.reply made.can (made.rows ∙ ap Some (append-nil made.done))
+note_is : (ms : List StoreCall) (a : Access) (images : List Record) → (made : RowsMade ms a images []) → read_item_of ms made.first.request made.first.reply ≡ Some (read_item_with a images)
+note_is ms a images made = ap (λ q. read_item_of ms q made.first.reply) made.asked ∙ by a made.first.reply made.can (made.rows ∙ ap Some (append-nil made.done))
   where
     -- the images are the meanings of the rows
     are : (rows : List Record) → Some rows ≡ Some made.done → filter_map (meaning_of ms) rows ≡ images
     are rows e = ap (filter_map (meaning_of ms)) (sym (some_is rows made.done e)) ∙ sym made.found
 
-    by : (b : Access) (r : Reply) → CanAnswer (request_of b) r → rows_of r ≡ Some made.done → note_of ms (request_of b) r ≡ Some (note_with b images)
-    by (access.Get key) (reply.Found None) can e = ap (λ is. Some (Got (record { key = key; version = version_of (first_image is) }))) (are [] e)
-    by (access.Get key) (reply.Found (Some x)) can e = ap (λ o. Some (Got (record { key = key; version = version_of o }))) (first_is (meaning_of ms x) ∙ ap first_image (are (x ∷ []) e))
+    by : (b : Access) (r : Reply) → CanAnswer (request_of b) r → rows_of r ≡ Some made.done → read_item_of ms (request_of b) r ≡ Some (read_item_with b images)
+    by (access.Get key) (reply.Found None) can e = ap (λ is. Some (KeyRead (record { key = key; version = version_of (first_image is) }))) (are [] e)
+    by (access.Get key) (reply.Found (Some x)) can e = ap (λ o. Some (KeyRead (record { key = key; version = version_of o }))) (first_is (meaning_of ms x) ∙ ap first_image (are (x ∷ []) e))
     by (access.Get key) (reply.Rows rows) can e = absurd can
     by (access.Get key) reply.Applied can e = absurd can
     by (access.Get key) (reply.NotMet found) can e = absurd can
     by (access.Get key) reply.Fault can e = absurd (cc (e))
     by (access.Get key) reply.NoMemory can e = absurd (cc (e))
-    by (access.Scan span) (reply.Rows rows) can e = ap (λ found. Some (Scanned (record { span = span; found = found }))) (reads_meant ms rows ∙ ap reads_of (are rows e))
+    by (access.Scan span) (reply.Rows rows) can e = ap (λ found. Some (SpanRead (record { span = span; found = found }))) (reads_meant ms rows ∙ ap reads_of (are rows e))
     by (access.Scan span) (reply.Found found) can e = absurd can
     by (access.Scan span) reply.Applied can e = absurd can
     by (access.Scan span) (reply.NotMet found) can e = absurd can
     by (access.Scan span) reply.Fault can e = absurd (cc (e))
     by (access.Scan span) reply.NoMemory can e = absurd (cc (e))
 
-none_kept : (ms : List Made) → AllByRecursion (λ m. reads_rows m ≡ false) ms → filter reads_rows ms ≡ []
+none_kept : (ms : List StoreCall) → AllByRecursion (λ m. reads_rows m ≡ false) ms → filter reads_rows ms ≡ []
 none_kept [] h = refl
 none_kept (m ∷ ms) h = ap (λ b. if b then m ∷ filter reads_rows ms else filter reads_rows ms) h.0 ∙ none_kept ms h.1
 
@@ -247,8 +247,8 @@ reads_it (access.Get key) e = ap (λ b. if b then false else true) e
 reads_it (access.Scan span) e = ap (λ b. if b then false else true) e
 
 -- What the model notes of the calls of a read is the note of its images, and nothing else.
-pub read_notes : (ms : List Made) (a : Access) (images : List Record) → ReadMade ms a (Done images) → is_coordinator_table (table_asked (request_of a)) ≡ false → notes_in ms ≡ note_with a images ∷ []
-read_notes ms a images made tables = ap (λ xs. filter_map (λ m. note_of ms m.request m.reply) (filter reads_rows xs)) made.calls ∙ ap (filter_map (λ m. note_of ms m.request m.reply)) kept ∙ ap (λ o. cons_option o []) (note_is ms a images made)
+pub read_notes : (ms : List StoreCall) (a : Access) (images : List Record) → ReadMade ms a (Done images) → is_coordinator_table (table_asked (request_of a)) ≡ false → read_items ms ≡ read_item_with a images ∷ []
+read_notes ms a images made tables = ap (λ xs. filter_map (λ m. read_item_of ms m.request m.reply) (filter reads_rows xs)) made.calls ∙ ap (filter_map (λ m. read_item_of ms m.request m.reply)) kept ∙ ap (λ o. cons_option o []) (note_is ms a images made)
   where
     first : reads_rows made.first ≡ true
     first = ap (λ q. if is_coordinator_table (table_asked q) then false else is_read q) made.asked ∙ reads_it a tables

@@ -6,8 +6,8 @@ use Rattle.std.proofs.lemmas.Bool.Decides.{nat_tests}
 use Rattle.std.proofs.lemmas.List.Elements.{filter_map-append}
 use Rattle.sdb_model.specs.declared.event.Event.{Event}
 use Rattle.sdb_model.specs.declared.event.Event.TheVariants as event
-use Rattle.sdb_model.specs.Calls.{Made, calls_by, calls_of, made_by, end_of}
-use Rattle.sdb_model.specs.Transactions.{Said, numbered}
+use Rattle.sdb_model.specs.Calls.{StoreCall, calls_by, calls_of, made_by, end_of}
+use Rattle.sdb_model.specs.Transactions.{Executed, numbered}
 use Rattle.sdb_story.specs.Calls.{WasAnswered, call_made, calls_since}
 use Rattle.sdb_story.proofs.Tellings.{numbers_more}
 use Rattle.std.proofs.lemmas.List.{append-nil as no_more}
@@ -18,7 +18,7 @@ pub calls_more : (events : List Event) (c : ℕ) (e : Event) → calls_by (event
 calls_more events c e = ap (filter_map (made_by c)) (numbers_more 1 events e) ∙ filter_map-append (made_by c) (numbered events) ((1 + length events, e) ∷ [])
 
 -- each call has a number of its event
-abbrev IsWithin : ℕ → Made → Type 0
+abbrev IsWithin : ℕ → StoreCall → Type 0
 IsWithin n m = m.at ≤ n
 
 made_at : (c n : ℕ) (e : Event) (bound : ℕ) → n ≤ bound → AllByRecursion (IsWithin bound) (call_made c n e)
@@ -42,7 +42,7 @@ from_within c n bound (e ∷ es) l = by (made_by c (n, e)) (made_at c n e bound 
     next : (n m b : ℕ) → n + suc m ≤ b + 1 → (n + 1) + m ≤ b + 1
     next n m b l = omega arith
 
-    by : (o : Option Made) → AllByRecursion (IsWithin bound) (cons_option o []) → AllByRecursion (IsWithin bound) (filter_map (made_by c) (enumerate_from (n + 1) es)) → AllByRecursion (IsWithin bound) (cons_option o (filter_map (made_by c) (enumerate_from (n + 1) es)))
+    by : (o : Option StoreCall) → AllByRecursion (IsWithin bound) (cons_option o []) → AllByRecursion (IsWithin bound) (filter_map (made_by c) (enumerate_from (n + 1) es)) → AllByRecursion (IsWithin bound) (cons_option o (filter_map (made_by c) (enumerate_from (n + 1) es)))
     by None a b = b
     by (Some m) a b = (a.0, b)
 
@@ -54,7 +54,7 @@ all_within events c = from_within c 1 (length events) events (one (length events
 
 ---- filters
 
-filter_append : (t : Made → Bool) (xs ys : List Made) → filter t (xs ++ ys) ≡ filter t xs ++ filter t ys
+filter_append : (t : StoreCall → Bool) (xs ys : List StoreCall) → filter t (xs ++ ys) ≡ filter t xs ++ filter t ys
 filter_append t [] ys = refl
 filter_append t (x ∷ xs) ys = by (t x) (filter_append t xs ys)
   where
@@ -62,7 +62,7 @@ filter_append t (x ∷ xs) ys = by (t x) (filter_append t xs ys)
     by true ih = ap (λ r. x ∷ r) ih
     by false ih = ih
 
-filter_same : (t u : Made → Bool) (xs : List Made) → AllByRecursion (λ x. t x ≡ u x) xs → filter t xs ≡ filter u xs
+filter_same : (t u : StoreCall → Bool) (xs : List StoreCall) → AllByRecursion (λ x. t x ≡ u x) xs → filter t xs ≡ filter u xs
 filter_same t u [] h = refl
 filter_same t u (x ∷ xs) h = ap (λ b. if b then x ∷ filter t xs else filter t xs) h.0 ∙ by (u x) (filter_same t u xs h.1)
   where
@@ -70,7 +70,7 @@ filter_same t u (x ∷ xs) h = ap (λ b. if b then x ∷ filter t xs else filter
     by true ih = ap (λ r. x ∷ r) ih
     by false ih = ih
 
-filter_none : (t : Made → Bool) (xs : List Made) → AllByRecursion (λ x. t x ≡ false) xs → filter t xs ≡ []
+filter_none : (t : StoreCall → Bool) (xs : List StoreCall) → AllByRecursion (λ x. t x ≡ false) xs → filter t xs ≡ []
 filter_none t [] h = refl
 filter_none t (x ∷ xs) h = ap (λ b. if b then x ∷ filter t xs else filter t xs) h.0 ∙ filter_none t xs h.1
 
@@ -96,7 +96,7 @@ since_more events c n e l = ap (filter (λ m. nat_lt n m.at)) (calls_more events
     kept : (e : Event) → filter (λ m. nat_lt n m.at) (call_made c (1 + length events) e) ≡ call_made c (1 + length events) e
     kept (event.Call d store q how r a) = by (d == c)
       where
-        m : Made
+        m : StoreCall
         m = record { at = 1 + length events; store = store; request = q; how = how; reply = r }
 
         by : (b : Bool) → filter (λ m. nat_lt n m.at) (cons_option (if b then Some m else None) []) ≡ cons_option (if b then Some m else None) []
@@ -114,11 +114,11 @@ both_true true b e = e
 both_true false b e = refl
 
 -- The calls of a statement that was just answered, or that waits, are all since its Take.
-pub calls_just : (events : List Event) (c : ℕ) (s : Said) → end_of events s ≡ length events → calls_of events c s ≡ calls_since events c s.taken
+pub calls_just : (events : List Event) (c : ℕ) (s : Executed) → end_of events s ≡ length events → calls_of events c s ≡ calls_since events c s.taken
 calls_just events c s e = filter_same (λ m. nat_lt s.taken m.at && nat_le m.at (end_of events s)) (λ m. nat_lt s.taken m.at) (calls_by events c) (each_any (IsWithin (length events)) (λ m. (nat_lt s.taken m.at && nat_le m.at (end_of events s)) ≡ nat_lt s.taken m.at) (calls_by events c) (λ m w. both_true (nat_lt s.taken m.at) (nat_le m.at (end_of events s)) (ap (nat_le m.at) e ∙ within_end m.at (length events) w)) (all_within events c))
 
 -- And those of one that was answered before stay.
-pub calls_stay : (events : List Event) (c : ℕ) (s : Said) (e : Event) → WasAnswered events s → calls_of (events ++ e ∷ []) c s ≡ calls_of events c s
+pub calls_stay : (events : List Event) (c : ℕ) (s : Executed) (e : Event) → WasAnswered events s → calls_of (events ++ e ∷ []) c s ≡ calls_of events c s
 calls_stay events c s e was = ap (λ n. filter (λ m. nat_lt s.taken m.at && nat_le m.at n) (calls_by (events ++ e ∷ []) c)) (end_is (events ++ e ∷ []))
     ∙ ap (filter (λ m. nat_lt s.taken m.at && nat_le m.at s.reached)) (calls_more events c e)
     ∙ filter_append (λ m. nat_lt s.taken m.at && nat_le m.at s.reached) (calls_by events c) (call_made c (1 + length events) e)
@@ -132,10 +132,10 @@ calls_stay events c s e was = ap (λ n. filter (λ m. nat_lt s.taken m.at && nat
     over : (a n : ℕ) → a ≤ n → nat_le (1 + n) a ≡ false
     over a n l = grind (arith, nat_tests)
 
-    beyond : (e : Event) → AllByRecursion (λ (m : Made). (nat_lt s.taken m.at && nat_le m.at s.reached) ≡ false) (call_made c (1 + length events) e)
+    beyond : (e : Event) → AllByRecursion (λ (m : StoreCall). (nat_lt s.taken m.at && nat_le m.at s.reached) ≡ false) (call_made c (1 + length events) e)
     beyond (event.Call d store q how r a) = by (d == c)
       where
-        by : (b : Bool) → AllByRecursion (λ (m : Made). (nat_lt s.taken m.at && nat_le m.at s.reached) ≡ false) (cons_option (if b then Some (record { at = 1 + length events; store = store; request = q; how = how; reply = r }) else None) [])
+        by : (b : Bool) → AllByRecursion (λ (m : StoreCall). (nat_lt s.taken m.at && nat_le m.at s.reached) ≡ false) (cons_option (if b then Some (record { at = 1 + length events; store = store; request = q; how = how; reply = r }) else None) [])
         by true = (both_false (nat_lt s.taken (1 + length events)) (nat_le (1 + length events) s.reached) (over s.reached (length events) was.before), tt)
         by false = tt
     beyond (event.Take d text a) = tt

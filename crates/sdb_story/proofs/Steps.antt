@@ -17,18 +17,18 @@ use Rattle.sdb_record.specs.Moved.{version_of}
 use Rattle.sdb_record.specs.Rolls.{row_of_change}
 use Rattle.sdb_record.specs.Among.{version_among, write_among, is_written}
 use Rattle.sdb_model.specs.Exec.{Tables}
-use Rattle.sdb_snapshot.specs.Noted.{base_at}
+use Rattle.sdb_snapshot.specs.Reads.{base_at}
 use Rattle.sdb_snapshot.specs.Rows.{row_found, with_own}
 use Rattle.sdb_snapshot.specs.Seen.{Seen}
 use Rattle.sdb_snapshot.proofs.Shown.{own_row, get_own}
-use Rattle.sdb_model.specs.Noted.{Note, Got, Scanned, version_noted}
-use Rattle.sdb_laws.specs.Plan.{Plan, write_at, written, noted, number_of}
+use Rattle.sdb_model.specs.ReadSet.{ReadItem, KeyRead, SpanRead, version_read}
+use Rattle.sdb_laws.specs.Plan.{Plan, write_at, written, version_read_at, number_of}
 use Rattle.sdb_laws.specs.History.{History, or_else}
 use Rattle.sdb_laws.specs.Serial.{last_writer, row_left, if_written, ReadsSerial}
 use Rattle.sdb_phases.specs.Work.{Work}
-use Rattle.sdb_turns.specs.Owner.{plan_of, notes_of, checked_notes, own_notes}
-use Rattle.sdb_laws.specs.Lawful.{Played}
-use Rattle.sdb_turns.specs.Noted.{IsFoundOk, IsReadOk, SeenOk}
+use Rattle.sdb_turns.specs.Owner.{plan_of, items_of_work, checked_items, own_items}
+use Rattle.sdb_laws.specs.Lawful.{Labelled}
+use Rattle.sdb_turns.specs.Reads.{IsFoundOk, IsReadOk, SeenOk}
 use Rattle.sdb_story.specs.Body.{ReadAgrees, ScanAgrees, AgreesAll}
 use Rattle.sdb_story.specs.Left.{AreLeft, AreAfter}
 use Rattle.sdb_types.proofs.Basics.{all_each as each_any}
@@ -76,30 +76,30 @@ placed_back : {A : Type 0} (xs ys : List A) (y : A) → IsPlaced ys y → IsPlac
 placed_back [] ys y p = p
 placed_back (x ∷ xs) ys y p = pass x (xs ++ ys) y (placed_back xs ys y p)
 
-reads_placed : (p : Work) → AllByRecursion (λ r. IsPlaced (notes_of p) (Got r)) p.reads
+reads_placed : (p : Work) → AllByRecursion (λ r. IsPlaced (items_of_work p) (KeyRead r)) p.reads
 reads_placed p = both p.reads (placed_filter (λ (r : Read). not (is_written p.writes r.key)) p.reads) (placed_filter (λ (r : Read). is_written p.writes r.key) p.reads)
   where
-    at : (r : Read) (b : Bool) → is_written p.writes r.key ≡ b → (not (is_written p.writes r.key) ≡ true → IsPlaced (filter (λ (r : Read). not (is_written p.writes r.key)) p.reads) r) → (is_written p.writes r.key ≡ true → IsPlaced (filter (λ (r : Read). is_written p.writes r.key) p.reads) r) → IsPlaced (notes_of p) (Got r)
-    at r true e x y = placed_back (checked_notes p) (own_notes p) (Got r) (placed_map Got (filter (λ (r : Read). is_written p.writes r.key) p.reads) r (y e))
-    at r false e x y = placed_front (checked_notes p) (own_notes p) (Got r) (placed_front (map Got (filter (λ (r : Read). not (is_written p.writes r.key)) p.reads)) (map Scanned p.scans) (Got r) (placed_map Got (filter (λ (r : Read). not (is_written p.writes r.key)) p.reads) r (x (ap not e))))
+    at : (r : Read) (b : Bool) → is_written p.writes r.key ≡ b → (not (is_written p.writes r.key) ≡ true → IsPlaced (filter (λ (r : Read). not (is_written p.writes r.key)) p.reads) r) → (is_written p.writes r.key ≡ true → IsPlaced (filter (λ (r : Read). is_written p.writes r.key) p.reads) r) → IsPlaced (items_of_work p) (KeyRead r)
+    at r true e x y = placed_back (checked_items p) (own_items p) (KeyRead r) (placed_map KeyRead (filter (λ (r : Read). is_written p.writes r.key) p.reads) r (y e))
+    at r false e x y = placed_front (checked_items p) (own_items p) (KeyRead r) (placed_front (map KeyRead (filter (λ (r : Read). not (is_written p.writes r.key)) p.reads)) (map SpanRead p.scans) (KeyRead r) (placed_map KeyRead (filter (λ (r : Read). not (is_written p.writes r.key)) p.reads) r (x (ap not e))))
 
-    both : (rs : List Read) → AllByRecursion (λ r. not (is_written p.writes r.key) ≡ true → IsPlaced (filter (λ (r : Read). not (is_written p.writes r.key)) p.reads) r) rs → AllByRecursion (λ r. is_written p.writes r.key ≡ true → IsPlaced (filter (λ (r : Read). is_written p.writes r.key) p.reads) r) rs → AllByRecursion (λ r. IsPlaced (notes_of p) (Got r)) rs
+    both : (rs : List Read) → AllByRecursion (λ r. not (is_written p.writes r.key) ≡ true → IsPlaced (filter (λ (r : Read). not (is_written p.writes r.key)) p.reads) r) rs → AllByRecursion (λ r. is_written p.writes r.key ≡ true → IsPlaced (filter (λ (r : Read). is_written p.writes r.key) p.reads) r) rs → AllByRecursion (λ r. IsPlaced (items_of_work p) (KeyRead r)) rs
     both [] a b = tt
     both (r ∷ rs) a b = (at r (is_written p.writes r.key) refl a.0 b.0, both rs a.1 b.1)
 
-scans_placed : (p : Work) → AllByRecursion (λ x. IsPlaced (notes_of p) (Scanned x)) p.scans
-scans_placed p = each_any (IsPlaced p.scans) (λ x. IsPlaced (notes_of p) (Scanned x)) p.scans (λ x q. placed_front (checked_notes p) (own_notes p) (Scanned x) (placed_back (map Got (filter (λ (r : Read). not (is_written p.writes r.key)) p.reads)) (map Scanned p.scans) (Scanned x) (placed_map Scanned p.scans x q))) (placed p.scans)
+scans_placed : (p : Work) → AllByRecursion (λ x. IsPlaced (items_of_work p) (SpanRead x)) p.scans
+scans_placed p = each_any (IsPlaced p.scans) (λ x. IsPlaced (items_of_work p) (SpanRead x)) p.scans (λ x q. placed_front (checked_items p) (own_items p) (SpanRead x) (placed_back (map KeyRead (filter (λ (r : Read). not (is_written p.writes r.key)) p.reads)) (map SpanRead p.scans) (SpanRead x) (placed_map SpanRead p.scans x q))) (placed p.scans)
 
 ---- what is noted there
 
-noted_at : (p : Work) (i : ℕ) (n : Note) (k : Key) → slice_get (notes_of p) i ≡ Some n → noted (plan_of p) i k ≡ option_map number_of (version_noted n k)
-unfolding noted
-noted_at p i n k e = ap (λ o. option_map number_of (option_and_then (λ x. version_noted x k) o)) e
+noted_at : (p : Work) (i : ℕ) (n : ReadItem) (k : Key) → slice_get (items_of_work p) i ≡ Some n → version_read_at (plan_of p) i k ≡ option_map number_of (version_read n k)
+unfolding version_read_at
+noted_at p i n k e = ap (λ o. option_map number_of (option_and_then (λ x. version_read x k) o)) e
 
-read_noted : (r : Read) → option_map number_of (version_noted (Got r) r.key) ≡ Some (number_of r.version)
+read_noted : (r : Read) → option_map number_of (version_read (KeyRead r) r.key) ≡ Some (number_of r.version)
 read_noted r = ap (λ b. option_map number_of (if b then Some r.version else None)) (same_key_self r.key)
 
-scan_noted : (x : Scan) (q : Key) → in_span x.span q ≡ true → option_map number_of (version_noted (Scanned x) q) ≡ Some (number_of (version_among x.found q))
+scan_noted : (x : Scan) (q : Key) → in_span x.span q ≡ true → option_map number_of (version_read (SpanRead x) q) ≡ Some (number_of (version_among x.found q))
 scan_noted x q e = ap (λ b. option_map number_of (if b then Some (version_among x.found q) else None)) e
 
 -- where no record was found, there is no version
@@ -113,32 +113,32 @@ unfound (r ∷ rs) q e = by (same_key q r.key) e (λ h. unfound rs q h)
 
 ---- the tables before it agree
 
-found_row : (plan : ℕ → Plan) (s : Seen) (k : Key) (v : Option TxId) → AreLeft plan s → version_of (base_at s.notes k) ≡ v → row_found (base_at s.notes k) ≡ row_left plan k (number_of v)
-found_row plan s k v left e = by (base_at s.notes k) refl e
+found_row : (plan : ℕ → Plan) (s : Seen) (k : Key) (v : Option TxId) → AreLeft plan s → version_of (base_at s.read_set k) ≡ v → row_found (base_at s.read_set k) ≡ row_left plan k (number_of v)
+found_row plan s k v left e = by (base_at s.read_set k) refl e
   where
-    by : (o : Option Record) → base_at s.notes k ≡ o → version_of o ≡ v → row_found o ≡ row_left plan k (number_of v)
+    by : (o : Option Record) → base_at s.read_set k ≡ o → version_of o ≡ v → row_found o ≡ row_left plan k (number_of v)
     by None at e = ap (λ x. row_left plan k (number_of x)) e
     by (Some b) at e = let c = left k b at in c.2 ∙ ap (λ x. row_left plan k (number_of x)) (sym c.1 ∙ e)
 
-serial_at : (plan : ℕ → Plan) (w : History) (front back : List ℕ) (t : ℕ) (p : Work) (d : Tables) (i : ℕ) (k : Key) (n : Note) (found : Option ℕ) → ReadsSerial plan w (front ++ t ∷ back) → plan t ≡ plan_of p → AreAfter plan front d → slice_get (notes_of p) i ≡ Some n → option_map number_of (version_noted n k) ≡ Some found → row_left plan k found ≡ get d k
-serial_at plan w front back t p d i k n found serial is after at says = serial front t back refl i k found (ap (λ (x : Plan). noted x i k) is ∙ noted_at p i n k at ∙ says) ∙ sym (after.row k)
+serial_at : (plan : ℕ → Plan) (w : History) (front back : List ℕ) (t : ℕ) (p : Work) (d : Tables) (i : ℕ) (k : Key) (n : ReadItem) (found : Option ℕ) → ReadsSerial plan w (front ++ t ∷ back) → plan t ≡ plan_of p → AreAfter plan front d → slice_get (items_of_work p) i ≡ Some n → option_map number_of (version_read n k) ≡ Some found → row_left plan k found ≡ get d k
+serial_at plan w front back t p d i k n found serial is after at says = serial front t back refl i k found (ap (λ (x : Plan). version_read_at x i k) is ∙ noted_at p i n k at ∙ says) ∙ sym (after.row k)
 
-pub agrees : (plan : ℕ → Plan) (w : History) (past : List Played) (front back : List ℕ) (t : ℕ) (p : Work) (s : Seen) (d : Tables) → ReadsSerial plan w (front ++ t ∷ back) → plan t ≡ plan_of p → p.reads ≡ s.reads → p.scans ≡ s.scans → SeenOk past s → AreLeft plan s → AreAfter plan front d → AgreesAll s d
+pub agrees : (plan : ℕ → Plan) (w : History) (past : List Labelled) (front back : List ℕ) (t : ℕ) (p : Work) (s : Seen) (d : Tables) → ReadsSerial plan w (front ++ t ∷ back) → plan t ≡ plan_of p → p.reads ≡ s.reads → p.scans ≡ s.scans → SeenOk past s → AreLeft plan s → AreAfter plan front d → AgreesAll s d
 agrees plan w past front back t p s d serial is reads scans seen left after = record {
-  reads = by_reads s.reads seen.reads (subst (λ rs. AllByRecursion (λ r. IsPlaced (notes_of p) (Got r)) rs) reads (reads_placed p));
-  scans = by_scans s.scans seen.found (subst (λ xs. AllByRecursion (λ x. IsPlaced (notes_of p) (Scanned x)) xs) scans (scans_placed p));
+  reads = by_reads s.reads seen.reads (subst (λ rs. AllByRecursion (λ r. IsPlaced (items_of_work p) (KeyRead r)) rs) reads (reads_placed p));
+  scans = by_scans s.scans seen.found (subst (λ xs. AllByRecursion (λ x. IsPlaced (items_of_work p) (SpanRead x)) xs) scans (scans_placed p));
 }
   where
-    by_reads : (rs : List Read) → AllByRecursion (IsReadOk s.notes) rs → AllByRecursion (λ r. IsPlaced (notes_of p) (Got r)) rs → AllByRecursion (ReadAgrees s d) rs
+    by_reads : (rs : List Read) → AllByRecursion (IsReadOk s.read_set) rs → AllByRecursion (λ r. IsPlaced (items_of_work p) (KeyRead r)) rs → AllByRecursion (ReadAgrees s d) rs
     by_reads [] v a = tt
-    by_reads (r ∷ rs) v a = (found_row plan s r.key r.version left (sym v.0.1) ∙ serial_at plan w front back t p d a.0.0 r.key (Got r) (number_of r.version) serial is after a.0.1 (read_noted r), by_reads rs v.1 a.1)
+    by_reads (r ∷ rs) v a = (found_row plan s r.key r.version left (sym v.0.1) ∙ serial_at plan w front back t p d a.0.0 r.key (KeyRead r) (number_of r.version) serial is after a.0.1 (read_noted r), by_reads rs v.1 a.1)
 
-    by_scans : (xs : List Scan) → AllByRecursion (IsFoundOk s.notes) xs → AllByRecursion (λ x. IsPlaced (notes_of p) (Scanned x)) xs → AllByRecursion (ScanAgrees s d) xs
+    by_scans : (xs : List Scan) → AllByRecursion (IsFoundOk s.read_set) xs → AllByRecursion (λ x. IsPlaced (items_of_work p) (SpanRead x)) xs → AllByRecursion (ScanAgrees s d) xs
     by_scans [] v a = tt
     by_scans (x ∷ xs) v a = (
       λ q inside. (
-        λ f. found_row plan s q (version_among x.found q) left (v.0 q f).1 ∙ serial_at plan w front back t p d a.0.0 q (Scanned x) (number_of (version_among x.found q)) serial is after a.0.1 (scan_noted x q inside),
-        λ f. sym (ap (λ y. row_left plan q (number_of y)) (sym (unfound x.found q f)) ∙ serial_at plan w front back t p d a.0.0 q (Scanned x) (number_of (version_among x.found q)) serial is after a.0.1 (scan_noted x q inside)),
+        λ f. found_row plan s q (version_among x.found q) left (v.0 q f).1 ∙ serial_at plan w front back t p d a.0.0 q (SpanRead x) (number_of (version_among x.found q)) serial is after a.0.1 (scan_noted x q inside),
+        λ f. sym (ap (λ y. row_left plan q (number_of y)) (sym (unfound x.found q f)) ∙ serial_at plan w front back t p d a.0.0 q (SpanRead x) (number_of (version_among x.found q)) serial is after a.0.1 (scan_noted x q inside)),
       ),
       by_scans xs v.1 a.1,
     )

@@ -6,16 +6,16 @@ use Rattle.std.proofs.lemmas.List.Sums.{fold-append}
 use Rattle.std.proofs.lemmas.Bool.Decides.{nat_tests}
 use Rattle.sdb_model.specs.declared.event.Event.{Event}
 use Rattle.sdb_model.specs.declared.event.Event.TheVariants as event
-use Rattle.sdb_model.specs.Transactions.{said, said_after, with_answer, numbered}
+use Rattle.sdb_model.specs.Transactions.{statements_by, statements_after, with_answer, numbered}
 use Rattle.sdb_laws.specs.Plan.{Plan}
 use Rattle.sdb_laws.specs.History as laws
-use Rattle.sdb_laws.specs.History.{Role, Other, Begins, Takes, Talk, heard}
-use Rattle.sdb_laws.specs.Lawful.{Played, MayPlay, talk, ended}
+use Rattle.sdb_laws.specs.History.{Action, Other, Begins, Takes, ProtocolState, state_after_event}
+use Rattle.sdb_laws.specs.Lawful.{Labelled, IsEnabled, protocol_state, ended}
 use Rattle.sdb_turns.specs.System.{SystemAt, IsBy}
 use Rattle.sdb_turns.proofs.Foreign.{IsForeign, foreign}
-use Rattle.sdb_story.specs.Story.{Finished, Rest, Closed, Opened, finished_at}
+use Rattle.sdb_story.specs.Story.{Finished, Rest, Closed, Opened, txn_ended_at}
 use Rattle.sdb_story.specs.Filed.{number, IsFiledAt}
-use Rattle.sdb_story.specs.Telling.{Telling, begun_in, count_of, OpenFiled, IsOpened, HasBegun, StoryOk, IsNotOf, IsApart, KeepsHold, IsCounted}
+use Rattle.sdb_story.specs.History.{ClientHistory, begun_in, count_of, OpenFiled, IsOpened, HasBegun, HistoryInvariant, IsNotOf, IsApart, KeepsTxns, IsCounted}
 use Rattle.sdb_types.proofs.Basics.{length_more}
 
 ---- one event more
@@ -30,59 +30,59 @@ numbers_more n (x ∷ es) e = ap (λ r. (n, x) ∷ r) (numbers_more (n + 1) es e
     plus : (n m : ℕ) → (n + 1) + m ≡ n + suc m
     plus n m = omega arith
 
-pub said_more : (c : ℕ) (es : List Event) (e : Event) → said c (es ++ e ∷ []) ≡ said_after c (said c es) (1 + length es, e)
-said_more c es e = ap (fold (said_after c) []) (numbers_more 1 es e) ∙ fold-append (said_after c) [] (numbered es) ((1 + length es, e) ∷ [])
+pub said_more : (c : ℕ) (es : List Event) (e : Event) → statements_by c (es ++ e ∷ []) ≡ statements_after c (statements_by c es) (1 + length es, e)
+said_more c es e = ap (fold (statements_after c) []) (numbers_more 1 es e) ∙ fold-append (statements_after c) [] (numbered es) ((1 + length es, e) ∷ [])
 
-counted : (h : Talk) (r : Role) → IsCounted r → (heard h r).now ≡ h.now + 1
+counted : (h : ProtocolState) (r : Action) → IsCounted r → (state_after_event h r).now ≡ h.now + 1
 counted h r c = grind (arith, nat_tests)
 
-ended_now : (h : Talk) (o : Option ℕ) → (ended h o).now ≡ h.now
+ended_now : (h : ProtocolState) (o : Option ℕ) → (ended h o).now ≡ h.now
 ended_now h None = refl
 ended_now h (Some t) = refl
 
-pub now_more : (events : List Event) (past : List Played) (q : Played) (e : Event) → IsCounted q.role → (talk past).now ≡ length events → (talk (q ∷ past)).now ≡ length (events ++ e ∷ [])
-now_more events past q e c now = ended_now (heard (talk past) q.role) q.ends ∙ counted (talk past) q.role c ∙ ap (λ n. n + 1) now ∙ sym (length_more events e)
+pub now_more : (events : List Event) (past : List Labelled) (q : Labelled) (e : Event) → IsCounted q.action → (protocol_state past).now ≡ length events → (protocol_state (q ∷ past)).now ≡ length (events ++ e ∷ [])
+now_more events past q e c now = ended_now (state_after_event (protocol_state past) q.action) q.ends ∙ counted (protocol_state past) q.action c ∙ ap (λ n. n + 1) now ∙ sym (length_more events e)
 
 ---- what is filed stays
 
-pub record SameOf (t : ℕ) (h v : Talk) : Type 0 where
+pub record SameOf (t : ℕ) (h v : ProtocolState) : Type 0 where
   pub begun : v.begun t ≡ h.begun t
   pub owner : v.owner t ≡ h.owner t
   pub taken : v.taken t ≡ h.taken t
   pub taken_at : v.taken_at t ≡ h.taken_at t
 
-same_begun : (h : Talk) (r : Role) (t : ℕ) → IsNotOf t r → (heard h r).begun t ≡ h.begun t
+same_begun : (h : ProtocolState) (r : Action) (t : ℕ) → IsNotOf t r → (state_after_event h r).begun t ≡ h.begun t
 same_begun h r t n = grind (arith, nat_tests)
 
-same_owner : (h : Talk) (r : Role) (t : ℕ) → IsNotOf t r → (heard h r).owner t ≡ h.owner t
+same_owner : (h : ProtocolState) (r : Action) (t : ℕ) → IsNotOf t r → (state_after_event h r).owner t ≡ h.owner t
 same_owner h r t n = grind (arith, nat_tests)
 
-same_taken : (h : Talk) (r : Role) (t : ℕ) → IsNotOf t r → (heard h r).taken t ≡ h.taken t
+same_taken : (h : ProtocolState) (r : Action) (t : ℕ) → IsNotOf t r → (state_after_event h r).taken t ≡ h.taken t
 same_taken h r t n = grind (arith, nat_tests)
 
-same_taken_at : (h : Talk) (r : Role) (t : ℕ) → IsNotOf t r → (heard h r).taken_at t ≡ h.taken_at t
+same_taken_at : (h : ProtocolState) (r : Action) (t : ℕ) → IsNotOf t r → (state_after_event h r).taken_at t ≡ h.taken_at t
 same_taken_at h r t n = grind (arith, nat_tests)
 
-pub same_of : (past : List Played) (q : Played) (t : ℕ) → IsNotOf t q.role → SameOf t (talk past) (talk (q ∷ past))
+pub same_of : (past : List Labelled) (q : Labelled) (t : ℕ) → IsNotOf t q.action → SameOf t (protocol_state past) (protocol_state (q ∷ past))
 same_of past q t n = by q.ends
   where
-    by : (o : Option ℕ) → SameOf t (talk past) (ended (heard (talk past) q.role) o)
-    by None = record { begun = same_begun (talk past) q.role t n; owner = same_owner (talk past) q.role t n; taken = same_taken (talk past) q.role t n; taken_at = same_taken_at (talk past) q.role t n }
-    by (Some u) = record { begun = same_begun (talk past) q.role t n; owner = same_owner (talk past) q.role t n; taken = same_taken (talk past) q.role t n; taken_at = same_taken_at (talk past) q.role t n }
+    by : (o : Option ℕ) → SameOf t (protocol_state past) (ended (state_after_event (protocol_state past) q.action) o)
+    by None = record { begun = same_begun (protocol_state past) q.action t n; owner = same_owner (protocol_state past) q.action t n; taken = same_taken (protocol_state past) q.action t n; taken_at = same_taken_at (protocol_state past) q.action t n }
+    by (Some u) = record { begun = same_begun (protocol_state past) q.action t n; owner = same_owner (protocol_state past) q.action t n; taken = same_taken (protocol_state past) q.action t n; taken_at = same_taken_at (protocol_state past) q.action t n }
 
-pub filed_later : (past : List Played) (q : Played) (t : ℕ) (f : Finished) → SameOf t (talk past) (talk (q ∷ past)) → IsFiledAt past t f → IsFiledAt (q ∷ past) t f
+pub filed_later : (past : List Labelled) (q : Labelled) (t : ℕ) (f : Finished) → SameOf t (protocol_state past) (protocol_state (q ∷ past)) → IsFiledAt past t f → IsFiledAt (q ∷ past) t f
 filed_later past q t f s filed = record {
   begun = s.begun ∙ filed.begun;
   taken = λ h. let x = filed.taken (sym s.taken ∙ h) in (x.0, x.1 ∙ sym s.taken_at);
   told = λ a. inr (filed.told a);
-  denied = λ a said denial h. inr (filed.denied a said denial (sym s.taken ∙ h));
+  denied = λ a statements_by denial h. inr (filed.denied a statements_by denial (sym s.taken ∙ h));
   unknown = filed.unknown;
 }
 
-pub begun_later : (past : List Played) (q : Played) (c k : ℕ) → SameOf (number c k) (talk past) (talk (q ∷ past)) → HasBegun past c k → HasBegun (q ∷ past) c k
+pub begun_later : (past : List Labelled) (q : Labelled) (c k : ℕ) → SameOf (number c k) (protocol_state past) (protocol_state (q ∷ past)) → HasBegun past c k → HasBegun (q ∷ past) c k
 begun_later past q c k s h = record { begun = λ e. h.begun (sym s.begun ∙ e); owner = s.owner ∙ h.owner; client = h.client; ordinal = h.ordinal }
 
-pub within : (fs : List Finished) (k : ℕ) (f : Finished) (n : ℕ) → finished_at fs k ≡ Some f → k < length fs + n
+pub within : (fs : List Finished) (k : ℕ) (f : Finished) (n : ℕ) → txn_ended_at fs k ≡ Some f → k < length fs + n
 within [] k f n e = absurd (cc)
 within (g ∷ fs) zero f n e = positive (length fs) n
   where
@@ -94,10 +94,10 @@ within (g ∷ fs) (suc k) f n e = more k (length fs) n (within fs k f n e)
     more k m n l = omega arith
 
 -- the event is apart from each that has begun
-pub apart_at : (events : List Event) (past : List Played) (sys : SystemAt) (c : ℕ) (x : Telling) (q : Played) (k : ℕ) → StoryOk events past sys c x → IsApart past c q.role → k < count_of x → SameOf (number c k) (talk past) (talk (q ∷ past))
+pub apart_at : (events : List Event) (past : List Labelled) (sys : SystemAt) (c : ℕ) (x : ClientHistory) (q : Labelled) (k : ℕ) → HistoryInvariant events past sys c x → IsApart past c q.action → k < count_of x → SameOf (number c k) (protocol_state past) (protocol_state (q ∷ past))
 apart_at events past sys c x q k story apart l = let h = story.alive k l in same_of past q (number c k) (apart (number c k) h.owner h.begun)
 
-pub open_later : (past : List Played) (q : Played) (c : ℕ) (x : Telling) (r : Rest) → (IsOpened r → SameOf (number c (length x.whole)) (talk past) (talk (q ∷ past))) → OpenFiled past c x r → OpenFiled (q ∷ past) c x r
+pub open_later : (past : List Labelled) (q : Labelled) (c : ℕ) (x : ClientHistory) (r : Rest) → (IsOpened r → SameOf (number c (length x.whole)) (protocol_state past) (protocol_state (q ∷ past))) → OpenFiled past c x r → OpenFiled (q ∷ past) c x r
 open_later past q c x (Closed gap) s ok = tt
 open_later past q c x (Opened gap b body) s ok = let same = s tt in (same.begun ∙ ok.0, λ h. let w = ok.1 (sym same.taken ∙ h) in (w.0, w.1, w.2, w.3 ∙ sym same.taken_at))
 
@@ -106,7 +106,7 @@ opened_counts m (Closed gap) o = absurd o
 opened_counts m (Opened gap b body) o = omega arith
 
 -- An event that says nothing of a client, and is apart from its transactions, leaves its story.
-pub story_stays : (events : List Event) (past : List Played) (sys next : SystemAt) (c : ℕ) (x : Telling) (q : Played) → StoryOk events past sys c x → IsCounted q.role → IsApart past c q.role → KeepsHold c sys next → said c (events ++ q.event ∷ []) ≡ said c events → StoryOk (events ++ q.event ∷ []) (q ∷ past) next c x
+pub story_stays : (events : List Event) (past : List Labelled) (sys next : SystemAt) (c : ℕ) (x : ClientHistory) (q : Labelled) → HistoryInvariant events past sys c x → IsCounted q.action → IsApart past c q.action → KeepsTxns c sys next → statements_by c (events ++ q.event ∷ []) ≡ statements_by c events → HistoryInvariant (events ++ q.event ∷ []) (q ∷ past) next c x
 story_stays events past sys next c x q story counts apart keeps nothing = record {
   now = now_more events past q q.event counts story.now;
   same = nothing ∙ story.same;
@@ -123,10 +123,10 @@ story_stays events past sys next c x q story counts apart keeps nothing = record
 ---- what says nothing of a client
 
 -- another client's lawful event is apart from its transactions
-pub others_apart : (plan : ℕ → Plan) (past : List Played) (c d : ℕ) (q : Played) → d ≢ c → IsBy d q.event → MayPlay plan past q.event q.role → IsApart past c q.role
-others_apart plan past c d q apart by may t owner begun = by_role q.role (foreign plan past c d t q.event q.role owner begun apart by may)
+pub others_apart : (plan : ℕ → Plan) (past : List Labelled) (c d : ℕ) (q : Labelled) → d ≢ c → IsBy d q.event → IsEnabled plan past q.event q.action → IsApart past c q.action
+others_apart plan past c d q apart by may t owner begun = by_role q.action (foreign plan past c d t q.event q.action owner begun apart by may)
   where
-    by_role : (r : Role) → IsForeign t c r → IsNotOf t r
+    by_role : (r : Action) → IsForeign t c r → IsNotOf t r
     by_role Other f = tt
     by_role (Begins u e) f = f
     by_role (Takes u) f = f
@@ -140,7 +140,7 @@ others_apart plan past c d q apart by may t owner begun = by_role q.role (foreig
     by_role (laws.Stops e) f = tt
 
 -- and says nothing of it
-pub others_silent : (events : List Event) (c d : ℕ) (e : Event) → d ≢ c → IsBy d e → said c (events ++ e ∷ []) ≡ said c events
+pub others_silent : (events : List Event) (c d : ℕ) (e : Event) → d ≢ c → IsBy d e → statements_by c (events ++ e ∷ []) ≡ statements_by c events
 others_silent events c d e apart by = said_more c events e ∙ silent e by
   where
     other : (b : ℕ) → b ≡ d → (b == c) ≡ false
@@ -149,10 +149,10 @@ others_silent events c d e apart by = said_more c events e ∙ silent e by
         differ : (m n : ℕ) → m ≢ n → (m == n) ≡ false
         differ m n h = grind (arith, nat_tests)
 
-    silent : (e : Event) → IsBy d e → said_after c (said c events) (1 + length events, e) ≡ said c events
-    silent (event.Take b text a) by = ap (λ t. if t then said c events ++ record { taken = 1 + length events; text = text; answer = a; reached = 1 + length events } ∷ [] else said c events) (other b by)
+    silent : (e : Event) → IsBy d e → statements_after c (statements_by c events) (1 + length events, e) ≡ statements_by c events
+    silent (event.Take b text a) by = ap (λ t. if t then statements_by c events ++ record { taken = 1 + length events; text = text; answer = a; reached = 1 + length events } ∷ [] else statements_by c events) (other b by)
     silent (event.Call b store q how r None) by = refl
-    silent (event.Call b store q how r (Some a)) by = ap (λ t. if t then with_answer (said c events) (1 + length events) a else said c events) (other b by)
+    silent (event.Call b store q how r (Some a)) by = ap (λ t. if t then with_answer (statements_by c events) (1 + length events) a else statements_by c events) (other b by)
     silent (event.Stop b) by = refl
     silent (event.Clock moment) by = refl
     silent (event.Idle b) by = refl

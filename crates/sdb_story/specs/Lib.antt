@@ -3,7 +3,7 @@ pub mod Sought
 pub mod Filed
 pub mod Body
 pub mod Left
-pub mod Telling
+pub mod History
 pub mod BodyTexts
 pub mod Linked
 pub mod Calls

@@ -4,19 +4,19 @@ use Rattle.sdb_schema.specs.declared.table.Table.{Table}
 use Rattle.sdb_model.specs.declared.event.Point.{Point}
 use Rattle.sdb_model.specs.Exec.{Tables}
 use Rattle.sdb_laws.specs.Plan.{Plan}
-use Rattle.sdb_laws.specs.Lawful.{Played}
+use Rattle.sdb_laws.specs.Lawful.{Labelled}
 use Rattle.sdb_laws.specs.Explained.{newest_first, events_of}
 use Rattle.sdb_turns.specs.System.{SystemAt, SystemOk}
-use Rattle.sdb_story.specs.Left.{Execution, AllBodiesSaid, numbers_of}
-use Rattle.sdb_story.specs.Telling.{AllStories, Telling}
+use Rattle.sdb_story.specs.Left.{Execution, AllBodiesExecuted, ordinals_of}
+use Rattle.sdb_story.specs.History.{AllStories, ClientHistory}
 
--- Plans with which all is so of all clients after the events, and each client has its story; and what each transaction of the order did
--- and said.
-pub record IsLinked (catalog : List Table) (fit : Tables → Bool) (played : List Played) (order : List Point) : Type 0 where
+-- Plans with which the invariant of all clients holds after the events, and each client has its story; and the execution and the statements
+-- of each transaction of the order.
+pub record HaveStories (catalog : List Table) (fit : Tables → Bool) (labelled : List Labelled) (order : List Point) : Type 0 where
   pub plan : ℕ → Plan
   pub sys : SystemAt
-  pub told : ℕ → Telling
+  pub told : ℕ → ClientHistory
   pub ran : ℕ → Execution
-  pub system : SystemOk plan (newest_first played) sys
-  pub stories : AllStories (events_of played) (newest_first played) sys told
-  pub bodies : AllBodiesSaid catalog fit plan (events_of played) (newest_first played) ran (numbers_of order)
+  pub system : SystemOk plan (newest_first labelled) sys
+  pub stories : AllStories (events_of labelled) (newest_first labelled) sys told
+  pub bodies : AllBodiesExecuted catalog fit plan (events_of labelled) (newest_first labelled) ran (ordinals_of order)

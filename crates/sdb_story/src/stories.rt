@@ -2,43 +2,43 @@
 ghost use Rattle.std.specs.Prelude.{◌≡◌, ◌≤◌, ◌<◌, ◌*◌, ◌^◌, ℕ, List, ◌++◌, ◌∷◌, [], length, filter, Some, None, true};
 ghost use Rattle.std.specs.List.{AllByRecursion};
 ghost use Rattle.sdb_model.specs.declared.event.Event.{Event};
-ghost use Rattle.sdb_model.specs.Transactions.{Said, body, is_effective};
-ghost use Rattle.sdb_laws.specs.Lawful.{Played, talk};
+ghost use Rattle.sdb_model.specs.Transactions.{Executed, body, is_effective};
+ghost use Rattle.sdb_laws.specs.Lawful.{Labelled, protocol_state};
 ghost use Rattle.sdb_laws.specs.Faithful.{IsFaithful};
-ghost use Rattle.sdb_story.specs.Story.{Finished, Rest, Closed, settle, saids_of, said_of, all_of, commit_in, IsFinished, IsRest, IsStory, MayCome, finished_at};
+ghost use Rattle.sdb_story.specs.Story.{Finished, Rest, Closed, settle, saids_of, statements_in, all_of, commit_in, IsEndedTxn, IsRest, IsWellFormedStory, MayCome, txn_ended_at};
 ghost use Rattle.sdb_turns.specs.Knowledge.{Knowledge};
 ghost use Rattle.sdb_story.specs.Filed.{Filed};
-ghost use Rattle.sdb_story.specs.Sought.{IsOpenWith, Sought, TextsSay};
-ghost use Rattle.sdb_story.specs.Telling.{AllStories, Telling};
+ghost use Rattle.sdb_story.specs.Sought.{IsOpenWith, Sought, TextsGive};
+ghost use Rattle.sdb_story.specs.History.{AllStories, ClientHistory};
 
 /// One statement more, with its answer, goes last in a client's story and leaves it one.
 pub fn story_grows()
-    ensures same { (whole : List Finished) (rest : Rest) (s : Said) → all_of (settle whole rest s) ≡ (saids_of whole ++ said_of rest) ++ s ∷ [] }
-    ensures kept { (whole : List Finished) (rest : Rest) (s : Said) → AllByRecursion IsFinished whole → IsRest rest → MayCome rest s → IsStory (settle whole rest s) }
+    ensures same { (whole : List Finished) (rest : Rest) (s : Executed) → all_of (settle whole rest s) ≡ (saids_of whole ++ statements_in rest) ++ s ∷ [] }
+    ensures kept { (whole : List Finished) (rest : Rest) (s : Executed) → AllByRecursion IsEndedTxn whole → IsRest rest → MayCome rest s → IsWellFormedStory (settle whole rest s) }
 {}
 
 /// Of a story's transactions the texts say when each began and what its COMMIT is: of the k-th that ended, of the open one, and
 /// that there is no other.
-pub fn story_tells()
-    ensures finished { (x : Sought) (f : Finished) → finished_at x.whole x.k ≡ Some f → TextsSay x (Some f.begin.taken) (commit_in f.last) }
-    ensures opened { (x : Sought) (b : Said) (body : List Said) → IsOpenWith x b body → x.k ≡ length x.whole → TextsSay x (Some b.taken) None }
-    ensures none { (x : Sought) (gap : List Said) → x.rest ≡ Closed gap → IsRest x.rest → length x.whole ≤ x.k → TextsSay x None None }
-    ensures past { (x : Sought) (b : Said) (body : List Said) → IsOpenWith x b body → length x.whole < x.k → TextsSay x None None }
+pub fn story_is_history()
+    ensures finished { (x : Sought) (f : Finished) → txn_ended_at x.whole x.k ≡ Some f → TextsGive x (Some f.begin.taken) (commit_in f.last) }
+    ensures opened { (x : Sought) (b : Executed) (body : List Executed) → IsOpenWith x b body → x.k ≡ length x.whole → TextsGive x (Some b.taken) None }
+    ensures none { (x : Sought) (gap : List Executed) → x.rest ≡ Closed gap → IsRest x.rest → length x.whole ≤ x.k → TextsGive x None None }
+    ensures past { (x : Sought) (b : Executed) (body : List Executed) → IsOpenWith x b body → length x.whole < x.k → TextsGive x None None }
 {}
 
 /// The body of a transaction is what changed something of its statements: of one that ended, and of an open one.
 pub fn story_bodies()
-    ensures finished { (x : Sought) (f : Finished) → finished_at x.whole x.k ≡ Some f → body x.events x.id ≡ filter is_effective f.body }
-    ensures opened { (x : Sought) (b : Said) (inside : List Said) → IsOpenWith x b inside → x.k ≡ length x.whole → body x.events x.id ≡ filter is_effective inside }
+    ensures finished { (x : Sought) (f : Finished) → txn_ended_at x.whole x.k ≡ Some f → body x.events x.id ≡ filter is_effective f.body }
+    ensures opened { (x : Sought) (b : Executed) (inside : List Executed) → IsOpenWith x b inside → x.k ≡ length x.whole → body x.events x.id ≡ filter is_effective inside }
 {}
 
-/// Where each client's story is filed, and no transaction of ordinal 0 was taken, the parts that are played are those that the texts
+/// Where each client's story is filed, and no transaction of ordinal 0 was taken, the actions are those that the texts
 /// say.
 pub fn faithful()
-    ensures { (events : List Event) (past : List Played) → ((c : ℕ) → Filed c events past) → ((c : ℕ) → (talk past).taken (c * 2 ^ 64) ≡ true → ⊥) → IsFaithful events past }
+    ensures { (events : List Event) (past : List Labelled) → ((c : ℕ) → Filed c events past) → ((c : ℕ) → (protocol_state past).taken (c * 2 ^ 64) ≡ true → ⊥) → IsFaithful events past }
 {}
 
-/// Where all is so of all clients, and each client has its story, the parts that are played are those that the texts say.
+/// Where the invariant of all clients holds, and each client has its story, the actions are those that the texts give.
 pub fn clients_are_faithful()
-    ensures { (k : Knowledge) (events : List Event) (told : ℕ → Telling) → AllStories events k.past k.sys told → IsFaithful events k.past }
+    ensures { (k : Knowledge) (events : List Event) (told : ℕ → ClientHistory) → AllStories events k.past k.sys told → IsFaithful events k.past }
 {}

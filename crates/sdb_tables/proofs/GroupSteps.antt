@@ -5,7 +5,7 @@ use Rattle.std.proofs.lemmas.List.{map_push}
 use Rattle.std.proofs.lemmas.List.Sums.{sum_by_push}
 use Rattle.sdb_types.specs.declared.value.Value.{Value}
 use Rattle.sdb_schema.specs.declared.table.Table.{Table}
-use Rattle.sdb_stores.specs.Shelf.{Attached}
+use Rattle.sdb_stores.specs.Views.{Attached}
 use Rattle.sdb_board.specs.Board.{GoOn}
 use Rattle.sdb_model.specs.declared.answer.Answer.{Answer}
 use Rattle.sdb_model.specs.declared.statement.Statement.TheVariants as statement
@@ -15,17 +15,17 @@ use Rattle.sdb_tables.specs.declared.group.Ending.{Ending}
 use Rattle.sdb_tables.specs.declared.load.Load.{Load}
 use Rattle.sdb_tables.specs.Groups.{AreLoaded, Ended, IsRolledBackIf, NotBegun, Stopped, is_loaded, is_open, is_written, statements_of, written_in}
 use Rattle.sdb_tables.specs.Statements.{row_statement}
-use Rattle.sdb_tables.specs.Turns.{AreAllTaken, AreRolledBack, AreStopped, AreTakenBy, EndBy, HasLoaded, HasSaid, HaveLoaded, IsSoFar, Point}
+use Rattle.sdb_tables.specs.Turns.{AreAllExecuted, AreRolledBack, AreStopped, AreExecutedBy, EndBy, HasLoaded, IsExecuted, HaveLoaded, IsSoFar, Point}
 use Rattle.sdb_tables.proofs.Points.{answered_more, said, taken_more, taken_none}
 
 ---- rows
 
-pub none_taken : {S : Type 0} (state : S → Attached) (catalog : List Table) (load : Load) (p : Point S) → AreAllTaken state catalog load [] p p 0
+pub none_taken : {S : Type 0} (state : S → Attached) (catalog : List Table) (load : Load) (p : Point S) → AreAllExecuted state catalog load [] p p 0
 none_taken state catalog load p = record { es = []; loads = tt; counted = refl; taken = taken_none state catalog p }
 
 -- one row more was taken
 pub row_more : {S : Type 0} (state : S → Attached) (catalog : List Table) (load : Load) (rows : List (List Value)) (row : List Value) (p q r : Point S) (written : ℕ) (a : Answer)
-    → AreAllTaken state catalog load rows p q written → HasSaid state catalog (row_statement load row) q a r → GoOn (state q.stores) (state r.stores) → is_loaded a ≡ true → AreAllTaken state catalog load (rows ++ row ∷ []) p r (written + cond (is_written a) 1 0)
+    → AreAllExecuted state catalog load rows p q written → IsExecuted state catalog (row_statement load row) q a r → GoOn (state q.stores) (state r.stores) → is_loaded a ≡ true → AreAllExecuted state catalog load (rows ++ row ∷ []) p r (written + cond (is_written a) 1 0)
 row_more state catalog load rows row p q r written a h one goes good =
     let s = said state catalog (row_statement load row) q r a one goes in
     let e = s.e in
@@ -38,7 +38,7 @@ row_more state catalog load rows row p q r written a h one goes good =
 
 -- a row's statement stopped them
 pub row_stops : {S : Type 0} (state : S → Attached) (catalog : List Table) (load : Load) (rows front back : List (List Value)) (row : List Value) (p q r : Point S) (written : ℕ) (a : Answer)
-    → AreAllTaken state catalog load front p q written → HasSaid state catalog (row_statement load row) q a r → GoOn (state q.stores) (state r.stores) → is_loaded a ≡ false → rows ≡ front ++ row ∷ back → AreStopped state catalog load rows p r written a
+    → AreAllExecuted state catalog load front p q written → IsExecuted state catalog (row_statement load row) q a r → GoOn (state q.stores) (state r.stores) → is_loaded a ≡ false → rows ≡ front ++ row ∷ back → AreStopped state catalog load rows p r written a
 row_stops state catalog load rows front back row p q r written a h one goes bad split =
     let s = said state catalog (row_statement load row) q r a one goes in
     record {
@@ -61,7 +61,7 @@ row_stops state catalog load rows front back row p q r written a h one goes bad 
 pub rolled_none : {S : Type 0} (state : S → Attached) (catalog : List Table) (p : Point S) → is_some p.session.client.txn ≡ false → AreRolledBack state catalog p p
 rolled_none state catalog p closed = record { es = []; are = subst (λ b. IsRolledBackIf b []) (sym closed) refl; taken = taken_none state catalog p }
 
-pub rolled_one : {S : Type 0} (state : S → Attached) (catalog : List Table) (p q : Point S) (a : Answer) → is_some p.session.client.txn ≡ true → HasSaid state catalog statement.Rollback p a q → GoOn (state p.stores) (state q.stores) → AreRolledBack state catalog p q
+pub rolled_one : {S : Type 0} (state : S → Attached) (catalog : List Table) (p q : Point S) (a : Answer) → is_some p.session.client.txn ≡ true → IsExecuted state catalog statement.Rollback p a q → GoOn (state p.stores) (state q.stores) → AreRolledBack state catalog p q
 rolled_one state catalog p q a opened one goes =
     let s = said state catalog statement.Rollback p q a one goes in
     record { es = s.e ∷ []; are = subst (λ b. IsRolledBackIf b (s.e ∷ [])) (sym opened) (s.e, refl, s.is); taken = s.taken }
@@ -73,7 +73,7 @@ past_begin : (before : List Exchange) (begin : Exchange) (xs ys : List Exchange)
 past_begin before begin xs ys = append_assoc (before ++ begin ∷ []) xs ys ∙ append_assoc before (begin ∷ []) (xs ++ ys)
 
 pub group_ends : {S : Type 0} (state : S → Attached) (catalog : List Table) (load : Load) (rows : List (List Value)) (p q r : Point S) (written : ℕ) (bad : Option Answer) (ending : Ending)
-    → AreTakenBy state catalog load rows p q written bad → EndBy state catalog written bad q r ending → GoOn (state q.stores) (state r.stores) → HaveLoaded state catalog load rows p r ending
+    → AreExecutedBy state catalog load rows p q written bad → EndBy state catalog written bad q r ending → GoOn (state q.stores) (state r.stores) → HaveLoaded state catalog load rows p r ending
 group_ends state catalog load rows p q r written None ending t k goes = λ first before begin begins done so.
     let s = said state catalog statement.Commit q r ending.answer k.1 goes in
     record {
@@ -121,7 +121,7 @@ group_ends state catalog load rows p q r written (Some a) ending t k goes = λ f
 
 -- BEGIN was answered Done
 pub group_begun : {S : Type 0} (state : S → Attached) (catalog : List Table) (load : Load) (rows : List (List Value)) (p q r : Point S) (a : Answer) (ending : Ending)
-    → HasSaid state catalog statement.Begin p a q → GoOn (state p.stores) (state q.stores) → is_done (Some a) ≡ true → HaveLoaded state catalog load rows q r ending → HasLoaded state catalog load rows p r ending
+    → IsExecuted state catalog statement.Begin p a q → GoOn (state p.stores) (state q.stores) → is_done (Some a) ≡ true → HaveLoaded state catalog load rows q r ending → HasLoaded state catalog load rows p r ending
 group_begun state catalog load rows p q r a ending one goes done h = λ first before so.
     let s = said state catalog statement.Begin p q a one goes in
     let g = h first before s.e s.is (ap (λ x. is_done (Some x)) s.answer ∙ done) (s.taken first before so) in
@@ -129,7 +129,7 @@ group_begun state catalog load rows p q r a ending one goes done h = λ first be
 
 -- BEGIN was answered otherwise
 pub group_not_begun : {S : Type 0} (state : S → Attached) (catalog : List Table) (load : Load) (rows : List (List Value)) (p q r : Point S) (a : Answer)
-    → HasSaid state catalog statement.Begin p a q → GoOn (state p.stores) (state q.stores) → is_done (Some a) ≡ false → AreRolledBack state catalog q r → HasLoaded state catalog load rows p r (record { written = 0; answer = a })
+    → IsExecuted state catalog statement.Begin p a q → GoOn (state p.stores) (state q.stores) → is_done (Some a) ≡ false → AreRolledBack state catalog q r → HasLoaded state catalog load rows p r (record { written = 0; answer = a })
 group_not_begun state catalog load rows p q r a one goes other rolled = λ first before so.
     let s = said state catalog statement.Begin p q a one goes in
     let mid = s.taken first before so in

@@ -6,13 +6,13 @@ use Rattle.sdb_model.specs.declared.statement.Statement.TheVariants as statement
 use Rattle.sdb_model.specs.Sql.{Reads, statement_text_of}
 use Rattle.sdb_sqltokens.proofs.AllPrinted.{statement_read}
 use Rattle.sdb_sqltext.proofs.Clauses.{not_both, one_statement}
-use Rattle.sdb_client.specs.Client.{Says}
-use Rattle.sdb_tables.specs.Groups.{IsTakenAsItself}
+use Rattle.sdb_client.specs.Client.{Parses}
+use Rattle.sdb_tables.specs.Groups.{IsParsedAsItself}
 
-pub taken_as_itself : (st : Statement) → Reads (statement_text_of st) st → IsTakenAsItself st
+pub taken_as_itself : (st : Statement) → Reads (statement_text_of st) st → IsParsedAsItself st
 taken_as_itself st r = λ e h. by e.says h
   where
-    by : (x : Result Statement Refusal) → Says (statement_text_of st) x → x ≡ Ok st
+    by : (x : Result Statement Refusal) → Parses (statement_text_of st) x → x ≡ Ok st
     by (Ok s) k = ap Ok (one_statement (statement_text_of st) s st k r)
     by (Err f) k = absurd (not_both (statement_text_of st) st f r k)
 

@@ -4,7 +4,7 @@ use Rattle.std.specs.List.{AllByRecursion, flat_map}
 use Rattle.std.proofs.lemmas.List.{append-nil, length-take, take-append-drop}
 use Rattle.sdb_types.specs.declared.value.Value.{Value}
 use Rattle.sdb_schema.specs.declared.table.Table.{Table}
-use Rattle.sdb_stores.specs.Shelf.{Attached}
+use Rattle.sdb_stores.specs.Views.{Attached}
 use Rattle.sdb_board.specs.Board.{GoOn}
 use Rattle.sdb_session.specs.Session.{Exchange}
 use Rattle.sdb_answer.proofs.Chains.{session_whole}
@@ -12,7 +12,7 @@ use Rattle.sdb_tables.specs.declared.group.Ending.{Ending}
 use Rattle.sdb_tables.specs.declared.load.Load.{Load}
 use Rattle.sdb_tables.specs.Ends.{Ends}
 use Rattle.sdb_tables.specs.Groups.{AreGroups, Group, IsGroup}
-use Rattle.sdb_tables.specs.Loads.{AreOfSize, IsLoad, IsStarvedLoad, exchanges_of, group_line, group_lines, line_of, rows_of}
+use Rattle.sdb_tables.specs.Loads.{AreOfSize, IsLoad, IsLoadOutOfMemory, exchanges_of, group_line, group_lines, line_of, rows_of}
 use Rattle.sdb_tables.specs.Turns.{HasLoaded, IsSoFar, Point, ends_between, group_of}
 use Rattle.sdb_tables.proofs.Points.{over_before, session_before}
 
@@ -96,7 +96,7 @@ so_more state catalog load rows size first p q rest group after k out out_then e
     }
 
 -- memory ran out in the next group
-pub starved_so_far : {S : Type 0} (state : S → Attached) (catalog : List Table) (load : Load) (rows : List (List Value)) (size : ℕ) (first p q : Point S) (rest : List (List Value)) (k : ℕ) (out : List ℕ) → AreLoadedSoFar state catalog load rows size first p rest k out → GoOn (state first.stores) (state p.stores) → GoOn (state p.stores) (state q.stores) → IsStarvedLoad catalog load rows size (ends_between state first q)
+pub starved_so_far : {S : Type 0} (state : S → Attached) (catalog : List Table) (load : Load) (rows : List (List Value)) (size : ℕ) (first p q : Point S) (rest : List (List Value)) (k : ℕ) (out : List ℕ) → AreLoadedSoFar state catalog load rows size first p rest k out → GoOn (state first.stores) (state p.stores) → GoOn (state p.stores) (state q.stores) → IsLoadOutOfMemory catalog load rows size (ends_between state first q)
 starved_so_far state catalog load rows size first p q rest k out h before goes = record {
   groups = h.groups;
   rest = rest;
@@ -107,7 +107,7 @@ starved_so_far state catalog load rows size first p q rest k out h before goes =
 }
 
 -- memory ran out after all groups
-pub starved_after : (catalog : List Table) (load : Load) (rows : List (List Value)) (size : ℕ) (e : Ends) (out : List ℕ) → IsLoad catalog load rows size e out → GoOn e.old e.new → IsStarvedLoad catalog load rows size e
+pub starved_after : (catalog : List Table) (load : Load) (rows : List (List Value)) (size : ℕ) (e : Ends) (out : List ℕ) → IsLoad catalog load rows size e out → GoOn e.old e.new → IsLoadOutOfMemory catalog load rows size e
 starved_after catalog load rows size e out h goes = record {
   groups = h.groups;
   rest = [];

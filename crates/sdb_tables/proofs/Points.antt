@@ -2,10 +2,10 @@
 use Rattle.std.proofs.Common.{◌≡◌, ◌≤◌, ℕ, ℤ, Bool, true, List, [], ◌∷◌, ◌++◌, Option, refl, sym, ap, subst, ◌∙◌, append_assoc}
 use Rattle.std.proofs.lemmas.List.{append-nil}
 use Rattle.std.specs.Prelude.{IfErr, IfOk, IsErrAnd, Result, Ok, Err}
-use Rattle.sdb_types.specs.Draws.{Tells}
+use Rattle.sdb_types.specs.Draws.{IsAppended}
 use Rattle.sdb_schema.specs.declared.table.Table.{Table}
-use Rattle.sdb_stores.specs.Shelf.{Attached, total_faults}
-use Rattle.sdb_board.specs.Board.{GoOn, shown}
+use Rattle.sdb_stores.specs.Views.{Attached, total_faults}
+use Rattle.sdb_board.specs.Board.{GoOn, contents_of_views}
 use Rattle.sdb_model.specs.declared.answer.Answer.{Answer}
 use Rattle.sdb_model.specs.declared.statement.Statement.{Statement}
 use Rattle.sdb_model.specs.Sql.{statement_text_of}
@@ -18,16 +18,16 @@ use Rattle.sdb_answer.specs.Sessions.{IsSession, IsSessionSoFar, SessionAt}
 use Rattle.sdb_answer.proofs.Chains.{session_more, session_none, session_whole}
 use Rattle.sdb_tables.specs.Ends.{Ends, IsSessionBefore}
 use Rattle.sdb_tables.specs.Groups.{AreAnswered, IsOf}
-use Rattle.sdb_tables.specs.Turns.{AreTakenBetween, HasSaid, IsSoFar, Point, ends_between}
+use Rattle.sdb_tables.specs.Turns.{AreExecutedBetween, IsExecuted, IsSoFar, Point, ends_between}
 
 -- a statement that was taken between two points
 pub record Said {S : Type 0} (state : S → Attached) (catalog : List Table) (st : Statement) (p : Point S) (a : Answer) (q : Point S) : Type 0 where
   pub e : Exchange
   pub is : IsOf st e
   pub answer : e.answer ≡ a
-  pub taken : AreTakenBetween state catalog p q (e ∷ [])
+  pub taken : AreExecutedBetween state catalog p q (e ∷ [])
 
-pub said : {S : Type 0} (state : S → Attached) (catalog : List Table) (st : Statement) (p q : Point S) (a : Answer) → HasSaid state catalog st p a q → GoOn (state p.stores) (state q.stores) → Said state catalog st p a q
+pub said : {S : Type 0} (state : S → Attached) (catalog : List Table) (st : Statement) (p q : Point S) (a : Answer) → IsExecuted state catalog st p a q → GoOn (state p.stores) (state q.stores) → Said state catalog st p a q
 said state catalog st p q a h goes = record {
   e = exchange h.answered.says h.now p.session.fresh a;
   is = h.answered.reads;
@@ -35,17 +35,17 @@ said state catalog st p q a h goes = record {
   taken = λ first before so. session_more catalog (state first.stores) (state p.stores) (state q.stores) first.clock p.clock q.clock first.ids p.ids q.ids before p.session q.session (statement_text_of st) a so h goes;
 }
 
-pub idle_after : {S : Type 0} (state : S → Attached) (catalog : List Table) (st : Statement) (p q : Point S) (a : Answer) → HasSaid state catalog st p a q → IsIdle q.session.client
+pub idle_after : {S : Type 0} (state : S → Attached) (catalog : List Table) (st : Statement) (p q : Point S) (a : Answer) → IsExecuted state catalog st p a q → IsIdle q.session.client
 idle_after state catalog st p q a h = h.answered.ended.idle
 
-pub taken_none : {S : Type 0} (state : S → Attached) (catalog : List Table) (p : Point S) → AreTakenBetween state catalog p p []
+pub taken_none : {S : Type 0} (state : S → Attached) (catalog : List Table) (p : Point S) → AreExecutedBetween state catalog p p []
 taken_none state catalog p = λ first before so. subst (IsSoFar state catalog first p) (sym (append-nil before)) so
 
-pub taken_more : {S : Type 0} (state : S → Attached) (catalog : List Table) (p q r : Point S) (xs ys : List Exchange) → AreTakenBetween state catalog p q xs → AreTakenBetween state catalog q r ys → AreTakenBetween state catalog p r (xs ++ ys)
+pub taken_more : {S : Type 0} (state : S → Attached) (catalog : List Table) (p q r : Point S) (xs ys : List Exchange) → AreExecutedBetween state catalog p q xs → AreExecutedBetween state catalog q r ys → AreExecutedBetween state catalog p r (xs ++ ys)
 taken_more state catalog p q r xs ys h k = λ first before so. subst (IsSoFar state catalog first r) (append_assoc before xs ys) (k first (before ++ xs) (h first before so))
 
 -- a call's first point: its session has taken nothing
-pub so_none : {S : Type 0} (state : S → Attached) (catalog : List Table) (first p : Point S) → p.stores ≡ first.stores → p.clock ≡ first.clock → p.session.client ≡ nothing_done 1 → ((draw : ℕ) × Tells draw first.ids p.ids × (p.session.fresh ≡ drawn_id draw)) → IsSoFar state catalog first p []
+pub so_none : {S : Type 0} (state : S → Attached) (catalog : List Table) (first p : Point S) → p.stores ≡ first.stores → p.clock ≡ first.clock → p.session.client ≡ nothing_done 1 → ((draw : ℕ) × IsAppended draw first.ids p.ids × (p.session.fresh ≡ drawn_id draw)) → IsSoFar state catalog first p []
 so_none state catalog first p stores clock client fresh =
     let start = session_none catalog (state first.stores) first.clock first.ids p.ids 1 fresh.0 fresh.1 in
     let is : record { client = nothing_done 1; fresh = drawn_id fresh.0 } ≡ p.session = sym (ap (λ c. record { client = c; fresh = p.session.fresh }) client ∙ ap (λ i. record { client = nothing_done 1; fresh = i }) fresh.2) in
@@ -55,9 +55,9 @@ so_none state catalog first p stores clock client fresh =
 
 ---- a call that runs out of memory
 
-pub over_before : (catalog : List Table) (e : Ends) (mid : Attached) (clock_mid : Option (List ℤ)) (ids_mid : Option (List ℕ)) (es : List Exchange) → mid.places ≡ e.old.places → total_faults mid.shelves ≤ total_faults e.new.shelves → IsSession catalog e.old mid e.clock clock_mid e.ids ids_mid es → IsSessionBefore catalog e es
+pub over_before : (catalog : List Table) (e : Ends) (mid : Attached) (clock_mid : Option (List ℤ)) (ids_mid : Option (List ℕ)) (es : List Exchange) → mid.places ≡ e.old.places → total_faults mid.views ≤ total_faults e.new.views → IsSession catalog e.old mid e.clock clock_mid e.ids ids_mid es → IsSessionBefore catalog e es
 over_before catalog e mid clock_mid ids_mid es places counted so = record {
-  held = mid.shelves;
+  held = mid.views;
   clock_mid = clock_mid;
   ids_mid = ids_mid;
   session = record {
@@ -68,7 +68,7 @@ over_before catalog e mid clock_mid ids_mid es places counted so = record {
     begun = so.begun;
     taken = so.taken;
     faults = so.faults;
-    serial = λ f w n. subst (λ (d : Database). IsSerialSession catalog (database_in e.old) d w.tables es) (ap (λ ps. database_of ps (shown mid.shelves)) places) (so.serial f w n);
+    serial = λ f w n. subst (λ (d : Database). IsSerialSession catalog (database_in e.old) d w.tables es) (ap (λ ps. database_of ps (contents_of_views mid.views)) places) (so.serial f w n);
   };
   counted = counted;
 }

@@ -17,9 +17,9 @@ use Rattle.sdb_schema.specs.declared.table.Column.{Column}
 use Rattle.sdb_schema.specs.declared.table.Table.{Table}
 use Rattle.sdb_schema.specs.Table.{column_names, is_key_column, kind_in, rises}
 use Rattle.sdb_data.specs.declared.field.Head.{Head}
-use Rattle.sdb_data.specs.declared.header.Taken.{Taken}
+use Rattle.sdb_data.specs.declared.header.ColumnTaken.{ColumnTaken}
 use Rattle.sdb_data.specs.Fields.{is_null_field, or_null, suits, value_at, value_in}
-use Rattle.sdb_data.specs.Tables.{bad_place, cell_of, head_of, heads_of, is_named, row_of, taken_of}
+use Rattle.sdb_data.specs.Tables.{bad_place, cell_of, head_of, heads_of, is_named, row_of, columns_taken}
 use Rattle.sdb_data.proofs.NamesAgain.{kinds}
 use Rattle.sdb_model.specs.declared.token.Token.TheVariants.{Name}
 use Rattle.sdb_model.specs.Sql.{CanSpell, HasItems, IsLiteral, IsValue, literal_token}
@@ -99,16 +99,16 @@ abbrev pub named_of : List (List ℕ) → List Column → List (List ℕ)
 named_of header cs = filter (is_named header) (column_names cs)
 
 abbrev pub values_of : List (List ℕ) → List (List ℕ) → List Column → List Value
-values_of header fields cs = row_of (taken_of cs header) fields
+values_of header fields cs = row_of (columns_taken cs header) fields
 
 -- one column before others: named at a place, or not
-abbrev taken_here : Column → Option ℕ → Option Taken
+abbrev taken_here : Column → Option ℕ → Option ColumnTaken
 taken_here c o = option_map (λ i. record { kind = c.kind; place = i }) o
 
 abbrev names_here : Column → Option ℕ → List (List ℕ) → List (List ℕ)
 names_here c o ns = cond (is_some o) (c.name ∷ ns) ns
 
-abbrev values_here : List (List ℕ) → Column → Option ℕ → List Taken → List Value
+abbrev values_here : List (List ℕ) → Column → Option ℕ → List ColumnTaken → List Value
 values_here fields c o ts = map (cell_of fields) (cons_option (taken_here c o) ts)
 
 abbrev at_place : List (List ℕ) → Column → Option ℕ
@@ -138,7 +138,7 @@ module _ (t : Table) (header fields : List (List ℕ)) (rising : rises t.columns
       subst (λ b. AllByRecursion (IsGood t) (pairs_of (cond b (c.name ∷ named_of header back) (named_of header back)) (values_of header fields (c ∷ back)))) (sym (named_is header c.name))
       (by (at_place header c) rest (pair_good front c back split p.0))
     where
-      by : (o : Option ℕ) → AllByRecursion (IsGood t) (pairs_of (named_of header back) (values_of header fields back)) → ((i : ℕ) → o ≡ Some i → IsGood t (pair_of c.name (value_at c.kind (get_or fields i [])))) → AllByRecursion (IsGood t) (pairs_of (names_here c o (named_of header back)) (values_here fields c o (taken_of back header)))
+      by : (o : Option ℕ) → AllByRecursion (IsGood t) (pairs_of (named_of header back) (values_of header fields back)) → ((i : ℕ) → o ≡ Some i → IsGood t (pair_of c.name (value_at c.kind (get_or fields i [])))) → AllByRecursion (IsGood t) (pairs_of (names_here c o (named_of header back)) (values_here fields c o (columns_taken back header)))
       by None rest good = rest
       by (Some i) rest good = (good i refl, rest)
 
@@ -148,7 +148,7 @@ as_many header fields [] = refl
 as_many header fields (c ∷ cs) =
     subst (λ b. length (cond b (c.name ∷ named_of header cs) (named_of header cs)) ≡ length (values_of header fields (c ∷ cs))) (sym (named_is header c.name)) (by (at_place header c) (as_many header fields cs))
   where
-    by : (o : Option ℕ) → length (named_of header cs) ≡ length (values_of header fields cs) → length (names_here c o (named_of header cs)) ≡ length (values_here fields c o (taken_of cs header))
+    by : (o : Option ℕ) → length (named_of header cs) ≡ length (values_of header fields cs) → length (names_here c o (named_of header cs)) ≡ length (values_here fields c o (columns_taken cs header))
     by None e = e
     by (Some i) e = let n : length (c.name ∷ named_of header cs) ≡ length (value_at c.kind (get_or fields i []) ∷ values_of header fields cs) = omega (arith, e) in n
 
@@ -171,7 +171,7 @@ has_set t header fields (c ∷ cs) h =
     rest : List Pair
     rest = pairs_of (named_of header cs) (values_of header fields cs)
 
-    by : (o : Option ℕ) (k : Bool) → is_key_column t c.name ≡ k → ((is_some o && not (is_key_column t c.name)) || list_any (λ (x : Column). is_named header x.name && not (is_key_column t x.name)) cs) ≡ true → (list_any (λ (x : Column). is_named header x.name && not (is_key_column t x.name)) cs ≡ true → HasItems (sets_of t rest)) → HasItems (sets_of t (pairs_of (names_here c o (named_of header cs)) (values_here fields c o (taken_of cs header))))
+    by : (o : Option ℕ) (k : Bool) → is_key_column t c.name ≡ k → ((is_some o && not (is_key_column t c.name)) || list_any (λ (x : Column). is_named header x.name && not (is_key_column t x.name)) cs) ≡ true → (list_any (λ (x : Column). is_named header x.name && not (is_key_column t x.name)) cs ≡ true → HasItems (sets_of t rest)) → HasItems (sets_of t (pairs_of (names_here c o (named_of header cs)) (values_here fields c o (columns_taken cs header))))
     by None k e g more = more g
     by (Some i) false e g more = subst (λ b. HasItems (cond (not b) (pair_of c.name (value_at c.kind (get_or fields i [])) ∷ sets_of t rest) (sets_of t rest))) (sym e) tt
     by (Some i) true e g more =

@@ -16,7 +16,7 @@ use Rattle.sdb_types.specs.declared.value.Value.TheVariants as value
 use Rattle.sdb_types.proofs.Basics.{and_parts, some_is}
 use Rattle.sdb_schema.specs.declared.table.Kind.{Kind}
 use Rattle.sdb_schema.specs.declared.table.Kind.TheVariants as kind
-use Rattle.sdb_data.specs.Fields.{begins_backslash, blob_in, bool_in, decoded, if_short, is_big, is_short, is_shortest, number_in, or_null, said_in, said_number, text_in, unescaped, value_at, value_in}
+use Rattle.sdb_data.specs.Fields.{begins_backslash, blob_in, bool_in, decoded, if_short, is_big, is_short, is_shortest, number_in, or_null, value_given, number_of_digits, text_in, unescaped, value_at, value_in}
 use Rattle.sdb_data.proofs.Numbers.{big-fits, int-small}
 use Rattle.sdb_model.specs.Sql.{CanSpell, literal_token}
 use Rattle.sdb_tables.specs.Statements.{literal_of}
@@ -33,11 +33,11 @@ mapped f (Some x) v h = (x, refl, sym (some_is (f x) v h))
 ---- numbers
 
 number_fits : (fits : ℤ → Bool) (field : List ℕ) (z : ℤ) → fits (pos 0) ≡ true → number_in fits field ≡ Some z → fits z ≡ true
-number_fits fits field z zero h = by (bytes_eq field (codes "-0")) (is_shortest field && fits (said_number field)) refl h
+number_fits fits field z zero h = by (bytes_eq field (codes "-0")) (is_shortest field && fits (number_of_digits field)) refl h
   where
-    by : (a b : Bool) → (is_shortest field && fits (said_number field)) ≡ b → cond a (Some (pos 0)) (cond b (Some (said_number field)) None) ≡ Some z → fits z ≡ true
+    by : (a b : Bool) → (is_shortest field && fits (number_of_digits field)) ≡ b → cond a (Some (pos 0)) (cond b (Some (number_of_digits field)) None) ≡ Some z → fits z ≡ true
     by true b e k = subst (λ x. fits x ≡ true) (some_is (pos 0) z k) zero
-    by false true e k = subst (λ x. fits x ≡ true) (some_is (said_number field) z k) (and_parts (is_shortest field) (fits (said_number field)) e).1
+    by false true e k = subst (λ x. fits x ≡ true) (some_is (number_of_digits field) z k) (and_parts (is_shortest field) (fits (number_of_digits field)) e).1
     by false false e k = absurd (cc)
 
 int_fits : (z : ℤ) → fits_int z ≡ true → FitsSigned w64 z
@@ -78,7 +78,7 @@ blob_bytes field bytes h = let d = decode_of-ok field bytes (decoded_is (decode_
 
 ---- a field
 
-said_spelled : (k : Kind) (field : List ℕ) (v : Value) → is_utf8 field ≡ true → said_in k field ≡ Some v → IsSpelled v
+said_spelled : (k : Kind) (field : List ℕ) (v : Value) → is_utf8 field ≡ true → value_given k field ≡ Some v → IsSpelled v
 said_spelled kind.Boolean field v u h =
     let m = mapped value.Bool (bool_in field) v h in
     subst IsSpelled (sym m.2) (record { literal = tt; some = λ e. cc e })
@@ -97,9 +97,9 @@ said_spelled kind.Blob field v u h =
 
 -- a text spells the literal of the value of a field
 pub value_spelled : (k : Kind) (field : List ℕ) → CanSpell (literal_token (literal_of (value_at k field)))
-value_spelled k field = by (is_utf8 field) (said_in k field) (λ u v e. (said_spelled k field v u e).literal) refl refl
+value_spelled k field = by (is_utf8 field) (value_given k field) (λ u v e. (said_spelled k field v u e).literal) refl refl
   where
-    by : (b : Bool) (o : Option Value) → ((u : is_utf8 field ≡ true) (v : Value) → said_in k field ≡ Some v → CanSpell (literal_token (literal_of v))) → is_utf8 field ≡ b → said_in k field ≡ o → CanSpell (literal_token (literal_of (or_null (cond b o None))))
+    by : (b : Bool) (o : Option Value) → ((u : is_utf8 field ≡ true) (v : Value) → value_given k field ≡ Some v → CanSpell (literal_token (literal_of v))) → is_utf8 field ≡ b → value_given k field ≡ o → CanSpell (literal_token (literal_of (or_null (cond b o None))))
     by true (Some v) f u e = f u v e
     by true None f u e = tt
     by false o f u e = tt
@@ -108,6 +108,6 @@ value_spelled k field = by (is_utf8 field) (said_in k field) (λ u v e. (said_sp
 pub value_some : (k : Kind) (field : List ℕ) (v : Value) → value_in k field ≡ Some v → v ≢ value.Null
 value_some k field v h = by (is_utf8 field) refl h
   where
-    by : (b : Bool) → is_utf8 field ≡ b → cond b (said_in k field) None ≡ Some v → v ≢ value.Null
+    by : (b : Bool) → is_utf8 field ≡ b → cond b (value_given k field) None ≡ Some v → v ≢ value.Null
     by true u e = (said_spelled k field v u e).some
     by false u e = absurd (cc)

@@ -1,7 +1,7 @@
 -- What a call over attached stores begins with and ends with, and the statements that it takes.
 use Rattle.std.specs.Prelude.{ℕ, ℤ, ◌≤◌, List, Option}
 use Rattle.sdb_schema.specs.declared.table.Table.{Table}
-use Rattle.sdb_stores.specs.Shelf.{Attached, Shelf, total_faults}
+use Rattle.sdb_stores.specs.Views.{Attached, StoreView, total_faults}
 use Rattle.sdb_session.specs.Session.{Exchange}
 use Rattle.sdb_answer.specs.Sessions.{IsSession}
 
@@ -23,8 +23,8 @@ IsSessionOver catalog e es = IsSession catalog e.old e.new e.clock e.clock_then 
 
 -- The statements that were answered in a call, before memory ran out, are a session. The stores held this after them.
 pub record IsSessionBefore (catalog : List Table) (e : Ends) (es : List Exchange) : Type 0 where
-  pub held : List Shelf
+  pub held : List StoreView
   pub clock_mid : Option (List ℤ)
   pub ids_mid : Option (List ℕ)
-  pub session : IsSession catalog e.old (record e.old { shelves = held }) e.clock clock_mid e.ids ids_mid es
-  pub counted : total_faults held ≤ total_faults e.new.shelves
+  pub session : IsSession catalog e.old (record e.old { views = held }) e.clock clock_mid e.ids ids_mid es
+  pub counted : total_faults held ≤ total_faults e.new.views

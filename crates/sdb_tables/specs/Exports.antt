@@ -2,7 +2,7 @@
 use Rattle.std.specs.Prelude.{◌≡◌, ℕ, Bool, true, false, List, [], ◌∷◌, ◌++◌, Some}
 use Rattle.sdb_schema.specs.declared.table.Table.{Table}
 use Rattle.sdb_data.specs.Printed.{printed}
-use Rattle.sdb_stores.specs.Shelf.{Attached}
+use Rattle.sdb_stores.specs.Views.{Attached}
 use Rattle.sdb_board.specs.Board.{GoOn}
 use Rattle.sdb_model.specs.declared.answer.Answer.{Answer}
 use Rattle.sdb_model.specs.declared.answer.Answer.TheVariants as answer
@@ -15,7 +15,7 @@ use Rattle.sdb_tables.specs.declared.fault.ExportRefused.TheVariants as refused
 use Rattle.sdb_tables.specs.Ends.{Ends, IsSessionBefore, IsSessionOver}
 use Rattle.sdb_tables.specs.Groups.{AreAnswered, IsOf}
 use Rattle.sdb_tables.specs.Statements.{select_all}
-use Rattle.sdb_tables.specs.Turns.{AreTakenBetween, HasSaid, Point, Turn}
+use Rattle.sdb_tables.specs.Turns.{AreExecutedBetween, IsExecuted, Point, Turn}
 
 -- the statements of an export
 abbrev pub export_statements : Table → List Statement
@@ -69,7 +69,7 @@ pub record IsCutExport (catalog : List Table) (t : Table) (e : Ends) (a : Answer
   pub session : IsSessionOver catalog e (es ++ last ∷ [])
 
 -- Memory ran out in an export: its first statements were answered as they should be, and are a session.
-pub record IsStarvedExport (catalog : List Table) (t : Table) (e : Ends) : Type 0 where
+pub record IsExportOutOfMemory (catalog : List Table) (t : Table) (e : Ends) : Type 0 where
   pub front : List Statement
   pub back : List Statement
   pub es : List Exchange
@@ -80,18 +80,18 @@ pub record IsStarvedExport (catalog : List Table) (t : Table) (e : Ends) : Type 
 -- Why there is no text: a statement got an answer that isn't the one wanted; or memory ran out.
 abbrev pub IsNotExported : List Table → Table → Ends → ExportRefused → Type 0
 IsNotExported catalog t e (refused.NotCommitted a) = (is_no_memory a ≡ false) × IsCutExport catalog t e a
-IsNotExported catalog t e refused.NoMemory = IsStarvedExport catalog t e
+IsNotExported catalog t e refused.NoMemory = IsExportOutOfMemory catalog t e
 
 ---- between two points
 
 -- A statement was taken and got the answer that is wanted.
-abbrev pub HasSaidAsWanted : {S : Type 0} → (S → Attached) → List Table → Statement → Point S → Point S → Answer → Type 0
-HasSaidAsWanted state catalog st p q a = HasSaid state catalog st p a q × (is_wanted st a ≡ true)
+abbrev pub IsAnsweredAsExpected : {S : Type 0} → (S → Attached) → List Table → Statement → Point S → Point S → Answer → Type 0
+IsAnsweredAsExpected state catalog st p q a = IsExecuted state catalog st p a q × (is_wanted st a ≡ true)
 
 -- Why it didn't.
-abbrev pub HasNotSaid : {S : Type 0} → (S → Attached) → List Table → Statement → Point S → Point S → ExportRefused → Type 0
-HasNotSaid state catalog st p q (refused.NotCommitted a) = (is_no_memory a ≡ false) × HasSaid state catalog st p a q × (is_wanted st a ≡ false)
-HasNotSaid state catalog st p q refused.NoMemory = Unit {0}
+abbrev pub IsLeftUnanswered : {S : Type 0} → (S → Attached) → List Table → Statement → Point S → Point S → ExportRefused → Type 0
+IsLeftUnanswered state catalog st p q (refused.NotCommitted a) = (is_no_memory a ≡ false) × IsExecuted state catalog st p a q × (is_wanted st a ≡ false)
+IsLeftUnanswered state catalog st p q refused.NoMemory = Unit {0}
 
 -- The statements of an export were taken between two points, and this is the answer of SELECT.
 pub record HaveRead {S : Type 0} (state : S → Attached) (catalog : List Table) (t : Table) (p q : Point S) (a : Answer) : Type 0 where
@@ -100,39 +100,39 @@ pub record HaveRead {S : Type 0} (state : S → Attached) (catalog : List Table)
   pub commit : Exchange
   pub are : AreAnswered is_wanted (export_statements t) (begin ∷ select ∷ commit ∷ [])
   pub shown : select.answer ≡ a
-  pub taken : AreTakenBetween state catalog p q (begin ∷ select ∷ commit ∷ [])
+  pub taken : AreExecutedBetween state catalog p q (begin ∷ select ∷ commit ∷ [])
 
 -- Those up to one that wasn't answered as it should be were taken between two points.
 pub record IsCutRead {S : Type 0} (state : S → Attached) (catalog : List Table) (t : Table) (p q : Point S) (a : Answer) : Type 0 where
   pub es : List Exchange
   pub last : Exchange
   pub cut : IsCutAt t es last a
-  pub taken : AreTakenBetween state catalog p q (es ++ last ∷ [])
+  pub taken : AreExecutedBetween state catalog p q (es ++ last ∷ [])
 
 -- Memory ran out: the first ones were taken between two points, each answered as it should be, and the stores went on to a third.
-pub record IsStarvedRead {S : Type 0} (state : S → Attached) (catalog : List Table) (t : Table) (p q : Point S) : Type 0 where
+pub record IsReadOutOfMemory {S : Type 0} (state : S → Attached) (catalog : List Table) (t : Table) (p q : Point S) : Type 0 where
   pub mid : Point S
   pub front : List Statement
   pub back : List Statement
   pub es : List Exchange
   pub statements : export_statements t ≡ front ++ back
   pub are : AreAnswered is_wanted front es
-  pub taken : AreTakenBetween state catalog p mid es
+  pub taken : AreExecutedBetween state catalog p mid es
   pub before : GoOn (state p.stores) (state mid.stores)
   pub goes : GoOn (state mid.stores) (state q.stores)
 
 -- why no rows were read
 abbrev pub HaveNotRead : {S : Type 0} → (S → Attached) → List Table → Table → Point S → Point S → ExportRefused → Type 0
 HaveNotRead state catalog t p q (refused.NotCommitted a) = (is_no_memory a ≡ false) × IsCutRead state catalog t p q a
-HaveNotRead state catalog t p q refused.NoMemory = IsStarvedRead state catalog t p q
+HaveNotRead state catalog t p q refused.NoMemory = IsReadOutOfMemory state catalog t p q
 
 ---- in contracts
 
 abbrev pub IsAnsweredAsWanted : {S : Type 0} → (S → Attached) → List Table → Statement → Turn S → Answer → Type 0
-IsAnsweredAsWanted state catalog st x a = HasSaidAsWanted state catalog st x.from x.to a
+IsAnsweredAsWanted state catalog st x a = IsAnsweredAsExpected state catalog st x.from x.to a
 
 abbrev pub IsNotAnswered : {S : Type 0} → (S → Attached) → List Table → Statement → Turn S → ExportRefused → Type 0
-IsNotAnswered state catalog st x why = HasNotSaid state catalog st x.from x.to why
+IsNotAnswered state catalog st x why = IsLeftUnanswered state catalog st x.from x.to why
 
 abbrev pub IsTableRead : {S : Type 0} → (S → Attached) → List Table → Table → Turn S → Answer → Type 0
 IsTableRead state catalog t x a = HaveRead state catalog t x.from x.to a

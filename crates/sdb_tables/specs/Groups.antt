@@ -7,7 +7,7 @@ use Rattle.sdb_model.specs.declared.statement.Statement.{Statement}
 use Rattle.sdb_model.specs.declared.statement.Statement.TheVariants as statement
 use Rattle.sdb_model.specs.Sql.{statement_text_of}
 use Rattle.sdb_model.specs.Transactions.{is_done}
-use Rattle.sdb_client.specs.Client.{Says}
+use Rattle.sdb_client.specs.Client.{Parses}
 use Rattle.sdb_session.specs.Session.{Exchange, parts_of}
 use Rattle.sdb_tables.specs.declared.load.Load.{Load}
 use Rattle.sdb_tables.specs.Statements.{row_statement}
@@ -16,11 +16,11 @@ use Rattle.sdb_tables.specs.Statements.{row_statement}
 
 -- A statement was taken, by the text that it is printed as.
 abbrev pub IsOf : Statement → Exchange → Type 0
-IsOf st e = Says (statement_text_of st) e.says
+IsOf st e = Parses (statement_text_of st) e.says
 
--- A statement that is taken so is taken as itself.
-abbrev pub IsTakenAsItself : Statement → Type 0
-IsTakenAsItself st = (e : Exchange) → IsOf st e → e.says ≡ Ok st
+-- A statement that is printed like this is parsed as itself.
+abbrev pub IsParsedAsItself : Statement → Type 0
+IsParsedAsItself st = (e : Exchange) → IsOf st e → e.says ≡ Ok st
 
 -- These statements were taken, in turn, and each was answered as it should be.
 abbrev pub AreAnswered : (Statement → Answer → Bool) → List Statement → List Exchange → Type 0

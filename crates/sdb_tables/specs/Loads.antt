@@ -62,7 +62,7 @@ IsLoadOf catalog t m rows size e text = IsLoad catalog (load_of t m rows) (rows_
 ---- a load that runs out of memory
 
 -- Memory ran out: the first groups were loaded, and these rows are left; the statements of these groups are a session.
-pub record IsStarvedLoad (catalog : List Table) (load : Load) (rows : List (List Value)) (size : ℕ) (e : Ends) : Type 0 where
+pub record IsLoadOutOfMemory (catalog : List Table) (load : Load) (rows : List (List Value)) (size : ℕ) (e : Ends) : Type 0 where
   pub groups : List Group
   pub rest : List (List Value)
   pub all : rows_of groups ++ rest ≡ rows
@@ -72,10 +72,10 @@ pub record IsStarvedLoad (catalog : List Table) (load : Load) (rows : List (List
 
 -- Nothing was taken.
 pub record IsUntaken (e : Ends) : Type 0 where
-  pub stores : e.new.shelves ≡ e.old.shelves
+  pub stores : e.new.views ≡ e.old.views
   pub clock : e.clock_then ≡ e.clock
   pub ids : e.ids_then ≡ e.ids
 
 -- Memory ran out before the first group was begun, or after some were loaded.
-abbrev pub IsStarvedLoadOf : List Table → Table → Mode → List (List Value) → ℕ → Ends → Type 0
-IsStarvedLoadOf catalog t m rows size e = IsUntaken e ⊎ IsStarvedLoad catalog (load_of t m rows) (rows_after rows) size e
+abbrev pub IsLoadOfOutOfMemory : List Table → Table → Mode → List (List Value) → ℕ → Ends → Type 0
+IsLoadOfOutOfMemory catalog t m rows size e = IsUntaken e ⊎ IsLoadOutOfMemory catalog (load_of t m rows) (rows_after rows) size e

@@ -2,7 +2,7 @@
 use Rattle.std.specs.Prelude.{◌≡◌, ℕ, ℤ, true, false, is_some, List, [], ◌∷◌, ◌++◌, Option, Some, None}
 use Rattle.sdb_schema.specs.declared.table.Table.{Table}
 use Rattle.sdb_types.specs.declared.value.Value.{Value}
-use Rattle.sdb_stores.specs.Shelf.{Attached}
+use Rattle.sdb_stores.specs.Views.{Attached}
 use Rattle.sdb_model.specs.declared.answer.Answer.{Answer}
 use Rattle.sdb_model.specs.declared.statement.Statement.{Statement}
 use Rattle.sdb_model.specs.declared.statement.Statement.TheVariants as statement
@@ -12,7 +12,7 @@ use Rattle.sdb_session.specs.Session.{Exchange}
 use Rattle.sdb_answer.specs.Sessions.{HasAnswered, IsSessionSoFar, SessionAt}
 use Rattle.sdb_tables.specs.declared.group.Ending.{Ending}
 use Rattle.sdb_tables.specs.declared.load.Load.{Load}
-use Rattle.sdb_tables.specs.declared.rows.Taken.{Taken}
+use Rattle.sdb_tables.specs.declared.rows.RowsTaken.{RowsTaken}
 use Rattle.sdb_tables.specs.Ends.{Ends}
 use Rattle.sdb_tables.specs.Groups.{AreLoaded, Group, IsGroup, IsOf, IsRolledBackIf, is_loaded, statements_of, written_in}
 use Rattle.sdb_tables.specs.Statements.{row_statement}
@@ -44,27 +44,27 @@ abbrev pub ends_between : {S : Type 0} → (S → Attached) → Point S → Poin
 ends_between state p q = record { old = state p.stores; new = state q.stores; clock = p.clock; clock_then = q.clock; ids = p.ids; ids_then = q.ids }
 
 -- A statement was taken and answered between two points.
-abbrev pub HasSaid : {S : Type 0} → (S → Attached) → List Table → Statement → Point S → Answer → Point S → Type 0
-HasSaid state catalog st p a q = HasAnswered catalog (statement_text_of st) (state p.stores) (state q.stores) p.clock q.clock p.ids q.ids p.session a q.session
+abbrev pub IsExecuted : {S : Type 0} → (S → Attached) → List Table → Statement → Point S → Answer → Point S → Type 0
+IsExecuted state catalog st p a q = HasAnswered catalog (statement_text_of st) (state p.stores) (state q.stores) p.clock q.clock p.ids q.ids p.session a q.session
 
 -- These statements were taken between two points: whatever was taken before, so were they after it.
-abbrev pub AreTakenBetween : {S : Type 0} → (S → Attached) → List Table → Point S → Point S → List Exchange → Type 0
-AreTakenBetween state catalog p q es = (first : Point _) (before : List Exchange) → IsSoFar state catalog first p before → IsSoFar state catalog first q (before ++ es)
+abbrev pub AreExecutedBetween : {S : Type 0} → (S → Attached) → List Table → Point S → Point S → List Exchange → Type 0
+AreExecutedBetween state catalog p q es = (first : Point _) (before : List Exchange) → IsSoFar state catalog first p before → IsSoFar state catalog first q (before ++ es)
 
 -- ROLLBACK was taken between two points where a transaction was open, and else nothing.
 pub record AreRolledBack {S : Type 0} (state : S → Attached) (catalog : List Table) (p q : Point S) : Type 0 where
   pub es : List Exchange
   pub are : IsRolledBackIf (is_some p.session.client.txn) es
-  pub taken : AreTakenBetween state catalog p q es
+  pub taken : AreExecutedBetween state catalog p q es
 
 ---- the rows of a group
 
 -- The statement of each row was taken between two points, and was answered Count or Duplicate.
-pub record AreAllTaken {S : Type 0} (state : S → Attached) (catalog : List Table) (load : Load) (rows : List (List Value)) (p q : Point S) (written : ℕ) : Type 0 where
+pub record AreAllExecuted {S : Type 0} (state : S → Attached) (catalog : List Table) (load : Load) (rows : List (List Value)) (p q : Point S) (written : ℕ) : Type 0 where
   pub es : List Exchange
   pub loads : AreLoaded (statements_of load rows) es
   pub counted : written ≡ written_in es
-  pub taken : AreTakenBetween state catalog p q es
+  pub taken : AreExecutedBetween state catalog p q es
 
 -- The statement of a row was answered otherwise, and those before it so; no more was taken between two points.
 pub record AreStopped {S : Type 0} (state : S → Attached) (catalog : List Table) (load : Load) (rows : List (List Value)) (p q : Point S) (written : ℕ) (a : Answer) : Type 0 where
@@ -79,23 +79,23 @@ pub record AreStopped {S : Type 0} (state : S → Attached) (catalog : List Tabl
   pub answer : last.answer ≡ a
   pub bad : is_loaded last.answer ≡ false
   pub counted : written ≡ written_in loaded
-  pub taken : AreTakenBetween state catalog p q (loaded ++ last ∷ [])
+  pub taken : AreExecutedBetween state catalog p q (loaded ++ last ∷ [])
 
-abbrev pub AreTakenBy : {S : Type 0} → (S → Attached) → List Table → Load → List (List Value) → Point S → Point S → ℕ → Option Answer → Type 0
-AreTakenBy state catalog load rows p q written None = AreAllTaken state catalog load rows p q written
-AreTakenBy state catalog load rows p q written (Some a) = AreStopped state catalog load rows p q written a
+abbrev pub AreExecutedBy : {S : Type 0} → (S → Attached) → List Table → Load → List (List Value) → Point S → Point S → ℕ → Option Answer → Type 0
+AreExecutedBy state catalog load rows p q written None = AreAllExecuted state catalog load rows p q written
+AreExecutedBy state catalog load rows p q written (Some a) = AreStopped state catalog load rows p q written a
 
-abbrev pub HaveTakenRows : {S : Type 0} → (S → Attached) → List Table → Load → List (List Value) → Point S → Point S → Taken → Type 0
-HaveTakenRows state catalog load rows p q t = AreTakenBy state catalog load rows p q t.written t.bad
+abbrev pub HaveLoadedRows : {S : Type 0} → (S → Attached) → List Table → Load → List (List Value) → Point S → Point S → RowsTaken → Type 0
+HaveLoadedRows state catalog load rows p q t = AreExecutedBy state catalog load rows p q t.written t.bad
 
 ---- the end of a group
 
 -- After the rows of a group: COMMIT, or where an answer stopped them ROLLBACK.
 abbrev pub EndBy : {S : Type 0} → (S → Attached) → List Table → ℕ → Option Answer → Point S → Point S → Ending → Type 0
-EndBy state catalog written None p q ending = (ending.written ≡ written) × HasSaid state catalog statement.Commit p ending.answer q
+EndBy state catalog written None p q ending = (ending.written ≡ written) × IsExecuted state catalog statement.Commit p ending.answer q
 EndBy state catalog written (Some a) p q ending = (ending.written ≡ written) × (ending.answer ≡ a) × AreRolledBack state catalog p q
 
-abbrev pub HaveEnded : {S : Type 0} → (S → Attached) → List Table → Taken → Point S → Point S → Ending → Type 0
+abbrev pub HaveEnded : {S : Type 0} → (S → Attached) → List Table → RowsTaken → Point S → Point S → Ending → Type 0
 HaveEnded state catalog t p q ending = EndBy state catalog t.written t.bad p q ending
 
 abbrev pub group_of : List (List Value) → Ending → List Exchange → Group
@@ -120,15 +120,15 @@ HasLoaded state catalog load rows p q ending = (first : Point _) (before : List 
 ---- in contracts
 
 abbrev pub IsAnsweredIn : {S : Type 0} → (S → Attached) → List Table → Statement → Turn S → Answer → Type 0
-IsAnsweredIn state catalog st t a = HasSaid state catalog st t.from a t.to
+IsAnsweredIn state catalog st t a = IsExecuted state catalog st t.from a t.to
 
 abbrev pub IsRolledBackIn : {S : Type 0} → (S → Attached) → List Table → Turn S → Type 0
 IsRolledBackIn state catalog t = AreRolledBack state catalog t.from t.to
 
-abbrev pub AreRowsTaken : {S : Type 0} → (S → Attached) → List Table → Load → List (List Value) → Turn S → Taken → Type 0
-AreRowsTaken state catalog load rows t taken = HaveTakenRows state catalog load rows t.from t.to taken
+abbrev pub AreRowsLoaded : {S : Type 0} → (S → Attached) → List Table → Load → List (List Value) → Turn S → RowsTaken → Type 0
+AreRowsLoaded state catalog load rows t taken = HaveLoadedRows state catalog load rows t.from t.to taken
 
-abbrev pub IsEndedIn : {S : Type 0} → (S → Attached) → List Table → Taken → Turn S → Ending → Type 0
+abbrev pub IsEndedIn : {S : Type 0} → (S → Attached) → List Table → RowsTaken → Turn S → Ending → Type 0
 IsEndedIn state catalog taken t ending = HaveEnded state catalog taken t.from t.to ending
 
 abbrev pub IsBegunLoaded : {S : Type 0} → (S → Attached) → List Table → Load → List (List Value) → Turn S → Ending → Type 0

@@ -56,7 +56,7 @@ fn ask<S: Registry, C: Clock, I: Ids>(
     clock: &mut C,
     ids: &mut I,
 ) -> Result<Answer, ExportRefused>
-    requires some { 0 < length (S.state stores.old).shelves }
+    requires some { 0 < length (S.state stores.old).views }
     requires idle { IsIdle session.old.client }
     ensures said { IfOk result (IsAnsweredAsWanted S.state catalog.now statement.now
         (turn C.told I.told stores.old stores.new clock.old clock.new ids.old ids.new session.old session.new)) }
@@ -96,7 +96,7 @@ fn read_rows<S: Registry, C: Clock, I: Ids>(
     clock: &mut C,
     ids: &mut I,
 ) -> Result<Answer, ExportRefused>
-    requires some { 0 < length (S.state stores.old).shelves }
+    requires some { 0 < length (S.state stores.old).views }
     requires idle { IsIdle session.old.client }
     ensures read { IfOk result (IsTableRead S.state catalog.now table.now
         (turn C.told I.told stores.old stores.new clock.old clock.new ids.old ids.new session.old session.new)) }
@@ -137,7 +137,7 @@ pub fn export_table<S: Registry, C: Clock, I: Ids>(
     clock: &mut C,
     ids: &mut I,
 ) -> Result<Octets, ExportRefused>
-    requires some { 0 < length (S.state stores.old).shelves }
+    requires some { 0 < length (S.state stores.old).views }
     ensures exported { IfOk result (IsExport catalog.now table.now (ends S.state C.told I.told stores.old stores.new clock.old clock.new ids.old ids.new)) }
     ensures refused { IfErr result (IsNotExported catalog.now table.now (ends S.state C.told I.told stores.old stores.new clock.old clock.new ids.old ids.new)) }
     ensures goes { GoOn (S.state stores.old) (S.state stores.new) }

@@ -6,7 +6,7 @@ ghost use Rattle.sdb_model.specs.Transactions.{is_done as is_done_lem};
 ghost use Rattle.sdb_tables.specs.Turns.{IsBegunLoaded, IsEndedIn, IsGroupLoaded, turn};
 
 use crate::load::Load;
-use crate::rows::{Taken, take_rows};
+use crate::rows::{RowsTaken, take_rows};
 use crate::saying::{roll_back, say};
 use sdb_answer::Session;
 use sdb_model::{Answer, Statement};
@@ -32,13 +32,13 @@ fn is_done(answer: &Answer) -> bool
 fn end_rows<S: Registry, C: Clock, I: Ids>(
     alloc: Global,
     session: &mut Session,
-    taken: Taken,
+    taken: RowsTaken,
     catalog: &Catalog,
     stores: &mut S,
     clock: &mut C,
     ids: &mut I,
 ) -> Result<Ending, NoMemory>
-    requires some { 0 < length (S.state stores.old).shelves }
+    requires some { 0 < length (S.state stores.old).views }
     requires idle { IsIdle session.old.client }
     ensures ended { IfOk result (IsEndedIn S.state catalog.now taken
         (turn C.told I.told stores.old stores.new clock.old clock.new ids.old ids.new session.old session.new)) }
@@ -70,7 +70,7 @@ fn load_group<S: Registry, C: Clock, I: Ids>(
     clock: &mut C,
     ids: &mut I,
 ) -> Result<Ending, NoMemory>
-    requires some { 0 < length (S.state stores.old).shelves }
+    requires some { 0 < length (S.state stores.old).views }
     requires idle { IsIdle session.old.client }
     ensures loaded { IfOk result (IsBegunLoaded S.state catalog.now load.now rows.now
         (turn C.told I.told stores.old stores.new clock.old clock.new ids.old ids.new session.old session.new)) }
@@ -92,7 +92,7 @@ pub fn take_group<S: Registry, C: Clock, I: Ids>(
     clock: &mut C,
     ids: &mut I,
 ) -> Result<Ending, NoMemory>
-    requires some { 0 < length (S.state stores.old).shelves }
+    requires some { 0 < length (S.state stores.old).views }
     requires idle { IsIdle session.old.client }
     ensures loaded { IfOk result (IsGroupLoaded S.state catalog.now load.now rows.now
         (turn C.told I.told stores.old stores.new clock.old clock.new ids.old ids.new session.old session.new)) }

@@ -6,16 +6,16 @@ ghost use Rattle.sdb_schema.specs.declared.table.Table.{Table};
 ghost use Rattle.sdb_schema.specs.Table.{is_table};
 ghost use Rattle.sdb_data.specs.declared.fault.Mode.{Mode};
 ghost use Rattle.sdb_model.specs.declared.statement.Statement.TheVariants as statement;
-ghost use Rattle.sdb_tables.specs.Groups.{IsTakenAsItself};
+ghost use Rattle.sdb_tables.specs.Groups.{IsParsedAsItself};
 ghost use Rattle.sdb_tables.specs.Statements.{AreRead, has_short_name, load_of, row_statement, rows_after, select_all};
 
 /// Each statement of a load and of an export is taken as itself by its printed text. The rows are such as `read_table` gives, and the
 /// table's names have at most 64 bytes.
-pub fn statements_are_taken()
+pub fn statements_are_parsed()
     ensures rows { (t : Table) (m : Mode) (rows : List (List Value)) → is_table t ≡ true → has_short_name t ≡ true → AreRead t m rows
-        → AllByRecursion (λ row. IsTakenAsItself (row_statement (load_of t m rows) row)) (rows_after rows) }
-    ensures select { (t : Table) → has_short_name t ≡ true → IsTakenAsItself (select_all t) }
-    ensures begin { IsTakenAsItself statement.Begin }
-    ensures commit { IsTakenAsItself statement.Commit }
-    ensures rollback { IsTakenAsItself statement.Rollback }
+        → AllByRecursion (λ row. IsParsedAsItself (row_statement (load_of t m rows) row)) (rows_after rows) }
+    ensures select { (t : Table) → has_short_name t ≡ true → IsParsedAsItself (select_all t) }
+    ensures begin { IsParsedAsItself statement.Begin }
+    ensures commit { IsParsedAsItself statement.Commit }
+    ensures rollback { IsParsedAsItself statement.Rollback }
 {}

@@ -3,7 +3,7 @@ ghost use Rattle.std.specs.Prelude.{◌≡◌, ◌<◌, ◌≤◌, ◌++◌, len
 ghost use Rattle.std.specs.List.{list_any};
 ghost use Rattle.sdb_board.specs.Board.{GoOn};
 ghost use Rattle.sdb_tables.specs.Ends.{ends};
-ghost use Rattle.sdb_tables.specs.Loads.{IsLoad, IsLoadOf, IsStarvedLoad, IsStarvedLoadOf, line_of};
+ghost use Rattle.sdb_tables.specs.Loads.{IsLoad, IsLoadOf, IsLoadOutOfMemory, IsLoadOfOutOfMemory, line_of};
 ghost use Rattle.sdb_tables.specs.Statements as spec;
 
 use crate::group::{Ending, take_group};
@@ -102,11 +102,11 @@ fn load_groups<S: Registry, C: Clock, I: Ids>(
     clock: &mut C,
     ids: &mut I,
 ) -> Result<String, NoMemory>
-    requires some { 0 < length (S.state stores.old).shelves }
+    requires some { 0 < length (S.state stores.old).views }
     requires size { 1 ≤ size }
     ensures loaded { IfOk result (λ out. IsLoad catalog.now load.now rows.now size
         (ends S.state C.told I.told stores.old stores.new clock.old clock.new ids.old ids.new) (string_bytes out)) }
-    ensures starved { IfErr result (λ _. IsStarvedLoad catalog.now load.now rows.now size
+    ensures out_of_memory { IfErr result (λ _. IsLoadOutOfMemory catalog.now load.now rows.now size
         (ends S.state C.told I.told stores.old stores.new clock.old clock.new ids.old ids.new)) }
     ensures goes { GoOn (S.state stores.old) (S.state stores.new) }
 {
@@ -146,11 +146,11 @@ pub fn load_rows<S: Registry, C: Clock, I: Ids>(
     clock: &mut C,
     ids: &mut I,
 ) -> Result<Txt, NoMemory>
-    requires some { 0 < length (S.state stores.old).shelves }
+    requires some { 0 < length (S.state stores.old).views }
     requires size { 1 ≤ group }
     ensures loaded { IfOk result (IsLoadOf catalog.now table.now mode rows.now group
         (ends S.state C.told I.told stores.old stores.new clock.old clock.new ids.old ids.new)) }
-    ensures starved { IfErr result (λ _. IsStarvedLoadOf catalog.now table.now mode rows.now group
+    ensures out_of_memory { IfErr result (λ _. IsLoadOfOutOfMemory catalog.now table.now mode rows.now group
         (ends S.state C.told I.told stores.old stores.new clock.old clock.new ids.old ids.new)) }
     ensures goes { GoOn (S.state stores.old) (S.state stores.new) }
 {

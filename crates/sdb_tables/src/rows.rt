@@ -4,7 +4,7 @@ ghost use Rattle.sdb_board.specs.Board.{GoOn};
 ghost use Rattle.sdb_client.specs.Client.{IsIdle};
 ghost use Rattle.sdb_tables.specs.Groups.{is_loaded as is_loaded_lem, is_written as is_written_lem};
 ghost use Rattle.sdb_tables.specs.Statements.{row_statement as row_statement_lem};
-ghost use Rattle.sdb_tables.specs.Turns.{AreRowsTaken, IsAnsweredIn, turn};
+ghost use Rattle.sdb_tables.specs.Turns.{AreRowsLoaded, IsAnsweredIn, turn};
 
 use crate::load::{Load, row_statement};
 use crate::saying::say;
@@ -17,7 +17,7 @@ use std::alloc::Global;
 
 /// How the rows of a group were taken: how many were written, and the answer that stopped them, if one did.
 #[derive(Drop)]
-pub struct Taken {
+pub struct RowsTaken {
     pub written: usize,
     pub bad: Option<Answer>,
 }
@@ -45,7 +45,7 @@ fn take_row<S: Registry, C: Clock, I: Ids>(
     clock: &mut C,
     ids: &mut I,
 ) -> Result<Answer, NoMemory>
-    requires some { 0 < length (S.state stores.old).shelves }
+    requires some { 0 < length (S.state stores.old).views }
     requires idle { IsIdle session.old.client }
     ensures said { IfOk result (IsAnsweredIn S.state catalog.now (row_statement_lem load.now row.now)
         (turn C.told I.told stores.old stores.new clock.old clock.new ids.old ids.new session.old session.new)) }
@@ -65,10 +65,10 @@ pub fn take_rows<S: Registry, C: Clock, I: Ids>(
     stores: &mut S,
     clock: &mut C,
     ids: &mut I,
-) -> Result<Taken, NoMemory>
-    requires some { 0 < length (S.state stores.old).shelves }
+) -> Result<RowsTaken, NoMemory>
+    requires some { 0 < length (S.state stores.old).views }
     requires idle { IsIdle session.old.client }
-    ensures taken { IfOk result (AreRowsTaken S.state catalog.now load.now rows.now
+    ensures taken { IfOk result (AreRowsLoaded S.state catalog.now load.now rows.now
         (turn C.told I.told stores.old stores.new clock.old clock.new ids.old ids.new session.old session.new)) }
     ensures idle { OnOk result (IsIdle session.new.client) }
     ensures goes { GoOn (S.state stores.old) (S.state stores.new) }
@@ -86,7 +86,7 @@ pub fn take_rows<S: Registry, C: Clock, I: Ids>(
             ids,
         )?;
         if !is_loaded(&answer) {
-            return Ok(Taken {
+            return Ok(RowsTaken {
                 written,
                 bad: Some(answer),
             });
@@ -95,5 +95,5 @@ pub fn take_rows<S: Registry, C: Clock, I: Ids>(
             written += 1;
         }
     }
-    Ok(Taken { written, bad: None })
+    Ok(RowsTaken { written, bad: None })
 }

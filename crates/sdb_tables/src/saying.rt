@@ -25,7 +25,7 @@ pub fn say<S: Registry, C: Clock, I: Ids>(
     clock: &mut C,
     ids: &mut I,
 ) -> Result<Answer, NoMemory>
-    requires some { 0 < length (S.state stores.old).shelves }
+    requires some { 0 < length (S.state stores.old).views }
     requires idle { IsIdle session.old.client }
     ensures said { IfOk result (IsAnsweredIn S.state catalog.now statement.now
         (turn C.told I.told stores.old stores.new clock.old clock.new ids.old ids.new session.old session.new)) }
@@ -47,7 +47,7 @@ pub fn roll_back<S: Registry, C: Clock, I: Ids>(
     clock: &mut C,
     ids: &mut I,
 ) -> Result<(), NoMemory>
-    requires some { 0 < length (S.state stores.old).shelves }
+    requires some { 0 < length (S.state stores.old).views }
     requires idle { IsIdle session.old.client }
     ensures rolled_back { OnOk result (IsRolledBackIn S.state catalog.now
         (turn C.told I.told stores.old stores.new clock.old clock.new ids.old ids.new session.old session.new)) }

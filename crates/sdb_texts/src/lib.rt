@@ -1,4 +1,4 @@
-//! The texts that are printed: values, keys, records and answers, and whole reports. What they are is said in `sdb_model`.
+//! The texts that are printed: values, keys, records and answers, and whole reports. Their definitions are in `sdb_model`.
 #![tactic(auto)]
 
 mod report;

@@ -6,11 +6,11 @@ use Rattle.sdb_model.specs.declared.answer.Answer.TheVariants as answer
 use Rattle.sdb_model.specs.declared.event.Event.TheVariants as event
 use Rattle.sdb_laws.specs.Plan.{Plan}
 use Rattle.sdb_laws.specs.History as laws
-use Rattle.sdb_laws.specs.History.{Begins, Talk, heard}
-use Rattle.sdb_laws.specs.Lawful.{Played, MayBegin, talk, plays}
+use Rattle.sdb_laws.specs.History.{Begins, ProtocolState, state_after_event}
+use Rattle.sdb_laws.specs.Lawful.{Labelled, MayBegin, protocol_state, labelled_with}
 use Rattle.sdb_snapshot.specs.Seen.{nothing}
-use Rattle.sdb_turns.specs.Noted.{OpenOk}
-use Rattle.sdb_turns.specs.System.{ClientAt, Resting, Open, ClientOk, Has, sweeps, IsNumbered, SystemAt, SystemOk, with_client, with_begun, next_id, idle, StandsAt, IsBegin, NoneSweeps, begin_played}
+use Rattle.sdb_turns.specs.Reads.{OpenOk}
+use Rattle.sdb_turns.specs.System.{ClientAt, Resting, Open, ClientOk, Has, is_in_vacuum, IsNumbered, SystemAt, SystemOk, with_client, with_begun, next_id, idle, IsInState, IsBegin, NoneRunVacuum, begin_labelled}
 use Rattle.sdb_turns.proofs.Clients.{client_later, others_spared, with_here}
 use Rattle.sdb_turns.proofs.Fresh.{in_turn}
 use Rattle.sdb_turns.proofs.Seen.{seen_nothing}
@@ -42,8 +42,8 @@ test_of u t = by (u == t) refl
     by false h = inr (apart u t h, h)
 
 -- the next id of a client was not used
-pub unused : (plan : ℕ → Plan) (past : List Played) (sys : SystemAt) (c : ℕ) → SystemOk plan past sys → sys.begun c + 1 < 2 ^ 64 → (talk past).begun (next_id sys c).0 ≡ 0
-unused plan past sys c ok small = by (zero_or ((talk past).begun t))
+pub unused : (plan : ℕ → Plan) (past : List Labelled) (sys : SystemAt) (c : ℕ) → SystemOk plan past sys → sys.begun c + 1 < 2 ^ 64 → (protocol_state past).begun (next_id sys c).0 ≡ 0
+unused plan past sys c ok small = by (zero_or ((protocol_state past).begun t))
   where
     t : ℕ
     t = c * 2 ^ 64 + (sys.begun c + 1)
@@ -51,7 +51,7 @@ unused plan past sys c ok small = by (zero_or ((talk past).begun t))
     more : (n : ℕ) → n + 1 ≤ n → ⊥
     more n l = omega arith
 
-    by : (((talk past).begun t) ≡ 0) ⊎ ((talk past).begun t ≢ 0) → (talk past).begun t ≡ 0
+    by : (((protocol_state past).begun t) ≡ 0) ⊎ ((protocol_state past).begun t ≢ 0) → (protocol_state past).begun t ≡ 0
     by (inl z) = z
     by (inr n) =
         let l = subst (λ d. t % 2 ^ 64 ≤ sys.begun d) (half c (sys.begun c + 1) small) (ok.ids t n).most in
@@ -59,39 +59,39 @@ unused plan past sys c ok small = by (zero_or ((talk past).begun t))
 
 ---- what is said
 
-here_begun : (h : Talk) (t c : ℕ) → (heard h (Begins t c)).begun t ≢ 0
+here_begun : (h : ProtocolState) (t c : ℕ) → (state_after_event h (Begins t c)).begun t ≢ 0
 here_begun h t c e = absurd (clash (h.now) (sym (now h t c) ∙ e))
   where
-    now : (h : Talk) (t c : ℕ) → (heard h (Begins t c)).begun t ≡ h.now + 1
+    now : (h : ProtocolState) (t c : ℕ) → (state_after_event h (Begins t c)).begun t ≡ h.now + 1
     now h t c = grind (arith, nat_tests)
 
     clash : (n : ℕ) → n + 1 ≡ 0 → ⊥
     clash n e = omega arith
 
-pub here_owner : (h : Talk) (t c : ℕ) → (heard h (Begins t c)).owner t ≡ c
+pub here_owner : (h : ProtocolState) (t c : ℕ) → (state_after_event h (Begins t c)).owner t ≡ c
 here_owner h t c = grind (arith, nat_tests)
 
-here_open : (h : Talk) (t c : ℕ) → (heard h (Begins t c)).is_open t ≡ true
+here_open : (h : ProtocolState) (t c : ℕ) → (state_after_event h (Begins t c)).is_open t ≡ true
 here_open h t c = grind (arith, nat_tests)
 
-other_open : (h : Talk) (t c u : ℕ) → u ≢ t → (heard h (Begins t c)).is_open u ≡ h.is_open u
+other_open : (h : ProtocolState) (t c u : ℕ) → u ≢ t → (state_after_event h (Begins t c)).is_open u ≡ h.is_open u
 other_open h t c u n = grind (arith, nat_tests)
 
-other_owner : (h : Talk) (t c u : ℕ) → u ≢ t → (heard h (Begins t c)).owner u ≡ h.owner u
+other_owner : (h : ProtocolState) (t c u : ℕ) → u ≢ t → (state_after_event h (Begins t c)).owner u ≡ h.owner u
 other_owner h t c u n = grind (arith, nat_tests)
 
-other_begun : (h : Talk) (t c u : ℕ) → u ≢ t → (heard h (Begins t c)).begun u ≡ h.begun u
+other_begun : (h : ProtocolState) (t c u : ℕ) → u ≢ t → (state_after_event h (Begins t c)).begun u ≡ h.begun u
 other_begun h t c u n = grind (arith, nat_tests)
 
 ---- the turn
 
-pub begin_turn : (plan : ℕ → Plan) (past : List Played) (sys : SystemAt) (c : ℕ) (text : List ℕ) → StandsAt plan past sys c Resting → IsBegin sys c text → NoneSweeps sys
-    → SystemOk plan (begin_played sys c text ∷ past) (with_begun sys c (Open (next_id sys c) nothing))
+pub begin_turn : (plan : ℕ → Plan) (past : List Labelled) (sys : SystemAt) (c : ℕ) (text : List ℕ) → IsInState plan past sys c Resting → IsBegin sys c text → NoneRunVacuum sys
+    → SystemOk plan (begin_labelled sys c text ∷ past) (with_begun sys c (Open (next_id sys c) nothing))
 begin_turn plan past sys c text stands begin none = record {
-  lawful = (ok.lawful, may, λ a. absurd (told a), λ a said denial u ends. absurd (cc (ends)));
+  lawful = (ok.lawful, may, λ a. absurd (told a), λ a executed denial u ends. absurd (cc (ends)));
   each = λ d. with_here sys c x (ClientOk plan (q ∷ past)) d (opens, seen_nothing (q ∷ past)) (λ apart. client_later plan past d q (sys.clients d) (others_spared plan past c d q (sys.clients d) apart refl may (λ u ends. absurd (cc (ends))) (ok.each d)) (ok.each d));
   opened = λ u o. opened u o (test_of u t);
-  gate = λ d s. absurd (clash (sym (with_here sys c x (λ e y. sweeps y ≡ false) d refl (λ apart. none d)) ∙ s));
+  gate = λ d s. absurd (clash (sym (with_here sys c x (λ e y. is_in_vacuum y ≡ false) d refl (λ apart. none d)) ∙ s));
   ids = λ u b. ids u b (test_of u t);
 }
   where
@@ -104,8 +104,8 @@ begin_turn plan past sys c text stands begin none = record {
     x : ClientAt
     x = Open (next_id sys c) nothing
 
-    q : Played
-    q = plays (Begins t c) (event.Take c text (Some answer.Done))
+    q : Labelled
+    q = labelled_with (Begins t c) (event.Take c text (Some answer.Done))
 
     clash : false ≡ true → ⊥
     clash e = cc
@@ -113,35 +113,35 @@ begin_turn plan past sys c text stands begin none = record {
     told : ◌≡◌ {A = Option Rattle.sdb_model.specs.declared.answer.Answer.Answer} (Some answer.Done) (Some answer.Committed) → ⊥
     told e = absurd (cc)
 
-    fresh : (talk past).begun t ≡ 0
+    fresh : (protocol_state past).begun t ≡ 0
     fresh = unused plan past sys c ok begin.ordinal
 
     may : MayBegin past (event.Take c text (Some answer.Done)) t c
     may = record { text = text; begin = begin.reads; take = refl; fresh = fresh; fits = fits c (sys.begun c + 1) begin.client begin.ordinal }
 
-    opens : OpenOk (talk (q ∷ past)) c t
-    opens = let said = in_turn plan past t ok.lawful in let none = said.taken fresh in record {
+    opens : OpenOk (protocol_state (q ∷ past)) c t
+    opens = let executed = in_turn plan past t ok.lawful in let none = executed.taken fresh in record {
       fits = fits c (sys.begun c + 1) begin.client begin.ordinal;
-      begun = here_begun (talk past) t c;
-      owner = here_owner (talk past) t c;
-      is_open = here_open (talk past) t c;
+      begun = here_begun (protocol_state past) t c;
+      owner = here_owner (protocol_state past) t c;
+      is_open = here_open (protocol_state past) t c;
       goes_on = subst (ClientOk plan past c) stands.at (ok.each c);
       fresh = none;
-      stage = said.stage none;
-      unasked = λ k. said.asked k none;
-      safe = said.risked none;
+      stage = executed.stage none;
+      unasked = λ k. executed.asked k none;
+      safe = executed.risked none;
     }
 
-    held : (u : ℕ) → (((talk past).stopped ((talk past).owner u) ≡ true) ⊎ Has (sys.clients ((talk past).owner u)) u) → ((talk past).stopped ((talk past).owner u) ≡ true) ⊎ Has ((with_client sys c x).clients ((talk past).owner u)) u
+    held : (u : ℕ) → (((protocol_state past).stopped ((protocol_state past).owner u) ≡ true) ⊎ Has (sys.clients ((protocol_state past).owner u)) u) → ((protocol_state past).stopped ((protocol_state past).owner u) ≡ true) ⊎ Has ((with_client sys c x).clients ((protocol_state past).owner u)) u
     held u (inl s) = inl s
-    held u (inr h) = with_here sys c x (λ d y. Has (sys.clients d) u → ((talk past).stopped d ≡ true) ⊎ Has y u) ((talk past).owner u) (λ h. absurd (subst (λ y. Has y u) stands.at h)) (λ apart h. inr h) h
+    held u (inr h) = with_here sys c x (λ d y. Has (sys.clients d) u → ((protocol_state past).stopped d ≡ true) ⊎ Has y u) ((protocol_state past).owner u) (λ h. absurd (subst (λ y. Has y u) stands.at h)) (λ apart h. inr h) h
 
-    opened : (u : ℕ) → (talk (q ∷ past)).is_open u ≡ true → (((u ≡ t) × ((u == t) ≡ true)) ⊎ ((u ≢ t) × ((u == t) ≡ false))) → ((talk (q ∷ past)).stopped ((talk (q ∷ past)).owner u) ≡ true) ⊎ Has ((with_client sys c x).clients ((talk (q ∷ past)).owner u)) u
-    opened u o (inl e) = inr (subst (λ d. Has ((with_client sys c x).clients d) u) (sym (ap (talk (q ∷ past)).owner e.0 ∙ here_owner (talk past) t c)) (here (sym e.0)))
+    opened : (u : ℕ) → (protocol_state (q ∷ past)).is_open u ≡ true → (((u ≡ t) × ((u == t) ≡ true)) ⊎ ((u ≢ t) × ((u == t) ≡ false))) → ((protocol_state (q ∷ past)).stopped ((protocol_state (q ∷ past)).owner u) ≡ true) ⊎ Has ((with_client sys c x).clients ((protocol_state (q ∷ past)).owner u)) u
+    opened u o (inl e) = inr (subst (λ d. Has ((with_client sys c x).clients d) u) (sym (ap (protocol_state (q ∷ past)).owner e.0 ∙ here_owner (protocol_state past) t c)) (here (sym e.0)))
       where
         here : t ≡ u → Has ((with_client sys c x).clients c) u
         here e = with_here sys c x (λ d y. c ≡ d → Has y u) c (λ r. e) (λ apart r. absurd (apart r)) refl
-    opened u o (inr n) = subst (λ d. ((talk past).stopped d ≡ true) ⊎ Has ((with_client sys c x).clients d) u) (sym (other_owner (talk past) t c u n.0)) (held u (ok.opened u (sym (other_open (talk past) t c u n.0) ∙ o)))
+    opened u o (inr n) = subst (λ d. ((protocol_state past).stopped d ≡ true) ⊎ Has ((with_client sys c x).clients d) u) (sym (other_owner (protocol_state past) t c u n.0)) (held u (ok.opened u (sym (other_open (protocol_state past) t c u n.0) ∙ o)))
 
     more : (d : ℕ) → sys.begun d ≤ laws.at sys.begun c (sys.begun c + 1) d
     more d = by (test_of d c)
@@ -172,16 +172,16 @@ begin_turn plan past sys c text stands begin none = record {
         by (inl e) = subst (λ b. sys.begun c + 1 ≤ (if b then sys.begun c + 1 else sys.begun c)) (sym e.1) (itself (sys.begun c + 1))
         by (inr n) = absurd (n.0 refl)
 
-    ids : (u : ℕ) → (talk (q ∷ past)).begun u ≢ 0 → (((u ≡ t) × ((u == t) ≡ true)) ⊎ ((u ≢ t) × ((u == t) ≡ false))) → IsNumbered (talk (q ∷ past)) (laws.at sys.begun c (sys.begun c + 1)) u
-    ids u b (inl e) = subst (IsNumbered (talk (q ∷ past)) (laws.at sys.begun c (sys.begun c + 1))) (sym e.0) (record {
+    ids : (u : ℕ) → (protocol_state (q ∷ past)).begun u ≢ 0 → (((u ≡ t) × ((u == t) ≡ true)) ⊎ ((u ≢ t) × ((u == t) ≡ false))) → IsNumbered (protocol_state (q ∷ past)) (laws.at sys.begun c (sys.begun c + 1)) u
+    ids u b (inl e) = subst (IsNumbered (protocol_state (q ∷ past)) (laws.at sys.begun c (sys.begun c + 1))) (sym e.0) (record {
       ordinal = subst (λ m. 0 < m) (sym (rest c (sys.begun c + 1) begin.ordinal)) (positive (sys.begun c));
       most = last;
-      owner = here_owner (talk past) t c ∙ sym (half c (sys.begun c + 1) begin.ordinal);
+      owner = here_owner (protocol_state past) t c ∙ sym (half c (sys.begun c + 1) begin.ordinal);
     })
-    ids u b (inr n) = let old = ok.ids u (λ e. b (other_begun (talk past) t c u n.0 ∙ e)) in record {
+    ids u b (inr n) = let old = ok.ids u (λ e. b (other_begun (protocol_state past) t c u n.0 ∙ e)) in record {
       ordinal = old.ordinal;
       most = within (u % 2 ^ 64) (sys.begun (u / 2 ^ 64)) (laws.at sys.begun c (sys.begun c + 1) (u / 2 ^ 64)) old.most (more (u / 2 ^ 64));
-      owner = other_owner (talk past) t c u n.0 ∙ old.owner;
+      owner = other_owner (protocol_state past) t c u n.0 ∙ old.owner;
     }
 
 -- Before the first event all is so.
@@ -189,15 +189,15 @@ pub begins : (plan : ℕ → Plan) → SystemOk plan [] idle
 begins plan = record { lawful = tt; each = λ c. refl; opened = λ u o. absurd (cc (o)); gate = λ c s. absurd (cc (s)); ids = λ t b. absurd (b refl) }
 
 -- A transaction whose COMMIT was taken has begun.
-pub taken_begun : (plan : ℕ → Plan) (past : List Played) (sys : SystemAt) (t : ℕ) → SystemOk plan past sys → (talk past).taken t ≡ true → 0 < t % 2 ^ 64
-taken_begun plan past sys t ok taken = by (zero_or ((talk past).begun t))
+pub taken_begun : (plan : ℕ → Plan) (past : List Labelled) (sys : SystemAt) (t : ℕ) → SystemOk plan past sys → (protocol_state past).taken t ≡ true → 0 < t % 2 ^ 64
+taken_begun plan past sys t ok taken = by (zero_or ((protocol_state past).begun t))
   where
     clash : true ≡ false → ⊥
     clash e = cc
 
-    by : ((talk past).begun t ≡ 0) ⊎ ((talk past).begun t ≢ 0) → 0 < t % 2 ^ 64
+    by : ((protocol_state past).begun t ≡ 0) ⊎ ((protocol_state past).begun t ≢ 0) → 0 < t % 2 ^ 64
     by (inl z) = absurd (clash (sym taken ∙ (in_turn plan past t ok.lawful).taken z))
     by (inr n) = (ok.ids t n).ordinal
 
-pub untaken : (plan : ℕ → Plan) (past : List Played) (sys : SystemAt) (c : ℕ) → SystemOk plan past sys → sys.begun c + 1 < 2 ^ 64 → (talk past).taken (next_id sys c).0 ≡ false
+pub untaken : (plan : ℕ → Plan) (past : List Labelled) (sys : SystemAt) (c : ℕ) → SystemOk plan past sys → sys.begun c + 1 < 2 ^ 64 → (protocol_state past).taken (next_id sys c).0 ≡ false
 untaken plan past sys c ok small = (in_turn plan past (next_id sys c).0 ok.lawful).taken (unused plan past sys c ok small)

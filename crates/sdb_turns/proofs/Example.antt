@@ -14,8 +14,8 @@ use Rattle.sdb_record.specs.declared.access.Access.TheVariants as access
 use Rattle.sdb_model.specs.declared.answer.Answer.{Answer}
 use Rattle.sdb_model.specs.declared.answer.Answer.TheVariants as answer
 use Rattle.sdb_model.specs.declared.event.Event.TheVariants as event
-use Rattle.sdb_laws.specs.History.{Other, Talk, Decides, Yes, heard}
-use Rattle.sdb_laws.specs.Lawful.{Played, talk, plays}
+use Rattle.sdb_laws.specs.History.{Other, ProtocolState, Decides, Yes, state_after_event}
+use Rattle.sdb_laws.specs.Lawful.{Labelled, protocol_state, labelled_with}
 use Rattle.sdb_laws.specs.Plan.{Plan}
 use Rattle.sdb_laws.specs.Worked.{account, nothing as no_plan, inserts}
 use Rattle.sdb_laws.proofs.Texts.{begin_begins, commit_commits}
@@ -26,13 +26,13 @@ use Rattle.sdb_record.specs.Names.{is_meta, base_name}
 use Rattle.sdb_snapshot.specs.Written.{AreChanges}
 use Rattle.sdb_snapshot.specs.Seen.{nothing}
 use Rattle.sdb_turns.specs.ReadAt.{Asking, Done, IsOfData}
-use Rattle.sdb_turns.specs.System.{Reading, Committing, SystemAt, SystemOk, ClientCall, idle, with_begun, with_client, begin_played, take_played, commit_played, with_plan, call_event}
+use Rattle.sdb_turns.specs.System.{Reading, Committing, SystemAt, SystemOk, ClientCall, idle, with_begun, with_client, begin_labelled, take_labelled, commit_labelled, with_plan, call_event}
 use Rattle.sdb_turns.specs.System as client
 use Rattle.sdb_turns.specs.Worked.{first_id, inserted, read_once, wrote_once, first_work, call_of, SomeCommit}
 use Rattle.sdb_turns.proofs.Begin.{begins, begin_turn}
 use Rattle.sdb_turns.proofs.Calls.{read_turn}
 use Rattle.sdb_turns.proofs.Commit.{commit_turn}
-use Rattle.sdb_turns.proofs.Quiet.{quiet_turn, asks, notes, writes}
+use Rattle.sdb_turns.proofs.Quiet.{quiet_turn, asks, read_set, writes}
 use Rattle.sdb_turns.proofs.Take.{take_turn}
 use Rattle.sdb_read.specs.Read.{Kind, Bad}
 use Rattle.sdb_model.specs.Tables.{is_data}
@@ -56,15 +56,15 @@ account_is_data k h = subst (λ q. is_data q ≡ true) (key_exact account k (equ
 abbrev sys1 : SystemAt
 sys1 = with_begun idle 1 (client.Open first_id nothing)
 
-abbrev past1 : List Played
-past1 = begin_played idle 1 (codes "BEGIN") ∷ []
+abbrev past1 : List Labelled
+past1 = begin_labelled idle 1 (codes "BEGIN") ∷ []
 
 begun : SystemOk plans past1 sys1
 begun = begin_turn plans [] idle 1 (codes "BEGIN") (record { ok = begins plans; at = refl }) (record { reads = begin_begins; client = omega arith; ordinal = omega arith }) (λ d. refl)
 
 -- INSERT is taken, and its key is read
-abbrev past2 : List Played
-past2 = plays Other (event.Take 1 (codes "INSERT") None) ∷ past1
+abbrev past2 : List Labelled
+past2 = labelled_with Other (event.Take 1 (codes "INSERT") None) ∷ past1
 
 inserts_taken : SystemOk plans past2 sys1
 inserts_taken = quiet_turn plans past1 sys1 (event.Take 1 (codes "INSERT") None) begun (record { quiet = refl; other = λ e. absurd (cc (e)) })
@@ -75,8 +75,8 @@ sys2 = with_client sys1 1 (Reading first_id nothing (access.Get account) Asking)
 key_asked : SystemOk plans past2 sys2
 key_asked = asks plans past2 sys1 1 first_id nothing (access.Get account) (record { ok = inserts_taken; at = refl }) account_is_data
 
-abbrev past3 : List Played
-past3 = plays Other (call_event (call_of (ask.Get account) (reply.Found None)) (Some (answer.Count 1))) ∷ past2
+abbrev past3 : List Labelled
+past3 = labelled_with Other (call_event (call_of (ask.Get account) (reply.Found None)) (Some (answer.Count 1))) ∷ past2
 
 abbrev sys3 : SystemAt
 sys3 = with_client sys2 1 (Reading first_id nothing (access.Get account) (Done []))
@@ -92,12 +92,12 @@ abbrev sys4 : SystemAt
 sys4 = with_client sys3 1 (client.Open first_id read_once)
 
 key_noted : SystemOk plans past3 sys4
-key_noted = notes plans past3 sys3 1 first_id nothing (access.Get account) [] (record { ok = key_read; at = refl }) refl
+key_noted = read_set plans past3 sys3 1 first_id nothing (access.Get account) [] (record { ok = key_read; at = refl }) refl
 
 abbrev sys5 : SystemAt
 sys5 = with_client sys4 1 (client.Open first_id wrote_once)
 
-inserted_fits : AreChanges read_once.notes inserted
+inserted_fits : AreChanges read_once.read_set inserted
 unfolding is_meta base_name same_key
 inserted_fits = ((refl, refl), tt)
 
@@ -108,8 +108,8 @@ row_written = writes plans past3 sys4 1 first_id read_once inserted (record { ok
 abbrev plans2 : ℕ → Plan
 plans2 = with_plan plans first_work
 
-abbrev past4 : List Played
-past4 = take_played 1 (codes "COMMIT") first_work ∷ past3
+abbrev past4 : List Labelled
+past4 = take_labelled 1 (codes "COMMIT") first_work ∷ past3
 
 abbrev sys6 : SystemAt
 sys6 = with_client sys5 1 (Committing first_work (Preparing 0))
@@ -121,8 +121,8 @@ commit_taken = take_turn plans past3 sys5 1 first_id wrote_once (pos 0) (codes "
 abbrev prepared_call : ClientCall
 prepared_call = call_of (prepare_of first_id (pos 0) inserts) reply.Applied
 
-abbrev past5 : List Played
-past5 = commit_played first_work (Preparing 0) prepared_call ∷ past4
+abbrev past5 : List Labelled
+past5 = commit_labelled first_work (Preparing 0) prepared_call ∷ past4
 
 abbrev sys7 : SystemAt
 sys7 = with_client sys6 1 (Committing first_work (Deciding phase.Put))
@@ -134,8 +134,8 @@ row_prepared = commit_turn plans2 past4 sys6 prepared_call first_work (Preparing
 abbrev decided_call : ClientCall
 decided_call = call_of (decide_of first_id (pos 0)) reply.Applied
 
-abbrev past6 : List Played
-past6 = commit_played first_work (Deciding phase.Put) decided_call ∷ past5
+abbrev past6 : List Labelled
+past6 = commit_labelled first_work (Deciding phase.Put) decided_call ∷ past5
 
 abbrev sys8 : SystemAt
 sys8 = with_client sys7 1 (Committing first_work (Forward 0))
@@ -144,9 +144,9 @@ put_applied : SystemOk plans2 past6 sys8
 unfolding same_key
 put_applied = commit_turn plans2 past5 sys7 decided_call first_work (Deciding phase.Put) (record { ok = row_prepared; at = refl }) (record { asked = refl; can = tt; moment = refl })
 
-is_won : (h : Talk) (t : ℕ) → (heard h (Decides t Yes)).won t ≡ true
+is_won : (h : ProtocolState) (t : ℕ) → (state_after_event h (Decides t Yes)).won t ≡ true
 is_won h t = grind (arith, nat_tests)
 
 pub some_commit : SomeCommit
 unfolding same_key
-some_commit = record { plan = plans2; past = past6; sys = sys8; ok = put_applied; won = is_won (talk past5) first_id.0 }
+some_commit = record { plan = plans2; past = past6; sys = sys8; ok = put_applied; won = is_won (protocol_state past5) first_id.0 }

@@ -9,22 +9,22 @@ use Rattle.sdb_record.specs.declared.coordinator.Decision.TheVariants as decisio
 use Rattle.sdb_model.specs.declared.event.Event.{Event}
 use Rattle.sdb_model.specs.declared.event.Event.TheVariants as event
 use Rattle.sdb_laws.specs.Plan.{Plan}
-use Rattle.sdb_laws.specs.History.{Role, Other, Begins, Takes, Prepares, Checks, Decides, Aborts, Rolls, Removes, Ends, Stops, Talk, heard, says}
+use Rattle.sdb_laws.specs.History.{Action, Other, Begins, Takes, Prepares, Checks, Decides, Aborts, Rolls, Removes, Ends, Stops, ProtocolState, state_after_event, state_after}
 use Rattle.sdb_laws.specs.History as laws
-use Rattle.sdb_laws.specs.Lawful.{Played, talk, ended, InCommit, IsCallOf, IsKnownCommitted, IsKnownAborted, IsBadRow, MayPlay}
+use Rattle.sdb_laws.specs.Lawful.{Labelled, protocol_state, ended, InCommit, IsCallOf, IsKnownCommitted, IsKnownAborted, IsBadRow, IsEnabled}
 use Rattle.sdb_phases.specs.Work.{Work}
 use Rattle.sdb_phases.specs.Checks.{checks}
 use Rattle.sdb_phases.specs.declared.step.DecidePhase.TheVariants as phase
 use Rattle.sdb_phases.specs.Commit.{Stage, Preparing, Checking, Deciding, Forward, Stopping, Back, Over}
 use Rattle.sdb_phases.specs.declared.step.Outcome.{Outcome}
 use Rattle.sdb_phases.specs.declared.step.Outcome.TheVariants as outcome
-use Rattle.sdb_turns.specs.Owner.{CommitOk, StageOk, OverOk, ToldTo, AskedTo, UnaskedFrom, CheckedTo}
+use Rattle.sdb_turns.specs.Owner.{CommitOk, StageOk, OverOk, AreAcknowledged, AskedTo, UnaskedFrom, CheckedTo}
 use Rattle.sdb_turns.specs.System.{IsBy}
-use Rattle.sdb_turns.specs.Noted.{OpenOk}
+use Rattle.sdb_turns.specs.Reads.{OpenOk}
 use Rattle.sdb_turns.proofs.Kept.{row_later}
 
 -- an event that is another's plays no part of a transaction, nor stops its client
-abbrev pub IsForeign : ℕ → ℕ → Role → Type 0
+abbrev pub IsForeign : ℕ → ℕ → Action → Type 0
 IsForeign t c (laws.Begins u d) = u ≢ t
 IsForeign t c (laws.Takes u) = u ≢ t
 IsForeign t c (Prepares u k word) = u ≢ t
@@ -32,25 +32,25 @@ IsForeign t c (Checks u i) = u ≢ t
 IsForeign t c (Decides u word) = u ≢ t
 IsForeign t c (laws.Ends u) = u ≢ t
 IsForeign t c (laws.Stops d) = d ≢ c
-IsForeign t c role = Unit {0}
+IsForeign t c action = Unit {0}
 
 -- a part doesn't stop a client
-abbrev pub StopsNot : ℕ → Role → Type 0
+abbrev pub StopsNot : ℕ → Action → Type 0
 StopsNot c (Stops d) = d ≢ c
 StopsNot c r = Unit {0}
 
-going_same : (c : ℕ) (h : Talk) (r : Role) → StopsNot c r → (heard h r).stopped c ≡ h.stopped c
+going_same : (c : ℕ) (h : ProtocolState) (r : Action) → StopsNot c r → (state_after_event h r).stopped c ≡ h.stopped c
 going_same c h r f = grind (arith, nat_tests)
 
-pub going : (past : List Played) (q : Played) (c : ℕ) → StopsNot c q.role → (talk (q ∷ past)).stopped c ≡ (talk past).stopped c
+pub going : (past : List Labelled) (q : Labelled) (c : ℕ) → StopsNot c q.action → (protocol_state (q ∷ past)).stopped c ≡ (protocol_state past).stopped c
 going past q c f = by q.ends
   where
-    by : (o : Option ℕ) → (ended (heard (talk past) q.role) o).stopped c ≡ (talk past).stopped c
-    by None = going_same c (talk past) q.role f
-    by (Some u) = going_same c (talk past) q.role f
+    by : (o : Option ℕ) → (ended (state_after_event (protocol_state past) q.action) o).stopped c ≡ (protocol_state past).stopped c
+    by None = going_same c (protocol_state past) q.action f
+    by (Some u) = going_same c (protocol_state past) q.action f
 
 -- what is said of a transaction and its client is the same
-pub record SameFor (t c : ℕ) (h v : Talk) : Type 0 where
+pub record SameFor (t c : ℕ) (h v : ProtocolState) : Type 0 where
   pub begun : v.begun t ≡ h.begun t
   pub owner : v.owner t ≡ h.owner t
   pub is_open : v.is_open t ≡ h.is_open t
@@ -65,46 +65,46 @@ pub record SameFor (t c : ℕ) (h v : Talk) : Type 0 where
   pub dead : h.dead t ≡ true → v.dead t ≡ true
   pub met : h.met t ≡ true → v.met t ≡ true
 
-begun_same : (t c : ℕ) (h : Talk) (r : Role) → IsForeign t c r → (heard h r).begun t ≡ h.begun t
+begun_same : (t c : ℕ) (h : ProtocolState) (r : Action) → IsForeign t c r → (state_after_event h r).begun t ≡ h.begun t
 begun_same t c h r f = grind (arith, nat_tests)
 
-owner_same : (t c : ℕ) (h : Talk) (r : Role) → IsForeign t c r → (heard h r).owner t ≡ h.owner t
+owner_same : (t c : ℕ) (h : ProtocolState) (r : Action) → IsForeign t c r → (state_after_event h r).owner t ≡ h.owner t
 owner_same t c h r f = grind (arith, nat_tests)
 
-open_same : (t c : ℕ) (h : Talk) (r : Role) → IsForeign t c r → (heard h r).is_open t ≡ h.is_open t
+open_same : (t c : ℕ) (h : ProtocolState) (r : Action) → IsForeign t c r → (state_after_event h r).is_open t ≡ h.is_open t
 open_same t c h r f = grind (arith, nat_tests)
 
-stopped_same : (t c : ℕ) (h : Talk) (r : Role) → IsForeign t c r → (heard h r).stopped c ≡ h.stopped c
+stopped_same : (t c : ℕ) (h : ProtocolState) (r : Action) → IsForeign t c r → (state_after_event h r).stopped c ≡ h.stopped c
 stopped_same t c h r f = grind (arith, nat_tests)
 
-taken_same : (t c : ℕ) (h : Talk) (r : Role) → IsForeign t c r → (heard h r).taken t ≡ h.taken t
+taken_same : (t c : ℕ) (h : ProtocolState) (r : Action) → IsForeign t c r → (state_after_event h r).taken t ≡ h.taken t
 taken_same t c h r f = grind (arith, nat_tests)
 
-stage_same : (t c : ℕ) (h : Talk) (r : Role) → IsForeign t c r → (heard h r).stage t ≡ h.stage t
+stage_same : (t c : ℕ) (h : ProtocolState) (r : Action) → IsForeign t c r → (state_after_event h r).stage t ≡ h.stage t
 stage_same t c h r f = grind (arith, nat_tests)
 
-asked_same : (t c : ℕ) (h : Talk) (r : Role) (k : Key) → IsForeign t c r → (heard h r).asked t k ≡ h.asked t k
+asked_same : (t c : ℕ) (h : ProtocolState) (r : Action) (k : Key) → IsForeign t c r → (state_after_event h r).asked t k ≡ h.asked t k
 asked_same t c h r k f = grind (arith, tests)
 
-told_same : (t c : ℕ) (h : Talk) (r : Role) (k : Key) → IsForeign t c r → (heard h r).told t k ≡ h.told t k
+told_same : (t c : ℕ) (h : ProtocolState) (r : Action) (k : Key) → IsForeign t c r → (state_after_event h r).told t k ≡ h.told t k
 told_same t c h r k f = grind (arith, tests)
 
-checked_same : (t c : ℕ) (h : Talk) (r : Role) (i : ℕ) → IsForeign t c r → (heard h r).checked t i ≡ h.checked t i
+checked_same : (t c : ℕ) (h : ProtocolState) (r : Action) (i : ℕ) → IsForeign t c r → (state_after_event h r).checked t i ≡ h.checked t i
 checked_same t c h r i f = grind (arith, nat_tests)
 
-risked_same : (t c : ℕ) (h : Talk) (r : Role) → IsForeign t c r → (heard h r).risked t ≡ h.risked t
+risked_same : (t c : ℕ) (h : ProtocolState) (r : Action) → IsForeign t c r → (state_after_event h r).risked t ≡ h.risked t
 risked_same t c h r f = grind (arith, nat_tests)
 
-won_stays : (t c : ℕ) (h : Talk) (r : Role) → h.won t ≡ true → (heard h r).won t ≡ true
+won_stays : (t c : ℕ) (h : ProtocolState) (r : Action) → h.won t ≡ true → (state_after_event h r).won t ≡ true
 won_stays t c h r w = grind (arith, nat_tests)
 
-pub dead_stays : (t c : ℕ) (h : Talk) (r : Role) → h.dead t ≡ true → (heard h r).dead t ≡ true
+pub dead_stays : (t c : ℕ) (h : ProtocolState) (r : Action) → h.dead t ≡ true → (state_after_event h r).dead t ≡ true
 dead_stays t c h r w = grind (arith, nat_tests)
 
-met_stays : (t c : ℕ) (h : Talk) (r : Role) → h.met t ≡ true → (heard h r).met t ≡ true
+met_stays : (t c : ℕ) (h : ProtocolState) (r : Action) → h.met t ≡ true → (state_after_event h r).met t ≡ true
 met_stays t c h r w = grind (arith, nat_tests)
 
-same_for : (t c : ℕ) (h : Talk) (r : Role) → IsForeign t c r → SameFor t c h (heard h r)
+same_for : (t c : ℕ) (h : ProtocolState) (r : Action) → IsForeign t c r → SameFor t c h (state_after_event h r)
 same_for t c h r f = record {
   begun = begun_same t c h r f;
   owner = owner_same t c h r f;
@@ -121,10 +121,10 @@ same_for t c h r f = record {
   met = met_stays t c h r;
 }
 
-closed_open : (t u : ℕ) (h : Talk) → u ≢ t → (says h (Ends u)).is_open t ≡ h.is_open t
+closed_open : (t u : ℕ) (h : ProtocolState) → u ≢ t → (state_after h (Ends u)).is_open t ≡ h.is_open t
 closed_open t u h ne = grind (arith, nat_tests)
 
-closed_same : (t c : ℕ) (h : Talk) (u : ℕ) → u ≢ t → SameFor t c h (says h (Ends u))
+closed_same : (t c : ℕ) (h : ProtocolState) (u : ℕ) → u ≢ t → SameFor t c h (state_after h (Ends u))
 closed_same t c h u ne = record {
   begun = refl;
   owner = refl;
@@ -141,7 +141,7 @@ closed_same t c h u ne = record {
   met = λ x. x;
 }
 
-then_same : (t c : ℕ) (h v w : Talk) → SameFor t c h v → SameFor t c v w → SameFor t c h w
+then_same : (t c : ℕ) (h v w : ProtocolState) → SameFor t c h v → SameFor t c v w → SameFor t c h w
 then_same t c h v w a b = record {
   begun = b.begun ∙ a.begun;
   owner = b.owner ∙ a.owner;
@@ -159,49 +159,49 @@ then_same t c h v w a b = record {
 }
 
 -- an event that plays another's part, and ends no transaction but another
-pub record IsForeignEvent (t c : ℕ) (q : Played) : Type 0 where
-  pub part : IsForeign t c q.role
+pub record IsForeignEvent (t c : ℕ) (q : Labelled) : Type 0 where
+  pub part : IsForeign t c q.action
   pub ends : (u : ℕ) → q.ends ≡ Some u → u ≢ t
 
-pub event_same : (t c : ℕ) (past : List Played) (q : Played) → IsForeignEvent t c q → SameFor t c (talk past) (talk (q ∷ past))
+pub event_same : (t c : ℕ) (past : List Labelled) (q : Labelled) → IsForeignEvent t c q → SameFor t c (protocol_state past) (protocol_state (q ∷ past))
 event_same t c past q f = by q.ends refl
   where
-    by : (o : Option ℕ) → q.ends ≡ o → SameFor t c (talk past) (ended (heard (talk past) q.role) o)
-    by None e = same_for t c (talk past) q.role f.part
-    by (Some u) e = then_same t c (talk past) (heard (talk past) q.role) (says (heard (talk past) q.role) (Ends u)) (same_for t c (talk past) q.role f.part) (closed_same t c (heard (talk past) q.role) u (f.ends u e))
+    by : (o : Option ℕ) → q.ends ≡ o → SameFor t c (protocol_state past) (ended (state_after_event (protocol_state past) q.action) o)
+    by None e = same_for t c (protocol_state past) q.action f.part
+    by (Some u) e = then_same t c (protocol_state past) (state_after_event (protocol_state past) q.action) (state_after (state_after_event (protocol_state past) q.action) (Ends u)) (same_for t c (protocol_state past) q.action f.part) (closed_same t c (state_after_event (protocol_state past) q.action) u (f.ends u e))
 
 ---- what is known
 
-known_later : (plan : ℕ → Plan) (past : List Played) (q : Played) (t c : ℕ) (m : ℤ) → SameFor t c (talk past) (talk (q ∷ past)) → IsKnownCommitted plan past t m → IsKnownCommitted plan (q ∷ past) t m
+known_later : (plan : ℕ → Plan) (past : List Labelled) (q : Labelled) (t c : ℕ) (m : ℤ) → SameFor t c (protocol_state past) (protocol_state (q ∷ past)) → IsKnownCommitted plan past t m → IsKnownCommitted plan (q ∷ past) t m
 known_later plan past q t c m s (inl x) = inl (row_later q past t decision.Committed m x)
 known_later plan past q t c m s (inr (inl x)) = inr (inl (s.won x.0, x.1))
 known_later plan past q t c m s (inr (inr x)) = inr (inr (s.taken ∙ x.0, (x.1.0, row_later q past t decision.Committed x.1.0 x.1.1), x.2))
 
-aborted_later : (past : List Played) (q : Played) (t c : ℕ) → SameFor t c (talk past) (talk (q ∷ past)) → IsKnownAborted past t → IsKnownAborted (q ∷ past) t
+aborted_later : (past : List Labelled) (q : Labelled) (t c : ℕ) → SameFor t c (protocol_state past) (protocol_state (q ∷ past)) → IsKnownAborted past t → IsKnownAborted (q ∷ past) t
 aborted_later past q t c s (inl x) = inl (x.0, row_later q past t decision.Aborted x.0 x.1)
 aborted_later past q t c s (inr (inl d)) = inr (inl (s.dead d))
 aborted_later past q t c s (inr (inr m)) = inr (inr (s.met m.0, s.risked ∙ m.1))
 
 ---- the whole
 
-told_later : (p : Work) (c i : ℕ) (h v : Talk) → SameFor p.id.0 c h v → ToldTo h p i → ToldTo v p i
+told_later : (p : Work) (c i : ℕ) (h v : ProtocolState) → SameFor p.id.0 c h v → AreAcknowledged h p i → AreAcknowledged v p i
 told_later p c i h v s told j w l at = s.told w.key ∙ told j w l at
 
-asked_later : (p : Work) (c i : ℕ) (h v : Talk) → SameFor p.id.0 c h v → AskedTo h p i → AskedTo v p i
+asked_later : (p : Work) (c i : ℕ) (h v : ProtocolState) → SameFor p.id.0 c h v → AskedTo h p i → AskedTo v p i
 asked_later p c i h v s asked j w l at = s.asked w.key ∙ asked j w l at
 
-unasked_later : (p : Work) (c i : ℕ) (h v : Talk) → SameFor p.id.0 c h v → UnaskedFrom h p i → UnaskedFrom v p i
+unasked_later : (p : Work) (c i : ℕ) (h v : ProtocolState) → SameFor p.id.0 c h v → UnaskedFrom h p i → UnaskedFrom v p i
 unasked_later p c i h v s un j w l at = s.asked w.key ∙ un j w l at
 
-checked_later : (p : Work) (c i : ℕ) (h v : Talk) → SameFor p.id.0 c h v → CheckedTo h p i → CheckedTo v p i
+checked_later : (p : Work) (c i : ℕ) (h v : ProtocolState) → SameFor p.id.0 c h v → CheckedTo h p i → CheckedTo v p i
 checked_later p c i h v s checked j l = s.checked j ∙ checked j l
 
-why_later : (past : List Played) (q : Played) (t c : ℕ) → SameFor t c (talk past) (talk (q ∷ past)) → (IsKnownAborted past t ⊎ ((talk past).risked t ≡ false) ⊎ IsBadRow past t) → (IsKnownAborted (q ∷ past) t ⊎ ((talk (q ∷ past)).risked t ≡ false) ⊎ IsBadRow (q ∷ past) t)
+why_later : (past : List Labelled) (q : Labelled) (t c : ℕ) → SameFor t c (protocol_state past) (protocol_state (q ∷ past)) → (IsKnownAborted past t ⊎ ((protocol_state past).risked t ≡ false) ⊎ IsBadRow past t) → (IsKnownAborted (q ∷ past) t ⊎ ((protocol_state (q ∷ past)).risked t ≡ false) ⊎ IsBadRow (q ∷ past) t)
 why_later past q t c s (inl a) = inl (aborted_later past q t c s a)
 why_later past q t c s (inr (inl r)) = inr (inl (s.risked ∙ r))
 why_later past q t c s (inr (inr b)) = inr (inr (record { row = b.row; shown = inr b.shown; key = b.key; bad = b.bad }))
 
-over_later : (plan : ℕ → Plan) (past : List Played) (q : Played) (p : Work) (a : Outcome) (c : ℕ) → SameFor p.id.0 c (talk past) (talk (q ∷ past)) → OverOk plan past p a → OverOk plan (q ∷ past) p a
+over_later : (plan : ℕ → Plan) (past : List Labelled) (q : Labelled) (p : Work) (a : Outcome) (c : ℕ) → SameFor p.id.0 c (protocol_state past) (protocol_state (q ∷ past)) → OverOk plan past p a → OverOk plan (q ∷ past) p a
 over_later plan past q p outcome.Committed c s k = known_later plan past q p.id.0 c p.now s k
 over_later plan past q p (outcome.Conflict key found) c s k = why_later past q p.id.0 c s k
 over_later plan past q p (outcome.Expired id) c s k = why_later past q p.id.0 c s k
@@ -210,27 +210,27 @@ over_later plan past q p (outcome.Unknown id) c s k = k
 over_later plan past q p (outcome.BadRecord key) c s k = why_later past q p.id.0 c s k
 over_later plan past q p outcome.NoMemory c s k = why_later past q p.id.0 c s k
 
-stage_later : (plan : ℕ → Plan) (past : List Played) (q : Played) (c : ℕ) (p : Work) (s : Stage) → SameFor p.id.0 c (talk past) (talk (q ∷ past)) → StageOk plan past p s → StageOk plan (q ∷ past) p s
-stage_later plan past q c p (Preparing i) f ok = (f.stage ∙ ok.0, told_later p c i (talk past) (talk (q ∷ past)) f ok.1, asked_later p c i (talk past) (talk (q ∷ past)) f ok.2, unasked_later p c i (talk past) (talk (q ∷ past)) f ok.3, f.risked ∙ ok.4)
-stage_later plan past q c p (Checking i) f ok = (λ e. ok.0 (sym f.stage ∙ e), told_later p c (length p.writes) (talk past) (talk (q ∷ past)) f ok.1, asked_later p c (length p.writes) (talk past) (talk (q ∷ past)) f ok.2, checked_later p c i (talk past) (talk (q ∷ past)) f ok.3, ok.4, f.risked ∙ ok.5)
-stage_later plan past q c p (Deciding phase.Put) f ok = (told_later p c (length p.writes) (talk past) (talk (q ∷ past)) f ok.0, asked_later p c (length p.writes) (talk past) (talk (q ∷ past)) f ok.1, checked_later p c (length (checks p)) (talk past) (talk (q ∷ past)) f ok.2, ok.3, f.risked ∙ ok.4)
-stage_later plan past q c p (Deciding phase.Look) f ok = asked_later p c (length p.writes) (talk past) (talk (q ∷ past)) f ok
-stage_later plan past q c p (Deciding phase.Abort) f ok = asked_later p c (length p.writes) (talk past) (talk (q ∷ past)) f ok
-stage_later plan past q c p (Deciding phase.Again) f ok = asked_later p c (length p.writes) (talk past) (talk (q ∷ past)) f ok
-stage_later plan past q c p (Deciding phase.Ended) f ok = asked_later p c (length p.writes) (talk past) (talk (q ∷ past)) f ok
-stage_later plan past q c p (Forward i) f ok = (asked_later p c (length p.writes) (talk past) (talk (q ∷ past)) f ok.0, known_later plan past q p.id.0 c p.now f ok.1)
-stage_later plan past q c p (Stopping a n) f ok = (asked_later p c n (talk past) (talk (q ∷ past)) f ok.0, f.risked ∙ ok.1, ok.2)
-stage_later plan past q c p (Back a n i) f ok = (asked_later p c n (talk past) (talk (q ∷ past)) f ok.0, aborted_later past q p.id.0 c f ok.1, ok.2, ok.3)
+stage_later : (plan : ℕ → Plan) (past : List Labelled) (q : Labelled) (c : ℕ) (p : Work) (s : Stage) → SameFor p.id.0 c (protocol_state past) (protocol_state (q ∷ past)) → StageOk plan past p s → StageOk plan (q ∷ past) p s
+stage_later plan past q c p (Preparing i) f ok = (f.stage ∙ ok.0, told_later p c i (protocol_state past) (protocol_state (q ∷ past)) f ok.1, asked_later p c i (protocol_state past) (protocol_state (q ∷ past)) f ok.2, unasked_later p c i (protocol_state past) (protocol_state (q ∷ past)) f ok.3, f.risked ∙ ok.4)
+stage_later plan past q c p (Checking i) f ok = (λ e. ok.0 (sym f.stage ∙ e), told_later p c (length p.writes) (protocol_state past) (protocol_state (q ∷ past)) f ok.1, asked_later p c (length p.writes) (protocol_state past) (protocol_state (q ∷ past)) f ok.2, checked_later p c i (protocol_state past) (protocol_state (q ∷ past)) f ok.3, ok.4, f.risked ∙ ok.5)
+stage_later plan past q c p (Deciding phase.Put) f ok = (told_later p c (length p.writes) (protocol_state past) (protocol_state (q ∷ past)) f ok.0, asked_later p c (length p.writes) (protocol_state past) (protocol_state (q ∷ past)) f ok.1, checked_later p c (length (checks p)) (protocol_state past) (protocol_state (q ∷ past)) f ok.2, ok.3, f.risked ∙ ok.4)
+stage_later plan past q c p (Deciding phase.Look) f ok = asked_later p c (length p.writes) (protocol_state past) (protocol_state (q ∷ past)) f ok
+stage_later plan past q c p (Deciding phase.Abort) f ok = asked_later p c (length p.writes) (protocol_state past) (protocol_state (q ∷ past)) f ok
+stage_later plan past q c p (Deciding phase.Again) f ok = asked_later p c (length p.writes) (protocol_state past) (protocol_state (q ∷ past)) f ok
+stage_later plan past q c p (Deciding phase.Ended) f ok = asked_later p c (length p.writes) (protocol_state past) (protocol_state (q ∷ past)) f ok
+stage_later plan past q c p (Forward i) f ok = (asked_later p c (length p.writes) (protocol_state past) (protocol_state (q ∷ past)) f ok.0, known_later plan past q p.id.0 c p.now f ok.1)
+stage_later plan past q c p (Stopping a n) f ok = (asked_later p c n (protocol_state past) (protocol_state (q ∷ past)) f ok.0, f.risked ∙ ok.1, ok.2)
+stage_later plan past q c p (Back a n i) f ok = (asked_later p c n (protocol_state past) (protocol_state (q ∷ past)) f ok.0, aborted_later past q p.id.0 c f ok.1, ok.2, ok.3)
 stage_later plan past q c p (Over a) f ok = over_later plan past q p a c f ok
 
-within_later : (t c : ℕ) (h v : Talk) → SameFor t c h v → InCommit h c t → InCommit v c t
+within_later : (t c : ℕ) (h v : ProtocolState) → SameFor t c h v → InCommit h c t → InCommit v c t
 within_later t c h v s ok = record { taken = s.taken ∙ ok.taken; is_open = s.is_open ∙ ok.is_open; owner = s.owner ∙ ok.owner; goes_on = s.stopped ∙ ok.goes_on }
 
 -- Another client's event leaves a COMMIT as it was.
-pub commit_later : (plan : ℕ → Plan) (past : List Played) (q : Played) (c : ℕ) (p : Work) (s : Stage) → IsForeignEvent p.id.0 c q → CommitOk plan past c p s → CommitOk plan (q ∷ past) c p s
+pub commit_later : (plan : ℕ → Plan) (past : List Labelled) (q : Labelled) (c : ℕ) (p : Work) (s : Stage) → IsForeignEvent p.id.0 c q → CommitOk plan past c p s → CommitOk plan (q ∷ past) c p s
 commit_later plan past q c p s f ok = let same = event_same p.id.0 c past q f in record {
   work = ok.work;
-  within = within_later p.id.0 c (talk past) (talk (q ∷ past)) same ok.within;
+  within = within_later p.id.0 c (protocol_state past) (protocol_state (q ∷ past)) same ok.within;
   begun = λ e. ok.begun (sym same.begun ∙ e);
   planned = ok.planned;
   stage = stage_later plan past q c p s same ok.stage;
@@ -245,13 +245,13 @@ stopper : (d n : ℕ) (e : Event) → IsBy d e → e ≡ event.Stop n → d ≡ 
 stopper d n e by is = sym (subst (IsBy d) is by)
 
 -- A lawful part that another client plays is no part of a transaction of this one, nor stops this one.
-pub foreign : (plan : ℕ → Plan) (past : List Played) (c d t : ℕ) (e : Event) (r : Role) → (talk past).owner t ≡ c → (talk past).begun t ≢ 0 → d ≢ c → IsBy d e → MayPlay plan past e r → IsForeign t c r
+pub foreign : (plan : ℕ → Plan) (past : List Labelled) (c d t : ℕ) (e : Event) (r : Action) → (protocol_state past).owner t ≡ c → (protocol_state past).begun t ≢ 0 → d ≢ c → IsBy d e → IsEnabled plan past e r → IsForeign t c r
 foreign plan past c d t e Other own begun apart by m = tt
-foreign plan past c d t e (Begins u n) own begun apart by m = λ same. begun (ap (talk past).begun (sym same) ∙ m.fresh)
-foreign plan past c d t e (Takes u) own begun apart by m = λ same. apart (sym (subst (IsBy d) m.take by) ∙ sym m.owner ∙ ap (talk past).owner same ∙ own)
-foreign plan past c d t e (Prepares u k word) own begun apart by m = λ same. apart (sym (caller d m.client e _ m.r by m.call) ∙ sym m.within.owner ∙ ap (talk past).owner same ∙ own)
-foreign plan past c d t e (Checks u i) own begun apart by m = λ same. apart (sym (caller d m.client e m.q m.r by m.call) ∙ sym m.within.owner ∙ ap (talk past).owner same ∙ own)
-foreign plan past c d t e (Decides u word) own begun apart by m = λ same. apart (sym (caller d m.client e _ m.r by m.call) ∙ sym m.within.owner ∙ ap (talk past).owner same ∙ own)
+foreign plan past c d t e (Begins u n) own begun apart by m = λ same. begun (ap (protocol_state past).begun (sym same) ∙ m.fresh)
+foreign plan past c d t e (Takes u) own begun apart by m = λ same. apart (sym (subst (IsBy d) m.take by) ∙ sym m.owner ∙ ap (protocol_state past).owner same ∙ own)
+foreign plan past c d t e (Prepares u k word) own begun apart by m = λ same. apart (sym (caller d m.client e _ m.r by m.call) ∙ sym m.within.owner ∙ ap (protocol_state past).owner same ∙ own)
+foreign plan past c d t e (Checks u i) own begun apart by m = λ same. apart (sym (caller d m.client e m.q m.r by m.call) ∙ sym m.within.owner ∙ ap (protocol_state past).owner same ∙ own)
+foreign plan past c d t e (Decides u word) own begun apart by m = λ same. apart (sym (caller d m.client e _ m.r by m.call) ∙ sym m.within.owner ∙ ap (protocol_state past).owner same ∙ own)
 foreign plan past c d t e (Aborts u n word) own begun apart by m = tt
 foreign plan past c d t e (Rolls u k decision) own begun apart by m = tt
 foreign plan past c d t e (Removes k u) own begun apart by m = tt
@@ -259,7 +259,7 @@ foreign plan past c d t e (Ends u) own begun apart by m = absurd m
 foreign plan past c d t e (Stops n) own begun apart by m = λ same. apart (stopper d n e by m ∙ same)
 
 -- A lawful part that another client plays doesn't stop this one.
-pub goes_on : (plan : ℕ → Plan) (past : List Played) (c d : ℕ) (e : Event) (r : Role) → d ≢ c → IsBy d e → MayPlay plan past e r → StopsNot c r
+pub goes_on : (plan : ℕ → Plan) (past : List Labelled) (c d : ℕ) (e : Event) (r : Action) → d ≢ c → IsBy d e → IsEnabled plan past e r → StopsNot c r
 goes_on plan past c d e Other apart by m = tt
 goes_on plan past c d e (Begins u n) apart by m = tt
 goes_on plan past c d e (Takes u) apart by m = tt
@@ -273,7 +273,7 @@ goes_on plan past c d e (Ends u) apart by m = tt
 goes_on plan past c d e (Stops n) apart by m = λ same. apart (stopper d n e by m ∙ same)
 
 -- An open transaction stays as it is while other parts are played.
-pub open_later : (past : List Played) (q : Played) (c t : ℕ) → IsForeignEvent t c q → OpenOk (talk past) c t → OpenOk (talk (q ∷ past)) c t
+pub open_later : (past : List Labelled) (q : Labelled) (c t : ℕ) → IsForeignEvent t c q → OpenOk (protocol_state past) c t → OpenOk (protocol_state (q ∷ past)) c t
 open_later past q c t f ok = let same = event_same t c past q f in record {
   fits = ok.fits;
   begun = λ e. ok.begun (sym same.begun ∙ e);

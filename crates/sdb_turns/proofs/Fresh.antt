@@ -6,41 +6,41 @@ use Rattle.sdb_types.proofs.Keys.{tests}
 use Rattle.sdb_model.specs.declared.event.Event.{Event}
 use Rattle.sdb_laws.specs.Plan.{Plan}
 use Rattle.sdb_laws.specs.History as laws
-use Rattle.sdb_laws.specs.History.{Role, Other, Begins, Takes, Prepares, Checks, Decides, Aborts, Rolls, Removes, Ends, Stops, Talk, heard, says}
-use Rattle.sdb_laws.specs.Lawful.{Played, IsLawful, MayPlay, talk, ended}
+use Rattle.sdb_laws.specs.History.{Action, Other, Begins, Takes, Prepares, Checks, Decides, Aborts, Rolls, Removes, Ends, Stops, ProtocolState, state_after_event, state_after}
+use Rattle.sdb_laws.specs.Lawful.{Labelled, IsLawful, IsEnabled, protocol_state, ended}
 use Rattle.sdb_laws.proofs.Seen.{closed_still}
 
 -- a transaction is open, and its COMMIT is taken, only after it has begun; and its calls come only after its COMMIT was taken
-pub record InTurn (h : Talk) (t : ℕ) : Type 0 where
+pub record InTurn (h : ProtocolState) (t : ℕ) : Type 0 where
   pub is_open : h.begun t ≡ 0 → h.is_open t ≡ false
   pub taken : h.begun t ≡ 0 → h.taken t ≡ false
   pub stage : h.taken t ≡ false → h.stage t ≡ laws.Preparing
   pub asked : (k : Key) → h.taken t ≡ false → h.asked t k ≡ false
   pub risked : h.taken t ≡ false → h.risked t ≡ false
 
-abbrev IsAfter : Talk → Role → Type 0
+abbrev IsAfter : ProtocolState → Action → Type 0
 IsAfter h (Takes t) = h.is_open t ≡ true
 IsAfter h (Prepares t k word) = h.taken t ≡ true
 IsAfter h (Checks t i) = h.taken t ≡ true
 IsAfter h (Decides t word) = h.taken t ≡ true
 IsAfter h r = Unit {0}
 
-open_kept : (h : Talk) (r : Role) (t : ℕ) → (h.begun t ≡ 0 → h.is_open t ≡ false) → (heard h r).begun t ≡ 0 → (heard h r).is_open t ≡ false
+open_kept : (h : ProtocolState) (r : Action) (t : ℕ) → (h.begun t ≡ 0 → h.is_open t ≡ false) → (state_after_event h r).begun t ≡ 0 → (state_after_event h r).is_open t ≡ false
 open_kept h r t u b = grind (arith, nat_tests)
 
-taken_kept : (h : Talk) (r : Role) (t : ℕ) → IsAfter h r → (h.begun t ≡ 0 → h.is_open t ≡ false) → (h.begun t ≡ 0 → h.taken t ≡ false) → (heard h r).begun t ≡ 0 → (heard h r).taken t ≡ false
+taken_kept : (h : ProtocolState) (r : Action) (t : ℕ) → IsAfter h r → (h.begun t ≡ 0 → h.is_open t ≡ false) → (h.begun t ≡ 0 → h.taken t ≡ false) → (state_after_event h r).begun t ≡ 0 → (state_after_event h r).taken t ≡ false
 taken_kept h r t a o u b = grind (arith, nat_tests)
 
-stage_kept : (h : Talk) (r : Role) (t : ℕ) → IsAfter h r → (h.taken t ≡ false → h.stage t ≡ laws.Preparing) → (heard h r).taken t ≡ false → (heard h r).stage t ≡ laws.Preparing
+stage_kept : (h : ProtocolState) (r : Action) (t : ℕ) → IsAfter h r → (h.taken t ≡ false → h.stage t ≡ laws.Preparing) → (state_after_event h r).taken t ≡ false → (state_after_event h r).stage t ≡ laws.Preparing
 stage_kept h r t a u f = grind (arith, nat_tests)
 
-asked_kept : (h : Talk) (r : Role) (t : ℕ) (k : Key) → IsAfter h r → (h.taken t ≡ false → h.asked t k ≡ false) → (heard h r).taken t ≡ false → (heard h r).asked t k ≡ false
+asked_kept : (h : ProtocolState) (r : Action) (t : ℕ) (k : Key) → IsAfter h r → (h.taken t ≡ false → h.asked t k ≡ false) → (state_after_event h r).taken t ≡ false → (state_after_event h r).asked t k ≡ false
 asked_kept h r t k a u f = grind (arith, tests)
 
-risked_kept : (h : Talk) (r : Role) (t : ℕ) → IsAfter h r → (h.taken t ≡ false → h.risked t ≡ false) → (heard h r).taken t ≡ false → (heard h r).risked t ≡ false
+risked_kept : (h : ProtocolState) (r : Action) (t : ℕ) → IsAfter h r → (h.taken t ≡ false → h.risked t ≡ false) → (state_after_event h r).taken t ≡ false → (state_after_event h r).risked t ≡ false
 risked_kept h r t a u f = grind (arith, nat_tests)
 
-turn_kept : (h : Talk) (r : Role) (t : ℕ) → IsAfter h r → InTurn h t → InTurn (heard h r) t
+turn_kept : (h : ProtocolState) (r : Action) (t : ℕ) → IsAfter h r → InTurn h t → InTurn (state_after_event h r) t
 turn_kept h r t a u = record {
   is_open = open_kept h r t u.is_open;
   taken = taken_kept h r t a u.is_open u.taken;
@@ -50,10 +50,10 @@ turn_kept h r t a u = record {
 }
 
 -- and so does the end of a transaction
-turn_closed : (h : Talk) (u t : ℕ) → InTurn h t → InTurn (says h (Ends u)) t
+turn_closed : (h : ProtocolState) (u t : ℕ) → InTurn h t → InTurn (state_after h (Ends u)) t
 turn_closed h u t one = record { is_open = λ b. closed_still h.is_open u t (one.is_open b); taken = one.taken; stage = one.stage; asked = one.asked; risked = one.risked }
 
-after_played : (plan : ℕ → Plan) (past : List Played) (e : Event) (r : Role) → MayPlay plan past e r → IsAfter (talk past) r
+after_played : (plan : ℕ → Plan) (past : List Labelled) (e : Event) (r : Action) → IsEnabled plan past e r → IsAfter (protocol_state past) r
 after_played plan past e Other m = tt
 after_played plan past e (Begins t c) m = tt
 after_played plan past e (Takes t) m = m.is_open
@@ -66,10 +66,10 @@ after_played plan past e (Removes k t) m = tt
 after_played plan past e (Ends t) m = tt
 after_played plan past e (Stops c) m = tt
 
-pub in_turn : (plan : ℕ → Plan) (past : List Played) (t : ℕ) → IsLawful plan past → InTurn (talk past) t
+pub in_turn : (plan : ℕ → Plan) (past : List Labelled) (t : ℕ) → IsLawful plan past → InTurn (protocol_state past) t
 in_turn plan [] t l = record { is_open = λ b. refl; taken = λ b. refl; stage = λ f. refl; asked = λ k f. refl; risked = λ f. refl }
-in_turn plan (p ∷ past) t l = by p.ends (turn_kept (talk past) p.role t (after_played plan past p.event p.role l.1) (in_turn plan past t l.0))
+in_turn plan (p ∷ past) t l = by p.ends (turn_kept (protocol_state past) p.action t (after_played plan past p.event p.action l.1) (in_turn plan past t l.0))
   where
-    by : (o : Option ℕ) → InTurn (heard (talk past) p.role) t → InTurn (ended (heard (talk past) p.role) o) t
+    by : (o : Option ℕ) → InTurn (state_after_event (protocol_state past) p.action) t → InTurn (ended (state_after_event (protocol_state past) p.action) o) t
     by None one = one
-    by (Some u) one = turn_closed (heard (talk past) p.role) u t one
+    by (Some u) one = turn_closed (state_after_event (protocol_state past) p.action) u t one

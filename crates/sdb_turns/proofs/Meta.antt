@@ -14,7 +14,7 @@ use Rattle.sdb_types.proofs.Bools.{and_both, and_first}
 use Rattle.sdb_record.specs.declared.coordinator.Decided.{Decided}
 use Rattle.sdb_record.specs.declared.coordinator.Decision.TheVariants as decision
 use Rattle.sdb_record.specs.declared.meta.Meta.{Meta}
-use Rattle.sdb_record.specs.Meta.{id_in, id_in_value, is_in, is_moment, is_committed, is_taken, is_unresolved, checked, checked_before, checked_part, refuse, with_before, is_misnamed}
+use Rattle.sdb_record.specs.Meta.{id_in, id_in_value, is_in, is_moment, is_committed, is_transactional, is_unresolved, checked, checked_before, checked_part, refuse, with_before, is_misnamed}
 use Rattle.sdb_record.specs.Parts.{before_record, before_part, is_before_pair}
 use Rattle.sdb_record.specs.Rolls.{forward_record}
 use Rattle.sdb_record.proofs.Fine.{taken, refuse-ok}
@@ -58,35 +58,35 @@ meta_of r m loose says =
 -- What an unresolved record is rolled forward to is a committed record of its key.
 pub record IsFirm (k : Rattle.sdb_types.specs.declared.key.Key.Key) (b : Record) : Type 0 where
   pub key : b.key ≡ k
-  pub taken : is_taken b ≡ true
+  pub taken : is_transactional b ≡ true
   pub committed : is_in Committed b.columns ≡ true
 
 pub forward_firm : (r : Record) (m : ℤ) → is_unresolved r ≡ true → is_moment m ≡ true → IsFirm r.key (forward_record r m)
 forward_firm r m loose moment =
     let d : Option Decided = Some (record { decision = decision.Committed; created_at = m }) in
-    let i = image-is r (forward_record r m) d (and_first (is_taken r) (not (is_in Committed r.columns)) loose) moment (image-open r d (held_of r loose)) in
+    let i = image-is r (forward_record r m) d (and_first (is_transactional r) (not (is_in Committed r.columns)) loose) moment (image-open r d (held_of r loose)) in
     record { key = i.key; taken = i.taken; committed = i.committed }
 
 -- And so is what it is rolled back to.
 pub before_firm : (r b : Record) → is_unresolved r ≡ true → before_record r ≡ Some b → IsFirm r.key b
 before_firm r b loose says =
-    let i = image-is r b None (and_first (is_taken r) (not (is_in Committed r.columns)) loose) tt (image-open r None (held_of r loose) ∙ says) in
+    let i = image-is r b None (and_first (is_transactional r) (not (is_in Committed r.columns)) loose) tt (image-open r None (held_of r loose) ∙ says) in
     record { key = i.key; taken = i.taken; committed = i.committed }
 
 ---- kinds
 
 -- What a record is by its columns it is.
 pub kinds_are : AreKinds kind_of
-kinds_are r = by (is_taken r) refl
+kinds_are r = by (is_transactional r) refl
   where
-    committed : (m : Meta) → is_taken r ≡ true → checked r.columns ≡ Ok m → (b : Bool) → is_committed m.state ≡ b → IsKind r (if b then Firm else Open m)
+    committed : (m : Meta) → is_transactional r ≡ true → checked r.columns ≡ Ok m → (b : Bool) → is_committed m.state ≡ b → IsKind r (if b then Firm else Open m)
     committed m taken says true t = (taken, checked-state r.columns m says ∙ t)
-    committed m taken says false f = (and_both (is_taken r) (not (is_in Committed r.columns)) taken (ap not (checked-state r.columns m says ∙ f)), says)
+    committed m taken says false f = (and_both (is_transactional r) (not (is_in Committed r.columns)) taken (ap not (checked-state r.columns m says ∙ f)), says)
 
-    at : (c : Result Meta (List ℕ)) → is_taken r ≡ true → checked r.columns ≡ c → IsKind r (kind_by c)
+    at : (c : Result Meta (List ℕ)) → is_transactional r ≡ true → checked r.columns ≡ c → IsKind r (kind_by c)
     at (Err column) taken says = tt
     at (Ok m) taken says = committed m taken says (is_committed m.state) refl
 
-    by : (b : Bool) → is_taken r ≡ b → IsKind r (if b then kind_by (checked r.columns) else Bad)
+    by : (b : Bool) → is_transactional r ≡ b → IsKind r (if b then kind_by (checked r.columns) else Bad)
     by true taken = at (checked r.columns) taken refl
     by false f = tt

@@ -27,13 +27,13 @@ use Rattle.sdb_model.specs.declared.answer.Answer.{Answer}
 use Rattle.sdb_model.specs.declared.event.Event.TheVariants as event
 use Rattle.sdb_model.specs.declared.event.How.{How}
 use Rattle.sdb_model.specs.Rows.{Name}
-use Rattle.sdb_laws.specs.Lawful.{Played, IsShown, IsHeldShown, IsSettled, Itself, Forward, Back, plays}
+use Rattle.sdb_laws.specs.Lawful.{Labelled, IsObserved, IsPreparedObserved, IsSettled, Itself, Forward, Back, labelled_with}
 use Rattle.sdb_phases.specs.declared.step.RecoverStep.{RecoverStep}
 use Rattle.sdb_phases.specs.declared.step.RecoverStep.TheVariants as steps
 use Rattle.sdb_phases.specs.declared.step.RecoverPhase.{RecoverPhase}
 use Rattle.sdb_phases.specs.Recover.{recover_next, recover_request_at}
-use Rattle.sdb_turns.specs.Reader.{RecoverOk, recover_role}
-use Rattle.sdb_turns.specs.ReadAt.{IsKind, AreKinds, ReadAt, Asking, Resolving, Done, Failed, read_pending, read_role, read_step, settle, settle_one, settle_reply, after_recovery, IsImage, IsLeft, IsOfData, Rise, InPlace, keys_of, ReadOk}
+use Rattle.sdb_turns.specs.Reader.{RecoverOk, recover_action}
+use Rattle.sdb_turns.specs.ReadAt.{IsKind, AreKinds, ReadAt, Asking, Resolving, Done, Failed, read_pending, read_action, read_step, settle, settle_one, settle_reply, after_recovery, IsImage, IsLeft, IsOfData, Rise, AreInOrder, keys_of, ReadOk}
 use Rattle.sdb_turns.proofs.Kept.{row_later}
 use Rattle.sdb_turns.proofs.Lists.{each_both, each_drop, each_more, each_unmap}
 use Rattle.sdb_turns.proofs.Meta.{meta_of}
@@ -45,21 +45,21 @@ use Rattle.sdb_model.specs.Tables.{is_data}
 
 ---- what stays
 
-held_later : (past : List Played) (q : Played) (t : ℕ) (k : Key) (r : Record) → IsHeldShown past t k r → IsHeldShown (q ∷ past) t k r
+held_later : (past : List Labelled) (q : Labelled) (t : ℕ) (k : Key) (r : Record) → IsPreparedObserved past t k r → IsPreparedObserved (q ∷ past) t k r
 held_later past q t k r h = record { shown = inr h.shown; key = h.key; held = h.held; writer = h.writer }
 
-pub settled_later : (past : List Played) (q : Played) (k : Key) (b : Record) → IsSettled past k b → IsSettled (q ∷ past) k b
+pub settled_later : (past : List Labelled) (q : Labelled) (k : Key) (b : Record) → IsSettled past k b → IsSettled (q ∷ past) k b
 settled_later past q k b (Itself shown key firm) = Itself (inr shown) key firm
 settled_later past q k b (Forward t r moment held row same) = Forward t r moment (held_later past q t k r held) (row_later q past t decision.Committed moment row) same
 settled_later past q k b (Back t r held same) = Back t r (held_later past q t k r held) same
 
-pub image_later : (past : List Played) (q : Played) (b : Record) → IsImage past b → IsImage (q ∷ past) b
+pub image_later : (past : List Labelled) (q : Labelled) (b : Record) → IsImage past b → IsImage (q ∷ past) b
 image_later past q b i = (settled_later past q b.key b i.0, i.1, i.2)
 
-pub images_later : (past : List Played) (q : Played) (images : List Record) → AllByRecursion (IsImage past) images → AllByRecursion (IsImage (q ∷ past)) images
+pub images_later : (past : List Labelled) (q : Labelled) (images : List Record) → AllByRecursion (IsImage past) images → AllByRecursion (IsImage (q ∷ past)) images
 images_later past q images all = each_any (IsImage past) (IsImage (q ∷ past)) images (λ b i. image_later past q b i) all
 
-pub left_later : (past : List Played) (q : Played) (left : List Record) → AllByRecursion (IsLeft past) left → AllByRecursion (IsLeft (q ∷ past)) left
+pub left_later : (past : List Labelled) (q : Labelled) (left : List Record) → AllByRecursion (IsLeft past) left → AllByRecursion (IsLeft (q ∷ past)) left
 left_later past q left all = each_any (IsLeft past) (IsLeft (q ∷ past)) left (λ x s. (inr s.0, s.1)) all
 
 ---- keys that rise
@@ -79,15 +79,15 @@ rise_drop : (xs : List Key) (k : Key) (ys : List Key) → Rise (xs ++ k ∷ ys) 
 rise_drop [] k ys h = h.1
 rise_drop (x ∷ xs) k ys h = (each_drop (λ q. key_cmp x q ≡ Less) xs k ys h.0, rise_drop xs k ys h.1)
 
-place_drop : (a : Access) (xs : List Key) (k : Key) (ys : List Key) → InPlace a (xs ++ k ∷ ys) → InPlace a (xs ++ ys)
+place_drop : (a : Access) (xs : List Key) (k : Key) (ys : List Key) → AreInOrder a (xs ++ k ∷ ys) → AreInOrder a (xs ++ ys)
 place_drop a xs k ys h = (rise_drop xs k ys h.0, each_drop (λ q. in_access a q ≡ true) xs k ys h.1)
 
 -- one image more, and the keys are the same
 keys_more : (images : List Record) (b : Record) (ks : List Key) → keys_of images ++ b.key ∷ ks ≡ keys_of (images ++ b ∷ []) ++ ks
 keys_more images b ks = sym (append_assoc (keys_of images) (b.key ∷ []) ks) ∙ ap (λ xs. xs ++ ks) (sym (map-append (λ (r : Record). r.key) images (b ∷ [])))
 
-place_more : (a : Access) (images : List Record) (b : Record) (k : Key) (ks : List Key) → b.key ≡ k → InPlace a (keys_of images ++ k ∷ ks) → InPlace a (keys_of (images ++ b ∷ []) ++ ks)
-place_more a images b k ks e h = subst (InPlace a) (ap (λ q. keys_of images ++ q ∷ ks) (sym e) ∙ keys_more images b ks) h
+place_more : (a : Access) (images : List Record) (b : Record) (k : Key) (ks : List Key) → b.key ≡ k → AreInOrder a (keys_of images ++ k ∷ ks) → AreInOrder a (keys_of (images ++ b ∷ []) ++ ks)
+place_more a images b k ks e h = subst (AreInOrder a) (ap (λ q. keys_of images ++ q ∷ ks) (sym e) ∙ keys_more images b ks) h
 
 differ_of : (k q : Key) → key_cmp k q ≡ Less → same_key q k ≡ false
 differ_of k q l = same_key_turned q k ∙ same_key_is k q ∙ ap is_eq l
@@ -108,8 +108,8 @@ inside_each span (r ∷ rs) h = (and_first (in_span span r.key) (list_all (λ x.
 
 ---- rows are settled
 
-pub settle_ok : (kind : Record → Kind) (past : List Played) (a : Access) (images left : List Record) → AreKinds kind → AllByRecursion (IsImage past) images → AllByRecursion (IsLeft past) left → InPlace a (keys_of images ++ keys_of left) → ReadOk past a (settle kind images left)
-settle_ok kind past a images [] kinds i l place = (i, subst (InPlace a) (append-nil (keys_of images)) place)
+pub settle_ok : (kind : Record → Kind) (past : List Labelled) (a : Access) (images left : List Record) → AreKinds kind → AllByRecursion (IsImage past) images → AllByRecursion (IsLeft past) left → AreInOrder a (keys_of images ++ keys_of left) → ReadOk past a (settle kind images left)
+settle_ok kind past a images [] kinds i l place = (i, subst (AreInOrder a) (append-nil (keys_of images)) place)
 settle_ok kind past a images (r ∷ left) kinds i l place = by (kind r) (kinds r) (λ firm. settle_ok kind past a (images ++ r ∷ []) left kinds (each_more (IsImage past) images r i (Itself l.0.0 refl firm.1, firm.0, firm.1)) l.1 (place_more a images r r.key (keys_of left) refl place))
   where
     by : (x : Kind) → IsKind r x → (IsKind r Firm → ReadOk past a (settle kind (images ++ r ∷ []) left)) → ReadOk past a (settle_one x images r left (settle kind (images ++ r ∷ []) left))
@@ -120,14 +120,14 @@ settle_ok kind past a images (r ∷ left) kinds i l place = by (kind r) (kinds r
 ---- the first reply
 
 -- the rows of a reply were shown
-pub rows_left : (past : List Played) (q : Played) (rs : List Record) → ((x : Record) → record_among rs x.key ≡ Some x → IsShown (q ∷ past) x) → Rise (keys_of rs) → AllByRecursion (λ k. is_data k ≡ true) (keys_of rs) → AllByRecursion (IsLeft (q ∷ past)) rs
+pub rows_left : (past : List Labelled) (q : Labelled) (rs : List Record) → ((x : Record) → record_among rs x.key ≡ Some x → IsObserved (q ∷ past) x) → Rise (keys_of rs) → AllByRecursion (λ k. is_data k ≡ true) (keys_of rs) → AllByRecursion (IsLeft (q ∷ past)) rs
 rows_left past q rs shown up outside = each_both (λ x. record_among rs x.key ≡ Some x) (λ x. is_data x.key ≡ true) (IsLeft (q ∷ past)) rs (λ x f d. (shown x f, d)) (found_each rs up) (each_unmap (λ k. is_data k ≡ true) (λ (x : Record). x.key) rs outside)
 
 key_itself : (k q : Key) → q ≡ k → in_access (access.Get k) q ≡ true
 key_itself k q e = subst (λ x. is_eq (key_cmp k x) ≡ true) (sym e) (ap is_eq (tied_itself key_total k))
 
-pub asked_ok : (kind : Record → Kind) (past : List Played) (c : ℕ) (a : Access) (store : Name) (how : How) (r : Reply) (answer : Option Answer) → AreKinds kind → IsOfData a → CanAnswer (request_of a) r
-    → ReadOk (plays Rattle.sdb_laws.specs.History.Other (event.Call c store (request_of a) how r answer) ∷ past) a (settle_reply kind r)
+pub asked_ok : (kind : Record → Kind) (past : List Labelled) (c : ℕ) (a : Access) (store : Name) (how : How) (r : Reply) (answer : Option Answer) → AreKinds kind → IsOfData a → CanAnswer (request_of a) r
+    → ReadOk (labelled_with Rattle.sdb_laws.specs.History.Other (event.Call c store (request_of a) how r answer) ∷ past) a (settle_reply kind r)
 asked_ok kind past c (access.Get k) store how reply.Fault answer kinds tables can = tt
 asked_ok kind past c (access.Get k) store how reply.NoMemory answer kinds tables can = tt
 asked_ok kind past c (access.Get k) store how reply.Applied answer kinds tables can = absurd can
@@ -136,7 +136,7 @@ asked_ok kind past c (access.Get k) store how (reply.Rows rows) answer kinds tab
 asked_ok kind past c (access.Get k) store how (reply.Found None) answer kinds tables can = (tt, (tt, tt))
 asked_ok kind past c (access.Get k) store how (reply.Found (Some r)) answer kinds tables can =
     let here = key_itself k r.key can in
-    settle_ok kind (plays Rattle.sdb_laws.specs.History.Other (event.Call c store (ask.Get k) how (reply.Found (Some r)) answer) ∷ past) (access.Get k) [] (r ∷ []) kinds tt ((inl refl, tables r.key here), tt) ((tt, tt), (here, tt))
+    settle_ok kind (labelled_with Rattle.sdb_laws.specs.History.Other (event.Call c store (ask.Get k) how (reply.Found (Some r)) answer) ∷ past) (access.Get k) [] (r ∷ []) kinds tt ((inl refl, tables r.key here), tt) ((tt, tt), (here, tt))
 asked_ok kind past c (access.Scan span) store how reply.Fault answer kinds tables can = tt
 asked_ok kind past c (access.Scan span) store how reply.NoMemory answer kinds tables can = tt
 asked_ok kind past c (access.Scan span) store how reply.Applied answer kinds tables can = absurd can
@@ -145,28 +145,28 @@ asked_ok kind past c (access.Scan span) store how (reply.Found found) answer kin
 asked_ok kind past c (access.Scan span) store how (reply.Rows rows) answer kinds tables can =
     let up = rise_is rows (and_first (rise rows) (list_all (λ r. in_span span r.key) rows) can) in
     let inside = inside_each span rows (and_second (rise rows) (list_all (λ r. in_span span r.key) rows) can) in
-    let q : Played = plays Rattle.sdb_laws.specs.History.Other (event.Call c store (ask.Scan span) how (reply.Rows rows) answer) in
+    let q : Labelled = labelled_with Rattle.sdb_laws.specs.History.Other (event.Call c store (ask.Scan span) how (reply.Rows rows) answer) in
     settle_ok kind (q ∷ past) (access.Scan span) [] rows kinds tt (rows_left past q rows (λ x f. inl f) up (each_any (λ k. in_span span k ≡ true) (λ k. is_data k ≡ true) (keys_of rows) tables inside)) (up, inside)
 
 ---- a reply to a recovery
 
-image_key : (past : List Played) (k : Key) (b : Record) → IsImageOf past k b → IsImage past b
+image_key : (past : List Labelled) (k : Key) (b : Record) → IsImageOf past k b → IsImage past b
 image_key past k b s = (subst (λ x. IsSettled past x b) (sym s.1.key) s.0, s.1.taken, s.1.committed)
 
-pub image_after : (past : List Played) (q : Played) (rec : Record) (meta : Meta) (p : RecoverPhase) (now : ℤ) (r : Reply) (b : Record) → RecoverOk past rec meta p → (recover_next rec meta p now r).1 ≡ steps.Image (Some b) → IsImage (q ∷ past) b × (b.key ≡ rec.key)
+pub image_after : (past : List Labelled) (q : Labelled) (rec : Record) (meta : Meta) (p : RecoverPhase) (now : ℤ) (r : Reply) (b : Record) → RecoverOk past rec meta p → (recover_next rec meta p now r).1 ≡ steps.Image (Some b) → IsImage (q ∷ past) b × (b.key ≡ rec.key)
 image_after past q rec meta p now r b ok says = let i = image_settled past rec meta p now r b ok says in (image_later past q b (image_key past rec.key b i), i.1.key)
 
-pub recover_kept : (past : List Played) (c : ℕ) (rec : Record) (meta : Meta) (p : RecoverPhase) (now : ℤ) (store : Name) (q : Request) (how : How) (r : Reply) (a : Option Answer) → RecoverOk past rec meta p → recover_request_at rec meta p ≡ Some q → CanAnswer q r → is_moment now ≡ true
-    → RecoverOk (plays (recover_role rec meta p r) (event.Call c store q how r a) ∷ past) rec meta (recover_next rec meta p now r).0
+pub recover_kept : (past : List Labelled) (c : ℕ) (rec : Record) (meta : Meta) (p : RecoverPhase) (now : ℤ) (store : Name) (q : Request) (how : How) (r : Reply) (a : Option Answer) → RecoverOk past rec meta p → recover_request_at rec meta p ≡ Some q → CanAnswer q r → is_moment now ≡ true
+    → RecoverOk (labelled_with (recover_action rec meta p r) (event.Call c store q how r a) ∷ past) rec meta (recover_next rec meta p now r).0
 recover_kept past c rec meta p now store q how r a ok asked can moment = record { of = ok.of; unresolved = ok.unresolved; shown = inr ok.shown; outside = ok.outside; phase = phase_kept past c rec meta p now store q how r a ok asked can moment }
 
-resolved_ok : (kind : Record → Kind) (past : List Played) (a : Access) (c : ℕ) (images : List Record) (rec : Record) (meta : Meta) (p : RecoverPhase) (left : List Record) (now : ℤ) (store : Name) (q : Request) (how : How) (r : Reply) (answer : Option Answer)
+resolved_ok : (kind : Record → Kind) (past : List Labelled) (a : Access) (c : ℕ) (images : List Record) (rec : Record) (meta : Meta) (p : RecoverPhase) (left : List Record) (now : ℤ) (store : Name) (q : Request) (how : How) (r : Reply) (answer : Option Answer)
     → AreKinds kind → ReadOk past a (Resolving images rec meta p left) → recover_request_at rec meta p ≡ Some q → CanAnswer q r → is_moment now ≡ true
-    → ReadOk (plays (recover_role rec meta p r) (event.Call c store q how r answer) ∷ past) a (after_recovery kind images rec meta left (recover_next rec meta p now r))
+    → ReadOk (labelled_with (recover_action rec meta p r) (event.Call c store q how r answer) ∷ past) a (after_recovery kind images rec meta left (recover_next rec meta p now r))
 resolved_ok kind past a c images rec meta p left now store q how r answer kinds ok asked can moment = by (recover_next rec meta p now r) refl
   where
-    one : Played
-    one = plays (recover_role rec meta p r) (event.Call c store q how r answer)
+    one : Labelled
+    one = labelled_with (recover_action rec meta p r) (event.Call c store q how r answer)
 
     images_now : AllByRecursion (IsImage (one ∷ past)) images
     images_now = images_later past one images ok.0
@@ -186,10 +186,10 @@ resolved_ok kind past a c images rec meta p left now store q how r answer kinds 
     by (n, steps.NoMemory) e = tt
 
 -- A reply leaves a read knowing of each image that it came to it.
-pub read_kept : (kind : Record → Kind) (past : List Played) (a : Access) (c : ℕ) (s : ReadAt) (now : ℤ) (store : Name) (q : Request) (how : How) (r : Reply) (answer : Option Answer)
+pub read_kept : (kind : Record → Kind) (past : List Labelled) (a : Access) (c : ℕ) (s : ReadAt) (now : ℤ) (store : Name) (q : Request) (how : How) (r : Reply) (answer : Option Answer)
     → AreKinds kind → IsOfData a → ReadOk past a s → read_pending a s ≡ Some q → CanAnswer q r → is_moment now ≡ true
-    → ReadOk (plays (read_role s r) (event.Call c store q how r answer) ∷ past) a (read_step kind s now r)
-read_kept kind past a c Asking now store q how r answer kinds tables ok asked can moment = subst (λ x. CanAnswer x r → ReadOk (plays Rattle.sdb_laws.specs.History.Other (event.Call c store x how r answer) ∷ past) a (settle_reply kind r)) (some_is (request_of a) q asked) (asked_ok kind past c a store how r answer kinds tables) can
+    → ReadOk (labelled_with (read_action s r) (event.Call c store q how r answer) ∷ past) a (read_step kind s now r)
+read_kept kind past a c Asking now store q how r answer kinds tables ok asked can moment = subst (λ x. CanAnswer x r → ReadOk (labelled_with Rattle.sdb_laws.specs.History.Other (event.Call c store x how r answer) ∷ past) a (settle_reply kind r)) (some_is (request_of a) q asked) (asked_ok kind past c a store how r answer kinds tables) can
   where
     some_is : (x y : Request) → Some x ≡ Some y → x ≡ y
     some_is x y e = cc

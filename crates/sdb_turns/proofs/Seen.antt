@@ -25,9 +25,9 @@ use Rattle.sdb_record.specs.Meta.{id_in, is_moment}
 use Rattle.sdb_record.specs.Moved.{version_of, same_version}
 use Rattle.sdb_record.specs.Rolls.{IsBaseOf, IsWrite}
 use Rattle.sdb_record.specs.Among.{version_among}
-use Rattle.sdb_laws.specs.Lawful.{Played, IsSettled}
+use Rattle.sdb_laws.specs.Lawful.{Labelled, IsSettled}
 use Rattle.sdb_phases.specs.Checks.{base_of}
-use Rattle.sdb_snapshot.specs.Noted.{Note, IsUnmoved, has_moved, is_noted, base_at, with_note, with_images, reads_of}
+use Rattle.sdb_snapshot.specs.Reads.{ReadRecord, IsUnmoved, has_changed, is_key_read, base_at, with_read_record, with_images, reads_of}
 use Rattle.sdb_snapshot.specs.Written as snap
 use Rattle.sdb_snapshot.specs.Written.{AreChanges, HaveBases}
 use Rattle.sdb_snapshot.specs.Seen.{Seen, nothing, with_get, with_scan, with_written}
@@ -35,8 +35,8 @@ use Rattle.sdb_snapshot.proofs.Keys.{value_last}
 use Rattle.sdb_snapshot.proofs.Differences.{or_there, noted_images}
 use Rattle.sdb_snapshot.proofs.Owned.{kept_get, kept_scan, kept_either, Keeps}
 use Rattle.sdb_validate.specs.Rescan.{reads_rise, starts_behind}
-use Rattle.sdb_turns.specs.Noted.{VersionSettled, IsReadThere, IsNoteOk, IsReadOk, IsScanOk, IsFoundOk, is_found, was_read, was_found, SeenOk, first_image, with_read, MayNote, work_of, ReadAgrees, Sound, Settled}
-use Rattle.sdb_turns.specs.ReadAt.{IsImage, IsOfData, Rise, InPlace, keys_of}
+use Rattle.sdb_turns.specs.Reads.{VersionSettled, IsReadThere, IsReadItemOk, IsReadOk, IsScanOk, IsFoundOk, is_found, was_read, was_found, SeenOk, first_image, with_read, MayRecord, work_of, ReadAgrees, Sound, Settled}
+use Rattle.sdb_turns.specs.ReadAt.{IsImage, IsOfData, Rise, AreInOrder, keys_of}
 use Rattle.sdb_turns.proofs.Lists.{each_both, each_more, each_unmap}
 use Rattle.sdb_turns.proofs.Rows.{settled_later}
 use Rattle.sdb_types.proofs.Basics.{or_else, all_each as each_any}
@@ -45,40 +45,40 @@ use Rattle.sdb_model.specs.Tables.{is_data}
 
 ---- what stays
 
-pub version_later : (past : List Played) (q : Played) (k : Key) (v : Option TxId) → VersionSettled past k v → VersionSettled (q ∷ past) k v
+pub version_later : (past : List Labelled) (q : Labelled) (k : Key) (v : Option TxId) → VersionSettled past k v → VersionSettled (q ∷ past) k v
 version_later past q k None h = tt
 version_later past q k (Some u) h = (h.0, settled_later past q k h.0 h.1, h.2)
 
-note_later : (past : List Played) (q : Played) (e : Note) → IsNoteOk past e → IsNoteOk (q ∷ past) e
+note_later : (past : List Labelled) (q : Labelled) (e : ReadRecord) → IsReadItemOk past e → IsReadItemOk (q ∷ past) e
 note_later past q (k, None) h = (h.0, tt)
 note_later past q (k, Some b) h = (h.0, settled_later past q k b h.1)
 
-pub seen_later : (past : List Played) (q : Played) (s : Seen) → SeenOk past s → SeenOk (q ∷ past) s
+pub seen_later : (past : List Labelled) (q : Labelled) (s : Seen) → SeenOk past s → SeenOk (q ∷ past) s
 seen_later past q s ok = record {
   kept = ok.kept;
   found = ok.found;
-  noted = ok.noted;
-  notes = each_any (IsNoteOk past) (IsNoteOk (q ∷ past)) s.notes (λ e h. note_later past q e h) ok.notes;
+  as_read = ok.as_read;
+  read_set = each_any (IsReadItemOk past) (IsReadItemOk (q ∷ past)) s.read_set (λ e h. note_later past q e h) ok.read_set;
   reads = ok.reads;
   scans = each_any (IsScanOk past) (IsScanOk (q ∷ past)) s.scans (λ x h. (h.0, λ k inside. ((h.1 k inside).0, version_later past q k (version_among x.found k) (h.1 k inside).1))) ok.scans;
 }
 
-pub seen_nothing : (past : List Played) → SeenOk past nothing
-seen_nothing past = record { kept = record { read = λ q w. absurd (cc (w)); bases = tt; fine = tt; based = tt; once = tt }; notes = tt; reads = tt; scans = tt; found = tt; noted = λ q n. absurd (cc (n)) }
+pub seen_nothing : (past : List Labelled) → SeenOk past nothing
+seen_nothing past = record { kept = record { read = λ q w. absurd (cc (w)); bases = tt; valid = tt; based = tt; once = tt }; read_set = tt; reads = tt; scans = tt; found = tt; as_read = λ q n. absurd (cc (n)) }
 
----- notes
+---- read items
 
-read_keeps : (notes later : List Note) (r : Read) → Keeps notes later → IsReadOk notes r → IsReadOk later r
-read_keeps notes later r keeps ok = (ap is_some (keeps r.key ok.0) ∙ ok.0, ok.1 ∙ ap (λ o. version_of (option_and_then (λ x. x) o)) (sym (keeps r.key ok.0)))
+read_keeps : (read_set later : List ReadRecord) (r : Read) → Keeps read_set later → IsReadOk read_set r → IsReadOk later r
+read_keeps read_set later r keeps ok = (ap is_some (keeps r.key ok.0) ∙ ok.0, ok.1 ∙ ap (λ o. version_of (option_and_then (λ x. x) o)) (sym (keeps r.key ok.0)))
 
-reads_keep : (notes later : List Note) (rs : List Read) → Keeps notes later → AllByRecursion (IsReadOk notes) rs → AllByRecursion (IsReadOk later) rs
-reads_keep notes later rs keeps all = each_any (IsReadOk notes) (IsReadOk later) rs (λ r ok. read_keeps notes later r keeps ok) all
+reads_keep : (read_set later : List ReadRecord) (rs : List Read) → Keeps read_set later → AllByRecursion (IsReadOk read_set) rs → AllByRecursion (IsReadOk later) rs
+reads_keep read_set later rs keeps all = each_any (IsReadOk read_set) (IsReadOk later) rs (λ r ok. read_keeps read_set later r keeps ok) all
 
-found_keeps : (notes later : List Note) (x : Scan) → Keeps notes later → IsFoundOk notes x → IsFoundOk later x
-found_keeps notes later x keeps ok q f = (ap is_some (keeps q (ok q f).0) ∙ (ok q f).0, ap (λ o. version_of (option_and_then (λ y. y) o)) (keeps q (ok q f).0) ∙ (ok q f).1)
+found_keeps : (read_set later : List ReadRecord) (x : Scan) → Keeps read_set later → IsFoundOk read_set x → IsFoundOk later x
+found_keeps read_set later x keeps ok q f = (ap is_some (keeps q (ok q f).0) ∙ (ok q f).0, ap (λ o. version_of (option_and_then (λ y. y) o)) (keeps q (ok q f).0) ∙ (ok q f).1)
 
-scans_keep : (notes later : List Note) (xs : List Scan) → Keeps notes later → AllByRecursion (IsFoundOk notes) xs → AllByRecursion (IsFoundOk later) xs
-scans_keep notes later xs keeps all = each_any (IsFoundOk notes) (IsFoundOk later) xs (λ x ok. found_keeps notes later x keeps ok) all
+scans_keep : (read_set later : List ReadRecord) (xs : List Scan) → Keeps read_set later → AllByRecursion (IsFoundOk read_set) xs → AllByRecursion (IsFoundOk later) xs
+scans_keep read_set later xs keeps all = each_any (IsFoundOk read_set) (IsFoundOk later) xs (λ x ok. found_keeps read_set later x keeps ok) all
 
 -- one read more, or one scan more
 read_more : (rs : List Read) (xs : List Scan) (r : Read) (q : Key) → ((was_read rs q || was_found xs q) ≡ true) ⊎ (same_key q r.key ≡ true) → (was_read (rs ++ r ∷ []) q || was_found xs q) ≡ true
@@ -98,12 +98,12 @@ none_is None h = refl
 none_is (Some x) h = absurd (cc)
 
 -- what was noted last, at a key that was not noted
-last_noted : (notes : List Note) (k : Key) (f : Option Record) → is_noted notes k ≡ false → value_at (notes ++ (k, f) ∷ []) k ≡ Some f
-last_noted notes k f free = value_last notes k f k ∙ ap (λ o. or_else o (cond (same_key k k) (Some f) None)) (none_is (value_at notes k) free) ∙ ap (λ b. cond b (Some f) None) (same_key_self k)
+last_noted : (read_set : List ReadRecord) (k : Key) (f : Option Record) → is_key_read read_set k ≡ false → value_at (read_set ++ (k, f) ∷ []) k ≡ Some f
+last_noted read_set k f free = value_last read_set k f k ∙ ap (λ o. or_else o (cond (same_key k k) (Some f) None)) (none_is (value_at read_set k) free) ∙ ap (λ b. cond b (Some f) None) (same_key_self k)
 
 ---- a get
 
-first_base : (past : List Played) (k : Key) (images : List Record) → AllByRecursion (IsImage past) images → InPlace (access.Get k) (keys_of images) → IfSome (first_image images) (λ b. IsBaseOf k b × IsSettled past k b)
+first_base : (past : List Labelled) (k : Key) (images : List Record) → AllByRecursion (IsImage past) images → AreInOrder (access.Get k) (keys_of images) → IfSome (first_image images) (λ b. IsBaseOf k b × IsSettled past k b)
 first_base past k [] all place = tt
 first_base past k (b ∷ bs) all place =
     let same : b.key ≡ k = sym (key_exact k b.key (tied_is (key_cmp k b.key) place.1.0)) in
@@ -114,23 +114,23 @@ first_base past k (b ∷ bs) all place =
     tied_is Rattle.std.specs.declared.cmp.Ordering.TheVariants.Equal h = refl
     tied_is Rattle.std.specs.declared.cmp.Ordering.TheVariants.Greater h = absurd (cc)
 
-get_noted : (past : List Played) (s : Seen) (k : Key) (f : Option Record) → SeenOk past s → is_data k ≡ true → is_noted s.notes k ≡ false → IfSome f (λ b. IsBaseOf k b × IsSettled past k b) → SeenOk past (with_get s k f)
+get_noted : (past : List Labelled) (s : Seen) (k : Key) (f : Option Record) → SeenOk past s → is_data k ≡ true → is_key_read s.read_set k ≡ false → IfSome f (λ b. IsBaseOf k b × IsSettled past k b) → SeenOk past (with_get s k f)
 get_noted past s k f ok outside free found = record {
-  kept = kept_get s.notes s.writes k f ok.kept (base f found);
-  notes = each_more (IsNoteOk past) s.notes (k, f) ok.notes (outside, settled f found);
-  reads = each_more (IsReadOk later) s.reads (record { key = k; version = version_of f }) (reads_keep s.notes later s.reads (λ q h. value_last s.notes k f q ∙ or_there (value_at s.notes q) (cond (same_key q k) (Some f) None) h) ok.reads) (ap is_some (last_noted s.notes k f free), ap (λ o. version_of (option_and_then (λ x. x) o)) (sym (last_noted s.notes k f free)));
+  kept = kept_get s.read_set s.writes k f ok.kept (base f found);
+  read_set = each_more (IsReadItemOk past) s.read_set (k, f) ok.read_set (outside, settled f found);
+  reads = each_more (IsReadOk later) s.reads (record { key = k; version = version_of f }) (reads_keep s.read_set later s.reads (λ q h. value_last s.read_set k f q ∙ or_there (value_at s.read_set q) (cond (same_key q k) (Some f) None) h) ok.reads) (ap is_some (last_noted s.read_set k f free), ap (λ o. version_of (option_and_then (λ x. x) o)) (sym (last_noted s.read_set k f free)));
   scans = ok.scans;
-  found = scans_keep s.notes later s.scans (λ q h. value_last s.notes k f q ∙ or_there (value_at s.notes q) (cond (same_key q k) (Some f) None) h) ok.found;
-  noted = λ q n. read_more s.reads s.scans (record { key = k; version = version_of f }) q (by q (value_at s.notes q) (same_key q k) refl refl (ap is_some (sym (value_last s.notes k f q)) ∙ n));
+  found = scans_keep s.read_set later s.scans (λ q h. value_last s.read_set k f q ∙ or_there (value_at s.read_set q) (cond (same_key q k) (Some f) None) h) ok.found;
+  as_read = λ q n. read_more s.reads s.scans (record { key = k; version = version_of f }) q (by q (value_at s.read_set q) (same_key q k) refl refl (ap is_some (sym (value_last s.read_set k f q)) ∙ n));
 }
   where
-    by : (q : Key) (o : Option (Option Record)) (b : Bool) → value_at s.notes q ≡ o → same_key q k ≡ b → is_some (or_else o (cond b (Some f) None)) ≡ true → ((was_read s.reads q || was_found s.scans q) ≡ true) ⊎ (same_key q k ≡ true)
-    by q (Some x) b e t n = inl (ok.noted q (ap is_some e))
+    by : (q : Key) (o : Option (Option Record)) (b : Bool) → value_at s.read_set q ≡ o → same_key q k ≡ b → is_some (or_else o (cond b (Some f) None)) ≡ true → ((was_read s.reads q || was_found s.scans q) ≡ true) ⊎ (same_key q k ≡ true)
+    by q (Some x) b e t n = inl (ok.as_read q (ap is_some e))
     by q None true e t n = inr t
     by q None false e t n = absurd (cc (n))
 
-    later : List Note
-    later = s.notes ++ (k, f) ∷ []
+    later : List ReadRecord
+    later = s.read_set ++ (k, f) ∷ []
 
     base : (o : Option Record) → IfSome o (λ b. IsBaseOf k b × IsSettled past k b) → IfSome o (IsBaseOf k)
     base None h = tt
@@ -143,16 +143,16 @@ get_noted past s k f ok outside free found = record {
 ---- a scan
 
 -- each image of a table
-abbrev IsTableImage : List Played → Record → Type 0
+abbrev IsTableImage : List Labelled → Record → Type 0
 IsTableImage past b = IsImage past b × (is_data b.key ≡ true)
 
-notes_images : (past : List Played) (notes : List Note) (rs : List Record) → AllByRecursion (IsNoteOk past) notes → AllByRecursion (IsTableImage past) rs → AllByRecursion (IsNoteOk past) (with_images notes rs)
-notes_images past notes [] n i = n
-notes_images past notes (r ∷ rs) n i = notes_images past (with_note notes r.key (Some r)) rs (by (is_noted notes r.key)) i.1
+notes_images : (past : List Labelled) (read_set : List ReadRecord) (rs : List Record) → AllByRecursion (IsReadItemOk past) read_set → AllByRecursion (IsTableImage past) rs → AllByRecursion (IsReadItemOk past) (with_images read_set rs)
+notes_images past read_set [] n i = n
+notes_images past read_set (r ∷ rs) n i = notes_images past (with_read_record read_set r.key (Some r)) rs (by (is_key_read read_set r.key)) i.1
   where
-    by : (b : Bool) → AllByRecursion (IsNoteOk past) (if b then notes else notes ++ (r.key, Some r) ∷ [])
+    by : (b : Bool) → AllByRecursion (IsReadItemOk past) (if b then read_set else read_set ++ (r.key, Some r) ∷ [])
     by true = n
-    by false = each_more (IsNoteOk past) notes (r.key, Some r) n (i.0.1, i.0.0.0)
+    by false = each_more (IsReadItemOk past) read_set (r.key, Some r) n (i.0.1, i.0.0.0)
 
 rise_read : (rs : List Record) → Rise (keys_of rs) → reads_rise (reads_of rs) ≡ true
 rise_read [] h = refl
@@ -162,11 +162,11 @@ rise_read (r ∷ rs) h = ap (λ b. b && reads_rise (reads_of rs)) (starts rs h.0
     starts [] a = refl
     starts (x ∷ xs) a = ap is_lt a.0
 
-version_here : (past : List Played) (k : Key) (b : Record) (v : Option TxId) → IsSettled past k b → id_in b.columns ≡ v → VersionSettled past k v
+version_here : (past : List Labelled) (k : Key) (b : Record) (v : Option TxId) → IsSettled past k b → id_in b.columns ≡ v → VersionSettled past k v
 version_here past k b None s e = tt
 version_here past k b (Some u) s e = (b, s, e)
 
-version_read : (past : List Played) (rs : List Record) (k : Key) → AllByRecursion (IsImage past) rs → VersionSettled past k (version_among (reads_of rs) k)
+version_read : (past : List Labelled) (rs : List Record) (k : Key) → AllByRecursion (IsImage past) rs → VersionSettled past k (version_among (reads_of rs) k)
 version_read past [] k all = tt
 version_read past (r ∷ rs) k all = by (same_key_tells k r.key) (version_read past rs k all.1)
   where
@@ -211,8 +211,8 @@ same_is_one (Some a) (Some b) h = ap (λ n. Some (record { 0 = n })) (equal a.0 
     equal x y h = grind (Rattle.std.proofs.Common.arith, Rattle.std.proofs.lemmas.Bool.Decides.nat_tests)
 
 -- what a scan that differs nowhere found is noted
-found_noted : (notes : List Note) (span : Span) (rs : List Record) → IsUnmoved notes span rs → AllByRecursion (λ k. in_span span k ≡ true) (keys_of rs) → IsFoundOk (with_images notes rs) (record { span = span; found = reads_of rs })
-found_noted notes span rs unmoved inside q f = by (value_at notes q) (record_among rs q) refl refl
+found_noted : (read_set : List ReadRecord) (span : Span) (rs : List Record) → IsUnmoved read_set span rs → AllByRecursion (λ k. in_span span k ≡ true) (keys_of rs) → IsFoundOk (with_images read_set rs) (record { span = span; found = reads_of rs })
+found_noted read_set span rs unmoved inside q f = by (value_at read_set q) (record_among rs q) refl refl
   where
     there : is_some (record_among rs q) ≡ true
     there = sym (found_is rs q) ∙ f
@@ -221,31 +221,31 @@ found_noted notes span rs unmoved inside q f = by (value_at notes q) (record_amo
     not_false true e = refl
     not_false false e = absurd (cc (e))
 
-    by : (o : Option (Option Record)) (p : Option Record) → value_at notes q ≡ o → record_among rs q ≡ p → (is_noted (with_images notes rs) q ≡ true) × (version_of (base_at (with_images notes rs) q) ≡ version_among (reads_of rs) q)
+    by : (o : Option (Option Record)) (p : Option Record) → value_at read_set q ≡ o → record_among rs q ≡ p → (is_key_read (with_images read_set rs) q ≡ true) × (version_of (base_at (with_images read_set rs) q) ≡ version_among (reads_of rs) q)
     by o None e g = absurd (clash (sym there ∙ ap is_some g))
       where
         clash : true ≡ false → ⊥
         clash x = cc
     by None (Some b) e g =
-        let at : value_at (with_images notes rs) q ≡ Some (Some b) = noted_images notes rs q ∙ ap (λ x. or_else x (option_map Some (record_among rs q))) e ∙ ap (option_map Some) g in
+        let at : value_at (with_images read_set rs) q ≡ Some (Some b) = noted_images read_set rs q ∙ ap (λ x. or_else x (option_map Some (record_among rs q))) e ∙ ap (option_map Some) g in
         (ap is_some at, ap (λ x. version_of (option_and_then (λ y. y) x)) at ∙ sym (version_found rs q ∙ ap version_of g))
     by (Some x) (Some b) e g =
-        let at : value_at (with_images notes rs) q ≡ Some x = noted_images notes rs q ∙ ap (λ y. or_else y (option_map Some (record_among rs q))) e in
-        let same : same_version (version_of x) (version_of (record_among rs q)) ≡ true = not_false (same_version (version_of x) (version_of (record_among rs q))) (sym (ap (λ y. has_moved y (record_among rs q)) e) ∙ unmoved q (found_inside span rs q inside there)) in
+        let at : value_at (with_images read_set rs) q ≡ Some x = noted_images read_set rs q ∙ ap (λ y. or_else y (option_map Some (record_among rs q))) e in
+        let same : same_version (version_of x) (version_of (record_among rs q)) ≡ true = not_false (same_version (version_of x) (version_of (record_among rs q))) (sym (ap (λ y. has_changed y (record_among rs q)) e) ∙ unmoved q (found_inside span rs q inside there)) in
         (ap is_some at, ap (λ y. version_of (option_and_then (λ z. z) y)) at ∙ same_is_one (version_of x) (version_of (record_among rs q)) same ∙ sym (version_found rs q))
 
-scan_noted : (past : List Played) (s : Seen) (span : Span) (rs : List Record) → SeenOk past s → IsOfData (access.Scan span) → IsUnmoved s.notes span rs → AllByRecursion (IsImage past) rs → InPlace (access.Scan span) (keys_of rs) → SeenOk past (with_scan s span rs)
+scan_noted : (past : List Labelled) (s : Seen) (span : Span) (rs : List Record) → SeenOk past s → IsOfData (access.Scan span) → IsUnmoved s.read_set span rs → AllByRecursion (IsImage past) rs → AreInOrder (access.Scan span) (keys_of rs) → SeenOk past (with_scan s span rs)
 scan_noted past s span rs ok tables unmoved all place = record {
-  kept = kept_scan s.notes s.writes rs ok.kept (each_any (IsImage past) (λ r. IsBaseOf r.key r) rs (λ r i. (refl, i.1, i.2)) all);
-  notes = notes_images past s.notes rs ok.notes (each_both (IsImage past) (λ r. in_span span r.key ≡ true) (IsTableImage past) rs (λ r i inside. (i, tables r.key inside)) all (each_unmap (λ k. in_span span k ≡ true) (λ (r : Record). r.key) rs place.1));
-  reads = reads_keep s.notes (with_images s.notes rs) s.reads (λ q h. noted_images s.notes rs q ∙ or_there (value_at s.notes q) _ h) ok.reads;
+  kept = kept_scan s.read_set s.writes rs ok.kept (each_any (IsImage past) (λ r. IsBaseOf r.key r) rs (λ r i. (refl, i.1, i.2)) all);
+  read_set = notes_images past s.read_set rs ok.read_set (each_both (IsImage past) (λ r. in_span span r.key ≡ true) (IsTableImage past) rs (λ r i inside. (i, tables r.key inside)) all (each_unmap (λ k. in_span span k ≡ true) (λ (r : Record). r.key) rs place.1));
+  reads = reads_keep s.read_set (with_images s.read_set rs) s.reads (λ q h. noted_images s.read_set rs q ∙ or_there (value_at s.read_set q) _ h) ok.reads;
   scans = each_more (IsScanOk past) s.scans (record { span = span; found = reads_of rs }) ok.scans (rise_read rs place.0, λ k inside. (tables k inside, version_read past rs k all));
-  found = each_more (IsFoundOk (with_images s.notes rs)) s.scans (record { span = span; found = reads_of rs }) (scans_keep s.notes (with_images s.notes rs) s.scans (λ q h. noted_images s.notes rs q ∙ or_there (value_at s.notes q) _ h) ok.found) (found_noted s.notes span rs unmoved place.1);
-  noted = λ q n. scan_more s.reads s.scans (record { span = span; found = reads_of rs }) q (by q (value_at s.notes q) (record_among rs q) refl refl (ap is_some (sym (noted_images s.notes rs q)) ∙ n));
+  found = each_more (IsFoundOk (with_images s.read_set rs)) s.scans (record { span = span; found = reads_of rs }) (scans_keep s.read_set (with_images s.read_set rs) s.scans (λ q h. noted_images s.read_set rs q ∙ or_there (value_at s.read_set q) _ h) ok.found) (found_noted s.read_set span rs unmoved place.1);
+  as_read = λ q n. scan_more s.reads s.scans (record { span = span; found = reads_of rs }) q (by q (value_at s.read_set q) (record_among rs q) refl refl (ap is_some (sym (noted_images s.read_set rs q)) ∙ n));
 }
   where
-    by : (q : Key) (o : Option (Option Record)) (p : Option Record) → value_at s.notes q ≡ o → record_among rs q ≡ p → is_some (or_else o (option_map Some (record_among rs q))) ≡ true → ((was_read s.reads q || was_found s.scans q) ≡ true) ⊎ ((in_span span q && list_any (λ (r : Read). same_key q r.key) (reads_of rs)) ≡ true)
-    by q (Some x) p e g n = inl (ok.noted q (ap is_some e))
+    by : (q : Key) (o : Option (Option Record)) (p : Option Record) → value_at s.read_set q ≡ o → record_among rs q ≡ p → is_some (or_else o (option_map Some (record_among rs q))) ≡ true → ((was_read s.reads q || was_found s.scans q) ≡ true) ⊎ ((in_span span q && list_any (λ (r : Read). same_key q r.key) (reads_of rs)) ≡ true)
+    by q (Some x) p e g n = inl (ok.as_read q (ap is_some e))
     by q None (Some b) e g n = inr (and_both (in_span span q) (list_any (λ (r : Read). same_key q r.key) (reads_of rs)) (found_inside span rs q place.1 (ap is_some g)) (found_is rs q ∙ ap is_some g))
     by q None None e g n = absurd (clash (sym (ap (λ y. is_some (option_map Some y)) g) ∙ n))
       where
@@ -253,19 +253,19 @@ scan_noted past s span rs ok tables unmoved all place = record {
         clash x = cc
 
 -- A read that is done is noted.
-pub read_noted : (past : List Played) (s : Seen) (a : Access) (images : List Record) → SeenOk past s → IsOfData a → MayNote s a images → AllByRecursion (IsImage past) images → InPlace a (keys_of images) → SeenOk past (with_read s a images)
+pub read_noted : (past : List Labelled) (s : Seen) (a : Access) (images : List Record) → SeenOk past s → IsOfData a → MayRecord s a images → AllByRecursion (IsImage past) images → AreInOrder a (keys_of images) → SeenOk past (with_read s a images)
 read_noted past s (access.Get k) images ok tables free all place = get_noted past s k (first_image images) ok (tables k (ap is_eq (Rattle.std.specs.Cmp.tied_itself Rattle.sdb_types.proofs.KeyOrder.key_total k))) free (first_base past k images all place)
 read_noted past s (access.Scan span) images ok tables free all place = scan_noted past s span images ok tables free all place
 
 -- Changes of keys that were read may be written.
-pub write_kept : (past : List Played) (s : Seen) (changes : List Keyed) → SeenOk past s → AreChanges s.notes changes → SeenOk past (with_written s changes)
-write_kept past s changes ok fine = record {
-  kept = kept_either done s.notes s.notes s.writes (snap.with_writes s.notes s.writes changes) changes refl ok.kept fine refl tt;
-  notes = ok.notes;
+pub write_kept : (past : List Labelled) (s : Seen) (changes : List Keyed) → SeenOk past s → AreChanges s.read_set changes → SeenOk past (with_written s changes)
+write_kept past s changes ok valid = record {
+  kept = kept_either done s.read_set s.read_set s.writes (snap.with_writes s.read_set s.writes changes) changes refl ok.kept valid refl tt;
+  read_set = ok.read_set;
   reads = ok.reads;
   scans = ok.scans;
   found = ok.found;
-  noted = ok.noted;
+  as_read = ok.as_read;
 }
   where
     done : Rattle.std.specs.Prelude.Result (Unit {0}) (Unit {0})
@@ -274,78 +274,78 @@ write_kept past s changes ok fine = record {
 ---- as the COMMIT takes it
 
 -- what is noted at a key
-value_says : (past : List Played) (notes : List Note) (k : Key) (f : Option Record) → AllByRecursion (IsNoteOk past) notes → value_at notes k ≡ Some f → IsNoteOk past (k, f)
+value_says : (past : List Labelled) (read_set : List ReadRecord) (k : Key) (f : Option Record) → AllByRecursion (IsReadItemOk past) read_set → value_at read_set k ≡ Some f → IsReadItemOk past (k, f)
 value_says past [] k f all h = absurd (cc)
 value_says past (e ∷ es) k f all h = by (same_key k e.0) refl h (λ s. value_says past es k f all.1 s)
   where
     some_is : (x y : Option Record) → Some x ≡ Some y → x ≡ y
     some_is x y s = cc
 
-    by : (b : Bool) → same_key k e.0 ≡ b → cond b (Some e.1) (value_at es k) ≡ Some f → (value_at es k ≡ Some f → IsNoteOk past (k, f)) → IsNoteOk past (k, f)
-    by true t s ih = subst (IsNoteOk past) (sym (both (same_key_exact k e.0 t) (some_is e.1 f s))) all.0
+    by : (b : Bool) → same_key k e.0 ≡ b → cond b (Some e.1) (value_at es k) ≡ Some f → (value_at es k ≡ Some f → IsReadItemOk past (k, f)) → IsReadItemOk past (k, f)
+    by true t s ih = subst (IsReadItemOk past) (sym (both (same_key_exact k e.0 t) (some_is e.1 f s))) all.0
       where
         both : k ≡ e.0 → e.1 ≡ f → (k, f) ≡ e
         both x y = ap (λ q. (q, f)) x ∙ ap (λ o. (e.0, o)) (sym y)
     by false t s ih = ih s
 
-noted_table : (past : List Played) (notes : List Note) (k : Key) → AllByRecursion (IsNoteOk past) notes → is_noted notes k ≡ true → is_data k ≡ true
-noted_table past notes k all h = by (value_at notes k) refl h
+noted_table : (past : List Labelled) (read_set : List ReadRecord) (k : Key) → AllByRecursion (IsReadItemOk past) read_set → is_key_read read_set k ≡ true → is_data k ≡ true
+noted_table past read_set k all h = by (value_at read_set k) refl h
   where
-    by : (o : Option (Option Record)) → value_at notes k ≡ o → is_some o ≡ true → is_data k ≡ true
+    by : (o : Option (Option Record)) → value_at read_set k ≡ o → is_some o ≡ true → is_data k ≡ true
     by None e s = absurd (cc (s))
-    by (Some f) e s = (value_says past notes k f all e).0
+    by (Some f) e s = (value_says past read_set k f all e).0
 
-pub base_settled : (past : List Played) (notes : List Note) (k : Key) (b : Record) → AllByRecursion (IsNoteOk past) notes → base_at notes k ≡ Some b → IsSettled past k b
-base_settled past notes k b all h = by (value_at notes k) refl h
+pub base_settled : (past : List Labelled) (read_set : List ReadRecord) (k : Key) (b : Record) → AllByRecursion (IsReadItemOk past) read_set → base_at read_set k ≡ Some b → IsSettled past k b
+base_settled past read_set k b all h = by (value_at read_set k) refl h
   where
     some_is : (x y : Record) → Some x ≡ Some y → x ≡ y
     some_is x y s = cc
 
-    by : (o : Option (Option Record)) → value_at notes k ≡ o → option_and_then (λ x. x) o ≡ Some b → IsSettled past k b
+    by : (o : Option (Option Record)) → value_at read_set k ≡ o → option_and_then (λ x. x) o ≡ Some b → IsSettled past k b
     by None e s = absurd (cc (s))
     by (Some None) e s = absurd (cc (s))
-    by (Some (Some x)) e s = subst (IsSettled past k) (some_is x b s) (value_says past notes k (Some x) all e).1
+    by (Some (Some x)) e s = subst (IsSettled past k) (some_is x b s) (value_says past read_set k (Some x) all e).1
 
 -- what was found was found at a key of a table
-pub base_table : (past : List Played) (notes : List Note) (k : Key) (b : Record) → AllByRecursion (IsNoteOk past) notes → base_at notes k ≡ Some b → is_data k ≡ true
-base_table past notes k b all h = by (value_at notes k) refl h
+pub base_table : (past : List Labelled) (read_set : List ReadRecord) (k : Key) (b : Record) → AllByRecursion (IsReadItemOk past) read_set → base_at read_set k ≡ Some b → is_data k ≡ true
+base_table past read_set k b all h = by (value_at read_set k) refl h
   where
-    by : (o : Option (Option Record)) → value_at notes k ≡ o → option_and_then (λ x. x) o ≡ Some b → is_data k ≡ true
+    by : (o : Option (Option Record)) → value_at read_set k ≡ o → option_and_then (λ x. x) o ≡ Some b → is_data k ≡ true
     by None e s = absurd (cc (s))
-    by (Some f) e s = (value_says past notes k f all e).0
+    by (Some f) e s = (value_says past read_set k f all e).0
 
-base_version : (past : List Played) (notes : List Note) (k : Key) → AllByRecursion (IsNoteOk past) notes → VersionSettled past k (version_of (base_at notes k))
-base_version past notes k all = by (base_at notes k) refl
+base_version : (past : List Labelled) (read_set : List ReadRecord) (k : Key) → AllByRecursion (IsReadItemOk past) read_set → VersionSettled past k (version_of (base_at read_set k))
+base_version past read_set k all = by (base_at read_set k) refl
   where
-    by : (o : Option Record) → base_at notes k ≡ o → VersionSettled past k (version_of o)
+    by : (o : Option Record) → base_at read_set k ≡ o → VersionSettled past k (version_of o)
     by None e = tt
-    by (Some b) e = version_here past k b (id_in b.columns) (base_settled past notes k b all e) refl
+    by (Some b) e = version_here past k b (id_in b.columns) (base_settled past read_set k b all e) refl
 
-base_noted : (notes : List Note) (ws : List Write) (k : Key) (v : Option TxId) → HaveBases notes ws → base_of ws k ≡ Some v → version_of (base_at notes k) ≡ v
-base_noted notes [] k v h e = absurd (cc)
-base_noted notes (w ∷ ws) k v h e = by (same_key k w.key) refl e (λ s. base_noted notes ws k v h.1 s)
+base_noted : (read_set : List ReadRecord) (ws : List Write) (k : Key) (v : Option TxId) → HaveBases read_set ws → base_of ws k ≡ Some v → version_of (base_at read_set k) ≡ v
+base_noted read_set [] k v h e = absurd (cc)
+base_noted read_set (w ∷ ws) k v h e = by (same_key k w.key) refl e (λ s. base_noted read_set ws k v h.1 s)
   where
     some_is : (x y : Option TxId) → Some x ≡ Some y → x ≡ y
     some_is x y s = cc
 
-    by : (b : Bool) → same_key k w.key ≡ b → cond b (Some (version_of w.base)) (base_of ws k) ≡ Some v → (base_of ws k ≡ Some v → version_of (base_at notes k) ≡ v) → version_of (base_at notes k) ≡ v
-    by true t s ih = ap (λ q. version_of (base_at notes q)) (same_key_exact k w.key t) ∙ ap version_of (sym h.0.1) ∙ some_is (version_of w.base) v s
+    by : (b : Bool) → same_key k w.key ≡ b → cond b (Some (version_of w.base)) (base_of ws k) ≡ Some v → (base_of ws k ≡ Some v → version_of (base_at read_set k) ≡ v) → version_of (base_at read_set k) ≡ v
+    by true t s ih = ap (λ q. version_of (base_at read_set q)) (same_key_exact k w.key t) ∙ ap version_of (sym h.0.1) ∙ some_is (version_of w.base) v s
     by false t s ih = ih s
 
 -- What a transaction has read and written is fit for its COMMIT.
-pub sound_of : (past : List Played) (id : TxId) (now : ℤ) (s : Seen) → id.0 < 2 ^ 128 → is_moment now ≡ true → SeenOk past s → Sound (work_of id now s)
+pub sound_of : (past : List Labelled) (id : TxId) (now : ℤ) (s : Seen) → id.0 < 2 ^ 128 → is_moment now ≡ true → SeenOk past s → Sound (work_of id now s)
 sound_of past id now s fits moment ok = record {
   fits = fits;
   moment = moment;
-  fine = each_both IsWrite (λ w. (is_noted s.notes w.key ≡ true) × (w.base ≡ base_at s.notes w.key)) (λ w. IsWrite w × (is_data w.key ≡ true)) s.writes (λ w f b. (f, noted_table past s.notes w.key ok.notes b.0)) ok.kept.fine ok.kept.based;
+  valid = each_both IsWrite (λ w. (is_key_read s.read_set w.key ≡ true) × (w.base ≡ base_at s.read_set w.key)) (λ w. IsWrite w × (is_data w.key ≡ true)) s.writes (λ w f b. (f, noted_table past s.read_set w.key ok.read_set b.0)) ok.kept.valid ok.kept.based;
   once = ok.kept.once;
-  reads = each_any (IsReadOk s.notes) (ReadAgrees s.writes) s.reads (λ r h v e. h.1 ∙ base_noted s.notes s.writes r.key v ok.kept.based e) ok.reads;
+  reads = each_any (IsReadOk s.read_set) (ReadAgrees s.writes) s.reads (λ r h v e. h.1 ∙ base_noted s.read_set s.writes r.key v ok.kept.based e) ok.reads;
   scans = each_any (IsScanOk past) (λ x. reads_rise x.found ≡ true) s.scans (λ x h. h.0) ok.scans;
 }
 
-pub settled_of : (past : List Played) (id : TxId) (now : ℤ) (s : Seen) → SeenOk past s → Settled past (work_of id now s)
+pub settled_of : (past : List Labelled) (id : TxId) (now : ℤ) (s : Seen) → SeenOk past s → Settled past (work_of id now s)
 settled_of past id now s ok = record {
-  bases = each_any (λ w. (is_noted s.notes w.key ≡ true) × (w.base ≡ base_at s.notes w.key)) (λ w. (b : Record) → w.base ≡ Some b → IsSettled past w.key b) s.writes (λ w h b e. base_settled past s.notes w.key b ok.notes (sym h.1 ∙ e)) ok.kept.based;
-  reads = each_any (IsReadOk s.notes) (λ r. IsReadThere past r.key r.version) s.reads (λ r h. (noted_table past s.notes r.key ok.notes h.0, subst (VersionSettled past r.key) (sym h.1) (base_version past s.notes r.key ok.notes))) ok.reads;
+  bases = each_any (λ w. (is_key_read s.read_set w.key ≡ true) × (w.base ≡ base_at s.read_set w.key)) (λ w. (b : Record) → w.base ≡ Some b → IsSettled past w.key b) s.writes (λ w h b e. base_settled past s.read_set w.key b ok.read_set (sym h.1 ∙ e)) ok.kept.based;
+  reads = each_any (IsReadOk s.read_set) (λ r. IsReadThere past r.key r.version) s.reads (λ r h. (noted_table past s.read_set r.key ok.read_set h.0, subst (VersionSettled past r.key) (sym h.1) (base_version past s.read_set r.key ok.read_set))) ok.reads;
   scans = each_any (IsScanOk past) (λ x. (k : Key) → in_span x.span k ≡ true → IsReadThere past k (version_among x.found k)) s.scans (λ x h. h.1) ok.scans;
 }

@@ -19,19 +19,19 @@ use Rattle.sdb_record.specs.declared.write.Write.{Write}
 use Rattle.sdb_record.specs.Moved.{version_of, same_version, is_unchanged}
 use Rattle.sdb_record.specs.Rolls.{IsWrite}
 use Rattle.sdb_record.specs.Among.{version_among, write_among, is_written}
-use Rattle.sdb_laws.specs.Plan.{write_at, written, noted, number_of}
-use Rattle.sdb_model.specs.Noted.{Note, Got, Scanned, version_noted}
+use Rattle.sdb_laws.specs.Plan.{write_at, written, version_read_at, number_of}
+use Rattle.sdb_model.specs.ReadSet.{ReadItem, KeyRead, SpanRead, version_read}
 use Rattle.sdb_phases.specs.declared.check.Check.{Check}
 use Rattle.sdb_phases.specs.Work.{Work}
 use Rattle.sdb_phases.specs.Checks.{checks, check_of_read, check_of_scan, base_of, first_difference, wanted, changed}
 use Rattle.sdb_phases.specs.Steps.{validate_step, judged}
 use Rattle.sdb_phases.specs.CommitLaws.{is_more}
-use Rattle.sdb_validate.specs.Rescan.{reads_rise, base_in, kept_by, is_kept, IsFirstLost}
+use Rattle.sdb_validate.specs.Rescan.{reads_rise, base_in, is_unchanged_by, is_unchanged_at, IsFirstLost}
 use Rattle.sdb_validate.proofs.Rescans.{first_lost}
-use Rattle.sdb_turns.specs.Owner.{plan_of, notes_of, checked_notes, own_notes, NoteAgrees, CheckTells, WorkOk, IsReading}
+use Rattle.sdb_turns.specs.Owner.{plan_of, items_of_work, checked_items, own_items, ItemAgrees, CheckPasses, WorkOk, IsReading}
 use Rattle.sdb_turns.proofs.Lists.{each_at, each_map, each_filter}
 use Rattle.sdb_snapshot.specs.Written.{HaveKeysOnce}
-use Rattle.sdb_turns.specs.Noted.{ReadAgrees, Sound}
+use Rattle.sdb_turns.specs.Reads.{ReadAgrees, Sound}
 use Rattle.sdb_types.proofs.Basics.{none_some as some_apart, not_true, append_all as each_append, all_each as each_any}
 use Rattle.sdb_types.proofs.Bools.{and_first as rises}
 use Rattle.sdb_types.specs.Order.{same_key}
@@ -84,9 +84,9 @@ no_base ws k h = by (write_among ws k) (sym (base_is ws k) ∙ h)
     by None e = refl
     by (Some w) e = absurd (cc)
 
-pub not_noted : {A : Type 0} (p : Work) (j : ℕ) (k : Key) (version : Option ℕ) → slice_get (notes_of p) j ≡ None → noted (plan_of p) j k ≡ Some version → A
-unfolding noted
-not_noted p j k version at h = some_apart version (sym (ap (λ o. option_map number_of (option_and_then (λ x. version_noted x k) o)) at) ∙ h)
+pub not_noted : {A : Type 0} (p : Work) (j : ℕ) (k : Key) (version : Option ℕ) → slice_get (items_of_work p) j ≡ None → version_read_at (plan_of p) j k ≡ Some version → A
+unfolding version_read_at
+not_noted p j k version at h = some_apart version (sym (ap (λ o. option_map number_of (option_and_then (λ x. version_read x k) o)) at) ∙ h)
 
 ---- lists
 
@@ -106,59 +106,59 @@ at_back (y ∷ xs) ys (suc i) x l h = at_back xs ys i x (omega arith) h
 
 ---- checks and notes
 
-abbrev check_of : List Write → Note → Check
-check_of own (Got r) = check_of_read r
-check_of own (Scanned s) = check_of_scan own s
+abbrev check_of : List Write → ReadItem → Check
+check_of own (KeyRead r) = check_of_read r
+check_of own (SpanRead s) = check_of_scan own s
 
-map_got : (own : List Write) (rs : List Read) → map (check_of own) (map Got rs) ≡ map check_of_read rs
+map_got : (own : List Write) (rs : List Read) → map (check_of own) (map KeyRead rs) ≡ map check_of_read rs
 map_got own [] = refl
 map_got own (r ∷ rs) = ap (λ cs. check_of_read r ∷ cs) (map_got own rs)
 
-map_scanned : (own : List Write) (ss : List Scan) → map (check_of own) (map Scanned ss) ≡ map (check_of_scan own) ss
+map_scanned : (own : List Write) (ss : List Scan) → map (check_of own) (map SpanRead ss) ≡ map (check_of_scan own) ss
 map_scanned own [] = refl
 map_scanned own (s ∷ ss) = ap (λ cs. check_of_scan own s ∷ cs) (map_scanned own ss)
 
-checks_are : (p : Work) → checks p ≡ map (check_of p.writes) (checked_notes p)
+checks_are : (p : Work) → checks p ≡ map (check_of p.writes) (checked_items p)
 checks_are p = sym (
-    map-append (check_of p.writes) (map Got (filter (λ (r : Read). not (is_written p.writes r.key)) p.reads)) (map Scanned p.scans)
-    ∙ ap (λ xs. xs ++ map (check_of p.writes) (map Scanned p.scans)) (map_got p.writes (filter (λ (r : Read). not (is_written p.writes r.key)) p.reads))
+    map-append (check_of p.writes) (map KeyRead (filter (λ (r : Read). not (is_written p.writes r.key)) p.reads)) (map SpanRead p.scans)
+    ∙ ap (λ xs. xs ++ map (check_of p.writes) (map SpanRead p.scans)) (map_got p.writes (filter (λ (r : Read). not (is_written p.writes r.key)) p.reads))
     ∙ ap (λ xs. map check_of_read (filter (λ (r : Read). not (is_written p.writes r.key)) p.reads) ++ xs) (map_scanned p.writes p.scans)
     )
 
 -- the note of a check
-note_of : (p : Work) (i : ℕ) (c : Check) → slice_get (checks p) i ≡ Some c → (n : Note) × (slice_get (checked_notes p) i ≡ Some n) × (check_of p.writes n ≡ c)
-note_of p i c h = by (slice_get (checked_notes p) i) refl (sym (slice_get-map (check_of p.writes) (checked_notes p) i) ∙ ap (λ xs. slice_get xs i) (sym (checks_are p)) ∙ h)
+note_of : (p : Work) (i : ℕ) (c : Check) → slice_get (checks p) i ≡ Some c → (n : ReadItem) × (slice_get (checked_items p) i ≡ Some n) × (check_of p.writes n ≡ c)
+note_of p i c h = by (slice_get (checked_items p) i) refl (sym (slice_get-map (check_of p.writes) (checked_items p) i) ∙ ap (λ xs. slice_get xs i) (sym (checks_are p)) ∙ h)
   where
     some_is : (x y : Check) → Some x ≡ Some y → x ≡ y
     some_is x y e = cc
 
-    by : (o : Option Note) → slice_get (checked_notes p) i ≡ o → option_map (check_of p.writes) o ≡ Some c → (n : Note) × (slice_get (checked_notes p) i ≡ Some n) × (check_of p.writes n ≡ c)
+    by : (o : Option ReadItem) → slice_get (checked_items p) i ≡ o → option_map (check_of p.writes) o ≡ Some c → (n : ReadItem) × (slice_get (checked_items p) i ≡ Some n) × (check_of p.writes n ≡ c)
     by None at e = some_apart c e
     by (Some n) at e = (n, at, some_is (check_of p.writes n) c e)
 
 -- what is so of each note that is checked, and of each other
-abbrev IsCheckedNote : List Write → Note → Type 0
-IsCheckedNote own (Got r) = is_written own r.key ≡ false
-IsCheckedNote own (Scanned s) = reads_rise s.found ≡ true
+abbrev IsCheckedNote : List Write → ReadItem → Type 0
+IsCheckedNote own (KeyRead r) = is_written own r.key ≡ false
+IsCheckedNote own (SpanRead s) = reads_rise s.found ≡ true
 
-abbrev IsOwnNote : List Write → Note → Type 0
-IsOwnNote own (Got r) = ReadAgrees own r × (is_written own r.key ≡ true)
-IsOwnNote own (Scanned s) = ⊥
+abbrev IsOwnNote : List Write → ReadItem → Type 0
+IsOwnNote own (KeyRead r) = ReadAgrees own r × (is_written own r.key ≡ true)
+IsOwnNote own (SpanRead s) = ⊥
 
-checked_notes_are : (p : Work) → Sound p → AllByRecursion (IsCheckedNote p.writes) (checked_notes p)
-checked_notes_are p ok = each_append (IsCheckedNote p.writes) (map Got (filter (λ (r : Read). not (is_written p.writes r.key)) p.reads)) (map Scanned p.scans)
-    (each_map (IsCheckedNote p.writes) Got (filter (λ (r : Read). not (is_written p.writes r.key)) p.reads) (each_any (λ r. ReadAgrees p.writes r × (not (is_written p.writes r.key) ≡ true)) (λ r. is_written p.writes r.key ≡ false) (filter (λ (r : Read). not (is_written p.writes r.key)) p.reads) (λ r h. not_true (is_written p.writes r.key) h.1) (each_filter (ReadAgrees p.writes) (λ (r : Read). not (is_written p.writes r.key)) p.reads ok.reads)))
-    (each_map (IsCheckedNote p.writes) Scanned p.scans ok.scans)
+checked_notes_are : (p : Work) → Sound p → AllByRecursion (IsCheckedNote p.writes) (checked_items p)
+checked_notes_are p ok = each_append (IsCheckedNote p.writes) (map KeyRead (filter (λ (r : Read). not (is_written p.writes r.key)) p.reads)) (map SpanRead p.scans)
+    (each_map (IsCheckedNote p.writes) KeyRead (filter (λ (r : Read). not (is_written p.writes r.key)) p.reads) (each_any (λ r. ReadAgrees p.writes r × (not (is_written p.writes r.key) ≡ true)) (λ r. is_written p.writes r.key ≡ false) (filter (λ (r : Read). not (is_written p.writes r.key)) p.reads) (λ r h. not_true (is_written p.writes r.key) h.1) (each_filter (ReadAgrees p.writes) (λ (r : Read). not (is_written p.writes r.key)) p.reads ok.reads)))
+    (each_map (IsCheckedNote p.writes) SpanRead p.scans ok.scans)
 
-own_notes_are : (p : Work) → Sound p → AllByRecursion (IsOwnNote p.writes) (own_notes p)
-own_notes_are p ok = each_map (IsOwnNote p.writes) Got (filter (λ (r : Read). is_written p.writes r.key) p.reads) (each_filter (ReadAgrees p.writes) (λ (r : Read). is_written p.writes r.key) p.reads ok.reads)
+own_notes_are : (p : Work) → Sound p → AllByRecursion (IsOwnNote p.writes) (own_items p)
+own_notes_are p ok = each_map (IsOwnNote p.writes) KeyRead (filter (λ (r : Read). is_written p.writes r.key) p.reads) (each_filter (ReadAgrees p.writes) (λ (r : Read). is_written p.writes r.key) p.reads ok.reads)
 
 -- what a note says of a key, in the plan
-pub noted_by : (p : Work) (i : ℕ) (k : Key) (version : Option ℕ) (n : Note) → slice_get (notes_of p) i ≡ Some n → noted (plan_of p) i k ≡ Some version → option_map number_of (version_noted n k) ≡ Some version
-unfolding noted
-noted_by p i k version n at h = ap (λ o. option_map number_of (option_and_then (λ x. version_noted x k) o)) (sym at) ∙ h
+pub noted_by : (p : Work) (i : ℕ) (k : Key) (version : Option ℕ) (n : ReadItem) → slice_get (items_of_work p) i ≡ Some n → version_read_at (plan_of p) i k ≡ Some version → option_map number_of (version_read n k) ≡ Some version
+unfolding version_read_at
+noted_by p i k version n at h = ap (λ o. option_map number_of (option_and_then (λ x. version_read x k) o)) (sym at) ∙ h
 
-pub got_says : (r : Read) (k : Key) (version : Option ℕ) → option_map number_of (version_noted (Got r) k) ≡ Some version → (r.key ≡ k) × (number_of r.version ≡ version)
+pub got_says : (r : Read) (k : Key) (version : Option ℕ) → option_map number_of (version_read (KeyRead r) k) ≡ Some version → (r.key ≡ k) × (number_of r.version ≡ version)
 got_says r k version h = by (same_key_tells r.key k) h
   where
     some_is : (x y : Option ℕ) → Some x ≡ Some y → x ≡ y
@@ -168,7 +168,7 @@ got_says r k version h = by (same_key_tells r.key k) h
     by (inl x) e = (x.1, some_is (number_of r.version) version (ap (λ b. option_map number_of (if b then Some r.version else None)) (sym x.0) ∙ e))
     by (inr x) e = some_apart version (ap (λ b. option_map number_of (if b then Some r.version else None)) (sym x.0) ∙ e)
 
-pub scan_says : (s : Scan) (k : Key) (version : Option ℕ) → option_map number_of (version_noted (Scanned s) k) ≡ Some version → (in_span s.span k ≡ true) × (number_of (version_among s.found k) ≡ version)
+pub scan_says : (s : Scan) (k : Key) (version : Option ℕ) → option_map number_of (version_read (SpanRead s) k) ≡ Some version → (in_span s.span k ≡ true) × (number_of (version_among s.found k) ≡ version)
 scan_says s k version h = by (in_span s.span k) refl h
   where
     some_is : (x y : Option ℕ) → Some x ≡ Some y → x ≡ y
@@ -189,45 +189,45 @@ same_number (Some a) (Some b) h = ap (λ x. Some x) (equal b.0 a.0 h)
     equal : (x y : ℕ) → (y == x) ≡ true → x ≡ y
     equal x y h = grind (arith, nat_tests)
 
-got_agrees : (p : Work) (i : ℕ) (rd : Read) → slice_get (notes_of p) i ≡ Some (Got rd) → is_written p.writes rd.key ≡ false → NoteAgrees p i
+got_agrees : (p : Work) (i : ℕ) (rd : Read) → slice_get (items_of_work p) i ≡ Some (KeyRead rd) → is_written p.writes rd.key ≡ false → ItemAgrees p i
 got_agrees p i rd at free k version base h w =
-    let says = got_says rd k version (noted_by p i k version (Got rd) at h) in
+    let says = got_says rd k version (noted_by p i k version (KeyRead rd) at h) in
     let b = written_base p k base w in
     some_apart b.0 (sym (unwritten_base p.writes rd.key free) ∙ ap (base_of p.writes) says.0 ∙ b.1)
 
-got_tells : (p : Work) (i : ℕ) (rd : Read) (r : Reply) → slice_get (notes_of p) i ≡ Some (Got rd) → is_written p.writes rd.key ≡ false → CanAnswer (ask.Get rd.key) r → is_more (validate_step true (Some (check_of_read rd)) r) ≡ true → CheckTells p i (ask.Get rd.key) r
+got_tells : (p : Work) (i : ℕ) (rd : Read) (r : Reply) → slice_get (items_of_work p) i ≡ Some (KeyRead rd) → is_written p.writes rd.key ≡ false → CanAnswer (ask.Get rd.key) r → is_more (validate_step true (Some (check_of_read rd)) r) ≡ true → CheckPasses p i (ask.Get rd.key) r
 got_tells p i rd reply.Fault at free can more = absurd (cc)
 got_tells p i rd reply.NoMemory at free can more = absurd (cc)
 got_tells p i rd reply.Applied at free can more = absurd can
 got_tells p i rd (reply.NotMet found) at free can more = absurd can
 got_tells p i rd (reply.Rows rows) at free can more = absurd can
-got_tells p i rd (reply.Found found) at free can more = record { note = Got rd; at = at; unchanged = (found, refl, refl, by (is_unchanged found rd.version) refl more); agrees = got_agrees p i rd at free }
+got_tells p i rd (reply.Found found) at free can more = record { item = KeyRead rd; at = at; unchanged = (found, refl, refl, by (is_unchanged found rd.version) refl more); agrees = got_agrees p i rd at free }
   where
     by : (b : Bool) → is_unchanged found rd.version ≡ b → is_more (judged true (changed b rd.key found)) ≡ true → is_unchanged found rd.version ≡ true
     by true t e = t
     by false f e = absurd (cc)
 
-scan_kept : (p : Work) (s : Scan) (rows : List Record) → reads_rise s.found ≡ true → rise rows ≡ true → is_more (judged true (first_difference (wanted p.writes s) rows)) ≡ true → (k : Key) → is_kept p.writes s rows k ≡ true
+scan_kept : (p : Work) (s : Scan) (rows : List Record) → reads_rise s.found ≡ true → rise rows ≡ true → is_more (judged true (first_difference (wanted p.writes s) rows)) ≡ true → (k : Key) → is_unchanged_at p.writes s rows k ≡ true
 scan_kept p s rows found rise more = by (first_difference (wanted p.writes s) rows) more (first_lost p.writes s rows found rise)
   where
-    by : (o : Option (Key × Option Record)) → is_more (judged true o) ≡ true → IsFirstLost p.writes s rows o → (k : Key) → is_kept p.writes s rows k ≡ true
+    by : (o : Option (Key × Option Record)) → is_more (judged true o) ≡ true → IsFirstLost p.writes s rows o → (k : Key) → is_unchanged_at p.writes s rows k ≡ true
     by None e lost = lost
     by (Some d) e lost = absurd (cc)
 
-scan_agrees : (p : Work) (i : ℕ) (s : Scan) (rows : List Record) → slice_get (notes_of p) i ≡ Some (Scanned s) → ((k : Key) → is_kept p.writes s rows k ≡ true) → NoteAgrees p i
+scan_agrees : (p : Work) (i : ℕ) (s : Scan) (rows : List Record) → slice_get (items_of_work p) i ≡ Some (SpanRead s) → ((k : Key) → is_unchanged_at p.writes s rows k ≡ true) → ItemAgrees p i
 scan_agrees p i s rows at kept k version base h w =
-    let says = scan_says s k version (noted_by p i k version (Scanned s) at h) in
+    let says = scan_says s k version (noted_by p i k version (SpanRead s) at h) in
     let b = written_base p k base w in
     let own : base_in s.span p.writes k ≡ Some b.0 = ap (λ t. if t then base_of p.writes k else None) says.0 ∙ b.1 in
-    let same : same_version b.0 (version_among s.found k) ≡ true = ap (λ o. kept_by o (version_among s.found k) (record_among rows k)) (sym own) ∙ kept k in
+    let same : same_version b.0 (version_among s.found k) ≡ true = ap (λ o. is_unchanged_by o (version_among s.found k) (record_among rows k)) (sym own) ∙ kept k in
     sym says.1 ∙ same_number b.0 (version_among s.found k) same ∙ b.2
 
-scan_unchanged : (p : Work) (s : Scan) (rows : List Record) → ((k : Key) → is_kept p.writes s rows k ≡ true) → (k : Key) → in_span s.span k ≡ true → written (plan_of p) k ≡ None → is_unchanged (record_among rows k) (version_among s.found k) ≡ true
+scan_unchanged : (p : Work) (s : Scan) (rows : List Record) → ((k : Key) → is_unchanged_at p.writes s rows k ≡ true) → (k : Key) → in_span s.span k ≡ true → written (plan_of p) k ≡ None → is_unchanged (record_among rows k) (version_among s.found k) ≡ true
 scan_unchanged p s rows kept k inside free =
     let own : base_in s.span p.writes k ≡ None = ap (λ t. if t then base_of p.writes k else None) inside ∙ free_base p k free in
-    ap (λ o. kept_by o (version_among s.found k) (record_among rows k)) (sym own) ∙ kept k
+    ap (λ o. is_unchanged_by o (version_among s.found k) (record_among rows k)) (sym own) ∙ kept k
 
-scan_tells : (p : Work) (i : ℕ) (s : Scan) (r : Reply) → slice_get (notes_of p) i ≡ Some (Scanned s) → reads_rise s.found ≡ true → CanAnswer (ask.Scan s.span) r → is_more (validate_step true (Some (check_of_scan p.writes s)) r) ≡ true → CheckTells p i (ask.Scan s.span) r
+scan_tells : (p : Work) (i : ℕ) (s : Scan) (r : Reply) → slice_get (items_of_work p) i ≡ Some (SpanRead s) → reads_rise s.found ≡ true → CanAnswer (ask.Scan s.span) r → is_more (validate_step true (Some (check_of_scan p.writes s)) r) ≡ true → CheckPasses p i (ask.Scan s.span) r
 scan_tells p i s reply.Fault at found can more = absurd (cc)
 scan_tells p i s reply.NoMemory at found can more = absurd (cc)
 scan_tells p i s reply.Applied at found can more = absurd can
@@ -235,7 +235,7 @@ scan_tells p i s (reply.NotMet x) at found can more = absurd can
 scan_tells p i s (reply.Found x) at found can more = absurd can
 scan_tells p i s (reply.Rows rows) at found can more =
     let kept = scan_kept p s rows found (rises (rise rows) _ can) more in
-    record { note = Scanned s; at = at; unchanged = (rows, refl, refl, scan_unchanged p s rows kept); agrees = scan_agrees p i s rows at kept }
+    record { item = SpanRead s; at = at; unchanged = (rows, refl, refl, scan_unchanged p s rows kept); agrees = scan_agrees p i s rows at kept }
 
 ---- the writes
 
@@ -289,17 +289,17 @@ found_at (x ∷ xs) k w h = by (same_key k x.key) h (λ e. found_at xs k w e)
 
 ---- the whole
 
-reading : (own : List Write) (n : Note) → IsReading (check_of own n).request
-reading own (Got r) = tt
-reading own (Scanned s) = tt
+reading : (own : List Write) (n : ReadItem) → IsReading (check_of own n).request
+reading own (KeyRead r) = tt
+reading own (SpanRead s) = tt
 
-tells_at : (p : Work) (i : ℕ) (n : Note) (r : Reply) → slice_get (notes_of p) i ≡ Some n → IsCheckedNote p.writes n → CanAnswer (check_of p.writes n).request r → is_more (validate_step true (Some (check_of p.writes n)) r) ≡ true → CheckTells p i (check_of p.writes n).request r
-tells_at p i (Got rd) r at ok can more = got_tells p i rd r at ok can more
-tells_at p i (Scanned s) r at ok can more = scan_tells p i s r at ok can more
+tells_at : (p : Work) (i : ℕ) (n : ReadItem) (r : Reply) → slice_get (items_of_work p) i ≡ Some n → IsCheckedNote p.writes n → CanAnswer (check_of p.writes n).request r → is_more (validate_step true (Some (check_of p.writes n)) r) ≡ true → CheckPasses p i (check_of p.writes n).request r
+tells_at p i (KeyRead rd) r at ok can more = got_tells p i rd r at ok can more
+tells_at p i (SpanRead s) r at ok can more = scan_tells p i s r at ok can more
 
-own_written : (p : Work) (n : Note) (k : Key) (version : Option ℕ) → IsOwnNote p.writes n → option_map number_of (version_noted n k) ≡ Some version → (written (plan_of p) k ≢ None) × ((base : Option ℕ) → written (plan_of p) k ≡ Some base → version ≡ base)
-own_written p (Scanned s) k version own h = absurd own
-own_written p (Got r) k version own h =
+own_written : (p : Work) (n : ReadItem) (k : Key) (version : Option ℕ) → IsOwnNote p.writes n → option_map number_of (version_read n k) ≡ Some version → (written (plan_of p) k ≢ None) × ((base : Option ℕ) → written (plan_of p) k ≡ Some base → version ≡ base)
+own_written p (SpanRead s) k version own h = absurd own
+own_written p (KeyRead r) k version own h =
     let says = got_says r k version h in (
       λ free. absurd (is_there (base_of p.writes r.key) refl (ap (base_of p.writes) says.0 ∙ free_base p k free)),
       λ base w. let b = written_base p k base w in sym says.1 ∙ ap number_of (own.0 b.0 (ap (base_of p.writes) says.0 ∙ b.1)) ∙ b.2,
@@ -320,27 +320,27 @@ unfolding write_at
 work_ok p ok = record {
   fits = ok.fits;
   moment = ok.moment;
-  fine = λ i w at. each_at (λ w. IsWrite w × (is_data w.key ≡ true)) p.writes i w ok.fine at;
+  valid = λ i w at. each_at (λ w. IsWrite w × (is_data w.key ≡ true)) p.writes i w ok.valid at;
   at = λ i w at. once_at p.writes i w ok.once at;
   apart = λ i j v w l at there. once_apart p.writes i j v w ok.once l at there;
   found = λ k w h. found_at p.writes k w h;
   reads = λ i c h. let n = note_of p i c h in subst (λ x. IsReading x.request) n.2 (reading p.writes n.0);
   tells = λ i c r h can passed. let n = note_of p i c h in
-      subst (λ x. CanAnswer x.request r → is_more (validate_step true (Some x) r) ≡ true → CheckTells p i x.request r) n.2 (tells_at p i n.0 r (at_front (checked_notes p) (own_notes p) i n.0 n.1) (each_at (IsCheckedNote p.writes) (checked_notes p) i n.0 (checked_notes_are p ok) n.1)) can (ap (λ o. is_more (validate_step true o r)) (sym h) ∙ passed);
-  checked = λ j k version l h. other j k version l h (slice_get (notes_of p) j) refl;
-  agrees = λ j l k version base h w. others j k version base l h w (slice_get (notes_of p) j) refl;
+      subst (λ x. CanAnswer x.request r → is_more (validate_step true (Some x) r) ≡ true → CheckPasses p i x.request r) n.2 (tells_at p i n.0 r (at_front (checked_items p) (own_items p) i n.0 n.1) (each_at (IsCheckedNote p.writes) (checked_items p) i n.0 (checked_notes_are p ok) n.1)) can (ap (λ o. is_more (validate_step true o r)) (sym h) ∙ passed);
+  checked = λ j k version l h. other j k version l h (slice_get (items_of_work p) j) refl;
+  agrees = λ j l k version base h w. others j k version base l h w (slice_get (items_of_work p) j) refl;
 }
   where
-    beyond : (j : ℕ) → length (checks p) ≤ j → length (checked_notes p) ≤ j
-    beyond j l = subst (λ n. n ≤ j) (ap length (checks_are p) ∙ lengths (check_of p.writes) (checked_notes p)) l
+    beyond : (j : ℕ) → length (checks p) ≤ j → length (checked_items p) ≤ j
+    beyond j l = subst (λ n. n ≤ j) (ap length (checks_are p) ∙ lengths (check_of p.writes) (checked_items p)) l
 
-    own : (j : ℕ) (n : Note) → length (checks p) ≤ j → slice_get (notes_of p) j ≡ Some n → IsOwnNote p.writes n
-    own j n l at = let b = at_back (checked_notes p) (own_notes p) j n (beyond j l) at in each_at (IsOwnNote p.writes) (own_notes p) b.0 n (own_notes_are p ok) b.1
+    own : (j : ℕ) (n : ReadItem) → length (checks p) ≤ j → slice_get (items_of_work p) j ≡ Some n → IsOwnNote p.writes n
+    own j n l at = let b = at_back (checked_items p) (own_items p) j n (beyond j l) at in each_at (IsOwnNote p.writes) (own_items p) b.0 n (own_notes_are p ok) b.1
 
-    other : (j : ℕ) (k : Key) (version : Option ℕ) → length (checks p) ≤ j → noted (plan_of p) j k ≡ Some version → (o : Option Note) → slice_get (notes_of p) j ≡ o → written (plan_of p) k ≢ None
+    other : (j : ℕ) (k : Key) (version : Option ℕ) → length (checks p) ≤ j → version_read_at (plan_of p) j k ≡ Some version → (o : Option ReadItem) → slice_get (items_of_work p) j ≡ o → written (plan_of p) k ≢ None
     other j k version l h None at = not_noted p j k version at h
     other j k version l h (Some n) at = (own_written p n k version (own j n l at) (noted_by p j k version n at h)).0
 
-    others : (j : ℕ) (k : Key) (version base : Option ℕ) → length (checks p) ≤ j → noted (plan_of p) j k ≡ Some version → written (plan_of p) k ≡ Some base → (o : Option Note) → slice_get (notes_of p) j ≡ o → version ≡ base
+    others : (j : ℕ) (k : Key) (version base : Option ℕ) → length (checks p) ≤ j → version_read_at (plan_of p) j k ≡ Some version → written (plan_of p) k ≡ Some base → (o : Option ReadItem) → slice_get (items_of_work p) j ≡ o → version ≡ base
     others j k version base l h w None at = not_noted p j k version at h
     others j k version base l h w (Some n) at = (own_written p n k version (own j n l at) (noted_by p j k version n at h)).1 base w

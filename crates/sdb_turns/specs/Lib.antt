@@ -1,8 +1,8 @@
 pub mod Owner
 pub mod Reader
 pub mod ReadAt
-pub mod Sweep
-pub mod Noted
+pub mod Vacuum
+pub mod Reads
 pub mod System
 pub mod Worked
 pub mod Machine

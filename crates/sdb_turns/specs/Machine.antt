@@ -15,8 +15,8 @@ abbrev pub machine_kind : Record → Kind
 machine_kind r = kind_at (machine.kind_of r)
 
 -- A machine that has ended with images is done with them; with any other end it has failed.
-abbrev pub stands_at : machine.ReadStage → ReadAt
-stands_at machine.Asking = Asking
-stands_at (machine.Resolving images rec meta p left) = Resolving images rec meta p left
-stands_at (machine.Ended (step.Images images)) = Done images
-stands_at (machine.Ended s) = Failed
+abbrev pub abstract_read : machine.ReadStage → ReadAt
+abstract_read machine.Asking = Asking
+abstract_read (machine.Resolving images rec meta p left) = Resolving images rec meta p left
+abstract_read (machine.Ended (step.Images images)) = Done images
+abstract_read (machine.Ended s) = Failed

@@ -11,16 +11,16 @@ use Rattle.sdb_types.specs.declared.record.State.TheVariants as state
 use Rattle.sdb_types.specs.Order.{key_cmp}
 use Rattle.sdb_record.specs.declared.access.Access.{Access}
 use Rattle.sdb_record.specs.declared.meta.Meta.{Meta}
-use Rattle.sdb_record.specs.Meta.{checked, is_committed, is_in, is_taken, is_unresolved}
+use Rattle.sdb_record.specs.Meta.{checked, is_committed, is_in, is_transactional, is_unresolved}
 use Rattle.sdb_model.specs.Access.{in_access}
-use Rattle.sdb_laws.specs.History.{Role, Other}
-use Rattle.sdb_laws.specs.Lawful.{Played, IsShown, IsSettled}
+use Rattle.sdb_laws.specs.History.{Action, Other}
+use Rattle.sdb_laws.specs.Lawful.{Labelled, IsObserved, IsSettled}
 use Rattle.sdb_phases.specs.declared.step.RecoverStep.{RecoverStep}
 use Rattle.sdb_phases.specs.declared.step.RecoverStep.TheVariants as steps
 use Rattle.sdb_phases.specs.declared.step.RecoverPhase.{RecoverPhase}
 use Rattle.sdb_phases.specs.declared.step.RecoverPhase.TheVariants as phase
 use Rattle.sdb_phases.specs.Recover.{recover_next, recover_request_at}
-use Rattle.sdb_turns.specs.Reader.{RecoverOk, recover_role}
+use Rattle.sdb_turns.specs.Reader.{RecoverOk, recover_action}
 use Rattle.sdb_read.specs.Read.{request_of, Kind, Firm, Open, Bad}
 use Rattle.sdb_model.specs.Tables.{is_data}
 
@@ -28,7 +28,7 @@ use Rattle.sdb_model.specs.Tables.{is_data}
 
 -- the kind says what the record is
 abbrev pub IsKind : Record → Kind → Type 0
-IsKind r Firm = (is_taken r ≡ true) × (is_in state.Committed r.columns ≡ true)
+IsKind r Firm = (is_transactional r ≡ true) × (is_in state.Committed r.columns ≡ true)
 IsKind r (Open meta) = (is_unresolved r ≡ true) × (checked r.columns ≡ Ok meta)
 IsKind r Bad = Unit {0}
 
@@ -44,7 +44,7 @@ kind_by (Ok meta) = if is_committed meta.state then Firm else Open meta
 -- What a record is by its columns: committed in state 3, unresolved in states 1 and 2, and none of a transaction where they don't pass
 -- the checks.
 abbrev pub kind_of : Record → Kind
-kind_of r = if is_taken r then kind_by (checked r.columns) else Bad
+kind_of r = if is_transactional r then kind_by (checked r.columns) else Bad
 
 ---- the model
 
@@ -94,19 +94,19 @@ read_step kind (Resolving images rec meta p left) now r = after_recovery kind im
 read_step kind s now r = s
 
 -- the part that its call plays
-abbrev pub read_role : ReadAt → Reply → Role
-read_role (Resolving images rec meta p left) r = recover_role rec meta p r
-read_role s r = Other
+abbrev pub read_action : ReadAt → Reply → Action
+read_action (Resolving images rec meta p left) r = recover_action rec meta p r
+read_action s r = Other
 
 ---- what its client knows
 
 -- An image is a committed record that a read of its key came to.
-abbrev pub IsImage : List Played → Record → Type 0
-IsImage past b = IsSettled past b.key b × (is_taken b ≡ true) × (is_in state.Committed b.columns ≡ true)
+abbrev pub IsImage : List Labelled → Record → Type 0
+IsImage past b = IsSettled past b.key b × (is_transactional b ≡ true) × (is_in state.Committed b.columns ≡ true)
 
--- a row that is left was shown, and is of a table
-abbrev pub IsLeft : List Played → Record → Type 0
-IsLeft past r = IsShown past r × (is_data r.key ≡ true)
+-- a row that is left was observed, and is of a table
+abbrev pub IsLeft : List Labelled → Record → Type 0
+IsLeft past r = IsObserved past r × (is_data r.key ≡ true)
 
 -- keys rise strictly
 abbrev pub Rise : List Key → Type 0
@@ -114,8 +114,8 @@ Rise [] = Unit {0}
 Rise (k ∷ ks) = AllByRecursion (λ q. key_cmp k q ≡ Less) ks × Rise ks
 
 -- keys that rise, each one that the access reads
-abbrev pub InPlace : Access → List Key → Type 0
-InPlace a ks = Rise ks × AllByRecursion (λ k. in_access a k ≡ true) ks
+abbrev pub AreInOrder : Access → List Key → Type 0
+AreInOrder a ks = Rise ks × AllByRecursion (λ k. in_access a k ≡ true) ks
 
 -- the keys of records, in their order
 abbrev pub keys_of : List Record → List Key
@@ -126,8 +126,8 @@ abbrev pub IsOfData : Access → Type 0
 IsOfData a = (k : Key) → in_access a k ≡ true → is_data k ≡ true
 
 -- What the client knows where a read is: of each image and each row left; the keys are those of the access, in order.
-abbrev pub ReadOk : List Played → Access → ReadAt → Type 0
+abbrev pub ReadOk : List Labelled → Access → ReadAt → Type 0
 ReadOk past a Asking = Unit {0}
-ReadOk past a (Resolving images rec meta p left) = AllByRecursion (IsImage past) images × RecoverOk past rec meta p × AllByRecursion (IsLeft past) left × InPlace a (keys_of images ++ rec.key ∷ keys_of left)
-ReadOk past a (Done images) = AllByRecursion (IsImage past) images × InPlace a (keys_of images)
+ReadOk past a (Resolving images rec meta p left) = AllByRecursion (IsImage past) images × RecoverOk past rec meta p × AllByRecursion (IsLeft past) left × AreInOrder a (keys_of images ++ rec.key ∷ keys_of left)
+ReadOk past a (Done images) = AllByRecursion (IsImage past) images × AreInOrder a (keys_of images)
 ReadOk past a Failed = Unit {0}

@@ -6,28 +6,28 @@ use Rattle.sdb_types.specs.declared.record.State.TheVariants as state
 use Rattle.sdb_record.specs.declared.coordinator.Decision.TheVariants as decision
 use Rattle.sdb_record.specs.declared.meta.Meta.{Meta}
 use Rattle.sdb_record.specs.Meta.{id_in, is_in, is_moment, is_committed, is_unresolved}
-use Rattle.sdb_laws.specs.History.{Role, Other, Aborts, Rolls}
-use Rattle.sdb_laws.specs.Lawful.{Played, word_of, talk, IsShown, IsRowShown}
+use Rattle.sdb_laws.specs.History.{Action, Other, Aborts, Rolls}
+use Rattle.sdb_laws.specs.Lawful.{Labelled, ack_of, protocol_state, IsObserved, IsRowObserved}
 use Rattle.sdb_phases.specs.declared.step.RecoverPhase.{RecoverPhase}
 use Rattle.sdb_phases.specs.declared.step.RecoverPhase.TheVariants as phase
 use Rattle.sdb_model.specs.Tables.{is_data}
 
 -- The part of a recovery's call: a put of the row ABORTED of the record's transaction, or the roll of the record.
-abbrev pub recover_role : Record → Meta → RecoverPhase → Reply → Role
-recover_role rec meta (phase.Abort moment) r = Aborts meta.id.0 moment (word_of r)
-recover_role rec meta (phase.Forward at) r = Rolls meta.id.0 rec.key decision.Committed
-recover_role rec meta phase.Back r = Rolls meta.id.0 rec.key decision.Aborted
-recover_role rec meta p r = Other
+abbrev pub recover_action : Record → Meta → RecoverPhase → Reply → Action
+recover_action rec meta (phase.Abort moment) r = Aborts meta.id.0 moment (ack_of r)
+recover_action rec meta (phase.Forward at) r = Rolls meta.id.0 rec.key decision.Committed
+recover_action rec meta phase.Back r = Rolls meta.id.0 rec.key decision.Aborted
+recover_action rec meta p r = Other
 
--- A row ABORTED was shown, or a put of it was seen and applied: whatever comes later, this stays so.
-abbrev pub IsLearnedAborted : List Played → ℕ → Type 0
-IsLearnedAborted past t = ((m : ℤ) × IsRowShown past t decision.Aborted m) ⊎ ((talk past).dead t ≡ true)
+-- A row ABORTED was observed, or a put of it was seen and applied: whatever comes later, this stays so.
+abbrev pub IsLearnedAborted : List Labelled → ℕ → Type 0
+IsLearnedAborted past t = ((m : ℤ) × IsRowObserved past t decision.Aborted m) ⊎ ((protocol_state past).dead t ≡ true)
 
--- What is known where a call of a recovery is pending: the moment at which ABORTED is put is one, the row COMMITTED was shown
+-- What is known where a call of a recovery is pending: the moment at which ABORTED is put is one, the row COMMITTED was observed
 -- before a roll forward, and ABORTED was learned before a roll back.
-abbrev pub PhaseOk : List Played → Meta → RecoverPhase → Type 0
+abbrev pub PhaseOk : List Labelled → Meta → RecoverPhase → Type 0
 PhaseOk past meta (phase.Abort moment) = is_moment moment ≡ true
-PhaseOk past meta (phase.Forward at) = IsRowShown past meta.id.0 decision.Committed at × (is_moment at ≡ true)
+PhaseOk past meta (phase.Forward at) = IsRowObserved past meta.id.0 decision.Committed at × (is_moment at ≡ true)
 PhaseOk past meta phase.Back = IsLearnedAborted past meta.id.0
 PhaseOk past meta p = Unit {0}
 
@@ -38,10 +38,10 @@ pub record IsMetaOf (rec : Record) (meta : Meta) : Type 0 where
   pub fits : meta.id.0 < 2 ^ 128
   pub is_open : is_committed meta.state ≡ false
 
--- A recovery is of an unresolved record of a table that was shown.
-pub record RecoverOk (past : List Played) (rec : Record) (meta : Meta) (p : RecoverPhase) : Type 0 where
+-- A recovery is of an unresolved record of a table that was observed.
+pub record RecoverOk (past : List Labelled) (rec : Record) (meta : Meta) (p : RecoverPhase) : Type 0 where
   pub of : IsMetaOf rec meta
   pub unresolved : is_unresolved rec ≡ true
-  pub shown : IsShown past rec
+  pub shown : IsObserved past rec
   pub outside : is_data rec.key ≡ true
   pub phase : PhaseOk past meta p

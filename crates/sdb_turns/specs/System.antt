@@ -1,4 +1,4 @@
--- Several clients: where each is, and what is so of all of them after the events so far.
+-- Several clients: where each is, and what holds of all of them after the events so far.
 use Rattle.std.specs.Prelude.{◌≡◌, ◌≢◌, ◌⊎◌, ◌≤◌, ◌<◌, ◌+◌, ◌/◌, ◌%◌, ◌^◌, ℕ, ℤ, Bool, true, false, List, Option, Some, None}
 use Rattle.sdb_types.specs.declared.txid.TxId.{TxId}
 use Rattle.sdb_types.specs.declared.record.Request.{Request}
@@ -16,17 +16,17 @@ use Rattle.sdb_model.specs.Sql.{reads_begin, reads_commit}
 use Rattle.sdb_model.specs.Transactions.{id_of}
 use Rattle.sdb_laws.specs.Plan.{Plan}
 use Rattle.sdb_laws.specs.History as laws
-use Rattle.sdb_laws.specs.History.{Begins, Takes, Talk}
-use Rattle.sdb_laws.specs.Lawful.{Played, IsLawful, talk, answer_of, is_quiet, plays}
+use Rattle.sdb_laws.specs.History.{Begins, Takes, ProtocolState}
+use Rattle.sdb_laws.specs.Lawful.{Labelled, IsLawful, protocol_state, answer_of, is_quiet, labelled_with}
 use Rattle.sdb_phases.specs.declared.step.Outcome.{Outcome}
 use Rattle.sdb_phases.specs.declared.step.Outcome.TheVariants as outcome
 use Rattle.sdb_phases.specs.Work.{Work}
 use Rattle.sdb_phases.specs.Commit.{Stage, Over, step, preparing}
 use Rattle.sdb_snapshot.specs.Seen.{Seen}
-use Rattle.sdb_turns.specs.Owner.{CommitOk, plan_of, role_of}
-use Rattle.sdb_turns.specs.Noted.{OpenOk, SeenOk}
+use Rattle.sdb_turns.specs.Owner.{CommitOk, plan_of, action_of}
+use Rattle.sdb_turns.specs.Reads.{OpenOk, SeenOk}
 use Rattle.sdb_turns.specs.ReadAt.{ReadAt, IsOfData, ReadOk}
-use Rattle.sdb_turns.specs.Sweep.{SweepAt, SweepOk}
+use Rattle.sdb_turns.specs.Vacuum.{VacuumModel, VacuumModelOk}
 
 ---- clients
 
@@ -37,17 +37,17 @@ pub data ClientAt : Type 0 where
   Open : (id : TxId) (seen : Seen) → ClientAt
   Reading : (id : TxId) (seen : Seen) (access : Access) (read : ReadAt) → ClientAt
   Committing : (work : Work) (stage : Stage) → ClientAt
-  Sweeping : (sweep : SweepAt) → ClientAt
+  RunsVacuum : (vacuuming : VacuumModel) → ClientAt
   Stopped : ClientAt
 
 -- what a client knows after the events so far
-abbrev pub ClientOk : (ℕ → Plan) → List Played → ℕ → ClientAt → Type 0
-ClientOk plan past c Resting = (talk past).stopped c ≡ false
-ClientOk plan past c (Open id seen) = OpenOk (talk past) c id.0 × SeenOk past seen
-ClientOk plan past c (Reading id seen a r) = OpenOk (talk past) c id.0 × SeenOk past seen × IsOfData a × ReadOk past a r
+abbrev pub ClientOk : (ℕ → Plan) → List Labelled → ℕ → ClientAt → Type 0
+ClientOk plan past c Resting = (protocol_state past).stopped c ≡ false
+ClientOk plan past c (Open id seen) = OpenOk (protocol_state past) c id.0 × SeenOk past seen
+ClientOk plan past c (Reading id seen a r) = OpenOk (protocol_state past) c id.0 × SeenOk past seen × IsOfData a × ReadOk past a r
 ClientOk plan past c (Committing p s) = CommitOk plan past c p s
-ClientOk plan past c (Sweeping v) = ((talk past).stopped c ≡ false) × SweepOk past v
-ClientOk plan past c Stopped = (talk past).stopped c ≡ true
+ClientOk plan past c (RunsVacuum v) = ((protocol_state past).stopped c ≡ false) × VacuumModelOk past v
+ClientOk plan past c Stopped = (protocol_state past).stopped c ≡ true
 
 -- a client's open transaction has that number
 abbrev pub Has : ClientAt → ℕ → Type 0
@@ -64,12 +64,12 @@ has_open (Committing p s) = true
 has_open x = false
 
 -- a client runs VACUUM
-abbrev pub sweeps : ClientAt → Bool
-sweeps (Sweeping v) = true
-sweeps x = false
+abbrev pub is_in_vacuum : ClientAt → Bool
+is_in_vacuum (RunsVacuum v) = true
+is_in_vacuum x = false
 
 -- no transaction is open of a client that goes on
-abbrev pub Gate : Talk → Type 0
+abbrev pub Gate : ProtocolState → Type 0
 Gate h = (u : ℕ) → h.is_open u ≡ true → h.stopped (h.owner u) ≡ true
 
 ---- all clients
@@ -80,20 +80,20 @@ pub record SystemAt : Type 0 where
   pub begun : ℕ → ℕ
 
 -- The number of a transaction that has begun gives its client and which of the client's transactions it is, from 1.
-pub record IsNumbered (h : Talk) (begun : ℕ → ℕ) (t : ℕ) : Type 0 where
+pub record IsNumbered (h : ProtocolState) (begun : ℕ → ℕ) (t : ℕ) : Type 0 where
   pub ordinal : 0 < t % 2 ^ 64
   pub most : t % 2 ^ 64 ≤ begun (t / 2 ^ 64)
   pub owner : h.owner t ≡ t / 2 ^ 64
 
--- What is so of all clients after the events so far. With these plans the events keep the rules of the protocol.
-pub record SystemOk (plan : ℕ → Plan) (past : List Played) (sys : SystemAt) : Type 0 where
+-- What holds of all clients after the events so far. With these plans the events keep the rules of the protocol.
+pub record SystemOk (plan : ℕ → Plan) (past : List Labelled) (sys : SystemAt) : Type 0 where
   pub lawful : IsLawful plan past
   pub each : (c : ℕ) → ClientOk plan past c (sys.clients c)
   -- a transaction that is open is that of its client, unless that has stopped
-  pub opened : (u : ℕ) → (talk past).is_open u ≡ true → ((talk past).stopped ((talk past).owner u) ≡ true) ⊎ Has (sys.clients ((talk past).owner u)) u
+  pub opened : (u : ℕ) → (protocol_state past).is_open u ≡ true → ((protocol_state past).stopped ((protocol_state past).owner u) ≡ true) ⊎ Has (sys.clients ((protocol_state past).owner u)) u
   -- while a client runs VACUUM no transaction is open of a client that goes on
-  pub gate : (c : ℕ) → sweeps (sys.clients c) ≡ true → Gate (talk past)
-  pub ids : (t : ℕ) → (talk past).begun t ≢ 0 → IsNumbered (talk past) sys.begun t
+  pub gate : (c : ℕ) → is_in_vacuum (sys.clients c) ≡ true → Gate (protocol_state past)
+  pub ids : (t : ℕ) → (protocol_state past).begun t ≢ 0 → IsNumbered (protocol_state past) sys.begun t
 
 -- with one client elsewhere
 abbrev pub with_client : SystemAt → ℕ → ClientAt → SystemAt
@@ -122,8 +122,8 @@ IsBy d (event.Clock moment) = ⊥
 IsBy d (event.Idle c) = c ≡ d
 
 -- an event ends no transaction but one of that client
-abbrev pub EndsOwn : List Played → ℕ → Played → Type 0
-EndsOwn past c q = (u : ℕ) → q.ends ≡ Some u → (talk past).owner u ≡ c
+abbrev pub EndsOwn : List Labelled → ℕ → Labelled → Type 0
+EndsOwn past c q = (u : ℕ) → q.ends ≡ Some u → (protocol_state past).owner u ≡ c
 
 ---- calls
 
@@ -146,8 +146,8 @@ pub record IsReplyTo (pending : Option Request) (x : ClientCall) : Type 0 where
   pub can : CanAnswer x.request x.reply
   pub moment : is_moment x.now ≡ true
 
--- all is so of all clients, and this one is there
-pub record StandsAt (plan : ℕ → Plan) (past : List Played) (sys : SystemAt) (c : ℕ) (x : ClientAt) : Type 0 where
+-- the invariant holds of all clients, and this one is in that state
+pub record IsInState (plan : ℕ → Plan) (past : List Labelled) (sys : SystemAt) (c : ℕ) (x : ClientAt) : Type 0 where
   pub ok : SystemOk plan past sys
   pub at : sys.clients c ≡ x
 
@@ -157,8 +157,8 @@ pub record IsQuiet (e : Event) : Type 0 where
   pub other : answer_of e ≢ Some answer.Committed
 
 -- no client runs VACUUM
-abbrev pub NoneSweeps : SystemAt → Type 0
-NoneSweeps sys = (d : ℕ) → sweeps (sys.clients d) ≡ false
+abbrev pub NoneRunVacuum : SystemAt → Type 0
+NoneRunVacuum sys = (d : ℕ) → is_in_vacuum (sys.clients d) ≡ false
 
 -- no client has an open transaction, but one that has stopped
 abbrev pub NoneOpen : SystemAt → Type 0
@@ -171,8 +171,8 @@ pub record IsBegin (sys : SystemAt) (c : ℕ) (text : List ℕ) : Type 0 where
   pub ordinal : sys.begun c + 1 < 2 ^ 64
 
 -- a BEGIN is answered Done
-abbrev pub begin_played : SystemAt → ℕ → List ℕ → Played
-begin_played sys c text = plays (Begins (next_id sys c).0 c) (event.Take c text (Some answer.Done))
+abbrev pub begin_labelled : SystemAt → ℕ → List ℕ → Labelled
+begin_labelled sys c text = labelled_with (Begins (next_id sys c).0 c) (event.Take c text (Some answer.Done))
 
 ---- a COMMIT
 
@@ -202,8 +202,8 @@ commit_left p (Over a) = Resting
 commit_left p s = Committing p s
 
 -- The call of a COMMIT at a stage: where the COMMIT is then over, it gives the answer and ends the transaction.
-abbrev pub commit_played : Work → Stage → ClientCall → Played
-commit_played p s x = record { event = call_event x (answer_at (step p s x.reply)); role = role_of p s x.reply; ends = ending_at p.id.0 (step p s x.reply) }
+abbrev pub commit_labelled : Work → Stage → ClientCall → Labelled
+commit_labelled p s x = record { event = call_event x (answer_at (step p s x.reply)); action = action_of p s x.reply; ends = ending_at p.id.0 (step p s x.reply) }
 
 -- the same plans, but for that transaction
 abbrev pub with_plan : (ℕ → Plan) → Work → ℕ → Plan
@@ -215,8 +215,8 @@ pub record IsCommit (text : List ℕ) (now : ℤ) : Type 0 where
   pub moment : is_moment now ≡ true
 
 -- its taking
-abbrev pub take_played : ℕ → List ℕ → Work → Played
-take_played c text p = plays (Takes p.id.0) (event.Take c text None)
+abbrev pub take_labelled : ℕ → List ℕ → Work → Labelled
+take_labelled c text p = labelled_with (Takes p.id.0) (event.Take c text None)
 
 -- the client then makes the first call of the COMMIT
 abbrev pub commit_begun : SystemAt → ℕ → Work → SystemAt
@@ -225,5 +225,5 @@ commit_begun sys c p = with_client sys c (commit_left p (preparing p 0))
 ---- plans
 
 -- two plans are one for each transaction whose COMMIT was taken
-abbrev pub SamePlans : (ℕ → Plan) → (ℕ → Plan) → List Played → Type 0
-SamePlans plan other past = (t : ℕ) → (talk past).taken t ≡ true → plan t ≡ other t
+abbrev pub SamePlans : (ℕ → Plan) → (ℕ → Plan) → List Labelled → Type 0
+SamePlans plan other past = (t : ℕ) → (protocol_state past).taken t ≡ true → plan t ≡ other t

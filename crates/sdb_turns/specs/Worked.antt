@@ -12,8 +12,8 @@ use Rattle.sdb_phases.specs.Work.{Work}
 use Rattle.sdb_snapshot.specs.Seen as snapshot
 use Rattle.sdb_snapshot.specs.Seen.{nothing, with_written}
 use Rattle.sdb_laws.specs.Plan.{Plan}
-use Rattle.sdb_laws.specs.Lawful.{Played, talk}
-use Rattle.sdb_turns.specs.Noted.{with_read, work_of}
+use Rattle.sdb_laws.specs.Lawful.{Labelled, protocol_state}
+use Rattle.sdb_turns.specs.Reads.{with_read, work_of}
 use Rattle.sdb_turns.specs.System.{SystemAt, SystemOk, ClientCall, idle, next_id}
 
 -- the transaction, and what it inserts
@@ -40,10 +40,10 @@ first_work = work_of first_id (pos 0) wrote_once
 abbrev pub call_of : Request → Reply → ClientCall
 call_of q r = record { client = 1; store = codes "ordered"; request = q; how = Seen; reply = r; now = pos 0 }
 
--- Events, plans and clients with which all is so, and after which the transaction's put of COMMITTED was seen and applied.
+-- Events, plans and clients for which the invariant holds, and after which the transaction's put of COMMITTED was seen and applied.
 pub record SomeCommit : Type 0 where
   pub plan : ℕ → Plan
-  pub past : List Played
+  pub past : List Labelled
   pub sys : SystemAt
   pub ok : SystemOk plan past sys
-  pub won : (talk past).won first_id.0 ≡ true
+  pub won : (protocol_state past).won first_id.0 ≡ true

@@ -1,7 +1,7 @@
-//! What each of several clients knows while their events follow each other, and that each turn of a client keeps the rules of
-//! the protocol and what all clients know.
+//! An inductive invariant of any number of clients, and the proof that every step of a client preserves it and obeys the rules of the
+//! protocol.
 //!
-//! It speaks of models of clients, of what replies said to them, and of no store. Each law is the contract of a function with
+//! It speaks of models of clients, of the replies to them, and of no store. Each law is the contract of a function with
 //! an empty body.
 #![tactic(auto)]
 

@@ -6,37 +6,37 @@ ghost use Rattle.sdb_record.specs.declared.access.Access.{Access};
 ghost use Rattle.sdb_record.specs.declared.access.Access.TheVariants as access;
 ghost use Rattle.sdb_record.specs.declared.write.Keyed.{Keyed};
 ghost use Rattle.sdb_phases.specs.Work.{Work};
-ghost use Rattle.sdb_phases.specs.Commit.{Stage, starved};
+ghost use Rattle.sdb_phases.specs.Commit.{Stage, out_of_memory};
 ghost use Rattle.sdb_snapshot.specs.Seen.{with_written};
 ghost use Rattle.sdb_snapshot.specs.Written.{AreChanges};
-ghost use Rattle.sdb_turns.specs.Knowledge.{Knowledge, MaySweep, MovesTo, OpenClient, ReadingClient, seen_with};
-ghost use Rattle.sdb_turns.specs.Noted.{MayNote};
+ghost use Rattle.sdb_turns.specs.Knowledge.{Knowledge, MayScanSpan, StepsTo, OpenClient, ReadingClient, seen_with};
+ghost use Rattle.sdb_turns.specs.Reads.{MayRecord};
 ghost use Rattle.sdb_turns.specs.ReadAt.{ReadAt, Asking, Done, IsOfData};
-ghost use Rattle.sdb_turns.specs.Sweep.{SweepAt, Scanning};
-ghost use Rattle.sdb_turns.specs.System.{Resting, Open, Reading, Committing, Sweeping};
+ghost use Rattle.sdb_turns.specs.Vacuum.{VacuumModel, Scanning};
+ghost use Rattle.sdb_turns.specs.System.{Resting, Open, Reading, Committing, RunsVacuum};
 
-/// A statement begins to read tables of records; a read that is done is noted; a read that failed, or whose rows are not noted,
+/// A statement begins to read tables of records; a read that is done is recorded; a read that failed, or whose rows are not recorded,
 /// is given up.
 pub fn reads()
-    ensures asks { (k : Knowledge) (o : OpenClient k.sys) (a : Access) → IsOfData a → MovesTo k o.client (Reading o.id o.seen a Asking) }
-    ensures notes { (k : Knowledge) (images : List Record) (r : ReadingClient k.sys (Done images)) → MayNote r.seen r.asked images → MovesTo k r.client (Open r.id (seen_with r images)) }
-    ensures gives_up { (k : Knowledge) (s : ReadAt) (r : ReadingClient k.sys s) → MovesTo k r.client (Open r.id r.seen) }
+    ensures asks { (k : Knowledge) (o : OpenClient k.sys) (a : Access) → IsOfData a → StepsTo k o.client (Reading o.id o.seen a Asking) }
+    ensures read_set { (k : Knowledge) (images : List Record) (r : ReadingClient k.sys (Done images)) → MayRecord r.seen r.asked images → StepsTo k r.client (Open r.id (seen_with r images)) }
+    ensures gives_up { (k : Knowledge) (s : ReadAt) (r : ReadingClient k.sys s) → StepsTo k r.client (Open r.id r.seen) }
 {}
 
 /// A statement writes changes of keys that were read.
 pub fn writes()
-    ensures { (k : Knowledge) (o : OpenClient k.sys) (changes : List Keyed) → AreChanges o.seen.notes changes → MovesTo k o.client (Open o.id (with_written o.seen changes)) }
+    ensures { (k : Knowledge) (o : OpenClient k.sys) (changes : List Keyed) → AreChanges o.seen.read_set changes → StepsTo k o.client (Open o.id (with_written o.seen changes)) }
 {}
 
 /// A COMMIT may answer out of memory in place of a conflict.
 pub fn starves()
-    ensures { (k : Knowledge) (c : ℕ) (p : Work) (s : Stage) → k.sys.clients c ≡ Committing p s → MovesTo k c (Committing p (starved s)) }
+    ensures { (k : Knowledge) (c : ℕ) (p : Work) (s : Stage) → k.sys.clients c ≡ Committing p s → StepsTo k c (Committing p (out_of_memory s)) }
 {}
 
 /// VACUUM starts with the rows of a table while no client that goes on has an open transaction; goes on to a further table; and
 /// ends.
 pub fn vacuums()
-    ensures starts { (k : Knowledge) (c : ℕ) (span : Span) → MaySweep k.sys c span → MovesTo k c (Sweeping (Scanning span)) }
-    ensures goes_on { (k : Knowledge) (c : ℕ) (v : SweepAt) (span : Span) → k.sys.clients c ≡ Sweeping v → IsOfData (access.Scan span) → MovesTo k c (Sweeping (Scanning span)) }
-    ensures ends { (k : Knowledge) (c : ℕ) (v : SweepAt) → k.sys.clients c ≡ Sweeping v → MovesTo k c Resting }
+    ensures starts { (k : Knowledge) (c : ℕ) (span : Span) → MayScanSpan k.sys c span → StepsTo k c (RunsVacuum (Scanning span)) }
+    ensures goes_on { (k : Knowledge) (c : ℕ) (v : VacuumModel) (span : Span) → k.sys.clients c ≡ RunsVacuum v → IsOfData (access.Scan span) → StepsTo k c (RunsVacuum (Scanning span)) }
+    ensures ends { (k : Knowledge) (c : ℕ) (v : VacuumModel) → k.sys.clients c ≡ RunsVacuum v → StepsTo k c Resting }
 {}

@@ -10,29 +10,29 @@ use Rattle.sdb_phases.specs.Steps.{CanGet}
 use Rattle.sdb_read.specs.declared.read.ReadStep.{ReadStep}
 use Rattle.sdb_read.specs.declared.read.ReadStep.TheVariants as step
 use Rattle.sdb_read.specs.Read.{ReadAt, ReadStage, Asking, Resolving, Ended, read_result, read_step, request_of}
-use Rattle.sdb_read.specs.Fine.{ArePlaced, IsFine, IsFineStep}
+use Rattle.sdb_read.specs.Valid.{AreWithin, IsValid, IsValidStep}
 use Rattle.sdb_read.proofs.Keeps.{step_fine}
 use Rattle.sdb_snapshot.specs.Seen.{Seen}
 use Rattle.sdb_txn.specs.declared.txn.Doing.{Doing}
 use Rattle.sdb_txn.specs.declared.txn.Doing.TheVariants as doing
 use Rattle.sdb_txn.specs.declared.progress.Progress.{Progress}
 use Rattle.sdb_txn.specs.declared.progress.Progress.TheVariants as progress
-use Rattle.sdb_txn.specs.Txn.{EndTold, IfReading, ImagesTold, IsReading, IsUnread, ReadTold, SpanTold, StepTold, TxnAt, idle, pending_in}
+use Rattle.sdb_txn.specs.Txn.{EndPost, IfReading, ImagesPost, IsReading, IsUnread, ReadPost, SpanPost, StepPost, TxnAt, idle, pending_in}
 use Rattle.sdb_txn.specs.Inside.{CanEnd, IsReadOf, IsTxn}
 use Rattle.sdb_record.specs.Rolls.{AreCommitted}
 
-images_fine : (q : Request) (s : ReadStage) (images : List Record) → IsFine q s → step.Images images ≡ read_result s → AreCommitted images × ArePlaced q images
+images_fine : (q : Request) (s : ReadStage) (images : List Record) → IsValid q s → step.Images images ≡ read_result s → AreCommitted images × AreWithin q images
 images_fine q Asking images f h = absurd (cc)
 images_fine q (Resolving before rec meta p left) images f h = absurd (cc)
-images_fine q (Ended e) images f h = subst (IsFineStep q) (sym h) f
+images_fine q (Ended e) images f h = subst (IsValidStep q) (sym h) f
 
 no_memory : (images : List Record) → step.Images images ≢ step.NoMemory
 no_memory images h = cc
 
-can_end : (s : Seen) (a : Access) (q : Request) (next : ReadStage) (e : ReadStep) → q ≡ request_of a → IsFine q next → IsUnread s a → (e ≢ step.NoMemory → e ≡ read_result next) → CanEnd s a e
+can_end : (s : Seen) (a : Access) (q : Request) (next : ReadStage) (e : ReadStep) → q ≡ request_of a → IsValid q next → IsUnread s a → (e ≢ step.NoMemory → e ≡ read_result next) → CanEnd s a e
 can_end s a q next (step.Images images) is f unread h =
-    let fine = images_fine q next images f (h (no_memory images)) in
-    record { unread = unread; firm = fine.0; placed = subst (λ (x : Request). ArePlaced x images) is fine.1 }
+    let valid = images_fine q next images f (h (no_memory images)) in
+    record { unread = unread; firm = valid.0; placed = subst (λ (x : Request). AreWithin x images) is valid.1 }
 can_end s a q next step.More is f unread h = tt
 can_end s a q next (step.Busy key id at) is f unread h = tt
 can_end s a q next step.Faulted is f unread h = tt
@@ -55,7 +55,7 @@ read_goes_on doing.Over u s r now e at inv can after more = absurd at
 
 ---- what the end of a read is told as
 
-span_told : (t u : TxnAt) (span : Span) (images : List Record) (p : Progress) → SpanTold (idle t) span images p u → SpanTold t span images p u
+span_told : (t u : TxnAt) (span : Span) (images : List Record) (p : Progress) → SpanPost (idle t) span images p u → SpanPost t span images p u
 span_told t u span images (progress.Rows rows) h = h
 span_told t u span images (progress.Conflict key found) h = h
 span_told t u span images progress.More h = absurd h
@@ -67,28 +67,28 @@ span_told t u span images progress.Committed h = absurd h
 span_told t u span images (progress.Expired id) h = absurd h
 span_told t u span images (progress.Unknown id) h = absurd h
 
-images_told : (t u : TxnAt) (a : Access) (images : List Record) (p : Progress) → ImagesTold (idle t) a images p u → ImagesTold t a images p u
-images_told t u (access.Get key) images p h = record { unread = h.unread; noted = h.noted; rows = h.rows }
+images_told : (t u : TxnAt) (a : Access) (images : List Record) (p : Progress) → ImagesPost (idle t) a images p u → ImagesPost t a images p u
+images_told t u (access.Get key) images p h = record { unread = h.unread; as_read = h.as_read; rows = h.rows }
 images_told t u (access.Scan span) images p h = span_told t u span images p h
 
-step_told : (t u : TxnAt) (a : Access) (x : ReadAt) (next : ReadStage) (e : ReadStep) (p : Progress) → (e ≢ step.NoMemory → e ≡ read_result next) → EndTold (idle t) a e p u → StepTold t a x next (read_result next) p u
-step_told t u a x next (step.Images images) p h told = subst (λ (s : ReadStep). StepTold t a x next s p u) (h (λ e. cc)) (images_told t u a images p told)
+step_told : (t u : TxnAt) (a : Access) (x : ReadAt) (next : ReadStage) (e : ReadStep) (p : Progress) → (e ≢ step.NoMemory → e ≡ read_result next) → EndPost (idle t) a e p u → StepPost t a x next (read_result next) p u
+step_told t u a x next (step.Images images) p h told = subst (λ (s : ReadStep). StepPost t a x next s p u) (h (λ e. cc)) (images_told t u a images p told)
 step_told t u a x next step.More p h told = absurd told
-step_told t u a x next (step.Busy key id at) p h told = subst (λ (s : ReadStep). StepTold t a x next s p u) (h (λ e. cc)) told
-step_told t u a x next step.Faulted p h told = subst (λ (s : ReadStep). StepTold t a x next s p u) (h (λ e. cc)) told
-step_told t u a x next (step.BadRecord key) p h told = subst (λ (s : ReadStep). StepTold t a x next s p u) (h (λ e. cc)) told
+step_told t u a x next (step.Busy key id at) p h told = subst (λ (s : ReadStep). StepPost t a x next s p u) (h (λ e. cc)) told
+step_told t u a x next step.Faulted p h told = subst (λ (s : ReadStep). StepPost t a x next s p u) (h (λ e. cc)) told
+step_told t u a x next (step.BadRecord key) p h told = subst (λ (s : ReadStep). StepPost t a x next s p u) (h (λ e. cc)) told
 step_told t u a x next step.NoMemory p h told = absurd told
 
-told_in : (d : Doing) (t v u : TxnAt) (b : Access) (r : Reply) (now : ℤ) (e : ReadStep) (p : Progress) → IsReading d → IfReading d (λ a x. e ≢ step.NoMemory → e ≡ read_result (read_step x.stage now r)) → IfReading d (λ a x. b ≡ a) → v ≡ idle t → (p ≡ progress.NoMemory → u ≡ v) → (p ≢ progress.NoMemory → EndTold v b e p u) → IfReading d (λ a x. ReadTold t a x r now p u)
+told_in : (d : Doing) (t v u : TxnAt) (b : Access) (r : Reply) (now : ℤ) (e : ReadStep) (p : Progress) → IsReading d → IfReading d (λ a x. e ≢ step.NoMemory → e ≡ read_result (read_step x.stage now r)) → IfReading d (λ a x. b ≡ a) → v ≡ idle t → (p ≡ progress.NoMemory → u ≡ v) → (p ≢ progress.NoMemory → EndPost v b e p u) → IfReading d (λ a x. ReadPost t a x r now p u)
 told_in (doing.Read a x) t v u b r now e p at step same is memory told = record {
   memory = λ h. memory h ∙ is;
-  told = λ h. step_told t u a x (read_step x.stage now r) e p step (subst (λ (y : TxnAt). EndTold y a e p u) is (subst (λ (y : Access). EndTold v y e p u) same (told h)));
+  told = λ h. step_told t u a x (read_step x.stage now r) e p step (subst (λ (y : TxnAt). EndPost y a e p u) is (subst (λ (y : Access). EndPost v y e p u) same (told h)));
 }
 told_in doing.Idle t v u b r now e p at step same is memory told = tt
 told_in (doing.Commit c) t v u b r now e p at step same is memory told = tt
 told_in doing.Over t v u b r now e p at step same is memory told = tt
 
-pub end_told : (t v u : TxnAt) (b : Access) (r : Reply) (now : ℤ) (e : ReadStep) (p : Progress) → IsReading t.doing → IfReading t.doing (λ a x. e ≢ step.NoMemory → e ≡ read_result (read_step x.stage now r)) → IfReading t.doing (λ a x. b ≡ a) → v ≡ idle t → (p ≡ progress.NoMemory → u ≡ v) → (p ≢ progress.NoMemory → EndTold v b e p u) → IfReading t.doing (λ a x. ReadTold t a x r now p u)
+pub end_told : (t v u : TxnAt) (b : Access) (r : Reply) (now : ℤ) (e : ReadStep) (p : Progress) → IsReading t.doing → IfReading t.doing (λ a x. e ≢ step.NoMemory → e ≡ read_result (read_step x.stage now r)) → IfReading t.doing (λ a x. b ≡ a) → v ≡ idle t → (p ≡ progress.NoMemory → u ≡ v) → (p ≢ progress.NoMemory → EndPost v b e p u) → IfReading t.doing (λ a x. ReadPost t a x r now p u)
 end_told t v u b r now e p = told_in t.doing t v u b r now e p
 
 pub same_read : (d u : Doing) (b : Access) (y : ReadAt) → IfReading d (λ a x. IsReadOf a u) → u ≡ doing.Read b y → IfReading d (λ a x. b ≡ a)

@@ -27,7 +27,7 @@ pub enum Progress {
     Unknown(TxId),
 }
 
-/// What the answer of a COMMIT is told as; another call is pending where there is none yet.
+/// What the answer of a COMMIT is returned as; another call is pending where there is none yet.
 pub fn told(answer: Option<Outcome>) -> Progress
     ensures { result ≡ progress_of answer }
 {

@@ -5,13 +5,13 @@ ghost use Rattle.sdb_record.specs.declared.access.Access.TheVariants as access;
 ghost use Rattle.sdb_phases.specs.CommitLaws.{IsWork};
 ghost use Rattle.sdb_phases.specs.Steps.{CanGet};
 ghost use Rattle.sdb_read.specs.Read.{read_result, read_step};
-ghost use Rattle.sdb_snapshot.specs.Noted.{is_noted};
+ghost use Rattle.sdb_snapshot.specs.Reads.{is_key_read};
 ghost use Rattle.sdb_snapshot.specs.Written.{AreChanges, most_writes};
-ghost use Rattle.sdb_snapshot.specs.Held.{AreKept};
+ghost use Rattle.sdb_snapshot.specs.Sets.{IsSetInvariant};
 ghost use Rattle.sdb_snapshot.specs.Seen.{forgotten, is_scanned, mark_of, overlay, with_written};
-ghost use Rattle.sdb_snapshot.specs.declared.drafts.WriteRefused.TheVariants as refused;
-ghost use Rattle.sdb_txn.specs.Txn.{AreCallsCounted, CommitTold, EndTold, IfCommitting, IsCommitting, IsReading, IfReading, ImagesTold, IsBegun, IsShown, IsUnread, KeyTold, ReadTold, SpanTold, begun, committing, idle, pending, pending_in, reading, work_of};
-ghost use Rattle.sdb_txn.specs.Inside.{CanEnd, CanNote, IsReadOf};
+ghost use Rattle.sdb_snapshot.specs.declared.write_set.WriteRefused.TheVariants as refused;
+ghost use Rattle.sdb_txn.specs.Txn.{AreCallsCounted, CommitPost, EndPost, IfCommitting, IsCommitting, IsReading, IfReading, ImagesPost, IsBegun, IsLookedUp, IsUnread, KeyPost, ReadPost, SpanPost, begun, committing, idle, pending, pending_in, reading, work_of};
+ghost use Rattle.sdb_txn.specs.Inside.{CanEnd, CanRecord, IsReadOf};
 
 use crate::progress::{Progress, told};
 use sdb_commit::CommitPhases;
@@ -119,7 +119,7 @@ impl Txn {
 
     /// Whether a key was read: by a get, or as a row of a scan. Takes no memory.
     pub fn has_read(&self, key: &Key) -> bool
-        ensures { result ≡ is_noted self.now.seen.notes key.now }
+        ensures { result ≡ is_key_read self.now.seen.read_set key.now }
     {
         self.snapshot.lookup(key).is_some()
     }
@@ -154,8 +154,8 @@ impl Txn {
     /// Reads a key: its row at once where it was read or written, and else by a call.
     pub fn get(&mut self, key: Key) -> Progress
         requires idle { self.old.doing ≡ Doing.Idle }
-        ensures known { is_noted self.old.seen.notes key ≡ true → IsShown self.old (access.Get key) result self.new }
-        ensures unknown { is_noted self.old.seen.notes key ≡ false → IsBegun self.old (access.Get key) result self.new }
+        ensures known { is_key_read self.old.seen.read_set key ≡ true → IsLookedUp self.old (access.Get key) result self.new }
+        ensures unknown { is_key_read self.old.seen.read_set key ≡ false → IsBegun self.old (access.Get key) result self.new }
     {
         if self.snapshot.lookup(&key).is_none() {
             return self.read(Access::Get(key));
@@ -169,7 +169,7 @@ impl Txn {
     /// Reads a span: its rows at once where it was scanned, and else by a call.
     pub fn scan(&mut self, span: Span) -> Progress
         requires idle { self.old.doing ≡ Doing.Idle }
-        ensures known { is_scanned self.old.seen.scans span ≡ true → IsShown self.old (access.Scan span) result self.new }
+        ensures known { is_scanned self.old.seen.scans span ≡ true → IsLookedUp self.old (access.Scan span) result self.new }
         ensures unknown { is_scanned self.old.seen.scans span ≡ false → IsBegun self.old (access.Scan span) result self.new }
     {
         if !self.snapshot.scanned(&span) {
@@ -184,7 +184,7 @@ impl Txn {
     /// Writes changes of keys that were read, in order: all or, where they are refused, none.
     pub fn write(&mut self, changes: Changes) -> Result<(), WriteRefused>
         requires idle { self.old.doing ≡ Doing.Idle }
-        requires read { AreChanges self.old.seen.notes changes }
+        requires read { AreChanges self.old.seen.read_set changes }
         ensures ok { OnOk result (self.new ≡ record self.old { seen = with_written self.old.seen changes }) }
         ensures fits { OnOk result (length (with_written self.old.seen changes).writes ≤ most_writes) }
         ensures many { result ≡ Err refused.TooManyWrites → most_writes < length (with_written self.old.seen changes).writes }
@@ -196,7 +196,7 @@ impl Txn {
     /// How much it has read now. Takes no memory.
     pub fn mark(&self) -> Mark
         ensures mark { result ≡ mark_of self.now.seen }
-        ensures kept { AreKept self.now.seen.notes self.now.seen.writes }
+        ensures kept { IsSetInvariant self.now.seen.read_set self.now.seen.writes }
     {
         self.snapshot.mark()
     }
@@ -204,7 +204,7 @@ impl Txn {
     /// Forgets what was read after a mark, of which nothing was written. Takes no memory.
     pub fn forget(&mut self, mark: Mark)
         requires idle { self.old.doing ≡ Doing.Idle }
-        requires kept { AreKept (take mark.notes self.old.seen.notes) self.old.seen.writes }
+        requires kept { IsSetInvariant (take mark.read_set self.old.seen.read_set) self.old.seen.writes }
         ensures { self.new ≡ record self.old { seen = forgotten mark self.old.seen } }
     {
         self.snapshot.forget(mark);
@@ -237,13 +237,13 @@ impl Txn {
     /// Ends the transaction without a call.
     pub fn rollback(self) {}
 
-    /// Takes the reply to the pending call, at a moment from 0 to 2^53. A read may be out of memory at any call, and has then noted
+    /// Takes the reply to the pending call, at a moment from 0 to 2^53. A read may be out of memory at any call, and has then recorded
     /// nothing; a COMMIT only as its phases say.
     pub fn advance(&mut self, reply: Reply, now: i64) -> Progress
         requires pending { IsSome (pending self.old) }
         requires reply { CanGet (pending self.old) reply }
-        ensures read { IfReading self.old.doing (λ a x. ReadTold self.old a x reply now result self.new) }
-        ensures commit { IfCommitting self.old.doing (λ c. CommitTold self.old c reply result self.new) }
+        ensures read { IfReading self.old.doing (λ a x. ReadPost self.old a x reply now result self.new) }
+        ensures commit { IfCommitting self.old.doing (λ c. CommitPost self.old c reply result self.new) }
     {
         match &self.doing {
             Doing::Read(_, _) => self.read_took(reply, now),
@@ -257,7 +257,7 @@ impl Txn {
         requires at { IsReading self.old.doing }
         requires pending { IsSome (pending self.old) }
         requires reply { CanGet (pending self.old) reply }
-        ensures { IfReading self.old.doing (λ a x. ReadTold self.old a x reply now result self.new) }
+        ensures { IfReading self.old.doing (λ a x. ReadPost self.old a x reply now result self.new) }
     {
         let step = read_on(&mut self.doing, reply, now);
         if step == ReadStep::More {
@@ -272,12 +272,12 @@ impl Txn {
     // A read has ended.
     fn read_ended(&mut self, access: &Access, step: ReadStep) -> Progress
         requires idle { self.old.doing ≡ Doing.Idle }
-        requires fine { CanEnd self.old.seen access.now step }
+        requires valid { CanEnd self.old.seen access.now step }
         ensures memory { result ≡ Progress.NoMemory → self.new ≡ self.old }
-        ensures told { result ≢ Progress.NoMemory → EndTold self.old access.now step result self.new }
+        ensures told { result ≢ Progress.NoMemory → EndPost self.old access.now step result self.new }
     {
         match step {
-            ReadStep::Images(images) => self.note(access, images),
+            ReadStep::Images(images) => self.record_read(access, images),
             ReadStep::Busy(key, id, at) => Progress::Busy(key, id, at),
             ReadStep::Faulted => Progress::Faulted,
             ReadStep::BadRecord(key) => Progress::BadRecord(key),
@@ -290,7 +290,7 @@ impl Txn {
         requires at { IsCommitting self.old.doing (λ c. Unit {0}) }
         requires pending { IsSome (pending self.old) }
         requires reply { CanGet (pending self.old) reply }
-        ensures { IfCommitting self.old.doing (λ c. CommitTold self.old c reply result self.new) }
+        ensures { IfCommitting self.old.doing (λ c. CommitPost self.old c reply result self.new) }
     {
         let answer = match &mut self.doing {
             Doing::Commit(commit) => commit.take(reply),
@@ -302,10 +302,10 @@ impl Txn {
         told(answer)
     }
 
-    // Shows the rows that are seen where a read was noted, or forgets what was noted after the mark.
+    // Returns the rows that are seen where a read was recorded, or forgets what was recorded after the mark.
     fn show(&mut self, access: &Access, mark: Mark) -> Progress
         requires idle { self.old.doing ≡ Doing.Idle }
-        requires kept { AreKept (take mark.notes self.old.seen.notes) self.old.seen.writes }
+        requires kept { IsSetInvariant (take mark.read_set self.old.seen.read_set) self.old.seen.writes }
         ensures rows { result ≢ Progress.NoMemory → result ≡ Progress.Rows (overlay access.now self.old.seen) }
         ensures same { result ≢ Progress.NoMemory → self.new ≡ self.old }
         ensures memory { result ≡ Progress.NoMemory → self.new ≡ record self.old { seen = forgotten mark self.old.seen } }
@@ -332,48 +332,48 @@ impl Txn {
         Progress::Conflict(key, found)
     }
 
-    // Notes the record of a key, and shows the row that is seen then.
+    // Records the record of a key, and returns the row that is seen then.
     fn note_key(&mut self, whole: &Access, key: &Key, images: Records) -> Progress
         requires idle { self.old.doing ≡ Doing.Idle }
         requires of { whole.now ≡ access.Get key.now }
-        requires fine { CanNote self.old.seen (access.Get key.now) images }
+        requires valid { CanRecord self.old.seen (access.Get key.now) images }
         ensures memory { result ≡ Progress.NoMemory → self.new ≡ self.old }
-        ensures told { result ≢ Progress.NoMemory → KeyTold self.old key.now images result self.new }
+        ensures told { result ≢ Progress.NoMemory → KeyPost self.old key.now images result self.new }
     {
         let mark = self.snapshot.mark();
-        let Ok(noted) = key.copy() else {
+        let Ok(as_read) = key.copy() else {
             return Progress::NoMemory;
         };
-        match self.snapshot.note_get(noted, first(images)) {
+        match self.snapshot.note_get(as_read, first(images)) {
             Ok(()) => self.show(whole, mark),
             Err(_) => Progress::NoMemory,
         }
     }
 
-    // Notes the records of a span, and shows the rows that are seen then. A key that differs ends the transaction.
+    // Records the records of a span, and returns the rows that are seen then. A key that differs ends the transaction.
     fn note_span(&mut self, whole: &Access, span: &Span, images: Records) -> Progress
         requires idle { self.old.doing ≡ Doing.Idle }
         requires of { whole.now ≡ access.Scan span.now }
-        requires fine { CanNote self.old.seen (access.Scan span.now) images }
+        requires valid { CanRecord self.old.seen (access.Scan span.now) images }
         ensures memory { result ≡ Progress.NoMemory → self.new ≡ self.old }
-        ensures told { result ≢ Progress.NoMemory → SpanTold self.old span.now images result self.new }
+        ensures told { result ≢ Progress.NoMemory → SpanPost self.old span.now images result self.new }
     {
         let mark = self.snapshot.mark();
-        let Ok(noted) = span.copy() else {
+        let Ok(as_read) = span.copy() else {
             return Progress::NoMemory;
         };
-        match self.snapshot.note_scan(noted, images) {
+        match self.snapshot.note_scan(as_read, images) {
             Ok(()) => self.show(whole, mark),
             Err(NoteRefused::Differs(key, found)) => self.conflict(key, found),
             Err(NoteRefused::NoMemory) => Progress::NoMemory,
         }
     }
 
-    fn note(&mut self, access: &Access, images: Records) -> Progress
+    fn record_read(&mut self, access: &Access, images: Records) -> Progress
         requires idle { self.old.doing ≡ Doing.Idle }
-        requires fine { CanNote self.old.seen access.now images }
+        requires valid { CanRecord self.old.seen access.now images }
         ensures memory { result ≡ Progress.NoMemory → self.new ≡ self.old }
-        ensures told { result ≢ Progress.NoMemory → ImagesTold self.old access.now images result self.new }
+        ensures told { result ≢ Progress.NoMemory → ImagesPost self.old access.now images result self.new }
     {
         match access {
             Access::Get(key) => self.note_key(access, key, images),

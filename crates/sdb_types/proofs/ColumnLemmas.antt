@@ -11,7 +11,7 @@ use Rattle.sdb_types.specs.declared.memory.NoMemory.{NoMemory}
 use Rattle.sdb_types.specs.Order.{name_cmp}
 use Rattle.sdb_types.proofs.Bools.{and_first, and_second, and_both}
 use Rattle.sdb_types.proofs.KeyOrder.{name_exact, name_total}
-use Rattle.sdb_types.specs.Columns.{is_null, starts_above, are_columns, is_below, put_pair, take_out, with_column, place_in, stands_first}
+use Rattle.sdb_types.specs.Columns.{is_null, starts_above, are_columns, is_below, put_pair, take_out, with_column, place_in, is_first_name}
 use Rattle.sdb_types.proofs.Basics.{less_of}
 
 pub by_order : {G : Type 0} (r : Ordering) → (r ≡ Less → G) → (r ≡ Equal → G) → (r ≡ Greater → G) → G
@@ -19,7 +19,7 @@ by_order Less f g h = f refl
 by_order Equal f g h = g refl
 by_order Greater f g h = h refl
 
-pub put_before : (p : Pair) (es : List Pair) → stands_first p.name (drop (place_in p.name es) es) ≡ false → insert es (place_in p.name es) p ≡ put_pair p es
+pub put_before : (p : Pair) (es : List Pair) → is_first_name p.name (drop (place_in p.name es) es) ≡ false → insert es (place_in p.name es) p ≡ put_pair p es
 put_before p [] h = refl
 put_before p (e ∷ es) h =
     by_order (name_cmp e.name p.name)
@@ -27,7 +27,7 @@ put_before p (e ∷ es) h =
     (λ q. let t = simp q at h in cc)
     (λ q. simp q refl)
 
-pub put_over : (p : Pair) (es : List Pair) → stands_first p.name (drop (place_in p.name es) es) ≡ true → slice_set es (place_in p.name es) p ≡ put_pair p es
+pub put_over : (p : Pair) (es : List Pair) → is_first_name p.name (drop (place_in p.name es) es) ≡ true → slice_set es (place_in p.name es) p ≡ put_pair p es
 put_over p [] h = cc
 put_over p (e ∷ es) h =
     by_order (name_cmp e.name p.name)
@@ -35,7 +35,7 @@ put_over p (e ∷ es) h =
     (λ q. simp q refl)
     (λ q. let t = simp q at h in cc)
 
-pub take_at : (name : List ℕ) (es : List Pair) → stands_first name (drop (place_in name es) es) ≡ true → remove es (place_in name es) ≡ take_out name es
+pub take_at : (name : List ℕ) (es : List Pair) → is_first_name name (drop (place_in name es) es) ≡ true → remove es (place_in name es) ≡ take_out name es
 take_at name [] h = cc
 take_at name (e ∷ es) h =
     by_order (name_cmp e.name name)
@@ -43,7 +43,7 @@ take_at name (e ∷ es) h =
     (λ q. simp q refl)
     (λ q. let t = simp q at h in cc)
 
-pub take_none : (name : List ℕ) (es : List Pair) → stands_first name (drop (place_in name es) es) ≡ false → es ≡ take_out name es
+pub take_none : (name : List ℕ) (es : List Pair) → is_first_name name (drop (place_in name es) es) ≡ false → es ≡ take_out name es
 take_none name [] h = refl
 take_none name (e ∷ es) h =
     by_order (name_cmp e.name name)
@@ -145,16 +145,16 @@ parted-place name (e ∷ es) (suc n) h parted =
 
 -- the same at a place that a search has given
 module _ (p : Pair) (es : List Pair) (n : ℕ) (at : n ≡ place_in p.name es) where
-  pub with_column-over : stands_first p.name (drop n es) ≡ true → is_null p.value ≡ false → slice_set es n p ≡ with_column p es
+  pub with_column-over : is_first_name p.name (drop n es) ≡ true → is_null p.value ≡ false → slice_set es n p ≡ with_column p es
   with_column-over h k = let t = rw at at h in rw (at, k) (put_over p es t)
 
-  pub with_column-before : stands_first p.name (drop n es) ≡ false → is_null p.value ≡ false → insert es n p ≡ with_column p es
+  pub with_column-before : is_first_name p.name (drop n es) ≡ false → is_null p.value ≡ false → insert es n p ≡ with_column p es
   with_column-before h k = let t = rw at at h in rw (at, k) (put_before p es t)
 
-  pub with_column-out : stands_first p.name (drop n es) ≡ true → is_null p.value ≡ true → remove es n ≡ with_column p es
+  pub with_column-out : is_first_name p.name (drop n es) ≡ true → is_null p.value ≡ true → remove es n ≡ with_column p es
   with_column-out h k = let t = rw at at h in rw (at, k) (take_at p.name es t)
 
-  pub with_column-none : stands_first p.name (drop n es) ≡ false → is_null p.value ≡ true → es ≡ with_column p es
+  pub with_column-none : is_first_name p.name (drop n es) ≡ false → is_null p.value ≡ true → es ≡ with_column p es
   with_column-none h k = let t = rw at at h in rw k (take_none p.name es t)
 
   pub place_fits : n ≤ length es

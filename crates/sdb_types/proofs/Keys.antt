@@ -6,7 +6,7 @@ use Rattle.std.proofs.lemmas.Bool.Decides.{nat_tests}
 use Rattle.sdb_types.specs.declared.key.Key.{Key}
 use Rattle.sdb_types.specs.contracts.key.KeyPartialEq.TheImpl as key_eq
 use Rattle.sdb_types.specs.Exact.{equal_of}
-use Rattle.sdb_types.specs.Exactness.{key_tells}
+use Rattle.sdb_types.specs.Exactness.{key_is_exact}
 use Rattle.sdb_types.specs.Order.{key_cmp, same_key}
 use Rattle.sdb_types.proofs.KeyOrder.{key_total, key_exact}
 use Rattle.sdb_types.proofs.Basics.{by_test}
@@ -50,9 +50,9 @@ same_key_turned a b = by (same_key_tells a b) (same_key_tells b a)
 pub key_eq_is : (a b : Key) → (key_eq.ghosts).eq a b ≡ same_key a b
 key_eq_is a b =
     by_test (same_key a b)
-    (λ t. (key_tells a b).1 (same_key_exact a b t) ∙ sym t)
+    (λ t. (key_is_exact a b).1 (same_key_exact a b t) ∙ sym t)
     (λ t. by_test ((key_eq.ghosts).eq a b)
-    (λ u. u ∙ sym (same_key_of a b ((key_tells a b).0 u)))
+    (λ u. u ∙ sym (same_key_of a b ((key_is_exact a b).0 u)))
     (λ u. u ∙ sym t))
 
 pub key_eq_is_same : (key_eq.ghosts).eq ≡ same_key

@@ -58,6 +58,6 @@ abbrev pub place_in : List ℕ → List Pair → ℕ
 place_in name [] = 0
 place_in name (e ∷ es) = choose_by (name_cmp e.name name) (suc (place_in name es)) 0 0
 
-abbrev pub stands_first : List ℕ → List Pair → Bool
-stands_first name [] = false
-stands_first name (e ∷ es) = is_named name e
+abbrev pub is_first_name : List ℕ → List Pair → Bool
+is_first_name name [] = false
+is_first_name name (e ∷ es) = is_named name e

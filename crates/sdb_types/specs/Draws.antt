@@ -6,10 +6,10 @@ abbrev pub IsMoment : ℤ → Type 0
 IsMoment moment = (pos 0 ≤ℤ moment) × (moment ≤ℤ pos (2 ^ 53))
 
 -- The answer was added at the end of those given before. Answers that are known after a call were known before it.
-abbrev pub Tells : {X : Type 0} → X → Option (List X) → Option (List X) → Type 0
-Tells answer old None = Unit {0}
-Tells answer None (Some new) = ⊥
-Tells answer (Some old) (Some new) = new ≡ old ++ answer ∷ []
+abbrev pub IsAppended : {X : Type 0} → X → Option (List X) → Option (List X) → Type 0
+IsAppended answer old None = Unit {0}
+IsAppended answer None (Some new) = ⊥
+IsAppended answer (Some old) (Some new) = new ≡ old ++ answer ∷ []
 
 -- the first n answers, where the k-th call, from 0 on, answers f k
 abbrev pub first_answers : {X : Type 0} → (ℕ → X) → ℕ → List X
@@ -17,8 +17,8 @@ first_answers f zero = []
 first_answers f (suc n) = first_answers f n ++ f n ∷ []
 
 -- the answers to the calls made so far, known until call 2^64 - 1
-abbrev pub answers_told : {X : Type 0} → (ℕ → X) → ℕ → Option (List X)
-answers_told f made = if nat_lt made (2 ^ 64 - 1) then Some (first_answers f made) else None
+abbrev pub answers_given : {X : Type 0} → (ℕ → X) → ℕ → Option (List X)
+answers_given f made = if nat_lt made (2 ^ 64 - 1) then Some (first_answers f made) else None
 
 -- one more call, as far as a count of 64 bits goes
 abbrev pub counted : ℕ → ℕ

@@ -3,7 +3,7 @@ use Rattle.std.specs.Prelude.{Bool, true, false}
 use Rattle.sdb_types.specs.declared.record.Reply.{Reply}
 use Rattle.sdb_types.specs.declared.record.Reply.TheVariants as reply
 
--- the store failed, for all that its client is told
+-- the store failed, as far as its client knows
 abbrev pub is_fault : Reply → Bool
 is_fault reply.Fault = true
 is_fault r = false

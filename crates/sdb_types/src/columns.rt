@@ -2,7 +2,7 @@
 ghost use Rattle.std.specs.Prelude.{◌≡◌, [], length, true, IfOk, OnOk, OnErr, drop};
 ghost use Rattle.std.specs.Option.{option_copied};
 ghost use Rattle.std.specs.Slice.{IsItemAt};
-ghost use Rattle.sdb_types.specs.Columns.{are_columns, column, with_column, place_in, is_null, stands_first};
+ghost use Rattle.sdb_types.specs.Columns.{are_columns, column, with_column, place_in, is_null, is_first_name};
 
 use crate::memory::{Duplicate, NoMemory};
 use crate::name::Name;
@@ -55,7 +55,7 @@ fn place_of(pairs: &[Pair], name: &Name) -> usize
 }
 
 fn is_at(pairs: &[Pair], place: usize, name: &Name) -> bool
-    ensures { result ≡ stands_first name.now (drop place pairs.now) }
+    ensures { result ≡ is_first_name name.now (drop place pairs.now) }
 {
     match pairs.get(place) {
         Some(pair) => pair.name.cmp(name).is_eq(),

@@ -1,7 +1,7 @@
 //! Equality that distinguishes values.
 ghost use Rattle.std.specs.Prelude.{◌≡◌, true, IsTrue, ◌↔◌};
 ghost use Rattle.std.specs.Cmp.Lexicographic.{pointwise_decides, bytes_decides};
-ghost use Rattle.sdb_types.specs.Exactness.{value_tells, table_tells, pair_tells, id_tells, key_tells, columns_tell, record_tells, span_tells, state_tells, condition_tells, request_tells, reply_tells};
+ghost use Rattle.sdb_types.specs.Exactness.{value_is_exact, table_is_exact, pair_is_exact, id_is_exact, key_is_exact, columns_are_exact, record_is_exact, span_is_exact, state_is_exact, condition_is_exact, request_is_exact, reply_is_exact};
 
 use crate::columns::Columns;
 use crate::key::{Key, TableName};
@@ -38,49 +38,49 @@ impl Exact for Txt {
 }
 
 impl Exact for Value {
-    ghost decides = { value_tells };
+    ghost decides = { value_is_exact };
 }
 
 impl Exact for TableName {
-    ghost decides = { table_tells };
+    ghost decides = { table_is_exact };
 }
 
 impl Exact for Key {
-    ghost decides = { key_tells };
+    ghost decides = { key_is_exact };
 }
 
 impl Exact for Pair {
-    ghost decides = { pair_tells };
+    ghost decides = { pair_is_exact };
 }
 
 impl Exact for Columns {
-    ghost decides = { columns_tell };
+    ghost decides = { columns_are_exact };
 }
 
 impl Exact for Record {
-    ghost decides = { record_tells };
+    ghost decides = { record_is_exact };
 }
 
 impl Exact for Span {
-    ghost decides = { span_tells };
+    ghost decides = { span_is_exact };
 }
 
 impl Exact for TxId {
-    ghost decides = { id_tells };
+    ghost decides = { id_is_exact };
 }
 
 impl Exact for State {
-    ghost decides = { state_tells };
+    ghost decides = { state_is_exact };
 }
 
 impl Exact for Condition {
-    ghost decides = { condition_tells };
+    ghost decides = { condition_is_exact };
 }
 
 impl Exact for Request {
-    ghost decides = { request_tells };
+    ghost decides = { request_is_exact };
 }
 
 impl Exact for Reply {
-    ghost decides = { reply_tells };
+    ghost decides = { reply_is_exact };
 }

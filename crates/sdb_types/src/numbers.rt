@@ -1,6 +1,6 @@
 //! Ids that rise by one.
 ghost use Rattle.std.specs.Prelude.{◌≡◌, ◌+◌, ◌%◌, ◌^◌, ℕ, List};
-ghost use Rattle.sdb_types.specs.Draws.{Tells, answers_told, counted, number_from};
+ghost use Rattle.sdb_types.specs.Draws.{IsAppended, answers_given, counted, number_from};
 
 use crate::outside::Ids;
 use std::marker::Model;
@@ -38,10 +38,10 @@ impl Numbers {
 }
 
 impl Ids for Numbers {
-    ghost told = { λ n. answers_told (number_from n.first) n.made };
+    ghost told = { λ n. answers_given (number_from n.first) n.made };
 
     fn draw(&mut self) -> u128
-        ensures told { Tells result (answers_told (number_from self.old.first) self.old.made) (answers_told (number_from self.new.first) self.new.made) }
+        ensures told { IsAppended result (answers_given (number_from self.old.first) self.old.made) (answers_given (number_from self.new.first) self.new.made) }
         ensures exact { result ≡ self.old.next }
         ensures next { self.new.next ≡ (self.old.next + 1) % 2 ^ 128 }
         ensures made { self.new.made ≡ counted self.old.made }

@@ -1,7 +1,7 @@
 //! What lies outside the program: where bytes come from and where they go, the time, and new ids.
 ghost use Rattle.std.specs.Prelude.{◌≡◌, ◌≤◌, ◌<◌, ◌≤ℤ◌, ◌^◌, ℕ, ℤ, pos, List, [], length, take, Option, IfOk, OnOk, OnErr, IsErrOf};
 ghost use Rattle.sdb_types.specs.Bytes.{HasRisen, Takes, Appends, IsAtEnd};
-ghost use Rattle.sdb_types.specs.Draws.{Tells};
+ghost use Rattle.sdb_types.specs.Draws.{IsAppended};
 
 /// A call failed.
 #[derive(Clone, Copy, Debug, PartialEq, Eq)]
@@ -62,7 +62,7 @@ pub trait Clock {
     fn now(&mut self) -> i64
         ensures low { pos 0 ≤ℤ result }
         ensures high { result ≤ℤ pos (2 ^ 53) }
-        ensures told { Tells result (told self.old) (told self.new) };
+        ensures told { IsAppended result (told self.old) (told self.new) };
 }
 
 /// Where ids of transactions come from.
@@ -72,5 +72,5 @@ pub trait Ids {
 
     /// An id, of any bits. It takes no memory.
     fn draw(&mut self) -> u128
-        ensures { Tells result (told self.old) (told self.new) };
+        ensures { IsAppended result (told self.old) (told self.new) };
 }

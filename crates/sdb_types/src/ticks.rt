@@ -1,6 +1,6 @@
 //! A clock that gives listed moments.
 ghost use Rattle.std.specs.Prelude.{◌≡◌, pos, ◌≤ℤ◌, ◌^◌, All, ℤ, List};
-ghost use Rattle.sdb_types.specs.Draws.{IsMoment, Tells, answers_told, counted, moment_of};
+ghost use Rattle.sdb_types.specs.Draws.{IsMoment, IsAppended, answers_given, counted, moment_of};
 
 use crate::outside::Clock;
 use crate::seq::Seq;
@@ -48,12 +48,12 @@ impl Ticks {
 }
 
 impl Clock for Ticks {
-    ghost told = { λ t. answers_told (moment_of t.moments) t.made };
+    ghost told = { λ t. answers_given (moment_of t.moments) t.made };
 
     fn now(&mut self) -> i64
         ensures low { pos 0 ≤ℤ result }
         ensures high { result ≤ℤ pos (2 ^ 53) }
-        ensures told { Tells result (answers_told (moment_of self.old.moments) self.old.made) (answers_told (moment_of self.new.moments) self.new.made) }
+        ensures told { IsAppended result (answers_given (moment_of self.old.moments) self.old.made) (answers_given (moment_of self.new.moments) self.new.made) }
         ensures exact { result ≡ moment_of self.old.moments self.old.made }
         ensures made { self.new.made ≡ counted self.old.made }
         ensures kept { self.new.moments ≡ self.old.moments }

@@ -19,7 +19,7 @@ use Rattle.sdb_record.specs.declared.coordinator.Decided.{Decided}
 use Rattle.sdb_record.specs.declared.coordinator.Decision.TheVariants as decision
 use Rattle.sdb_record.specs.declared.meta.Meta.{Meta}
 use Rattle.sdb_record.specs.Coordinator.{decision_in, is_expired}
-use Rattle.sdb_record.specs.Meta.{checked, id_in, is_committed, is_in, is_taken, is_unresolved}
+use Rattle.sdb_record.specs.Meta.{checked, id_in, is_committed, is_in, is_transactional, is_unresolved}
 use Rattle.sdb_record.specs.Parts.{before_record}
 use Rattle.sdb_record.specs.Rolls.{IsBaseOf, is_tombstone, AreCommitted, remove_request, undo}
 use Rattle.sdb_record.proofs.ImageLaws.{checked-state}
@@ -28,14 +28,14 @@ use Rattle.sdb_phases.specs.declared.step.RecoverStep.{RecoverStep}
 use Rattle.sdb_phases.specs.declared.step.RecoverStep.TheVariants as steps
 use Rattle.sdb_phases.specs.declared.step.RecoverPhase.{RecoverPhase}
 use Rattle.sdb_phases.specs.declared.step.RecoverPhase.TheVariants as recover
-use Rattle.sdb_phases.specs.Recover.{Heard, recover_next, recover_request_at, roll_to, stands_found, undecided}
+use Rattle.sdb_phases.specs.Recover.{Received, recover_next, recover_request_at, roll_to, is_as_found, undecided}
 use Rattle.sdb_phases.specs.Steps.{CanGet}
 use Rattle.sdb_read.specs.Read.{Kind, Firm, Open, Bad, kind_of}
 use Rattle.sdb_vacuum.specs.declared.work.VacuumStep.{VacuumStep}
 use Rattle.sdb_vacuum.specs.declared.work.VacuumStep.TheVariants as step
-use Rattle.sdb_vacuum.specs.Vacuum.{First, Nothing, Tombstone, Unresolved, Malformed, VacuumAt, VacuumStage, Scanning, Resolving, Removing, Over, answered, first_of, first_one, goes_on, going, next_table, pending_at, removal_answered, resolved, spans_of, step_at, tombstone_or, whole}
-use Rattle.sdb_vacuum.specs.Fine.{IsFine}
-use Rattle.sdb_vacuum.specs.Calls.{VacuumPlayed, is_removal, removals, rows_heard, rows_in, tombstones, vacuum_after, vacuum_answer}
+use Rattle.sdb_vacuum.specs.Vacuum.{First, Nothing, Tombstone, Unresolved, Malformed, VacuumAt, VacuumStage, Scanning, Resolving, Removing, Over, answered, first_of, first_one, with_call, next_of_row, next_table, pending_at, removal_answered, resolved, spans_of, step_at, tombstone_or, whole}
+use Rattle.sdb_vacuum.specs.Valid.{IsValid}
+use Rattle.sdb_vacuum.specs.Calls.{VacuumReplies, is_removal, removals, rows_scanned, rows_in, tombstones, vacuum_after, vacuum_answer}
 use Rattle.sdb_vacuum.proofs.Fine.{after_fine}
 use Rattle.sdb_types.specs.Replies.{is_applied}
 
@@ -85,13 +85,13 @@ next_light : (ss : List Span) (n : ℕ) → weight (next_table ss n).0 ≤ lengt
 next_light [] n = omega arith
 next_light (s ∷ ss) n = omega arith
 
-going_light : (ss : List Span) (n : ℕ) (f : First) → weight (going ss n f).0 ≤ first_weight f + length ss
+going_light : (ss : List Span) (n : ℕ) (f : First) → weight (next_of_row ss n f).0 ≤ first_weight f + length ss
 going_light ss n Nothing = let h = next_light ss n in omega arith
 going_light ss n (Tombstone b left) = omega arith
 going_light ss n (Unresolved r meta left) = omega arith
 going_light ss n (Malformed key) = omega arith
 
-on_light : (ss : List Span) (n : ℕ) (left : List Record) → weight (going ss n (first_of left)).0 ≤ 5 * length left + length ss
+on_light : (ss : List Span) (n : ℕ) (left : List Record) → weight (next_of_row ss n (first_of left)).0 ≤ 5 * length left + length ss
 on_light ss n left = let h = going_light ss n (first_of left) in let k = first_light left in omega arith
 
 answered_light : (ss : List Span) (n : ℕ) (r : Reply) → weight (answered ss n r).0 ≤ 5 * length (rows_in r) + length ss
@@ -105,7 +105,7 @@ answered_light ss n reply.NoMemory = omega arith
 image_light : (ss : List Span) (n : ℕ) (left : List Record) (b : Record) → weight (tombstone_or ss n left b).0 ≤ 1 + 5 * length left + length ss
 image_light ss n left b = by (is_tombstone b)
   where
-    by : (t : Bool) → weight (if t then goes_on ss n (Removing b left) else going ss n (first_of left)).0 ≤ 1 + 5 * length left + length ss
+    by : (t : Bool) → weight (if t then with_call ss n (Removing b left) else next_of_row ss n (first_of left)).0 ≤ 1 + 5 * length left + length ss
     by true = omega arith
     by false = let h = on_light ss n left in omega arith
 
@@ -183,16 +183,16 @@ step_light ss n Over now r h = absurd h
 spans_long : (catalog : List Table) → length (spans_of catalog) ≡ length catalog
 spans_long catalog = length-map catalog whole
 
-light : (catalog : List Table) (past : List Heard) → VacuumPlayed catalog past → length past + weight (vacuum_after catalog past) ≤ length catalog + 5 * length (rows_heard past)
+light : (catalog : List Table) (past : List Received) → VacuumReplies catalog past → length past + weight (vacuum_after catalog past) ≤ length catalog + 5 * length (rows_scanned past)
 light catalog [] h = let k = next_light (spans_of catalog) 0 in let e = spans_long catalog in omega arith
 light catalog (c ∷ past) h =
     let v = vacuum_after catalog past in
     let k = step_light v.spans v.removed v.stage c.now c.reply h.1 in
     let before = light catalog past h.0 in
-    let e = length-append (rows_in c.reply) (rows_heard past) in
+    let e = length-append (rows_in c.reply) (rows_scanned past) in
     omega arith
 
-pub most_calls : (catalog : List Table) (past : List Heard) → VacuumPlayed catalog past → length past ≤ length catalog + 5 * length (rows_heard past)
+pub most_calls : (catalog : List Table) (past : List Received) → VacuumReplies catalog past → length past ≤ length catalog + 5 * length (rows_scanned past)
 most_calls catalog past h = let k = light catalog past h in omega arith
 
 ---- exactly so many calls
@@ -214,12 +214,12 @@ next_exact (s ∷ ss) n k total h = omega arith
 firm_kind : (r : Record) → IsBaseOf r.key r → kind_of r ≡ Firm
 firm_kind r h = rw (h.1, h.2) refl
 
-on_exact : (ss : List Span) (n : ℕ) (left : List Record) (k total : ℕ) → AreCommitted left → k + tombstones left + length ss ≡ total → Exact (going ss n (first_of left)) k total
+on_exact : (ss : List Span) (n : ℕ) (left : List Record) (k total : ℕ) → AreCommitted left → k + tombstones left + length ss ≡ total → Exact (next_of_row ss n (first_of left)) k total
 on_exact ss n [] k total f h = next_exact ss n k total (omega arith)
 on_exact ss n (r ∷ left) k total f h =
-    subst (λ (x : Kind). Exact (going ss n (first_one x r left (first_of left))) k total) (sym (firm_kind r f.0)) (by (is_tombstone r) h (λ e. on_exact ss n left k total f.1 e))
+    subst (λ (x : Kind). Exact (next_of_row ss n (first_one x r left (first_of left))) k total) (sym (firm_kind r f.0)) (by (is_tombstone r) h (λ e. on_exact ss n left k total f.1 e))
   where
-    by : (t : Bool) → k + length (cond t (r ∷ filter is_tombstone left) (filter is_tombstone left)) + length ss ≡ total → (k + tombstones left + length ss ≡ total → Exact (going ss n (first_of left)) k total) → Exact (going ss n (if t then Tombstone r left else first_of left)) k total
+    by : (t : Bool) → k + length (cond t (r ∷ filter is_tombstone left) (filter is_tombstone left)) + length ss ≡ total → (k + tombstones left + length ss ≡ total → Exact (next_of_row ss n (first_of left)) k total) → Exact (next_of_row ss n (if t then Tombstone r left else first_of left)) k total
     by true e rest = (f.1, omega arith)
     by false e rest = rest e
 
@@ -256,16 +256,16 @@ firm_first (x ∷ xs) ys h = let rest = firm_first xs ys h.1 in ((h.0, rest.0), 
 tombstones_both : (xs ys : List Record) → tombstones (xs ++ ys) ≡ tombstones xs + tombstones ys
 tombstones_both xs ys = ap length (filter-append is_tombstone xs ys) ∙ length-append (filter is_tombstone xs) (filter is_tombstone ys)
 
-exact : (catalog : List Table) (past : List Heard) → VacuumPlayed catalog past → AreCommitted (rows_heard past) → Exact (vacuum_after catalog past, vacuum_answer catalog past) (length past) (length catalog + tombstones (rows_heard past))
+exact : (catalog : List Table) (past : List Received) → VacuumReplies catalog past → AreCommitted (rows_scanned past) → Exact (vacuum_after catalog past, vacuum_answer catalog past) (length past) (length catalog + tombstones (rows_scanned past))
 exact catalog [] h f = next_exact (spans_of catalog) 0 0 (length catalog + 0) (let e = spans_long catalog in omega arith)
 exact catalog (c ∷ past) h f =
     let v = vacuum_after catalog past in
-    let both = firm_first (rows_in c.reply) (rows_heard past) f in
+    let both = firm_first (rows_in c.reply) (rows_scanned past) f in
     let before = exact catalog past h.0 both.1 in
-    let total : (length catalog + tombstones (rows_heard past)) + tombstones (rows_in c.reply) ≡ length catalog + tombstones (rows_in c.reply ++ rows_heard past) =
-    (let e = tombstones_both (rows_in c.reply) (rows_heard past) in omega arith) in
+    let total : (length catalog + tombstones (rows_scanned past)) + tombstones (rows_in c.reply) ≡ length catalog + tombstones (rows_in c.reply ++ rows_scanned past) =
+    (let e = tombstones_both (rows_in c.reply) (rows_scanned past) in omega arith) in
     subst (λ (m : ℕ). Exact (step_at v.spans v.removed v.stage c.now c.reply) (suc (length past)) m) total
-    (step_exact v.spans v.removed v.stage (vacuum_answer catalog past) c.now c.reply (length past) (length catalog + tombstones (rows_heard past)) h.1 both.0 before)
+    (step_exact v.spans v.removed v.stage (vacuum_answer catalog past) c.now c.reply (length past) (length catalog + tombstones (rows_scanned past)) h.1 both.0 before)
 
 counted_exact : (s : VacuumStage) (told : VacuumStep) (m k total n : ℕ) → IsExact s told m k total → (told ≡ step.Count n → s ≡ Over) → told ≡ step.Count n → k ≡ total
 counted_exact Over told m k total n h over e = h n e
@@ -283,7 +283,7 @@ next_counted : (ss : List Span) (n : ℕ) → Counted (next_table ss n)
 next_counted [] n = λ m e. (refl, cc)
 next_counted (s ∷ ss) n = λ m e. absurd (cc)
 
-on_counted : (ss : List Span) (n : ℕ) (f : First) → Counted (going ss n f)
+on_counted : (ss : List Span) (n : ℕ) (f : First) → Counted (next_of_row ss n f)
 on_counted ss n Nothing = next_counted ss n
 on_counted ss n (Tombstone b left) = λ m e. absurd (cc)
 on_counted ss n (Unresolved r meta left) = λ m e. absurd (cc)
@@ -292,7 +292,7 @@ on_counted ss n (Malformed key) = λ m e. absurd (cc)
 image_counted : (ss : List Span) (n : ℕ) (left : List Record) (b : Record) → Counted (tombstone_or ss n left b)
 image_counted ss n left b = by (is_tombstone b)
   where
-    by : (t : Bool) → Counted (if t then goes_on ss n (Removing b left) else going ss n (first_of left))
+    by : (t : Bool) → Counted (if t then with_call ss n (Removing b left) else next_of_row ss n (first_of left))
     by true = λ m e. absurd (cc)
     by false = on_counted ss n (first_of left)
 
@@ -327,14 +327,14 @@ step_counted ss n (Resolving rec meta p left) now r = resolved_counted ss n rec 
 step_counted ss n (Removing b left) now r = removal_counted ss n left r
 step_counted ss n Over now r = λ m e. absurd (cc)
 
-counted : (catalog : List Table) (past : List Heard) → Counted (vacuum_after catalog past, vacuum_answer catalog past)
+counted : (catalog : List Table) (past : List Received) → Counted (vacuum_after catalog past, vacuum_answer catalog past)
 counted catalog [] = next_counted (spans_of catalog) 0
 counted catalog (c ∷ past) = let v = vacuum_after catalog past in step_counted v.spans v.removed v.stage c.now c.reply
 
-pub exact_calls : (catalog : List Table) (past : List Heard) (n : ℕ) → VacuumPlayed catalog past → AreCommitted (rows_heard past) → vacuum_answer catalog past ≡ step.Count n → length past ≡ length catalog + tombstones (rows_heard past)
+pub exact_calls : (catalog : List Table) (past : List Received) (n : ℕ) → VacuumReplies catalog past → AreCommitted (rows_scanned past) → vacuum_answer catalog past ≡ step.Count n → length past ≡ length catalog + tombstones (rows_scanned past)
 exact_calls catalog past n h f e =
     let v = vacuum_after catalog past in
-    counted_exact v.stage (vacuum_answer catalog past) (length v.spans) (length past) (length catalog + tombstones (rows_heard past)) n (exact catalog past h f) (λ told. (counted catalog past n told).0) e
+    counted_exact v.stage (vacuum_answer catalog past) (length v.spans) (length past) (length catalog + tombstones (rows_scanned past)) n (exact catalog past h f) (λ told. (counted catalog past n told).0) e
 
 ---- removals
 
@@ -346,7 +346,7 @@ next_keeps : (ss : List Span) (n : ℕ) → (next_table ss n).0.removed ≡ n
 next_keeps [] n = refl
 next_keeps (s ∷ ss) n = refl
 
-on_keeps : (ss : List Span) (n : ℕ) (f : First) → (going ss n f).0.removed ≡ n
+on_keeps : (ss : List Span) (n : ℕ) (f : First) → (next_of_row ss n f).0.removed ≡ n
 on_keeps ss n Nothing = next_keeps ss n
 on_keeps ss n (Tombstone b left) = refl
 on_keeps ss n (Unresolved r meta left) = refl
@@ -355,7 +355,7 @@ on_keeps ss n (Malformed key) = refl
 image_keeps : (ss : List Span) (n : ℕ) (left : List Record) (b : Record) → (tombstone_or ss n left b).0.removed ≡ n
 image_keeps ss n left b = by (is_tombstone b)
   where
-    by : (t : Bool) → (if t then goes_on ss n (Removing b left) else going ss n (first_of left)).0.removed ≡ n
+    by : (t : Bool) → (if t then with_call ss n (Removing b left) else next_of_row ss n (first_of left)).0.removed ≡ n
     by true = refl
     by false = on_keeps ss n (first_of left)
 
@@ -378,13 +378,13 @@ resolved_keeps ss n rec meta left (p, steps.NoMemory) = refl
 
 -- a recovery deletes no committed record
 pub open_state : (rec : Record) (meta : Meta) → is_unresolved rec ≡ true → checked rec.columns ≡ Ok meta → is_committed meta.state ≡ false
-open_state rec meta loose says = by (is_in state.Committed rec.columns) (is_committed meta.state) (checked-state rec.columns meta says) (and_second (is_taken rec) _ loose)
+open_state rec meta loose says = by (is_in state.Committed rec.columns) (is_committed meta.state) (checked-state rec.columns meta says) (and_second (is_transactional rec) _ loose)
   where
     by : (a b : Bool) → a ≡ b → not a ≡ true → b ≡ false
     by true b e h = absurd (cc)
     by false b e h = sym e
 
-undo_keeps : (meta : Meta) (rec : Record) (before : Option Record) → is_committed meta.state ≡ false → is_removal (Some (undo (stands_found meta) rec.key before)) ≡ false
+undo_keeps : (meta : Meta) (rec : Record) (before : Option Record) → is_committed meta.state ≡ false → is_removal (Some (undo (is_as_found meta) rec.key before)) ≡ false
 undo_keeps meta rec None h = h
 undo_keeps meta rec (Some b) h = refl
 
@@ -409,18 +409,18 @@ removal_one ss n b left (reply.Rows rows) (Some id) h = absurd h
 removal_one ss n b left reply.Fault (Some id) h = omega arith
 removal_one ss n b left reply.NoMemory (Some id) h = omega arith
 
-step_one : (ss : List Span) (n : ℕ) (s : VacuumStage) (now : ℤ) (r : Reply) → IsFine s → CanGet (pending_at s) r → (step_at ss n s now r).0.removed ≡ n + one_removed (pending_at s) r
+step_one : (ss : List Span) (n : ℕ) (s : VacuumStage) (now : ℤ) (r : Reply) → IsValid s → CanGet (pending_at s) r → (step_at ss n s now r).0.removed ≡ n + one_removed (pending_at s) r
 step_one ss n (Scanning span) now r f h = answered_keeps ss n r ∙ none_more n false (is_applied r) refl
 step_one ss n (Resolving rec meta p left) now r f h =
     resolved_keeps ss n rec meta left (recover_next rec meta p now r) ∙ none_more n (is_removal (recover_request_at rec meta p)) (is_applied r) (recovers_none rec meta p (open_state rec meta f.0 f.1))
 step_one ss n (Removing b left) now r f h = removal_one ss n b left r (id_in b.columns) h
 step_one ss n Over now r f h = absurd h
 
-removed_is : (catalog : List Table) (past : List Heard) → VacuumPlayed catalog past → (vacuum_after catalog past).removed ≡ removals catalog past
+removed_is : (catalog : List Table) (past : List Received) → VacuumReplies catalog past → (vacuum_after catalog past).removed ≡ removals catalog past
 removed_is catalog [] h = next_keeps (spans_of catalog) 0
 removed_is catalog (c ∷ past) h =
     let v = vacuum_after catalog past in
     step_one v.spans v.removed v.stage c.now c.reply (after_fine catalog past h.0) h.1 ∙ ap (λ (n : ℕ). n + one_removed (pending_at v.stage) c.reply) (removed_is catalog past h.0)
 
-pub counts : (catalog : List Table) (past : List Heard) (n : ℕ) → VacuumPlayed catalog past → vacuum_answer catalog past ≡ step.Count n → n ≡ removals catalog past
+pub counts : (catalog : List Table) (past : List Received) (n : ℕ) → VacuumReplies catalog past → vacuum_answer catalog past ≡ step.Count n → n ≡ removals catalog past
 counts catalog past n h e = sym (counted catalog past n e).1 ∙ removed_is catalog past h

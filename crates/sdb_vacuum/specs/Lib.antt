@@ -2,6 +2,6 @@ pub mod Vacuum
 pub mod Rows
 pub mod Inside
 pub mod Calls
-pub mod Fine
+pub mod Valid
 pub mod Ends
 pub mod Run

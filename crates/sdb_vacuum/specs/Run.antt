@@ -2,15 +2,15 @@
 use Rattle.std.specs.Prelude.{List}
 use Rattle.sdb_types.specs.declared.record.Record.{Record}
 use Rattle.sdb_schema.specs.declared.table.Table.{Table}
-use Rattle.sdb_phases.specs.Recover.{Heard}
+use Rattle.sdb_phases.specs.Recover.{Received}
 use Rattle.sdb_vacuum.specs.declared.work.VacuumStep.{VacuumStep}
-use Rattle.sdb_vacuum.specs.Calls.{VacuumPlayed, rows_heard, vacuum_answer}
+use Rattle.sdb_vacuum.specs.Calls.{VacuumReplies, rows_scanned, vacuum_answer}
 
 -- A VACUUM of a catalog's tables, and replies that its calls could get, newest first.
 pub record VacuumRun : Type 0 where
   pub catalog : List Table
-  pub past : List Heard
-  pub played : VacuumPlayed catalog past
+  pub past : List Received
+  pub played : VacuumReplies catalog past
 
 -- what it answers to the newest reply
 abbrev pub answer_of : VacuumRun → VacuumStep
@@ -18,4 +18,4 @@ answer_of r = vacuum_answer r.catalog r.past
 
 -- the rows that its scans found
 abbrev pub rows_found : VacuumRun → List Record
-rows_found r = rows_heard r.past
+rows_found r = rows_scanned r.past

@@ -46,8 +46,8 @@ abbrev pub vacuum_pending : VacuumAt → Option Request
 vacuum_pending v = pending_at v.stage
 
 -- a call is pending
-abbrev pub goes_on : List Span → ℕ → VacuumStage → VacuumAt × VacuumStep
-goes_on ss n s = (record { stage = s; spans = ss; removed = n }, step.More)
+abbrev pub with_call : List Span → ℕ → VacuumStage → VacuumAt × VacuumStep
+with_call ss n s = (record { stage = s; spans = ss; removed = n }, step.More)
 
 -- it has ended
 abbrev pub ends : List Span → ℕ → VacuumStep → VacuumAt × VacuumStep
@@ -56,7 +56,7 @@ ends ss n s = (record { stage = Over; spans = ss; removed = n }, s)
 -- The next table is scanned; where there is none all is done.
 abbrev pub next_table : List Span → ℕ → VacuumAt × VacuumStep
 next_table [] n = ends [] n (step.Count n)
-next_table (s ∷ ss) n = goes_on ss n (Scanning s)
+next_table (s ∷ ss) n = with_call ss n (Scanning s)
 
 abbrev pub whole : Table → Span
 whole t = record { table = t.name; partition = None }
@@ -91,43 +91,43 @@ first_of (r ∷ left) = first_one (kind_of r) r left (first_of left)
 
 -- A tombstone is removed, an unresolved record is looked up first of all, and a record of no transaction ends the VACUUM. Where nothing
 -- is left to do the next table is scanned.
-abbrev pub going : List Span → ℕ → First → VacuumAt × VacuumStep
-going ss n Nothing = next_table ss n
-going ss n (Tombstone b left) = goes_on ss n (Removing b left)
-going ss n (Unresolved r meta left) = goes_on ss n (Resolving r meta phase.Look left)
-going ss n (Malformed key) = ends ss n (step.BadRecord key)
+abbrev pub next_of_row : List Span → ℕ → First → VacuumAt × VacuumStep
+next_of_row ss n Nothing = next_table ss n
+next_of_row ss n (Tombstone b left) = with_call ss n (Removing b left)
+next_of_row ss n (Unresolved r meta left) = with_call ss n (Resolving r meta phase.Look left)
+next_of_row ss n (Malformed key) = ends ss n (step.BadRecord key)
 
 ---- replies
 
 -- the rows of a scan; a reply without rows ends the VACUUM
 abbrev pub answered : List Span → ℕ → Reply → VacuumAt × VacuumStep
-answered ss n (reply.Rows rows) = going ss n (first_of rows)
+answered ss n (reply.Rows rows) = next_of_row ss n (first_of rows)
 answered ss n reply.Fault = ends ss n step.Faulted
 answered ss n r = ends ss n step.NoMemory
 
 -- the image of a record is removed where it is a tombstone
 abbrev pub tombstone_or : List Span → ℕ → List Record → Record → VacuumAt × VacuumStep
-tombstone_or ss n left b = if is_tombstone b then goes_on ss n (Removing b left) else going ss n (first_of left)
+tombstone_or ss n left b = if is_tombstone b then with_call ss n (Removing b left) else next_of_row ss n (first_of left)
 
--- A record whose transaction may still decide is passed over, and so is one that leaves no image. Any other end of a recovery but an
+-- A record whose transaction may still decide is passed over, and also one that leaves no image. Any other end of a recovery but an
 -- image ends the VACUUM.
 abbrev pub resolved_to : List Span → ℕ → List Record → RecoverStep → VacuumAt × VacuumStep
-resolved_to ss n left (steps.Image None) = going ss n (first_of left)
+resolved_to ss n left (steps.Image None) = next_of_row ss n (first_of left)
 resolved_to ss n left (steps.Image (Some b)) = tombstone_or ss n left b
-resolved_to ss n left (steps.Busy id at) = going ss n (first_of left)
+resolved_to ss n left (steps.Busy id at) = next_of_row ss n (first_of left)
 resolved_to ss n left steps.Faulted = ends ss n step.Faulted
 resolved_to ss n left (steps.BadRecord key) = ends ss n (step.BadRecord key)
 resolved_to ss n left s = ends ss n step.NoMemory
 
 -- what a recovery has come to
 abbrev pub resolved : List Span → ℕ → Record → Meta → List Record → RecoverPhase × RecoverStep → VacuumAt × VacuumStep
-resolved ss n rec meta left (p, steps.More) = goes_on ss n (Resolving rec meta p left)
+resolved ss n rec meta left (p, steps.More) = with_call ss n (Resolving rec meta p left)
 resolved ss n rec meta left (p, s) = resolved_to ss n left s
 
 -- A removal that was applied counts. One that wasn't met is passed over.
 abbrev pub removal_answered : List Span → ℕ → List Record → Reply → VacuumAt × VacuumStep
-removal_answered ss n left reply.Applied = going ss (n + 1) (first_of left)
-removal_answered ss n left (reply.NotMet found) = going ss n (first_of left)
+removal_answered ss n left reply.Applied = next_of_row ss (n + 1) (first_of left)
+removal_answered ss n left (reply.NotMet found) = next_of_row ss n (first_of left)
 removal_answered ss n left reply.Fault = ends ss n step.Faulted
 removal_answered ss n left r = ends ss n step.NoMemory
 

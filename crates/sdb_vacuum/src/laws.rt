@@ -1,10 +1,10 @@
 //! Laws of a VACUUM, for every list of replies that its calls can get.
 ghost use Rattle.std.specs.Prelude.{◌≡◌, ◌≤◌, ◌+◌, ◌*◌, ℕ, true, length};
 ghost use Rattle.sdb_types.specs.declared.key.Key.{Key};
-ghost use Rattle.sdb_phases.specs.RecoverLaws.{heard_fault};
+ghost use Rattle.sdb_phases.specs.RecoverLaws.{received_fault};
 ghost use Rattle.sdb_vacuum.specs.declared.work.VacuumStep.TheVariants as step;
 ghost use Rattle.sdb_vacuum.specs.Ends.{IsBadAt};
-ghost use Rattle.sdb_vacuum.specs.Fine.{IsFine};
+ghost use Rattle.sdb_vacuum.specs.Valid.{IsValid};
 ghost use Rattle.sdb_vacuum.specs.Calls.{removals, tombstones, vacuum_after};
 ghost use Rattle.sdb_vacuum.specs.Run.{VacuumRun, answer_of, rows_found};
 ghost use Rattle.sdb_record.specs.Rolls.{AreCommitted};
@@ -12,7 +12,7 @@ ghost use Rattle.sdb_record.specs.Rolls.{AreCommitted};
 /// A VACUUM removes tombstones alone: whatever its replies, the record that it deletes is a committed one that deletes its row, and
 /// the one that it resolves is unresolved.
 pub fn removes_tombstones_alone()
-    ensures { (r : VacuumRun) → IsFine (vacuum_after r.catalog r.past).stage }
+    ensures { (r : VacuumRun) → IsValid (vacuum_after r.catalog r.past).stage }
 {}
 
 /// A VACUUM is answered with the number of its deletes of committed records that were applied.
@@ -23,7 +23,7 @@ pub fn counts_removals()
 /// A VACUUM is Faulted only where a call faulted. BadRecord names a row that a scan found and that is no record of a transaction, or a
 /// coordinator's key where the newest reply holds a record that isn't a well formed row.
 pub fn vacuum_ends()
-    ensures faulted { (r : VacuumRun) → answer_of r ≡ step.Faulted → heard_fault r.past ≡ true }
+    ensures faulted { (r : VacuumRun) → answer_of r ≡ step.Faulted → received_fault r.past ≡ true }
     ensures bad { (r : VacuumRun) (key : Key) → answer_of r ≡ step.BadRecord key → IsBadAt key r.past }
 {}
 

@@ -1,7 +1,7 @@
 //! What a VACUUM has left to do, and what it does next.
 ghost use Rattle.std.specs.Prelude.{◌≡◌, ◌≢◌, ◌+◌, IfOk, IsSome, Some};
 ghost use Rattle.sdb_read.specs.Read.{kind_of};
-ghost use Rattle.sdb_vacuum.specs.Vacuum.{Gives, Removing, answered, first_of, goes_on, going, next_table as next_table_lem, removal_answered, resolved_to, tombstone_or};
+ghost use Rattle.sdb_vacuum.specs.Vacuum.{Gives, Removing, answered, first_of, with_call, next_of_row, next_table as next_table_lem, removal_answered, resolved_to, tombstone_or};
 ghost use Rattle.sdb_vacuum.specs.Rows.{open_first};
 ghost use Rattle.sdb_read.specs.declared.rows.Sort.TheVariants as sort;
 ghost use Rattle.sdb_vacuum.specs.Inside.{IsDoing, at_of, doing_pending};
@@ -107,7 +107,7 @@ impl Work {
 
     // Removes a tombstone.
     fn remove(&self, tombstone: Record) -> Next
-        ensures next { Gives (goes_on self.now.spans.items self.now.removed (Removing tombstone self.now.left.items)) (at_of self.now result.doing) result.step }
+        ensures next { Gives (with_call self.now.spans.items self.now.removed (Removing tombstone self.now.left.items)) (at_of self.now result.doing) result.step }
         ensures doing { IsDoing result.doing }
         ensures more { result.step ≡ VacuumStep.More → IsSome (doing_pending result.doing) }
         ensures ended { result.step ≢ VacuumStep.More → result.doing ≡ Doing.Over }
@@ -125,7 +125,7 @@ impl Work {
     #[tactic(auto, using(sdb_read::proofs::Firm::open_unresolved, sdb_read::proofs::Firm::open_kind))]
     fn resolve(&self, row: Record) -> Next
         requires { sort_of (kind_of row) ≡ sort.Open }
-        ensures next { Gives (going self.now.spans.items self.now.removed (open_first (kind_of row) row self.now.left.items)) (at_of self.now result.doing) result.step }
+        ensures next { Gives (next_of_row self.now.spans.items self.now.removed (open_first (kind_of row) row self.now.left.items)) (at_of self.now result.doing) result.step }
         ensures doing { IsDoing result.doing }
         ensures more { result.step ≡ VacuumStep.More → IsSome (doing_pending result.doing) }
         ensures ended { result.step ≢ VacuumStep.More → result.doing ≡ Doing.Over }
@@ -141,7 +141,7 @@ impl Work {
 
     // Goes on with the rows that are left, and then with the next table.
     fn go_on(&mut self) -> Next
-        ensures next { Gives (going self.old.spans.items self.old.removed (first_of self.old.left.items)) (at_of self.new result.doing) result.step }
+        ensures next { Gives (next_of_row self.old.spans.items self.old.removed (first_of self.old.left.items)) (at_of self.new result.doing) result.step }
         ensures doing { IsDoing result.doing }
         ensures more { result.step ≡ VacuumStep.More → IsSome (doing_pending result.doing) }
         ensures ended { result.step ≢ VacuumStep.More → result.doing ≡ Doing.Over }
@@ -202,9 +202,9 @@ impl Work {
         }
     }
 
-    // Counts a tombstone that was removed. A VACUUM that has removed 2^64 - 1 tombstones counts as one that wants memory.
+    // Counts a tombstone that was removed. A VACUUM that has removed 2^64 - 1 tombstones counts as out of memory.
     fn count(&mut self) -> Next
-        ensures next { Gives (going self.old.spans.items (self.old.removed + 1) (first_of self.old.left.items)) (at_of self.new result.doing) result.step }
+        ensures next { Gives (next_of_row self.old.spans.items (self.old.removed + 1) (first_of self.old.left.items)) (at_of self.new result.doing) result.step }
         ensures doing { IsDoing result.doing }
         ensures more { result.step ≡ VacuumStep.More → IsSome (doing_pending result.doing) }
         ensures ended { result.step ≢ VacuumStep.More → result.doing ≡ Doing.Over }

@@ -11,7 +11,7 @@ use Rattle.sdb_types.specs.declared.record.Record.{Record}
 use Rattle.sdb_types.specs.Order.{key_cmp, same_key}
 use Rattle.sdb_types.proofs.KeyOrder.{key_total, key_exact}
 use Rattle.sdb_phases.specs.declared.check.Wanted.{Wanted}
-use Rattle.sdb_phases.specs.Checks.{wish_at, is_fulfilled, differs, lesser, least, keys_among, first_difference}
+use Rattle.sdb_phases.specs.Checks.{expected_at, is_fulfilled, differs, lesser, least, keys_among, first_difference}
 use Rattle.std.proofs.lemmas.Bool.{not-true as not_true}
 use Rattle.sdb_types.specs.Contents.{record_among}
 
@@ -89,7 +89,7 @@ in_rows (r ∷ rs) k h = by_test (same_key k r.key) (in_rows rs k) h where
 in_keys : (ws : List Wanted) (rows : List Record) (k : Key) → differs ws rows k ≡ true → list_any (λ c. same_key k c) (keys_among ws rows) ≡ true
 in_keys [] rows k h = in_rows rows k (not_true (is_none (record_among rows k)) h)
 in_keys (w ∷ ws) rows k h = by_test (same_key k w.key) (in_keys ws rows k) h where
-  by_test : (b : Bool) → (differs ws rows k ≡ true → list_any (λ c. same_key k c) (keys_among ws rows) ≡ true) → not (is_fulfilled (cond b (Some w.wish) (wish_at ws k)) (record_among rows k)) ≡ true → (b || list_any (λ c. same_key k c) (keys_among ws rows)) ≡ true
+  by_test : (b : Bool) → (differs ws rows k ≡ true → list_any (λ c. same_key k c) (keys_among ws rows) ≡ true) → not (is_fulfilled (cond b (Some w.wish) (expected_at ws k)) (record_among rows k)) ≡ true → (b || list_any (λ c. same_key k c) (keys_among ws rows)) ≡ true
   by_test true rest g = refl
   by_test false rest g = rest g
 

@@ -11,9 +11,9 @@ use Rattle.sdb_types.specs.Order.{key_cmp, same_key}
 use Rattle.sdb_types.specs.Contents.{rise, starts_after, record_among}
 use Rattle.sdb_types.proofs.KeyOrder.{key_total, key_exact}
 use Rattle.sdb_types.proofs.Bools.{and_first, and_second, and_both}
-use Rattle.sdb_phases.specs.declared.check.Wish.{Wish}
+use Rattle.sdb_phases.specs.declared.check.Expected.{Expected}
 use Rattle.sdb_phases.specs.declared.check.Wanted.{Wanted}
-use Rattle.sdb_phases.specs.Checks.{wish_at, is_fulfilled, is_granted, differs, first_difference}
+use Rattle.sdb_phases.specs.Checks.{expected_at, is_fulfilled, is_granted, differs, first_difference}
 use Rattle.sdb_validate.specs.declared.rescan.Verdict.{Verdict}
 use Rattle.sdb_validate.specs.declared.rescan.Verdict.TheVariants as verdict
 use Rattle.sdb_validate.specs.Merge.{merge, row_place, below_wanted, wanted_rise}
@@ -45,30 +45,30 @@ below_trans q k (w ∷ ws) h b =
     let rest = and_second (is_lt (key_cmp k w.key)) (below_wanted k ws) b in
     and_both (is_lt (key_cmp q w.key)) (below_wanted q ws) (is_less q w.key (key_total.trans q k w.key h (less_of (key_cmp k w.key) first))) (below_trans q k ws h rest)
 
-no_wish_below : (q : Key) (ws : List Wanted) → below_wanted q ws ≡ true → wish_at ws q ≡ None
+no_wish_below : (q : Key) (ws : List Wanted) → below_wanted q ws ≡ true → expected_at ws q ≡ None
 unfolding same_key
 no_wish_below q [] b = refl
 no_wish_below q (w ∷ ws) b =
     let less : key_cmp q w.key ≡ Less = less_of (key_cmp q w.key) (and_first (is_lt (key_cmp q w.key)) (below_wanted q ws) b) in
-    ap (λ o. cond (is_eq o) (Some w.wish) (wish_at ws q)) less ∙ no_wish_below q ws (and_second (is_lt (key_cmp q w.key)) (below_wanted q ws) b)
+    ap (λ o. cond (is_eq o) (Some w.wish) (expected_at ws q)) less ∙ no_wish_below q ws (and_second (is_lt (key_cmp q w.key)) (below_wanted q ws) b)
 
 -- a key below the first that is wanted
-wish_above : (q : Key) (w : Wanted) (ws : List Wanted) → key_cmp q w.key ≡ Less → wanted_rise (w ∷ ws) ≡ true → wish_at (w ∷ ws) q ≡ None
+wish_above : (q : Key) (w : Wanted) (ws : List Wanted) → key_cmp q w.key ≡ Less → wanted_rise (w ∷ ws) ≡ true → expected_at (w ∷ ws) q ≡ None
 wish_above q w ws h up =
     no_wish_below q (w ∷ ws) (and_both (is_lt (key_cmp q w.key)) (below_wanted q ws) (is_less q w.key h) (below_trans q w.key ws h (and_first (below_wanted w.key ws) (wanted_rise ws) up)))
 
 ---- differences
 
-differs_as : (ws : List Wanted) (rows : List Record) (q : Key) (o : Option Wish) (f : Option Record) → wish_at ws q ≡ o → record_among rows q ≡ f → differs ws rows q ≡ not (is_fulfilled o f)
+differs_as : (ws : List Wanted) (rows : List Record) (q : Key) (o : Option Expected) (f : Option Record) → expected_at ws q ≡ o → record_among rows q ≡ f → differs ws rows q ≡ not (is_fulfilled o f)
 differs_as ws rows q o f e g = λ i. not (is_fulfilled (e i) (g i))
 
-wish_here : (w : Wanted) (ws : List Wanted) → wish_at (w ∷ ws) w.key ≡ Some w.wish
-wish_here w ws = ap (λ b. cond b (Some w.wish) (wish_at ws w.key)) (same_itself w.key)
+wish_here : (w : Wanted) (ws : List Wanted) → expected_at (w ∷ ws) w.key ≡ Some w.wish
+wish_here w ws = ap (λ b. cond b (Some w.wish) (expected_at ws w.key)) (same_itself w.key)
 
 row_here : (r : Record) (rs : List Record) → record_among (r ∷ rs) r.key ≡ Some r
 row_here r rs = ap (λ b. cond b (Some r) (record_among rs r.key)) (same_itself r.key)
 
-row_is_first : (ws : List Wanted) (r : Record) (rs : List Record) → rise (r ∷ rs) ≡ true → differs ws (r ∷ rs) r.key ≡ true → ((q : Key) → key_cmp q r.key ≡ Less → wish_at ws q ≡ None) → IsFirst ws (r ∷ rs) (Some (r.key, Some r))
+row_is_first : (ws : List Wanted) (r : Record) (rs : List Record) → rise (r ∷ rs) ≡ true → differs ws (r ∷ rs) r.key ≡ true → ((q : Key) → key_cmp q r.key ≡ Less → expected_at ws q ≡ None) → IsFirst ws (r ∷ rs) (Some (r.key, Some r))
 row_is_first ws r rs up differing none =
     (sym (row_here r rs), differing, λ q h. differs_as ws (r ∷ rs) q None None (none q h) (none_below q (r ∷ rs) up (is_less q r.key h)))
 
@@ -87,24 +87,24 @@ as_first ws vs rows others (Some d) alike same (found, differing, lower) =
 
 passed_absent : (w : Wanted) (ws : List Wanted) (rows : List Record) → wanted_rise (w ∷ ws) ≡ true → rise rows ≡ true → starts_after w.key rows ≡ true → is_granted w.wish None ≡ true → (q : Key) → differs (w ∷ ws) rows q ≡ differs ws rows q
 passed_absent w ws rows up rows_up later granted q = by_test (same_key q w.key) refl where
-  by_test : (b : Bool) → same_key q w.key ≡ b → not (is_fulfilled (cond b (Some w.wish) (wish_at ws q)) (record_among rows q)) ≡ differs ws rows q
+  by_test : (b : Bool) → same_key q w.key ≡ b → not (is_fulfilled (cond b (Some w.wish) (expected_at ws q)) (record_among rows q)) ≡ differs ws rows q
   by_test false e = refl
   by_test true e =
       let here : q ≡ w.key = same_key_exact q w.key e in
       let none : record_among rows q ≡ None = ap (record_among rows) here ∙ none_below w.key rows rows_up later in
-      let no_wish : wish_at ws q ≡ None = ap (wish_at ws) here ∙ no_wish_below w.key ws (and_first (below_wanted w.key ws) (wanted_rise ws) up) in
+      let no_wish : expected_at ws q ≡ None = ap (expected_at ws) here ∙ no_wish_below w.key ws (and_first (below_wanted w.key ws) (wanted_rise ws) up) in
       ap (λ f. not (is_granted w.wish f)) none ∙ ap not granted ∙ sym (differs_as ws rows q None None no_wish none)
 
 -- after a wanted key that has its row neither list has the key
 gone : (w : Wanted) (ws : List Wanted) (r : Record) (rs : List Record) (q : Key) → wanted_rise (w ∷ ws) ≡ true → rise (r ∷ rs) ≡ true → w.key ≡ r.key → q ≡ w.key → differs ws rs q ≡ false
 gone w ws r rs q up rows_up same here =
-    differs_as ws rs q None None (ap (wish_at ws) here ∙ no_wish_below w.key ws (and_first (below_wanted w.key ws) (wanted_rise ws) up))
+    differs_as ws rs q None None (ap (expected_at ws) here ∙ no_wish_below w.key ws (and_first (below_wanted w.key ws) (wanted_rise ws) up))
     (ap (record_among rs) (here ∙ same) ∙ none_below r.key rs (and_second (starts_after r.key rs) (rise rs) rows_up) (and_first (starts_after r.key rs) (rise rs) rows_up))
 
 passed_here : (w : Wanted) (ws : List Wanted) (r : Record) (rs : List Record) → wanted_rise (w ∷ ws) ≡ true → rise (r ∷ rs) ≡ true → w.key ≡ r.key → is_granted w.wish (Some r) ≡ true → (q : Key) → differs (w ∷ ws) (r ∷ rs) q ≡ differs ws rs q
 passed_here w ws r rs up rows_up same granted q = by_test (same_key q w.key) refl where
-  by_test : (b : Bool) → same_key q w.key ≡ b → not (is_fulfilled (cond b (Some w.wish) (wish_at ws q)) (record_among (r ∷ rs) q)) ≡ differs ws rs q
-  by_test false e = ap (λ b. not (is_fulfilled (wish_at ws q) (cond b (Some r) (record_among rs q)))) (sym (ap (same_key q) same) ∙ e)
+  by_test : (b : Bool) → same_key q w.key ≡ b → not (is_fulfilled (cond b (Some w.wish) (expected_at ws q)) (record_among (r ∷ rs) q)) ≡ differs ws rs q
+  by_test false e = ap (λ b. not (is_fulfilled (expected_at ws q) (cond b (Some r) (record_among rs q)))) (sym (ap (same_key q) same) ∙ e)
   by_test true e =
       ap (λ b. not (is_granted w.wish (cond b (Some r) (record_among rs q)))) (sym (ap (same_key q) same) ∙ e) ∙ ap not granted
       ∙ sym (gone w ws r rs q up rows_up same (same_key_exact q w.key e))
@@ -131,7 +131,7 @@ here_first : (w : Wanted) (ws : List Wanted) (r : Record) (rs : List Record) (b 
 unfolding after
 here_first w ws r rs true e up rows_up same rest = as_first (w ∷ ws) ws (r ∷ rs) rs (merge ws rs) (passed_here w ws r rs up rows_up same e) (rest_rows w ws r rs up rows_up same) rest
 here_first w ws r rs false e up rows_up same rest =
-    row_is_first (w ∷ ws) r rs rows_up (differs_as (w ∷ ws) (r ∷ rs) r.key (Some w.wish) (Some r) (ap (wish_at (w ∷ ws)) (sym same) ∙ wish_here w ws) (row_here r rs) ∙ ap not e) (λ q h. wish_above q w ws (ap (key_cmp q) same ∙ h) up)
+    row_is_first (w ∷ ws) r rs rows_up (differs_as (w ∷ ws) (r ∷ rs) r.key (Some w.wish) (Some r) (ap (expected_at (w ∷ ws)) (sym same) ∙ wish_here w ws) (row_here r rs) ∙ ap not e) (λ q h. wish_above q w ws (ap (key_cmp q) same ∙ h) up)
 
 row_first : (w : Wanted) (ws : List Wanted) (r : Record) (rs : List Record) → wanted_rise (w ∷ ws) ≡ true → rise (r ∷ rs) ≡ true → key_cmp w.key r.key ≡ Greater → IsFirst (w ∷ ws) (r ∷ rs) (Some (r.key, Some r))
 row_first w ws r rs up rows_up above =

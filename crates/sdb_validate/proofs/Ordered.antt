@@ -13,18 +13,18 @@ use Rattle.sdb_record.specs.declared.access.Scan.{Scan}
 use Rattle.sdb_record.specs.declared.write.Write.{Write}
 use Rattle.sdb_record.specs.Among.{is_written}
 use Rattle.sdb_phases.specs.declared.check.Check.{Check}
-use Rattle.sdb_phases.specs.declared.check.Wish.{Wish}
+use Rattle.sdb_phases.specs.declared.check.Expected.{Expected}
 use Rattle.sdb_phases.specs.Checks.{wanted, wanted_of, wishes, check_of_read, check_of_scan, checks_of}
 use Rattle.sdb_validate.specs.Merge.{below_wanted, wanted_rise, target_rises}
 use Rattle.sdb_validate.specs.Inside.{AreOrdered}
 use Rattle.sdb_types.proofs.Basics.{truth as is_true}
 
-below_entries : (key : Key) (es : List (Key × Wish)) → below_all key_cmp key es ≡ true → below_wanted key (map wanted_of es) ≡ true
+below_entries : (key : Key) (es : List (Key × Expected)) → below_all key_cmp key es ≡ true → below_wanted key (map wanted_of es) ≡ true
 below_entries key [] h = refl
 below_entries key (e ∷ es) h =
     and_both (is_lt (key_cmp key e.0)) (below_wanted key (map wanted_of es)) (and_first (is_lt (key_cmp key e.0)) (below_all key_cmp key es) h) (below_entries key es (and_second (is_lt (key_cmp key e.0)) (below_all key_cmp key es) h))
 
-entries_rise : (es : List (Key × Wish)) → is_sorted key_cmp es ≡ true → wanted_rise (map wanted_of es) ≡ true
+entries_rise : (es : List (Key × Expected)) → is_sorted key_cmp es ≡ true → wanted_rise (map wanted_of es) ≡ true
 entries_rise [] h = refl
 entries_rise (e ∷ es) h =
     and_both (below_wanted e.0 (map wanted_of es)) (wanted_rise (map wanted_of es)) (below_entries e.0 es (and_first (below_all key_cmp e.0 es) (is_sorted key_cmp es) h)) (entries_rise es (and_second (below_all key_cmp e.0 es) (is_sorted key_cmp es) h))

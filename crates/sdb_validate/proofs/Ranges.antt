@@ -15,12 +15,12 @@ use Rattle.sdb_types.proofs.Bools.{and_both}
 use Rattle.sdb_types.proofs.KeyOrder.{key_total, key_exact}
 use Rattle.sdb_types.proofs.Keys.{same_key_exact}
 use Rattle.sdb_record.specs.declared.write.Write.{Write}
-use Rattle.sdb_phases.specs.declared.check.Wish.{Wish}
-use Rattle.sdb_phases.specs.declared.check.Wish.TheVariants as wish
+use Rattle.sdb_phases.specs.declared.check.Expected.{Expected}
+use Rattle.sdb_phases.specs.declared.check.Expected.TheVariants as wish
 use Rattle.sdb_phases.specs.Checks.{Wishes, with_writes, wished_version, base_of}
 use Rattle.sdb_ordered.specs.Start.{span_start}
 use Rattle.sdb_ordered.proofs.SpanLemmas.{StandsFrom, from_start, is_from, past_end}
-use Rattle.sdb_validate.specs.Rescan.{written_wish}
+use Rattle.sdb_validate.specs.Rescan.{expected_of_written}
 use Rattle.sdb_validate.proofs.Rescans.{again, writes-get}
 
 abbrev Bases : Type 0
@@ -45,42 +45,42 @@ none_after span e es q stands out h =
 
 ---- steps of the loop through a range
 
-pub from_least : (span : Span) (fs es : Bases) (o : Option Wish) (q : Key) → fs ≡ filter (λ e. is_from span e.0) es → written_wish (in_span span q) (at q fs) o ≡ written_wish (in_span span q) (at q es) o
+pub from_least : (span : Span) (fs es : Bases) (o : Option Expected) (q : Key) → fs ≡ filter (λ e. is_from span e.0) es → expected_of_written (in_span span q) (at q fs) o ≡ expected_of_written (in_span span q) (at q es) o
 from_least span fs es o q same = by_test (in_span span q) refl where
-  by_test : (b : Bool) → in_span span q ≡ b → written_wish b (at q fs) o ≡ written_wish b (at q es) o
+  by_test : (b : Bool) → in_span span q ≡ b → expected_of_written b (at q fs) o ≡ expected_of_written b (at q es) o
   by_test false h = refl
-  by_test true h = ap (λ x. written_wish true x o) (ap (at q) same ∙ from_same span es q h)
+  by_test true h = ap (λ x. expected_of_written true x o) (ap (at q) same ∙ from_same span es q h)
 
-pub one_based : (span : Span) (e : Key × Option TxId) (es : Bases) (m : Wishes) (q : Key) → in_span span e.0 ≡ true → written_wish (in_span span q) (at q es) (get (insert m e.0 (wish.Based (wished_version (get m e.0) e.1))) q) ≡ written_wish (in_span span q) (at q (e ∷ es)) (get m q)
+pub one_based : (span : Span) (e : Key × Option TxId) (es : Bases) (m : Wishes) (q : Key) → in_span span e.0 ≡ true → expected_of_written (in_span span q) (at q es) (get (insert m e.0 (wish.Based (wished_version (get m e.0) e.1))) q) ≡ expected_of_written (in_span span q) (at q (e ∷ es)) (get m q)
 unfolding same_key
 one_based span e es m q h =
-    ap (written_wish (in_span span q) (at q es)) (get-insert key_total m e.0 (wish.Based (wished_version (get m e.0) e.1)) q) ∙ by_test (same_key q e.0) refl where
-      by_test : (b : Bool) → same_key q e.0 ≡ b → written_wish (in_span span q) (at q es) (cond b (Some (wish.Based (wished_version (get m e.0) e.1))) (get m q)) ≡ written_wish (in_span span q) (cond b (Some e.1) (at q es)) (get m q)
+    ap (expected_of_written (in_span span q) (at q es)) (get-insert key_total m e.0 (wish.Based (wished_version (get m e.0) e.1)) q) ∙ by_test (same_key q e.0) refl where
+      by_test : (b : Bool) → same_key q e.0 ≡ b → expected_of_written (in_span span q) (at q es) (cond b (Some (wish.Based (wished_version (get m e.0) e.1))) (get m q)) ≡ expected_of_written (in_span span q) (cond b (Some e.1) (at q es)) (get m q)
       by_test false t = refl
       by_test true t =
           let here : q ≡ e.0 = same_key_exact q e.0 t in
           let inside : in_span span q ≡ true = ap (in_span span) here ∙ h in
-          ap (λ b. written_wish b (at q es) (Some (wish.Based (wished_version (get m e.0) e.1)))) inside ∙ again (at q es) (get m e.0) e.1
-          ∙ ap (λ k. Some (wish.Based (wished_version (get m k) e.1))) (sym here) ∙ ap (λ b. written_wish b (Some e.1) (get m q)) (sym inside)
+          ap (λ b. expected_of_written b (at q es) (Some (wish.Based (wished_version (get m e.0) e.1)))) inside ∙ again (at q es) (get m e.0) e.1
+          ∙ ap (λ k. Some (wish.Based (wished_version (get m k) e.1))) (sym here) ∙ ap (λ b. expected_of_written b (Some e.1) (get m q)) (sym inside)
 
-none_based : (b : Bool) (o : Option Wish) → written_wish b None o ≡ o
+none_based : (b : Bool) (o : Option Expected) → expected_of_written b None o ≡ o
 none_based true o = refl
 none_based false o = refl
 
 -- all keys of the span are put in where no entry is left
-pub all_based : (span : Span) (left : Bases) (o p : Option Wish) (q : Key) → left ≡ [] → written_wish (in_span span q) (at q left) o ≡ p → o ≡ p
-all_based span left o p q none h = sym (ap (λ es. written_wish (in_span span q) (at q es) o) none ∙ none_based (in_span span q) o) ∙ h
+pub all_based : (span : Span) (left : Bases) (o p : Option Expected) (q : Key) → left ≡ [] → expected_of_written (in_span span q) (at q left) o ≡ p → o ≡ p
+all_based span left o p q none h = sym (ap (λ es. expected_of_written (in_span span q) (at q es) o) none ∙ none_based (in_span span q) o) ∙ h
 
 -- and where the next one is outside
-pub all_passed : (span : Span) (left : Bases) (e : Key × Option TxId) (es : Bases) (o p : Option Wish) (q : Key) → left ≡ e ∷ es → StandsFrom span left → in_span span e.0 ≡ false → written_wish (in_span span q) (at q left) o ≡ p → o ≡ p
+pub all_passed : (span : Span) (left : Bases) (e : Key × Option TxId) (es : Bases) (o p : Option Expected) (q : Key) → left ≡ e ∷ es → StandsFrom span left → in_span span e.0 ≡ false → expected_of_written (in_span span q) (at q left) o ≡ p → o ≡ p
 all_passed span left e es o p q next stands out h = sym (by_test (in_span span q) refl) ∙ h where
-  by_test : (b : Bool) → in_span span q ≡ b → written_wish b (at q left) o ≡ o
+  by_test : (b : Bool) → in_span span q ≡ b → expected_of_written b (at q left) o ≡ o
   by_test false t = refl
-  by_test true t = ap (λ x. written_wish true x o) (ap (at q) next ∙ none_after span e es q (subst (StandsFrom span) next stands) out t)
+  by_test true t = ap (λ x. expected_of_written true x o) (ap (at q) next ∙ none_after span e es q (subst (StandsFrom span) next stands) out t)
 
 ---- all writes
 
 -- what is wished, by the written keys, is what is wished by the writes
-pub wished_same : (span : Span) (own : List Write) (m n : Wishes) (bases : Key → Option (Option TxId)) → ((q : Key) → bases q ≡ base_of own q) → ((q : Key) → get n q ≡ written_wish (in_span span q) (bases q) (get m q)) → n ≡ with_writes span own m
+pub wished_same : (span : Span) (own : List Write) (m n : Wishes) (bases : Key → Option (Option TxId)) → ((q : Key) → bases q ≡ base_of own q) → ((q : Key) → get n q ≡ expected_of_written (in_span span q) (bases q) (get m q)) → n ≡ with_writes span own m
 wished_same span own m n bases same h =
-    same_map key_total key_exact n (with_writes span own m) (λ q. h q ∙ ap (λ b. written_wish (in_span span q) b (get m q)) (same q) ∙ sym (writes-get span own m q))
+    same_map key_total key_exact n (with_writes span own m) (λ q. h q ∙ ap (λ b. expected_of_written (in_span span q) b (get m q)) (same q) ∙ sym (writes-get span own m q))

@@ -13,8 +13,8 @@ use Rattle.sdb_record.specs.declared.access.Scan.{Scan}
 use Rattle.sdb_record.specs.declared.write.Write.{Write}
 use Rattle.sdb_record.specs.Moved.{same_version, is_unchanged}
 use Rattle.sdb_record.specs.Among.{version_among}
-use Rattle.sdb_phases.specs.declared.check.Wish.{Wish}
-use Rattle.sdb_phases.specs.declared.check.Wish.TheVariants as wish
+use Rattle.sdb_phases.specs.declared.check.Expected.{Expected}
+use Rattle.sdb_phases.specs.declared.check.Expected.TheVariants as wish
 use Rattle.sdb_phases.specs.Checks.{base_of, wished_version}
 
 -- the version of the base of a written key of the span
@@ -22,20 +22,20 @@ abbrev pub base_in : Span → List Write → Key → Option (Option TxId)
 base_in span own key = if in_span span key then base_of own key else None
 
 -- what a key is to have, where it may be a written key of the span
-abbrev pub written_wish : Bool → Option (Option TxId) → Option Wish → Option Wish
-written_wish false base o = o
-written_wish true None o = o
-written_wish true (Some version) o = Some (wish.Based (wished_version o version))
+abbrev pub expected_of_written : Bool → Option (Option TxId) → Option Expected → Option Expected
+expected_of_written false base o = o
+expected_of_written true None o = o
+expected_of_written true (Some version) o = Some (wish.Based (wished_version o version))
 
-abbrev pub kept_by : Option (Option TxId) → Option TxId → Option Record → Bool
-kept_by (Some base) version found = same_version base version
-kept_by None version found = is_unchanged found version
+abbrev pub is_unchanged_by : Option (Option TxId) → Option TxId → Option Record → Bool
+is_unchanged_by (Some base) version found = same_version base version
+is_unchanged_by None version found = is_unchanged found version
 
 -- At that key the rows are what the scan found: a key that isn't written has the version that the scan found, and the base
 -- of a written key of the span has that version, whatever is there.
-abbrev pub is_kept : List Write → Scan → List Record → Key → Bool
-is_kept own scan rows key =
-    kept_by (base_in scan.span own key) (version_among scan.found key) (record_among rows key)
+abbrev pub is_unchanged_at : List Write → Scan → List Record → Key → Bool
+is_unchanged_at own scan rows key =
+    is_unchanged_by (base_in scan.span own key) (version_among scan.found key) (record_among rows key)
 
 ---- what a scan found is in key order
 
@@ -50,6 +50,6 @@ reads_rise (r ∷ rs) = starts_behind r.key rs && reads_rise rs
 -- A rescan passes where every key is kept. Else its conflict is at the first key in key order that isn't, with what is
 -- there.
 abbrev pub IsFirstLost : List Write → Scan → List Record → Option (Key × Option Record) → Type 0
-IsFirstLost own scan rows None = (key : Key) → is_kept own scan rows key ≡ true
+IsFirstLost own scan rows None = (key : Key) → is_unchanged_at own scan rows key ≡ true
 IsFirstLost own scan rows (Some d) =
-    (d.1 ≡ record_among rows d.0) × (is_kept own scan rows d.0 ≡ false) × ((key : Key) → key_cmp key d.0 ≡ Less → is_kept own scan rows key ≡ true)
+    (d.1 ≡ record_among rows d.0) × (is_unchanged_at own scan rows d.0 ≡ false) × ((key : Key) → key_cmp key d.0 ≡ Less → is_unchanged_at own scan rows key ≡ true)

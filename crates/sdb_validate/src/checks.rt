@@ -7,12 +7,12 @@ ghost use Rattle.sdb_types.specs.declared.key.Key.{Key as KeyValue};
 ghost use Rattle.sdb_types.specs.Contents.{in_span};
 ghost use Rattle.sdb_types.specs.Order.{key_cmp};
 ghost use Rattle.sdb_phases.specs.Checks.{with_reads, wished_version, base_of, check_of_read, check_of_scan, checks_of};
-ghost use Rattle.sdb_validate.specs.Rescan.{written_wish};
+ghost use Rattle.sdb_validate.specs.Rescan.{expected_of_written};
 ghost use Rattle.sdb_record.specs.Among.{is_written};
 
-use crate::key_map::WishMap;
+use crate::key_map::ExpectedMap;
 use sdb_ordered::least_key;
-use sdb_phases::{Check, Checks, Target, Wish};
+use sdb_phases::{Check, Checks, Expected, Target};
 use sdb_record::{Read, Reads, Scan, Scans, Write, Writes, is_same_version, version_of};
 use sdb_types::{Duplicate, Key, NoMemory, Request, Seq, Span, TxId};
 use std::alloc::Global;
@@ -22,22 +22,22 @@ use std::collections::BTreeMap;
 type Bases = BTreeMap<Key, Option<TxId>>;
 
 // Whether a base has the version that is wished at its key.
-fn is_based(wish: Option<&Wish>, base: Option<TxId>) -> bool
+fn is_based(wish: Option<&Expected>, base: Option<TxId>) -> bool
     ensures { result ≡ wished_version (option_copied wish.entry) base }
 {
     match wish {
         None => base.is_none(),
-        Some(Wish::Unchanged(version)) => is_same_version(base, *version),
-        Some(Wish::Based(same)) => *same,
+        Some(Expected::Unchanged(version)) => is_same_version(base, *version),
+        Some(Expected::Based(same)) => *same,
     }
 }
 
 // Each key that was found is to have its version.
-fn put_reads(wishes: &mut WishMap, reads: &[Read]) -> Result<(), NoMemory>
+fn put_reads(wishes: &mut ExpectedMap, reads: &[Read]) -> Result<(), NoMemory>
     ensures { OnOk result (wishes.new ≡ with_reads reads.now wishes.old) }
 {
     for read in reads {
-        wishes.insert(&read.key, Wish::Unchanged(read.version))?;
+        wishes.insert(&read.key, Expected::Unchanged(read.version))?;
     }
     Ok(())
 }
@@ -46,11 +46,11 @@ fn put_reads(wishes: &mut WishMap, reads: &[Read]) -> Result<(), NoMemory>
 // least key on.
 fn put_writes(
     alloc: Global,
-    wishes: &mut WishMap,
+    wishes: &mut ExpectedMap,
     span: &Span,
     bases: &Bases,
 ) -> Result<(), NoMemory>
-    ensures { OnOk result ((key : KeyValue) → fin.get wishes.new key ≡ written_wish (in_span span.now key) (get key_cmp bases.now key) (fin.get wishes.old key)) }
+    ensures { OnOk result ((key : KeyValue) → fin.get wishes.new key ≡ expected_of_written (in_span span.now key) (get key_cmp bases.now key) (fin.get wishes.old key)) }
 {
     let start = least_key(alloc, span)?;
     for (key, base) in bases.range(start..) {
@@ -58,7 +58,7 @@ fn put_writes(
             break;
         }
         let same = is_based(wishes.find(key), *base);
-        wishes.insert(key, Wish::Based(same))?;
+        wishes.insert(key, Expected::Based(same))?;
     }
     Ok(())
 }
@@ -68,7 +68,7 @@ fn rescan(alloc: Global, bases: &Bases, own: &[Write], scan: &Scan) -> Result<Ch
     requires { (key : KeyValue) → get key_cmp bases.now key ≡ base_of own.now key }
     ensures { IfOk result (λ check. check ≡ check_of_scan own.now scan.now) }
 {
-    let mut wishes = WishMap::new(alloc);
+    let mut wishes = ExpectedMap::new(alloc);
     put_reads(&mut wishes, scan.found.as_slice())?;
     put_writes(alloc, &mut wishes, &scan.span, bases)?;
     Ok(Check {

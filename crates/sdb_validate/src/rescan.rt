@@ -5,7 +5,7 @@ ghost use Rattle.sdb_record.specs.Moved.{is_unchanged};
 ghost use Rattle.sdb_phases.specs.Checks.{is_granted};
 ghost use Rattle.sdb_validate.specs.Merge.{merge, located, verdict_on, verdict_absent, verdict_here};
 
-use sdb_phases::{Wanted, Wish};
+use sdb_phases::{Expected, Wanted};
 use sdb_record::has_version;
 use sdb_types::{Record, State, TxId};
 use std::cmp::Ordering;
@@ -41,12 +41,12 @@ fn is_version_read(row: Option<&Record>, version: Option<TxId>) -> bool
     }
 }
 
-fn grants(wish: Wish, row: Option<&Record>) -> bool
+fn grants(wish: Expected, row: Option<&Record>) -> bool
     ensures { result ≡ is_granted wish (option_copied row.entry) }
 {
     match wish {
-        Wish::Unchanged(version) => is_version_read(row, version),
-        Wish::Based(same) => same,
+        Expected::Unchanged(version) => is_version_read(row, version),
+        Expected::Based(same) => same,
     }
 }
 

@@ -11,7 +11,7 @@ ghost use Rattle.sdb_validate.specs.Inside.{Judges, place_after};
 
 use crate::checks::checks;
 use crate::rescan::{Place, first_place};
-use sdb_phases::{Check, Checks, Target, ValidateStep, Wants};
+use sdb_phases::{Check, Checks, Expectations, Target, ValidateStep};
 use sdb_record::{Reads, Scans, Writes, is_unchanged};
 use sdb_types::{Duplicate, Key, NoMemory, Record, Records, Reply, Request, TxId};
 use std::alloc::Global;
@@ -82,7 +82,7 @@ fn place_conflict(rows: Records, j: usize, more: bool) -> ValidateStep
     }
 }
 
-fn missing_conflict(wants: &Wants, i: usize, more: bool) -> ValidateStep
+fn missing_conflict(wants: &Expectations, i: usize, more: bool) -> ValidateStep
     ensures { Judges (judged more (missing_place (slice_get wants.now i))) result }
 {
     match wants.at(i) {
@@ -104,7 +104,7 @@ fn get_took(key: &Key, version: Option<TxId>, found: Option<Record>, more: bool)
 
 // A rescan was answered.
 #[tactic(auto, using(crate::proofs::Merges::merge_first))]
-fn rows_took(wants: &Wants, rows: Records, more: bool) -> ValidateStep
+fn rows_took(wants: &Expectations, rows: Records, more: bool) -> ValidateStep
     requires wants { wanted_rise wants.now ≡ true }
     requires rows { rise rows ≡ true }
     ensures { Judges (judged more (first_difference wants.now rows)) result }

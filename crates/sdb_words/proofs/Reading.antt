@@ -11,7 +11,7 @@ use Rattle.clap.specs.Simple.{App, subcommand_of}
 use Rattle.clap.specs.Faults.{fault_of, level_fault}
 use Rattle.clap.specs.declared.error.kind.ErrorKind.{ErrorKind}
 use Rattle.clap.specs.declared.error.kind.ErrorKind.TheVariants as kind
-use Rattle.sdb_words.specs.Parser.{are_undashed, arguments, is_undashed, leaf0, leaf1, leaf2, leaf3, leaves, program, IsTaken}
+use Rattle.sdb_words.specs.Parser.{are_undashed, arguments, is_undashed, leaf0, leaf1, leaf2, leaf3, leaves, program, IsParsed}
 use Rattle.sdb_words.proofs.Steps.{unstripped}
 use Rattle.sdb_words.proofs.Taken.{IsStray, IsSub, leaf, replay_sub, sql_sub, audit_sub, bench_sub, export_sub, retire_sub, load_sub, alter_sub, schema_sub, none_taken, none_more, one_missing, one_taken, one_read, one_more, two_missing, two_missing_one, two_taken, two_read, two_more, three_missing, three_missing_two, three_missing_one, three_taken, three_read, three_more, nothing_refused, stray_refused}
 
@@ -127,7 +127,7 @@ by_word : (G : Text → Type 0) (word w : Text) → G word → (bytes_eq word w 
 by_word G word w it not = by_test (bytes_eq word w) (λ e. subst G ((bytes_eq-Decides word w).0 e) it) not
 
 -- what is taken is the name of a subcommand and what was read of its words
-pub taken_is : (words : List Text) (name : Text) (rows : List Row) → IsTaken words name rows → IsRead words name rows
+pub taken_is : (words : List Text) (name : Text) (rows : List Row) → IsParsed words name rows → IsRead words name rows
 taken_is [] name rows t = one_kind (fault_of program []) kind.MissingSubcommand nothing_refused t.taken
 taken_is (w ∷ rest) name rows t =
     let u = others_plain w rest t.undashed in

@@ -1,4 +1,4 @@
-//! What is so of the words of commands.
+//! What holds of the words of commands.
 ghost use Rattle.std.specs.Prelude.{◌≡◌, ℕ, List};
 ghost use Rattle.sdb_words.specs.declared.command.Command.{Command};
 ghost use Rattle.sdb_words.specs.Commands.{AreWordsOf};

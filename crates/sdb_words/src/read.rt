@@ -6,7 +6,7 @@ ghost use Rattle.sdb_words.specs.declared.command.Command.TheVariants as command
 ghost use Rattle.sdb_data.specs.declared.fault.Mode.{Mode};
 ghost use Rattle.sdb_words.specs.declared.command.WordsRefused.{WordsRefused};
 ghost use Rattle.sdb_words.specs.Commands.{AreOfNone, AreWordsOf, mode_text};
-ghost use Rattle.sdb_words.specs.Parser.{are_undashed as are_undashed_lem, arguments, in_order, is_undashed as is_undashed_lem, program, text_read, AreMatchesOf, IsTaken};
+ghost use Rattle.sdb_words.specs.Parser.{are_undashed as are_undashed_lem, arguments, in_order, is_undashed as is_undashed_lem, program, text_read, AreMatchesOf, IsParsed};
 
 use crate::command::{Command, WordsRefused};
 use crate::names::{attached, is_first, table_in};
@@ -242,7 +242,7 @@ fn command_taken(
     name: &str,
     given: &ArgMatches<'_>,
 ) -> Result<Command, WordsRefused>
-    requires { IsTaken (map string_bytes words.now) name.now (rows_of (found_of given.now)) }
+    requires { IsParsed (map string_bytes words.now) name.now (rows_of (found_of given.now)) }
     ensures ok { IfOk result (λ c. AreWordsOf stores.now c (map string_bytes words.now)) }
     ensures usage { IsErrOf result WordsRefused.Usage → AreOfNone stores.now (map string_bytes words.now) }
 {

@@ -3,7 +3,7 @@ use Rattle.std.proofs.Common.{◌≡◌, inl, inr, ℕ, suc, ◌+◌, ◌≤◌,
 use Rattle.std.proofs.lemmas.List.Sums.{sum_by_push}
 use Rattle.sdb_types.specs.declared.record.Reply.{Reply}
 use Rattle.sdb_types.specs.declared.record.Request.{Request}
-use Rattle.sdb_stores.specs.Shelf.{Attached, Shelf, HaveRisen, total_faults}
+use Rattle.sdb_stores.specs.Views.{Attached, StoreView, HaveRisen, total_faults}
 use Rattle.sdb_model.specs.declared.answer.Answer.{Answer}
 use Rattle.sdb_model.specs.declared.event.Event.{Event}
 use Rattle.sdb_model.specs.declared.event.Event.TheVariants as event
@@ -13,22 +13,22 @@ use Rattle.sdb_model.specs.Rows.{Name}
 use Rattle.sdb_model.specs.Counted.{broken_in, is_broken}
 use Rattle.sdb_board.specs.Board.{GoOn}
 use Rattle.sdb_executions.specs.World.{WorldAt}
-use Rattle.sdb_world.specs.Step.{HasStopped, HasTaken}
+use Rattle.sdb_world.specs.Step.{HasStopped, HasStarted}
 use Rattle.sdb_world.specs.Broken.{BreaksWithin}
 
 broken_more : (es : List Event) (e : Event) → broken_in (es ++ e ∷ []) ≡ broken_in es + cond (is_broken e) 1 0
 broken_more es e = sum_by_push (λ (x : Event). cond (is_broken x) 1 0) es e
 
 -- nothing came
-pub breaks_none : (es : List Event) (a : List Shelf) → BreaksWithin es es a a
+pub breaks_none : (es : List Event) (a : List StoreView) → BreaksWithin es es a a
 breaks_none es a = inl (omega arith)
 
 -- nothing came, and the stores went on
-pub breaks_still : (es : List Event) (a b : Attached) → GoOn a b → BreaksWithin es es a.shelves b.shelves
+pub breaks_still : (es : List Event) (a b : Attached) → GoOn a b → BreaksWithin es es a.views b.views
 breaks_still es a b goes = inl (omega (arith, goes.counted))
 
 -- more came, on stores that went on
-pub breaks_more : (before mid now : List Event) (a b c : Attached) → BreaksWithin before mid a.shelves b.shelves → GoOn b c → BreaksWithin mid now b.shelves c.shelves → BreaksWithin before now a.shelves c.shelves
+pub breaks_more : (before mid now : List Event) (a b c : Attached) → BreaksWithin before mid a.views b.views → GoOn b c → BreaksWithin mid now b.views c.views → BreaksWithin before now a.views c.views
 breaks_more before mid now a b c h goes k = elim h [
   | inl few ↦ elim k [
     | inl more ↦ inl (omega (arith, few, more))
@@ -38,7 +38,7 @@ breaks_more before mid now a b c h goes k = elim h [
 ]
 
 -- more came on stores that had gone on
-pub breaks_after : (before now : List Event) (a b : Attached) (c : List Shelf) → GoOn a b → BreaksWithin before now b.shelves c → BreaksWithin before now a.shelves c
+pub breaks_after : (before now : List Event) (a b : Attached) (c : List StoreView) → GoOn a b → BreaksWithin before now b.views c → BreaksWithin before now a.views c
 breaks_after before now a b c goes h = elim h [
   | inl few ↦ inl (omega (arith, few, goes.counted))
   | inr full ↦ inr full
@@ -47,23 +47,23 @@ breaks_after before now a b c goes h = elim h [
 ---- one event
 
 -- one that isn't Broken
-pub breaks_other : (es more : List Event) (e : Event) (a : List Shelf) → more ≡ es ++ e ∷ [] → is_broken e ≡ false → BreaksWithin es more a a
+pub breaks_other : (es more : List Event) (e : Event) (a : List StoreView) → more ≡ es ++ e ∷ [] → is_broken e ≡ false → BreaksWithin es more a a
 breaks_other es more e a came whole =
     let one : broken_in more ≡ broken_in es + 0 = ap broken_in came ∙ broken_more es e ∙ ap (λ b. broken_in es + cond b 1 0) whole in
     inl (omega (arith, one))
 
 -- a world's, as it was pushed
-pub breaks_pushed : (u w : WorldAt) → u ≡ w → (more : List Event) (e : Event) (a : List Shelf) → more ≡ u.events ++ e ∷ [] → is_broken e ≡ false → BreaksWithin w.events more a a
+pub breaks_pushed : (u w : WorldAt) → u ≡ w → (more : List Event) (e : Event) (a : List StoreView) → more ≡ u.events ++ e ∷ [] → is_broken e ≡ false → BreaksWithin w.events more a a
 breaks_pushed u w same more e a came whole = breaks_other w.events more e a (came ∙ ap (λ (x : WorldAt). x.events ++ e ∷ []) same) whole
 
-pub breaks_take : (w v : WorldAt) (i : ℕ) (a : List Shelf) → HasTaken w i v → BreaksWithin w.events v.events a a
+pub breaks_take : (w v : WorldAt) (i : ℕ) (a : List StoreView) → HasStarted w i v → BreaksWithin w.events v.events a a
 breaks_take w v i a t = breaks_other w.events v.events (event.Take (suc i) t.text t.answer) a (ap (λ (x : WorldAt). x.events) t.left) refl
 
-pub breaks_stop : (w v : WorldAt) (c : ℕ) (a : List Shelf) → HasStopped w c v → BreaksWithin w.events v.events a a
+pub breaks_stop : (w v : WorldAt) (c : ℕ) (a : List StoreView) → HasStopped w c v → BreaksWithin w.events v.events a a
 breaks_stop w v c a t = breaks_other w.events v.events (event.Stop c) a (ap (λ (x : WorldAt). x.events) t.left) refl
 
 -- a call, which is Broken only where a count rose
-pub breaks_call : (es more : List Event) (c : ℕ) (store : Name) (q : Request) (h : How) (r : Reply) (answer : Option Answer) (a b : List Shelf) → more ≡ es ++ event.Call c store q h r answer ∷ [] → (h ≡ how.Broken → HaveRisen a b) → total_faults a ≤ total_faults b → BreaksWithin es more a b
+pub breaks_call : (es more : List Event) (c : ℕ) (store : Name) (q : Request) (h : How) (r : Reply) (answer : Option Answer) (a b : List StoreView) → more ≡ es ++ event.Call c store q h r answer ∷ [] → (h ≡ how.Broken → HaveRisen a b) → total_faults a ≤ total_faults b → BreaksWithin es more a b
 breaks_call es more c store q h r answer a b came cause counted = subst (λ (xs : List Event). BreaksWithin es xs a b) (sym came) (by h cause)
   where
     by : (h : How) → (h ≡ how.Broken → HaveRisen a b) → BreaksWithin es (es ++ event.Call c store q h r answer ∷ []) a b
@@ -76,6 +76,6 @@ breaks_call es more c store q h r answer a b came cause counted = subst (λ (xs 
     by how.Discarded risen = inl (omega (arith, broken_more es (event.Call c store q how.Discarded r answer), counted))
 
 -- the same of a world's
-pub breaks_called : (u w : WorldAt) → u ≡ w → (more : List Event) (c : ℕ) (store : Name) (q : Request) (h : How) (r : Reply) (answer : Option Answer) (a b : List Shelf) → more ≡ u.events ++ event.Call c store q h r answer ∷ [] → (h ≡ how.Broken → HaveRisen a b) → total_faults a ≤ total_faults b → BreaksWithin w.events more a b
+pub breaks_called : (u w : WorldAt) → u ≡ w → (more : List Event) (c : ℕ) (store : Name) (q : Request) (h : How) (r : Reply) (answer : Option Answer) (a b : List StoreView) → more ≡ u.events ++ event.Call c store q h r answer ∷ [] → (h ≡ how.Broken → HaveRisen a b) → total_faults a ≤ total_faults b → BreaksWithin w.events more a b
 breaks_called u w same more c store q h r answer a b came cause counted =
     breaks_call w.events more c store q h r answer a b (came ∙ ap (λ (x : WorldAt). x.events ++ event.Call c store q h r answer ∷ []) same) cause counted

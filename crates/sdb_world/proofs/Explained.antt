@@ -9,22 +9,22 @@ use Rattle.sdb_model.specs.declared.event.Event.{Event}
 use Rattle.sdb_model.specs.declared.script.Act.{Act}
 use Rattle.sdb_stores.specs.declared.place.Place.{Place}
 use Rattle.sdb_model.specs.declared.script.Script.{Script}
-use Rattle.sdb_model.specs.Events.{Effect, IsTrace, Shelf}
+use Rattle.sdb_model.specs.Events.{Effect, IsTrace, StoreContents}
 use Rattle.sdb_model.specs.Exec.{find_table}
-use Rattle.sdb_model.specs.Explained.{Explained, AreTaken}
+use Rattle.sdb_model.specs.Explained.{Explained, AreTransactional}
 use Rattle.sdb_spread.specs.Spread.{HoldAs}
-use Rattle.sdb_stores.specs.Shelf.{Attached}
-use Rattle.sdb_board.specs.Board.{shown}
-use Rattle.sdb_steps.specs.Fitting.{tables_fit}
-use Rattle.sdb_steps.specs.Hands.{doing_of, system_of}
+use Rattle.sdb_stores.specs.Views.{Attached}
+use Rattle.sdb_board.specs.Board.{contents_of_views}
+use Rattle.sdb_steps.specs.Fitting.{tables_are_well_typed}
+use Rattle.sdb_steps.specs.States.{doing_of, system_of}
 use Rattle.sdb_endings.proofs.Explains.{going_is_explained, going_is_taken}
 use Rattle.sdb_endings.proofs.Moments.{lone_effect}
 use Rattle.sdb_execution.specs.Execution.{IsExecution, IsPlayable, IsReachedBy}
-use Rattle.sdb_executions.specs.World.{IsWorld, WorldAt, hands_of, state_of}
+use Rattle.sdb_executions.specs.World.{IsWorld, WorldAt, states_of, state_of}
 use Rattle.sdb_executions.specs.Linked.{one_name}
 use Rattle.sdb_executions.proofs.Steps.{execution_linked}
-use Rattle.sdb_world.specs.Played.{HasPlayed}
-use Rattle.sdb_world.specs.Step.{HasCome, HasGone, IsOne}
+use Rattle.sdb_world.specs.Ran.{HasRun}
+use Rattle.sdb_world.specs.Step.{HasCome, IsExecutionStep, IsOne}
 use Rattle.sdb_world.specs.Explained.{IsExplained, IsExplainedAfter}
 use Rattle.sdb_world.proofs.Acts.{Came}
 use Rattle.sdb_execution.proofs.Paths.{paths_on}
@@ -38,16 +38,16 @@ no_coordinator script p = by (find_table script.catalog coordinator_table) refl
     by None e = e
     by (Some t) e = clash (sym (p.apart (record { table = coordinator_table; partition = []; clustering = [] }) (ap is_some e)))
 
-pub world_explained : (w : WorldAt) → IsWorld w → IsExecution w.script w.events → (places : List Place) (opening closing : List Shelf) (moments : List (List Shelf)) → HoldAs w.script.catalog places opening empty → IsTrace places w.events opening moments closing → Explained w.script.catalog places w.events opening moments
+pub world_explained : (w : WorldAt) → IsWorld w → IsExecution w.script w.events → (places : List Place) (opening closing : List StoreContents) (moments : List (List StoreContents)) → HoldAs w.script.catalog places opening empty → IsTrace places w.events opening moments closing → Explained w.script.catalog places w.events opening moments
 world_explained w h x places opening closing moments nothing traced =
-    going_is_explained w.script.catalog places one_name (tables_fit w.script.catalog) w.events (system_of (hands_of x.last.seats)) (doing_of (hands_of x.last.seats)) opening closing moments (execution_linked w.script w.events h.playable x) (no_coordinator w.script h.playable) traced h.about nothing
+    going_is_explained w.script.catalog places one_name (tables_are_well_typed w.script.catalog) w.events (system_of (states_of x.last.client_slots)) (doing_of (states_of x.last.client_slots)) opening closing moments (execution_linked w.script w.events h.playable x) (no_coordinator w.script h.playable) traced h.about nothing
 
-world_taken : (w : WorldAt) → IsWorld w → IsExecution w.script w.events → (places : List Place) (opening closing : List Shelf) (moments : List (List Shelf)) → HoldAs w.script.catalog places opening empty → IsTrace places w.events opening moments closing → AreTaken w.script.catalog places opening moments
+world_taken : (w : WorldAt) → IsWorld w → IsExecution w.script w.events → (places : List Place) (opening closing : List StoreContents) (moments : List (List StoreContents)) → HoldAs w.script.catalog places opening empty → IsTrace places w.events opening moments closing → AreTransactional w.script.catalog places opening moments
 world_taken w h x places opening closing moments nothing traced =
-    going_is_taken w.script.catalog places one_name (tables_fit w.script.catalog) w.events (system_of (hands_of x.last.seats)) (doing_of (hands_of x.last.seats)) opening closing moments (execution_linked w.script w.events h.playable x) (no_coordinator w.script h.playable) traced h.about nothing
+    going_is_taken w.script.catalog places one_name (tables_are_well_typed w.script.catalog) w.events (system_of (states_of x.last.client_slots)) (doing_of (states_of x.last.client_slots)) opening closing moments (execution_linked w.script w.events h.playable x) (no_coordinator w.script h.playable) traced h.about nothing
 
 -- a world that has played its script
-pub played_explained : (w : WorldAt) → IsWorld w → (events : List Event) → events ≡ w.events → (opening closing : List Shelf) → HasPlayed w opening closing → IsExplained w.script events opening
+pub played_explained : (w : WorldAt) → IsWorld w → (events : List Event) → events ≡ w.events → (opening closing : List StoreContents) → HasRun w opening closing → IsExplained w.script events opening
 played_explained w h events same opening closing p moments end traced = record {
   explained = subst (λ (es : List Event). Explained w.script.catalog w.script.places es opening moments) (sym same) (world_explained w h p.executed w.script.places opening end moments p.nothing on);
   taken = world_taken w h p.executed w.script.places opening end moments p.nothing on;
@@ -57,7 +57,7 @@ played_explained w h events same opening closing p moments end traced = record {
     on = subst (λ (es : List Event). IsTrace w.script.places es opening moments end) same traced
 
 -- the events so far and those that came are an execution
-execution_more : (old new : Attached) (w v : WorldAt) (es : List Event) → IsReachedBy w.script w.events (state_of w) → HasGone old new w v es → IsExecution v.script v.events
+execution_more : (old new : Attached) (w v : WorldAt) (es : List Event) → IsReachedBy w.script w.events (state_of w) → IsExecutionStep old new w v es → IsExecution v.script v.events
 execution_more old new w v es reached gone =
     subst (λ (xs : List Event). IsExecution v.script xs) (sym gone.events)
     (subst (λ (x : Script). IsExecution x (w.events ++ es)) (sym gone.script) (record {
@@ -72,8 +72,8 @@ pub came_explained : (old new : Attached) (w v : WorldAt) (a : Act) → Came old
 came_explained old new w v a (h, c) f reached opening moments nothing traced =
     let e : Event = c.so.event in
     let places : List Place = old.places in
-    let before : List Shelf = shown old.shelves in
-    let now : List Shelf = shown new.shelves in
+    let before : List StoreContents = contents_of_views old.views in
+    let now : List StoreContents = contents_of_views new.views in
     let s = c.gone.traced f in
     let effect : Effect places e before now = lone_effect places e before now s.0 (subst (λ (es : List Event). IsTrace places es before s.0 now) c.so.lone s.1) in
     let events : v.events ≡ w.events ++ e ∷ [] = c.gone.events ∙ ap (λ (es : List Event). w.events ++ es) c.so.lone in

@@ -10,12 +10,12 @@ use Rattle.sdb_schema.specs.declared.table.Table.{Table}
 use Rattle.sdb_model.specs.declared.event.Event.{Event}
 use Rattle.sdb_stores.specs.declared.place.Place.{Place}
 use Rattle.sdb_model.specs.declared.statement.Statement.{Statement}
-use Rattle.sdb_model.specs.Events.{IsTrace, Shelf}
+use Rattle.sdb_model.specs.Events.{IsTrace, StoreContents}
 use Rattle.sdb_model.specs.Exec.{Tables}
-use Rattle.sdb_model.specs.Transactions.{Recorded, Said}
+use Rattle.sdb_model.specs.Transactions.{Recorded, Executed}
 use Rattle.sdb_laws.specs.Explained.{IsRunOf, newest_first}
-use Rattle.sdb_laws.specs.History.{History, Talk}
-use Rattle.sdb_laws.specs.Lawful.{IsLawful, id, talk}
+use Rattle.sdb_laws.specs.History.{History, ProtocolState}
+use Rattle.sdb_laws.specs.Lawful.{IsLawful, id, protocol_state}
 use Rattle.sdb_laws.specs.Serial.{IsIn}
 use Rattle.sdb_laws.specs.Trace.{IsTraced, StartsEmpty, closing, history}
 use Rattle.sdb_laws.proofs.Derived.{points_differ, recorded_row, row_recorded}
@@ -26,13 +26,13 @@ use Rattle.sdb_laws.proofs.Whole.{Whole}
 use Rattle.sdb_turns.specs.System.{SystemAt}
 use Rattle.sdb_turns.proofs.Begin.{taken_begun}
 use Rattle.sdb_story.specs.Filed.{number}
-use Rattle.sdb_story.specs.Left.{ExecutionOk, ShowsTables}
-use Rattle.sdb_story.specs.Story.{Closed, Finished, Opened, Rest, finished_at}
-use Rattle.sdb_story.specs.Telling.{Telling, begun_in, count_of}
+use Rattle.sdb_story.specs.Left.{ExecutionOk, ContainsTables}
+use Rattle.sdb_story.specs.Story.{Closed, Finished, Opened, Rest, txn_ended_at}
+use Rattle.sdb_story.specs.History.{ClientHistory, begun_in, count_of}
 use Rattle.sdb_story.proofs.Faith.{beyond}
 use Rattle.sdb_story.proofs.Files.{taken_counts}
 use Rattle.sdb_story.proofs.Wholes.{order_runs}
-use Rattle.sdb_linked.specs.Going.{IsGoing, OpenedOk, RanOk}
+use Rattle.sdb_linked.specs.Invariant.{RunInvariant, OpenedOk, RanOk}
 use Rattle.sdb_linked.proofs.Ends.{ran_of}
 use Rattle.sdb_dump.proofs.Lists.{first_or_later, here_in, later_in, none_in}
 use Rattle.sdb_world.proofs.Orders.{ordered}
@@ -54,18 +54,18 @@ of_numbers [] t h = absurd h
 of_numbers (x ∷ xs) t (inl e) = subst (λ (i : TxId). Contains (x ∷ xs) i) (ap id (sym e)) (here_in x xs)
 of_numbers (x ∷ xs) t (inr h) = later_in x (id t) xs (of_numbers xs t h)
 
-module _ (catalog : List Table) (fit : Tables → Bool) (events : List Event) (sys : SystemAt) (doing : ℕ → Option Statement) (g : IsGoing catalog fit events sys doing) where
+module _ (catalog : List Table) (fit : Tables → Bool) (events : List Event) (sys : SystemAt) (doing : ℕ → Option Statement) (g : RunInvariant catalog fit events sys doing) where
   -- what a client's transaction ran whose COMMIT was taken
-  ran_by : (c k : ℕ) → suc k < 2 ^ 64 → (talk g.past).taken (number c k) ≡ true → ExecutionOk catalog fit g.plan g.past (number c k) (g.ran c k)
-  ran_by c k small taken = by (finished_at x.whole k) refl
+  ran_by : (c k : ℕ) → suc k < 2 ^ 64 → (protocol_state g.past).taken (number c k) ≡ true → ExecutionOk catalog fit g.plan g.past (number c k) (g.ran c k)
+  ran_by c k small taken = by (txn_ended_at x.whole k) refl
     where
-      x : Telling
+      x : ClientHistory
       x = g.told c
 
       counts : k < count_of x
       counts = subst (λ m. k < m) (g.stories c).count (taken_counts g.plan g.past sys c k g.system small taken)
 
-      ran : (inside : List Said) → RanOk catalog fit g.plan g.past (number c k) inside (g.ran c k) → ExecutionOk catalog fit g.plan g.past (number c k) (g.ran c k)
+      ran : (inside : List Executed) → RanOk catalog fit g.plan g.past (number c k) inside (g.ran c k) → ExecutionOk catalog fit g.plan g.past (number c k) (g.ran c k)
       ran inside r = record { seen = r.inside.seen; planned = r.planned taken; body = r.inside.body }
 
       open_one : (r : Rest) → x.rest ≡ r → length x.whole ≤ k → k < length x.whole + begun_in r → ExecutionOk catalog fit g.plan g.past (number c k) (g.ran c k)
@@ -80,15 +80,15 @@ module _ (catalog : List Table) (fit : Tables → Bool) (events : List Event) (s
           one : (m : ℕ) → m ≤ k → k < m + 1 → k ≡ m
           one m a b = omega arith
 
-      by : (o : Option Finished) → finished_at x.whole k ≡ o → ExecutionOk catalog fit g.plan g.past (number c k) (g.ran c k)
+      by : (o : Option Finished) → txn_ended_at x.whole k ≡ o → ExecutionOk catalog fit g.plan g.past (number c k) (g.ran c k)
       by (Some f) e = ran f.body ((g.clients c).ended k f e)
       by None e = open_one x.rest refl (beyond x.whole k e) counts
 
   -- by its number
-  ran_at : (t : ℕ) → (talk g.past).taken t ≡ true → ExecutionOk catalog fit g.plan g.past t (ran_of catalog fit events sys doing g t)
+  ran_at : (t : ℕ) → (protocol_state g.past).taken t ≡ true → ExecutionOk catalog fit g.plan g.past t (ran_of catalog fit events sys doing g t)
   ran_at t taken =
       subst (λ u. ExecutionOk catalog fit g.plan g.past u (ran_of catalog fit events sys doing g t)) whole
-      (ran_by (t / 2 ^ 64) (t % 2 ^ 64 - 1) (subst (λ m. m < 2 ^ 64) ordinal (small t)) (ap (talk g.past).taken whole ∙ taken))
+      (ran_by (t / 2 ^ 64) (t % 2 ^ 64 - 1) (subst (λ m. m < 2 ^ 64) ordinal (small t)) (ap (protocol_state g.past).taken whole ∙ taken))
     where
       positive : (m : ℕ) → 0 < m → m ≡ suc (m - 1)
       positive m l = omega (arith, l)
@@ -102,15 +102,15 @@ module _ (catalog : List Table) (fit : Tables → Bool) (events : List Event) (s
       whole : number (t / 2 ^ 64) (t % 2 ^ 64 - 1) ≡ t
       whole = ap (λ m. t / 2 ^ 64 * 2 ^ 64 + m) (sym ordinal) ∙ div-add-mod' t (2 ^ 64)
 
-  module _ (places : List Place) (opening end : List Shelf) (moments : List (List Shelf)) (trace : IsTrace places events opening moments end) (nothing : StartsEmpty places opening) where
-    abbrev held : List (List Shelf)
+  module _ (places : List Place) (opening end : List StoreContents) (moments : List (List StoreContents)) (trace : IsTrace places events opening moments end) (nothing : StartsEmpty places opening) where
+    abbrev held : List (List StoreContents)
     held = newest_first moments
 
     abbrev w : History
     w = history g.plan places opening g.past held
 
-    turned : IsTraced places opening (newest_first g.played) held × (closing opening held ≡ end)
-    turned = traced_of places opening g.played moments end (subst (λ es. IsTrace places es opening moments end) g.same trace)
+    turned : IsTraced places opening (newest_first g.labelled) held × (closing opening held ≡ end)
+    turned = traced_of places opening g.labelled moments end (subst (λ es. IsTrace places es opening moments end) g.same trace)
 
     run : IsRunOf g.plan places opening g.past held
     run = subst (λ ps. IsRunOf g.plan places opening ps held) (sym g.turned) (record { empty = nothing; lawful = subst (IsLawful g.plan) g.turned g.system.lawful; traced = turned.0 })
@@ -118,7 +118,7 @@ module _ (catalog : List Table) (fit : Tables → Bool) (events : List Event) (s
     whole : Whole g.plan places w g.past (closing opening held)
     whole = whole_of g.plan places opening g.past held run
 
-    taken : (t : ℕ) → w.row t ≡ Some Committed → w.talk.taken t ≡ true
+    taken : (t : ℕ) → w.row t ≡ Some Committed → w.protocol.taken t ≡ true
     taken t row = grind (arith, whole.all.one.taken t any_key 0)
 
     row_is : (t : ℕ) → t < 2 ^ 128 → Recorded places end (id t) → w.row t ≡ Some Committed
@@ -130,12 +130,12 @@ module _ (catalog : List Table) (fit : Tables → Bool) (events : List Event) (s
         (small, subst (λ s. Recorded places s (id t)) turned.1 (row_recorded g.plan places w g.past (closing opening held) t whole small row))
 
     -- a list of the recorded transactions gives tables that fit, of which the stores show the rows
-    pub tables_left : (ids : List TxId) → ((i : TxId) → Contains ids i → i.0 < 2 ^ 128) → ((i : TxId) → i.0 < 2 ^ 128 → Contains ids i ↔ Recorded places end i) → fit empty ≡ true → (e : Tables) × (fit e ≡ true) × ShowsTables places end e
+    pub tables_left : (ids : List TxId) → ((i : TxId) → Contains ids i → i.0 < 2 ^ 128) → ((i : TxId) → i.0 < 2 ^ 128 → Contains ids i ↔ Recorded places end i) → fit empty ≡ true → (e : Tables) × (fit e ≡ true) × ContainsTables places end e
     tables_left ids small recorded starts =
         let o = ordered w (points_differ g.plan w whole.all) (numbers ids)
         (λ t row. let r = recorded_is t row in in_numbers ids (id t) ((recorded (id t) r.0).1 r.1))
         (λ t h. let c = of_numbers ids t h in row_is t (small (id t) c) ((recorded (id t) (small (id t) c)).0 c)) in
         let ran = all_in (λ t. ExecutionOk catalog fit g.plan g.past t (ran_of catalog fit events sys doing g t)) o.0
-        (λ t h. ran_at t (subst (λ (x : Talk). x.taken t ≡ true) (sym whole.knows.talks) (taken t ((o.1.recorded t).1 h)))) in
+        (λ t h. ran_at t (subst (λ (x : ProtocolState). x.taken t ≡ true) (sym whole.knows.talks) (taken t ((o.1.recorded t).1 h)))) in
         let left = order_runs catalog fit g.plan places opening g.past held (ran_of catalog fit events sys doing g) o.0 run o.1 ran starts in
-        (left.0, left.1.fits, subst (λ s. ShowsTables places s left.0) turned.1 left.2)
+        (left.0, left.1.fits, subst (λ s. ContainsTables places s left.0) turned.1 left.2)

@@ -21,16 +21,16 @@ use Rattle.sdb_record.specs.Coordinator.{coordinator_table}
 use Rattle.sdb_record.specs.Meta.{id_in}
 use Rattle.sdb_record.specs.Rolls.{image_of, row_of_image}
 use Rattle.sdb_schema.specs.declared.table.Table.{Table}
-use Rattle.sdb_schema.specs.Catalog.{rises, stands_above}
+use Rattle.sdb_schema.specs.Catalog.{rises, is_above_name}
 use Rattle.sdb_stores.specs.declared.place.Place.{Place}
-use Rattle.sdb_model.specs.Events.{Shelf, standing}
+use Rattle.sdb_model.specs.Events.{StoreContents, standing}
 use Rattle.sdb_model.specs.Exec.{Tables, find_table, row_of_entry}
 use Rattle.sdb_model.specs.Images.{decision_at, decision_on, row_at}
 use Rattle.sdb_model.specs.Transactions.{Recorded}
-use Rattle.sdb_steps.specs.Fitting.{row_fits, tables_fit}
-use Rattle.sdb_story.specs.Left.{ShowsTables}
+use Rattle.sdb_steps.specs.Fitting.{row_is_well_typed, tables_are_well_typed}
+use Rattle.sdb_story.specs.Left.{ContainsTables}
 use Rattle.sdb_steps.proofs.RowsFit.{is_fitting}
-use Rattle.sdb_spread.specs.Spread.{one_shelf}
+use Rattle.sdb_spread.specs.Spread.{one_store}
 use Rattle.sdb_spread.proofs.Single.{Single, single}
 use Rattle.sdb_spread.proofs.Told.{one_standing}
 use Rattle.sdb_board.specs.Opening.{records_of}
@@ -40,10 +40,10 @@ use Rattle.sdb_dump.proofs.Images.{decision_there, records_rise}
 use Rattle.sdb_dump.proofs.Lists.{first_or_later, none_in}
 use Rattle.sdb_endings.proofs.Ended.{decides, starts_empty}
 use Rattle.sdb_executions.specs.Linked.{one_name}
-use Rattle.sdb_executions.specs.World.{IsWorld, WorldAt, hands_of}
+use Rattle.sdb_executions.specs.World.{IsWorld, WorldAt, states_of}
 use Rattle.sdb_executions.proofs.Steps.{execution_linked}
-use Rattle.sdb_steps.specs.Hands.{doing_of, system_of}
-use Rattle.sdb_world.specs.Played.{HasPlayed}
+use Rattle.sdb_steps.specs.States.{doing_of, system_of}
+use Rattle.sdb_world.specs.Ran.{HasRun}
 use Rattle.sdb_world.proofs.FinalRows.{tables_left}
 
 ---- rows of tables that fit
@@ -58,18 +58,18 @@ found_fits P (x ∷ xs) q cs all e =
     (λ t. ap₂ P (key_exact q x.0 (equal_of (key_cmp q x.0) t)) (sym (some_is x.1 cs (sym (ap (λ (b : Bool). cond b (Some x.1) (find_key key_cmp q xs)) t) ∙ e))) ∙ and_first (P x.0 x.1) _ all)
     (λ t. found_fits P xs q cs (and_second (P x.0 x.1) _ all) (sym (ap (λ (b : Bool). cond b (Some x.1) (find_key key_cmp q xs)) t) ∙ e))
 
-row_there : (catalog : List Table) (d : Tables) (key : Key) (columns : List Pair) → tables_fit catalog d ≡ true → get d key ≡ Some columns → row_fits catalog key columns ≡ true
-row_there catalog d key columns fit found = found_fits (row_fits catalog) (entries d) key columns fit (sym (get-entries d key) ∙ found)
+row_there : (catalog : List Table) (d : Tables) (key : Key) (columns : List Pair) → tables_are_well_typed catalog d ≡ true → get d key ≡ Some columns → row_is_well_typed catalog key columns ≡ true
+row_there catalog d key columns fit found = found_fits (row_is_well_typed catalog) (entries d) key columns fit (sym (get-entries d key) ∙ found)
 
 ---- tables of a catalog are found by their names
 
-above_all : (t : Table) (ts : List Table) (u : Table) → (stands_above t.name ts && rises ts) ≡ true → Contains ts u → is_lt (table_cmp t.name u.name) ≡ true
+above_all : (t : Table) (ts : List Table) (u : Table) → (is_above_name t.name ts && rises ts) ≡ true → Contains ts u → is_lt (table_cmp t.name u.name) ≡ true
 above_all t [] u up among = absurd (none_in u among)
 above_all t (x ∷ xs) u up among =
     let first : is_lt (table_cmp t.name x.name) ≡ true = and_first _ _ up in
     elim (first_or_later x u xs among) [
       | inl same ↦ ap (λ (y : Table). is_lt (table_cmp t.name y.name)) (sym same) ∙ first
-      | inr later ↦ lower first (above_all x xs u (and_second (stands_above t.name (x ∷ xs)) _ up) later)
+      | inr later ↦ lower first (above_all x xs u (and_second (is_above_name t.name (x ∷ xs)) _ up) later)
     ]
   where
     lower : is_lt (table_cmp t.name x.name) ≡ true → is_lt (table_cmp x.name u.name) ≡ true → is_lt (table_cmp t.name u.name) ≡ true
@@ -81,7 +81,7 @@ found_by_name (x ∷ xs) t up among = elim (first_or_later x t xs among) [
   | inl same ↦ ap (λ (b : Bool). cond b (Some x) (find_table xs t.name)) (ap (λ (y : Table). is_eq (table_cmp x.name y.name)) (sym same) ∙ ap is_eq (tied_itself table_total x.name)) ∙ ap Some same
   | inr later ↦
       ap (λ (b : Bool). cond b (Some x) (find_table xs t.name)) (ap is_eq (less_of (table_cmp x.name t.name) (above_all x xs t up later)))
-      ∙ found_by_name xs t (and_second (stands_above x.name xs) (rises xs) up) later
+      ∙ found_by_name xs t (and_second (is_above_name x.name xs) (rises xs) up) later
 ]
 
 ---- the rows of the images
@@ -93,15 +93,15 @@ then_same f g (Some x) same = same x
 abbrev Says : Option Decided → Type 0
 Says d = IsSomeAnd d (λ d. d.decision ≡ decision.Committed)
 
-module _ (w : WorldAt) (h : IsWorld w) (opening closing : List Shelf) (p : HasPlayed w opening closing) where
+module _ (w : WorldAt) (h : IsWorld w) (opening closing : List StoreContents) (p : HasRun w opening closing) where
   abbrev places : List Place
   places = w.script.places
 
   abbrev one : Single w.script.catalog one_name places w.events empty closing
   one = single w.script.catalog one_name places w.events opening p.moments closing empty p.traced h.about p.nothing
 
-  abbrev end : List Shelf
-  end = one_shelf one_name one.last
+  abbrev end : List StoreContents
+  end = one_store one_name one.last
 
   decided_there : (id : TxId) → decision_at places closing id ≡ decision_at [] end id
   decided_there id = decides w.script.catalog places closing one_name one.last one.same id
@@ -118,18 +118,18 @@ module _ (w : WorldAt) (h : IsWorld w) (opening closing : List Shelf) (p : HasPl
       )
 
   -- the tables that these leave fit, and the stores show their rows
-  left : (e : Tables) × (tables_fit w.script.catalog e ≡ true) × ShowsTables [] end e
+  left : (e : Tables) × (tables_are_well_typed w.script.catalog e ≡ true) × ContainsTables [] end e
   left =
       let fitting = is_fitting w.script.catalog h.playable.apart in
       let going = execution_linked w.script w.events h.playable p.executed in
-      let hands = hands_of p.executed.last.seats in
-      tables_left w.script.catalog (tables_fit w.script.catalog) _ (system_of hands) (doing_of hands) going
-      [] (one_shelf one_name empty) end one.singles one.traced (starts_empty one_name) (recorded_among rows) (recorded_small rows) recorded_here fitting.starts
+      let states = states_of p.executed.last.client_slots in
+      tables_left w.script.catalog (tables_are_well_typed w.script.catalog) _ (system_of states) (doing_of states) going
+      [] (one_store one_name empty) end one.singles one.traced (starts_empty one_name) (recorded_among rows) (recorded_small rows) recorded_here fitting.starts
 
   row_same : (key : Key) → is_some (find_table w.script.catalog key.table) ≡ true → row_at places closing key ≡ row_at [] end key
   row_same key table =
       ap (λ (found : Option Record). option_and_then row_of_image (option_and_then (λ r. image_of r (decision_on places closing r)) found)) (one.same.at key (or_first _ _ table) ∙ sym (one_standing one_name one.last key))
       ∙ ap (option_and_then row_of_image) (then_same _ _ (standing [] end key) (λ r. ap (image_of r) (then_same _ _ (id_in r.columns) decided_there)))
 
-  pub final_row_fits : (key : Key) (columns : List Pair) → is_some (find_table w.script.catalog key.table) ≡ true → row_at places closing key ≡ Some columns → row_fits w.script.catalog key columns ≡ true
+  pub final_row_fits : (key : Key) (columns : List Pair) → is_some (find_table w.script.catalog key.table) ≡ true → row_at places closing key ≡ Some columns → row_is_well_typed w.script.catalog key columns ≡ true
   final_row_fits key columns table shown = row_there w.script.catalog left.0 key columns left.1 (sym (left.2 key (h.playable.apart key table)) ∙ sym (row_same key table) ∙ shown)

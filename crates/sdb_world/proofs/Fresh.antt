@@ -3,9 +3,9 @@ use Rattle.std.proofs.Common.{◌≡◌, ℕ, List, length, refl, subst}
 use Rattle.std.specs.Prelude.{pos}
 use Rattle.sdb_model.specs.declared.event.Event.{Event}
 use Rattle.sdb_model.specs.declared.script.Script.{Script}
-use Rattle.sdb_execution.specs.declared.seat.Seat.{Seat}
+use Rattle.sdb_execution.specs.declared.slot.ClientSlot.{ClientSlot}
 use Rattle.sdb_execution.specs.Execution.{AreFresh, IsInitial}
 use Rattle.sdb_executions.specs.World.{state_of}
 
-pub initial_new : (script : Script) (count : ℕ) (seats : List Seat) (events : List Event) → count ≡ length script.clients → AreFresh count seats → IsInitial script (state_of (record { script = script; seats = seats; events = events; clock = pos 0 }))
-initial_new script count seats events few h = record { fresh = subst (λ (n : ℕ). AreFresh n seats) few h; clock = refl }
+pub initial_new : (script : Script) (count : ℕ) (client_slots : List ClientSlot) (events : List Event) → count ≡ length script.clients → AreFresh count client_slots → IsInitial script (state_of (record { script = script; client_slots = client_slots; events = events; clock = pos 0 }))
+initial_new script count client_slots events few h = record { fresh = subst (λ (n : ℕ). AreFresh n client_slots) few h; clock = refl }

@@ -4,40 +4,40 @@ use Rattle.std.proofs.lemmas.List.{append-nil}
 use Rattle.sdb_model.specs.declared.event.Event.{Event}
 use Rattle.sdb_stores.specs.declared.place.Place.{Place}
 use Rattle.sdb_model.specs.declared.script.Script.{Script}
-use Rattle.sdb_model.specs.Events.{Effect, IsTrace, Shelf}
-use Rattle.sdb_stores.specs.Shelf.{Attached}
-use Rattle.sdb_board.specs.Board.{AreFit, GoOn, shown}
+use Rattle.sdb_model.specs.Events.{Effect, IsTrace, StoreContents}
+use Rattle.sdb_stores.specs.Views.{Attached}
+use Rattle.sdb_board.specs.Board.{AreUsable, GoOn, contents_of_views}
 use Rattle.sdb_executions.specs.World.{WorldAt, state_of}
 use Rattle.sdb_execution.proofs.Paths.{paths_on}
 use Rattle.sdb_execution.specs.Execution.{IsPath, IsStepFrom}
-use Rattle.sdb_world.specs.Step.{HasCome, HasGone}
+use Rattle.sdb_world.specs.Step.{HasCome, IsExecutionStep}
 
-pub traces_on : (places : List Place) (es more : List Event) (a b c : List Shelf) (ms ns : List (List Shelf)) → IsTrace places es a ms b → IsTrace places more b ns c → IsTrace places (es ++ more) a (ms ++ ns) c
-traces_on places [] more a b c [] ns h k = subst (λ (x : List Shelf). IsTrace places more x ns c) h k
+pub traces_on : (places : List Place) (es more : List Event) (a b c : List StoreContents) (ms ns : List (List StoreContents)) → IsTrace places es a ms b → IsTrace places more b ns c → IsTrace places (es ++ more) a (ms ++ ns) c
+traces_on places [] more a b c [] ns h k = subst (λ (x : List StoreContents). IsTrace places more x ns c) h k
 traces_on places [] more a b c (m ∷ ms) ns h k = absurd h
 traces_on places (e ∷ es) more a b c [] ns h k = absurd h
 traces_on places (e ∷ es) more a b c (m ∷ ms) ns h k = (h.0, traces_on places es more m b c ms ns h.1 k)
 
 -- nothing came
-pub gone_none : (stores : Attached) (w : WorldAt) → HasGone stores stores w w []
+pub gone_none : (stores : Attached) (w : WorldAt) → IsExecutionStep stores stores w w []
 gone_none stores w = record { script = refl; events = sym (append-nil w.events); executed = refl; traced = λ f. ([], refl) }
 
 -- one event came
 pub gone_one : (old new : Attached) (w v : WorldAt) (e : Event) → v.script ≡ w.script → v.events ≡ w.events ++ e ∷ [] → IsStepFrom w.script (state_of w) e (state_of v)
-    → (AreFit w.script.catalog old → Effect old.places e (shown old.shelves) (shown new.shelves)) → HasGone old new w v (e ∷ [])
-gone_one old new w v e script events step effect = record { script = script; events = events; executed = (state_of v, step, refl); traced = λ f. (shown new.shelves ∷ [], (effect f, refl)) }
+    → (AreUsable w.script.catalog old → Effect old.places e (contents_of_views old.views) (contents_of_views new.views)) → IsExecutionStep old new w v (e ∷ [])
+gone_one old new w v e script events step effect = record { script = script; events = events; executed = (state_of v, step, refl); traced = λ f. (contents_of_views new.views ∷ [], (effect f, refl)) }
 
 -- and more, on stores that went on
-pub gone_more : (a b c : Attached) (u v w : WorldAt) (es more : List Event) → GoOn a b → HasGone a b u v es → HasGone b c v w more → HasGone a c u w (es ++ more)
+pub gone_more : (a b c : Attached) (u v w : WorldAt) (es more : List Event) → GoOn a b → IsExecutionStep a b u v es → IsExecutionStep b c v w more → IsExecutionStep a c u w (es ++ more)
 gone_more a b c u v w es more goes g h = record {
   script = h.script ∙ g.script;
   events = h.events ∙ ap (λ (xs : List Event). xs ++ more) g.events ∙ append_assoc u.events es more;
   executed = paths_on u.script es more (state_of u) (state_of v) (state_of w) g.executed (subst (λ (x : Script). IsPath x (state_of v) more (state_of w)) g.script h.executed);
   traced = λ f.
       let s = g.traced f in
-      let t = h.traced (subst (λ (x : Script). AreFit x.catalog b) (sym g.script) (goes.fit u.script.catalog f)) in
-      let on = subst (λ (ps : List Place). IsTrace ps more (shown b.shelves) t.0 (shown c.shelves)) goes.places t.1 in
-      (s.0 ++ t.0, traces_on a.places es more (shown a.shelves) (shown b.shelves) (shown c.shelves) s.0 t.0 s.1 on);
+      let t = h.traced (subst (λ (x : Script). AreUsable x.catalog b) (sym g.script) (goes.fit u.script.catalog f)) in
+      let on = subst (λ (ps : List Place). IsTrace ps more (contents_of_views b.views) t.0 (contents_of_views c.views)) goes.places t.1 in
+      (s.0 ++ t.0, traces_on a.places es more (contents_of_views a.views) (contents_of_views b.views) (contents_of_views c.views) s.0 t.0 s.1 on);
 }
 
 ---- what came

@@ -36,20 +36,20 @@ module _ (w : History) where
     here : IsIn t all
     kept : (x : ℕ) → IsIn x us → IsIn x all
     from : (x : ℕ) → IsIn x all → (x ≡ t) ⊎ IsIn x us
-    above : (n : ℕ) → n < w.talk.point t → AllAbove w n us → AllAbove w n all
+    above : (n : ℕ) → n < w.protocol.point t → AllAbove w n us → AllAbove w n all
 
-  with_one : (t : ℕ) (us : List ℕ) → IsRising w us → ((u : ℕ) → IsIn u us → w.talk.point t ≡ w.talk.point u → t ≡ u) → WithOne t us
+  with_one : (t : ℕ) (us : List ℕ) → IsRising w us → ((u : ℕ) → IsIn u us → w.protocol.point t ≡ w.protocol.point u → t ≡ u) → WithOne t us
   with_one t [] rises apart = record { all = t ∷ []; rising = (tt, tt); here = inl refl; kept = λ x h. absurd h; from = λ x h. h; above = λ n l all. (l, tt) }
   with_one t (u ∷ us) rises apart =
-      compared (w.talk.point t) (w.talk.point u)
-      (λ l. record { all = t ∷ u ∷ us; rising = ((l, lower (w.talk.point t) (w.talk.point u) us l rises.0), rises); here = inl refl; kept = λ x h. inr h; from = λ x h. h; above = λ n k all. (k, all) })
+      compared (w.protocol.point t) (w.protocol.point u)
+      (λ l. record { all = t ∷ u ∷ us; rising = ((l, lower (w.protocol.point t) (w.protocol.point u) us l rises.0), rises); here = inl refl; kept = λ x h. inr h; from = λ x h. h; above = λ n k all. (k, all) })
       (λ e. record { all = u ∷ us; rising = rises; here = inl (apart u (inl refl) e); kept = λ x h. h; from = λ x h. inr h; above = λ n k all. all })
       (λ g. later g (with_one t us rises.1 (λ v h. apart v (inr h))))
     where
-      later : w.talk.point u < w.talk.point t → WithOne t us → WithOne t (u ∷ us)
+      later : w.protocol.point u < w.protocol.point t → WithOne t us → WithOne t (u ∷ us)
       later g rest = record {
         all = u ∷ rest.all;
-        rising = (rest.above (w.talk.point u) g rises.0, rest.rising);
+        rising = (rest.above (w.protocol.point u) g rises.0, rest.rising);
         here = inr rest.here;
         kept = λ x h. elim h [ inl e ↦ inl e | inr k ↦ inr (rest.kept x k) ];
         from = λ x h. elim h [ inl e ↦ inr (inl e) | inr k ↦ elim (rest.from x k) [ inl e ↦ inl e | inr j ↦ inr (inr j) ] ];

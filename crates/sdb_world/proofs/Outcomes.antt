@@ -12,7 +12,7 @@ use Rattle.sdb_types.specs.Contents.{Contents, record_at, record_of}
 use Rattle.sdb_types.proofs.Bools.{and_both, and_first}
 use Rattle.sdb_record.specs.declared.coordinator.Decided.{Decided}
 use Rattle.sdb_record.specs.Coordinator.{decision_in, is_coordinator_table}
-use Rattle.sdb_record.specs.Meta.{is_taken}
+use Rattle.sdb_record.specs.Meta.{is_transactional}
 use Rattle.sdb_record.specs.Rolls.{image_of, row_of_image}
 use Rattle.sdb_schema.specs.declared.table.Table.{Table}
 use Rattle.sdb_schema.specs.Rows.{fits_table}
@@ -20,27 +20,27 @@ use Rattle.sdb_model.specs.declared.event.Event.{Event}
 use Rattle.sdb_model.specs.declared.event.Point.{Point}
 use Rattle.sdb_model.specs.declared.event.TableDump.{TableDump}
 use Rattle.sdb_stores.specs.declared.place.Place.{Place}
-use Rattle.sdb_model.specs.Events.{Shelf, held_by, standing, store_of}
+use Rattle.sdb_model.specs.Events.{StoreContents, contents_under, standing, store_of}
 use Rattle.sdb_model.specs.Exec.{Tables, find_table}
 use Rattle.sdb_model.specs.Images.{decision_at, decision_on, row_at}
-use Rattle.sdb_model.specs.Told.{AreImages, IsRun, dumps_of, serial}
+use Rattle.sdb_model.specs.Serial.{AreImages, IsRun, dumps_of, serial}
 use Rattle.sdb_model.specs.Transactions.{Recorded}
-use Rattle.sdb_steps.specs.Fitting.{row_fits, tables_fit}
-use Rattle.sdb_linked.specs.Going.{IsGoing}
-use Rattle.sdb_steps.specs.Hands.{Hand, doing_of, system_of}
+use Rattle.sdb_steps.specs.Fitting.{row_is_well_typed, tables_are_well_typed}
+use Rattle.sdb_linked.specs.Invariant.{RunInvariant}
+use Rattle.sdb_steps.specs.States.{ClientState, doing_of, system_of}
 use Rattle.sdb_steps.proofs.RowsFit.{is_fitting}
-use Rattle.sdb_dump.specs.Dumped.{image_fits, row_by}
+use Rattle.sdb_dump.specs.Dumped.{image_is_well_typed, row_by}
 use Rattle.sdb_dump.specs.Odd.{IsOddAt}
 use Rattle.sdb_endings.specs.Ending.{IsEnd}
 use Rattle.sdb_endings.specs.Order.{HasRisen}
-use Rattle.sdb_endings.specs.Stores.{AreSound, IsPlayedOn}
+use Rattle.sdb_endings.specs.Stores.{AreSound, IsTraceOnEmpty}
 use Rattle.sdb_endings.proofs.Ended.{going_is_run_on_stores}
 use Rattle.sdb_endings.proofs.OnStores.{points_on_stores, sound_on_stores}
 use Rattle.sdb_endings.proofs.Ordered.{is_order, risen_fits}
-use Rattle.sdb_executions.specs.World.{IsWorld, WorldAt, hands_of}
+use Rattle.sdb_executions.specs.World.{IsWorld, WorldAt, states_of}
 use Rattle.sdb_executions.specs.Linked.{on_one, one_name}
 use Rattle.sdb_executions.proofs.Steps.{execution_linked}
-use Rattle.sdb_world.specs.Played.{HasPlayed}
+use Rattle.sdb_world.specs.Ran.{HasRun}
 use Rattle.sdb_world.proofs.Fitting.{final_row_fits, found_by_name}
 
 or_same : {A : Type 0} (xs : List A) (i : ℕ) (a b : A) → i < length xs → get_or xs i a ≡ get_or xs i b
@@ -52,15 +52,15 @@ or_same (x ∷ xs) (suc i) a b low = or_same xs i a b (omega (arith, low))
 all_contained : {A : Type 0} (P : A → Type 0) (xs : List A) → ((x : A) → Contains xs x → P x) → All P xs
 all_contained P xs h i d low = h (slice_index_or xs i d) (i, low, or_same xs i (slice_index_or xs i d) d low)
 
-module _ (w : WorldAt) (h : IsWorld w) (opening closing : List Shelf) (p : HasPlayed w opening closing) where
+module _ (w : WorldAt) (h : IsWorld w) (opening closing : List StoreContents) (p : HasRun w opening closing) where
   -- the clients where the events lead to
-  abbrev hands : ℕ → Hand
-  hands = hands_of p.executed.last.seats
+  abbrev states : ℕ → ClientState
+  states = states_of p.executed.last.client_slots
 
-  going : IsGoing w.script.catalog (tables_fit w.script.catalog) (on_one w.events) (system_of hands) (doing_of hands)
+  going : RunInvariant w.script.catalog (tables_are_well_typed w.script.catalog) (on_one w.events) (system_of states) (doing_of states)
   going = execution_linked w.script w.events h.playable p.executed
 
-  on_stores : IsPlayedOn w.script w.events opening closing
+  on_stores : IsTraceOnEmpty w.script w.events opening closing
   on_stores = record { moments = p.moments; traced = p.traced; about = h.about; nothing = p.nothing }
 
   -- what an order of the recorded transactions and the rows of the images are
@@ -68,7 +68,7 @@ module _ (w : WorldAt) (h : IsWorld w) (opening closing : List Shelf) (p : HasPl
       → ((d : Tables) → AreImages w.script.catalog w.script.places closing d → tables ≡ dumps_of w.script.catalog d) → IsRun w.script opening closing (record { events = w.events; order = order; tables = tables })
   run_is recorded order tables each small risen printed =
       let all_small = all_contained (λ (id : TxId). id.0 < 2 ^ 128) recorded small in
-      let have = points_on_stores w.script one_name (tables_fit w.script.catalog) w.events (system_of hands) (doing_of hands) opening closing going on_stores in
+      let have = points_on_stores w.script one_name (tables_are_well_typed w.script.catalog) w.events (system_of states) (doing_of states) opening closing going on_stores in
       let end : IsEnd w.script w.events opening closing order = record {
         moments = p.moments;
         follows = p.follows;
@@ -78,16 +78,16 @@ module _ (w : WorldAt) (h : IsWorld w) (opening closing : List Shelf) (p : HasPl
         ordered = is_order w.script.places w.events closing recorded order all_small each have risen;
         small = risen_fits w.events recorded order all_small risen;
       } in
-      let run = going_is_run_on_stores w.script one_name (tables_fit w.script.catalog) w.events (system_of hands) (doing_of hands) opening closing order (is_fitting w.script.catalog h.playable.apart) going end in
+      let run = going_is_run_on_stores w.script one_name (tables_are_well_typed w.script.catalog) w.events (system_of states) (doing_of states) opening closing order (is_fitting w.script.catalog h.playable.apart) going end in
       let same : tables ≡ run.0 = printed (serial w.script.catalog run.1.told.bodies empty).1 run.1.told.images ∙ sym run.1.told.printed in
       subst (λ (ts : List TableDump). IsRun w.script opening closing (record { events = w.events; order = order; tables = ts })) (sym same) run.1
 
   sound : AreSound w.script.catalog w.script.places closing
-  sound = sound_on_stores w.script one_name (tables_fit w.script.catalog) w.events (system_of hands) (doing_of hands) opening closing going on_stores
+  sound = sound_on_stores w.script one_name (tables_are_well_typed w.script.catalog) w.events (system_of states) (doing_of states) opening closing going on_stores
 
   -- a record that is at a key has that key
   key_is : (key : Key) (r : Record) → standing w.script.places closing key ≡ Some r → r.key ≡ key
-  key_is key r e = by (held_by closing (store_of w.script.places closing key.table.ns)) e
+  key_is key r e = by (contents_under closing (store_of w.script.places closing key.table.ns)) e
     where
       some_is : {A : Type 0} (x y : A) → Some x ≡ Some y → x ≡ y
       some_is x y e = cc
@@ -116,7 +116,7 @@ module _ (w : WorldAt) (h : IsWorld w) (opening closing : List Shelf) (p : HasPl
   decide = decision_at w.script.places closing
 
   -- the image of a record of a table fits it
-  images_fit : (key : Key) (t : Table) (r : Record) → Contains w.script.catalog t → t.name ≡ key.table → r.key ≡ key → standing w.script.places closing key ≡ Some r → image_fits decide t r ≡ true
+  images_fit : (key : Key) (t : Table) (r : Record) → Contains w.script.catalog t → t.name ≡ key.table → r.key ≡ key → standing w.script.places closing key ≡ Some r → image_is_well_typed decide t r ≡ true
   images_fit key t r listed named same stands = by (row_by decide r) refl
     where
       found : find_table w.script.catalog key.table ≡ Some t
@@ -128,7 +128,7 @@ module _ (w : WorldAt) (h : IsWorld w) (opening closing : List Shelf) (p : HasPl
       by : (o : Option (List Pair)) → row_by decide r ≡ o → option_map_or (fits_table t r.key) o true ≡ true
       by None e = refl
       by (Some columns) e =
-          let fits : row_fits w.script.catalog key columns ≡ true = final_row_fits w h opening closing p key columns (ap is_some found) (shown columns e) in
+          let fits : row_is_well_typed w.script.catalog key columns ≡ true = final_row_fits w h opening closing p key columns (ap is_some found) (shown columns e) in
           ap (λ (k : Key). fits_table t k columns) same ∙ sym (ap (λ (o : Option Table). option_map_or (λ (u : Table). fits_table u key columns) o false) found) ∙ fits
 
   -- no record breaks the rules
@@ -137,8 +137,8 @@ module _ (w : WorldAt) (h : IsWorld w) (opening closing : List Shelf) (p : HasPl
     | inl of_data ↦ (
         let named : of_data.table.name ≡ key.table = of_data.named ∙ ap (λ (k : Key). k.table) same in
         let table : is_some (find_table w.script.catalog key.table) ≡ true = ap (λ (n : TableName). is_some (find_table w.script.catalog n)) (sym named) ∙ ap is_some (found_by_name w.script.catalog of_data.table (and_first _ _ h.playable.catalog) of_data.listed) in
-        let taken : is_taken odd.found ≡ true = sound.taken key odd.found (or_first (is_some (find_table w.script.catalog key.table)) (is_coordinator_table key.table) table) (h.playable.apart key table) odd.stands in
-        true_false (sym (and_both (is_taken odd.found) _ taken (images_fit key of_data.table odd.found of_data.listed named same odd.stands)) ∙ of_data.ill_formed)
+        let taken : is_transactional odd.found ≡ true = sound.taken key odd.found (or_first (is_some (find_table w.script.catalog key.table)) (is_coordinator_table key.table) table) (h.playable.apart key table) odd.stands in
+        true_false (sym (and_both (is_transactional odd.found) _ taken (images_fit key of_data.table odd.found of_data.listed named same odd.stands)) ∙ of_data.ill_formed)
         )
     | inr row_odd ↦ ok_decided (decision_in odd.found) (sound.rows key odd.found (ap (λ (k : Key). is_coordinator_table k.table) (sym same) ∙ row_odd.0) odd.stands) row_odd.1
   ]
@@ -149,15 +149,15 @@ module _ (w : WorldAt) (h : IsWorld w) (opening closing : List Shelf) (p : HasPl
 ---- what a dump of the stores says of them
 
 -- What was read of stores that are fit for a catalog: the recorded transactions, and the rows of the images.
-pub record IsReadOf (F : List Table → Type 0) (catalog : List Table) (places : List Place) (old new : List Shelf) (recorded : List TxId) (tables : List TableDump) : Type 0 where
+pub record IsReadOf (F : List Table → Type 0) (catalog : List Table) (places : List Place) (old new : List StoreContents) (recorded : List TxId) (tables : List TableDump) : Type 0 where
   pub printed : F catalog → (d : Tables) → AreImages catalog places old d → tables ≡ dumps_of catalog d
   pub each : F catalog → (id : TxId) → id.0 < 2 ^ 128 → Contains recorded id ↔ Recorded places old id
   pub small : (id : TxId) → Contains recorded id → id.0 < 2 ^ 128
   pub still : F catalog → new ≡ old
 
-module _ (F : List Table → Type 0) (w : WorldAt) (h : IsWorld w) (opening old new : List Shelf) (places : List Place) (catalog : List Table) (same : catalog ≡ w.script.catalog) where
+module _ (F : List Table → Type 0) (w : WorldAt) (h : IsWorld w) (opening old new : List StoreContents) (places : List Place) (catalog : List Table) (same : catalog ≡ w.script.catalog) where
   pub outcome_run : (events : List Event) (recorded : List TxId) (order : List Point) (tables : List TableDump) → events ≡ w.events → IsReadOf F catalog places old new recorded tables → HasRisen events recorded order
-      → F w.script.catalog → places ≡ w.script.places → HasPlayed w opening old → IsRun w.script opening new (record { events = events; order = order; tables = tables })
+      → F w.script.catalog → places ≡ w.script.places → HasRun w opening old → IsRun w.script opening new (record { events = events; order = order; tables = tables })
   outcome_run events recorded order tables told got risen fit placed p =
       let f : F catalog = subst F (sym same) fit in
       let each = subst (λ (ps : List Place). (id : TxId) → id.0 < 2 ^ 128 → Contains recorded id ↔ Recorded ps old id) placed (got.each f) in
@@ -165,10 +165,10 @@ module _ (F : List Table → Type 0) (w : WorldAt) (h : IsWorld w) (opening old 
       let images = subst (λ (ts : List Table). (d : Tables) → AreImages ts w.script.places old d → tables ≡ dumps_of ts d) same there in
       let rose = subst (λ (es : List Event). HasRisen es recorded order) told risen in
       subst (λ (es : List Event). IsRun w.script opening new (record { events = es; order = order; tables = tables })) (sym told)
-      (subst (λ (ss : List Shelf). IsRun w.script opening ss (record { events = w.events; order = order; tables = tables })) (sym (got.still f))
+      (subst (λ (ss : List StoreContents). IsRun w.script opening ss (record { events = w.events; order = order; tables = tables })) (sym (got.still f))
       (run_is w h opening old p recorded order tables each got.small rose images))
 
-  pub outcome_sound : (key : Key) → (F catalog → IsOddAt catalog places old (decision_at places old) key) → F w.script.catalog → places ≡ w.script.places → HasPlayed w opening old → ⊥
+  pub outcome_sound : (key : Key) → (F catalog → IsOddAt catalog places old (decision_at places old) key) → F w.script.catalog → places ≡ w.script.places → HasRun w opening old → ⊥
   outcome_sound key odd fit placed p =
       none_odd w h opening old p key
       (subst (λ (ts : List Table). IsOddAt ts w.script.places old (decision_at w.script.places old) key) same

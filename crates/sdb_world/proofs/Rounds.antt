@@ -9,7 +9,7 @@ use Rattle.sdb_model.specs.declared.script.Move.{Move}
 use Rattle.sdb_model.specs.declared.script.Move.TheVariants as move
 use Rattle.sdb_model.specs.declared.script.Script.{Script}
 use Rattle.sdb_model.specs.declared.script.ScriptClient.{ScriptClient}
-use Rattle.sdb_model.specs.Follows.{AllIdle, AreMoved, AreStepsOf, IsHowOfStep, IsMoved, IsRest, IsStep, IsTurn, end_of, has_work}
+use Rattle.sdb_model.specs.Follows.{AllIdle, AreOfMoves, AreStepsOf, IsHowOfStep, IsOfMove, IsRest, IsStep, IsTurn, end_of, has_work}
 use Rattle.sdb_board.proofs.Lists.{take_suc}
 use Rattle.sdb_world.specs.Step.{AreSteps, CanAct, CanMove, IsNumber, IsOne}
 
@@ -122,26 +122,26 @@ can_act script m a e can = subst (λ (x : Move). CanMove script x) e can
 pub can_repeat : (script : Script) (m : Move) (c times : ℕ) → m ≡ move.Repeat c times → CanMove script m → IsNumber script c
 can_repeat script m c times e can = subst (λ (x : Move). CanMove script x) e can
 
-pub moved_on : (clients : List ScriptClient) (ms : List Move) (m : Move) (past es more : List Event) → AreMoved clients ms past es → IsMoved clients m (past ++ es) more → AreMoved clients (ms ++ m ∷ []) past (es ++ more)
+pub moved_on : (clients : List ScriptClient) (ms : List Move) (m : Move) (past es more : List Event) → AreOfMoves clients ms past es → IsOfMove clients m (past ++ es) more → AreOfMoves clients (ms ++ m ∷ []) past (es ++ more)
 moved_on clients [] m past es more h k =
-    subst (λ (xs : List Event). AreMoved clients (m ∷ []) past (xs ++ more)) (sym h)
-    (more, [], sym (append-nil more), subst (λ (xs : List Event). IsMoved clients m xs more) (ap (λ (xs : List Event). past ++ xs) h ∙ append-nil past) k, refl)
+    subst (λ (xs : List Event). AreOfMoves clients (m ∷ []) past (xs ++ more)) (sym h)
+    (more, [], sym (append-nil more), subst (λ (xs : List Event). IsOfMove clients m xs more) (ap (λ (xs : List Event). past ++ xs) h ∙ append-nil past) k, refl)
 moved_on clients (x ∷ xs) m past es more (front, back, same, first, rest) k = (
   front,
   back ++ more,
   ap (λ (ys : List Event). ys ++ more) same ∙ append_assoc front back more,
   first,
-  moved_on clients xs m (past ++ front) back more rest (subst (λ (ys : List Event). IsMoved clients m ys more) (ap (λ (ys : List Event). past ++ ys) same ∙ sym (append_assoc past front back)) k),
+  moved_on clients xs m (past ++ front) back more rest (subst (λ (ys : List Event). IsOfMove clients m ys more) (ap (λ (ys : List Event). past ++ ys) same ∙ sym (append_assoc past front back)) k),
 )
 
 -- the first i moves and the next
-pub moves_more : (clients : List ScriptClient) (ms : List Move) (i : ℕ) (m : Move) (past es more : List Event) → slice_get ms i ≡ Some m → AreMoved clients (take i ms) past es → IsMoved clients m (past ++ es) more → AreMoved clients (take (suc i) ms) past (es ++ more)
-moves_more clients ms i m past es more here h k = subst (λ (xs : List Move). AreMoved clients xs past (es ++ more)) (sym (take_suc ms i m here)) (moved_on clients (take i ms) m past es more h k)
+pub moves_more : (clients : List ScriptClient) (ms : List Move) (i : ℕ) (m : Move) (past es more : List Event) → slice_get ms i ≡ Some m → AreOfMoves clients (take i ms) past es → IsOfMove clients m (past ++ es) more → AreOfMoves clients (take (suc i) ms) past (es ++ more)
+moves_more clients ms i m past es more here h k = subst (λ (xs : List Move). AreOfMoves clients xs past (es ++ more)) (sym (take_suc ms i m here)) (moved_on clients (take i ms) m past es more h k)
 
 -- the next move, at equal scripts and events
-pub follows_more : (script later : Script) (i : ℕ) (m : Move) (past now es more : List Event) → later ≡ script → now ≡ past ++ es → slice_get later.moves i ≡ Some m → AreMoved script.clients (take i script.moves) past es → IsMoved later.clients m now more
-    → AreMoved script.clients (take (i + 1) script.moves) past (es ++ more)
+pub follows_more : (script later : Script) (i : ℕ) (m : Move) (past now es more : List Event) → later ≡ script → now ≡ past ++ es → slice_get later.moves i ≡ Some m → AreOfMoves script.clients (take i script.moves) past es → IsOfMove later.clients m now more
+    → AreOfMoves script.clients (take (i + 1) script.moves) past (es ++ more)
 follows_more script later i m past now es more same at here h k =
-    subst (λ (n : ℕ). AreMoved script.clients (take n script.moves) past (es ++ more)) (sym (add-one i))
+    subst (λ (n : ℕ). AreOfMoves script.clients (take n script.moves) past (es ++ more)) (sym (add-one i))
     (moves_more script.clients script.moves i m past es more (subst (λ (x : Script). slice_get x.moves i ≡ Some m) same here) h
-    (subst (λ (xs : List Event). IsMoved script.clients m xs more) at (subst (λ (x : Script). IsMoved x.clients m now more) same k)))
+    (subst (λ (xs : List Event). IsOfMove script.clients m xs more) at (subst (λ (x : Script). IsOfMove x.clients m now more) same k)))

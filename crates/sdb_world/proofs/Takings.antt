@@ -8,7 +8,7 @@ use Rattle.sdb_types.specs.declared.record.Reply.{Reply}
 use Rattle.sdb_types.specs.declared.record.Request.{Request}
 use Rattle.sdb_types.specs.Contents.{CanAnswer}
 use Rattle.sdb_schema.specs.declared.table.Table.{Table}
-use Rattle.sdb_stores.specs.Shelf.{Attached, home_in, names_of, table_of}
+use Rattle.sdb_stores.specs.Views.{Attached, home_in, names_of, table_of}
 use Rattle.sdb_model.specs.declared.answer.Answer.{Answer}
 use Rattle.sdb_model.specs.declared.event.Event.{Event}
 use Rattle.sdb_model.specs.declared.event.Event.TheVariants as event
@@ -16,96 +16,96 @@ use Rattle.sdb_model.specs.declared.event.How.{How}
 use Rattle.sdb_model.specs.Rows.{Name}
 use Rattle.sdb_model.specs.Events.{store_of, table_asked}
 use Rattle.sdb_model.specs.Follows.{texts_of}
-use Rattle.sdb_client.specs.Client.{ClientAt, ReplyTold, client_pending, next_id, Takes}
+use Rattle.sdb_client.specs.Client.{ClientAt, ReplyPost, client_pending, next_id, TextStep}
 use Rattle.sdb_client.specs.declared.gate.Gate.{Gate}
-use Rattle.sdb_board.specs.Board.{AreFit, IsMade, shown}
+use Rattle.sdb_board.specs.Board.{AreUsable, IsMade, contents_of_views}
 use Rattle.sdb_board.proofs.Made.{asked}
 use Rattle.sdb_board.proofs.Shelves.{named_home}
-use Rattle.sdb_execution.specs.declared.seat.Seat.{Seat}
-use Rattle.sdb_world.specs.declared.way.Way.{Way}
+use Rattle.sdb_execution.specs.declared.slot.ClientSlot.{ClientSlot}
+use Rattle.sdb_world.specs.declared.delivery.Delivery.{Delivery}
 use Rattle.sdb_executions.specs.World.{IsWorld, WorldAt}
-use Rattle.sdb_world.specs.Step.{HasCalled, HasLeft, HasTaken, IsHowOf, IsPendingAt}
+use Rattle.sdb_world.specs.Step.{HasCalled, HasLeft, HasStarted, IsDeliveryOf, IsPendingAt}
 use Rattle.sdb_execution.specs.Execution.{IsGateAt}
 use Rattle.sdb_types.proofs.Basics.{some_is}
-use Rattle.sdb_model.specs.Tables.{is_played}
-use Rattle.sdb_model.specs.Calls.{shows_stored}
+use Rattle.sdb_model.specs.Tables.{is_table_of_run}
+use Rattle.sdb_model.specs.Calls.{is_stored_reply}
 
 -- the client that was read at a place is there
-pub read_there : (seats : List Seat) (i : ℕ) (s : Seat) → i < length seats → s ≡ get_or seats i s → slice_get seats i ≡ Some s
-read_there seats i s low read = slice_get_read seats (length seats) i s refl low read
+pub read_there : (client_slots : List ClientSlot) (i : ℕ) (s : ClientSlot) → i < length client_slots → s ≡ get_or client_slots i s → slice_get client_slots i ≡ Some s
+read_there client_slots i s low read = slice_get_read client_slots (length client_slots) i s refl low read
 
 -- what is so of the client at a place is so of the one that was read there
-pub at_read : (P : Seat → Type 0) (seats : List Seat) (i : ℕ) (s : Seat) → i < length seats → s ≡ get_or seats i s → IfSome (slice_get seats i) P → P s
-at_read P seats i s low read h = subst (λ (o : Option Seat). IfSome o P) (read_there seats i s low read) h
+pub at_read : (P : ClientSlot → Type 0) (client_slots : List ClientSlot) (i : ℕ) (s : ClientSlot) → i < length client_slots → s ≡ get_or client_slots i s → IfSome (slice_get client_slots i) P → P s
+at_read P client_slots i s low read h = subst (λ (o : Option ClientSlot). IfSome o P) (read_there client_slots i s low read) h
 
 -- the next text of a client
 abbrev pub IsNextText : WorldAt → ℕ → List ℕ → Type 0
-IsNextText w i text = IfSome (slice_get w.seats i) (λ s. slice_get (texts_of w.script.clients (suc i)) s.taken ≡ Some text)
+IsNextText w i text = IfSome (slice_get w.client_slots i) (λ s. slice_get (texts_of w.script.clients (suc i)) s.taken ≡ Some text)
 
 -- it is no longer than a text may be
-pub next_short : (w : WorldAt) (i : ℕ) (s : Seat) (text : List ℕ) → IsWorld w → i < length w.seats → s ≡ get_or w.seats i s → IsNextText w i text → length text < 2 ^ 32
-next_short w i s text h low read next = h.playable.short (suc i) s.taken text (at_read (λ (x : Seat). slice_get (texts_of w.script.clients (suc i)) x.taken ≡ Some text) w.seats i s low read next)
+pub next_short : (w : WorldAt) (i : ℕ) (s : ClientSlot) (text : List ℕ) → IsWorld w → i < length w.client_slots → s ≡ get_or w.client_slots i s → IsNextText w i text → length text < 2 ^ 32
+next_short w i s text h low read next = h.playable.short (suc i) s.taken text (at_read (λ (x : ClientSlot). slice_get (texts_of w.script.clients (suc i)) x.taken ≡ Some text) w.client_slots i s low read next)
 
 -- a statement is left to it
-pub some_left : (w : WorldAt) (i : ℕ) (s : Seat) → i < length w.seats → s ≡ get_or w.seats i s → HasLeft w i → s.taken < length (texts_of w.script.clients (suc i))
-some_left w i s low read left = at_read (λ (x : Seat). x.taken < length (texts_of w.script.clients (suc i))) w.seats i s low read left
+pub some_left : (w : WorldAt) (i : ℕ) (s : ClientSlot) → i < length w.client_slots → s ≡ get_or w.client_slots i s → HasLeft w i → s.taken < length (texts_of w.script.clients (suc i))
+some_left w i s low read left = at_read (λ (x : ClientSlot). x.taken < length (texts_of w.script.clients (suc i))) w.client_slots i s low read left
 
-abbrev pub after_taking : WorldAt → ℕ → Seat → ClientAt → List Event → WorldAt
-after_taking u i s d es = record { script = u.script; seats = slice_set u.seats i (record { client = d; taken = s.taken + 1; stopped = s.stopped }); events = es; clock = u.clock }
+abbrev pub after_taking : WorldAt → ℕ → ClientSlot → ClientAt → List Event → WorldAt
+after_taking u i s d es = record { script = u.script; client_slots = slice_set u.client_slots i (record { client = d; taken = s.taken + 1; stopped = s.stopped }); events = es; clock = u.clock }
 
 -- A client took its next text.
-pub took : (u w : WorldAt) → u ≡ w → (i : ℕ) (s : Seat) (text : List ℕ) (gate : Gate) (a : Option Answer) (d : ClientAt) (es : List Event) → i < length w.seats → s ≡ get_or w.seats i s → IsNextText w i text
-    → Takes (record { catalog = u.script.catalog; now = u.clock; gate = gate; fresh = next_id s.client }) text s.client a d → IsGateAt gate w.seats i → d.begun < 2 ^ 64 → es ≡ u.events ++ event.Take (i + 1) text a ∷ [] → HasTaken w i (after_taking u i s d es)
+pub took : (u w : WorldAt) → u ≡ w → (i : ℕ) (s : ClientSlot) (text : List ℕ) (gate : Gate) (a : Option Answer) (d : ClientAt) (es : List Event) → i < length w.client_slots → s ≡ get_or w.client_slots i s → IsNextText w i text
+    → TextStep (record { catalog = u.script.catalog; now = u.clock; gate = gate; fresh = next_id s.client }) text s.client a d → IsGateAt gate w.client_slots i → d.begun < 2 ^ 64 → es ≡ u.events ++ event.Take (i + 1) text a ∷ [] → HasStarted w i (after_taking u i s d es)
 took u w same i s text gate a d es low read next takes gated begun came =
-    subst (λ (x : WorldAt). HasTaken w i (after_taking x i s d es)) (sym same)
+    subst (λ (x : WorldAt). HasStarted w i (after_taking x i s d es)) (sym same)
     (record {
-      seat = s;
+      client_slot = s;
       text = text;
       gate = gate;
       answer = a;
       client = d;
-      at = read_there w.seats i s low read;
-      next = at_read (λ (x : Seat). slice_get (texts_of w.script.clients (suc i)) x.taken ≡ Some text) w.seats i s low read next;
-      takes = subst (λ (x : WorldAt). Takes (record { catalog = x.script.catalog; now = x.clock; gate = gate; fresh = next_id s.client }) text s.client a d) same takes;
+      at = read_there w.client_slots i s low read;
+      next = at_read (λ (x : ClientSlot). slice_get (texts_of w.script.clients (suc i)) x.taken ≡ Some text) w.client_slots i s low read next;
+      takes = subst (λ (x : WorldAt). TextStep (record { catalog = x.script.catalog; now = x.clock; gate = gate; fresh = next_id s.client }) text s.client a d) same takes;
       gated = gated;
       begun = begun;
-      left = λ k. record { script = w.script; seats = slice_set w.seats i (record { client = d; taken = s.taken + 1; stopped = s.stopped }); events = here k; clock = w.clock };
+      left = λ k. record { script = w.script; client_slots = slice_set w.client_slots i (record { client = d; taken = s.taken + 1; stopped = s.stopped }); events = here k; clock = w.clock };
     })
   where
     here : es ≡ w.events ++ event.Take (suc i) text a ∷ []
     here = came ∙ ap (λ (x : WorldAt). x.events ++ event.Take (i + 1) text a ∷ []) same ∙ ap (λ (n : ℕ). w.events ++ event.Take n text a ∷ []) (add-one i)
 
-abbrev pub after_calling : WorldAt → ℕ → Seat → ClientAt → List Event → WorldAt
-after_calling u i s d es = record { script = u.script; seats = slice_set u.seats i (record { client = d; taken = s.taken; stopped = s.stopped }); events = es; clock = u.clock }
+abbrev pub after_calling : WorldAt → ℕ → ClientSlot → ClientAt → List Event → WorldAt
+after_calling u i s d es = record { script = u.script; client_slots = slice_set u.client_slots i (record { client = d; taken = s.taken; stopped = s.stopped }); events = es; clock = u.clock }
 
 -- the store of a call is that of its table's namespace
-pub named_store : (stores : Attached) (q : Request) (table : TableName) (store : Name) → table ≡ table_of q → slice_get (names_of stores.shelves) (home_in stores table.ns) ≡ Some store → {catalog : List Table} → AreFit catalog stores → store ≡ store_of stores.places (shown stores.shelves) (table_asked q).ns
+pub named_store : (stores : Attached) (q : Request) (table : TableName) (store : Name) → table ≡ table_of q → slice_get (names_of stores.views) (home_in stores table.ns) ≡ Some store → {catalog : List Table} → AreUsable catalog stores → store ≡ store_of stores.places (contents_of_views stores.views) (table_asked q).ns
 named_store stores q table store same found fit =
-    some_is store (store_of stores.places (shown stores.shelves) (table_asked q).ns)
-    (sym found ∙ named_home stores.places stores.shelves table.ns fit.some (fit.homed table.ns) ∙ ap (λ (t : TableName). Some (store_of stores.places (shown stores.shelves) t.ns)) (same ∙ asked q))
+    some_is store (store_of stores.places (contents_of_views stores.views) (table_asked q).ns)
+    (sym found ∙ named_home stores.places stores.views table.ns fit.some (fit.homed table.ns) ∙ ap (λ (t : TableName). Some (store_of stores.places (contents_of_views stores.views) t.ns)) (same ∙ asked q))
 
 -- A client's call was made.
-pub called : (old new : Attached) (u w : WorldAt) → u ≡ w → (i : ℕ) (s : Seat) (way : Way) (store : Name) (q : Request) (how : How) (r : Reply) (a : Option Answer) (d : ClientAt) (es : List Event) → i < length w.seats → s ≡ get_or w.seats i s → IsPendingAt w i q → CanAnswer q r → IsHowOf way how r → shows_stored r ≡ true
-    → ReplyTold s.client s.client.vacuum r u.clock a d → (AreFit w.script.catalog old → is_played w.script.catalog (table_asked q) ≡ true → (store ≡ store_of old.places (shown old.shelves) (table_asked q).ns) × IsMade q how r old new) → es ≡ u.events ++ event.Call (i + 1) store q how r a ∷ []
+pub called : (old new : Attached) (u w : WorldAt) → u ≡ w → (i : ℕ) (s : ClientSlot) (way : Delivery) (store : Name) (q : Request) (how : How) (r : Reply) (a : Option Answer) (d : ClientAt) (es : List Event) → i < length w.client_slots → s ≡ get_or w.client_slots i s → IsPendingAt w i q → CanAnswer q r → IsDeliveryOf way how r → is_stored_reply r ≡ true
+    → ReplyPost s.client s.client.vacuum r u.clock a d → (AreUsable w.script.catalog old → is_table_of_run w.script.catalog (table_asked q) ≡ true → (store ≡ store_of old.places (contents_of_views old.views) (table_asked q).ns) × IsMade q how r old new) → es ≡ u.events ++ event.Call (i + 1) store q how r a ∷ []
     → HasCalled old new w i way (after_calling u i s d es)
 called old new u w same i s way store q how r a d es low read pends can allowed stored told made came =
     subst (λ (x : WorldAt). HasCalled old new w i way (after_calling x i s d es)) (sym same)
     (record {
-      seat = s;
+      client_slot = s;
       store = store;
       request = q;
       how = how;
       reply = r;
       answer = a;
       client = d;
-      at = read_there w.seats i s low read;
-      pending = at_read (λ (x : Seat). client_pending x.client ≡ Some q) w.seats i s low read pends;
+      at = read_there w.client_slots i s low read;
+      pending = at_read (λ (x : ClientSlot). client_pending x.client ≡ Some q) w.client_slots i s low read pends;
       can = can;
       allowed = allowed;
       stored = stored;
-      told = subst (λ (x : WorldAt). ReplyTold s.client s.client.vacuum r x.clock a d) same told;
+      told = subst (λ (x : WorldAt). ReplyPost s.client s.client.vacuum r x.clock a d) same told;
       made = made;
-      left = λ k. record { script = w.script; seats = slice_set w.seats i (record { client = d; taken = sym (add-zero s.taken) k; stopped = s.stopped }); events = here k; clock = w.clock };
+      left = λ k. record { script = w.script; client_slots = slice_set w.client_slots i (record { client = d; taken = sym (add-zero s.taken) k; stopped = s.stopped }); events = here k; clock = w.clock };
     })
   where
     here : es ≡ w.events ++ event.Call (suc i) store q how r a ∷ []

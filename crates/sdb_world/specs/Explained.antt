@@ -4,32 +4,32 @@ use Rattle.std.specs.FinMap.{empty}
 use Rattle.sdb_model.specs.declared.event.Event.{Event}
 use Rattle.sdb_stores.specs.declared.place.Place.{Place}
 use Rattle.sdb_model.specs.declared.script.Script.{Script}
-use Rattle.sdb_model.specs.Events.{IsTrace, Shelf}
-use Rattle.sdb_model.specs.Explained.{Explained, AreTaken}
-use Rattle.sdb_model.specs.Shown.{AreShown}
+use Rattle.sdb_model.specs.Events.{IsTrace, StoreContents}
+use Rattle.sdb_model.specs.Explained.{Explained, AreTransactional}
+use Rattle.sdb_model.specs.DirtyReads.{NoDirtyReads}
 use Rattle.sdb_spread.specs.Spread.{HoldAs}
-use Rattle.sdb_stores.specs.Shelf.{Attached}
-use Rattle.sdb_board.specs.Board.{AreFit, shown}
+use Rattle.sdb_stores.specs.Views.{Attached}
+use Rattle.sdb_board.specs.Board.{AreUsable, contents_of_views}
 use Rattle.sdb_executions.specs.World.{WorldAt, state_of}
 use Rattle.sdb_execution.specs.Execution.{IsReachedBy}
 
--- What was there at each of these moments is explained by the events of a script's run, what each recorded transaction noted is
+-- What was there at each of these moments is explained by the events of a script's run, what each recorded transaction read is
 -- current at its point, and each record that was at a key of a table passes the checks.
-pub record AreExplained (script : Script) (events : List Event) (opening : List Shelf) (moments : List (List Shelf)) : Type 0 where
+pub record AreExplained (script : Script) (events : List Event) (opening : List StoreContents) (moments : List (List StoreContents)) : Type 0 where
   pub explained : Explained script.catalog script.places events opening moments
-  pub taken : AreTaken script.catalog script.places opening moments
+  pub taken : AreTransactional script.catalog script.places opening moments
 
--- So it is, whatever the stores held after each event.
-abbrev pub IsExplained : Script → List Event → List Shelf → Type 0
-IsExplained script events opening = (moments : List (List Shelf)) (closing : List Shelf) → IsTrace script.places events opening moments closing → AreExplained script events opening moments
+-- This holds whatever the stores held after each event.
+abbrev pub IsExplained : Script → List Event → List StoreContents → Type 0
+IsExplained script events opening = (moments : List (List StoreContents)) (closing : List StoreContents) → IsTrace script.places events opening moments closing → AreExplained script events opening moments
 
--- Whatever they held, no transaction was shown a row that was neither its own nor committed when it was read.
-abbrev pub IsShown : Script → List Event → List Shelf → Type 0
-IsShown script events opening = (moments : List (List Shelf)) (closing : List Shelf) → IsTrace script.places events opening moments closing → AreShown script.catalog script.places events opening moments
+-- Whatever they held, no transaction observed a row that was neither its own nor committed when it was read.
+abbrev pub HasNoDirtyReads : Script → List Event → List StoreContents → Type 0
+HasNoDirtyReads script events opening = (moments : List (List StoreContents)) (closing : List StoreContents) → IsTrace script.places events opening moments closing → NoDirtyReads script.catalog script.places events opening moments
 
 -- Stores, as they are now, end a trace that goes on from these moments and agrees with a world's events, and by these what was
--- there at each moment is explained, and what was noted is current.
-pub record GoesOnExplained (places : List Place) (v : WorldAt) (opening : List Shelf) (moments : List (List Shelf)) (now : List Shelf) : Type 0 where
+-- there at each moment is explained, and what was read is current.
+pub record IsTraceExplainedAfter (places : List Place) (v : WorldAt) (opening : List StoreContents) (moments : List (List StoreContents)) (now : List StoreContents) : Type 0 where
   pub traced : IsTrace places v.events opening (moments ++ now ∷ []) now
   pub explained : Explained v.script.catalog places v.events opening (moments ++ now ∷ [])
 
@@ -38,4 +38,4 @@ pub record GoesOnExplained (places : List Place) (v : WorldAt) (opening : List S
 -- were before the event.
 abbrev pub IsExplainedAfter : Attached → Attached → WorldAt → WorldAt → Type 0
 IsExplainedAfter old new w v =
-    AreFit w.script.catalog old → IsReachedBy w.script w.events (state_of w) → (opening : List Shelf) (moments : List (List Shelf)) → HoldAs w.script.catalog old.places opening empty → IsTrace old.places w.events opening moments (shown old.shelves) → GoesOnExplained old.places v opening moments (shown new.shelves)
+    AreUsable w.script.catalog old → IsReachedBy w.script w.events (state_of w) → (opening : List StoreContents) (moments : List (List StoreContents)) → HoldAs w.script.catalog old.places opening empty → IsTrace old.places w.events opening moments (contents_of_views old.views) → IsTraceExplainedAfter old.places v opening moments (contents_of_views new.views)

@@ -1,4 +1,4 @@
 pub mod Step
-pub mod Played
+pub mod Ran
 pub mod Explained
 pub mod Broken

@@ -16,19 +16,19 @@ use Rattle.sdb_model.specs.declared.script.Move.TheVariants as move
 use Rattle.sdb_model.specs.declared.script.Script.{Script}
 use Rattle.sdb_model.specs.declared.script.ScriptClient.{ScriptClient}
 use Rattle.sdb_model.specs.Rows.{Name}
-use Rattle.sdb_model.specs.Events.{IsTrace, Shelf, store_of, table_asked}
-use Rattle.sdb_model.specs.Follows.{AllIdle, AreMoved, AreStepsOf, IsActed, IsAmong, IsHowOfDiscard, IsHowOfLose, IsHowOfStep, IsMoved, has_work, texts_of}
-use Rattle.sdb_client.specs.Client.{ClientAt, IsBusy, IsIdle, ReplyTold, client_pending, next_id, Takes}
+use Rattle.sdb_model.specs.Events.{IsTrace, StoreContents, store_of, table_asked}
+use Rattle.sdb_model.specs.Follows.{AllIdle, AreOfMoves, AreStepsOf, IsActed, IsAmong, IsHowOfDiscard, IsHowOfLose, IsHowOfStep, IsOfMove, has_work, texts_of}
+use Rattle.sdb_client.specs.Client.{ClientAt, IsBusy, IsIdle, ReplyPost, client_pending, next_id, TextStep}
 use Rattle.sdb_client.specs.declared.gate.Gate.{Gate}
-use Rattle.sdb_stores.specs.Shelf.{Attached}
-use Rattle.sdb_board.specs.Board.{AreFit, IsMade, shown}
-use Rattle.sdb_execution.specs.declared.seat.Seat.{Seat}
-use Rattle.sdb_world.specs.declared.way.Way.{Way}
-use Rattle.sdb_world.specs.declared.way.Way.TheVariants as way
-use Rattle.sdb_executions.specs.World.{WorldAt, state_of, with_event, with_seat}
-use Rattle.sdb_execution.specs.Execution.{IsGateAt, IsPath, moved_seat, stopped_seat}
-use Rattle.sdb_model.specs.Tables.{is_played}
-use Rattle.sdb_model.specs.Calls.{shows_stored}
+use Rattle.sdb_stores.specs.Views.{Attached}
+use Rattle.sdb_board.specs.Board.{AreUsable, IsMade, contents_of_views}
+use Rattle.sdb_execution.specs.declared.slot.ClientSlot.{ClientSlot}
+use Rattle.sdb_world.specs.declared.delivery.Delivery.{Delivery}
+use Rattle.sdb_world.specs.declared.delivery.Delivery.TheVariants as way
+use Rattle.sdb_executions.specs.World.{WorldAt, state_of, with_event, with_client}
+use Rattle.sdb_execution.specs.Execution.{IsGateAt, IsPath, client_after, client_stopped}
+use Rattle.sdb_model.specs.Tables.{is_table_of_run}
+use Rattle.sdb_model.specs.Calls.{is_stored_reply}
 
 -- a client has that number
 abbrev pub IsNumber : Script → ℕ → Type 0
@@ -43,73 +43,73 @@ CanAct script (act.Stop c) = IsNumber script c
 CanAct script (act.Clock moment) = is_moment moment ≡ true
 
 -- which hows a call has, by the way in which it is made
-abbrev pub IsHowOf : Way → How → Reply → Type 0
-IsHowOf way.Step how r = IsHowOfStep how r
-IsHowOf way.Lose how r = IsHowOfLose how r
-IsHowOf way.Discard how r = IsHowOfDiscard how r
+abbrev pub IsDeliveryOf : Delivery → How → Reply → Type 0
+IsDeliveryOf way.Step how r = IsHowOfStep how r
+IsDeliveryOf way.Lose how r = IsHowOfLose how r
+IsDeliveryOf way.Discard how r = IsHowOfDiscard how r
 
 ---- a client at a place
 
 -- it waits for a statement
 abbrev pub IsIdleAt : WorldAt → ℕ → Type 0
-IsIdleAt w i = IfSome (slice_get w.seats i) (λ s. IsIdle s.client)
+IsIdleAt w i = IfSome (slice_get w.client_slots i) (λ s. IsIdle s.client)
 
 -- it waits for a reply
 abbrev pub IsBusyAt : WorldAt → ℕ → Type 0
-IsBusyAt w i = IfSome (slice_get w.seats i) (λ s. IsBusy s.client)
+IsBusyAt w i = IfSome (slice_get w.client_slots i) (λ s. IsBusy s.client)
 
 -- a statement of it is left
 abbrev pub HasLeft : WorldAt → ℕ → Type 0
-HasLeft w i = IfSome (slice_get w.seats i) (λ s. s.taken < length (texts_of w.script.clients (suc i)))
+HasLeft w i = IfSome (slice_get w.client_slots i) (λ s. s.taken < length (texts_of w.script.clients (suc i)))
 
 -- that call of it is pending
 abbrev pub IsPendingAt : WorldAt → ℕ → Request → Type 0
-IsPendingAt w i q = IfSome (slice_get w.seats i) (λ s. client_pending s.client ≡ Some q)
+IsPendingAt w i q = IfSome (slice_get w.client_slots i) (λ s. client_pending s.client ≡ Some q)
 
 ---- one step of one client
 
 -- A client takes its next statement.
-pub record HasTaken (w : WorldAt) (i : ℕ) (v : WorldAt) : Type 0 where
-  pub seat : Seat
+pub record HasStarted (w : WorldAt) (i : ℕ) (v : WorldAt) : Type 0 where
+  pub client_slot : ClientSlot
   pub text : List ℕ
   pub gate : Gate
   pub answer : Option Answer
   pub client : ClientAt
-  pub at : slice_get w.seats i ≡ Some seat
-  pub next : slice_get (texts_of w.script.clients (suc i)) seat.taken ≡ Some text
-  pub takes : Takes (record { catalog = w.script.catalog; now = w.clock; gate = gate; fresh = next_id seat.client }) text seat.client answer client
-  pub gated : IsGateAt gate w.seats i
+  pub at : slice_get w.client_slots i ≡ Some client_slot
+  pub next : slice_get (texts_of w.script.clients (suc i)) client_slot.taken ≡ Some text
+  pub takes : TextStep (record { catalog = w.script.catalog; now = w.clock; gate = gate; fresh = next_id client_slot.client }) text client_slot.client answer client
+  pub gated : IsGateAt gate w.client_slots i
   pub begun : client.begun < 2 ^ 64
-  pub left : v ≡ with_event (with_seat w i (moved_seat seat 1 client)) (event.Take (suc i) text answer)
+  pub left : v ≡ with_event (with_client w i (client_after client_slot 1 client)) (event.Take (suc i) text answer)
 
 -- A client's pending call is made in some way, and the client has the reply.
-pub record HasCalled (old new : Attached) (w : WorldAt) (i : ℕ) (way : Way) (v : WorldAt) : Type 0 where
-  pub seat : Seat
+pub record HasCalled (old new : Attached) (w : WorldAt) (i : ℕ) (way : Delivery) (v : WorldAt) : Type 0 where
+  pub client_slot : ClientSlot
   pub store : Name
   pub request : Request
   pub how : How
   pub reply : Reply
   pub answer : Option Answer
   pub client : ClientAt
-  pub at : slice_get w.seats i ≡ Some seat
-  pub pending : client_pending seat.client ≡ Some request
+  pub at : slice_get w.client_slots i ≡ Some client_slot
+  pub pending : client_pending client_slot.client ≡ Some request
   pub can : CanAnswer request reply
-  pub allowed : IsHowOf way how reply
-  pub stored : shows_stored reply ≡ true
-  pub told : ReplyTold seat.client seat.client.vacuum reply w.clock answer client
-  pub made : AreFit w.script.catalog old → is_played w.script.catalog (table_asked request) ≡ true → (store ≡ store_of old.places (shown old.shelves) (table_asked request).ns) × IsMade request how reply old new
-  pub left : v ≡ with_event (with_seat w i (moved_seat seat 0 client)) (event.Call (suc i) store request how reply answer)
+  pub allowed : IsDeliveryOf way how reply
+  pub stored : is_stored_reply reply ≡ true
+  pub told : ReplyPost client_slot.client client_slot.client.vacuum reply w.clock answer client
+  pub made : AreUsable w.script.catalog old → is_table_of_run w.script.catalog (table_asked request) ≡ true → (store ≡ store_of old.places (contents_of_views old.views) (table_asked request).ns) × IsMade request how reply old new
+  pub left : v ≡ with_event (with_client w i (client_after client_slot 0 client)) (event.Call (suc i) store request how reply answer)
 
 -- A client stops.
 pub record HasStopped (w : WorldAt) (c : ℕ) (v : WorldAt) : Type 0 where
   pub place : ℕ
-  pub seat : Seat
+  pub client_slot : ClientSlot
   pub number : c ≡ suc place
-  pub at : slice_get w.seats place ≡ Some seat
-  pub left : v ≡ with_event (with_seat w place (stopped_seat seat)) (event.Stop c)
+  pub at : slice_get w.client_slots place ≡ Some client_slot
+  pub left : v ≡ with_event (with_client w place (client_stopped client_slot)) (event.Stop c)
 
 -- the act of a client's step, by the way in which its call is made
-abbrev pub act_of : Way → ℕ → Act
+abbrev pub act_of : Delivery → ℕ → Act
 act_of way.Step c = act.Step c
 act_of way.Lose c = act.Lose c
 act_of way.Discard c = act.Discard c
@@ -118,17 +118,17 @@ act_of way.Discard c = act.Discard c
 
 -- Events came to a world and to these stores: the script stays, and the events lead from where the clients were to where they are, whatever
 -- the replies; and where the stores are fit for the run a trace of them agrees with the events.
-pub record HasGone (old new : Attached) (w v : WorldAt) (es : List Event) : Type 0 where
+pub record IsExecutionStep (old new : Attached) (w v : WorldAt) (es : List Event) : Type 0 where
   pub script : v.script ≡ w.script
   pub events : v.events ≡ w.events ++ es
   pub executed : IsPath w.script (state_of w) es (state_of v)
-  pub traced : AreFit w.script.catalog old → (moments : List (List Shelf)) × IsTrace old.places es (shown old.shelves) moments (shown new.shelves)
+  pub traced : AreUsable w.script.catalog old → (moments : List (List StoreContents)) × IsTrace old.places es (contents_of_views old.views) moments (contents_of_views new.views)
 
--- Events came, and they are so.
+-- Events came, and the property holds of them.
 pub record HasCome (P : List Event → Type 0) (old new : Attached) (w v : WorldAt) : Type 0 where
   pub es : List Event
   pub so : P es
-  pub gone : HasGone old new w v es
+  pub gone : IsExecutionStep old new w v es
 
 -- one event, which is what an act gives
 pub record IsOne (clients : List ScriptClient) (a : Act) (past es : List Event) : Type 0 where
@@ -150,12 +150,12 @@ abbrev pub HasStepped : ℕ → ℕ → Attached → Attached → WorldAt → Wo
 HasStepped c times old new w v = HasCome (AreSteps w.script.clients c times w.events) old new w v
 
 -- One move was made.
-abbrev pub HasMoved : Move → Attached → Attached → WorldAt → WorldAt → Type 0
-HasMoved made old new w v = HasCome (IsMoved w.script.clients made w.events) old new w v
+abbrev pub HasMadeMove : Move → Attached → Attached → WorldAt → WorldAt → Type 0
+HasMadeMove made old new w v = HasCome (IsOfMove w.script.clients made w.events) old new w v
 
 -- All moves of its script were made.
 abbrev pub HasFollowed : Attached → Attached → WorldAt → WorldAt → Type 0
-HasFollowed old new w v = HasCome (AreMoved w.script.clients w.script.moves w.events) old new w v
+HasFollowed old new w v = HasCome (AreOfMoves w.script.clients w.script.moves w.events) old new w v
 
 ---- moves
 

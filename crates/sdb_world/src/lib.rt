@@ -1,10 +1,10 @@
 //! The clients of a script at work on stores, one step at a time.
 #![tactic(auto)]
 
+mod delivery;
 mod ending;
 mod perform;
 mod turns;
-mod way;
 mod world;
 
 pub use world::World;

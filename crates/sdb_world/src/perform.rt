@@ -1,12 +1,12 @@
 //! One call of a client, made in some way.
 ghost use Rattle.std.specs.Prelude.{◌≡◌, ◌<◌, length};
 ghost use Rattle.sdb_types.specs.Contents.{CanAnswer};
-ghost use Rattle.sdb_stores.specs.Shelf.{HaveRisen};
+ghost use Rattle.sdb_stores.specs.Views.{HaveRisen};
 ghost use Rattle.sdb_model.specs.Events.{table_asked};
-ghost use Rattle.sdb_board.specs.Board.{AreFitFor, GoOn, IsMade, how_lost as how_lost_lem, how_seen as how_seen_lem, reply_lost as reply_lost_lem};
-ghost use Rattle.sdb_world.specs.Step.{IsHowOf};
+ghost use Rattle.sdb_board.specs.Board.{AreUsableFor, GoOn, IsMade, how_lost as how_lost_lem, how_seen as how_seen_lem, reply_lost as reply_lost_lem};
+ghost use Rattle.sdb_world.specs.Step.{IsDeliveryOf};
 
-use crate::way::Way;
+use crate::delivery::Delivery;
 use sdb_board::call;
 use sdb_model::How;
 use sdb_stores::Registry;
@@ -41,23 +41,23 @@ fn reply_lost(reply: Reply) -> Reply
 }
 
 /// Makes a call on the store of its table in some way: how it came out, and the reply that its client gets.
-pub fn perform<R: Registry>(stores: &mut R, request: &Request, way: Way) -> (How, Reply)
-    requires some { 0 < length (R.state stores.old).shelves }
-    ensures made { AreFitFor (table_asked request.now) (R.state stores.old) → IsMade request.now result.0 result.1 (R.state stores.old) (R.state stores.new) }
+pub fn perform<R: Registry>(stores: &mut R, request: &Request, way: Delivery) -> (How, Reply)
+    requires some { 0 < length (R.state stores.old).views }
+    ensures made { AreUsableFor (table_asked request.now) (R.state stores.old) → IsMade request.now result.0 result.1 (R.state stores.old) (R.state stores.new) }
     ensures lawful { CanAnswer request.now result.1 }
-    ensures allowed { IsHowOf way result.0 result.1 }
-    ensures broken { result.0 ≡ How.Broken → HaveRisen (R.state stores.old).shelves (R.state stores.new).shelves }
+    ensures allowed { IsDeliveryOf way result.0 result.1 }
+    ensures broken { result.0 ≡ How.Broken → HaveRisen (R.state stores.old).views (R.state stores.new).views }
     ensures goes { GoOn (R.state stores.old) (R.state stores.new) }
 {
     match way {
-        Way::Step => {
+        Delivery::Step => {
             let reply = call(stores, request);
             (how_seen(&reply), reply)
         }
-        Way::Lose => {
+        Delivery::Lose => {
             let reply = call(stores, request);
             (how_lost(&reply), reply_lost(reply))
         }
-        Way::Discard => (How::Discarded, Reply::Fault),
+        Delivery::Discard => (How::Discarded, Reply::Fault),
     }
 }

@@ -4,9 +4,9 @@ ghost use Rattle.sdb_model.specs.Follows.{AllIdle, IsRest, IsTurn, end_of};
 ghost use Rattle.sdb_board.specs.Board.{GoOn};
 ghost use Rattle.sdb_executions.specs.World.{IsWorld};
 ghost use Rattle.sdb_world.specs.Broken.{BreaksWithin};
-ghost use Rattle.sdb_world.specs.Step.{CanFollow, CanMove, HasCome, HasFollowed, HasMoved, HasStepped, IsFirst, IsNumber};
+ghost use Rattle.sdb_world.specs.Step.{CanFollow, CanMove, HasCome, HasFollowed, HasMadeMove, HasStepped, IsFirst, IsNumber};
 
-use crate::way::Way;
+use crate::delivery::Delivery;
 use crate::world::World;
 use sdb_model::Move;
 use sdb_stores::Registry;
@@ -53,16 +53,16 @@ impl World {
         client: u32,
         times: u32,
     ) -> Result<(), NoMemory>
-        requires some { 0 < length (R.state stores.old).shelves }
+        requires some { 0 < length (R.state stores.old).views }
         requires world { IsWorld self.old }
         requires client { IsNumber self.old.script client }
         ensures world { OnOk result (IsWorld self.new) }
         ensures come { OnOk result (HasStepped client times (R.state stores.old) (R.state stores.new) self.old self.new) }
-        ensures broken { OnOk result (BreaksWithin self.old.events self.new.events (R.state stores.old).shelves (R.state stores.new).shelves) }
+        ensures broken { OnOk result (BreaksWithin self.old.events self.new.events (R.state stores.old).views (R.state stores.new).views) }
         ensures goes { GoOn (R.state stores.old) (R.state stores.new) }
     {
         for _ in 0..times {
-            self.go(stores, client, Way::Step)?;
+            self.go(stores, client, Delivery::Step)?;
         }
         Ok(())
     }
@@ -70,18 +70,18 @@ impl World {
     /// Gives each client that has work and goes on one step in turn, by number, round after round, until none has work. After out of
     /// memory, as which more than 2^64 - 1 steps count, the world isn't used again.
     pub fn rest<R: Registry>(&mut self, stores: &mut R) -> Result<(), NoMemory>
-        requires some { 0 < length (R.state stores.old).shelves }
+        requires some { 0 < length (R.state stores.old).views }
         requires world { IsWorld self.old }
         ensures world { OnOk result (IsWorld self.new) }
         ensures come { OnOk result (HasCome (IsRest self.old.script.clients 1 self.old.events) (R.state stores.old) (R.state stores.new) self.old self.new) }
-        ensures broken { OnOk result (BreaksWithin self.old.events self.new.events (R.state stores.old).shelves (R.state stores.new).shelves) }
+        ensures broken { OnOk result (BreaksWithin self.old.events self.new.events (R.state stores.old).views (R.state stores.new).views) }
         ensures goes { GoOn (R.state stores.old) (R.state stores.new) }
     {
         let mut from = 1;
         for _ in 0..u64::MAX {
             match self.turn(from) {
                 Some(client) => {
-                    self.go(stores, client, Way::Step)?;
+                    self.go(stores, client, Delivery::Step)?;
                     from = client + 1;
                 }
                 None => return Ok(()),
@@ -92,12 +92,12 @@ impl World {
 
     // Makes a move.
     fn make<R: Registry>(&mut self, stores: &mut R, made: Move) -> Result<(), NoMemory>
-        requires some { 0 < length (R.state stores.old).shelves }
+        requires some { 0 < length (R.state stores.old).views }
         requires world { IsWorld self.old }
         requires can { CanMove self.old.script made }
         ensures world { OnOk result (IsWorld self.new) }
-        ensures come { OnOk result (HasMoved made (R.state stores.old) (R.state stores.new) self.old self.new) }
-        ensures broken { OnOk result (BreaksWithin self.old.events self.new.events (R.state stores.old).shelves (R.state stores.new).shelves) }
+        ensures come { OnOk result (HasMadeMove made (R.state stores.old) (R.state stores.new) self.old self.new) }
+        ensures broken { OnOk result (BreaksWithin self.old.events self.new.events (R.state stores.old).views (R.state stores.new).views) }
         ensures goes { GoOn (R.state stores.old) (R.state stores.new) }
     {
         match made {
@@ -120,12 +120,12 @@ impl World {
 
     /// Makes all moves of the script, one after the other. After `NoMemory` the world isn't used again.
     pub fn follow<R: Registry>(&mut self, stores: &mut R) -> Result<(), NoMemory>
-        requires some { 0 < length (R.state stores.old).shelves }
+        requires some { 0 < length (R.state stores.old).views }
         requires world { IsWorld self.old }
         requires can { CanFollow self.old.script }
         ensures world { OnOk result (IsWorld self.new) }
         ensures come { OnOk result (HasFollowed (R.state stores.old) (R.state stores.new) self.old self.new) }
-        ensures broken { OnOk result (BreaksWithin self.old.events self.new.events (R.state stores.old).shelves (R.state stores.new).shelves) }
+        ensures broken { OnOk result (BreaksWithin self.old.events self.new.events (R.state stores.old).views (R.state stores.new).views) }
         ensures goes { GoOn (R.state stores.old) (R.state stores.new) }
     {
         for i in 0..self.script().moves.len() {

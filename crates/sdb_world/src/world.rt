@@ -6,12 +6,12 @@ ghost use Rattle.sdb_execution.specs.Execution.{IsGateAt, IsInitial, IsPlayable}
 ghost use Rattle.sdb_executions.specs.World.{IsWorld, state_of};
 ghost use Rattle.sdb_world.specs.Broken.{BreaksWithin};
 ghost use Rattle.sdb_world.specs.Explained.{IsExplainedAfter};
-ghost use Rattle.sdb_world.specs.Step.{CanAct, HasActed, HasCalled, HasLeft, HasStopped, HasTaken, IsBusyAt, IsIdleAt, IsNumber, IsPendingAt, act_of};
+ghost use Rattle.sdb_world.specs.Step.{CanAct, HasActed, HasCalled, HasLeft, HasStopped, HasStarted, IsBusyAt, IsIdleAt, IsNumber, IsPendingAt, act_of};
 
+use crate::delivery::Delivery;
 use crate::perform::perform;
-use crate::way::Way;
 use sdb_client::Gate;
-use sdb_execution::{Seat, fresh_seats, gate_at, show_order};
+use sdb_execution::{ClientSlot, fresh_slots, gate_at, prove_order};
 use sdb_model::{Act, Event, Events, Script, Texts};
 use sdb_stores::{Registry, table_of};
 use sdb_types::{Duplicate, NoMemory, Request, Txt};
@@ -21,7 +21,7 @@ use std::marker::Model;
 /// The clients of a script at work.
 pub struct World {
     script: Script,
-    seats: Vec<Seat>,
+    client_slots: Vec<ClientSlot>,
     events: Events,
     clock: i64,
 }
@@ -31,7 +31,7 @@ impl Drop for World {
     fn drop(self) {
         let World {
             script: _,
-            seats: _,
+            client_slots: _,
             events: _,
             clock: _,
         } = self;
@@ -43,7 +43,7 @@ impl Model for World {
 
     ghost Value = { WorldAt };
 
-    ghost view = { λ w. record { script = w.script; seats = w.seats.items; events = w.events; clock = w.clock } };
+    ghost view = { λ w. record { script = w.script; client_slots = w.client_slots.items; events = w.events; clock = w.clock } };
 }
 
 impl World {
@@ -55,10 +55,10 @@ impl World {
         ensures events { IfOk result (λ w. w.events ≡ []) }
         ensures initial { IfOk result (λ w. IsInitial w.script (state_of w)) }
     {
-        let seats = fresh_seats(alloc, script.clients.len())?;
+        let client_slots = fresh_slots(alloc, script.clients.len())?;
         Ok(World {
             script,
-            seats,
+            client_slots,
             events: Events::new(alloc),
             clock: 0,
         })
@@ -85,7 +85,7 @@ impl World {
     {
         let World {
             script,
-            seats: _,
+            client_slots: _,
             events,
             clock: _,
         } = self;
@@ -106,28 +106,29 @@ impl World {
     // Whether a client has work: it goes on, and a call of it is pending or a statement is left.
     pub(crate) fn has_work(&self, at: usize) -> bool
         requires world { IsWorld self.now }
-        requires at { at < length self.now.seats }
+        requires at { at < length self.now.client_slots }
         ensures { result ≡ has_work_lem self.now.script.clients (suc at) self.now.events }
     {
-        let seat = &self.seats[at];
-        !seat.stopped && (!seat.client.is_idle() || seat.taken < self.statements(at).len())
+        let client_slot = &self.client_slots[at];
+        !client_slot.stopped
+            && (!client_slot.client.is_idle() || client_slot.taken < self.statements(at).len())
     }
 
     // What the other clients do that go on.
     fn gate(&self, at: usize) -> Gate
-        ensures { IsGateAt result self.now.seats at }
+        ensures { IsGateAt result self.now.client_slots at }
     {
-        gate_at(&self.seats, at)
+        gate_at(&self.client_slots, at)
     }
 
     // The text of a client's next statement.
     fn next_text(&self, at: usize) -> Result<Txt, NoMemory>
-        requires at { at < length self.now.seats }
-        requires clients { length self.now.seats ≡ length self.now.script.clients }
+        requires at { at < length self.now.client_slots }
+        requires clients { length self.now.client_slots ≡ length self.now.script.clients }
         requires left { HasLeft self.now at }
-        ensures { IfOk result (λ text. IfSome (slice_get self.now.seats at) (λ s. slice_get (texts_of self.now.script.clients (suc at)) s.taken ≡ Some text)) }
+        ensures { IfOk result (λ text. IfSome (slice_get self.now.client_slots at) (λ s. slice_get (texts_of self.now.script.clients (suc at)) s.taken ≡ Some text)) }
     {
-        match self.statements(at).at(self.seats[at].taken) {
+        match self.statements(at).at(self.client_slots[at].taken) {
             Some(text) => text.copy(),
             None => unreachable!(),
         }
@@ -136,53 +137,58 @@ impl World {
     // A client takes its next statement.
     fn take(&mut self, at: usize) -> Result<(), NoMemory>
         requires world { IsWorld self.old }
-        requires at { at < length self.old.seats }
+        requires at { at < length self.old.client_slots }
         requires idle { IsIdleAt self.old at }
         requires left { HasLeft self.old at }
-        ensures { OnOk result (HasTaken self.old at self.new) }
+        ensures { OnOk result (HasStarted self.old at self.new) }
     {
         let _left = self.statements(at).len();
         let text = self.next_text(at)?;
         let gate = self.gate(at);
-        let seat = &mut self.seats[at];
-        let fresh = seat.client.next_id();
-        let answer = seat
+        let client_slot = &mut self.client_slots[at];
+        let fresh = client_slot.client.next_id();
+        let answer = client_slot
             .client
             .take(&self.script.catalog, &text, gate, fresh, self.clock);
-        let _begun = seat.client.begun();
-        seat.taken += 1;
+        let _begun = client_slot.client.begun();
+        client_slot.taken += 1;
         self.events.push(Event::Take(at as u32 + 1, text, answer))?;
         Ok(())
     }
 
     // The call that a client has pending.
     fn request(&self, at: usize) -> Result<Request, NoMemory>
-        requires at { at < length self.now.seats }
+        requires at { at < length self.now.client_slots }
         requires busy { IsBusyAt self.now at }
         ensures { IfOk result (λ request. IsPendingAt self.now at request) }
     {
-        match self.seats[at].client.pending() {
+        match self.client_slots[at].client.pending() {
             Some(request) => request.copy(),
             None => unreachable!(),
         }
     }
 
     // The pending call of a client is made in some way, and the client has the reply.
-    fn call<R: Registry>(&mut self, stores: &mut R, at: usize, way: Way) -> Result<(), NoMemory>
-        requires some { 0 < length (R.state stores.old).shelves }
+    fn call<R: Registry>(
+        &mut self,
+        stores: &mut R,
+        at: usize,
+        way: Delivery,
+    ) -> Result<(), NoMemory>
+        requires some { 0 < length (R.state stores.old).views }
         requires world { IsWorld self.old }
-        requires at { at < length self.old.seats }
+        requires at { at < length self.old.client_slots }
         requires busy { IsBusyAt self.old at }
         ensures called { OnOk result (HasCalled (R.state stores.old) (R.state stores.new) self.old at way self.new) }
-        ensures broken { OnOk result (BreaksWithin self.old.events self.new.events (R.state stores.old).shelves (R.state stores.new).shelves) }
+        ensures broken { OnOk result (BreaksWithin self.old.events self.new.events (R.state stores.old).views (R.state stores.new).views) }
         ensures goes { GoOn (R.state stores.old) (R.state stores.new) }
     {
         let request = self.request(at)?;
         let store = stores.store_of(table_of(&request)).copy()?;
         let (how, reply) = perform(stores, &request, way);
-        show_order(&reply);
+        prove_order(&reply);
         let told = reply.copy()?;
-        let answer = self.seats[at].client.advance(reply, self.clock);
+        let answer = self.client_slots[at].client.advance(reply, self.clock);
         self.events.push(Event::Call(at as u32 + 1, store, request, how, told, answer))?;
         Ok(())
     }
@@ -192,14 +198,14 @@ impl World {
         &mut self,
         stores: &mut R,
         client: u32,
-        way: Way,
+        way: Delivery,
     ) -> Result<(), NoMemory>
-        requires some { 0 < length (R.state stores.old).shelves }
+        requires some { 0 < length (R.state stores.old).views }
         requires world { IsWorld self.old }
         requires client { IsNumber self.old.script client }
         ensures world { OnOk result (IsWorld self.new) }
         ensures acted { OnOk result (HasActed (act_of way client) (R.state stores.old) (R.state stores.new) self.old self.new) }
-        ensures broken { OnOk result (BreaksWithin self.old.events self.new.events (R.state stores.old).shelves (R.state stores.new).shelves) }
+        ensures broken { OnOk result (BreaksWithin self.old.events self.new.events (R.state stores.old).views (R.state stores.new).views) }
         ensures goes { GoOn (R.state stores.old) (R.state stores.new) }
     {
         let at = client as usize - 1;
@@ -207,7 +213,7 @@ impl World {
             self.events.push(Event::Idle(client))?;
             return Ok(());
         }
-        if self.seats[at].client.is_idle() {
+        if self.client_slots[at].client.is_idle() {
             self.take(at)
         } else {
             self.call(stores, at, way)
@@ -216,32 +222,32 @@ impl World {
 
     // A client stops.
     fn stop(&mut self, client: u32) -> Result<(), NoMemory>
-        requires client { (0 < client) × (client ≤ length self.old.seats) }
+        requires client { (0 < client) × (client ≤ length self.old.client_slots) }
         ensures { OnOk result (HasStopped self.old client self.new) }
     {
-        self.seats[client as usize - 1].stopped = true;
+        self.client_slots[client as usize - 1].stopped = true;
         self.events.push(Event::Stop(client))?;
         Ok(())
     }
 
     /// Does one act, which gives exactly one event: a step of a client, whose call is made on the store of its table and may be lost
     /// or discarded; a stop; a move of the clock. On stores that are fit for the run, and that held nothing of the script's tables when it
-    /// began, what is there at each moment is explained by the events, and what each recorded transaction noted is current at its
+    /// began, what is there at each moment is explained by the events, and what each recorded transaction read is current at its
     /// point. After `NoMemory` the world isn't used again.
     pub fn step<R: Registry>(&mut self, stores: &mut R, act: Act) -> Result<(), NoMemory>
-        requires some { 0 < length (R.state stores.old).shelves }
+        requires some { 0 < length (R.state stores.old).views }
         requires world { IsWorld self.old }
         requires act { CanAct self.old.script act }
         ensures world { OnOk result (IsWorld self.new) }
         ensures acted { OnOk result (HasActed act (R.state stores.old) (R.state stores.new) self.old self.new) }
         ensures explained { OnOk result (IsExplainedAfter (R.state stores.old) (R.state stores.new) self.old self.new) }
-        ensures broken { OnOk result (BreaksWithin self.old.events self.new.events (R.state stores.old).shelves (R.state stores.new).shelves) }
+        ensures broken { OnOk result (BreaksWithin self.old.events self.new.events (R.state stores.old).views (R.state stores.new).views) }
         ensures goes { GoOn (R.state stores.old) (R.state stores.new) }
     {
         match act {
-            Act::Step(client) => self.go(stores, client, Way::Step),
-            Act::Lose(client) => self.go(stores, client, Way::Lose),
-            Act::Discard(client) => self.go(stores, client, Way::Discard),
+            Act::Step(client) => self.go(stores, client, Delivery::Step),
+            Act::Lose(client) => self.go(stores, client, Delivery::Lose),
+            Act::Discard(client) => self.go(stores, client, Delivery::Discard),
             Act::Stop(client) => self.stop(client),
             Act::Clock(moment) => {
                 self.clock = moment;

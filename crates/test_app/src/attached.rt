@@ -33,7 +33,7 @@ impl Short {
 }
 
 impl Store for Short {
-    ghost state = { λ s. record { tells = ⊥; contents = map.empty; faults = (⟦<Ordered as Store>⟧.state s.ordered).faults; calls = s.made } };
+    ghost state = { λ s. record { known = ⊥; contents = map.empty; faults = (⟦<Ordered as Store>⟧.state s.ordered).faults; calls = s.made } };
 
     fn get(&mut self, key: &Key) -> Reply {
         if !self.finds_memory() {
@@ -137,7 +137,7 @@ pub fn attach_all(alloc: Global, stores: &mut Stores, on: On) -> Result<bool, Fa
 }
 
 /// Whether a call of the program ends as listed.
-pub fn comes_out(alloc: Global, call: Call<'_>) -> Result<bool, Fail> {
+pub fn gives(alloc: Global, call: Call<'_>) -> Result<bool, Fail> {
     let mut stores = Stores::new(alloc);
     Ok(attach_all(alloc, &mut stores, call.on)? && ends(alloc, &mut stores, call)?)
 }

@@ -307,7 +307,7 @@ static BENCHES: [Steps; 3] = [
             ),
         ],
     },
-    // No part of it is played where a table can't be looked through.
+    // No part of it is run where a table can't be looked through.
     Steps {
         on: On::Failing(1, false),
         steps: &[
@@ -439,7 +439,7 @@ pub fn puts(alloc: Global, stores: &mut Stores, row: Row) -> Result<bool, Fail> 
 }
 
 /// Keeps the schema of these tests, of which the namespace `shop` is in the store `hashed` where there is one.
-pub fn keeps_schema(alloc: Global, stores: &mut Stores, on: On) -> Result<bool, Fail> {
+pub fn writes_schema(alloc: Global, stores: &mut Stores, on: On) -> Result<bool, Fail> {
     let words = if matches!(on, On::Two) {
         SHOP
     } else {

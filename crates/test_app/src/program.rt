@@ -1,6 +1,6 @@
 //! Scripts with their reports, and calls that end otherwise.
-use crate::attached::{attach_all, comes_out};
-use crate::run::{Bad, Call, End, On, Play, REPLAY, Stop, ends, is_line, played, stopped};
+use crate::attached::{attach_all, gives};
+use crate::run::{Bad, Call, End, On, REPLAY, RunCase, Stop, ends, is_line, run_call, stopped};
 use sdb_app::Status;
 use sdb_model::Which;
 use sdb_stores::Stores;
@@ -14,73 +14,73 @@ const SCRIPT: &[u8] =
 const REPORT: &[u8] =
     b"scalardb report 1\nevents 7\n1 take 1 done : BEGIN\n2 take 1 - : INSERT INTO bank.account (id, balance) VALUES (1, 100)\n3 call 1 ordered get bank.account(1) seen found none count 1\n4 take 1 - : COMMIT\n5 call 1 ordered put bank.account(1){balance=100,tx_id='00000000-0000-0001-0000-000000000001',tx_prepared_at=0L,tx_state=1,tx_version=1} if absent seen applied -\n6 call 1 ordered put coordinator.state('00000000-0000-0001-0000-000000000001'){tx_created_at=0L,tx_state=3} if absent seen applied -\n7 call 1 ordered put bank.account(1){balance=100,tx_committed_at=0L,tx_id='00000000-0000-0001-0000-000000000001',tx_prepared_at=0L,tx_state=3,tx_version=1} if 00000000-0000-0001-0000-000000000001 1 seen applied committed\norder 1\n00000000-0000-0001-0000-000000000001 5\ntables 1\ntable bank.account 1\n(100,1)\nend\n";
 
-impl Case for Play {
+impl Case for RunCase {
     fn holds(self, alloc: Global) -> Result<bool, Fail> {
-        comes_out(alloc, played(self))
+        gives(alloc, run_call(self))
     }
 }
 
-static PLAYED: [Play; 11] = [
-    Play {
+static PLAYED: [RunCase; 11] = [
+    RunCase {
         on: On::Two,
         script: SCRIPT,
         written: REPORT,
     },
     // Extra reads.
-    Play {
+    RunCase {
         on: On::Two,
         script: b"schema {\"bank.account\":{\"partition-key\":[\"id\"],\"columns\":{\"id\":\"INT\",\"balance\":\"INT\"}}}\nclient c1\n  BEGIN\n  INSERT INTO bank.account (id, balance) VALUES (1, 100)\n  COMMIT\n  BEGIN\n  SELECT balance FROM bank.account WHERE id = 1\n  SELECT balance FROM bank.account WHERE id = 2\n  COMMIT\nrun\nrest\n",
         written: b"scalardb report 1\nevents 16\n1 take 1 done : BEGIN\n2 take 1 - : INSERT INTO bank.account (id, balance) VALUES (1, 100)\n3 call 1 ordered get bank.account(1) seen found none count 1\n4 take 1 - : COMMIT\n5 call 1 ordered put bank.account(1){balance=100,tx_id='00000000-0000-0001-0000-000000000001',tx_prepared_at=0L,tx_state=1,tx_version=1} if absent seen applied -\n6 call 1 ordered put coordinator.state('00000000-0000-0001-0000-000000000001'){tx_created_at=0L,tx_state=3} if absent seen applied -\n7 call 1 ordered put bank.account(1){balance=100,tx_committed_at=0L,tx_id='00000000-0000-0001-0000-000000000001',tx_prepared_at=0L,tx_state=3,tx_version=1} if 00000000-0000-0001-0000-000000000001 1 seen applied committed\n8 take 1 done : BEGIN\n9 take 1 - : SELECT balance FROM bank.account WHERE id = 1\n10 call 1 ordered get bank.account(1) seen found bank.account(1){balance=100,tx_committed_at=0L,tx_id='00000000-0000-0001-0000-000000000001',tx_prepared_at=0L,tx_state=3,tx_version=1} rows 1 (100)\n11 take 1 - : SELECT balance FROM bank.account WHERE id = 2\n12 call 1 ordered get bank.account(2) seen found none rows 0\n13 take 1 - : COMMIT\n14 call 1 ordered get bank.account(1) seen found bank.account(1){balance=100,tx_committed_at=0L,tx_id='00000000-0000-0001-0000-000000000001',tx_prepared_at=0L,tx_state=3,tx_version=1} -\n15 call 1 ordered get bank.account(2) seen found none -\n16 call 1 ordered put coordinator.state('00000000-0000-0001-0000-000000000002'){tx_created_at=0L,tx_state=3} if absent seen applied committed\norder 2\n00000000-0000-0001-0000-000000000001 5\n00000000-0000-0001-0000-000000000002 13\ntables 1\ntable bank.account 1\n(100,1)\nend\n",
     },
     // An insert of a row is a duplicate.
-    Play {
+    RunCase {
         on: On::Two,
         script: b"schema {\"bank.account\":{\"partition-key\":[\"id\"],\"columns\":{\"id\":\"INT\",\"balance\":\"INT\"}}}\nclient a\n  BEGIN\n  INSERT INTO bank.account (id, balance) VALUES (1, 100)\n  COMMIT\n  BEGIN\n  INSERT INTO bank.account (id, balance) VALUES (1, 200)\n  INSERT INTO bank.account (id, balance) VALUES (1, 200)\n  COMMIT\nrun\nrest\n",
         written: b"scalardb report 1\nevents 14\n1 take 1 done : BEGIN\n2 take 1 - : INSERT INTO bank.account (id, balance) VALUES (1, 100)\n3 call 1 ordered get bank.account(1) seen found none count 1\n4 take 1 - : COMMIT\n5 call 1 ordered put bank.account(1){balance=100,tx_id='00000000-0000-0001-0000-000000000001',tx_prepared_at=0L,tx_state=1,tx_version=1} if absent seen applied -\n6 call 1 ordered put coordinator.state('00000000-0000-0001-0000-000000000001'){tx_created_at=0L,tx_state=3} if absent seen applied -\n7 call 1 ordered put bank.account(1){balance=100,tx_committed_at=0L,tx_id='00000000-0000-0001-0000-000000000001',tx_prepared_at=0L,tx_state=3,tx_version=1} if 00000000-0000-0001-0000-000000000001 1 seen applied committed\n8 take 1 done : BEGIN\n9 take 1 - : INSERT INTO bank.account (id, balance) VALUES (1, 200)\n10 call 1 ordered get bank.account(1) seen found bank.account(1){balance=100,tx_committed_at=0L,tx_id='00000000-0000-0001-0000-000000000001',tx_prepared_at=0L,tx_state=3,tx_version=1} duplicate bank.account(1)\n11 take 1 duplicate bank.account(1) : INSERT INTO bank.account (id, balance) VALUES (1, 200)\n12 take 1 - : COMMIT\n13 call 1 ordered get bank.account(1) seen found bank.account(1){balance=100,tx_committed_at=0L,tx_id='00000000-0000-0001-0000-000000000001',tx_prepared_at=0L,tx_state=3,tx_version=1} -\n14 call 1 ordered put coordinator.state('00000000-0000-0001-0000-000000000002'){tx_created_at=0L,tx_state=3} if absent seen applied committed\norder 2\n00000000-0000-0001-0000-000000000001 5\n00000000-0000-0001-0000-000000000002 12\ntables 1\ntable bank.account 1\n(100,1)\nend\n",
     },
     // The last transaction may lack its COMMIT.
-    Play {
+    RunCase {
         on: On::Two,
         script: b"schema {\"bank.account\":{\"partition-key\":[\"id\"],\"columns\":{\"id\":\"INT\",\"balance\":\"INT\"}}}\nclient a\n  BEGIN\n  SELECT balance FROM bank.account WHERE id = 5\n  INSERT INTO bank.account (id, balance) VALUES (5, 7)\n  SELECT balance FROM bank.account WHERE id = 5\nrun\nrest\n",
         written: b"scalardb report 1\nevents 5\n1 take 1 done : BEGIN\n2 take 1 - : SELECT balance FROM bank.account WHERE id = 5\n3 call 1 ordered get bank.account(5) seen found none rows 0\n4 take 1 count 1 : INSERT INTO bank.account (id, balance) VALUES (5, 7)\n5 take 1 rows 1 (7) : SELECT balance FROM bank.account WHERE id = 5\norder 0\ntables 1\ntable bank.account 0\nend\n",
     },
     // The accounts are kept in one store, and the coordinator's rows in the first.
-    Play {
+    RunCase {
         on: On::Two,
         script: b"place bank hashed\nschema {\"bank.account\":{\"partition-key\":[\"id\"],\"columns\":{\"id\":\"INT\",\"balance\":\"INT\"}}}\nclient a\n  BEGIN\n  INSERT INTO bank.account (id, balance) VALUES (1, 100)\n  COMMIT\nrun\nrest\n",
         written: b"scalardb report 1\nevents 7\n1 take 1 done : BEGIN\n2 take 1 - : INSERT INTO bank.account (id, balance) VALUES (1, 100)\n3 call 1 hashed get bank.account(1) seen found none count 1\n4 take 1 - : COMMIT\n5 call 1 hashed put bank.account(1){balance=100,tx_id='00000000-0000-0001-0000-000000000001',tx_prepared_at=0L,tx_state=1,tx_version=1} if absent seen applied -\n6 call 1 ordered put coordinator.state('00000000-0000-0001-0000-000000000001'){tx_created_at=0L,tx_state=3} if absent seen applied -\n7 call 1 hashed put bank.account(1){balance=100,tx_committed_at=0L,tx_id='00000000-0000-0001-0000-000000000001',tx_prepared_at=0L,tx_state=3,tx_version=1} if 00000000-0000-0001-0000-000000000001 1 seen applied committed\norder 1\n00000000-0000-0001-0000-000000000001 5\ntables 1\ntable bank.account 1\n(100,1)\nend\n",
     },
-    // Further columns are NULL, and further tables stay empty; all are shown, in the order of their names.
-    Play {
+    // Further columns are NULL, and further tables stay empty; all are selected, in the order of their names.
+    RunCase {
         on: On::Two,
         script: b"schema {\"shop.orders\":{\"partition-key\":[\"customer\"],\"clustering-key\":[\"n DESC\"],\"columns\":{\"customer\":\"TEXT\",\"n\":\"BIGINT\",\"total\":\"INT\"}},\"bank.account\":{\"partition-key\":[\"id\"],\"columns\":{\"id\":\"INT\",\"note\":\"TEXT\",\"active\":\"BOOLEAN\",\"balance\":\"INT\"}},\"aa.log\":{\"partition-key\":[\"n\"],\"columns\":{\"n\":\"BLOB\"}}}\nclient a\n  BEGIN\n  INSERT INTO bank.account (id, balance) VALUES (1, 100)\n  COMMIT\nrun\nrest\n",
         written: b"scalardb report 1\nevents 7\n1 take 1 done : BEGIN\n2 take 1 - : INSERT INTO bank.account (id, balance) VALUES (1, 100)\n3 call 1 ordered get bank.account(1) seen found none count 1\n4 take 1 - : COMMIT\n5 call 1 ordered put bank.account(1){balance=100,tx_id='00000000-0000-0001-0000-000000000001',tx_prepared_at=0L,tx_state=1,tx_version=1} if absent seen applied -\n6 call 1 ordered put coordinator.state('00000000-0000-0001-0000-000000000001'){tx_created_at=0L,tx_state=3} if absent seen applied -\n7 call 1 ordered put bank.account(1){balance=100,tx_committed_at=0L,tx_id='00000000-0000-0001-0000-000000000001',tx_prepared_at=0L,tx_state=3,tx_version=1} if 00000000-0000-0001-0000-000000000001 1 seen applied committed\norder 1\n00000000-0000-0001-0000-000000000001 5\ntables 3\ntable aa.log 0\ntable bank.account 1\n(NULL,100,1,NULL)\ntable shop.orders 0\nend\n",
     },
     // A client without statements.
-    Play {
+    RunCase {
         on: On::Two,
         script: b"schema {\"aa.log\":{\"partition-key\":[\"n\"],\"columns\":{\"n\":\"BLOB\"}}}\nclient a\nrun\nrest\n",
         written: b"scalardb report 1\nevents 0\norder 0\ntables 1\ntable aa.log 0\nend\n",
     },
     // Nothing but `run`.
-    Play {
+    RunCase {
         on: On::Two,
         script: b"run\n",
         written: b"scalardb report 1\nevents 0\norder 0\ntables 0\nend\n",
     },
     // The first script, where its read fails before its effect, and where it finds no memory.
-    Play {
+    RunCase {
         on: On::Failing(3, false),
         script: SCRIPT,
         written: b"scalardb report 1\nevents 5\n1 take 1 done : BEGIN\n2 take 1 - : INSERT INTO bank.account (id, balance) VALUES (1, 100)\n3 call 1 ordered get bank.account(1) failed fault faulted\n4 take 1 - : COMMIT\n5 call 1 ordered put coordinator.state('00000000-0000-0001-0000-000000000001'){tx_created_at=0L,tx_state=3} if absent seen applied committed\norder 1\n00000000-0000-0001-0000-000000000001 4\ntables 1\ntable bank.account 0\nend\n",
     },
-    Play {
+    RunCase {
         on: On::Short(3),
         script: SCRIPT,
         written: b"scalardb report 1\nevents 5\n1 take 1 done : BEGIN\n2 take 1 - : INSERT INTO bank.account (id, balance) VALUES (1, 100)\n3 call 1 ordered get bank.account(1) seen nomemory nomemory\n4 take 1 - : COMMIT\n5 call 1 ordered put coordinator.state('00000000-0000-0001-0000-000000000001'){tx_created_at=0L,tx_state=3} if absent seen applied committed\norder 1\n00000000-0000-0001-0000-000000000001 4\ntables 1\ntable bank.account 0\nend\n",
     },
     // A worked script, where the put that decides fails after its effect in place of its reply being lost.
-    Play {
+    RunCase {
         on: On::Failing(9, true),
         script: b"schema {\"bank.account\":{\"partition-key\":[\"id\"],\"columns\":{\"id\":\"INT\",\"balance\":\"INT\"}}}\nclient c1\n  BEGIN\n  INSERT INTO bank.account (id, balance) VALUES (1, 100)\n  COMMIT\nclient c2\n  BEGIN\n  UPDATE bank.account SET balance = 7 WHERE id = 1\n  COMMIT\nrun\nstep 1 7\nstep 2 5\nstep 2\nrest\n",
         written: b"scalardb report 1\nevents 15\n1 take 1 done : BEGIN\n2 take 1 - : INSERT INTO bank.account (id, balance) VALUES (1, 100)\n3 call 1 ordered get bank.account(1) seen found none count 1\n4 take 1 - : COMMIT\n5 call 1 ordered put bank.account(1){balance=100,tx_id='00000000-0000-0001-0000-000000000001',tx_prepared_at=0L,tx_state=1,tx_version=1} if absent seen applied -\n6 call 1 ordered put coordinator.state('00000000-0000-0001-0000-000000000001'){tx_created_at=0L,tx_state=3} if absent seen applied -\n7 call 1 ordered put bank.account(1){balance=100,tx_committed_at=0L,tx_id='00000000-0000-0001-0000-000000000001',tx_prepared_at=0L,tx_state=3,tx_version=1} if 00000000-0000-0001-0000-000000000001 1 seen applied committed\n8 take 2 done : BEGIN\n9 take 2 - : UPDATE bank.account SET balance = 7 WHERE id = 1\n10 call 2 ordered get bank.account(1) seen found bank.account(1){balance=100,tx_committed_at=0L,tx_id='00000000-0000-0001-0000-000000000001',tx_prepared_at=0L,tx_state=3,tx_version=1} count 1\n11 take 2 - : COMMIT\n12 call 2 ordered put bank.account(1){balance=7,before_balance=100,before_tx_committed_at=0L,before_tx_id='00000000-0000-0001-0000-000000000001',before_tx_prepared_at=0L,before_tx_state=3,before_tx_version=1,tx_id='00000000-0000-0002-0000-000000000001',tx_prepared_at=0L,tx_state=1,tx_version=2} if 00000000-0000-0001-0000-000000000001 3 seen applied -\n13 call 2 ordered put coordinator.state('00000000-0000-0002-0000-000000000001'){tx_created_at=0L,tx_state=3} if absent failed fault -\n14 call 2 ordered get coordinator.state('00000000-0000-0002-0000-000000000001') seen found coordinator.state('00000000-0000-0002-0000-000000000001'){tx_created_at=0L,tx_state=3} -\n15 call 2 ordered put bank.account(1){balance=7,tx_committed_at=0L,tx_id='00000000-0000-0002-0000-000000000001',tx_prepared_at=0L,tx_state=3,tx_version=2} if 00000000-0000-0002-0000-000000000001 1 seen applied committed\norder 2\n00000000-0000-0001-0000-000000000001 5\n00000000-0000-0002-0000-000000000001 12\ntables 1\ntable bank.account 1\n(7,1)\nend\n",
@@ -89,7 +89,7 @@ static PLAYED: [Play; 11] = [
 
 impl Case for Call<'static> {
     fn holds(self, alloc: Global) -> Result<bool, Fail> {
-        comes_out(alloc, self)
+        gives(alloc, self)
     }
 }
 
@@ -134,7 +134,7 @@ static STOPPED: [Call<'static>; 3] = [
 
 impl Case for Stop<'static> {
     fn holds(self, alloc: Global) -> Result<bool, Fail> {
-        comes_out(alloc, stopped(self))
+        gives(alloc, stopped(self))
     }
 }
 
@@ -285,7 +285,7 @@ impl Line {
             line: self.line,
             code: self.code,
         };
-        comes_out(alloc, stopped(stop))
+        gives(alloc, stopped(stop))
     }
 }
 
@@ -356,9 +356,9 @@ fn limits_have_names(rt: HostRuntime) -> Result<(), Fail> {
     all_cases(rt.alloc(), "limits", LIMITS.as_slice())
 }
 
-// The first script, played again on its stores.
+// The first script, run again on its stores.
 fn refuses_again(alloc: Global, stores: &mut Stores) -> Result<bool, Fail> {
-    let first = Play {
+    let first = RunCase {
         on: On::One,
         script: SCRIPT,
         written: REPORT,
@@ -370,7 +370,7 @@ fn refuses_again(alloc: Global, stores: &mut Stores) -> Result<bool, Fail> {
         line: "not empty: bank.account(1)",
         code: 8,
     };
-    Ok(ends(alloc, stores, played(first))? && ends(alloc, stores, stopped(again))?)
+    Ok(ends(alloc, stores, run_call(first))? && ends(alloc, stores, stopped(again))?)
 }
 
 fn is_not_empty(alloc: Global) -> Result<bool, Fail> {

@@ -99,13 +99,13 @@ pub struct Call<'a> {
 
 /// A script, and its report.
 #[derive(Clone, Copy)]
-pub struct Play {
+pub struct RunCase {
     pub on: On,
     pub script: &'static [u8],
     pub written: &'static [u8],
 }
 
-/// A script that isn't played to its end: how the call ends, by which line and which code.
+/// A script that isn't run to its end: how the call ends, by which line and which code.
 #[derive(Clone, Copy)]
 pub struct Stop<'a> {
     pub on: On,
@@ -118,8 +118,8 @@ pub struct Stop<'a> {
 /// The word of the command that plays a script.
 pub const REPLAY: &[&str] = &["replay"];
 
-/// A script that is played to its end has its report.
-pub fn played(play: Play) -> Call<'static> {
+/// A script that is run to its end has its report.
+pub fn run_call(play: RunCase) -> Call<'static> {
     Call {
         on: play.on,
         words: REPLAY,
@@ -133,7 +133,7 @@ pub fn played(play: Play) -> Call<'static> {
     }
 }
 
-/// A script that isn't played to its end writes nothing.
+/// A script that isn't run to its end writes nothing.
 pub fn stopped(stop: Stop<'_>) -> Call<'_> {
     Call {
         on: stop.on,
@@ -191,7 +191,7 @@ fn runs<S: Registry>(
     first: u64,
     call: Call<'_>,
 ) -> bool
-    requires { 0 < length (S.state stores.old).shelves }
+    requires { 0 < length (S.state stores.old).views }
 {
     let mut clock = Ticks::new(Moments::new(alloc));
     let mut ids = Numbers::new(u128::from(first));
@@ -207,7 +207,7 @@ fn runs_and_writes<S: Registry>(
     first: u64,
     call: Call<'_>,
 ) -> Result<bool, Fail>
-    requires { 0 < length (S.state stores.old).shelves }
+    requires { 0 < length (S.state stores.old).views }
 {
     let mut input = feed(alloc, call.input, call.reads_fail)?;
     let mut output = tray(alloc, call.writes_fail)?;

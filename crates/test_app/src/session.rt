@@ -2,7 +2,7 @@
 ghost use Rattle.std.specs.Prelude.{◌≡◌, ◌<◌, length};
 
 use crate::attached::attach_all;
-use crate::commands::{keeps_schema, puts};
+use crate::commands::{puts, writes_schema};
 use crate::run::{On, feed, tray};
 use sdb_catalog::open_catalog;
 use sdb_model::Which;
@@ -96,7 +96,7 @@ fn sits<S: Registry>(
     stores: &mut S,
     sitting: Session,
 ) -> Result<bool, Fail>
-    requires { 0 < length (S.state stores.old).shelves }
+    requires { 0 < length (S.state stores.old).views }
 {
     let mut input = feed(alloc, sitting.lines.input, sitting.reads_fail)?;
     let mut output = tray(alloc, sitting.writes_fail)?;
@@ -138,7 +138,7 @@ impl Case for Sittings {
     fn holds(self, alloc: Global) -> Result<bool, Fail> {
         let mut stores = Stores::new(alloc);
         if !attach_all(alloc, &mut stores, self.on)?
-            || !keeps_schema(alloc, &mut stores, self.on)?
+            || !writes_schema(alloc, &mut stores, self.on)?
         {
             return Ok(false);
         }
@@ -399,7 +399,7 @@ impl Case for Broken {
     fn holds(self, alloc: Global) -> Result<bool, Fail> {
         let mut stores = Stores::new(alloc);
         if !attach_all(alloc, &mut stores, On::Two)?
-            || !keeps_schema(alloc, &mut stores, On::Two)?
+            || !writes_schema(alloc, &mut stores, On::Two)?
         {
             return Ok(false);
         }

@@ -296,7 +296,7 @@ impl Case for OverPrepared {
         let mut stores = Stores::new(alloc);
         Ok(
             attach_all(alloc, &mut stores, On::Two)?
-                && keeps_schema(alloc, &mut stores, On::Two)?
+                && writes_schema(alloc, &mut stores, On::Two)?
                 && puts(alloc, &mut stores, PREPARED)?
                 && follow(alloc, &mut stores, self.0)?,
         )

@@ -17,7 +17,7 @@ pub enum Ask {
 
 /// A reply as a constant.
 #[derive(Clone, Copy)]
-pub enum Told {
+pub enum ReplyCase {
     Found(Option<Row>),
     Rows(&'static [Row]),
     Applied,
@@ -37,13 +37,13 @@ pub fn request_of(alloc: Global, ask: Ask) -> Result<Request, NameRefused> {
     }
 }
 
-pub fn reply_of(alloc: Global, told: Told) -> Result<Reply, NameRefused> {
+pub fn reply_of(alloc: Global, told: ReplyCase) -> Result<Reply, NameRefused> {
     match told {
-        Told::Found(row) => Ok(Reply::Found(found_of(alloc, row)?)),
-        Told::Rows(rows) => Ok(Reply::Rows(records_of(alloc, rows)?)),
-        Told::Applied => Ok(Reply::Applied),
-        Told::NotMet(row) => Ok(Reply::NotMet(found_of(alloc, row)?)),
-        Told::Fault => Ok(Reply::Fault),
-        Told::NoMemory => Ok(Reply::NoMemory),
+        ReplyCase::Found(row) => Ok(Reply::Found(found_of(alloc, row)?)),
+        ReplyCase::Rows(rows) => Ok(Reply::Rows(records_of(alloc, rows)?)),
+        ReplyCase::Applied => Ok(Reply::Applied),
+        ReplyCase::NotMet(row) => Ok(Reply::NotMet(found_of(alloc, row)?)),
+        ReplyCase::Fault => Ok(Reply::Fault),
+        ReplyCase::NoMemory => Ok(Reply::NoMemory),
     }
 }

@@ -1,6 +1,6 @@
 //! Events from constants.
-use crate::asked::{Ask, Told, reply_of, request_of};
-use crate::said::{Said, answer_of};
+use crate::asked::{Ask, ReplyCase, reply_of, request_of};
+use crate::said::{AnswerCase, answer_of};
 use sdb_model::{Answer, Event, Events, How};
 use sdb_types::{Name, NameRefused, Txt};
 use std::alloc::Global;
@@ -8,26 +8,31 @@ use std::alloc::Global;
 /// An event of the client 1 as a constant. Its calls are made on the store `ordered`, and the client is handed the reply.
 #[derive(Clone, Copy)]
 pub enum Happening {
-    Take(&'static str, Option<Said>),
-    Call(Ask, Told, Option<Said>),
+    Take(&'static str, Option<AnswerCase>),
+    Call(Ask, ReplyCase, Option<AnswerCase>),
     Stop(u32),
     Clock(i64),
     Idle(u32),
 }
 
-fn said_of(alloc: Global, said: Option<Said>) -> Result<Option<Answer>, NameRefused> {
+fn said_of(alloc: Global, said: Option<AnswerCase>) -> Result<Option<Answer>, NameRefused> {
     match said {
         Some(said) => Ok(Some(answer_of(alloc, said)?)),
         None => Ok(None),
     }
 }
 
-fn taken(alloc: Global, text: &str, said: Option<Said>) -> Result<Event, NameRefused> {
+fn taken(alloc: Global, text: &str, said: Option<AnswerCase>) -> Result<Event, NameRefused> {
     let text = Txt::new(alloc, text)?;
     Ok(Event::Take(1, text, said_of(alloc, said)?))
 }
 
-fn called(alloc: Global, ask: Ask, told: Told, said: Option<Said>) -> Result<Event, NameRefused> {
+fn called(
+    alloc: Global,
+    ask: Ask,
+    told: ReplyCase,
+    said: Option<AnswerCase>,
+) -> Result<Event, NameRefused> {
     let store = Name::new(alloc, "ordered")?;
     let answer = said_of(alloc, said)?;
     let request = request_of(alloc, ask)?;

@@ -8,7 +8,7 @@ use std::alloc::Global;
 
 /// An answer as a constant.
 #[derive(Clone, Copy)]
-pub enum Said {
+pub enum AnswerCase {
     Rows(&'static [&'static [Cell]]),
     Count(u64),
     Done,
@@ -41,28 +41,28 @@ fn conflict(alloc: Global, place: Place, row: Option<Row>) -> Result<Answer, Nam
 }
 
 // An answer that names no key.
-fn plain(said: Said) -> Answer {
+fn plain(said: AnswerCase) -> Answer {
     match said {
-        Said::Count(count) => Answer::Count(count),
-        Said::Done => Answer::Done,
-        Said::Committed => Answer::Committed,
-        Said::Expired(id) => Answer::Expired(id),
-        Said::Faulted => Answer::Faulted,
-        Said::Unknown(id) => Answer::Unknown(id),
-        Said::Refused(kind, place) => Answer::Refused(Refusal { kind, place }),
-        Said::Vacuuming => Answer::Vacuuming,
-        Said::OpenTransactions => Answer::OpenTransactions,
+        AnswerCase::Count(count) => Answer::Count(count),
+        AnswerCase::Done => Answer::Done,
+        AnswerCase::Committed => Answer::Committed,
+        AnswerCase::Expired(id) => Answer::Expired(id),
+        AnswerCase::Faulted => Answer::Faulted,
+        AnswerCase::Unknown(id) => Answer::Unknown(id),
+        AnswerCase::Refused(kind, place) => Answer::Refused(Refusal { kind, place }),
+        AnswerCase::Vacuuming => Answer::Vacuuming,
+        AnswerCase::OpenTransactions => Answer::OpenTransactions,
         _ => Answer::NoMemory,
     }
 }
 
-pub fn answer_of(alloc: Global, said: Said) -> Result<Answer, NameRefused> {
+pub fn answer_of(alloc: Global, said: AnswerCase) -> Result<Answer, NameRefused> {
     match said {
-        Said::Rows(rows) => Ok(Answer::Rows(rows_of(alloc, rows)?)),
-        Said::Duplicate(place) => Ok(Answer::Duplicate(key_of(alloc, place)?)),
-        Said::Busy(place, id, moment) => Ok(Answer::Busy(key_of(alloc, place)?, id, moment)),
-        Said::Conflict(place, row) => conflict(alloc, place, row),
-        Said::BadRecord(place) => Ok(Answer::BadRecord(key_of(alloc, place)?)),
+        AnswerCase::Rows(rows) => Ok(Answer::Rows(rows_of(alloc, rows)?)),
+        AnswerCase::Duplicate(place) => Ok(Answer::Duplicate(key_of(alloc, place)?)),
+        AnswerCase::Busy(place, id, moment) => Ok(Answer::Busy(key_of(alloc, place)?, id, moment)),
+        AnswerCase::Conflict(place, row) => conflict(alloc, place, row),
+        AnswerCase::BadRecord(place) => Ok(Answer::BadRecord(key_of(alloc, place)?)),
         _ => Ok(plain(said)),
     }
 }

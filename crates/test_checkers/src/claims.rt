@@ -1,4 +1,4 @@
-//! Scripts with events that are said to be an execution of their clients.
+//! Scripts with events that claim to be an execution of their clients.
 use sdb_executed::is_execution;
 use sdb_report::read_report;
 use sdb_script::read_script;

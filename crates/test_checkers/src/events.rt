@@ -4,7 +4,7 @@ use sdb_model::{Answer, Event, How};
 use sdb_record::{
     Decision, Read, Writes, condition_of, coordinator_key, coordinator_row, version_of,
 };
-use sdb_said::{Note, Plan, Played, Role, Word};
+use sdb_said::{Ack, Action, Labelled, Plan, ReadItem};
 use sdb_types::{Condition, Key, Name, Record, Records, Reply, Request, Seq, State, TxId, Txt};
 use std::alloc::Global;
 use std::test::Fail;
@@ -220,27 +220,27 @@ fn event_of(alloc: Global, second: Second, step: Step) -> Result<Event, Fail> {
 }
 
 // The part of a step that is about the account.
-fn part_of(step: Step, key: Key) -> Role {
+fn part_of(step: Step, key: Key) -> Action {
     match step {
-        Step::Prepares(id, _) => Role::Prepares(id, key, Word::Yes),
-        Step::Rolls(id, _) | Step::Finishes(id, _) => Role::Rolls(id, key, Decision::Committed),
-        Step::Undoes(id, _) => Role::Rolls(id, key, Decision::Aborted),
-        Step::Removes(id, _) => Role::Removes(key, id),
-        _ => Role::Other,
+        Step::Prepares(id, _) => Action::Prepares(id, key, Ack::Yes),
+        Step::Rolls(id, _) | Step::Finishes(id, _) => Action::Rolls(id, key, Decision::Committed),
+        Step::Undoes(id, _) => Action::Rolls(id, key, Decision::Aborted),
+        Step::Removes(id, _) => Action::Removes(key, id),
+        _ => Action::Other,
     }
 }
 
-fn role_of(alloc: Global, step: Step) -> Result<Role, Fail> {
+fn role_of(alloc: Global, step: Step) -> Result<Action, Fail> {
     match step {
-        Step::Begins(id, client) => Ok(Role::Begins(id, client)),
-        Step::Takes(id, _) => Ok(Role::Takes(id)),
-        Step::Checks(id, _, _) => Ok(Role::Checks(id, 0)),
-        Step::Decides(id, _) | Step::Ends(id, _) => Ok(Role::Decides(id, Word::Yes)),
-        Step::Loses(id, _) | Step::Denies(id, _) => Ok(Role::Decides(id, Word::Silence)),
-        Step::Aborts(id, _, _) => Ok(Role::Aborts(id, 0, Word::Yes)),
-        Step::Stops(_, client) => Ok(Role::Stops(client)),
-        Step::Reads(_, _) | Step::Sees(_, _) | Step::Scans(_) => Ok(Role::Other),
-        Step::Puts(_, _) | Step::Claims(_, _) => Ok(Role::Other),
+        Step::Begins(id, client) => Ok(Action::Begins(id, client)),
+        Step::Takes(id, _) => Ok(Action::Takes(id)),
+        Step::Checks(id, _, _) => Ok(Action::Checks(id, 0)),
+        Step::Decides(id, _) | Step::Ends(id, _) => Ok(Action::Decides(id, Ack::Yes)),
+        Step::Loses(id, _) | Step::Denies(id, _) => Ok(Action::Decides(id, Ack::NoAck)),
+        Step::Aborts(id, _, _) => Ok(Action::Aborts(id, 0, Ack::Yes)),
+        Step::Stops(_, client) => Ok(Action::Stops(client)),
+        Step::Reads(_, _) | Step::Sees(_, _) | Step::Scans(_) => Ok(Action::Other),
+        Step::Puts(_, _) | Step::Claims(_, _) => Ok(Action::Other),
         _ => Ok(part_of(step, account(alloc)?)),
     }
 }
@@ -253,19 +253,19 @@ fn ends_of(step: Step) -> Option<TxId> {
     }
 }
 
-fn played_of(alloc: Global, second: Second, step: Step) -> Result<Played, Fail> {
+fn played_of(alloc: Global, second: Second, step: Step) -> Result<Labelled, Fail> {
     let event = event_of(alloc, second, step)?;
-    let role = role_of(alloc, step)?;
-    Ok(Played {
+    let action = role_of(alloc, step)?;
+    Ok(Labelled {
         event,
-        role,
+        action,
         ends: ends_of(step),
     })
 }
 
 pub fn add_steps(
     alloc: Global,
-    run: &mut Vec<Played>,
+    run: &mut Vec<Labelled>,
     second: Second,
     steps: &[Step],
 ) -> Result<(), Fail> {
@@ -275,18 +275,18 @@ pub fn add_steps(
     Ok(())
 }
 
-fn note_of(alloc: Global, version: Option<TxId>) -> Result<Note, Fail> {
-    Ok(Note::Got(Read {
+fn note_of(alloc: Global, version: Option<TxId>) -> Result<ReadItem, Fail> {
+    Ok(ReadItem::Got(Read {
         key: account(alloc)?,
         version,
     }))
 }
 
-fn notes_of(alloc: Global, version: Option<TxId>) -> Result<Seq<Note>, Fail> {
-    let note = note_of(alloc, version)?;
-    let mut notes = Seq::new(alloc);
-    notes.push(note)?;
-    Ok(notes)
+fn notes_of(alloc: Global, version: Option<TxId>) -> Result<Seq<ReadItem>, Fail> {
+    let item = note_of(alloc, version)?;
+    let mut read_set = Seq::new(alloc);
+    read_set.push(item)?;
+    Ok(read_set)
 }
 
 fn add_write(alloc: Global, writes: &mut Writes, second: Second, id: TxId) -> Result<(), Fail> {
@@ -304,11 +304,11 @@ fn writes_of(alloc: Global, second: Second, id: TxId) -> Result<Writes, Fail> {
 }
 
 fn plan_of(alloc: Global, second: Second, id: TxId, version: Option<TxId>) -> Result<Plan, Fail> {
-    let notes = notes_of(alloc, version)?;
+    let read_set = notes_of(alloc, version)?;
     Ok(Plan {
         id,
         writes: writes_of(alloc, second, id)?,
-        notes,
+        read_set,
         now: 0,
     })
 }

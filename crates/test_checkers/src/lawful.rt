@@ -2,7 +2,7 @@
 use crate::events::{Found, Step, add_plans, add_steps};
 use crate::writes::{ONE, Second, THREE, TWO};
 use sdb_lawful::is_lawful;
-use sdb_said::{Plan, Played};
+use sdb_said::{Labelled, Plan};
 use sdb_types::{Condition, State};
 use std::alloc::Global;
 use std::test::Fail;
@@ -27,7 +27,7 @@ struct Run(Second, &'static [Step], bool);
 
 fn add_run(
     alloc: Global,
-    run: &mut Vec<Played>,
+    run: &mut Vec<Labelled>,
     second: Second,
     steps: &[Step],
 ) -> Result<(), Fail> {

@@ -2,7 +2,7 @@
 use sdb_model::{Event, How, Places};
 use sdb_ordered::Tree;
 use sdb_plain::PlainTables;
-use sdb_runs::{Shelf, Shelves, Stores};
+use sdb_runs::{Shelves, StoreContents, Stores};
 use sdb_store::Rows;
 use sdb_types::{Duplicate, Name, NameRefused, NoMemory, Record, Request, Seq};
 use std::alloc::Global;
@@ -56,7 +56,7 @@ fn shelves_of(alloc: Global, tree: &Tree) -> Result<Shelves, NameRefused> {
     let name = Name::new(alloc, "ordered")?;
     let rows = rows_of(alloc, tree)?;
     let mut shelves = Shelves::new(alloc);
-    shelves.push(Shelf { name, rows })?;
+    shelves.push(StoreContents { name, rows })?;
     Ok(shelves)
 }
 

@@ -1,4 +1,4 @@
-//! Worked runs: each answer has its cause, all calls are counted, all records are resolved, and all rows are shown.
+//! Worked runs: each answer has its cause, all calls are counted, all records are resolved, and no read is dirty.
 use crate::steps::{Asked, Judged};
 use std::test::Fail;
 use test_builders::all_cases;

@@ -4,7 +4,7 @@ use sdb_caused::answers_have_causes;
 use sdb_loader::catalog_of;
 use sdb_model::Event;
 use sdb_report::read_report;
-use sdb_runs::{broken_in, calls_are_counted, records_are_resolved, rows_are_shown};
+use sdb_runs::{broken_in, calls_are_counted, have_no_dirty_reads, records_are_resolved};
 use sdb_schema::Catalog;
 use std::alloc::Global;
 use std::test::Fail;
@@ -25,12 +25,12 @@ pub enum Asked {
     Caused,
     /// Whether all rows that answers show are their transaction's own, or were committed when they were read.
     Shown,
-    /// Whether it is so that the calls are counted, and that each unresolved record from which a statement was answered was
+    /// Whether the calls are counted, and each unresolved record from which a statement was answered was
     /// rolled first.
     Rolled(bool, bool),
     /// Whether the stores failed so many calls.
     Broken(usize),
-    /// Whether all of this is so of events over the bank.
+    /// Whether all of this holds of events over the bank.
     Kept,
     /// The same over the shop.
     KeptInShop,
@@ -42,7 +42,7 @@ pub struct Judged(pub Asked, pub &'static str, pub bool);
 
 fn are_shown(alloc: Global, catalog: &Catalog, events: &[Event]) -> Result<bool, Fail> {
     let stores = stores_of(alloc, events)?;
-    Ok(rows_are_shown(alloc, catalog, events, &stores)?)
+    Ok(have_no_dirty_reads(alloc, catalog, events, &stores)?)
 }
 
 fn are_rolled(

@@ -3,7 +3,7 @@ use sdb_model::{Events, Point, Points};
 use sdb_types::{Condition, Seq, TxId};
 use std::alloc::Global;
 use std::test::Fail;
-use test_builders::{Ask, Cell, Happening, Place, Row, Said, Told, events_of, hold};
+use test_builders::{AnswerCase, Ask, Cell, Happening, Place, ReplyCase, Row, events_of, hold};
 
 const READER: TxId = TxId(0x1_0000_0000_0000_0001);
 
@@ -27,17 +27,17 @@ const PREPARED: Row = Row {
 };
 
 static EVENTS: [Happening; 7] = [
-    Happening::Take("BEGIN", Some(Said::Done)),
-    Happening::Take("COMMIT", Some(Said::Committed)),
-    Happening::Take("BEGIN", Some(Said::Done)),
+    Happening::Take("BEGIN", Some(AnswerCase::Done)),
+    Happening::Take("COMMIT", Some(AnswerCase::Committed)),
+    Happening::Take("BEGIN", Some(AnswerCase::Done)),
     Happening::Take("COMMIT", None),
     Happening::Call(
         Ask::Put(PREPARED, Condition::Absent),
-        Told::Applied,
-        Some(Said::Committed),
+        ReplyCase::Applied,
+        Some(AnswerCase::Committed),
     ),
-    Happening::Take("BEGIN", Some(Said::Done)),
-    Happening::Take("ROLLBACK", Some(Said::Done)),
+    Happening::Take("BEGIN", Some(AnswerCase::Done)),
+    Happening::Take("ROLLBACK", Some(AnswerCase::Done)),
 ];
 
 const WANTED: [Point; 2] = [

@@ -6,7 +6,9 @@ use sdb_sqltext::parse_statement;
 use sdb_types::{Condition, Name, Seq, TxId, Value};
 use std::alloc::Global;
 use std::test::Fail;
-use test_builders::{Ask, Cell, Happening, Place, Row, Said, Told, account, events_of, hold};
+use test_builders::{
+    AnswerCase, Ask, Cell, Happening, Place, ReplyCase, Row, account, events_of, hold,
+};
 
 const FIRST: TxId = TxId(0x1_0000_0000_0000_0001);
 
@@ -92,15 +94,23 @@ const COMMITTED: Row = Row {
 };
 
 static EVENTS: [Happening; 6] = [
-    Happening::Take("BEGIN", Some(Said::Done)),
+    Happening::Take("BEGIN", Some(AnswerCase::Done)),
     Happening::Take(INSERT, None),
-    Happening::Call(Ask::Get(ACCOUNT), Told::Found(None), Some(Said::Count(1))),
+    Happening::Call(
+        Ask::Get(ACCOUNT),
+        ReplyCase::Found(None),
+        Some(AnswerCase::Count(1)),
+    ),
     Happening::Take("COMMIT", None),
-    Happening::Call(Ask::Put(PREPARED, Condition::Absent), Told::Applied, None),
+    Happening::Call(
+        Ask::Put(PREPARED, Condition::Absent),
+        ReplyCase::Applied,
+        None,
+    ),
     Happening::Call(
         Ask::Put(COMMITTED, Condition::Absent),
-        Told::Applied,
-        Some(Said::Committed),
+        ReplyCase::Applied,
+        Some(AnswerCase::Committed),
     ),
 ];
 
@@ -120,8 +130,8 @@ fn is_at_last_prepare(alloc: Global) -> Result<bool, Fail> {
 }
 
 static WITHOUT_PREPARES: [Happening; 2] = [
-    Happening::Take("BEGIN", Some(Said::Done)),
-    Happening::Take("COMMIT", Some(Said::Committed)),
+    Happening::Take("BEGIN", Some(AnswerCase::Done)),
+    Happening::Take("COMMIT", Some(AnswerCase::Committed)),
 ];
 
 fn is_at_commit(alloc: Global) -> Result<bool, Fail> {

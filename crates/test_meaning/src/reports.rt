@@ -5,8 +5,8 @@ use sdb_types::{Condition, NameRefused, State, TxId};
 use std::alloc::Global;
 use std::test::Fail;
 use test_builders::{
-    Ask, Case, Cell, Happening, Place, Row, Said, Told, all_cases, events_of, hold, table_of,
-    values_of,
+    AnswerCase, Ask, Case, Cell, Happening, Place, ReplyCase, Row, all_cases, events_of, hold,
+    table_of, values_of,
 };
 
 const ID: TxId = TxId((1 << 64) + 1);
@@ -57,19 +57,31 @@ const DECISION: Row = Row {
 };
 
 static RUN: [Happening; 7] = [
-    Happening::Take("BEGIN", Some(Said::Done)),
+    Happening::Take("BEGIN", Some(AnswerCase::Done)),
     Happening::Take(
         "INSERT INTO bank.account (id, balance) VALUES (1, 100)",
         None,
     ),
-    Happening::Call(Ask::Get(ACCOUNT), Told::Found(None), Some(Said::Count(1))),
+    Happening::Call(
+        Ask::Get(ACCOUNT),
+        ReplyCase::Found(None),
+        Some(AnswerCase::Count(1)),
+    ),
     Happening::Take("COMMIT", None),
-    Happening::Call(Ask::Put(PREPARED, Condition::Absent), Told::Applied, None),
-    Happening::Call(Ask::Put(DECISION, Condition::Absent), Told::Applied, None),
+    Happening::Call(
+        Ask::Put(PREPARED, Condition::Absent),
+        ReplyCase::Applied,
+        None,
+    ),
+    Happening::Call(
+        Ask::Put(DECISION, Condition::Absent),
+        ReplyCase::Applied,
+        None,
+    ),
     Happening::Call(
         Ask::Put(COMMITTED, Condition::Version(ID, State::Prepared)),
-        Told::Applied,
-        Some(Said::Committed),
+        ReplyCase::Applied,
+        Some(AnswerCase::Committed),
     ),
 ];
 

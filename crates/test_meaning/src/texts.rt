@@ -4,7 +4,7 @@ use sdb_types::{NoMemory, TxId};
 use std::alloc::Global;
 use std::test::Fail;
 use test_builders::{
-    Case, Cell, Place, Row, Said, all_cases, answer_of, key_of, record_of, span_of, value_of,
+    AnswerCase, Case, Cell, Place, Row, all_cases, answer_of, key_of, record_of, span_of, value_of,
     values_of,
 };
 
@@ -34,7 +34,7 @@ enum Shown {
     Record(Row, &'static str),
     Row(&'static [Cell], &'static str),
     Id(TxId, &'static str),
-    Answer(Said, &'static str),
+    Answer(AnswerCase, &'static str),
 }
 
 fn put_key(alloc: Global, out: &mut String, place: Place) -> Result<(), Fail> {
@@ -50,7 +50,7 @@ fn put_partition(
     Ok(put_span(out, &span_of(alloc, "bank", "item", partition)?)?)
 }
 
-fn put_answer(alloc: Global, out: &mut String, said: Said) -> Result<(), Fail> {
+fn put_answer(alloc: Global, out: &mut String, said: AnswerCase) -> Result<(), Fail> {
     let answer = answer_of(alloc, said)?;
     Ok(out.push_str(answer_text(alloc, &answer)?.as_str())?)
 }
@@ -121,41 +121,41 @@ fn parts_show(alloc: Global) -> Result<(), Fail> {
 }
 
 static ANSWERS: [Shown; 17] = [
-    Shown::Answer(Said::Rows(&[]), "rows 0"),
+    Shown::Answer(AnswerCase::Rows(&[]), "rows 0"),
     Shown::Answer(
-        Said::Rows(&[&[Cell::Int(1)], CLUSTERING]),
+        AnswerCase::Rows(&[&[Cell::Int(1)], CLUSTERING]),
         "rows 2 (1) (2,'a')",
     ),
-    Shown::Answer(Said::Duplicate(KEY), "duplicate bank.item(1;2,'a')"),
-    Shown::Answer(Said::BadRecord(KEY), "badrecord bank.item(1;2,'a')"),
+    Shown::Answer(AnswerCase::Duplicate(KEY), "duplicate bank.item(1;2,'a')"),
+    Shown::Answer(AnswerCase::BadRecord(KEY), "badrecord bank.item(1;2,'a')"),
     Shown::Answer(
-        Said::Busy(KEY, TxId(1), 15000),
+        AnswerCase::Busy(KEY, TxId(1), 15000),
         "busy bank.item(1;2,'a') 00000000-0000-0000-0000-000000000001 15000",
     ),
     Shown::Answer(
-        Said::Conflict(KEY, None),
+        AnswerCase::Conflict(KEY, None),
         "conflict bank.item(1;2,'a') none",
     ),
     Shown::Answer(
-        Said::Conflict(KEY, Some(RECORD)),
+        AnswerCase::Conflict(KEY, Some(RECORD)),
         "conflict bank.item(1;2,'a') {a=-7,b=TRUE}",
     ),
-    Shown::Answer(Said::Count(3), "count 3"),
-    Shown::Answer(Said::Done, "done"),
-    Shown::Answer(Said::Committed, "committed"),
-    Shown::Answer(Said::Faulted, "faulted"),
-    Shown::Answer(Said::Vacuuming, "vacuuming"),
-    Shown::Answer(Said::OpenTransactions, "opentransactions"),
-    Shown::Answer(Said::NoMemory, "nomemory"),
+    Shown::Answer(AnswerCase::Count(3), "count 3"),
+    Shown::Answer(AnswerCase::Done, "done"),
+    Shown::Answer(AnswerCase::Committed, "committed"),
+    Shown::Answer(AnswerCase::Faulted, "faulted"),
+    Shown::Answer(AnswerCase::Vacuuming, "vacuuming"),
+    Shown::Answer(AnswerCase::OpenTransactions, "opentransactions"),
+    Shown::Answer(AnswerCase::NoMemory, "nomemory"),
     Shown::Answer(
-        Said::Expired(TxId(2)),
+        AnswerCase::Expired(TxId(2)),
         "expired 00000000-0000-0000-0000-000000000002",
     ),
     Shown::Answer(
-        Said::Unknown(TxId(2)),
+        AnswerCase::Unknown(TxId(2)),
         "unknown 00000000-0000-0000-0000-000000000002",
     ),
-    Shown::Answer(Said::Refused(12, 2), "refused 12 2"),
+    Shown::Answer(AnswerCase::Refused(12, 2), "refused 12 2"),
 ];
 
 fn answers_show(alloc: Global) -> Result<(), Fail> {

@@ -112,7 +112,7 @@ fn fates_are_drawn(rt: HostRuntime) -> Result<(), Fail> {
     all_cases(rt.alloc(), "fates", FATES_DRAWN.as_slice())
 }
 
-// A statement of signs, of a character that XML doesn't have, and of more characters than are shown.
+// A statement of signs, of a character that XML doesn't have, and of more characters than are drawn.
 const SIGNS: &str =
     "scalardb report 1\nevents 2\n1 take 1 - : <a href=\"x\">&\u{1}\u{7F}\u{FFFE}</a>\n2 take 1 - : äbcdefghij1bcdefghij2bcdefghij3bcdefghij4bcdefghij5bcdefghij\norder 0\ntables 0\nend\n";
 

@@ -66,7 +66,7 @@ fn asks(alloc: Global, client: &Client, call: &str) -> bool {
 // What a statement leads to: an answer with this text, or another one, or a call.
 #[derive(Clone, Copy)]
 enum Outcome {
-    Told,
+    AnswerGiven,
     Other,
     Pending,
 }
@@ -80,7 +80,7 @@ fn is_text(alloc: Global, answer: &sdb_model::Answer, text: &str) -> bool {
 
 fn outcome_of(alloc: Global, answer: &Option<sdb_model::Answer>, text: &str) -> Outcome {
     match answer {
-        Some(answer) if is_text(alloc, answer, text) => Outcome::Told,
+        Some(answer) if is_text(alloc, answer, text) => Outcome::AnswerGiven,
         Some(_) => Outcome::Other,
         None => Outcome::Pending,
     }
@@ -128,7 +128,7 @@ fn goes(alloc: Global, client: &mut Client, catalog: &Catalog, step: &Step) -> b
         }
         outcome = give(alloc, client, *reply, step.2);
     }
-    matches!(outcome, Outcome::Told)
+    matches!(outcome, Outcome::AnswerGiven)
 }
 
 #[derive(Clone, Copy)]
@@ -284,7 +284,7 @@ const OWN_INSERT: &[Step] = &[
     ),
 ];
 
-// Statements inside and outside of transactions; a fault leaves the transaction open, and notes nothing.
+// Statements inside and outside of transactions; a fault leaves the transaction open, and records no read.
 const OUTSIDE: &[Step] = &[
     ("COMMIT", &[], "refused 5 0"),
     ("ROLLBACK;", &[], "refused 5 0"),
@@ -421,7 +421,10 @@ fn inserts(alloc: Global, client: &mut Client, catalog: &Catalog, id: u64, told:
     matches!(
         take(alloc, client, catalog, text.as_str(), told),
         Outcome::Pending
-    ) && matches!(give(alloc, client, Answer::NoRow, told), Outcome::Told)
+    ) && matches!(
+        give(alloc, client, Answer::NoRow, told),
+        Outcome::AnswerGiven
+    )
 }
 
 fn fills(alloc: Global, client: &mut Client, catalog: &Catalog, count: u64) -> bool {

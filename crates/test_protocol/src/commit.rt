@@ -2,7 +2,7 @@
 ghost use Rattle.std.specs.Prelude.{All};
 ghost use Rattle.sdb_record.specs.Rolls.{IsWrite};
 
-use crate::machine::{Machine, Told, conflict_at, if_own, plays_out};
+use crate::machine::{AnswerGiven, Machine, conflict_at, if_own, runs_to_end};
 use crate::replies::{ABORTED, Answer, BAD_ROW, COMMITTED, reply_to};
 use crate::writes::two_deletes;
 use sdb_commit::CommitPhases;
@@ -15,24 +15,24 @@ use test_builders::{Case, account, all_cases};
 
 const OWN: TxId = TxId(0x1_0000_0000_0000_0001);
 
-fn told_by(answer: &Option<Outcome>) -> Told {
+fn told_by(answer: &Option<Outcome>) -> AnswerGiven {
     match answer {
-        None => Told::More,
-        Some(Outcome::Committed) => Told::Committed,
+        None => AnswerGiven::More,
+        Some(Outcome::Committed) => AnswerGiven::Committed,
         Some(Outcome::Conflict(key, found)) => conflict_at(key, version_of(found)),
-        Some(Outcome::Expired(id)) => if_own(*id, OWN, Told::Expired),
-        Some(Outcome::Faulted) => Told::Faulted,
-        Some(Outcome::Unknown(id)) => if_own(*id, OWN, Told::Unknown),
-        Some(Outcome::BadRecord(_)) => Told::BadRecord,
-        Some(Outcome::NoMemory) => Told::NoMemory,
+        Some(Outcome::Expired(id)) => if_own(*id, OWN, AnswerGiven::Expired),
+        Some(Outcome::Faulted) => AnswerGiven::Faulted,
+        Some(Outcome::Unknown(id)) => if_own(*id, OWN, AnswerGiven::Unknown),
+        Some(Outcome::BadRecord(_)) => AnswerGiven::BadRecord,
+        Some(Outcome::NoMemory) => AnswerGiven::NoMemory,
     }
 }
 
 impl Machine for CommitPhases {
-    fn give(&mut self, alloc: Global, answer: Answer, _now: i64) -> Told {
+    fn give(&mut self, alloc: Global, answer: Answer, _now: i64) -> AnswerGiven {
         match reply_to(alloc, self.request(), answer) {
             Some(reply) => told_by(&self.take(reply)),
-            None => Told::Other,
+            None => AnswerGiven::Other,
         }
     }
 
@@ -45,20 +45,25 @@ impl Machine for CommitPhases {
 // and didn't find it.
 #[derive(Clone, Copy)]
 enum Steps {
-    OfWrites(&'static [(Answer, Told)]),
-    OfARead(&'static [(Answer, Told)]),
+    OfWrites(&'static [(Answer, AnswerGiven)]),
+    OfARead(&'static [(Answer, AnswerGiven)]),
 }
 
-fn commit_plays(alloc: Global, writes: Writes, reads: Reads, steps: &[(Answer, Told)]) -> bool
+fn commit_plays(
+    alloc: Global,
+    writes: Writes,
+    reads: Reads,
+    steps: &[(Answer, AnswerGiven)],
+) -> bool
     requires { All IsWrite writes }
 {
     match CommitPhases::new(alloc, OWN, 7, writes, reads, Scans::new(alloc)) {
-        Ok(commit) => plays_out(alloc, commit, steps),
+        Ok(commit) => runs_to_end(alloc, commit, steps),
         Err(_) => false,
     }
 }
 
-fn of_writes(alloc: Global, steps: &[(Answer, Told)]) -> bool {
+fn of_writes(alloc: Global, steps: &[(Answer, AnswerGiven)]) -> bool {
     match two_deletes(alloc) {
         Ok(writes) => commit_plays(alloc, writes, Reads::new(alloc), steps),
         Err(_) => false,
@@ -74,7 +79,7 @@ fn one_read(alloc: Global) -> Result<Reads, NameRefused> {
     Ok(reads)
 }
 
-fn of_a_read(alloc: Global, steps: &[(Answer, Told)]) -> bool {
+fn of_a_read(alloc: Global, steps: &[(Answer, AnswerGiven)]) -> bool {
     match one_read(alloc) {
         Ok(reads) => commit_plays(alloc, Writes::new(alloc), reads, steps),
         Err(_) => false,
@@ -93,68 +98,68 @@ impl Case for Steps {
 static CASES: [Steps; 9] = [
     // Two prepares, the deciding put, two rolls forward.
     Steps::OfWrites(&[
-        (Answer::Applied, Told::More),
-        (Answer::Applied, Told::More),
-        (Answer::Applied, Told::More),
-        (Answer::Applied, Told::More),
-        (Answer::NotMet, Told::Committed),
+        (Answer::Applied, AnswerGiven::More),
+        (Answer::Applied, AnswerGiven::More),
+        (Answer::Applied, AnswerGiven::More),
+        (Answer::Applied, AnswerGiven::More),
+        (Answer::NotMet, AnswerGiven::Committed),
     ]),
     // A prepare that is not met: ABORTED is put, and the one before it is rolled back.
     Steps::OfWrites(&[
-        (Answer::Applied, Told::More),
-        (BAD_ROW, Told::More),
-        (Answer::Applied, Told::More),
-        (Answer::Applied, Told::Conflict(2, None)),
+        (Answer::Applied, AnswerGiven::More),
+        (BAD_ROW, AnswerGiven::More),
+        (Answer::Applied, AnswerGiven::More),
+        (Answer::Applied, AnswerGiven::Conflict(2, None)),
     ]),
     // The deciding put faults, no row is found, and ABORTED is put.
     Steps::OfWrites(&[
-        (Answer::Applied, Told::More),
-        (Answer::Applied, Told::More),
-        (Answer::Fault, Told::More),
-        (Answer::NoRow, Told::More),
-        (Answer::Applied, Told::More),
-        (Answer::Applied, Told::More),
-        (Answer::Applied, Told::Faulted),
+        (Answer::Applied, AnswerGiven::More),
+        (Answer::Applied, AnswerGiven::More),
+        (Answer::Fault, AnswerGiven::More),
+        (Answer::NoRow, AnswerGiven::More),
+        (Answer::Applied, AnswerGiven::More),
+        (Answer::Applied, AnswerGiven::More),
+        (Answer::Applied, AnswerGiven::Faulted),
     ]),
     // The deciding put faults, and its row is found.
     Steps::OfWrites(&[
-        (Answer::Applied, Told::More),
-        (Answer::Applied, Told::More),
-        (Answer::Fault, Told::More),
-        (COMMITTED, Told::More),
-        (Answer::Applied, Told::More),
-        (Answer::Applied, Told::Committed),
+        (Answer::Applied, AnswerGiven::More),
+        (Answer::Applied, AnswerGiven::More),
+        (Answer::Fault, AnswerGiven::More),
+        (COMMITTED, AnswerGiven::More),
+        (Answer::Applied, AnswerGiven::More),
+        (Answer::Applied, AnswerGiven::Committed),
     ]),
     // It faults, and so does the look.
     Steps::OfWrites(&[
-        (Answer::Applied, Told::More),
-        (Answer::Applied, Told::More),
-        (Answer::Fault, Told::More),
-        (Answer::Fault, Told::Unknown),
+        (Answer::Applied, AnswerGiven::More),
+        (Answer::Applied, AnswerGiven::More),
+        (Answer::Fault, AnswerGiven::More),
+        (Answer::Fault, AnswerGiven::Unknown),
     ]),
     // Another has put ABORTED.
     Steps::OfWrites(&[
-        (Answer::Applied, Told::More),
-        (Answer::Applied, Told::More),
-        (ABORTED, Told::More),
-        (Answer::Applied, Told::More),
-        (Answer::NotMet, Told::Expired),
+        (Answer::Applied, AnswerGiven::More),
+        (Answer::Applied, AnswerGiven::More),
+        (ABORTED, AnswerGiven::More),
+        (Answer::Applied, AnswerGiven::More),
+        (Answer::NotMet, AnswerGiven::Expired),
     ]),
     // The deciding put is out of memory, and the put of ABORTED faults: nothing is rolled back.
     Steps::OfWrites(&[
-        (Answer::Applied, Told::More),
-        (Answer::Applied, Told::More),
-        (Answer::Starved, Told::More),
-        (Answer::Fault, Told::NoMemory),
+        (Answer::Applied, AnswerGiven::More),
+        (Answer::Applied, AnswerGiven::More),
+        (Answer::Starved, AnswerGiven::More),
+        (Answer::Fault, AnswerGiven::NoMemory),
     ]),
     // The account is read again, and found to be there in one of the cases.
     Steps::OfARead(&[
-        (Answer::NoRow, Told::More),
-        (Answer::Applied, Told::Committed),
+        (Answer::NoRow, AnswerGiven::More),
+        (Answer::Applied, AnswerGiven::Committed),
     ]),
     Steps::OfARead(&[
-        (BAD_ROW, Told::More),
-        (Answer::Applied, Told::Conflict(1, None)),
+        (BAD_ROW, AnswerGiven::More),
+        (Answer::Applied, AnswerGiven::Conflict(1, None)),
     ]),
 ];
 

@@ -1,5 +1,5 @@
 //! The decision on a transaction.
-use crate::machine::{EXPIRED, Machine, Told, if_own, if_row_of, told_after};
+use crate::machine::{AnswerGiven, EXPIRED, Machine, answer_after, if_own, if_row_of};
 use crate::replies::{ABORTED, Answer, BAD_ROW, COMMITTED, reply_to};
 use sdb_decide::{Decide, DecideStep};
 use sdb_types::TxId;
@@ -11,23 +11,23 @@ const OWN: TxId = TxId(0x2_0000_0000_0000_0001);
 
 const OWN_TEXT: &str = "00000000-0000-0002-0000-000000000001";
 
-fn told_by(step: &DecideStep) -> Told {
+fn told_by(step: &DecideStep) -> AnswerGiven {
     match step {
-        DecideStep::More => Told::More,
-        DecideStep::Committed => Told::Committed,
-        DecideStep::Expired(id) => if_own(*id, OWN, Told::Expired),
-        DecideStep::Faulted => Told::Faulted,
-        DecideStep::Unknown(id) => if_own(*id, OWN, Told::Unknown),
-        DecideStep::BadRecord(key) => if_row_of(key, OWN_TEXT, Told::BadRecord),
-        DecideStep::NoMemory => Told::NoMemory,
+        DecideStep::More => AnswerGiven::More,
+        DecideStep::Committed => AnswerGiven::Committed,
+        DecideStep::Expired(id) => if_own(*id, OWN, AnswerGiven::Expired),
+        DecideStep::Faulted => AnswerGiven::Faulted,
+        DecideStep::Unknown(id) => if_own(*id, OWN, AnswerGiven::Unknown),
+        DecideStep::BadRecord(key) => if_row_of(key, OWN_TEXT, AnswerGiven::BadRecord),
+        DecideStep::NoMemory => AnswerGiven::NoMemory,
     }
 }
 
 impl Machine for Decide {
-    fn give(&mut self, alloc: Global, answer: Answer, _now: i64) -> Told {
+    fn give(&mut self, alloc: Global, answer: Answer, _now: i64) -> AnswerGiven {
         match reply_to(alloc, self.request(), answer) {
             Some(reply) => told_by(&self.take(reply)),
-            None => Told::Other,
+            None => AnswerGiven::Other,
         }
     }
 
@@ -37,9 +37,9 @@ impl Machine for Decide {
 }
 
 // Whether this answer after those says that.
-fn tells(alloc: Global, before: &[Answer], answer: Answer, told: Told) -> bool {
+fn tells(alloc: Global, before: &[Answer], answer: Answer, told: AnswerGiven) -> bool {
     match Decide::new(alloc, OWN, 7) {
-        Ok(decide) => told_after(alloc, decide, before, answer, EXPIRED) == told,
+        Ok(decide) => answer_after(alloc, decide, before, answer, EXPIRED) == told,
         Err(_) => false,
     }
 }
@@ -48,7 +48,7 @@ fn tells(alloc: Global, before: &[Answer], answer: Answer, told: Told) -> bool {
 #[derive(Clone, Copy)]
 struct Asked {
     before: &'static [Answer],
-    answers: &'static [(Answer, Told)],
+    answers: &'static [(Answer, AnswerGiven)],
 }
 
 impl Case for Asked {
@@ -67,48 +67,48 @@ static CASES: [Asked; 4] = [
     Asked {
         before: &[],
         answers: &[
-            (Answer::Applied, Told::Committed),
-            (ABORTED, Told::Expired),
-            (COMMITTED, Told::Committed),
-            (Answer::Starved, Told::NoMemory),
-            (Answer::Fault, Told::More),
-            (BAD_ROW, Told::BadRecord),
+            (Answer::Applied, AnswerGiven::Committed),
+            (ABORTED, AnswerGiven::Expired),
+            (COMMITTED, AnswerGiven::Committed),
+            (Answer::Starved, AnswerGiven::NoMemory),
+            (Answer::Fault, AnswerGiven::More),
+            (BAD_ROW, AnswerGiven::BadRecord),
         ],
     },
     // The row is looked for after a fault.
     Asked {
         before: &[Answer::Fault],
         answers: &[
-            (COMMITTED, Told::Committed),
-            (ABORTED, Told::Expired),
-            (Answer::NoRow, Told::More),
-            (Answer::Fault, Told::Unknown),
-            (Answer::Starved, Told::Unknown),
-            (BAD_ROW, Told::BadRecord),
+            (COMMITTED, AnswerGiven::Committed),
+            (ABORTED, AnswerGiven::Expired),
+            (Answer::NoRow, AnswerGiven::More),
+            (Answer::Fault, AnswerGiven::Unknown),
+            (Answer::Starved, AnswerGiven::Unknown),
+            (BAD_ROW, AnswerGiven::BadRecord),
         ],
     },
     // The put of ABORTED, where there is no row. COMMITTED is found only where the deciding put takes effect late.
     Asked {
         before: &[Answer::Fault, Answer::NoRow],
         answers: &[
-            (Answer::Applied, Told::Faulted),
-            (COMMITTED, Told::Committed),
-            (ABORTED, Told::Expired),
-            (Answer::Starved, Told::Unknown),
-            (Answer::Fault, Told::More),
-            (BAD_ROW, Told::BadRecord),
+            (Answer::Applied, AnswerGiven::Faulted),
+            (COMMITTED, AnswerGiven::Committed),
+            (ABORTED, AnswerGiven::Expired),
+            (Answer::Starved, AnswerGiven::Unknown),
+            (Answer::Fault, AnswerGiven::More),
+            (BAD_ROW, AnswerGiven::BadRecord),
         ],
     },
     // The row is looked for a second time. COMMITTED is found only where the deciding put takes effect late.
     Asked {
         before: &[Answer::Fault, Answer::NoRow, Answer::Fault],
         answers: &[
-            (COMMITTED, Told::Committed),
-            (ABORTED, Told::Faulted),
-            (Answer::NoRow, Told::Unknown),
-            (Answer::Fault, Told::Unknown),
-            (Answer::Starved, Told::Unknown),
-            (BAD_ROW, Told::BadRecord),
+            (COMMITTED, AnswerGiven::Committed),
+            (ABORTED, AnswerGiven::Faulted),
+            (Answer::NoRow, AnswerGiven::Unknown),
+            (Answer::Fault, AnswerGiven::Unknown),
+            (Answer::Starved, AnswerGiven::Unknown),
+            (BAD_ROW, AnswerGiven::BadRecord),
         ],
     },
 ];

@@ -6,7 +6,7 @@ use test_builders::number_of;
 
 /// What a step answers. Other is anything else, or a call that the answer isn't for.
 #[derive(Clone, Copy, PartialEq, Eq)]
-pub enum Told {
+pub enum AnswerGiven {
     More,
     Done,
     Committed,
@@ -33,7 +33,7 @@ pub enum Told {
 /// What takes replies, one after the other.
 pub trait Machine {
     /// What an answer to the pending call says, at a moment.
-    fn give(&mut self, alloc: Global, answer: Answer, now: i64) -> Told;
+    fn give(&mut self, alloc: Global, answer: Answer, now: i64) -> AnswerGiven;
 
     /// Whether no call is pending.
     fn is_over(&self) -> bool;
@@ -51,20 +51,24 @@ fn give_all<M: Machine>(alloc: Global, machine: &mut M, answers: &[Answer]) {
 }
 
 /// What one more answer says, at a moment. The others come when the record has expired.
-pub fn told_after<M: Machine + Drop>(
+pub fn answer_after<M: Machine + Drop>(
     alloc: Global,
     machine: M,
     before: &[Answer],
     answer: Answer,
     now: i64,
-) -> Told {
+) -> AnswerGiven {
     let mut machine = machine;
     give_all(alloc, &mut machine, before);
     machine.give(alloc, answer, now)
 }
 
 /// Whether each answer says what is beside it, and no call is pending in the end.
-pub fn plays<M: Machine>(alloc: Global, machine: &mut M, steps: &[(Answer, Told)]) -> bool {
+pub fn runs_as<M: Machine>(
+    alloc: Global,
+    machine: &mut M,
+    steps: &[(Answer, AnswerGiven)],
+) -> bool {
     for (answer, told) in steps {
         if machine.give(alloc, *answer, EXPIRED) != *told {
             return false;
@@ -74,29 +78,37 @@ pub fn plays<M: Machine>(alloc: Global, machine: &mut M, steps: &[(Answer, Told)
 }
 
 /// The same of a machine that is not needed afterwards.
-pub fn plays_out<M: Machine + Drop>(alloc: Global, machine: M, steps: &[(Answer, Told)]) -> bool {
+pub fn runs_to_end<M: Machine + Drop>(
+    alloc: Global,
+    machine: M,
+    steps: &[(Answer, AnswerGiven)],
+) -> bool {
     let mut machine = machine;
-    plays(alloc, &mut machine, steps)
+    runs_as(alloc, &mut machine, steps)
 }
 
 /// A conflict at an account.
-pub fn conflict_at(key: &Key, version: Option<TxId>) -> Told {
+pub fn conflict_at(key: &Key, version: Option<TxId>) -> AnswerGiven {
     match number_of(key) {
-        Some(number) => Told::Conflict(number, version),
-        None => Told::Other,
+        Some(number) => AnswerGiven::Conflict(number, version),
+        None => AnswerGiven::Other,
     }
 }
 
-/// What is told of a transaction, where it is this one.
-pub fn if_own(id: TxId, own: TxId, told: Told) -> Told {
-    if id.0 == own.0 { told } else { Told::Other }
+/// What a transaction is answered, where it is this one.
+pub fn if_own(id: TxId, own: TxId, told: AnswerGiven) -> AnswerGiven {
+    if id.0 == own.0 {
+        told
+    } else {
+        AnswerGiven::Other
+    }
 }
 
-/// What is told of the transaction whose id is the key of its row.
-pub fn if_row_of(key: &Key, id: &str, told: Told) -> Told {
+/// What the transaction is answered whose id is the key of its row.
+pub fn if_row_of(key: &Key, id: &str, told: AnswerGiven) -> AnswerGiven {
     match key.partition.at(0) {
         Some(Value::Text(text)) if text.as_str() == id => told,
-        _ => Told::Other,
+        _ => AnswerGiven::Other,
     }
 }
 

@@ -1,5 +1,5 @@
 //! The prepares of two deletes.
-use crate::machine::{Machine, Told, conflict_at, plays};
+use crate::machine::{AnswerGiven, Machine, conflict_at, runs_as};
 use crate::replies::{Answer, BAD_ROW, reply_to};
 use crate::writes::two_deletes;
 use sdb_prepare::{Prepare, PrepareStep};
@@ -11,22 +11,22 @@ use test_builders::{Case, all_cases};
 const OWN: TxId = TxId(0x1_0000_0000_0000_0001);
 
 // A conflict is with a record that is there.
-fn told_by(step: &PrepareStep) -> Told {
+fn told_by(step: &PrepareStep) -> AnswerGiven {
     match step {
-        PrepareStep::More => Told::More,
-        PrepareStep::Done => Told::Done,
+        PrepareStep::More => AnswerGiven::More,
+        PrepareStep::Done => AnswerGiven::Done,
         PrepareStep::Conflict(key, Some(_)) => conflict_at(key, None),
-        PrepareStep::Conflict(_, None) => Told::Other,
-        PrepareStep::Faulted => Told::Faulted,
-        PrepareStep::NoMemory => Told::NoMemory,
+        PrepareStep::Conflict(_, None) => AnswerGiven::Other,
+        PrepareStep::Faulted => AnswerGiven::Faulted,
+        PrepareStep::NoMemory => AnswerGiven::NoMemory,
     }
 }
 
 impl Machine for Prepare {
-    fn give(&mut self, alloc: Global, answer: Answer, _now: i64) -> Told {
+    fn give(&mut self, alloc: Global, answer: Answer, _now: i64) -> AnswerGiven {
         match reply_to(alloc, self.request(), answer) {
             Some(reply) => told_by(&self.take(reply)),
-            None => Told::Other,
+            None => AnswerGiven::Other,
         }
     }
 
@@ -38,47 +38,50 @@ impl Machine for Prepare {
 // Answers with what they tell, and how many writes may have taken effect in the end.
 #[derive(Clone, Copy)]
 struct Prepared {
-    steps: &'static [(Answer, Told)],
+    steps: &'static [(Answer, AnswerGiven)],
     touched: usize,
 }
 
 static CASES: [Prepared; 4] = [
     // Each write is prepared.
     Prepared {
-        steps: &[(Answer::Applied, Told::More), (Answer::Applied, Told::Done)],
+        steps: &[
+            (Answer::Applied, AnswerGiven::More),
+            (Answer::Applied, AnswerGiven::Done),
+        ],
         touched: 2,
     },
     // What is there is a conflict.
     Prepared {
         steps: &[
-            (Answer::Applied, Told::More),
-            (BAD_ROW, Told::Conflict(2, None)),
+            (Answer::Applied, AnswerGiven::More),
+            (BAD_ROW, AnswerGiven::Conflict(2, None)),
         ],
         touched: 1,
     },
     // A fault may have taken effect.
     Prepared {
-        steps: &[(Answer::Fault, Told::Faulted)],
+        steps: &[(Answer::Fault, AnswerGiven::Faulted)],
         touched: 1,
     },
     // Out of memory there is no effect.
     Prepared {
-        steps: &[(Answer::Starved, Told::NoMemory)],
+        steps: &[(Answer::Starved, AnswerGiven::NoMemory)],
         touched: 0,
     },
 ];
 
 impl Prepared {
-    fn plays(self, alloc: Global, prepare: Prepare) -> bool {
+    fn runs_as(self, alloc: Global, prepare: Prepare) -> bool {
         let mut prepare = prepare;
-        plays(alloc, &mut prepare, self.steps) && prepare.touched() == self.touched
+        runs_as(alloc, &mut prepare, self.steps) && prepare.touched() == self.touched
     }
 }
 
 impl Case for Prepared {
     fn holds(self, alloc: Global) -> Result<bool, Fail> {
         match Prepare::new(alloc, &two_deletes(alloc)?, OWN, 7) {
-            Ok(prepare) => Ok(self.plays(alloc, prepare)),
+            Ok(prepare) => Ok(self.runs_as(alloc, prepare)),
             Err(_) => Ok(false),
         }
     }

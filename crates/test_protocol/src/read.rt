@@ -1,5 +1,5 @@
 //! Reads of one key: committed records, and unresolved ones, which are settled.
-use crate::machine::{Machine, Told, plays_out};
+use crate::machine::{AnswerGiven, Machine, runs_to_end};
 use crate::replies::{ABORTED, Answer, BAD_ROW, COMMITTED, reply_to};
 use sdb_read::{ReadPhases, ReadStep};
 use sdb_record::Access;
@@ -38,32 +38,32 @@ struct Run {
     image: Record,
 }
 
-fn told_of(images: &Records, image: &Record) -> Told {
+fn told_of(images: &Records, image: &Record) -> AnswerGiven {
     match images.at(0) {
-        Some(rec) if *rec == *image => Told::Forward,
-        Some(_) => Told::Other,
-        None => Told::Back,
+        Some(rec) if *rec == *image => AnswerGiven::Forward,
+        Some(_) => AnswerGiven::Other,
+        None => AnswerGiven::Back,
     }
 }
 
-fn told_by(step: &ReadStep, image: &Record) -> Told {
+fn told_by(step: &ReadStep, image: &Record) -> AnswerGiven {
     match step {
-        ReadStep::More => Told::More,
+        ReadStep::More => AnswerGiven::More,
         ReadStep::Images(images) => told_of(images, image),
         ReadStep::Busy(key, id, 1_000) if number_of(key) == Some(1) && id.0 == OTHER.0 =>
-            Told::Busy,
-        ReadStep::Busy(_, _, _) => Told::Other,
-        ReadStep::Faulted => Told::Faulted,
-        ReadStep::BadRecord(_) => Told::BadRecord,
-        ReadStep::NoMemory => Told::NoMemory,
+            AnswerGiven::Busy,
+        ReadStep::Busy(_, _, _) => AnswerGiven::Other,
+        ReadStep::Faulted => AnswerGiven::Faulted,
+        ReadStep::BadRecord(_) => AnswerGiven::BadRecord,
+        ReadStep::NoMemory => AnswerGiven::NoMemory,
     }
 }
 
 impl Machine for Run {
-    fn give(&mut self, alloc: Global, answer: Answer, now: i64) -> Told {
+    fn give(&mut self, alloc: Global, answer: Answer, now: i64) -> AnswerGiven {
         match reply_to(alloc, self.read.request(), answer) {
             Some(reply) => told_by(&self.read.take(reply, now), &self.image),
-            None => Told::Other,
+            None => AnswerGiven::Other,
         }
     }
 
@@ -74,35 +74,38 @@ impl Machine for Run {
 
 // Answers to the calls of a read of an account, with what each comes to.
 #[derive(Clone, Copy)]
-struct Steps(&'static [(Answer, Told)]);
+struct Steps(&'static [(Answer, AnswerGiven)]);
 
 static CASES: [Steps; 9] = [
-    Steps(&[(Answer::NoRow, Told::Back)]),
-    Steps(&[(Answer::Row(IMAGE), Told::Forward)]),
-    Steps(&[(Answer::Fault, Told::Faulted)]),
-    Steps(&[(Answer::Starved, Told::NoMemory)]),
-    Steps(&[(BAD_ROW, Told::BadRecord)]),
+    Steps(&[(Answer::NoRow, AnswerGiven::Back)]),
+    Steps(&[(Answer::Row(IMAGE), AnswerGiven::Forward)]),
+    Steps(&[(Answer::Fault, AnswerGiven::Faulted)]),
+    Steps(&[(Answer::Starved, AnswerGiven::NoMemory)]),
+    Steps(&[(BAD_ROW, AnswerGiven::BadRecord)]),
     // The row says COMMITTED: the record is rolled forward.
     Steps(&[
-        (PREPARED, Told::More),
-        (COMMITTED, Told::More),
-        (Answer::Applied, Told::Forward),
+        (PREPARED, AnswerGiven::More),
+        (COMMITTED, AnswerGiven::More),
+        (Answer::Applied, AnswerGiven::Forward),
     ]),
     // The row says ABORTED: there was nothing before, and the record is removed.
     Steps(&[
-        (PREPARED, Told::More),
-        (ABORTED, Told::More),
-        (Answer::NotMet, Told::Back),
+        (PREPARED, AnswerGiven::More),
+        (ABORTED, AnswerGiven::More),
+        (Answer::NotMet, AnswerGiven::Back),
     ]),
     // No row is there, and the record has expired: ABORTED is put.
     Steps(&[
-        (PREPARED, Told::More),
-        (Answer::NoRow, Told::More),
-        (Answer::Applied, Told::More),
-        (Answer::Applied, Told::Back),
+        (PREPARED, AnswerGiven::More),
+        (Answer::NoRow, AnswerGiven::More),
+        (Answer::Applied, AnswerGiven::More),
+        (Answer::Applied, AnswerGiven::Back),
     ]),
     // The coordinator's row can't be read.
-    Steps(&[(PREPARED, Told::More), (Answer::Fault, Told::Faulted)]),
+    Steps(&[
+        (PREPARED, AnswerGiven::More),
+        (Answer::Fault, AnswerGiven::Faulted),
+    ]),
 ];
 
 fn begin(alloc: Global) -> Result<ReadPhases, Fail> {
@@ -113,7 +116,7 @@ impl Case for Steps {
     fn holds(self, alloc: Global) -> Result<bool, Fail> {
         let image = account_with(alloc, 1, IMAGE)?;
         let read = begin(alloc)?;
-        Ok(plays_out(alloc, Run { read, image }, self.0))
+        Ok(runs_to_end(alloc, Run { read, image }, self.0))
     }
 }
 

@@ -1,5 +1,5 @@
 //! The recovery of a record that was prepared at the moment 1,000.
-use crate::machine::{EARLIER, EXPIRED, Machine, Told, if_row_of, told_after};
+use crate::machine::{AnswerGiven, EARLIER, EXPIRED, Machine, answer_after, if_row_of};
 use crate::replies::{ABORTED, Answer, BAD_ROW, COMMITTED, reply_to};
 use sdb_record::meta_of;
 use sdb_recover::{Recover, RecoverStep};
@@ -38,39 +38,39 @@ struct Run {
     image: Record,
 }
 
-fn if_same(rec: &Record, image: &Record) -> Told {
+fn if_same(rec: &Record, image: &Record) -> AnswerGiven {
     if *rec == *image {
-        Told::Forward
+        AnswerGiven::Forward
     } else {
-        Told::Other
+        AnswerGiven::Other
     }
 }
 
-fn if_prepared_at(id: TxId, prepared_at: i64) -> Told {
+fn if_prepared_at(id: TxId, prepared_at: i64) -> AnswerGiven {
     if id.0 == OTHER.0 && prepared_at == 1_000 {
-        Told::Busy
+        AnswerGiven::Busy
     } else {
-        Told::Other
+        AnswerGiven::Other
     }
 }
 
-fn told_by(step: &RecoverStep, image: &Record) -> Told {
+fn told_by(step: &RecoverStep, image: &Record) -> AnswerGiven {
     match step {
-        RecoverStep::More => Told::More,
+        RecoverStep::More => AnswerGiven::More,
         RecoverStep::Image(Some(rec)) => if_same(rec, image),
-        RecoverStep::Image(None) => Told::Back,
+        RecoverStep::Image(None) => AnswerGiven::Back,
         RecoverStep::Busy(id, prepared_at) => if_prepared_at(*id, *prepared_at),
-        RecoverStep::Faulted => Told::Faulted,
-        RecoverStep::BadRecord(key) => if_row_of(key, OTHER_TEXT, Told::BadRecord),
-        RecoverStep::NoMemory => Told::NoMemory,
+        RecoverStep::Faulted => AnswerGiven::Faulted,
+        RecoverStep::BadRecord(key) => if_row_of(key, OTHER_TEXT, AnswerGiven::BadRecord),
+        RecoverStep::NoMemory => AnswerGiven::NoMemory,
     }
 }
 
 impl Machine for Run {
-    fn give(&mut self, alloc: Global, answer: Answer, now: i64) -> Told {
+    fn give(&mut self, alloc: Global, answer: Answer, now: i64) -> AnswerGiven {
         match reply_to(alloc, self.recover.request(), answer) {
             Some(reply) => told_by(&self.recover.take(reply, now), &self.image),
-            None => Told::Other,
+            None => AnswerGiven::Other,
         }
     }
 
@@ -107,9 +107,9 @@ fn begin(alloc: Global) -> Option<Run> {
 }
 
 // Whether this answer after those says that, at a moment. The others come when the record has expired.
-fn tells(alloc: Global, before: &[Answer], now: i64, answer: Answer, told: Told) -> bool {
+fn tells(alloc: Global, before: &[Answer], now: i64, answer: Answer, told: AnswerGiven) -> bool {
     match begin(alloc) {
-        Some(run) => told_after(alloc, run, before, answer, now) == told,
+        Some(run) => answer_after(alloc, run, before, answer, now) == told,
         None => false,
     }
 }
@@ -119,7 +119,7 @@ fn tells(alloc: Global, before: &[Answer], now: i64, answer: Answer, told: Told)
 struct Asked {
     before: &'static [Answer],
     now: i64,
-    answers: &'static [(Answer, Told)],
+    answers: &'static [(Answer, AnswerGiven)],
 }
 
 impl Case for Asked {
@@ -133,54 +133,54 @@ impl Case for Asked {
     }
 }
 
-const TO_EARLY_LOOK: &[(Answer, Told)] = &[
-    (Answer::NoRow, Told::Busy),
-    (COMMITTED, Told::More),
-    (ABORTED, Told::More),
-    (Answer::Fault, Told::Faulted),
-    (Answer::Starved, Told::NoMemory),
-    (BAD_ROW, Told::BadRecord),
+const TO_EARLY_LOOK: &[(Answer, AnswerGiven)] = &[
+    (Answer::NoRow, AnswerGiven::Busy),
+    (COMMITTED, AnswerGiven::More),
+    (ABORTED, AnswerGiven::More),
+    (Answer::Fault, AnswerGiven::Faulted),
+    (Answer::Starved, AnswerGiven::NoMemory),
+    (BAD_ROW, AnswerGiven::BadRecord),
 ];
 
-const TO_LATE_LOOK: &[(Answer, Told)] = &[
-    (Answer::NoRow, Told::More),
-    (COMMITTED, Told::More),
-    (ABORTED, Told::More),
-    (Answer::Fault, Told::Faulted),
-    (Answer::Starved, Told::NoMemory),
-    (BAD_ROW, Told::BadRecord),
+const TO_LATE_LOOK: &[(Answer, AnswerGiven)] = &[
+    (Answer::NoRow, AnswerGiven::More),
+    (COMMITTED, AnswerGiven::More),
+    (ABORTED, AnswerGiven::More),
+    (Answer::Fault, AnswerGiven::Faulted),
+    (Answer::Starved, AnswerGiven::NoMemory),
+    (BAD_ROW, AnswerGiven::BadRecord),
 ];
 
-const TO_ABORT: &[(Answer, Told)] = &[
-    (Answer::Applied, Told::More),
-    (COMMITTED, Told::More),
-    (ABORTED, Told::More),
-    (Answer::Fault, Told::More),
-    (Answer::Starved, Told::NoMemory),
-    (BAD_ROW, Told::BadRecord),
+const TO_ABORT: &[(Answer, AnswerGiven)] = &[
+    (Answer::Applied, AnswerGiven::More),
+    (COMMITTED, AnswerGiven::More),
+    (ABORTED, AnswerGiven::More),
+    (Answer::Fault, AnswerGiven::More),
+    (Answer::Starved, AnswerGiven::NoMemory),
+    (BAD_ROW, AnswerGiven::BadRecord),
 ];
 
-const TO_SECOND_LOOK: &[(Answer, Told)] = &[
-    (COMMITTED, Told::More),
-    (ABORTED, Told::More),
-    (Answer::NoRow, Told::Faulted),
-    (Answer::Fault, Told::Faulted),
-    (Answer::Starved, Told::NoMemory),
-    (BAD_ROW, Told::BadRecord),
+const TO_SECOND_LOOK: &[(Answer, AnswerGiven)] = &[
+    (COMMITTED, AnswerGiven::More),
+    (ABORTED, AnswerGiven::More),
+    (Answer::NoRow, AnswerGiven::Faulted),
+    (Answer::Fault, AnswerGiven::Faulted),
+    (Answer::Starved, AnswerGiven::NoMemory),
+    (BAD_ROW, AnswerGiven::BadRecord),
 ];
 
-const TO_FORWARD: &[(Answer, Told)] = &[
-    (Answer::Applied, Told::Forward),
-    (Answer::NotMet, Told::Forward),
-    (Answer::Fault, Told::Faulted),
-    (Answer::Starved, Told::NoMemory),
+const TO_FORWARD: &[(Answer, AnswerGiven)] = &[
+    (Answer::Applied, AnswerGiven::Forward),
+    (Answer::NotMet, AnswerGiven::Forward),
+    (Answer::Fault, AnswerGiven::Faulted),
+    (Answer::Starved, AnswerGiven::NoMemory),
 ];
 
-const TO_BACK: &[(Answer, Told)] = &[
-    (Answer::Applied, Told::Back),
-    (Answer::NotMet, Told::Back),
-    (Answer::Fault, Told::Faulted),
-    (Answer::Starved, Told::NoMemory),
+const TO_BACK: &[(Answer, AnswerGiven)] = &[
+    (Answer::Applied, AnswerGiven::Back),
+    (Answer::NotMet, AnswerGiven::Back),
+    (Answer::Fault, AnswerGiven::Faulted),
+    (Answer::Starved, AnswerGiven::NoMemory),
 ];
 
 // The row is looked for before 15 seconds have passed, and then; ABORTED is put, and the row is looked for a second time.

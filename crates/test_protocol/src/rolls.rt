@@ -2,7 +2,7 @@
 ghost use Rattle.std.specs.Prelude.{All};
 ghost use Rattle.sdb_record.specs.Rolls.{IsWrite};
 
-use crate::machine::{Machine, Told, plays_out, written_key};
+use crate::machine::{AnswerGiven, Machine, runs_to_end, written_key};
 use crate::replies::{Answer, reply_to};
 use crate::writes::two_deletes;
 use sdb_decide::{Abort, Commit};
@@ -37,20 +37,20 @@ fn pending_of(request: Option<&Request>) -> Pending {
     }
 }
 
-fn told_of(pending: Pending, left: bool) -> Told {
+fn told_of(pending: Pending, left: bool) -> AnswerGiven {
     match pending {
-        Pending::Roll(number) => Told::Rolled(number, left),
-        Pending::Row => Told::Put(left),
-        Pending::Other => Told::Other,
+        Pending::Roll(number) => AnswerGiven::Rolled(number, left),
+        Pending::Row => AnswerGiven::Put(left),
+        Pending::Other => AnswerGiven::Other,
     }
 }
 
 impl Machine for Commit {
-    fn give(&mut self, alloc: Global, answer: Answer, _now: i64) -> Told {
+    fn give(&mut self, alloc: Global, answer: Answer, _now: i64) -> AnswerGiven {
         let pending = pending_of(self.request());
         match reply_to(alloc, self.request(), answer) {
             Some(reply) => told_of(pending, self.take(reply)),
-            None => Told::Other,
+            None => AnswerGiven::Other,
         }
     }
 
@@ -60,11 +60,11 @@ impl Machine for Commit {
 }
 
 impl Machine for Abort {
-    fn give(&mut self, alloc: Global, answer: Answer, _now: i64) -> Told {
+    fn give(&mut self, alloc: Global, answer: Answer, _now: i64) -> AnswerGiven {
         let pending = pending_of(self.request());
         match reply_to(alloc, self.request(), answer) {
             Some(reply) => told_of(pending, self.take(reply)),
-            None => Told::Other,
+            None => AnswerGiven::Other,
         }
     }
 
@@ -73,17 +73,17 @@ impl Machine for Abort {
     }
 }
 
-const EACH: [(Answer, Told); 2] = [
-    (Answer::Fault, Told::Rolled(1, true)),
-    (Answer::Fault, Told::Rolled(2, false)),
+const EACH: [(Answer, AnswerGiven); 2] = [
+    (Answer::Fault, AnswerGiven::Rolled(1, true)),
+    (Answer::Fault, AnswerGiven::Rolled(2, false)),
 ];
 
 // Answers to rolls, with what they tell: forward, or back, where so many writes may have taken effect, after the row where
 // it is put.
 #[derive(Clone, Copy)]
 enum Rolls {
-    Forward(&'static [(Answer, Told)]),
-    Back(usize, bool, &'static [(Answer, Told)]),
+    Forward(&'static [(Answer, AnswerGiven)]),
+    Back(usize, bool, &'static [(Answer, AnswerGiven)]),
 }
 
 static ROLLS: [Rolls; 4] = [
@@ -95,12 +95,12 @@ static ROLLS: [Rolls; 4] = [
         1,
         true,
         &[
-            (Answer::Applied, Told::Put(true)),
-            (Answer::Fault, Told::Rolled(1, false)),
+            (Answer::Applied, AnswerGiven::Put(true)),
+            (Answer::Fault, AnswerGiven::Rolled(1, false)),
         ],
     ),
     // Nothing is rolled back after a fault of the row.
-    Rolls::Back(2, true, &[(Answer::Fault, Told::Put(false))]),
+    Rolls::Back(2, true, &[(Answer::Fault, AnswerGiven::Put(false))]),
 ];
 
 // The abort of these writes.
@@ -119,21 +119,21 @@ fn plays_back(
     writes: &Writes,
     touched: usize,
     with_row: bool,
-    steps: &[(Answer, Told)],
+    steps: &[(Answer, AnswerGiven)],
 ) -> bool
     requires { All IsWrite writes.now }
 {
     match begin(alloc, writes, touched, with_row) {
-        Ok(abort) => plays_out(alloc, abort, steps),
+        Ok(abort) => runs_to_end(alloc, abort, steps),
         Err(_) => false,
     }
 }
 
-fn plays_forward(alloc: Global, writes: &Writes, steps: &[(Answer, Told)]) -> bool
+fn plays_forward(alloc: Global, writes: &Writes, steps: &[(Answer, AnswerGiven)]) -> bool
     requires { All IsWrite writes.now }
 {
     match Commit::new(alloc, writes, OWN, 7) {
-        Ok(commit) => plays_out(alloc, commit, steps),
+        Ok(commit) => runs_to_end(alloc, commit, steps),
         Err(_) => false,
     }
 }

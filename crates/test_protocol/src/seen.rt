@@ -236,7 +236,7 @@ fn differs(alloc: Global, seen: &mut Snapshot) -> Result<bool, Fail> {
     Ok(differs && !seen.scanned(&accounts(alloc)?))
 }
 
-// A scan says where a record that a get found is absent, and notes nothing.
+// A scan says where a record that a get found is absent, and records no read.
 #[test]
 fn a_scan_that_differs_is_not_noted(rt: HostRuntime) -> Result<(), Fail> {
     let mut seen = Snapshot::new(rt.alloc());

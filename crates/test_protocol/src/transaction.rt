@@ -1,5 +1,5 @@
 //! Whole transactions: what they read and write, and their COMMITs.
-use crate::machine::{EXPIRED, Machine, Told, conflict_at, if_own};
+use crate::machine::{AnswerGiven, EXPIRED, Machine, conflict_at, if_own};
 use crate::replies::{Answer, reply_to};
 use crate::seen::{ROW, accounts, one_change};
 use sdb_record::{Change, version_of};
@@ -11,26 +11,26 @@ use test_builders::{Case, account, all_cases};
 
 const OWN: TxId = TxId(0x1_0000_0000_0000_0001);
 
-fn told_by(progress: &Progress) -> Told {
+fn told_by(progress: &Progress) -> AnswerGiven {
     match progress {
-        Progress::More => Told::More,
-        Progress::Rows(rows) => Told::Rows(rows.len()),
-        Progress::Busy(_, _, _) => Told::Busy,
-        Progress::Faulted => Told::Faulted,
-        Progress::BadRecord(_) => Told::BadRecord,
-        Progress::NoMemory => Told::NoMemory,
+        Progress::More => AnswerGiven::More,
+        Progress::Rows(rows) => AnswerGiven::Rows(rows.len()),
+        Progress::Busy(_, _, _) => AnswerGiven::Busy,
+        Progress::Faulted => AnswerGiven::Faulted,
+        Progress::BadRecord(_) => AnswerGiven::BadRecord,
+        Progress::NoMemory => AnswerGiven::NoMemory,
         Progress::Conflict(key, found) => conflict_at(key, version_of(found)),
-        Progress::Committed => Told::Committed,
-        Progress::Expired(id) => if_own(*id, OWN, Told::Expired),
-        Progress::Unknown(id) => if_own(*id, OWN, Told::Unknown),
+        Progress::Committed => AnswerGiven::Committed,
+        Progress::Expired(id) => if_own(*id, OWN, AnswerGiven::Expired),
+        Progress::Unknown(id) => if_own(*id, OWN, AnswerGiven::Unknown),
     }
 }
 
 impl Machine for Txn {
-    fn give(&mut self, alloc: Global, answer: Answer, now: i64) -> Told {
+    fn give(&mut self, alloc: Global, answer: Answer, now: i64) -> AnswerGiven {
         match reply_to(alloc, self.pending(), answer) {
             Some(reply) => told_by(&self.advance(reply, now)),
-            None => Told::Other,
+            None => AnswerGiven::Other,
         }
     }
 
@@ -50,47 +50,47 @@ enum Act {
     Reply(Answer),
 }
 
-fn get(alloc: Global, txn: &mut Txn, id: i32) -> Told {
+fn get(alloc: Global, txn: &mut Txn, id: i32) -> AnswerGiven {
     match account(alloc, id) {
         Ok(key) if txn.is_idle() => told_by(&txn.get(key)),
-        _ => Told::Other,
+        _ => AnswerGiven::Other,
     }
 }
 
-fn scan(alloc: Global, txn: &mut Txn) -> Told {
+fn scan(alloc: Global, txn: &mut Txn) -> AnswerGiven {
     match accounts(alloc) {
         Ok(span) if txn.is_idle() => told_by(&txn.scan(span)),
-        _ => Told::Other,
+        _ => AnswerGiven::Other,
     }
 }
 
-fn insert_at(alloc: Global, txn: &mut Txn, key: &Key) -> Told {
+fn insert_at(alloc: Global, txn: &mut Txn, key: &Key) -> AnswerGiven {
     if let Ok(changes) = one_change(alloc, key, Change::Row(Columns::new(alloc)))
         && txn.is_idle()
         && txn.has_read(key)
         && txn.write(changes).is_ok()
     {
-        return Told::Done;
+        return AnswerGiven::Done;
     }
-    Told::Other
+    AnswerGiven::Other
 }
 
-fn insert(alloc: Global, txn: &mut Txn, id: i32) -> Told {
+fn insert(alloc: Global, txn: &mut Txn, id: i32) -> AnswerGiven {
     match account(alloc, id) {
         Ok(key) => insert_at(alloc, txn, &key),
-        Err(_) => Told::Other,
+        Err(_) => AnswerGiven::Other,
     }
 }
 
-fn commit(txn: &mut Txn) -> Told {
+fn commit(txn: &mut Txn) -> AnswerGiven {
     if txn.is_idle() {
         told_by(&txn.commit(7))
     } else {
-        Told::Other
+        AnswerGiven::Other
     }
 }
 
-fn perform(alloc: Global, txn: &mut Txn, act: Act) -> Told {
+fn perform(alloc: Global, txn: &mut Txn, act: Act) -> AnswerGiven {
     match act {
         Act::Get(id) => get(alloc, txn, id),
         Act::Scan => scan(alloc, txn),
@@ -101,9 +101,9 @@ fn perform(alloc: Global, txn: &mut Txn, act: Act) -> Told {
 }
 
 #[derive(Clone, Copy)]
-struct Steps(&'static [(Act, Told)]);
+struct Steps(&'static [(Act, AnswerGiven)]);
 
-fn plays(alloc: Global, txn: &mut Txn, steps: &[(Act, Told)]) -> bool {
+fn runs_as(alloc: Global, txn: &mut Txn, steps: &[(Act, AnswerGiven)]) -> bool {
     for (act, told) in steps {
         if perform(alloc, txn, *act) != *told {
             return false;
@@ -116,61 +116,61 @@ fn plays(alloc: Global, txn: &mut Txn, steps: &[(Act, Told)]) -> bool {
 static CASES: [Steps; 7] = [
     // An absent account is read and inserted: one prepare, the deciding put, one roll forward.
     Steps(&[
-        (Act::Get(1), Told::More),
-        (Act::Reply(Answer::NoRow), Told::Rows(0)),
-        (Act::Insert(1), Told::Done),
-        (Act::Get(1), Told::Rows(1)),
-        (Act::Commit, Told::More),
-        (Act::Reply(Answer::Applied), Told::More),
-        (Act::Reply(Answer::Applied), Told::More),
-        (Act::Reply(Answer::Applied), Told::Committed),
-        (Act::Get(1), Told::Other),
+        (Act::Get(1), AnswerGiven::More),
+        (Act::Reply(Answer::NoRow), AnswerGiven::Rows(0)),
+        (Act::Insert(1), AnswerGiven::Done),
+        (Act::Get(1), AnswerGiven::Rows(1)),
+        (Act::Commit, AnswerGiven::More),
+        (Act::Reply(Answer::Applied), AnswerGiven::More),
+        (Act::Reply(Answer::Applied), AnswerGiven::More),
+        (Act::Reply(Answer::Applied), AnswerGiven::Committed),
+        (Act::Get(1), AnswerGiven::Other),
     ]),
     // An account that was read and isn't written is read again.
     Steps(&[
-        (Act::Get(1), Told::More),
-        (Act::Reply(Answer::Row(ROW)), Told::Rows(1)),
-        (Act::Commit, Told::More),
-        (Act::Reply(Answer::NoRow), Told::More),
-        (Act::Reply(Answer::Applied), Told::Conflict(1, None)),
+        (Act::Get(1), AnswerGiven::More),
+        (Act::Reply(Answer::Row(ROW)), AnswerGiven::Rows(1)),
+        (Act::Commit, AnswerGiven::More),
+        (Act::Reply(Answer::NoRow), AnswerGiven::More),
+        (Act::Reply(Answer::Applied), AnswerGiven::Conflict(1, None)),
     ]),
     // A call faults: nothing was read, and the same account may be asked for again.
     Steps(&[
-        (Act::Get(1), Told::More),
-        (Act::Reply(Answer::Fault), Told::Faulted),
-        (Act::Insert(1), Told::Other),
-        (Act::Get(1), Told::More),
-        (Act::Reply(Answer::Fault), Told::Faulted),
+        (Act::Get(1), AnswerGiven::More),
+        (Act::Reply(Answer::Fault), AnswerGiven::Faulted),
+        (Act::Insert(1), AnswerGiven::Other),
+        (Act::Get(1), AnswerGiven::More),
+        (Act::Reply(Answer::Fault), AnswerGiven::Faulted),
     ]),
-    // So it is where a call is out of memory.
+    // The same where a call is out of memory.
     Steps(&[
-        (Act::Get(1), Told::More),
-        (Act::Reply(Answer::Starved), Told::NoMemory),
-        (Act::Insert(1), Told::Other),
+        (Act::Get(1), AnswerGiven::More),
+        (Act::Reply(Answer::Starved), AnswerGiven::NoMemory),
+        (Act::Insert(1), AnswerGiven::Other),
     ]),
-    // A scan that was noted makes no call, and shows what was inserted after it.
+    // A scan that was recorded makes no call, and shows what was inserted after it.
     Steps(&[
-        (Act::Scan, Told::More),
-        (Act::Reply(Answer::NoRow), Told::Rows(0)),
-        (Act::Scan, Told::Rows(0)),
-        (Act::Get(1), Told::More),
-        (Act::Reply(Answer::NoRow), Told::Rows(0)),
-        (Act::Insert(1), Told::Done),
-        (Act::Scan, Told::Rows(1)),
+        (Act::Scan, AnswerGiven::More),
+        (Act::Reply(Answer::NoRow), AnswerGiven::Rows(0)),
+        (Act::Scan, AnswerGiven::Rows(0)),
+        (Act::Get(1), AnswerGiven::More),
+        (Act::Reply(Answer::NoRow), AnswerGiven::Rows(0)),
+        (Act::Insert(1), AnswerGiven::Done),
+        (Act::Scan, AnswerGiven::Rows(1)),
     ]),
     // A scan doesn't find a record that was read: the transaction has ended.
     Steps(&[
-        (Act::Get(1), Told::More),
-        (Act::Reply(Answer::Row(ROW)), Told::Rows(1)),
-        (Act::Scan, Told::More),
-        (Act::Reply(Answer::NoRow), Told::Conflict(1, None)),
-        (Act::Commit, Told::Other),
+        (Act::Get(1), AnswerGiven::More),
+        (Act::Reply(Answer::Row(ROW)), AnswerGiven::Rows(1)),
+        (Act::Scan, AnswerGiven::More),
+        (Act::Reply(Answer::NoRow), AnswerGiven::Conflict(1, None)),
+        (Act::Commit, AnswerGiven::Other),
     ]),
     // Nothing may be read while a call is pending.
     Steps(&[
-        (Act::Get(1), Told::More),
-        (Act::Get(2), Told::Other),
-        (Act::Reply(Answer::NoRow), Told::Rows(0)),
+        (Act::Get(1), AnswerGiven::More),
+        (Act::Get(2), AnswerGiven::Other),
+        (Act::Reply(Answer::NoRow), AnswerGiven::Rows(0)),
     ]),
 ];
 
@@ -178,7 +178,7 @@ static CASES: [Steps; 7] = [
 impl Case for Steps {
     fn holds(self, alloc: Global) -> Result<bool, Fail> {
         let mut txn = Txn::begin(alloc, OWN);
-        let played = plays(alloc, &mut txn, self.0);
+        let played = runs_as(alloc, &mut txn, self.0);
         txn.rollback();
         Ok(played)
     }

@@ -1,5 +1,5 @@
 //! What extra reads give.
-use crate::machine::{Machine, Told, conflict_at, plays_out};
+use crate::machine::{AnswerGiven, Machine, conflict_at, runs_to_end};
 use crate::replies::{Answer, reply_to};
 use sdb_record::{Change, Read, Reads, Scan, Scans, Write, Writes, version_of};
 use sdb_types::{NameRefused, Record, Reply, Request, Seq, TxId};
@@ -41,21 +41,21 @@ fn found_of(alloc: Global, n: i32, version: Version) -> Result<Option<Record>, N
 }
 
 // A conflict is with what is there.
-fn told_by(step: &ValidateStep) -> Told {
+fn told_by(step: &ValidateStep) -> AnswerGiven {
     match step {
-        ValidateStep::More => Told::More,
-        ValidateStep::Valid => Told::Done,
+        ValidateStep::More => AnswerGiven::More,
+        ValidateStep::Valid => AnswerGiven::Done,
         ValidateStep::Conflict(key, found) => conflict_at(key, version_of(found)),
-        ValidateStep::Faulted => Told::Faulted,
-        ValidateStep::NoMemory => Told::NoMemory,
+        ValidateStep::Faulted => AnswerGiven::Faulted,
+        ValidateStep::NoMemory => AnswerGiven::NoMemory,
     }
 }
 
 impl Machine for Validate {
-    fn give(&mut self, alloc: Global, answer: Answer, _now: i64) -> Told {
+    fn give(&mut self, alloc: Global, answer: Answer, _now: i64) -> AnswerGiven {
         match reply_to(alloc, self.request(), answer) {
             Some(reply) => told_by(&self.take(reply)),
-            None => Told::Other,
+            None => AnswerGiven::Other,
         }
     }
 
@@ -85,9 +85,9 @@ fn rereads(alloc: Global) -> Result<Validate, NameRefused> {
     Ok(Validate::new(alloc, &reads, &scans, &Writes::new(alloc))?)
 }
 
-fn is_reread(alloc: Global, steps: &[(Answer, Told)]) -> bool {
+fn is_reread(alloc: Global, steps: &[(Answer, AnswerGiven)]) -> bool {
     match rereads(alloc) {
-        Ok(validate) => plays_out(alloc, validate, steps),
+        Ok(validate) => runs_to_end(alloc, validate, steps),
         Err(_) => false,
     }
 }
@@ -134,10 +134,14 @@ fn writes_of(alloc: Global, base: Option<Version>) -> Result<Writes, NameRefused
 }
 
 // The pending rescan finds one row.
-fn find_one(alloc: Global, validate: &mut Validate, row: Record) -> Result<Told, NameRefused> {
+fn find_one(
+    alloc: Global,
+    validate: &mut Validate,
+    row: Record,
+) -> Result<AnswerGiven, NameRefused> {
     match validate.request() {
         Some(Request::Scan(span)) if span.contains(&row.key) => {}
-        _ => return Ok(Told::Other),
+        _ => return Ok(AnswerGiven::Other),
     }
     let mut rows = Seq::new(alloc);
     rows.push(row)?;
@@ -150,13 +154,13 @@ fn find_two(
     validate: &mut Validate,
     first: Record,
     second: Record,
-) -> Result<Told, NameRefused> {
+) -> Result<AnswerGiven, NameRefused> {
     if !first.key.compare(&second.key).is_lt() {
-        return Ok(Told::Other);
+        return Ok(AnswerGiven::Other);
     }
     match validate.request() {
         Some(Request::Scan(span)) if span.contains(&first.key) && span.contains(&second.key) => {}
-        _ => return Ok(Told::Other),
+        _ => return Ok(AnswerGiven::Other),
     }
     let mut rows = Seq::new(alloc);
     rows.push(first)?;
@@ -176,7 +180,7 @@ fn rescan_of(
 }
 
 // The rescan finds the key 1 in the first transaction's version.
-fn finds_one(alloc: Global, validate: &mut Validate) -> Result<Told, NameRefused> {
+fn finds_one(alloc: Global, validate: &mut Validate) -> Result<AnswerGiven, NameRefused> {
     match record_of(alloc, 1, FIRST) {
         Ok(row) => find_one(alloc, validate, row),
         Err(refused) => Err(refused),
@@ -184,7 +188,7 @@ fn finds_one(alloc: Global, validate: &mut Validate) -> Result<Told, NameRefused
 }
 
 // The rescan finds the keys 2 and 3 in the second transaction's versions.
-fn finds_two(alloc: Global, validate: &mut Validate) -> Result<Told, NameRefused> {
+fn finds_two(alloc: Global, validate: &mut Validate) -> Result<AnswerGiven, NameRefused> {
     let second = record_of(alloc, 2, SECOND)?;
     let third = record_of(alloc, 3, SECOND)?;
     find_two(alloc, validate, second, third)
@@ -195,7 +199,7 @@ fn rescan_finds(
     found: &[Version],
     base: Option<Version>,
     is_one: bool,
-) -> Result<Told, NameRefused> {
+) -> Result<AnswerGiven, NameRefused> {
     let mut validate = rescan_of(alloc, found, base)?;
     if is_one {
         finds_one(alloc, &mut validate)
@@ -208,9 +212,9 @@ fn rescan_finds(
 // 1, and what a rescan comes to that finds one row, or two.
 #[derive(Clone, Copy)]
 enum Check {
-    Rereads(&'static [(Answer, Told)]),
-    FindsOne(&'static [Version], Option<Version>, Told),
-    FindsTwo(&'static [Version], Option<Version>, Told),
+    Rereads(&'static [(Answer, AnswerGiven)]),
+    FindsOne(&'static [Version], Option<Version>, AnswerGiven),
+    FindsTwo(&'static [Version], Option<Version>, AnswerGiven),
 }
 
 impl Case for Check {
@@ -227,26 +231,33 @@ impl Case for Check {
     }
 }
 
-const FOUND_FIRST: Told = Told::Conflict(1, Some(FIRST));
+const FOUND_FIRST: AnswerGiven = AnswerGiven::Conflict(1, Some(FIRST));
 
 static CHECKS: [Check; 14] = [
     // Each key is read again.
     Check::Rereads(&[
-        (Answer::Row(OF_FIRST), Told::More),
-        (Answer::NoRow, Told::Done),
+        (Answer::Row(OF_FIRST), AnswerGiven::More),
+        (Answer::NoRow, AnswerGiven::Done),
     ]),
     // A key that moved is a conflict.
-    Check::Rereads(&[(Answer::Row(OF_SECOND), Told::Conflict(1, Some(SECOND)))]),
-    Check::Rereads(&[(Answer::NoRow, Told::Conflict(1, None))]),
+    Check::Rereads(&[(
+        Answer::Row(OF_SECOND),
+        AnswerGiven::Conflict(1, Some(SECOND)),
+    )]),
+    Check::Rereads(&[(Answer::NoRow, AnswerGiven::Conflict(1, None))]),
     // Failures end it.
-    Check::Rereads(&[(Answer::Fault, Told::Faulted)]),
-    Check::Rereads(&[(Answer::Starved, Told::NoMemory)]),
+    Check::Rereads(&[(Answer::Fault, AnswerGiven::Faulted)]),
+    Check::Rereads(&[(Answer::Starved, AnswerGiven::NoMemory)]),
     // A phantom is a conflict.
-    Check::FindsOne(&[Some(FIRST), None, None], None, Told::Done),
+    Check::FindsOne(&[Some(FIRST), None, None], None, AnswerGiven::Done),
     Check::FindsOne(&[None, None, None], None, FOUND_FIRST),
     // A written key is left out if its base was found.
-    Check::FindsOne(&[Some(SECOND), None, None], Some(Some(SECOND)), Told::Done),
-    Check::FindsOne(&[None, None, None], Some(None), Told::Done),
+    Check::FindsOne(
+        &[Some(SECOND), None, None],
+        Some(Some(SECOND)),
+        AnswerGiven::Done,
+    ),
+    Check::FindsOne(&[None, None, None], Some(None), AnswerGiven::Done),
     // A written key is a conflict if its base was not found. In the second case the row came between the scan and the write.
     Check::FindsOne(&[Some(FIRST), None, None], Some(Some(SECOND)), FOUND_FIRST),
     Check::FindsOne(&[None, None, None], Some(Some(FIRST)), FOUND_FIRST),
@@ -254,17 +265,17 @@ static CHECKS: [Check; 14] = [
     Check::FindsTwo(
         &[Some(FIRST), None, Some(FIRST)],
         None,
-        Told::Conflict(1, None),
+        AnswerGiven::Conflict(1, None),
     ),
     Check::FindsTwo(
         &[None, None, Some(FIRST)],
         None,
-        Told::Conflict(2, Some(SECOND)),
+        AnswerGiven::Conflict(2, Some(SECOND)),
     ),
     Check::FindsTwo(
         &[None, Some(SECOND), Some(FIRST)],
         None,
-        Told::Conflict(3, Some(SECOND)),
+        AnswerGiven::Conflict(3, Some(SECOND)),
     ),
 ];
 

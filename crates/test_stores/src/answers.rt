@@ -1,8 +1,8 @@
-//! The same calls on each store, and calls that are told to fail.
+//! The same calls on each store, and calls that are set to fail.
 ghost use Rattle.std.specs.Prelude.{IfOk, IsTrue};
 ghost use Rattle.sqlite_disk.specs.Memory.{memory_is_usable};
 
-use crate::attached::{attach_both, plays};
+use crate::attached::{attach_both, runs};
 use crate::calls::{replies, replies_of};
 use sdb_hashed::Hashed;
 use sdb_ordered::Ordered;
@@ -53,7 +53,7 @@ fn kept(alloc: Global) -> Result<(), Fail> {
 // Through a box.
 fn boxed(alloc: Global) -> bool {
     let mut stores = Stores::new(alloc);
-    attach_both(alloc, &mut stores, &[]) && plays(alloc, &mut stores, STEPS)
+    attach_both(alloc, &mut stores, &[]) && runs(alloc, &mut stores, STEPS)
 }
 
 // The third call fails before its effect, though it is listed as failing after it too, and the first after it.

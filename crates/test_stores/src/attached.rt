@@ -40,7 +40,7 @@ pub fn attach_both(alloc: Global, stores: &mut Stores, failing: &[Failing]) -> b
 }
 
 /// Attaches `ordered`, which is a database, and `other`.
-pub fn attach_kept(alloc: Global, stores: &mut Stores) -> bool {
+pub fn attach_sqlite(alloc: Global, stores: &mut Stores) -> bool {
     attach_database(alloc, stores, "ordered") && attach_failing(alloc, stores, "other", &[])
 }
 
@@ -63,7 +63,7 @@ fn perform_all(stores: &mut Stores, events: &[Event]) -> bool {
 }
 
 /// Whether the calls of a report have its replies: rows that somebody else puts, and what is there.
-pub fn plays(alloc: Global, stores: &mut Stores, report: &str) -> bool {
+pub fn runs(alloc: Global, stores: &mut Stores, report: &str) -> bool {
     match read_report(alloc, report.as_bytes()) {
         Ok(report) => perform_all(stores, report.events.as_slice()),
         Err(_) => false,

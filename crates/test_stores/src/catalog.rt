@@ -1,5 +1,5 @@
 //! Catalogs in stores: what is written of one, what its rows open as, and which rows are refused.
-use crate::attached::{attach_both, attach_kept, plays};
+use crate::attached::{attach_both, attach_sqlite, runs};
 use sdb_catalog::{CatalogRefused, open_catalog, store_catalog};
 use sdb_loader::catalog_of;
 use sdb_schema::Catalog;
@@ -97,9 +97,9 @@ struct Stored {
 
 impl Stored {
     fn is_stored(self, alloc: Global, stores: &mut Stores) -> bool {
-        plays(alloc, stores, self.before)
+        runs(alloc, stores, self.before)
             && answers(alloc, stores, self.json, self.places, self.answer)
-            && plays(alloc, stores, self.after)
+            && runs(alloc, stores, self.after)
     }
 
     fn is_stored_in_memory(self, alloc: Global) -> bool {
@@ -109,7 +109,7 @@ impl Stored {
 
     fn is_stored_in_a_database(self, alloc: Global) -> bool {
         let mut stores = Stores::new(alloc);
-        attach_kept(alloc, &mut stores) && self.is_stored(alloc, &mut stores)
+        attach_sqlite(alloc, &mut stores) && self.is_stored(alloc, &mut stores)
     }
 }
 
@@ -255,7 +255,7 @@ fn names_bad(alloc: Global, stores: &mut Stores, key: &str) -> bool {
 }
 
 fn is_bad(alloc: Global, stores: &mut Stores, rows: &str, key: &str) -> bool {
-    plays(alloc, stores, rows) && names_bad(alloc, stores, key)
+    runs(alloc, stores, rows) && names_bad(alloc, stores, key)
 }
 
 fn put_table(alloc: Global, json: &mut String, i: u32) -> Result<(), AllocError> {
@@ -319,16 +319,16 @@ fn refuses_bad(alloc: Global, stores: &mut Stores, key: &str) -> bool {
 
 fn answered(alloc: Global, stores: &mut Stores, asked: Ask) -> bool {
     match asked {
-        Ask::Opened(rows, tables) => { plays(alloc, stores, rows) && opens(alloc, stores, tables) }
+        Ask::Opened(rows, tables) => { runs(alloc, stores, rows) && opens(alloc, stores, tables) }
         Ask::ReadBack => {
             is_written(alloc, stores, BOTH, &[("shop", "other")]) && opens_both(alloc, stores)
         }
         Ask::Full(rows, key) => is_full(alloc, stores, rows, key),
-        Ask::Failed(rows) => is_store_fault(alloc, stores) && plays(alloc, stores, rows),
+        Ask::Failed(rows) => is_store_fault(alloc, stores) && runs(alloc, stores, rows),
         Ask::Unwritten(rows, key, after) => {
-            plays(alloc, stores, rows)
+            runs(alloc, stores, rows)
                 && refuses_bad(alloc, stores, key)
-                && plays(alloc, stores, after)
+                && runs(alloc, stores, after)
         }
     }
 }

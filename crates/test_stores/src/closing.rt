@@ -1,5 +1,5 @@
 //! The closing dump of stores: it names the first record that isn't well formed, and gives rows where each is.
-use crate::attached::{attach_both, plays};
+use crate::attached::{attach_both, runs};
 use sdb_dump::{ClosingRefused, closing_dump};
 use sdb_loader::catalog_of;
 use sdb_schema::Catalog;
@@ -73,7 +73,7 @@ struct Held(&'static str, Wanted);
 impl Held {
     fn ends(self, alloc: Global) -> bool {
         let mut stores = Stores::new(alloc);
-        if !attach_both(alloc, &mut stores, &[]) || !plays(alloc, &mut stores, self.0) {
+        if !attach_both(alloc, &mut stores, &[]) || !runs(alloc, &mut stores, self.0) {
             return false;
         }
         let ended = dump_bank(alloc, &mut stores);

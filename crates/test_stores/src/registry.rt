@@ -28,7 +28,7 @@ impl Broken {
 }
 
 impl Store for Broken {
-    ghost state = { λ b. record { tells = ⊥; contents = map.empty; faults = b.failed; calls = b.failed } };
+    ghost state = { λ b. record { known = ⊥; contents = map.empty; faults = b.failed; calls = b.failed } };
 
     fn get(&mut self, _: &Key) -> Reply {
         self.fail()
@@ -64,7 +64,7 @@ impl Full {
 }
 
 impl Store for Full {
-    ghost state = { λ f. record { tells = ⊥; contents = map.empty; faults = 0; calls = f.made } };
+    ghost state = { λ f. record { known = ⊥; contents = map.empty; faults = 0; calls = f.made } };
 
     fn get(&mut self, _: &Key) -> Reply {
         self.refuse()
@@ -104,7 +104,7 @@ impl Turns {
 }
 
 impl Store for Turns {
-    ghost state = { λ t. record { tells = ⊥; contents = map.empty; faults = t.broken.failed; calls = t.made } };
+    ghost state = { λ t. record { known = ⊥; contents = map.empty; faults = t.broken.failed; calls = t.made } };
 
     fn get(&mut self, _: &Key) -> Reply {
         if self.is_odd() {

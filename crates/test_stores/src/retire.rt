@@ -1,5 +1,5 @@
 //! A store retired: each of its calls fails once, before its effect and after it, and the second run finishes; and what bars it.
-use crate::attached::{attach_failing, plays};
+use crate::attached::{attach_failing, runs};
 use sdb_retire::{RetireRefused, can_retire, retire};
 use sdb_store::Fail as Failing;
 use sdb_stores::{Registry, Stores};
@@ -81,7 +81,7 @@ fn place_shop(alloc: Global, stores: &mut Stores, store: &str) -> bool {
 fn plays_at(alloc: Global, stores: &mut Stores, store: &str, report: &str) -> bool {
     stores.clear_places();
     let placed = place_shop(alloc, stores, store);
-    let played = plays(alloc, stores, report);
+    let played = runs(alloc, stores, report);
     stores.clear_places();
     placed && played
 }
@@ -137,16 +137,14 @@ impl To {
 
 // What is written before, and where.
 fn is_set_up(alloc: Global, stores: &mut Stores, to: &str, rows: &str) -> bool {
-    plays(alloc, stores, rows)
+    runs(alloc, stores, rows)
         && plays_at(alloc, stores, "other", MOVING)
         && plays_at(alloc, stores, to, STALE)
 }
 
 // What is there once it moved, with a store less.
 fn is_moved(alloc: Global, stores: &mut Stores, to: To) -> bool {
-    stores.len() == 2
-        && plays_at(alloc, stores, to.name(), MOVED)
-        && plays(alloc, stores, to.rows())
+    stores.len() == 2 && plays_at(alloc, stores, to.name(), MOVED) && runs(alloc, stores, to.rows())
 }
 
 // A store that fails once, at the call of this number, after its effect or before it, and what the second run then copies.
@@ -197,7 +195,7 @@ impl Barred {
 
     fn is_as_before(self, alloc: Global, stores: &mut Stores) -> bool {
         stores.len() == 3
-            && plays(alloc, stores, self.rows)
+            && runs(alloc, stores, self.rows)
             && plays_at(alloc, stores, "other", STILL)
             && plays_at(alloc, stores, self.to, self.left)
     }

@@ -69,7 +69,7 @@ fn long_text(alloc: Global, first: &[u8], length: usize) -> Result<Vec<u8>, Fail
     Ok(text)
 }
 
-// Whether it is so that such a text is read.
+// Whether such a text is read.
 fn reads_long(
     alloc: Global,
     table: &Table,

@@ -1,4 +1,4 @@
-//! Sources, sinks, clocks and ids that are told what to answer.
+//! Sources, sinks, clocks and ids that are set to an answer.
 use sdb_types::{
     Calls, Clock, Failed, Feed, Ids, Moments, Numbers, Octets, Sink, SinkRefused, Source, Ticks,
     Tray,

@@ -5,7 +5,7 @@ use sdb_types::{
 use std::alloc::Global;
 use std::test::Fail;
 use test_builders::{
-    Ask, Case, Cell, Place, Row, Told, account, account_with, all_cases, columns_of, reply_of,
+    Ask, Case, Cell, Place, ReplyCase, Row, account, account_with, all_cases, columns_of, reply_of,
     request_of, set_column,
 };
 
@@ -23,7 +23,7 @@ enum Check {
     Left(&'static [(&'static str, Cell)], i32),
     // A copy is equal.
     Call(Ask),
-    Reply(Told),
+    Reply(ReplyCase),
     // A column that is set on columns that a copy shares, and what they are then.
     Change(&'static str, Cell, &'static [(&'static str, Cell)]),
     // The accounts of these numbers are in this order.
@@ -70,7 +70,7 @@ fn call_is_copied(alloc: Global, ask: Ask) -> Result<bool, Fail> {
     is_copied(&request_of(alloc, ask)?)
 }
 
-fn reply_is_copied(alloc: Global, told: Told) -> Result<bool, Fail> {
+fn reply_is_copied(alloc: Global, told: ReplyCase) -> Result<bool, Fail> {
     is_copied(&reply_of(alloc, told)?)
 }
 
@@ -179,11 +179,11 @@ static CHECKS: [Check; 31] = [
     Check::Call(Ask::Scan("bank", "account", Some(&[Cell::Int(2)]))),
     Check::Call(Ask::Put(RECORD, Condition::Absent)),
     Check::Call(Ask::Delete(KEY, Condition::Version(TxId(1), State::Committed))),
-    Check::Reply(Told::Found(Some(RECORD))),
-    Check::Reply(Told::Rows(&[RECORD])),
-    Check::Reply(Told::Applied),
-    Check::Reply(Told::NotMet(None)),
-    Check::Reply(Told::Fault),
+    Check::Reply(ReplyCase::Found(Some(RECORD))),
+    Check::Reply(ReplyCase::Rows(&[RECORD])),
+    Check::Reply(ReplyCase::Applied),
+    Check::Reply(ReplyCase::NotMet(None)),
+    Check::Reply(ReplyCase::Fault),
     Check::Change(
         "b",
         Cell::Int(2),

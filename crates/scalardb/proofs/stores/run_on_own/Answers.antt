@@ -3,10 +3,10 @@ use Rattle.std.specs.Prelude.{map}
 use Rattle.std.specs.String.{string_bytes}
 use denote.Param.Object.{read_made}
 use Rattle.sdb_store.specs.Store.{StoreState, IsNewStore}
-use Rattle.sdb_store.specs.Fate.{memory_state}
+use Rattle.sdb_store.specs.FaultPlans.{memory_state}
 use Rattle.scalardb.specs.Stores.{own_attached}
 use Rattle.scalardb.proofs.stores.run_on_own.OwnLists as lists
-use Rattle.scalardb.proofs.Own.{all_own, ended_on_own, starved}
+use Rattle.scalardb.proofs.Own.{all_own, ended_on_own, out_of_memory}
 use Rattle.scalardb.proofs.stores.run_on_own.Goals as goal
 
 -- What each box shows is what the store in it does.
@@ -23,12 +23,12 @@ returns g c =
           ended_on_own _ _ _
           (all_own [] c.attach.result c.attach-2.result c.attach-3.result _ _ _ _ _ _ _ _ _ _ c.attach.ensures.ok c.attach-2.ensures.ok c.attach-3.ensures.ok c.new-stores.ensures.stores (search rules) (search rules) (search rules)
           c.in-Ok-Ok-Ok-Ok.ensures.0 c.in-Ok-Ok-Ok-Ok.ensures.1 c.in-Ok-Ok-Ok-Ok.ensures.2
-          (subst IsNewStore (sym ordered) (record { telling = tt; empty = refl; sound = refl; unused = refl })) (subst IsNewStore (sym hashed) (record { telling = tt; empty = refl; sound = refl; unused = refl })) (subst IsNewStore (sym database) c.requires.new))
+          (subst IsNewStore (sym ordered) (record { where_known = tt; empty = refl; sound = refl; unused = refl })) (subst IsNewStore (sym hashed) (record { where_known = tt; empty = refl; sound = refl; unused = refl })) (subst IsNewStore (sym database) c.requires.new))
           c.run.ensures.ended;
     }
 
 pub returns-in_default : goal.returns-in_default
-returns-in_default g c = record { ended = starved own_attached (map string_bytes c.args.words.now) _ _ _ _ }
+returns-in_default g c = record { ended = out_of_memory own_attached (map string_bytes c.args.words.now) _ _ _ _ }
 
 pub returns-then-not-first : goal.returns-then-not-first
-returns-then-not-first g c = record { ended = starved own_attached (map string_bytes c.args.words.now) _ _ _ _ }
+returns-then-not-first g c = record { ended = out_of_memory own_attached (map string_bytes c.args.words.now) _ _ _ _ }

@@ -3,7 +3,7 @@ use Rattle.std.specs.Prelude.{map}
 use Rattle.std.specs.String.{string_bytes}
 use denote.Param.Object.{read_made}
 use Rattle.sdb_store.specs.Store.{StoreState, IsNewStore}
-use Rattle.sdb_store.specs.Fate.{memory_state}
+use Rattle.sdb_store.specs.FaultPlans.{memory_state}
 use Rattle.scalardb.proofs.stores.run_over_files.OwnLists as lists
 use Rattle.scalardb.proofs.Own.{all_own, ended_over, one_more, some_added, starved_over}
 use Rattle.scalardb.proofs.stores.run_over_files.Goals as goal
@@ -24,7 +24,7 @@ returns g c =
           (all_own _ c.attach-3.result c.attach-4.result c.attach-5.result _ _ _ _ _ _ _ _ _ _ c.attach-3.ensures.ok c.attach-4.ensures.ok c.attach-5.ensures.ok
           (one_more c.attach-2.result _ _ _ _ _ c.attach-2.ensures.ok (search rules) one) (search rules) (search rules) (search rules)
           c.in-Ok-Ok.ensures'.0 c.in-Ok-Ok.ensures'.1 c.in-Ok-Ok.ensures'.2
-          (subst IsNewStore (sym ordered) (record { telling = tt; empty = refl; sound = refl; unused = refl })) (subst IsNewStore (sym hashed) (record { telling = tt; empty = refl; sound = refl; unused = refl })) (subst IsNewStore (sym database) c.requires.new))
+          (subst IsNewStore (sym ordered) (record { where_known = tt; empty = refl; sound = refl; unused = refl })) (subst IsNewStore (sym hashed) (record { where_known = tt; empty = refl; sound = refl; unused = refl })) (subst IsNewStore (sym database) c.requires.new))
           c.run.ensures.ended;
     }
 

@@ -1,10 +1,10 @@
 use Rattle.std.proofs.Common.{◌≡◌, ◌∙◌, ap, subst, sym}
-use Rattle.sdb_stores.specs.Shelf.{names_of}
+use Rattle.sdb_stores.specs.Views.{names_of}
 use Rattle.sdb_model.specs.declared.script.Script.{Script}
 use Rattle.sdb_execution.specs.Execution.{IsPlayable}
 use Rattle.sdb_world.specs.Step.{CanFollow}
 use Rattle.sdb_app.specs.Bench.{bench_over}
-use Rattle.sdb_app.specs.Run.{CanBePlaced, IsOutcome, StopsPlay}
+use Rattle.sdb_app.specs.Run.{CanBePlaced, IsReportable, StopsRun}
 use Rattle.sdb_app.proofs.BenchPlayable.{benched_on, followable, placed_over, playable}
 use Rattle.sdb_app.proofs.Playing.{ok_then}
 use Rattle.sdb_app.proofs.bench.bench.Goals as goal
@@ -17,21 +17,21 @@ play-requires-clause-can g c = subst (λ (s : Script). CanFollow s) (sym c.in-Ok
 
 pub play-requires-clause-places : goal.play-requires-clause-places
 play-requires-clause-places g c =
-    let names = names_of (g.S.Registry.state c.args.stores.now).shelves in
+    let names = names_of (g.S.Registry.state c.args.stores.now).views in
     let same : c.in-Ok.script ≡ bench_over c.args.n names = c.in-Ok.ensures ∙ ap (bench_over c.args.n) c.requires.names in
-    subst (λ (s : Script). CanBePlaced names s.places) (sym same) (placed_over c.args.n (g.S.Registry.state c.args.stores.now).shelves c.requires.some)
+    subst (λ (s : Script). CanBePlaced names s.places) (sym same) (placed_over c.args.n (g.S.Registry.state c.args.stores.now).views c.requires.some)
 
 pub returns-in-Ok-play-clause-answered : goal.returns-in-Ok-play-clause-answered
 returns-in-Ok-play-clause-answered g c =
     let old = g.S.Registry.state c.args.stores.now in
     let new = g.S.Registry.state c.play.new.stores in
-    let names = names_of old.shelves in
+    let names = names_of old.views in
     let same : c.in-Ok.script ≡ bench_over c.args.n names = c.in-Ok.ensures ∙ ap (bench_over c.args.n) c.requires.names in
-    let made = subst (λ (s : Script). IsOutcome s old new.shelves c.in-Ok-play.outcome) same c.in-Ok-play.ensures.made in
-    ok_then _ _ c.text_of.result (λ text is. benched_on c.args.n old new.shelves c.in-Ok-play.outcome text made is (λ first last opening closing run. c.runs_are_even.ensures c.args.n first last opening closing c.in-Ok-play.outcome run)) c.text_of.ensures.ok
+    let made = subst (λ (s : Script). IsReportable s old new.views c.in-Ok-play.outcome) same c.in-Ok-play.ensures.made in
+    ok_then _ _ c.text_of.result (λ text is. benched_on c.args.n old new.views c.in-Ok-play.outcome text made is (λ first last opening closing run. c.runs_are_even.ensures c.args.n first last opening closing c.in-Ok-play.outcome run)) c.text_of.ensures.ok
 
 pub returns-in-Err-clause-err : goal.returns-in-Err-clause-err
 returns-in-Err-clause-err g c =
     let old = g.S.Registry.state c.args.stores.now in
-    let same : c.in-Ok.script ≡ bench_over c.args.n (names_of old.shelves) = c.in-Ok.ensures ∙ ap (bench_over c.args.n) c.requires.names in
-    subst (λ (s : Script). StopsPlay s old (g.S.Registry.state c.play.new.stores).shelves c.in-Err.status) same c.in-Err.ensures.err
+    let same : c.in-Ok.script ≡ bench_over c.args.n (names_of old.views) = c.in-Ok.ensures ∙ ap (bench_over c.args.n) c.requires.names in
+    subst (λ (s : Script). StopsRun s old (g.S.Registry.state c.play.new.stores).views c.in-Err.status) same c.in-Err.ensures.err

@@ -22,10 +22,10 @@ returns-in-Ok-export_table-clause-answered g c =
     λ input. record {
       catalog = c.in-Ok.catalog;
       places = mid.places;
-      mid = mid.shelves;
+      mid = mid.views;
       table = c.in-Some.table.now;
       opened = record { opened = record { opened = record { entries = c.in-Ok.ensures.opened.entries; read = c.in-Ok.ensures.opened.read; tables = c.in-Ok.ensures.opened.tables; placed = c.in-Ok.ensures.opened.placed }; known = c.in-Ok.ensures.known; unchanged = c.open_catalog.ensures.unchanged; others = c.open_catalog.ensures.goes.others }; found = sym c.in-Some.ensures };
-      exported = exported_on _ _ mid last _ _ _ _ _ _ _ (record { places = refl; shelves = refl; telling = opens.telling }) (record { places = sat.places; shelves = refl; telling = λ at told. sat.telling at (opens.telling at told) }) c.in-Ok-export_table.ensures.exported;
+      exported = exported_on _ _ mid last _ _ _ _ _ _ _ (record { places = refl; views = refl; where_known = opens.where_known }) (record { places = sat.places; views = refl; where_known = λ at told. sat.where_known at (opens.where_known at told) }) c.in-Ok-export_table.ensures.exported;
       unread = refl;
     }
 
@@ -35,5 +35,5 @@ returns-clause-err g c =
     let opens = c.open_catalog.ensures.goes in
     let last = g.S.Registry.state c.export_table.new.stores in
     let sat = c.export_table.ensures.goes in
-    λ input. Unexported c.in-Ok.catalog mid.places mid.shelves c.in-Some.table.now c.in-Err-export_table.refused (record { opened = record { opened = record { entries = c.in-Ok.ensures.opened.entries; read = c.in-Ok.ensures.opened.read; tables = c.in-Ok.ensures.opened.tables; placed = c.in-Ok.ensures.opened.placed }; known = c.in-Ok.ensures.known; unchanged = c.open_catalog.ensures.unchanged; others = c.open_catalog.ensures.goes.others }; found = sym c.in-Some.ensures })
-    (not_on _ _ mid last _ _ _ _ _ _ c.in-Err-export_table.refused (record { places = refl; shelves = refl; telling = opens.telling }) (record { places = sat.places; shelves = refl; telling = λ at told. sat.telling at (opens.telling at told) }) c.in-Err-export_table.ensures.refused) c.export_status.ensures refl
+    λ input. Unexported c.in-Ok.catalog mid.places mid.views c.in-Some.table.now c.in-Err-export_table.refused (record { opened = record { opened = record { entries = c.in-Ok.ensures.opened.entries; read = c.in-Ok.ensures.opened.read; tables = c.in-Ok.ensures.opened.tables; placed = c.in-Ok.ensures.opened.placed }; known = c.in-Ok.ensures.known; unchanged = c.open_catalog.ensures.unchanged; others = c.open_catalog.ensures.goes.others }; found = sym c.in-Some.ensures })
+    (not_on _ _ mid last _ _ _ _ _ _ c.in-Err-export_table.refused (record { places = refl; views = refl; where_known = opens.where_known }) (record { places = sat.places; views = refl; where_known = λ at told. sat.where_known at (opens.where_known at told) }) c.in-Err-export_table.ensures.refused) c.export_status.ensures refl

@@ -34,12 +34,12 @@ returns-in-Ok-load_rows-clause-answered g c =
     let loaded : IsLoaded c.args.name.now c.args.mode c.args.size work d c.in-Ok-load_rows.text = record {
       catalog = c.in-Ok.catalog;
       places = mid.places;
-      mid = mid.shelves;
+      mid = mid.views;
       table = c.in-Some.table.now;
       rows = c.in-Ok-read_rows.rows;
       opened = record { opened = record { opened = record { entries = c.in-Ok.ensures.opened.entries; read = c.in-Ok.ensures.opened.read; tables = c.in-Ok.ensures.opened.tables; placed = c.in-Ok.ensures.opened.placed }; known = c.in-Ok.ensures.known; unchanged = c.open_catalog.ensures.unchanged; others = c.open_catalog.ensures.goes.others }; found = sym c.in-Some.ensures };
       read = c.in-Ok-read_rows.ensures.read;
-      loaded = loaded_on _ _ _ _ mid last _ _ _ _ _ _ _ (record { places = refl; shelves = refl; telling = opens.telling }) (record { places = sat.places; shelves = refl; telling = λ at told. sat.telling at (opens.telling at told) }) c.in-Ok-load_rows.ensures.loaded;
+      loaded = loaded_on _ _ _ _ mid last _ _ _ _ _ _ _ (record { places = refl; views = refl; where_known = opens.where_known }) (record { places = sat.places; views = refl; where_known = λ at told. sat.where_known at (opens.where_known at told) }) c.in-Ok-load_rows.ensures.loaded;
     } in
     ok_then _ _ c.text_of.result (λ text is. subst (λ (xs : List ℕ). IsLoaded c.args.name.now c.args.mode c.args.size work d xs) (sym is) loaded) c.text_of.ensures.ok
 
@@ -49,8 +49,8 @@ returns-in-Ok-load_rows-clause-err g c =
     let last = g.S.Registry.state c.load_rows.new.stores in
     let opens = c.open_catalog.ensures.goes in
     let sat = c.load_rows.ensures.goes in
-    err_then _ _ c.text_of.result (λ s is. Starved c.in-Ok.catalog mid.places mid.shelves c.in-Some.table.now c.in-Ok-read_rows.rows (record { opened = record { opened = record { entries = c.in-Ok.ensures.opened.entries; read = c.in-Ok.ensures.opened.read; tables = c.in-Ok.ensures.opened.tables; placed = c.in-Ok.ensures.opened.placed }; known = c.in-Ok.ensures.known; unchanged = c.open_catalog.ensures.unchanged; others = c.open_catalog.ensures.goes.others }; found = sym c.in-Some.ensures }) c.in-Ok-read_rows.ensures.read
-    (starved_on c.in-Ok.catalog c.in-Some.table.now c.args.mode c.in-Ok-read_rows.rows c.args.size mid last _ _ (g.C.Clock.told c.args.clock.now) (g.C.Clock.told c.load_rows.new.clock) (g.I.Ids.told c.args.ids.now) (g.I.Ids.told c.load_rows.new.ids) (record { places = refl; shelves = refl; telling = opens.telling }) (record { places = sat.places; shelves = refl; telling = λ at told. sat.telling at (opens.telling at told) }) (inr (starved_after c.in-Ok.catalog (load_of c.in-Some.table.now c.args.mode c.in-Ok-read_rows.rows) (rows_after c.in-Ok-read_rows.rows) c.args.size _ _ c.in-Ok-load_rows.ensures.loaded sat))) is) c.text_of.ensures.err
+    err_then _ _ c.text_of.result (λ s is. Starved c.in-Ok.catalog mid.places mid.views c.in-Some.table.now c.in-Ok-read_rows.rows (record { opened = record { opened = record { entries = c.in-Ok.ensures.opened.entries; read = c.in-Ok.ensures.opened.read; tables = c.in-Ok.ensures.opened.tables; placed = c.in-Ok.ensures.opened.placed }; known = c.in-Ok.ensures.known; unchanged = c.open_catalog.ensures.unchanged; others = c.open_catalog.ensures.goes.others }; found = sym c.in-Some.ensures }) c.in-Ok-read_rows.ensures.read
+    (starved_on c.in-Ok.catalog c.in-Some.table.now c.args.mode c.in-Ok-read_rows.rows c.args.size mid last _ _ (g.C.Clock.told c.args.clock.now) (g.C.Clock.told c.load_rows.new.clock) (g.I.Ids.told c.args.ids.now) (g.I.Ids.told c.load_rows.new.ids) (record { places = refl; views = refl; where_known = opens.where_known }) (record { places = sat.places; views = refl; where_known = λ at told. sat.where_known at (opens.where_known at told) }) (inr (starved_after c.in-Ok.catalog (load_of c.in-Some.table.now c.args.mode c.in-Ok-read_rows.rows) (rows_after c.in-Ok-read_rows.rows) c.args.size _ _ c.in-Ok-load_rows.ensures.loaded sat))) is) c.text_of.ensures.err
 
 pub returns-clause-err : goal.returns-clause-err
 returns-clause-err g c =
@@ -58,5 +58,5 @@ returns-clause-err g c =
     let last = g.S.Registry.state c.load_rows.new.stores in
     let opens = c.open_catalog.ensures.goes in
     let sat = c.load_rows.ensures.goes in
-    Starved c.in-Ok.catalog mid.places mid.shelves c.in-Some.table.now c.in-Ok-read_rows.rows (record { opened = record { opened = record { entries = c.in-Ok.ensures.opened.entries; read = c.in-Ok.ensures.opened.read; tables = c.in-Ok.ensures.opened.tables; placed = c.in-Ok.ensures.opened.placed }; known = c.in-Ok.ensures.known; unchanged = c.open_catalog.ensures.unchanged; others = c.open_catalog.ensures.goes.others }; found = sym c.in-Some.ensures }) c.in-Ok-read_rows.ensures.read
-    (starved_on c.in-Ok.catalog c.in-Some.table.now c.args.mode c.in-Ok-read_rows.rows c.args.size mid last _ _ (g.C.Clock.told c.args.clock.now) (g.C.Clock.told c.load_rows.new.clock) (g.I.Ids.told c.args.ids.now) (g.I.Ids.told c.load_rows.new.ids) (record { places = refl; shelves = refl; telling = opens.telling }) (record { places = sat.places; shelves = refl; telling = λ at told. sat.telling at (opens.telling at told) }) c.in-Err-load_rows.ensures.starved) refl
+    Starved c.in-Ok.catalog mid.places mid.views c.in-Some.table.now c.in-Ok-read_rows.rows (record { opened = record { opened = record { entries = c.in-Ok.ensures.opened.entries; read = c.in-Ok.ensures.opened.read; tables = c.in-Ok.ensures.opened.tables; placed = c.in-Ok.ensures.opened.placed }; known = c.in-Ok.ensures.known; unchanged = c.open_catalog.ensures.unchanged; others = c.open_catalog.ensures.goes.others }; found = sym c.in-Some.ensures }) c.in-Ok-read_rows.ensures.read
+    (starved_on c.in-Ok.catalog c.in-Some.table.now c.args.mode c.in-Ok-read_rows.rows c.args.size mid last _ _ (g.C.Clock.told c.args.clock.now) (g.C.Clock.told c.load_rows.new.clock) (g.I.Ids.told c.args.ids.now) (g.I.Ids.told c.load_rows.new.ids) (record { places = refl; views = refl; where_known = opens.where_known }) (record { places = sat.places; views = refl; where_known = λ at told. sat.where_known at (opens.where_known at told) }) c.in-Err-load_rows.ensures.out_of_memory) refl

@@ -4,7 +4,7 @@ use Rattle.sdb_model.specs.declared.script.Script.{Script}
 use Rattle.sdb_board.proofs.GoesOn.{goes_more, goes_none, some_more}
 use Rattle.sdb_board.specs.Board.{known_before}
 use Rattle.sdb_dump.specs.Held.{IsOddIn}
-use Rattle.sdb_world.specs.Played.{HasNotPlayed}
+use Rattle.sdb_world.specs.Ran.{HasNotRun}
 use Rattle.sdb_world.specs.Step.{CanFollow}
 use Rattle.sdb_app.specs.declared.status.Status.TheVariants as status
 use Rattle.sdb_app.proofs.Headline.{passed_on, stops_after, stops_both}
@@ -124,12 +124,12 @@ returns-clause-err g c =
     let new = g.R.Registry.state c.ended.new.stores in
     let script = c.args.script in
     err_both _ _ _ c.ended.result c.ended.ensures.bad c.ended.ensures.err
-    (λ s odd unplayed. stops_after old mid new.shelves _ _ _ _ s made.goes
+    (λ s odd unplayed. stops_after old mid new.views _ _ _ _ s made.goes
     (λ key both. record {
       odd = odd_played script c.in_ok-world.world c.follow.new.self old mid before.script made.come made.goes new key both.0;
       foreign = none_played script c.in_ok-world.world c.follow.new.self old mid before.script before.events before.initial made.come made.goes both.1;
     }) (λ key never. never)
-    (stops_both mid.shelves new.shelves _ _ (λ key. IsOddIn c.follow.new.self.script.catalog (known_before mid new) key × HasNotPlayed c.follow.new.self mid) (λ key. ⊥) s (λ key o n. (o, n)) odd unplayed))
+    (stops_both mid.views new.views _ _ (λ key. IsOddIn c.follow.new.self.script.catalog (known_before mid new) key × HasNotRun c.follow.new.self mid) (λ key. ⊥) s (λ key o n. (o, n)) odd unplayed))
 
 ---- what the calls require
 
@@ -146,7 +146,7 @@ pub follow-requires-clause-can : goal.follow-requires-clause-can
 follow-requires-clause-can g c = subst (λ (s : Script). CanFollow s) (sym c.in_ok-world.ensures.script) c.requires.can
 
 pub ended-requires-clause-some : goal.ended-requires-clause-some
-ended-requires-clause-some g c = some_more (g.R.Registry.state c.args.stores.now).shelves (g.R.Registry.state c.follow.new.stores).shelves c.in_ok-follow.ensures.goes.names c.requires.some
+ended-requires-clause-some g c = some_more (g.R.Registry.state c.args.stores.now).views (g.R.Registry.state c.follow.new.stores).views c.in_ok-follow.ensures.goes.names c.requires.some
 
 pub ended-requires-clause-world : goal.ended-requires-clause-world
 ended-requires-clause-world g c = c.in_ok-follow.ensures.world

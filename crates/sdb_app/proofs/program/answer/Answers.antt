@@ -5,7 +5,7 @@ use Rattle.sdb_words.specs.declared.command.Command.{Command}
 use Rattle.sdb_app.specs.Ends.{draws, stream, work_of, work_on}
 use Rattle.sdb_app.specs.Ends.AreKeptOr.{Kept}
 use Rattle.sdb_app.specs.Promise.{AnswersOnce, promise_of}
-use Rattle.sdb_stores.specs.Shelf.{names_of}
+use Rattle.sdb_stores.specs.Views.{names_of}
 use Rattle.sdb_app.proofs.Keeping.{kept_by}
 use Rattle.sdb_app.proofs.Playing.{err_then, ok_then}
 use Rattle.sdb_app.proofs.program.answer.Goals as goal
@@ -119,4 +119,4 @@ returns-in-Retire-clause-kept g c = kept_by c.args.command.now _ _ _ _ c.in-Reti
 ---- what the calls require
 
 pub retire-requires : goal.retire-requires
-retire-requires g c = record { may = subst (λ (x : Command). AnswersOnce (names_of (g.S.Registry.state c.args.stores.now).shelves) x) c.in-Retire.is c.requires.once }
+retire-requires g c = record { may = subst (λ (x : Command). AnswersOnce (names_of (g.S.Registry.state c.args.stores.now).views) x) c.in-Retire.is c.requires.once }

@@ -32,7 +32,7 @@ returns-in_err-rows-clause-goes g c = goes_more _ _ _ c.loop-table.invariant.goe
 pub returns-in_err-rows-clause-err : goal.returns-in_err-rows-clause-err
 returns-in_err-rows-clause-err g c =
     passed _ c.from_residual-in_err-rows.result c.in_err-rows.field-0.0 c.from_residual-in_err-rows.ensures.1
-    (refused_after (g.R.Registry.state c.args.stores.now) (g.R.Registry.state c.loop-table.stores) (g.R.Registry.state c.scan.new.stores).shelves c.in_err-rows.field-0.0 c.loop-table.invariant.goes c.in_err-rows.ensures.err)
+    (refused_after (g.R.Registry.state c.args.stores.now) (g.R.Registry.state c.loop-table.stores) (g.R.Registry.state c.scan.new.stores).views c.in_err-rows.field-0.0 c.loop-table.invariant.goes c.in_err-rows.ensures.err)
 
 pub returns-in_err-key-clause-goes : goal.returns-in_err-key-clause-goes
 returns-in_err-key-clause-goes g c = goes_more _ _ _ c.loop-table.invariant.goes c.in_ok-rows.ensures.goes

@@ -3,7 +3,7 @@ use Rattle.sdb_types.specs.declared.key.TableName.{TableName}
 use Rattle.sdb_types.specs.declared.record.Reply.{Reply}
 use Rattle.sdb_types.specs.declared.record.Request.TheVariants as ask
 use Rattle.sdb_types.specs.Contents.{CanAnswer, are_rows_of}
-use Rattle.sdb_board.specs.Board.{AreFitFor}
+use Rattle.sdb_board.specs.Board.{AreUsableFor}
 use Rattle.sdb_board.specs.Opening.{whole}
 use Rattle.sdb_board.proofs.Empty.{scanned}
 use Rattle.sdb_board.proofs.opening.scan.Goals as goal
@@ -13,7 +13,7 @@ returns-in-Rows-clause-rows g c = λ f.
     let named = c.in_ok-name.ensures in
     let old = g.R.Registry.state c.args.stores.now in
     scanned old (g.R.Registry.state c.call.new.stores) c.in_ok-name.name c.args.table.now c.in-Rows.rows c.call.result named c.in-Rows.is
-    (c.call.ensures.called (subst (λ (t : TableName). AreFitFor t old) (sym named) f))
+    (c.call.ensures.called (subst (λ (t : TableName). AreUsableFor t old) (sym named) f))
 
 pub returns-in-Rows-clause-of : goal.returns-in-Rows-clause-of
 returns-in-Rows-clause-of g c =

@@ -1,4 +1,4 @@
-use Rattle.sdb_stores.specs.Shelf.{table_of}
+use Rattle.sdb_stores.specs.Views.{table_of}
 use Rattle.sdb_catalog.proofs.Calling.{called, goes_call, left_call}
 use Rattle.sdb_catalog.proofs.call.call.Goals as goal
 

@@ -11,6 +11,6 @@ loop-entry-preserved g c =
     let grown = ap (λ n. take n es) (add-one i) ∙ take-suc es i c.entry-item.result c.loop-entry-test.true ∙ ap (λ (e : Entry). take i es ++ e ∷ []) (sym c.entry-item.is) in
     record {
       stores = c.in_ok-place_one.ensures.stores ∙ c.loop-entry.invariant.stores;
-      telling = λ at h. c.in_ok-place_one.ensures.telling at (c.loop-entry.invariant.telling at h);
+      where_known = λ at h. c.in_ok-place_one.ensures.where_known at (c.loop-entry.invariant.where_known at h);
       placed = placed_more (g.R.Registry.state c.loop-entry.stores).places (g.R.Registry.state c.place_one.new.stores).places (take i es) (take (i + 1) es) c.entry-item.result grown c.loop-entry.invariant.placed c.in_ok-place_one.ensures.ok;
     }

@@ -22,8 +22,8 @@ loop-table-preserved g c =
       bare = step.places ∙ before.bare;
       goes = goes_more old mid new before.goes step.goes;
       so =
-          written_one c.args.places.now c.args.first.now c.args.known.now c.loop-table.known c.write_table.new.known (take i ts) (take (i + 1) ts) t c.in_ok-outcome.outcome c.in_ok-entry.entry (string_bytes c.loop-table.text) (string_bytes c.put_line.new.text) old mid new.shelves
-          before.so before.goes.telling (c.in_ok-entry.ensures ∙ ap (λ (es : List Entry). entry_for es c.args.places.now c.args.first.now t) c.as_slice.ensures) step.written step.known c.in_ok-put_line.ensures (item_more ts i t c.loop-table-test.true c.table-item.is);
+          written_one c.args.places.now c.args.first.now c.args.known.now c.loop-table.known c.write_table.new.known (take i ts) (take (i + 1) ts) t c.in_ok-outcome.outcome c.in_ok-entry.entry (string_bytes c.loop-table.text) (string_bytes c.put_line.new.text) old mid new.views
+          before.so before.goes.where_known (c.in_ok-entry.ensures ∙ ap (λ (es : List Entry). entry_for es c.args.places.now c.args.first.now t) c.as_slice.ensures) step.written step.known c.in_ok-put_line.ensures (item_more ts i t c.loop-table-test.true c.table-item.is);
     }
 
 pub returns-in_err-entry-clause-left : goal.returns-in_err-entry-clause-left
@@ -34,7 +34,7 @@ pub returns-in_err-outcome-clause-left : goal.returns-in_err-outcome-clause-left
 returns-in_err-outcome-clause-left g c =
     let t = c.table-item.result in
     may_write_more c.args.places.now c.args.first.now c.args.known.now c.loop-table.known c.args.tables.now c.loop-table.table-index t c.in_ok-entry.entry (string_bytes c.loop-table.text)
-    (g.R.Registry.state c.args.stores.now) (g.R.Registry.state c.loop-table.stores) (g.R.Registry.state c.write_table.new.stores) c.loop-table.invariant.so c.loop-table.invariant.goes.telling
+    (g.R.Registry.state c.args.stores.now) (g.R.Registry.state c.loop-table.stores) (g.R.Registry.state c.write_table.new.stores) c.loop-table.invariant.so c.loop-table.invariant.goes.where_known
     (c.in_ok-entry.ensures ∙ ap (λ (es : List Entry). entry_for es c.args.places.now c.args.first.now t) c.as_slice.ensures) (item_more c.args.tables.now c.loop-table.table-index t c.loop-table-test.true c.table-item.is) c.in_err-outcome.ensures.left
 
 pub returns-in_err-put_line-clause-left : goal.returns-in_err-put_line-clause-left
@@ -43,7 +43,7 @@ returns-in_err-put_line-clause-left g c =
     let old = g.R.Registry.state c.loop-table.stores in
     let new = g.R.Registry.state c.write_table.new.stores in
     may_write_more c.args.places.now c.args.first.now c.args.known.now c.loop-table.known c.args.tables.now c.loop-table.table-index t c.in_ok-entry.entry (string_bytes c.loop-table.text)
-    (g.R.Registry.state c.args.stores.now) old new c.loop-table.invariant.so c.loop-table.invariant.goes.telling
+    (g.R.Registry.state c.args.stores.now) old new c.loop-table.invariant.so c.loop-table.invariant.goes.where_known
     (c.in_ok-entry.ensures ∙ ap (λ (es : List Entry). entry_for es c.args.places.now c.args.first.now t) c.as_slice.ensures) (item_more c.args.tables.now c.loop-table.table-index t c.loop-table-test.true c.table-item.is)
     (has_put c.loop-table.known c.in_ok-entry.entry c.in_ok-outcome.outcome old new c.in_ok-outcome.ensures.written)
 

@@ -1,7 +1,7 @@
 use Rattle.std.proofs.Common.{◌≡◌, drop}
 use Rattle.std.specs.List.{list_any}
-use Rattle.sdb_caused.specs.Tests.{shows_bad}
+use Rattle.sdb_caused.specs.Tests.{observes_bad}
 use Rattle.sdb_caused.proofs.bad.any_bad.Given as goal
 
 abbrev pub invariant-loop-made : goal.invariant-loop-made
-invariant-loop-made l = list_any (shows_bad l.catalog l.calls l.reads l.key) (drop l.made-index l.calls) ≡ list_any (shows_bad l.catalog l.calls l.reads l.key) l.calls
+invariant-loop-made l = list_any (observes_bad l.catalog l.calls l.reads l.key) (drop l.made-index l.calls) ≡ list_any (observes_bad l.catalog l.calls l.reads l.key) l.calls

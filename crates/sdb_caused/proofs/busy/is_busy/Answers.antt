@@ -1,5 +1,5 @@
 use Rattle.std.proofs.Common.{◌≡◌, ap, ◌∙◌, rules}
-use Rattle.sdb_order.specs.Commits.{said_of}
+use Rattle.sdb_order.specs.Commits.{executed_of}
 use Rattle.sdb_plain.specs.Values.{all_made}
 use Rattle.sdb_caused.specs.Tests.{busy_among}
 use Rattle.sdb_caused.proofs.Decided.{busy}
@@ -8,4 +8,4 @@ use Rattle.sdb_caused.proofs.busy.is_busy.Goals as goal
 pub returns : goal.returns
 returns c =
     let f : c.busy_among.result ≡ busy_among c.args.events.now c.as_slice.result.now c.args.key.now c.args.id c.in_ok-row.row c.args.at = search rules in
-    busy c.args.events.now c.args.client (said_of c.args.said.now) c.busy_among.result c.as_slice.result.now c.args.key.now c.in_ok-row.row c.args.id c.args.at (ap all_made c.as_slice.ensures ∙ c.in_ok-calls.ensures) c.in_ok-row.ensures f
+    busy c.args.events.now c.args.client (executed_of c.args.executed.now) c.busy_among.result c.as_slice.result.now c.args.key.now c.in_ok-row.row c.args.id c.args.at (ap all_made c.as_slice.ensures ∙ c.in_ok-calls.ensures) c.in_ok-row.ensures f

@@ -1,8 +1,8 @@
 use Rattle.std.proofs.Common.{◌≡◌, drop}
 use Rattle.std.specs.List.{list_any}
-use Rattle.sdb_said.specs.Values.{note_of}
-use Rattle.sdb_caused.specs.Tests.{is_moved}
+use Rattle.sdb_said.specs.Values.{item_of}
+use Rattle.sdb_caused.specs.Tests.{is_changed}
 use Rattle.sdb_caused.proofs.conflict.any_moved.Given as goal
 
-abbrev pub invariant-loop-note : goal.invariant-loop-note
-invariant-loop-note l = list_any (λ n. is_moved l.key l.found (note_of n)) (drop l.note-index l.notes) ≡ list_any (λ n. is_moved l.key l.found (note_of n)) l.notes
+abbrev pub invariant-loop-add_prepare : goal.invariant-loop-add_prepare
+invariant-loop-add_prepare l = list_any (λ n. is_changed l.key l.found (item_of n)) (drop l.add_prepare-index l.read_set) ≡ list_any (λ n. is_changed l.key l.found (item_of n)) l.read_set

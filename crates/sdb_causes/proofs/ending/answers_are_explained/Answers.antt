@@ -2,4 +2,4 @@ use Rattle.sdb_causes.proofs.Whole.{explained}
 use Rattle.sdb_causes.proofs.ending.answers_are_explained.Goals as goal
 
 pub returns : goal.returns
-returns x = λ catalog events now hands ex. explained catalog events now hands ex
+returns x = λ catalog events now states ex. explained catalog events now states ex

@@ -2,4 +2,4 @@ use Rattle.sdb_causes.proofs.Whole.{starts_all}
 use Rattle.sdb_causes.proofs.ending.starts.Goals as goal
 
 pub returns : goal.returns
-returns x = λ catalog hands fresh. starts_all catalog hands fresh
+returns x = λ catalog states fresh. starts_all catalog states fresh

@@ -2,7 +2,7 @@ use Rattle.std.proofs.Common.{rules, ◌≡◌, ℤ, subst, to_z, of_z, w64}
 use Rattle.sdb_txn.specs.Txn.{IfReading}
 use Rattle.sdb_model.specs.declared.answer.Answer.TheVariants as answer
 use Rattle.sdb_client.specs.declared.next.Next.TheVariants as next
-use Rattle.sdb_client.specs.Client.{CallTold}
+use Rattle.sdb_client.specs.Client.{CallPost}
 use Rattle.sdb_client.proofs.Calls.{other_told, rows_read, rows_told}
 use Rattle.sdb_client.proofs.call.read_took.Goals as goal
 
@@ -29,12 +29,12 @@ finish_read-requires-clause-kept c =
 pub returns-in-Rows-clause-told : goal.returns-in-Rows-clause-told
 returns-in-Rows-clause-told c =
     let now : to_z w64 (of_z w64 c.args.now) ≡ c.args.now = search rules in
-    subst (λ (m : ℤ). IfReading c.args.txn.now.doing (λ a x. CallTold c.args.txn.now c.args.plan.now a x c.args.reply m (next.Answer c.finish_read.result) c.finish_read.new.txn)) now
+    subst (λ (m : ℤ). IfReading c.args.txn.now.doing (λ a x. CallPost c.args.txn.now c.args.plan.now a x c.args.reply m (next.Answer c.finish_read.result) c.finish_read.new.txn)) now
     (rows_told c.args.txn.now.doing c.args.txn.now c.advance.new.self c.finish_read.new.txn c.args.plan.now c.args.reply (to_z w64 (of_z w64 c.args.now)) c.in-Rows.rows c.mark-mark.result c.finish_read.result c.mark-mark.ensures.mark c.in-Rows.ensures.read
     c.finish_read.ensures.answer c.finish_read.ensures.left c.finish_read.ensures.memory)
 
 pub returns-in-NoMemory-clause-told : goal.returns-in-NoMemory-clause-told
 returns-in-NoMemory-clause-told c =
     let now : to_z w64 (of_z w64 c.args.now) ≡ c.args.now = search rules in
-    subst (λ (m : ℤ). IfReading c.args.txn.now.doing (λ a x. CallTold c.args.txn.now c.args.plan.now a x c.args.reply m (next.Answer answer.NoMemory) c.advance.new.self)) now
+    subst (λ (m : ℤ). IfReading c.args.txn.now.doing (λ a x. CallPost c.args.txn.now c.args.plan.now a x c.args.reply m (next.Answer answer.NoMemory) c.advance.new.self)) now
     (other_told c.args.txn.now.doing c.args.txn.now c.advance.new.self c.args.plan.now c.args.reply (to_z w64 (of_z w64 c.args.now)) c.advance.result c.in-NoMemory.is c.advance.ensures.read)

@@ -1,5 +1,5 @@
 use Rattle.sdb_client.proofs.Taken.{plan_fine}
 use Rattle.sdb_client.proofs.plan.ask.Goals as goal
 
-pub begin_read-requires-clause-fine : goal.begin_read-requires-clause-fine
-begin_read-requires-clause-fine c = plan_fine c.args.catalog.now c.args.statement.now c.in-Ok.plan c.planned.ensures.catalog c.requires.literals c.in-Ok.ensures.plan
+pub begin_read-requires-clause-valid : goal.begin_read-requires-clause-valid
+begin_read-requires-clause-valid c = plan_fine c.args.catalog.now c.args.statement.now c.in-Ok.plan c.planned.ensures.catalog c.requires.literals c.in-Ok.ensures.plan

@@ -37,7 +37,7 @@ returns-in_err-rows-clause-err g c =
     passed _ c.from_residual.result c.in_err-rows.field-0.0 c.from_residual.ensures.1
     (refused_as _ _ _ _ c.in_err-rows.field-0.0
     (λ key first. ill_formed_among (decided c.args.decisions.now) old mid catalog c.loop-i.i t key here before.goes before.known before.well_formed first)
-    (risen_after old mid (g.R.Registry.state c.dump.new.stores).shelves before.goes) c.in_err-rows.ensures.err)
+    (risen_after old mid (g.R.Registry.state c.dump.new.stores).views before.goes) c.in_err-rows.ensures.err)
 
 pub returns-in_err-rows-clause-goes : goal.returns-in_err-rows-clause-goes
 returns-in_err-rows-clause-goes g c = goes_more _ _ _ c.loop-i.invariant.goes c.in_err-rows.ensures.goes

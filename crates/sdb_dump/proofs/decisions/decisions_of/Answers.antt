@@ -25,7 +25,7 @@ loop-row-preserved c =
           ∙ ap (λ (rs : List Record). decision_among rs id) (sym next);
       recorded = c.in_ok-add.ensures.recorded ∙ ap (λ (ids : List TxId). ids ++ recorded_by c.in_ok-id.id c.in_ok-id.decided.decision) before.recorded
           ∙ sym (ap recorded_among next ∙ recorded_more (take i rows) row c.in_ok-id.id c.in_ok-id.decided of says);
-      fine = ap (find (λ (r : Record). not (is_decided r))) next ∙ none_more (λ (r : Record). not (is_decided r)) (take i rows) row before.fine (ap not (is_decided_by row c.in_ok-id.decided says));
+      valid = ap (find (λ (r : Record). not (is_decided r))) next ∙ none_more (λ (r : Record). not (is_decided r)) (take i rows) row before.valid (ap not (is_decided_by row c.in_ok-id.decided says));
     }
 
 pub returns-in_err-id-clause-err : goal.returns-in_err-id-clause-err
@@ -35,4 +35,4 @@ returns-in_err-id-clause-err c =
     let row = c.row-item.result in
     passed _ c.from_residual.result c.in_err-id.field-0.0 c.from_residual.ensures.1
     (refused_as (λ (key : Key). (key ≡ row.key) × (is_decided row ≡ false)) _ ⊥ ⊥ c.in_err-id.field-0.0
-    (λ key bad. first_is is_decided rows i row key (item_at rows i row c.loop-row-test.true c.row-item.is) c.loop-row.invariant.fine bad) (λ h. h) c.in_err-id.ensures.err)
+    (λ key bad. first_is is_decided rows i row key (item_at rows i row c.loop-row-test.true c.row-item.is) c.loop-row.invariant.valid bad) (λ h. h) c.in_err-id.ensures.err)

@@ -9,5 +9,5 @@ abbrev pub invariant-loop-row : goal.invariant-loop-row
 invariant-loop-row l = record {
   decided : rise l.rows ≡ true → (id : TxId) → id.0 < 2 ^ 128 → decided l.decisions id ≡ decision_among (take l.row-index l.rows) id;
   recorded : l.decisions.recorded ≡ recorded_among (take l.row-index l.rows);
-  fine : find (λ r. not (is_decided r)) (take l.row-index l.rows) ≡ None;
+  valid : find (λ r. not (is_decided r)) (take l.row-index l.rows) ≡ None;
 }

@@ -2,4 +2,4 @@ use Rattle.sdb_laws.proofs.explained.unchanged_is_resolved.Goals as goal
 use Rattle.sdb_laws.proofs.Current.{unchanged_at}
 
 pub returns : goal.returns
-returns c = λ r d. unchanged_at r.plan r.places r.opening r.played r.moments d.catalog r.run d.apart
+returns c = λ r d. unchanged_at r.plan r.places r.opening r.labelled r.moments d.catalog r.run d.apart

@@ -3,4 +3,4 @@ use Rattle.sdb_laws.specs.Explained.{newest_first}
 use Rattle.sdb_laws.proofs.ModelTime.{answers_true}
 
 pub returns : goal.returns
-returns c = λ r faithful. answers_true r.plan r.places r.opening r.played (newest_first r.moments) r.run faithful
+returns c = λ r faithful. answers_true r.plan r.places r.opening r.labelled (newest_first r.moments) r.run faithful

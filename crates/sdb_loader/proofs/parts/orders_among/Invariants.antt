@@ -1,9 +1,9 @@
 use Rattle.std.proofs.Common.{◌≡◌, ◌++◌, drop, map}
 use Rattle.std.specs.List.{filter_map}
 use Rattle.serde_json.specs.View.{view}
-use Rattle.sdb_loader.specs.Fields.{order_said}
+use Rattle.sdb_loader.specs.Fields.{order_given}
 use Rattle.sdb_loader.proofs.parts.orders_among.Given as goal
 
 abbrev pub invariant-loop-item : goal.invariant-loop-item
 invariant-loop-item l =
-    l.orders ++ filter_map order_said (map view (drop l.item-index l.items)) ≡ filter_map order_said (map view l.items)
+    l.orders ++ filter_map order_given (map view (drop l.item-index l.items)) ≡ filter_map order_given (map view l.items)

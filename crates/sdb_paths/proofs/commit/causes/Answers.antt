@@ -2,4 +2,4 @@ use Rattle.sdb_paths.proofs.Laws.{conflict_shown, conflict_unput, expired_given,
 use Rattle.sdb_paths.proofs.commit.causes.Goals as goal
 
 pub returns : goal.returns
-returns c = record { conflict = conflict_shown; undecided = conflict_unput; expired = expired_given; starved = starved_put }
+returns c = record { conflict = conflict_shown; undecided = conflict_unput; expired = expired_given; out_of_memory = starved_put }

@@ -1,6 +1,6 @@
 use Rattle.std.proofs.Common.{◌≡◌, drop}
 use Rattle.std.specs.Prelude.{find}
-use Rattle.sdb_model.specs.Noted.{rolls}
+use Rattle.sdb_model.specs.ReadSet.{rolls}
 use Rattle.sdb_plain.specs.Values.{made_of}
 use Rattle.sdb_plain.proofs.meaning.roll_of.Given as goal
 

@@ -1,5 +1,5 @@
 use Rattle.std.proofs.Common.{◌≡◌, ◌++◌, drop}
-use Rattle.sdb_model.specs.Noted.{reads_of}
+use Rattle.sdb_model.specs.ReadSet.{reads_of}
 use Rattle.sdb_plain.specs.Values.{all_made}
 use Rattle.sdb_plain.proofs.noted.reads_of.Given as goal
 

@@ -1,5 +1,5 @@
 use Rattle.std.proofs.Common.{◌≡◌, ◌++◌, drop}
-use Rattle.sdb_model.specs.Told.{run_body}
+use Rattle.sdb_model.specs.Serial.{run_body}
 use Rattle.sdb_plain.proofs.order.run_body.Given as goal
 
 abbrev pub invariant-loop-statement : goal.invariant-loop-statement

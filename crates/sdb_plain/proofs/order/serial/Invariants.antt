@@ -1,5 +1,5 @@
 use Rattle.std.proofs.Common.{◌≡◌, ◌++◌, drop}
-use Rattle.sdb_model.specs.Told.{serial}
+use Rattle.sdb_model.specs.Serial.{serial}
 use Rattle.sdb_plain.proofs.order.serial.Given as goal
 
 abbrev pub invariant-loop-body : goal.invariant-loop-body

@@ -1,4 +1,4 @@
-use Rattle.sdb_stores.specs.Shelf.{index_at}
+use Rattle.sdb_stores.specs.Views.{index_at}
 use Rattle.sdb_retire.proofs.Calls.{goes_call, hold_call, may_hold}
 use Rattle.sdb_retire.proofs.call.call.Goals as goal
 

@@ -35,5 +35,5 @@ returns-in_err-see_table-clause-goes g c =
 pub returns-in_err-see_table-clause-err : goal.returns-in_err-see_table-clause-err
 returns-in_err-see_table-clause-err g c =
     passed_on _ c.from_residual.result c.in_err-see_table.field-0.0 c.from_residual.ensures.1
-    (unseen_more (g.R.Registry.state c.args.stores.now) (g.R.Registry.state c.loop-table.stores) (g.R.Registry.state c.see_table.new.stores).shelves c.args.from.now c.args.to.now c.args.tables.now c.loop-table.table-index c.table-item.result c.in_err-see_table.field-0.0
+    (unseen_more (g.R.Registry.state c.args.stores.now) (g.R.Registry.state c.loop-table.stores) (g.R.Registry.state c.see_table.new.stores).views c.args.from.now c.args.to.now c.args.tables.now c.loop-table.table-index c.table-item.result c.in_err-see_table.field-0.0
     c.loop-table.invariant.goes c.loop-table.invariant.held c.loop-table-test.true c.table-item.is c.in_err-see_table.ensures.err)

@@ -1,5 +1,5 @@
 use Rattle.std.proofs.Common.{[], take}
-use Rattle.sdb_stores.specs.Shelf.{index_at}
+use Rattle.sdb_stores.specs.Views.{index_at}
 use Rattle.sdb_retire.specs.Read.{AreSeen}
 use Rattle.sdb_retire.specs.Writes.{GoOn, Hold}
 use Rattle.sdb_retire.proofs.see.see_all.Given as goal

@@ -1,5 +1,5 @@
 use Rattle.std.proofs.Common.{◌∙◌, [], ap}
-use Rattle.sdb_stores.specs.Shelf.{index_at}
+use Rattle.sdb_stores.specs.Views.{index_at}
 use Rattle.sdb_catalog.proofs.Known.{passed_on}
 use Rattle.sdb_retire.specs.Moving.{moving_tables}
 use Rattle.sdb_retire.proofs.Calls.{goes_more, hold_same, still_there}
@@ -31,14 +31,14 @@ pub returns-in_err-entries-clause-err : goal.returns-in_err-entries-clause-err
 returns-in_err-entries-clause-err g c =
     let old = g.R.Registry.state c.args.stores.now in
     passed_on _ c.from_residual.result c.in_err-entries.field-0.0 c.from_residual.ensures.1
-    (unsurveyed_unread c.args.from.now c.args.to.now (index_at old c.args.first.now) old (g.R.Registry.state c.read_moving.new.stores).shelves c.in_err-entries.field-0.0 c.requires.named c.in_err-entries.ensures.err)
+    (unsurveyed_unread c.args.from.now c.args.to.now (index_at old c.args.first.now) old (g.R.Registry.state c.read_moving.new.stores).views c.in_err-entries.field-0.0 c.requires.named c.in_err-entries.ensures.err)
 
 pub returns-in_err-seen-clause-err : goal.returns-in_err-seen-clause-err
 returns-in_err-seen-clause-err g c =
     let old = g.R.Registry.state c.args.stores.now in
     let mid = g.R.Registry.state c.read_moving.new.stores in
     passed_on _ c.from_residual-in_err-seen.result c.in_err-seen.field-0.0 c.from_residual-in_err-seen.ensures.1
-    (unsurveyed_unseen old mid (g.R.Registry.state c.see_all.new.stores).shelves c.args.from.now c.args.to.now (index_at old c.args.first.now) c.in_ok-entries.entries c.in_ok-tables.tables c.as_slice-2.result.now c.in_err-seen.field-0.0 c.requires.named c.in_ok-entries.ensures.opened
+    (unsurveyed_unseen old mid (g.R.Registry.state c.see_all.new.stores).views c.args.from.now c.args.to.now (index_at old c.args.first.now) c.in_ok-entries.entries c.in_ok-tables.tables c.as_slice-2.result.now c.in_err-seen.field-0.0 c.requires.named c.in_ok-entries.ensures.opened
     c.in_ok-entries.ensures.goes c.in_ok-entries.ensures.held c.as_slice-2.ensures (c.in_ok-tables.ensures ∙ ap (moving_tables c.args.from.now) c.as_slice.ensures) c.in_err-seen.ensures.err)
 
 pub returns-in_err-seen-clause-held : goal.returns-in_err-seen-clause-held

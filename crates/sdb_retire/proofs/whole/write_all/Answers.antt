@@ -26,7 +26,7 @@ returns-clause-made g c =
     let old = g.R.Registry.state c.args.stores.now in
     let mid = g.R.Registry.state c.run.new.stores in
     let new = g.R.Registry.state c.run-2.new.stores in
-    both_made old mid new.shelves c.args.first.now c.args.from.now c.args.to.now c.args.survey.now c.as_slice-3.result.now c.as_slice-4.result.now
+    both_made old mid new.views c.args.first.now c.args.from.now c.args.to.now c.args.survey.now c.as_slice-3.result.now c.as_slice-4.result.now
     c.in_ok-run.ensures.goes c.requires.named (c.as_slice-3.ensures ∙ c.in_ok-requests.ensures ∙ ap requests_of c.as_slice.ensures) (c.as_slice-4.ensures ∙ c.in_ok-rows.ensures ∙ ap (renewals c.args.from.now c.args.to.now) c.as_slice-2.ensures)
     c.in_ok-run.ensures.made c.in_ok-run-2.ensures.made
 
@@ -47,5 +47,5 @@ returns-in_err-run-2-clause-left g c =
 pub returns-in_err-run-2-clause-err : goal.returns-in_err-run-2-clause-err
 returns-in_err-run-2-clause-err g c =
     passed_on _ c.from_residual-in_err-run-2.result c.in_err-run-2.field-0.0 c.from_residual-in_err-run-2.ensures.1
-    (halted_second (g.R.Registry.state c.args.stores.now) (g.R.Registry.state c.run.new.stores) (g.R.Registry.state c.run-2.new.stores).shelves c.args.first.now c.args.from.now c.args.to.now c.args.survey.now c.as_slice-3.result.now c.as_slice-4.result.now c.in_err-run-2.field-0.0
+    (halted_second (g.R.Registry.state c.args.stores.now) (g.R.Registry.state c.run.new.stores) (g.R.Registry.state c.run-2.new.stores).views c.args.first.now c.args.from.now c.args.to.now c.args.survey.now c.as_slice-3.result.now c.as_slice-4.result.now c.in_err-run-2.field-0.0
     c.in_ok-run.ensures.goes c.requires.named (c.as_slice-3.ensures ∙ c.in_ok-requests.ensures ∙ ap requests_of c.as_slice.ensures) (c.as_slice-4.ensures ∙ c.in_ok-rows.ensures ∙ ap (renewals c.args.from.now c.args.to.now) c.as_slice-2.ensures) c.in_ok-run.ensures.held c.in_err-run-2.ensures.err)

@@ -1,4 +1,4 @@
-use Rattle.sdb_stores.specs.Shelf.{index_at}
+use Rattle.sdb_stores.specs.Views.{index_at}
 use Rattle.sdb_catalog.proofs.Known.{passed_on}
 use Rattle.sdb_retire.proofs.Calls.{goes_more, still_there}
 use Rattle.sdb_retire.proofs.Making.{made_step}
@@ -12,7 +12,7 @@ loop-request-preserved g c =
     let new = g.R.Registry.state c.write.new.stores in
     record {
       goes = goes_more old mid new c.loop-request.invariant.goes c.in_ok-write.ensures.goes;
-      made = made_step old mid new.shelves c.args.store.now c.args.requests.now c.loop-request.request-index c.request-item.result c.loop-request-test.true c.request-item.is c.loop-request.invariant.goes c.loop-request.invariant.made c.in_ok-write.ensures.made;
+      made = made_step old mid new.views c.args.store.now c.args.requests.now c.loop-request.request-index c.request-item.result c.loop-request-test.true c.request-item.is c.loop-request.invariant.goes c.loop-request.invariant.made c.in_ok-write.ensures.made;
       held = hold_step old mid new c.args.store.now c.args.requests.now c.loop-request.request-index c.request-item.result c.loop-request-test.true c.request-item.is c.loop-request.invariant.goes c.loop-request.invariant.held c.in_ok-write.ensures.held;
     }
 
@@ -31,7 +31,7 @@ returns-in_err-write-clause-goes g c =
 pub returns-in_err-write-clause-err : goal.returns-in_err-write-clause-err
 returns-in_err-write-clause-err g c =
     passed_on _ c.from_residual.result c.in_err-write.field-0.0 c.from_residual.ensures.1
-    (unwritten_more (g.R.Registry.state c.args.stores.now) (g.R.Registry.state c.loop-request.stores) (g.R.Registry.state c.write.new.stores).shelves c.args.store.now c.args.requests.now c.loop-request.request-index c.request-item.result c.in_err-write.field-0.0
+    (unwritten_more (g.R.Registry.state c.args.stores.now) (g.R.Registry.state c.loop-request.stores) (g.R.Registry.state c.write.new.stores).views c.args.store.now c.args.requests.now c.loop-request.request-index c.request-item.result c.in_err-write.field-0.0
     c.loop-request-test.true c.request-item.is c.loop-request.invariant.goes c.loop-request.invariant.held c.in_err-write.ensures.err)
 
 pub returns-clause-left : goal.returns-clause-left

@@ -1,7 +1,7 @@
 use Rattle.std.proofs.Common.{subst}
 use Rattle.sdb_types.specs.declared.record.Reply.{Reply}
 use Rattle.sdb_types.specs.declared.record.Reply.TheVariants.{NotMet}
-use Rattle.sdb_stores.specs.Shelf.{IsCallAt, index_at}
+use Rattle.sdb_stores.specs.Views.{IsCallAt, index_at}
 use Rattle.sdb_retire.proofs.Making.{made_call, met_done, passed_made}
 use Rattle.sdb_retire.proofs.Steps.{met_err}
 use Rattle.sdb_retire.proofs.write.write.Goals as goal

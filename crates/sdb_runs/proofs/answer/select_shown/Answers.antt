@@ -5,7 +5,7 @@ use Rattle.std.specs.Option.{option_map_or}
 use Rattle.sdb_model.specs.Exec.{find_table}
 use Rattle.sdb_model.specs.Rows.{value_of}
 use Rattle.sdb_caused.proofs.Decided.{if_ok}
-use Rattle.sdb_runs.specs.Rows.{rows_shown, same_values}
+use Rattle.sdb_runs.specs.Rows.{rows_are_of, same_values}
 use Rattle.sdb_runs.proofs.answer.select_shown.Goals as goal
 
 pub returns-in_ok-names-in-Some : goal.returns-in_ok-names-in-Some
@@ -15,5 +15,5 @@ returns-in_ok-names-in-Some c =
     if_ok c.are_shown.result (λ b h.
     h
     ∙ ap (λ names. list_all (λ row. list_any (λ image. same_values (map (value_of t image) names) row) c.args.images.now) c.args.rows.now) (c.as_slice.ensures ∙ c.in_ok-names-in-Some.ensures)
-    ∙ sym (ap (λ o. option_map_or (λ u. rows_shown u c.args.select.now.columns c.args.rows.now c.args.images.now) o false) found)
+    ∙ sym (ap (λ o. option_map_or (λ u. rows_are_of u c.args.select.now.columns c.args.rows.now c.args.images.now) o false) found)
     ) c.are_shown.ensures

@@ -1,5 +1,5 @@
 use Rattle.std.proofs.Common.{◌≡◌, drop}
-use Rattle.sdb_said.specs.Shown.{with_rows}
+use Rattle.sdb_said.specs.Observed.{with_rows}
 use Rattle.sdb_said.proofs.records.add_rows.Given as goal
 
 abbrev pub invariant-loop-row : goal.invariant-loop-row

@@ -1,5 +1,5 @@
 use Rattle.std.proofs.Common.{◌≡◌, drop}
-use Rattle.sdb_said.specs.Shown.{is_forward}
+use Rattle.sdb_said.specs.Observed.{is_forward}
 use Rattle.sdb_said.proofs.records.is_forward.Given as goal
 
 abbrev pub invariant-loop-moment : goal.invariant-loop-moment

@@ -1,7 +1,7 @@
 use Rattle.std.proofs.Common.{arith, subst}
 use Rattle.sdb_board.proofs.GoesOn.{goes_more, goes_none, some_more}
 use Rattle.sdb_shell.specs.Ahead.{ahead, left}
-use Rattle.sdb_shell.specs.Session.{HasTakenLine}
+use Rattle.sdb_shell.specs.Session.{HasExecutedLine}
 use Rattle.sdb_shell.proofs.SoFar.{at_end, left_start, so_cut, so_more, so_past, so_start, so_whole}
 use Rattle.sdb_shell.proofs.sessions.session.Goals as goal
 
@@ -23,7 +23,7 @@ returns-in-Err-clause-cut g c =
 
 pub returns-in-Ok-Input-clause-done : goal.returns-in-Ok-Input-clause-done
 returns-in-Ok-Input-clause-done g c =
-    let taken = subst (HasTakenLine c.args.catalog.now _ _ c.loop-n.session c.take_line.new.session) c.in-Ok-Input.field-0-is c.in-Ok-Input.ensures.taken in
+    let taken = subst (HasExecutedLine c.args.catalog.now _ _ c.loop-n.session c.take_line.new.session) c.in-Ok-Input.field-0-is c.in-Ok-Input.ensures.taken in
     let end = at_end (ahead c.take_line.new.bytes) (g.R.Source.remaining c.take_line.new.input) taken.read.ends in
     so_whole c.args.catalog.now _ _ _ _ _ _ _ _ _ _ _ _ _ _ _ _ _ _ c.loop-n.session c.take_line.new.session c.loop-n.invariant.so c.take_line.ensures.goes taken c.take_line.new.bytes.most (g.R.Source.remaining c.take_line.new.input) end.0 end.1
 
@@ -35,7 +35,7 @@ loop-n-preserved g c =
     let before = c.loop-n.invariant in
     let on = c.take_line.ensures.goes in
     let after = c.in-Ok-Lf.ensures in
-    let taken = subst (HasTakenLine c.args.catalog.now _ _ c.loop-n.session c.take_line.new.session) c.in-Ok-Lf.field-0-is c.in-Ok-Lf.ensures.taken in
+    let taken = subst (HasExecutedLine c.args.catalog.now _ _ c.loop-n.session c.take_line.new.session) c.in-Ok-Lf.field-0-is c.in-Ok-Lf.ensures.taken in
     record {
       some = some_more _ _ on.names before.some;
       reads = omega (arith, before.reads, after.reads);

@@ -7,7 +7,7 @@ use Rattle.sdb_shell.proofs.sessions.session.Given as goal
 -- the lines so far were answered
 abbrev pub invariant-loop-n : goal.invariant-loop-n
 invariant-loop-n g l = record {
-  some : 0 < length (g.S.Registry.state l.stores).shelves;
+  some : 0 < length (g.S.Registry.state l.stores).views;
   reads : g.R.Source.faults l.fn.input ≤ g.R.Source.faults l.input;
   writes : g.W.Sink.faults l.fn.output ≤ g.W.Sink.faults l.output;
   goes : GoOn (g.S.Registry.state l.fn.stores) (g.S.Registry.state l.stores);

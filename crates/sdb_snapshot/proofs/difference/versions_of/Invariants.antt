@@ -1,5 +1,5 @@
 use Rattle.std.proofs.Common.{◌≡◌, take}
-use Rattle.sdb_snapshot.specs.Noted.{reads_of}
+use Rattle.sdb_snapshot.specs.Reads.{reads_of}
 use Rattle.sdb_snapshot.proofs.difference.versions_of.Given as goal
 
 abbrev pub invariant-loop-rec : goal.invariant-loop-rec

@@ -26,16 +26,16 @@ returns-in_err-ending-clause-goes g c = goes_more _ _ _ c.loop-rest.invariant.go
 pub returns-in_err-put_line-clause-goes : goal.returns-in_err-put_line-clause-goes
 returns-in_err-put_line-clause-goes g c = goes_more _ _ _ c.loop-rest.invariant.goes c.take_group.ensures.goes
 
-pub returns-in_err-ending-clause-starved : goal.returns-in_err-ending-clause-starved
-returns-in_err-ending-clause-starved g c =
+pub returns-in_err-ending-clause-out_of_memory : goal.returns-in_err-ending-clause-out_of_memory
+returns-in_err-ending-clause-out_of_memory g c =
     let first = point g.C.Clock.told g.I.Ids.told c.args.stores.now c.args.clock.now c.args.ids.now c.new-session.result in
     let p = point g.C.Clock.told g.I.Ids.told c.loop-rest.stores c.loop-rest.clock c.loop-rest.ids c.loop-rest.session in
     let q = point g.C.Clock.told g.I.Ids.told c.take_group.new.stores c.take_group.new.clock c.take_group.new.ids c.take_group.new.session in
     all_errs _ c.from_residual.result
     (starved_so_far g.S.Registry.state c.args.catalog.now c.args.load.now c.args.rows.now c.args.size first p q c.loop-rest.rest.now c.loop-rest.k (string_bytes c.loop-rest.out) c.loop-rest.invariant.so c.loop-rest.invariant.goes c.take_group.ensures.goes)
 
-pub returns-in_err-put_line-clause-starved : goal.returns-in_err-put_line-clause-starved
-returns-in_err-put_line-clause-starved g c =
+pub returns-in_err-put_line-clause-out_of_memory : goal.returns-in_err-put_line-clause-out_of_memory
+returns-in_err-put_line-clause-out_of_memory g c =
     let first = point g.C.Clock.told g.I.Ids.told c.args.stores.now c.args.clock.now c.args.ids.now c.new-session.result in
     let p = point g.C.Clock.told g.I.Ids.told c.loop-rest.stores c.loop-rest.clock c.loop-rest.ids c.loop-rest.session in
     let q = point g.C.Clock.told g.I.Ids.told c.take_group.new.stores c.take_group.new.clock c.take_group.new.ids c.take_group.new.session in

@@ -8,7 +8,7 @@ use Rattle.sdb_tables.proofs.loads.load_groups.Given as goal
 -- the groups so far were loaded
 abbrev pub invariant-loop-rest : goal.invariant-loop-rest
 invariant-loop-rest g l = record {
-  some : 0 < length (g.S.Registry.state l.stores).shelves;
+  some : 0 < length (g.S.Registry.state l.stores).views;
   idle : IsIdle l.session.client;
   goes : GoOn (g.S.Registry.state l.fn.stores) (g.S.Registry.state l.stores);
   so : AreLoadedSoFar g.S.Registry.state l.catalog l.load l.rows l.size (point g.C.Clock.told g.I.Ids.told l.fn.stores l.fn.clock l.fn.ids l.initial.session) (point g.C.Clock.told g.I.Ids.told l.stores l.clock l.ids l.session) l.rest l.k (string_bytes l.out);

@@ -10,10 +10,10 @@ use Rattle.sdb_types.specs.declared.key.Key.{Key}
 use Rattle.sdb_types.specs.declared.txid.TxId.{TxId}
 use Rattle.sdb_types.specs.Contents.{in_span}
 use Rattle.sdb_types.specs.Order.{key_cmp}
-use Rattle.sdb_phases.specs.declared.check.Wish.TheVariants.{Based}
+use Rattle.sdb_phases.specs.declared.check.Expected.TheVariants.{Based}
 use Rattle.sdb_phases.specs.Checks.{wished_version}
 use Rattle.sdb_ordered.proofs.SpanLemmas.{StandsFrom, is_from, stands_from, stands_later}
-use Rattle.sdb_validate.specs.Rescan.{written_wish}
+use Rattle.sdb_validate.specs.Rescan.{expected_of_written}
 use Rattle.sdb_validate.proofs.Ranges.{from_least, one_based, all_passed}
 use Rattle.sdb_validate.proofs.checks.put_writes.Goals as goal
 
@@ -36,9 +36,9 @@ loop-key-preserved c =
     let es = c.next.new.self in
     record {
       wished = λ q.
-          ap (λ n. written_wish (in_span span q) (lookup (is_at (key_cmp q)) es) (get n q)) (c.in_ok-insert.ensures.ok ∙ ap (λ same. insert m e.0 (Based same)) (c.is_based-same.ensures ∙ ap (λ o. wished_version o e.1) c.find.ensures))
+          ap (λ n. expected_of_written (in_span span q) (lookup (is_at (key_cmp q)) es) (get n q)) (c.in_ok-insert.ensures.ok ∙ ap (λ same. insert m e.0 (Based same)) (c.is_based-same.ensures ∙ ap (λ o. wished_version o e.1) c.find.ensures))
           ∙ one_based span e es m q (sym c.if-not-contains.ensures)
-          ∙ ap (λ left. written_wish (in_span span q) (lookup (is_at (key_cmp q)) left) (get m q)) (sym c.in-Some.ensures.steps) ∙ c.loop-key.invariant.wished q;
+          ∙ ap (λ left. expected_of_written (in_span span q) (lookup (is_at (key_cmp q)) left) (get m q)) (sym c.in-Some.ensures.steps) ∙ c.loop-key.invariant.wished q;
       stands = stands_later span e es (subst (StandsFrom span) c.in-Some.ensures.steps c.loop-key.invariant.stands);
     }
 

@@ -4,8 +4,8 @@ use Rattle.sdb_model.specs.declared.event.How.{How}
 use Rattle.sdb_board.specs.Board.{IsMade, how_lost}
 use Rattle.sdb_board.proofs.Made.{discarded, lost}
 use Rattle.sdb_model.specs.Follows.{IsHowOfLose, IsHowOfStep}
-use Rattle.sdb_world.specs.declared.way.Way.{Way}
-use Rattle.sdb_world.specs.Step.{IsHowOf}
+use Rattle.sdb_world.specs.declared.delivery.Delivery.{Delivery}
+use Rattle.sdb_world.specs.Step.{IsDeliveryOf}
 use Rattle.sdb_world.proofs.Hows.{lost_allowed, seen_allowed}
 use Rattle.sdb_world.proofs.perform.perform.Goals as goal
 
@@ -28,11 +28,11 @@ returns-in-Discard-clause-made g c = λ f. discarded (g.R.Registry.state c.args.
 
 pub returns-in-Step-clause-allowed : goal.returns-in-Step-clause-allowed
 returns-in-Step-clause-allowed g c =
-    subst (λ (w : Way). IsHowOf w c.how_seen.result c.call-reply.result) (sym c.in-Step.is)
+    subst (λ (w : Delivery). IsDeliveryOf w c.how_seen.result c.call-reply.result) (sym c.in-Step.is)
     (subst (λ (h : How). IsHowOfStep h c.call-reply.result) (sym c.how_seen.ensures) (seen_allowed c.call-reply.result))
 
 pub returns-in-Lose-clause-allowed : goal.returns-in-Lose-clause-allowed
 returns-in-Lose-clause-allowed g c =
     let r = c.call-reply-in-Lose.result in
-    subst (λ (w : Way). IsHowOf w c.how_lost.result c.reply_lost.result) (sym c.in-Lose.is)
+    subst (λ (w : Delivery). IsDeliveryOf w c.how_lost.result c.reply_lost.result) (sym c.in-Lose.is)
     (subst (λ (h : How). IsHowOfLose h c.reply_lost.result) (sym c.how_lost.ensures) (subst (λ (x : Reply). IsHowOfLose (how_lost r) x) (sym c.reply_lost.ensures) (lost_allowed r)))

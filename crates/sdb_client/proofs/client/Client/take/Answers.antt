@@ -2,7 +2,7 @@ use Rattle.std.proofs.Common.{rules, ◌≡◌, ℕ, ℤ, List, subst, Ok, to_z,
 use Rattle.std.specs.Prelude.{IfSome}
 use Rattle.sdb_model.specs.Sql.{Reads, Refuses}
 use Rattle.sdb_sqltext.specs.Answers.{refusal_of}
-use Rattle.sdb_client.specs.Client.{StatementTold}
+use Rattle.sdb_client.specs.Client.{StatementPost}
 use Rattle.sdb_client.proofs.Taken.{unread_told}
 use Rattle.sdb_client.proofs.client.Client.take.Goals as goal
 
@@ -12,7 +12,7 @@ returns-in-Ok-clause-told c =
     λ n. (
       Ok c.in-Ok.statement,
       subst (λ (text : List ℕ). Reads text c.in-Ok.statement) c.as_str.ensures c.in-Ok.ensures.read,
-      subst (λ (m : ℤ). StatementTold (record { catalog = c.args.catalog.now; now = m; gate = c.args.gate; fresh = c.args.fresh }) c.in-Ok.statement c.args.self.now c.take_statement.result c.take_statement.new.self) now (c.take_statement.ensures.told n),
+      subst (λ (m : ℤ). StatementPost (record { catalog = c.args.catalog.now; now = m; gate = c.args.gate; fresh = c.args.fresh }) c.in-Ok.statement c.args.self.now c.take_statement.result c.take_statement.new.self) now (c.take_statement.ensures.told n),
     )
 
 pub returns-in-Err-clause-told : goal.returns-in-Err-clause-told

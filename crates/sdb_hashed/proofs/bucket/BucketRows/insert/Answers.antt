@@ -3,7 +3,7 @@ use Rattle.std.specs.FinMap.{insert}
 use Rattle.std.specs.List.{insert as insert_at}
 use Rattle.sdb_types.specs.declared.record.Record.{Record}
 use Rattle.sdb_types.specs.Contents.{rise}
-use Rattle.sdb_hashed.specs.Bucket.{IsAt, IsGapFor, held_by}
+use Rattle.sdb_hashed.specs.Bucket.{IsAt, IsGapFor, contents_of_bucket}
 use Rattle.sdb_hashed.proofs.Sorting.{either_way, on_ok, replaced_rises, replaced_holds, inserted_rises, inserted_holds}
 use Rattle.sdb_hashed.proofs.bucket.BucketRows.insert.Goals as goal
 
@@ -17,7 +17,7 @@ pub returns-in-Ok-clause-ok : goal.returns-in-Ok-clause-ok
 returns-in-Ok-clause-ok c =
     let rs = c.self.inside.records in
     let at = subst (λ (xs : List Record). IsAt xs c.args.rec.key c.in-Ok.i) (sym c.self.view_is) c.in-Ok.ensures.found in
-    ap held_by c.replace.ensures ∙ replaced_holds rs c.self.invariant c.in-Ok.i c.args.rec at ∙ ap (λ (xs : List Record). insert (held_by xs) c.args.rec.key c.args.rec.columns) c.self.view_is
+    ap contents_of_bucket c.replace.ensures ∙ replaced_holds rs c.self.invariant c.in-Ok.i c.args.rec at ∙ ap (λ (xs : List Record). insert (contents_of_bucket xs) c.args.rec.key c.args.rec.columns) c.self.view_is
 
 pub invariant_of-self-in-Err : goal.invariant_of-self-in-Err
 invariant_of-self-in-Err c =
@@ -29,4 +29,4 @@ pub returns-in-Err-clause-ok : goal.returns-in-Err-clause-ok
 returns-in-Err-clause-ok c =
     let rs = c.self.inside.records in
     let gap = subst (λ (xs : List Record). IsGapFor xs c.args.rec.key c.in-Err.i) (sym c.self.view_is) c.in-Err.ensures.absent in
-    on_ok c.insert.result (λ e. ap held_by e ∙ inserted_holds rs c.self.invariant c.in-Err.i c.args.rec gap ∙ ap (λ (xs : List Record). insert (held_by xs) c.args.rec.key c.args.rec.columns) c.self.view_is) c.insert.ensures.ok
+    on_ok c.insert.result (λ e. ap contents_of_bucket e ∙ inserted_holds rs c.self.invariant c.in-Err.i c.args.rec gap ∙ ap (λ (xs : List Record). insert (contents_of_bucket xs) c.args.rec.key c.args.rec.columns) c.self.view_is) c.insert.ensures.ok

@@ -2,7 +2,7 @@ use Rattle.std.proofs.Common.{◌≡◌, List, true, sym, ap, subst, ◌∙◌}
 use Rattle.std.specs.FinMap.{remove}
 use Rattle.sdb_types.specs.declared.record.Record.{Record}
 use Rattle.sdb_types.specs.Contents.{rise}
-use Rattle.sdb_hashed.specs.Bucket.{IsAt, held_by}
+use Rattle.sdb_hashed.specs.Bucket.{IsAt, contents_of_bucket}
 use Rattle.sdb_hashed.proofs.Sorting.{cut_rises, cut_holds, nothing_at}
 use Rattle.sdb_hashed.proofs.bucket.BucketRows.remove.Goals as goal
 
@@ -16,7 +16,7 @@ pub returns-in-Ok-clause-ok : goal.returns-in-Ok-clause-ok
 returns-in-Ok-clause-ok c =
     let rs = c.self.inside.records in
     let at = subst (λ (xs : List Record). IsAt xs c.args.key.now c.in-Ok.i) (sym c.self.view_is) c.in-Ok.ensures.found in
-    ap held_by c.remove.ensures ∙ cut_holds rs c.self.invariant c.in-Ok.i c.args.key.now at ∙ ap (λ (xs : List Record). remove (held_by xs) c.args.key.now) c.self.view_is
+    ap contents_of_bucket c.remove.ensures ∙ cut_holds rs c.self.invariant c.in-Ok.i c.args.key.now at ∙ ap (λ (xs : List Record). remove (contents_of_bucket xs) c.args.key.now) c.self.view_is
 
 pub returns-in-Err-clause-ok : goal.returns-in-Err-clause-ok
 returns-in-Err-clause-ok c = nothing_at c.args.self.now c.args.key.now _ c.in-Err.ensures.absent

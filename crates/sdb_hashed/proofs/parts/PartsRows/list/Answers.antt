@@ -1,6 +1,6 @@
 use Rattle.std.proofs.Common.{◌∙◌, ap}
 use Rattle.sdb_types.specs.Contents.{rows_in}
-use Rattle.sdb_hashed.specs.Gathered.{held}
+use Rattle.sdb_hashed.specs.Gathered.{contents_of_all}
 use Rattle.sdb_hashed.proofs.Spans.{same_rows, rows_along, part_rows, no_part}
 use Rattle.sdb_hashed.proofs.parts.PartsRows.list.Goals as goal
 
@@ -21,4 +21,4 @@ pub returns-in_ok-gather-in-None : goal.returns-in_ok-gather-in-None
 returns-in_ok-gather-in-None g c =
     let span = c.args.span.now in
     let all = c.in_ok-gather-in-None.field-0 in
-    rows_along c.list-in-None.result (rows_in span all) (rows_in span c.args.self.now) (same_rows span all (held g.R.Rows.contents c.self.inside.rows.entries) c.in_ok-gather-in-None.ensures ∙ ap (rows_in span) c.self.view_is) c.list-in-None.ensures
+    rows_along c.list-in-None.result (rows_in span all) (rows_in span c.args.self.now) (same_rows span all (contents_of_all g.R.Rows.contents c.self.inside.rows.entries) c.in_ok-gather-in-None.ensures ∙ ap (rows_in span) c.self.view_is) c.list-in-None.ensures

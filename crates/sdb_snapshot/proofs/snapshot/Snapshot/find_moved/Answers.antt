@@ -2,7 +2,7 @@ use Rattle.std.proofs.Common.{◌≡◌, [], List, Option, subst, sym, ap, ◌�
 use Rattle.std.specs.Prelude.{Result, Err}
 use Rattle.sdb_types.specs.declared.key.Key.{Key}
 use Rattle.sdb_types.specs.declared.record.Record.{Record}
-use Rattle.sdb_snapshot.specs.Noted.{Note, with_images, AreKeysOf, IsFirstDifference}
+use Rattle.sdb_snapshot.specs.Reads.{ReadRecord, with_images, AreKeysOf, IsFirstDifference}
 use Rattle.sdb_snapshot.specs.Seen.{Seen}
 use Rattle.sdb_snapshot.specs.declared.snapshot.NoteRefused.{NoteRefused}
 use Rattle.sdb_snapshot.specs.declared.snapshot.NoteRefused.TheVariants.{Differs}
@@ -17,18 +17,18 @@ same_told P k key f found told e =
 
 pub returns-in-Some-clause-differs : goal.returns-in-Some-clause-differs
 returns-in-Some-clause-differs c =
-    let now : c.note_all.new.self ≡ with_images [] c.args.images.now =
-    c.in_ok-note_all.ensures.ok ∙ ap (λ (ns : List Note). with_images ns c.as_slice.result.now) c.new-now.ensures ∙ ap (with_images []) c.as_slice.ensures in
-    let keys : AreKeysOf c.self.inside.notes c.args.span.now c.as_slice-2.result.now = subst (AreKeysOf c.self.inside.notes c.args.span.now) (sym c.as_slice-2.ensures) c.in_ok-keys.ensures in
-    let view : c.self.inside.notes ≡ c.args.self.now.notes = ap (λ (s : Seen). s.notes) c.self.view_is in
-    let told = moved_told c.self.inside.notes c.args.self.now.notes c.note_all.new.self c.args.span.now c.args.images.now c.as_slice-2.result.now c.in-Some.rec.now c.in_ok-copy-in-Some.field-0 c.in_ok-base-in-Some.field-0
+    let now : c.record_all.new.self ≡ with_images [] c.args.images.now =
+    c.in_ok-record_all.ensures.ok ∙ ap (λ (ns : List ReadRecord). with_images ns c.as_slice.result.now) c.new-now.ensures ∙ ap (with_images []) c.as_slice.ensures in
+    let keys : AreKeysOf c.self.inside.read_set c.args.span.now c.as_slice-2.result.now = subst (AreKeysOf c.self.inside.read_set c.args.span.now) (sym c.as_slice-2.ensures) c.in_ok-keys.ensures in
+    let view : c.self.inside.read_set ≡ c.args.self.now.read_set = ap (λ (s : Seen). s.read_set) c.self.view_is in
+    let told = moved_told c.self.inside.read_set c.args.self.now.read_set c.record_all.new.self c.args.span.now c.args.images.now c.as_slice-2.result.now c.in-Some.rec.now c.in_ok-copy-in-Some.field-0 c.in_ok-base-in-Some.field-0
     view keys now c.in-Some.ensures c.in_ok-copy-in-Some.ensures c.in_ok-base-in-Some.ensures in
-    λ key found e. same_told (IsFirstDifference c.args.self.now.notes c.args.span.now c.args.images.now) c.in_ok-copy-in-Some.field-0 key c.in_ok-base-in-Some.field-0 found told e
+    λ key found e. same_told (IsFirstDifference c.args.self.now.read_set c.args.span.now c.args.images.now) c.in_ok-copy-in-Some.field-0 key c.in_ok-base-in-Some.field-0 found told e
 
 pub returns-clause-unmoved : goal.returns-clause-unmoved
 returns-clause-unmoved c =
-    let now : c.note_all.new.self ≡ with_images [] c.args.images.now =
-    c.in_ok-note_all.ensures.ok ∙ ap (λ (ns : List Note). with_images ns c.as_slice.result.now) c.new-now.ensures ∙ ap (with_images []) c.as_slice.ensures in
-    let keys : AreKeysOf c.self.inside.notes c.args.span.now c.as_slice-2.result.now = subst (AreKeysOf c.self.inside.notes c.args.span.now) (sym c.as_slice-2.ensures) c.in_ok-keys.ensures in
-    let view : c.self.inside.notes ≡ c.args.self.now.notes = ap (λ (s : Seen). s.notes) c.self.view_is in
-    none_told c.self.inside.notes c.args.self.now.notes c.note_all.new.self c.args.span.now c.args.images.now c.as_slice-2.result.now view keys now c.in-None.ensures
+    let now : c.record_all.new.self ≡ with_images [] c.args.images.now =
+    c.in_ok-record_all.ensures.ok ∙ ap (λ (ns : List ReadRecord). with_images ns c.as_slice.result.now) c.new-now.ensures ∙ ap (with_images []) c.as_slice.ensures in
+    let keys : AreKeysOf c.self.inside.read_set c.args.span.now c.as_slice-2.result.now = subst (AreKeysOf c.self.inside.read_set c.args.span.now) (sym c.as_slice-2.ensures) c.in_ok-keys.ensures in
+    let view : c.self.inside.read_set ≡ c.args.self.now.read_set = ap (λ (s : Seen). s.read_set) c.self.view_is in
+    none_told c.self.inside.read_set c.args.self.now.read_set c.record_all.new.self c.args.span.now c.args.images.now c.as_slice-2.result.now view keys now c.in-None.ensures

@@ -8,4 +8,4 @@ use Rattle.sdb_snapshot.proofs.snapshot.Snapshot.overlay_key.Goals as goal
 pub returns : goal.returns
 returns c =
     subst (λ (x : List Image). IfOk c.image_of_key.result (λ images. images ≡ x))
-    (key_shown c.self.inside.notes c.self.inside.drafts c.args.key.now ∙ ap (overlay (access.Get c.args.key.now)) c.self.view_is) c.image_of_key.ensures
+    (key_shown c.self.inside.read_set c.self.inside.write_set c.args.key.now ∙ ap (overlay (access.Get c.args.key.now)) c.self.view_is) c.image_of_key.ensures

@@ -8,5 +8,5 @@ use Rattle.sdb_snapshot.proofs.snapshot.Snapshot.overlay_span.Goals as goal
 pub returns : goal.returns
 returns c =
     subst (λ (x : List Image). IfOk c.images_of_keys.result (λ images. images ≡ x))
-    (ap (images_at (row_seen c.self.inside.notes c.self.inside.drafts)) c.as_slice.ensures
-    ∙ span_shown c.self.inside.notes c.self.inside.drafts c.args.span.now c.in_ok-keys.keys c.self.invariant.read c.in_ok-keys.ensures ∙ ap (overlay (access.Scan c.args.span.now)) c.self.view_is) c.images_of_keys.ensures
+    (ap (images_at (row_seen c.self.inside.read_set c.self.inside.write_set)) c.as_slice.ensures
+    ∙ span_shown c.self.inside.read_set c.self.inside.write_set c.args.span.now c.in_ok-keys.keys c.self.invariant.read c.in_ok-keys.ensures ∙ ap (overlay (access.Scan c.args.span.now)) c.self.view_is) c.images_of_keys.ensures

@@ -15,8 +15,8 @@ invariant_of-self c =
     let more : c.read_on-step.result ≡ step.More = search rules in
     read_goes_on c.self.inside.doing c.read_on-step.new.doing c.self.inside.snapshot c.args.reply (to_z w64 (of_z w64 c.args.now)) c.read_on-step.result at c.self.invariant can c.read_on-step.ensures.after more
 
-pub read_ended-requires-clause-fine : goal.read_ended-requires-clause-fine
-read_ended-requires-clause-fine c =
+pub read_ended-requires-clause-valid : goal.read_ended-requires-clause-valid
+read_ended-requires-clause-valid c =
     let at : IsReading c.self.inside.doing = subst (λ (t : TxnAt). IsReading t.doing) (sym c.self.view_is) c.requires.at in
     let can : CanGet (pending_in c.self.inside.doing) c.args.reply = subst (λ (t : TxnAt). CanGet (pending t) c.args.reply) (sym c.self.view_is) c.requires.reply in
     let same = same_read c.self.inside.doing c.read_on-step.new.doing c.in-Read.access c.in-Read.field-1 c.read_on-step.ensures.same (sym c.replace.ensures.value ∙ c.in-Read.is) in

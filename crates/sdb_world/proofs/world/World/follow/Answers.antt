@@ -1,5 +1,5 @@
 use Rattle.std.proofs.Common.{◌≡◌, ◌+◌, take, refl}
-use Rattle.sdb_model.specs.Follows.{AreMoved, IsMoved}
+use Rattle.sdb_model.specs.Follows.{AreOfMoves, IsOfMove}
 use Rattle.sdb_board.proofs.GoesOn.{goes_more, goes_none, some_more}
 use Rattle.sdb_world.proofs.Broken.{breaks_more, breaks_none}
 use Rattle.sdb_world.proofs.Goes.{come_more, come_none}
@@ -11,8 +11,8 @@ loop-i-init g c = record {
   some = c.requires.some;
   world = c.requires.world;
   goes = goes_none (g.R.Registry.state c.args.stores.now);
-  broken = breaks_none c.args.self.now.events (g.R.Registry.state c.args.stores.now).shelves;
-  come = come_none (AreMoved c.args.self.now.script.clients (take 0 c.args.self.now.script.moves) c.args.self.now.events) (g.R.Registry.state c.args.stores.now) c.args.self.now refl;
+  broken = breaks_none c.args.self.now.events (g.R.Registry.state c.args.stores.now).views;
+  come = come_none (AreOfMoves c.args.self.now.script.clients (take 0 c.args.self.now.script.moves) c.args.self.now.events) (g.R.Registry.state c.args.stores.now) c.args.self.now refl;
 }
 
 pub returns-in_err-make-clause-goes : goal.returns-in_err-make-clause-goes
@@ -34,7 +34,7 @@ loop-i-preserved g c =
       world = done.world;
       goes = goes_more _ _ _ before.goes done.goes;
       broken = breaks_more c.args.self.now.events c.loop-i.self.events c.make.new.self.events (g.R.Registry.state c.args.stores.now) (g.R.Registry.state c.loop-i.stores) (g.R.Registry.state c.make.new.stores) before.broken done.goes done.broken;
-      come = come_more (AreMoved script.clients (take i script.moves) past) (IsMoved later.clients made now) (AreMoved script.clients (take (i + 1) script.moves) past)
+      come = come_more (AreOfMoves script.clients (take i script.moves) past) (IsOfMove later.clients made now) (AreOfMoves script.clients (take (i + 1) script.moves) past)
           (g.R.Registry.state c.args.stores.now) (g.R.Registry.state c.loop-i.stores) (g.R.Registry.state c.make.new.stores)
           c.args.self.now c.loop-i.self c.make.new.self before.goes before.come done.come
           (λ es more at h k. follows_more script later i made past now es more same at c.move_at-made.ensures h k);

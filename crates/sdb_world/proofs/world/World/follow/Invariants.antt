@@ -1,5 +1,5 @@
 use Rattle.std.proofs.Common.{◌<◌, length, take}
-use Rattle.sdb_model.specs.Follows.{AreMoved}
+use Rattle.sdb_model.specs.Follows.{AreOfMoves}
 use Rattle.sdb_board.specs.Board.{GoOn}
 use Rattle.sdb_executions.specs.World.{IsWorld}
 use Rattle.sdb_world.specs.Broken.{BreaksWithin}
@@ -8,9 +8,9 @@ use Rattle.sdb_world.proofs.world.World.follow.Given as goal
 
 abbrev pub invariant-loop-i : goal.invariant-loop-i
 invariant-loop-i g l = record {
-  some : 0 < length (g.R.Registry.state l.stores).shelves;
+  some : 0 < length (g.R.Registry.state l.stores).views;
   world : IsWorld l.self;
   goes : GoOn (g.R.Registry.state l.initial.stores) (g.R.Registry.state l.stores);
-  broken : BreaksWithin l.initial.self.events l.self.events (g.R.Registry.state l.initial.stores).shelves (g.R.Registry.state l.stores).shelves;
-  come : HasCome (AreMoved l.initial.self.script.clients (take l.i l.initial.self.script.moves) l.initial.self.events) (g.R.Registry.state l.initial.stores) (g.R.Registry.state l.stores) l.initial.self l.self;
+  broken : BreaksWithin l.initial.self.events l.self.events (g.R.Registry.state l.initial.stores).views (g.R.Registry.state l.stores).views;
+  come : HasCome (AreOfMoves l.initial.self.script.clients (take l.i l.initial.self.script.moves) l.initial.self.events) (g.R.Registry.state l.initial.stores) (g.R.Registry.state l.stores) l.initial.self l.self;
 }

@@ -1,6 +1,6 @@
 use Rattle.std.proofs.Common.{◌≡◌, ◌-◌, ◌∙◌, ap, get_or, refl, sym}
 use Rattle.sdb_client.specs.Client.{IsBusy, IsIdle}
-use Rattle.sdb_execution.specs.declared.seat.Seat.{Seat}
+use Rattle.sdb_execution.specs.declared.slot.ClientSlot.{ClientSlot}
 use Rattle.sdb_executions.specs.World.{WorldAt}
 use Rattle.sdb_world.proofs.Goings.{at_write, goes_call, goes_idle, goes_take, left_of, place_low}
 use Rattle.sdb_world.proofs.Takings.{on_ok}
@@ -18,52 +18,52 @@ returns-then-not-has_work-clause-acted g c =
 
 pub take-requires-clause-idle : goal.take-requires-clause-idle
 take-requires-clause-idle g c =
-    let seat = c.index.result.now in
-    let read : seat ≡ get_or c.args.self.now.seats (c.args.client - 1) seat = c.index.ensures ∙ ap (λ (w : WorldAt). get_or w.seats (c.args.client - 1) seat) c.self.view_is in
-    at_write (λ (s : Seat). IsIdle s.client) c.args.self.now.seats (c.args.client - 1) seat (place_low c.args.self.now c.args.client c.requires.world c.requires.client) read (c.is_idle.ensures.idle c.if-is_idle.true)
+    let client_slot = c.index.result.now in
+    let read : client_slot ≡ get_or c.args.self.now.client_slots (c.args.client - 1) client_slot = c.index.ensures ∙ ap (λ (w : WorldAt). get_or w.client_slots (c.args.client - 1) client_slot) c.self.view_is in
+    at_write (λ (s : ClientSlot). IsIdle s.client) c.args.self.now.client_slots (c.args.client - 1) client_slot (place_low c.args.self.now c.args.client c.requires.world c.requires.client) read (c.is_idle.ensures.idle c.if-is_idle.true)
 
 pub take-requires-clause-left : goal.take-requires-clause-left
 take-requires-clause-left g c =
-    let seat = c.index.result.now in
-    let read : seat ≡ get_or c.args.self.now.seats (c.args.client - 1) seat = c.index.ensures ∙ ap (λ (w : WorldAt). get_or w.seats (c.args.client - 1) seat) c.self.view_is in
-    left_of c.args.self.now (c.args.client - 1) seat c.requires.world (place_low c.args.self.now c.args.client c.requires.world c.requires.client) read (c.is_idle.ensures.idle c.if-is_idle.true) (sym c.has_work.ensures ∙ c.if-not-has_work.false)
+    let client_slot = c.index.result.now in
+    let read : client_slot ≡ get_or c.args.self.now.client_slots (c.args.client - 1) client_slot = c.index.ensures ∙ ap (λ (w : WorldAt). get_or w.client_slots (c.args.client - 1) client_slot) c.self.view_is in
+    left_of c.args.self.now (c.args.client - 1) client_slot c.requires.world (place_low c.args.self.now c.args.client c.requires.world c.requires.client) read (c.is_idle.ensures.idle c.if-is_idle.true) (sym c.has_work.ensures ∙ c.if-not-has_work.false)
 
 pub call-requires-clause-busy : goal.call-requires-clause-busy
 call-requires-clause-busy g c =
-    let seat = c.index.result.now in
-    let read : seat ≡ get_or c.args.self.now.seats (c.args.client - 1) seat = c.index.ensures ∙ ap (λ (w : WorldAt). get_or w.seats (c.args.client - 1) seat) c.self.view_is in
-    at_write (λ (s : Seat). IsBusy s.client) c.args.self.now.seats (c.args.client - 1) seat (place_low c.args.self.now c.args.client c.requires.world c.requires.client) read (c.is_idle.ensures.busy c.if-is_idle.false)
+    let client_slot = c.index.result.now in
+    let read : client_slot ≡ get_or c.args.self.now.client_slots (c.args.client - 1) client_slot = c.index.ensures ∙ ap (λ (w : WorldAt). get_or w.client_slots (c.args.client - 1) client_slot) c.self.view_is in
+    at_write (λ (s : ClientSlot). IsBusy s.client) c.args.self.now.client_slots (c.args.client - 1) client_slot (place_low c.args.self.now c.args.client c.requires.world c.requires.client) read (c.is_idle.ensures.busy c.if-is_idle.false)
 
 pub returns-then-is_idle-clause-world : goal.returns-then-is_idle-clause-world
 returns-then-is_idle-clause-world g c =
-    let seat = c.index.result.now in
-    let read : seat ≡ get_or c.args.self.now.seats (c.args.client - 1) seat = c.index.ensures ∙ ap (λ (w : WorldAt). get_or w.seats (c.args.client - 1) seat) c.self.view_is in
-    let idle = at_write (λ (s : Seat). IsIdle s.client) c.args.self.now.seats (c.args.client - 1) seat (place_low c.args.self.now c.args.client c.requires.world c.requires.client) read (c.is_idle.ensures.idle c.if-is_idle.true) in
+    let client_slot = c.index.result.now in
+    let read : client_slot ≡ get_or c.args.self.now.client_slots (c.args.client - 1) client_slot = c.index.ensures ∙ ap (λ (w : WorldAt). get_or w.client_slots (c.args.client - 1) client_slot) c.self.view_is in
+    let idle = at_write (λ (s : ClientSlot). IsIdle s.client) c.args.self.now.client_slots (c.args.client - 1) client_slot (place_low c.args.self.now c.args.client c.requires.world c.requires.client) read (c.is_idle.ensures.idle c.if-is_idle.true) in
     on_ok c.take.result c.take.ensures (λ t. (goes_take c.args.self.now c.args.client c.args.way c.requires.world c.requires.client c.has_work.result c.has_work.ensures (g.R.Registry.state c.args.stores.now) c.take.new.self c.if-not-has_work.false idle t).0)
 
 pub returns-then-is_idle-clause-acted : goal.returns-then-is_idle-clause-acted
 returns-then-is_idle-clause-acted g c =
-    let seat = c.index.result.now in
-    let read : seat ≡ get_or c.args.self.now.seats (c.args.client - 1) seat = c.index.ensures ∙ ap (λ (w : WorldAt). get_or w.seats (c.args.client - 1) seat) c.self.view_is in
-    let idle = at_write (λ (s : Seat). IsIdle s.client) c.args.self.now.seats (c.args.client - 1) seat (place_low c.args.self.now c.args.client c.requires.world c.requires.client) read (c.is_idle.ensures.idle c.if-is_idle.true) in
+    let client_slot = c.index.result.now in
+    let read : client_slot ≡ get_or c.args.self.now.client_slots (c.args.client - 1) client_slot = c.index.ensures ∙ ap (λ (w : WorldAt). get_or w.client_slots (c.args.client - 1) client_slot) c.self.view_is in
+    let idle = at_write (λ (s : ClientSlot). IsIdle s.client) c.args.self.now.client_slots (c.args.client - 1) client_slot (place_low c.args.self.now c.args.client c.requires.world c.requires.client) read (c.is_idle.ensures.idle c.if-is_idle.true) in
     on_ok c.take.result c.take.ensures (λ t. (goes_take c.args.self.now c.args.client c.args.way c.requires.world c.requires.client c.has_work.result c.has_work.ensures (g.R.Registry.state c.args.stores.now) c.take.new.self c.if-not-has_work.false idle t).1)
 
 pub returns-else-is_idle-clause-world : goal.returns-else-is_idle-clause-world
 returns-else-is_idle-clause-world g c =
-    let seat = c.index.result.now in
-    let read : seat ≡ get_or c.args.self.now.seats (c.args.client - 1) seat = c.index.ensures ∙ ap (λ (w : WorldAt). get_or w.seats (c.args.client - 1) seat) c.self.view_is in
-    let busy = at_write (λ (s : Seat). IsBusy s.client) c.args.self.now.seats (c.args.client - 1) seat (place_low c.args.self.now c.args.client c.requires.world c.requires.client) read (c.is_idle.ensures.busy c.if-is_idle.false) in
+    let client_slot = c.index.result.now in
+    let read : client_slot ≡ get_or c.args.self.now.client_slots (c.args.client - 1) client_slot = c.index.ensures ∙ ap (λ (w : WorldAt). get_or w.client_slots (c.args.client - 1) client_slot) c.self.view_is in
+    let busy = at_write (λ (s : ClientSlot). IsBusy s.client) c.args.self.now.client_slots (c.args.client - 1) client_slot (place_low c.args.self.now c.args.client c.requires.world c.requires.client) read (c.is_idle.ensures.busy c.if-is_idle.false) in
     on_ok c.call.result c.call.ensures.called (λ t. (goes_call c.args.self.now c.args.client c.args.way c.requires.world c.requires.client c.has_work.result c.has_work.ensures (g.R.Registry.state c.args.stores.now) (g.R.Registry.state c.call.new.stores) c.call.new.self c.if-not-has_work.false busy t).0)
 
 pub returns-else-is_idle-clause-acted : goal.returns-else-is_idle-clause-acted
 returns-else-is_idle-clause-acted g c =
-    let seat = c.index.result.now in
-    let read : seat ≡ get_or c.args.self.now.seats (c.args.client - 1) seat = c.index.ensures ∙ ap (λ (w : WorldAt). get_or w.seats (c.args.client - 1) seat) c.self.view_is in
-    let busy = at_write (λ (s : Seat). IsBusy s.client) c.args.self.now.seats (c.args.client - 1) seat (place_low c.args.self.now c.args.client c.requires.world c.requires.client) read (c.is_idle.ensures.busy c.if-is_idle.false) in
+    let client_slot = c.index.result.now in
+    let read : client_slot ≡ get_or c.args.self.now.client_slots (c.args.client - 1) client_slot = c.index.ensures ∙ ap (λ (w : WorldAt). get_or w.client_slots (c.args.client - 1) client_slot) c.self.view_is in
+    let busy = at_write (λ (s : ClientSlot). IsBusy s.client) c.args.self.now.client_slots (c.args.client - 1) client_slot (place_low c.args.self.now c.args.client c.requires.world c.requires.client) read (c.is_idle.ensures.busy c.if-is_idle.false) in
     on_ok c.call.result c.call.ensures.called (λ t. (goes_call c.args.self.now c.args.client c.args.way c.requires.world c.requires.client c.has_work.result c.has_work.ensures (g.R.Registry.state c.args.stores.now) (g.R.Registry.state c.call.new.stores) c.call.new.self c.if-not-has_work.false busy t).1)
 
 pub returns-then-not-has_work-clause-broken : goal.returns-then-not-has_work-clause-broken
-returns-then-not-has_work-clause-broken g c = breaks_pushed _ c.args.self.now c.self.view_is c.push.new.self (event.Idle c.args.client) (g.R.Registry.state c.args.stores.now).shelves c.in_ok-push.ensures.ok refl
+returns-then-not-has_work-clause-broken g c = breaks_pushed _ c.args.self.now c.self.view_is c.push.new.self (event.Idle c.args.client) (g.R.Registry.state c.args.stores.now).views c.in_ok-push.ensures.ok refl
 
 pub returns-then-is_idle-clause-broken : goal.returns-then-is_idle-clause-broken
-returns-then-is_idle-clause-broken g c = on_ok c.take.result c.take.ensures (λ t. breaks_take c.args.self.now c.take.new.self (c.args.client - 1) (g.R.Registry.state c.args.stores.now).shelves t)
+returns-then-is_idle-clause-broken g c = on_ok c.take.result c.take.ensures (λ t. breaks_take c.args.self.now c.take.new.self (c.args.client - 1) (g.R.Registry.state c.args.stores.now).views t)

@@ -13,7 +13,7 @@ loop-init g c = record {
   some = c.requires.some;
   world = c.requires.world;
   goes = goes_none (g.R.Registry.state c.args.stores.now);
-  broken = breaks_none c.args.self.now.events (g.R.Registry.state c.args.stores.now).shelves;
+  broken = breaks_none c.args.self.now.events (g.R.Registry.state c.args.stores.now).views;
   come = come_none (AreSteps c.args.self.now.script.clients c.args.client 0 c.args.self.now.events) (g.R.Registry.state c.args.stores.now) c.args.self.now (record { count = refl; steps = tt });
 }
 

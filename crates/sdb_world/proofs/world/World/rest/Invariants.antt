@@ -10,11 +10,11 @@ use Rattle.sdb_world.proofs.world.World.rest.Given as goal
 
 abbrev pub invariant-loop : goal.invariant-loop
 invariant-loop g l = record {
-  some : 0 < length (g.R.Registry.state l.stores).shelves;
+  some : 0 < length (g.R.Registry.state l.stores).views;
   world : IsWorld l.self;
   low : 0 < l.from;
   high : l.from ≤ end_of l.self.script.clients;
   goes : GoOn (g.R.Registry.state l.initial.stores) (g.R.Registry.state l.stores);
-  broken : BreaksWithin l.initial.self.events l.self.events (g.R.Registry.state l.initial.stores).shelves (g.R.Registry.state l.stores).shelves;
+  broken : BreaksWithin l.initial.self.events l.self.events (g.R.Registry.state l.initial.stores).views (g.R.Registry.state l.stores).views;
   come : HasCome (λ (es : List Event). Rests l.initial.self.script.clients l.initial.self.events es l.from) (g.R.Registry.state l.initial.stores) (g.R.Registry.state l.stores) l.initial.self l.self;
 }

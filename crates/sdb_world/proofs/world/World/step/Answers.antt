@@ -26,7 +26,7 @@ returns-in_ok-push-in-Clock-clause-world g c =
     let same : to_z w64 (of_z w64 c.in-Clock.moment) ≡ c.in-Clock.moment = search rules in
     let came = c.in_ok-push-in-Clock.ensures.ok ∙ ap (λ (m : ℤ). c.self.inside.events ++ event.Clock m ∷ []) same in
     let held = g.R.Registry.state c.args.stores.now in
-    (subst (λ (z : ℤ). Came held held c.args.self.now c.args.act (record { script = c.self.inside.script; seats = c.self.inside.seats.items; events = c.push.new.self; clock = z })) (sym same)
+    (subst (λ (z : ℤ). Came held held c.args.self.now c.args.act (record { script = c.self.inside.script; client_slots = c.self.inside.client_slots.items; events = c.push.new.self; clock = z })) (sym same)
     (goes_clock held _ c.args.self.now c.self.view_is c.push.new.self c.args.act c.in-Clock.moment c.requires.world c.in-Clock.is c.requires.act came)).0
 
 pub returns-in_ok-push-in-Clock-clause-acted : goal.returns-in_ok-push-in-Clock-clause-acted
@@ -34,7 +34,7 @@ returns-in_ok-push-in-Clock-clause-acted g c =
     let same : to_z w64 (of_z w64 c.in-Clock.moment) ≡ c.in-Clock.moment = search rules in
     let came = c.in_ok-push-in-Clock.ensures.ok ∙ ap (λ (m : ℤ). c.self.inside.events ++ event.Clock m ∷ []) same in
     let held = g.R.Registry.state c.args.stores.now in
-    (subst (λ (z : ℤ). Came held held c.args.self.now c.args.act (record { script = c.self.inside.script; seats = c.self.inside.seats.items; events = c.push.new.self; clock = z })) (sym same)
+    (subst (λ (z : ℤ). Came held held c.args.self.now c.args.act (record { script = c.self.inside.script; client_slots = c.self.inside.client_slots.items; events = c.push.new.self; clock = z })) (sym same)
     (goes_clock held _ c.args.self.now c.self.view_is c.push.new.self c.args.act c.in-Clock.moment c.requires.world c.in-Clock.is c.requires.act came)).1
 
 pub returns-in-Step-clause-explained : goal.returns-in-Step-clause-explained
@@ -61,14 +61,14 @@ returns-in_ok-push-in-Clock-clause-explained g c =
     let came = c.in_ok-push-in-Clock.ensures.ok ∙ ap (λ (m : ℤ). c.self.inside.events ++ event.Clock m ∷ []) same in
     let held = g.R.Registry.state c.args.stores.now in
     came_explained held held c.args.self.now _ c.args.act
-    (subst (λ (z : ℤ). Came held held c.args.self.now c.args.act (record { script = c.self.inside.script; seats = c.self.inside.seats.items; events = c.push.new.self; clock = z })) (sym same)
+    (subst (λ (z : ℤ). Came held held c.args.self.now c.args.act (record { script = c.self.inside.script; client_slots = c.self.inside.client_slots.items; events = c.push.new.self; clock = z })) (sym same)
     (goes_clock held _ c.args.self.now c.self.view_is c.push.new.self c.args.act c.in-Clock.moment c.requires.world c.in-Clock.is c.requires.act came))
 
 pub returns-in-Stop-clause-broken : goal.returns-in-Stop-clause-broken
-returns-in-Stop-clause-broken g c = on_ok c.stop.result c.stop.ensures (λ h. breaks_stop c.args.self.now c.stop.new.self c.in-Stop.client (g.R.Registry.state c.args.stores.now).shelves h)
+returns-in-Stop-clause-broken g c = on_ok c.stop.result c.stop.ensures (λ h. breaks_stop c.args.self.now c.stop.new.self c.in-Stop.client (g.R.Registry.state c.args.stores.now).views h)
 
 pub returns-in_ok-push-in-Clock-clause-broken : goal.returns-in_ok-push-in-Clock-clause-broken
 returns-in_ok-push-in-Clock-clause-broken g c =
     let same : to_z w64 (of_z w64 c.in-Clock.moment) ≡ c.in-Clock.moment = search rules in
     let came = c.in_ok-push-in-Clock.ensures.ok ∙ ap (λ (m : ℤ). c.self.inside.events ++ event.Clock m ∷ []) same in
-    breaks_pushed _ c.args.self.now c.self.view_is c.push.new.self (event.Clock c.in-Clock.moment) (g.R.Registry.state c.args.stores.now).shelves came refl
+    breaks_pushed _ c.args.self.now c.self.view_is c.push.new.self (event.Clock c.in-Clock.moment) (g.R.Registry.state c.args.stores.now).views came refl

@@ -1,0 +1,96 @@
+-- What the statements of a transaction noted: what the records that they read mean, with the versions found.
+use Rattle.std.specs.Prelude.{Bool, true, false, List, ◌&&◌, filter, find, Option, Some, None, if◌then◌else◌}
+use Rattle.std.specs.Option.{option_and_then, option_map, option_map_or}
+use Rattle.std.specs.List.{filter_map, flat_map}
+use Rattle.std.specs.Ordering.{is_eq}
+use Rattle.sdb_types.specs.declared.txid.TxId.{TxId}
+use Rattle.sdb_types.specs.declared.key.Key.{Key}
+use Rattle.sdb_types.specs.declared.record.Condition.{Condition}
+use Rattle.sdb_types.specs.declared.record.Record.{Record}
+use Rattle.sdb_types.specs.declared.record.State.TheVariants as state
+use Rattle.sdb_types.specs.declared.record.Request.{Request}
+use Rattle.sdb_types.specs.declared.record.Request.TheVariants as ask
+use Rattle.sdb_types.specs.declared.record.Reply.{Reply}
+use Rattle.sdb_types.specs.declared.record.Reply.TheVariants as reply
+use Rattle.sdb_types.specs.Order.{key_cmp, same_key}
+use Rattle.sdb_types.specs.Contents.{holds, in_span}
+use Rattle.sdb_record.specs.declared.access.Read.{Read}
+use Rattle.sdb_record.specs.declared.access.Scan.{Scan}
+use Rattle.sdb_record.specs.Coordinator.{is_coordinator_table}
+use Rattle.sdb_record.specs.Meta.{is_in}
+use Rattle.sdb_record.specs.Moved.{version_of}
+use Rattle.sdb_record.specs.Among.{version_among}
+use Rattle.sdb_model.specs.declared.answer.Answer.{Answer}
+use Rattle.sdb_model.specs.declared.answer.Answer.TheVariants as answer
+use Rattle.sdb_model.specs.declared.event.Event.{Event}
+use Rattle.sdb_model.specs.Events.{table_asked}
+use Rattle.sdb_model.specs.Calls.{StoreCall, calls_of, is_read, key_asked, put_by}
+use Rattle.sdb_model.specs.Transactions.{Executed, client_of, statements_inside}
+
+-- One item of a read set: a key with the version found there, or a span with the versions found in it.
+pub data ReadItem : Type 0 where
+  KeyRead : (read : Read) → ReadItem
+  SpanRead : (scan : Scan) → ReadItem
+
+-- what an item says of a key: nothing, or the version found there, none where there was no record
+abbrev pub version_read : ReadItem → Key → Option (Option TxId)
+version_read (KeyRead read) key = if same_key read.key key then Some read.version else None
+version_read (SpanRead scan) key = if in_span scan.span key then Some (version_among scan.found key) else None
+
+---- what a found record means
+
+-- the condition on which a call puts or deletes
+abbrev pub condition_asked : Request → Option Condition
+condition_asked (ask.Get key) = None
+condition_asked (ask.Scan span) = None
+condition_asked (ask.PutIf rec condition) = Some condition
+condition_asked (ask.DeleteIf key condition) = Some condition
+
+-- A call rolls a record: it puts or deletes at the record's key, on a condition that the record meets.
+abbrev pub rolls : Record → StoreCall → Bool
+rolls r m = option_map_or (λ k. is_eq (key_cmp k r.key)) (key_asked m.request) false && option_map_or (λ c. holds c (Some r)) (condition_asked m.request) false
+
+-- What a found record means to the statement with these calls: itself where it is committed, and else what the statement's own roll put
+-- there, none where that deleted it.
+abbrev pub meaning_of : List StoreCall → Record → Option Record
+meaning_of calls r = if is_in state.Committed r.columns then Some r else option_and_then (λ m. put_by m.request) (find (rolls r) calls)
+
+---- what a statement read
+
+abbrev pub read_of : Key → Option Record → Read
+read_of key found = record { key = key; version = version_of found }
+
+-- the reads of the records that a scan found and that mean some record
+abbrev pub reads_of : List StoreCall → List Record → List Read
+reads_of calls rows = filter_map (λ r. option_map (λ (image : Record). read_of r.key (Some image)) (meaning_of calls r)) rows
+
+-- what one read of a statement, with all of its calls, adds to the read set
+abbrev pub read_item_of : List StoreCall → Request → Reply → Option ReadItem
+read_item_of calls (ask.Get key) (reply.Found found) = Some (KeyRead (read_of key (option_and_then (meaning_of calls) found)))
+read_item_of calls (ask.Scan span) (reply.Rows rows) = Some (SpanRead (record { span = span; found = reads_of calls rows }))
+read_item_of calls q r = None
+
+-- a call that reads rows of tables, and not the coordinator's
+abbrev pub reads_rows : StoreCall → Bool
+reads_rows m = if is_coordinator_table (table_asked m.request) then false else is_read m.request
+
+abbrev pub read_items : List StoreCall → List ReadItem
+read_items calls = filter_map (λ m. read_item_of calls m.request m.reply) (filter reads_rows calls)
+
+-- The read of a statement that is answered so has finished: it is answered from rows, or is refused, which says that it would write too
+-- many keys, or that it made no call.
+abbrev pub read_finished : Answer → Bool
+read_finished (answer.Rows rows) = true
+read_finished (answer.Count n) = true
+read_finished (answer.Duplicate key) = true
+read_finished (answer.Refused refusal) = true
+read_finished a = false
+
+-- the read of a statement has finished
+abbrev pub has_finished : Executed → Bool
+has_finished s = option_map_or read_finished s.answer false
+
+-- What the statements of a transaction noted, in order. A statement notes what it read where its read has finished, whatever it is then
+-- answered.
+abbrev pub read_set_of : List Event → TxId → List ReadItem
+read_set_of events id = flat_map (λ s. read_items (calls_of events (client_of id) s)) (filter has_finished (statements_inside events id))

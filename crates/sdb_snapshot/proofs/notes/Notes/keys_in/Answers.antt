@@ -1,9 +1,0 @@
-use Rattle.std.proofs.Common.{List, IfOk, subst}
-use Rattle.sdb_snapshot.specs.Noted.{Note, AreKeysOf}
-use Rattle.sdb_snapshot.proofs.Orders.{keys_told}
-use Rattle.sdb_snapshot.proofs.notes.Notes.keys_in.Goals as goal
-
-pub returns : goal.returns
-returns c =
-    subst (λ (notes : List Note). IfOk c.list.result (λ keys. AreKeysOf notes c.args.span.now keys)) c.self.view_is
-    (keys_told c.list.result c.self.inside.found c.self.inside.order c.args.span.now c.self.invariant c.list.ensures)

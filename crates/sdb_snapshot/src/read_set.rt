@@ -1,0 +1,161 @@
+//! What was found at the keys that were read.
+ghost use Rattle.std.specs.Prelude.{◌≡◌, ◌++◌, [], ◌∷◌, IfOk, OnOk, OnErr, IfSome, length, take, false};
+ghost use Rattle.std.specs.Option.{option_copied};
+ghost use Rattle.std.specs.FinMap as map;
+ghost use Rattle.sdb_keyed.specs.Entries.{value_at};
+ghost use Rattle.sdb_snapshot.specs.Sets.{StartsWith};
+ghost use Rattle.sdb_snapshot.specs.Reads.{AreKeysOf, base_at, is_key_read as is_key_read_lem, record_read_at, with_images, with_read_record};
+
+use sdb_keyed::KeyMap;
+use sdb_ordered::Tree;
+use sdb_store::Rows;
+use sdb_types::{Columns, Duplicate, Key, NoMemory, Record, Records, Span};
+use std::alloc::Global;
+use std::marker::Model;
+
+/// What was found at each key that was read, in the order of first reading. The keys are in a tree too, in their own
+/// order, so that those of a span are found without the others. The tree may hold keys more: those that were put there
+/// before memory ran out in the middle of a scan.
+pub struct ReadSet {
+    alloc: Global,
+    found: KeyMap<Option<Record>>,
+    order: Tree,
+}
+
+// By hand: each drop is then one call, where a derived one is written out at each exit, with a call for each field.
+impl Drop for ReadSet {
+    fn drop(self) {
+        let ReadSet {
+            alloc: _,
+            found: _,
+            order: _,
+        } = self;
+    }
+}
+
+impl Model for ReadSet {
+    ghost use Rattle.std.specs.Prelude.{List};
+    ghost use Rattle.sdb_snapshot.specs.Reads.{ReadRecord};
+    ghost use Rattle.sdb_snapshot.specs.Sets.{InOrder};
+
+    ghost Value = { List ReadRecord };
+
+    ghost view = { λ n. n.found };
+
+    ghost invariant = { λ n. InOrder n.found n.order };
+}
+
+// Puts a key among those of a tree.
+fn put_key(alloc: Global, order: &mut Tree, key: &Key) -> Result<(), NoMemory>
+    ensures ok { OnOk result (order.new ≡ map.insert order.old key.now []) }
+    ensures err { OnErr result (order.new ≡ order.old) }
+{
+    order.insert(Record {
+        key: key.copy()?,
+        columns: Columns::new(alloc),
+    })
+}
+
+impl ReadSet {
+    pub fn new(alloc: Global) -> ReadSet
+        ensures { result ≡ [] }
+    {
+        ReadSet {
+            alloc,
+            found: KeyMap::new(alloc),
+            order: Tree::new(alloc),
+        }
+    }
+
+    /// What was found at a key, where it was read.
+    pub fn get(&self, key: &Key) -> Option<&Option<Record>>
+        ensures { option_copied result ≡ record_read_at self.now key.now }
+    {
+        self.found.get(key)
+    }
+
+    /// What was found at a key: none where it has no record or was not read.
+    pub fn base(&self, key: &Key) -> Result<Option<Record>, NoMemory>
+        ensures { IfOk result (λ base. base ≡ base_at self.now key.now) }
+    {
+        match self.get(key) {
+            Some(found) => found.copy(),
+            None => Ok(None),
+        }
+    }
+
+    pub fn is_key_read(&self, key: &Key) -> bool
+        ensures { result ≡ is_key_read_lem self.now key.now }
+    {
+        self.found.get(key).is_some()
+    }
+
+    /// Adds a key that was not read.
+    pub fn record_found(&mut self, key: Key, found: Option<Record>) -> Result<(), NoMemory>
+        requires { is_key_read_lem self.old key ≡ false }
+        ensures ok { OnOk result (self.new ≡ self.old ++ (key, found) ∷ []) }
+        ensures err { OnErr result (self.new ≡ self.old) }
+    {
+        put_key(self.alloc, &mut self.order, &key)?;
+        self.found.put(key, found)
+    }
+
+    // Adds a record of a scan, where its key was not read.
+    fn note_record(&mut self, rec: &Record) -> Result<(), NoMemory>
+        ensures ok { OnOk result (self.new ≡ with_read_record self.old rec.now.key (Some rec.now)) }
+        ensures err { OnErr result (self.new ≡ self.old) }
+    {
+        if self.is_key_read(&rec.key) {
+            return Ok(());
+        }
+        let found = rec.copy()?;
+        self.record_found(rec.key.copy()?, Some(found))
+    }
+
+    // Adds records one after the other, and stops where there is no memory.
+    fn note_each(&mut self, records: &[Record]) -> Result<(), NoMemory>
+        ensures ok { OnOk result (self.new ≡ with_images self.old records.now) }
+        ensures err { OnErr result (StartsWith self.old self.new) }
+    {
+        for rec in records {
+            self.note_record(rec)?;
+        }
+        Ok(())
+    }
+
+    /// The number of keys that were read.
+    pub fn len(&self) -> usize
+        ensures { result ≡ length self.now }
+    {
+        self.found.len()
+    }
+
+    /// Keeps those that were recorded first, so many.
+    pub fn cut(&mut self, len: usize)
+        ensures { self.new ≡ take len self.old }
+    {
+        self.found.truncate(len);
+    }
+
+    /// Adds each record of a scan whose key was not read: all or, without memory, none.
+    pub fn record_all(&mut self, records: &[Record]) -> Result<(), NoMemory>
+        ensures ok { OnOk result (self.new ≡ with_images self.old records.now) }
+        ensures err { OnErr result (self.new ≡ self.old) }
+    {
+        let len = self.found.len();
+        match self.note_each(records) {
+            Ok(()) => Ok(()),
+            Err(NoMemory) => {
+                self.cut(len);
+                Err(NoMemory)
+            }
+        }
+    }
+
+    /// The keys read in a span, in their order, and perhaps others of the span.
+    pub fn keys_in(&self, span: &Span) -> Result<Records, NoMemory>
+        ensures { IfOk result (λ keys. AreKeysOf self.now span.now keys) }
+    {
+        self.order.list(span)
+    }
+}
