@@ -10,7 +10,7 @@ use Rattle.sdb_model.specs.declared.statement.Statement.{Statement}
 use Rattle.sdb_types.specs.declared.record.Reply.{Reply}
 use Rattle.sdb_types.proofs.Basics.{none_some, some_is}
 use Rattle.sdb_stores.specs.Views.{Attached, HaveCause, HaveRisen}
-use Rattle.sdb_stores.specs.declared.place.Place.{Place}
+use Rattle.sdb_types.specs.declared.place.Place.{Place}
 use Rattle.sdb_model.specs.Events.{table_asked}
 use Rattle.sdb_board.specs.Board.{GoOn, how_seen, contents_of_views}
 use Rattle.sdb_board.specs.declared.refused.CallRefused.TheVariants as refused

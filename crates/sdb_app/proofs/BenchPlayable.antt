@@ -9,7 +9,7 @@ use Rattle.sdb_types.proofs.Basics.{all_each, clash}
 use Rattle.sdb_model.specs.declared.script.Act.TheVariants as act
 use Rattle.sdb_model.specs.declared.script.Move.{Move}
 use Rattle.sdb_model.specs.declared.script.Move.TheVariants as move
-use Rattle.sdb_stores.specs.declared.place.Place.{Place}
+use Rattle.sdb_types.specs.declared.place.Place.{Place}
 use Rattle.sdb_execution.specs.Execution.{IsPlayable}
 use Rattle.sdb_world.specs.Step.{CanFollow, CanMove}
 use Rattle.sdb_bench.specs.Script.{IsOfNine, bench_script_of}

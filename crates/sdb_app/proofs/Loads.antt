@@ -10,7 +10,7 @@ use Rattle.sdb_tables.specs.Ends.{Ends as TableEnds, IsSessionBefore, IsSessionO
 use Rattle.sdb_tables.specs.declared.load.Load.{Load}
 use Rattle.sdb_tables.specs.Exports.{IsExport, IsNotExported, IsExportOutOfMemory}
 use Rattle.sdb_tables.specs.Loads.{IsLoad, IsLoadOfOutOfMemory}
-use Rattle.sdb_stores.specs.declared.place.Place.{Place}
+use Rattle.sdb_types.specs.declared.place.Place.{Place}
 use Rattle.sdb_stores.specs.Views.{Attached, StoreView as Counted, total_faults}
 use Rattle.sdb_session.specs.Session.{Exchange}
 use Rattle.sdb_app.specs.declared.status.Status.{Status}

@@ -5,7 +5,7 @@ use Rattle.sdb_schema.specs.declared.table.Table.{Table}
 use Rattle.sdb_tables.specs.declared.fault.ExportRefused.{ExportRefused}
 use Rattle.sdb_tables.specs.declared.fault.ExportRefused.TheVariants as refused
 use Rattle.sdb_tables.specs.Exports.{IsExport, IsNotExported}
-use Rattle.sdb_stores.specs.declared.place.Place.{Place}
+use Rattle.sdb_types.specs.declared.place.Place.{Place}
 use Rattle.sdb_stores.specs.Views.{StoreView as Counted}
 use Rattle.sdb_app.specs.declared.status.Status.{Status}
 use Rattle.sdb_app.specs.declared.status.Status.TheVariants as status

@@ -11,7 +11,7 @@ use Rattle.sdb_data.specs.Tables.{table_in}
 use Rattle.sdb_tables.specs.Ends.{Ends as TableEnds}
 use Rattle.sdb_tables.specs.Loads.{IsLoad, IsLoadOfOutOfMemory}
 use Rattle.sdb_tables.specs.Statements.{load_of, rows_after}
-use Rattle.sdb_stores.specs.declared.place.Place.{Place}
+use Rattle.sdb_types.specs.declared.place.Place.{Place}
 use Rattle.sdb_stores.specs.Views.{StoreView as Counted}
 use Rattle.sdb_catalog.specs.declared.refused.CatalogRefused.{CatalogRefused}
 use Rattle.sdb_app.specs.declared.status.InputFault.{InputFault}

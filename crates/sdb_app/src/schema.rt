@@ -10,8 +10,8 @@ use sdb_loader::{SchemaFault, catalog_of};
 use sdb_model::Which;
 use sdb_schema::Catalog;
 use sdb_script::{MOST_SCRIPT_BYTES, last_line};
-use sdb_stores::{Place, Registry};
-use sdb_types::{Octets, Source, Txt};
+use sdb_stores::Registry;
+use sdb_types::{Octets, Place, Source, Txt};
 use std::alloc::Global;
 
 // The catalog that the input describes.

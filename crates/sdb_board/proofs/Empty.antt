@@ -24,7 +24,7 @@ use Rattle.sdb_types.specs.Exact.{equal_of}
 use Rattle.sdb_laws.proofs.Shown.{row_there}
 use Rattle.sdb_schema.specs.declared.table.Table.{Table}
 use Rattle.sdb_stores.specs.Views.{Attached, StoreView as Counted, home, home_in, names_of}
-use Rattle.sdb_stores.specs.declared.place.Place.{Place}
+use Rattle.sdb_types.specs.declared.place.Place.{Place}
 use Rattle.sdb_model.specs.Rows.{Name}
 use Rattle.sdb_model.specs.Events.{StoreContents, contents_under, store_of}
 use Rattle.sdb_spread.specs.Spread.{HoldAs}

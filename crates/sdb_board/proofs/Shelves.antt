@@ -10,7 +10,7 @@ use Rattle.std.proofs.lemmas.Slice.Eq.{bytes_eq-Decides}
 use Rattle.sdb_types.specs.Contents.{Contents}
 use Rattle.sdb_record.proofs.NameLemmas.{same_name-itself, same_name-true}
 use Rattle.sdb_stores.specs.Views.{StoreView as Counted, AreDistinct, names_of, place_of, route_of, home, home_of}
-use Rattle.sdb_stores.specs.declared.place.Place.{Place}
+use Rattle.sdb_types.specs.declared.place.Place.{Place}
 use Rattle.sdb_model.specs.Rows.{Name, same_name}
 use Rattle.sdb_model.specs.Events.{contents_under, with_contents, first_name, store_of}
 use Rattle.sdb_board.specs.Board.{contents_of_views}

@@ -12,7 +12,7 @@ use Rattle.sdb_types.specs.Order.{table_cmp}
 use Rattle.sdb_record.specs.Coordinator.{coordinator_table}
 use Rattle.sdb_schema.specs.declared.table.Table.{Table}
 use Rattle.sdb_stores.specs.Views.{Attached}
-use Rattle.sdb_stores.specs.declared.place.Place.{Place}
+use Rattle.sdb_types.specs.declared.place.Place.{Place}
 use Rattle.sdb_model.specs.Events.{StoreContents, contents_under, store_of}
 use Rattle.sdb_board.specs.Board.{AreUsableFor, contents_of_views}
 

@@ -22,7 +22,7 @@ use Rattle.sdb_schema.specs.declared.table.Table.{Table}
 use Rattle.sdb_schema.specs.Catalog.{rises, is_above_name, with_table}
 use Rattle.sdb_schema.specs.Table.{is_table}
 use Rattle.sdb_loader.specs.Words.{is_open, names_table}
-use Rattle.sdb_stores.specs.declared.place.Place.{Place}
+use Rattle.sdb_types.specs.declared.place.Place.{Place}
 use Rattle.sdb_catalog.specs.declared.entry.Entry.{Entry}
 use Rattle.sdb_catalog.specs.Rows.{MayHaveRow, coordinators}
 use Rattle.sdb_catalog.specs.Opened.{Follow, IsEntry, agrees, is_attached, is_coordinators, open_count, open_entries, tables_of}

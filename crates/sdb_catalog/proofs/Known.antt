@@ -14,7 +14,7 @@ use Rattle.sdb_types.specs.declared.record.Request.TheVariants.{Scan}
 use Rattle.sdb_types.specs.Contents.{Contents, holds, put_reply, record_at, rows_in}
 use Rattle.sdb_store.specs.Store.{Performs}
 use Rattle.sdb_schema.specs.declared.table.Table.{Table}
-use Rattle.sdb_stores.specs.declared.place.Place.{Place}
+use Rattle.sdb_types.specs.declared.place.Place.{Place}
 use Rattle.sdb_stores.specs.Views.{Attached, StoreView, names_of, route_of}
 use Rattle.sdb_catalog.specs.declared.entry.Entry.{Entry}
 use Rattle.sdb_catalog.specs.declared.outcome.Outcome.{Outcome}

@@ -15,7 +15,7 @@ use Rattle.sdb_schema.specs.declared.table.Table.{Table}
 use Rattle.sdb_schema.specs.Catalog.{is_catalog, rises as names_rise, with_table}
 use Rattle.sdb_schema.specs.Table.{is_table, rises}
 use Rattle.sdb_schema.proofs.CatalogLaws.{with_table-is}
-use Rattle.sdb_stores.specs.declared.place.Place.{Place}
+use Rattle.sdb_types.specs.declared.place.Place.{Place}
 use Rattle.sdb_stores.specs.Views.{Attached, StoreView, names_of}
 use Rattle.sdb_catalog.specs.declared.entry.Entry.{Entry}
 use Rattle.sdb_catalog.specs.declared.outcome.Outcome.{Outcome}

@@ -4,7 +4,7 @@ ghost use Rattle.sdb_types.specs.declared.key.Key.{Key};
 ghost use Rattle.sdb_types.specs.declared.record.Record.{Record};
 ghost use Rattle.sdb_schema.specs.declared.table.Table.{Table};
 ghost use Rattle.sdb_schema.specs.Table.{is_table};
-ghost use Rattle.sdb_stores.specs.declared.place.Place.{Place};
+ghost use Rattle.sdb_types.specs.declared.place.Place.{Place};
 ghost use Rattle.sdb_loader.specs.Described.{described_table};
 ghost use Rattle.sdb_catalog.specs.declared.entry.Entry.{Entry};
 ghost use Rattle.sdb_catalog.specs.Definition.{definition_text};

@@ -26,9 +26,10 @@ use crate::read::text_at;
 use crate::refused::CatalogRefused;
 use crate::rows::{coordinators, row_of, table_text};
 use sdb_schema::{Catalog, Table};
-use sdb_stores::{Place, Registry};
+use sdb_stores::Registry;
 use sdb_types::{
-    Condition, Duplicate, Name, NoMemory, Record, Reply, Request, Seq, TableName, TxId, Txt, same,
+    Condition, Duplicate, Name, NoMemory, Place, Record, Reply, Request, Seq, TableName, TxId, Txt,
+    same,
 };
 use std::alloc::Global;
 

@@ -30,7 +30,7 @@ use Rattle.sdb_record.proofs.IdLemmas.{id_of_text-is}
 use Rattle.sdb_laws.proofs.Shown.{row_there}
 use Rattle.sdb_schema.specs.declared.table.Table.{Table}
 use Rattle.sdb_schema.specs.Rows.{fits_table}
-use Rattle.sdb_stores.specs.declared.place.Place.{Place}
+use Rattle.sdb_types.specs.declared.place.Place.{Place}
 use Rattle.sdb_model.specs.Events.{StoreContents, contents_under, standing, store_of}
 use Rattle.sdb_model.specs.Exec.{Tables, all_rows, find_table, is_row_of, projected, sorted}
 use Rattle.sdb_model.specs.Images.{decision_at, decision_on, row_at}

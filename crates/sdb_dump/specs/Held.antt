@@ -7,7 +7,7 @@ use Rattle.sdb_record.specs.Coordinator.{coordinator_table}
 use Rattle.sdb_schema.specs.declared.table.Table.{Table}
 use Rattle.sdb_stores.specs.Views.{Attached}
 use Rattle.sdb_model.specs.declared.event.TableDump.{TableDump}
-use Rattle.sdb_stores.specs.declared.place.Place.{Place}
+use Rattle.sdb_types.specs.declared.place.Place.{Place}
 use Rattle.sdb_model.specs.Events.{StoreContents}
 use Rattle.sdb_model.specs.Exec.{Tables}
 use Rattle.sdb_model.specs.Images.{decision_at}

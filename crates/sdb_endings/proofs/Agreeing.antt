@@ -21,7 +21,7 @@ use Rattle.sdb_types.proofs.Keys.{same_key_self}
 use Rattle.sdb_record.specs.declared.coordinator.Decided.{Decided}
 use Rattle.sdb_record.specs.Coordinator.{coordinator_key_of, decision_in}
 use Rattle.sdb_model.specs.declared.event.Event.{Event}
-use Rattle.sdb_stores.specs.declared.place.Place.{Place}
+use Rattle.sdb_types.specs.declared.place.Place.{Place}
 use Rattle.sdb_model.specs.Calls.{StoreCall, calls_by, decision_in_reply, decision_observed, is_of_row, key_asked}
 use Rattle.sdb_model.specs.Events.{IsTrace, StoreContents, moment, standing, table_asked}
 use Rattle.sdb_model.specs.Explained.{RowsFinal}

@@ -6,7 +6,7 @@ use Rattle.std.proofs.lemmas.List.Elements.{Contains-append_left, Contains-appen
 use Rattle.sdb_types.proofs.Basics.{and_parts, lt_of, nat_at_most, none_some, some_is, one_of}
 use Rattle.sdb_model.specs.declared.event.Event.{Event}
 use Rattle.sdb_model.specs.declared.event.Event.TheVariants as event
-use Rattle.sdb_stores.specs.declared.place.Place.{Place}
+use Rattle.sdb_types.specs.declared.place.Place.{Place}
 use Rattle.sdb_model.specs.Calls.{StoreCall, calls_after, calls_by, calls_of, end_of, made_by}
 use Rattle.sdb_model.specs.Events.{Effect, IsTrace, StoreContents, moment}
 use Rattle.sdb_model.specs.Transactions.{Executed}

@@ -35,7 +35,7 @@ use Rattle.sdb_model.specs.declared.answer.Answer.{Answer}
 use Rattle.sdb_model.specs.declared.answer.Answer.TheVariants as answer
 use Rattle.sdb_model.specs.declared.event.Event.{Event}
 use Rattle.sdb_model.specs.declared.event.Event.TheVariants as event
-use Rattle.sdb_stores.specs.declared.place.Place.{Place}
+use Rattle.sdb_types.specs.declared.place.Place.{Place}
 use Rattle.sdb_model.specs.Calls.{StoreCall, calls_of, decision_observed, end_of, is_read, records_read}
 use Rattle.sdb_model.specs.Counted.{AreResolved, IsPassedOver, IsResolved}
 use Rattle.sdb_model.specs.Events.{Effect, IsTrace, StoreContents, contents_under, moment, standing, store_of, table_asked}

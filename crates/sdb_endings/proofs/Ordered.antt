@@ -6,7 +6,7 @@ use Rattle.std.proofs.lemmas.List.Elements.{All-contains, All-contains_itself, A
 use Rattle.sdb_types.specs.declared.txid.TxId.{TxId}
 use Rattle.sdb_model.specs.declared.event.Event.{Event}
 use Rattle.sdb_model.specs.declared.event.Point.{Point}
-use Rattle.sdb_stores.specs.declared.place.Place.{Place}
+use Rattle.sdb_types.specs.declared.place.Place.{Place}
 use Rattle.sdb_model.specs.Events.{StoreContents}
 use Rattle.sdb_model.specs.Transactions.{IsOrder, Recorded, commit_of, ArePointsApart}
 use Rattle.sdb_endings.specs.Order.{HasRisen}

@@ -22,7 +22,7 @@ use Rattle.sdb_record.proofs.TakenLaws.{prepared-key}
 use Rattle.sdb_record.specs.Rolls.{undo}
 use Rattle.sdb_model.specs.declared.event.Event.{Event}
 use Rattle.sdb_model.specs.declared.event.Event.TheVariants as event
-use Rattle.sdb_stores.specs.declared.place.Place.{Place}
+use Rattle.sdb_types.specs.declared.place.Place.{Place}
 use Rattle.sdb_model.specs.Events.{Effect, StoreContents, standing}
 use Rattle.sdb_model.specs.ReadSet.{KeyRead, ReadItem, SpanRead}
 use Rattle.sdb_laws.specs.History.{Action, Other, Begins, Takes, Prepares, Checks, Decides, Aborts, Rolls, Removes, Ends, Stops, History, ProtocolState}

@@ -14,7 +14,7 @@ use Rattle.sdb_record.specs.Parts.{are_stored}
 use Rattle.sdb_record.proofs.ImageLaws.{prepared-unresolved, row-decision}
 use Rattle.sdb_record.proofs.RollLaws.{forward-taken}
 use Rattle.sdb_model.specs.declared.event.Event.{Event}
-use Rattle.sdb_stores.specs.declared.place.Place.{Place}
+use Rattle.sdb_types.specs.declared.place.Place.{Place}
 use Rattle.sdb_model.specs.Events.{StoreContents, standing}
 use Rattle.sdb_model.specs.Exec.{find_table}
 use Rattle.sdb_laws.specs.Explained.{IsRunOf, newest_first}

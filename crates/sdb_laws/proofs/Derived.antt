@@ -14,7 +14,7 @@ use Rattle.sdb_record.specs.Meta.{id_in, is_in}
 use Rattle.sdb_record.specs.Parts.{before_record}
 use Rattle.sdb_record.specs.Rolls.{image_of, image_under}
 use Rattle.sdb_record.proofs.ImageLaws.{row-decision, image-settled, image-open}
-use Rattle.sdb_stores.specs.declared.place.Place.{Place}
+use Rattle.sdb_types.specs.declared.place.Place.{Place}
 use Rattle.sdb_model.specs.Events.{StoreContents}
 use Rattle.sdb_model.specs.Images.{decision_at, decision_on, image_at}
 use Rattle.sdb_model.specs.Transactions.{Recorded}

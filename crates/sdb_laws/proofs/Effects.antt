@@ -17,7 +17,7 @@ use Rattle.sdb_types.proofs.Keys.{same_key_tells}
 use Rattle.sdb_record.proofs.NameLemmas.{same_name-true, same_name-itself}
 use Rattle.sdb_model.specs.declared.event.How.{How}
 use Rattle.sdb_model.specs.declared.event.How.TheVariants.{Seen, Lost, Discarded, Broken}
-use Rattle.sdb_stores.specs.declared.place.Place.{Place}
+use Rattle.sdb_types.specs.declared.place.Place.{Place}
 use Rattle.sdb_model.specs.Rows.{Name, same_name}
 use Rattle.sdb_model.specs.Events.{StoreContents, contents_under, with_contents, store_of, first_name, standing, table_asked, IsPerformed, IsCall}
 

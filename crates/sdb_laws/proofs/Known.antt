@@ -18,7 +18,7 @@ use Rattle.sdb_record.specs.Rolls.{IsWrite}
 use Rattle.sdb_record.proofs.ImageLaws.{row-decision}
 use Rattle.sdb_record.proofs.TakenLaws.{prepared-base, prepared-key}
 use Rattle.sdb_record.proofs.RollLaws.{forward-key}
-use Rattle.sdb_stores.specs.declared.place.Place.{Place}
+use Rattle.sdb_types.specs.declared.place.Place.{Place}
 use Rattle.sdb_model.specs.Events.{StoreContents, standing}
 use Rattle.sdb_laws.specs.Plan.{Plan, write_at, written, number_of, version_read_at}
 use Rattle.sdb_laws.specs.History.{Action, History, Standing, Final, Held, base_of, happens, IsWriter}

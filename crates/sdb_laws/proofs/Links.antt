@@ -15,7 +15,7 @@ use Rattle.sdb_types.specs.Order.{same_key}
 use Rattle.sdb_types.proofs.Keys.{tests, same_key_tells}
 use Rattle.sdb_record.proofs.ImageLaws.{key-of-id}
 use Rattle.sdb_model.specs.declared.event.Event.{Event}
-use Rattle.sdb_stores.specs.declared.place.Place.{Place}
+use Rattle.sdb_types.specs.declared.place.Place.{Place}
 use Rattle.sdb_model.specs.Events.{StoreContents, Effect, standing, IsCall}
 use Rattle.sdb_laws.specs.Plan.{Plan}
 use Rattle.sdb_laws.specs.History.{History, Standing}

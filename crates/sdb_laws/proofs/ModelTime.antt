@@ -6,7 +6,7 @@ use Rattle.std.specs.List.Sorted.{IsStrictlyIncreasing}
 use Rattle.sdb_types.specs.declared.txid.TxId.{TxId}
 use Rattle.sdb_record.specs.declared.coordinator.Decision.TheVariants.{Committed}
 use Rattle.sdb_model.specs.declared.event.Point.{Point}
-use Rattle.sdb_stores.specs.declared.place.Place.{Place}
+use Rattle.sdb_types.specs.declared.place.Place.{Place}
 use Rattle.sdb_model.specs.Events.{StoreContents}
 use Rattle.sdb_model.specs.Transactions.{Executed, commit_of, point, last_prepare, Recorded, IsOrder}
 use Rattle.sdb_model.specs.Serial.{Precedes, TransactionsInRealTime}

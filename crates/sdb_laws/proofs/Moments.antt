@@ -23,7 +23,7 @@ use Rattle.sdb_record.specs.Moved.{version_of, condition_of}
 use Rattle.sdb_record.specs.Parts.{before_record}
 use Rattle.sdb_record.specs.Rolls.{prepared_record}
 use Rattle.sdb_model.specs.declared.event.Event.{Event}
-use Rattle.sdb_stores.specs.declared.place.Place.{Place}
+use Rattle.sdb_types.specs.declared.place.Place.{Place}
 use Rattle.sdb_model.specs.Exec.{find_table}
 use Rattle.sdb_model.specs.Events.{StoreContents, contact_of, standing, moment}
 use Rattle.sdb_model.specs.Transactions.{is_prepared_record}

@@ -22,7 +22,7 @@ use Rattle.sdb_record.specs.Moved.{version_of, condition_of}
 use Rattle.sdb_record.specs.Rolls.{prepared_record}
 use Rattle.sdb_record.proofs.ImageLaws.{version-writer, row-key}
 use Rattle.sdb_model.specs.declared.event.Event.{Event}
-use Rattle.sdb_stores.specs.declared.place.Place.{Place}
+use Rattle.sdb_types.specs.declared.place.Place.{Place}
 use Rattle.sdb_model.specs.Events.{StoreContents, Effect, standing}
 use Rattle.sdb_laws.specs.Plan.{Plan, write_at, written}
 use Rattle.sdb_laws.specs.History.{Action, Prepares, Decides, Aborts, Ack, is_yes, is_met, is_out_of_memory_ack, ProtocolState, History, Standing, Final, Held, base_of, has_version, happens, with_row, IsLive, IsWriter, IsPrepared}

@@ -32,7 +32,7 @@ use Rattle.sdb_model.specs.declared.event.Event.{Event}
 use Rattle.sdb_model.specs.declared.event.Event.TheVariants as event
 use Rattle.sdb_model.specs.declared.event.How.{How}
 use Rattle.sdb_model.specs.declared.event.How.TheVariants.{Seen, Lost, Discarded, Broken}
-use Rattle.sdb_stores.specs.declared.place.Place.{Place}
+use Rattle.sdb_types.specs.declared.place.Place.{Place}
 use Rattle.sdb_model.specs.Events.{StoreContents, Effect, IsPerformed, IsCall}
 use Rattle.sdb_model.specs.Transactions.{prepares, is_prepared_by, last_prepare}
 use Rattle.sdb_laws.specs.Plan.{Plan, written}

@@ -18,7 +18,7 @@ use Rattle.sdb_record.specs.Parts.{before_record}
 use Rattle.sdb_record.specs.Rolls.{IsWrite, forward_record, is_tombstone, row_of_image, row_of_change, undo}
 use Rattle.sdb_record.proofs.ImageLaws.{forward-prepared-row}
 use Rattle.sdb_model.specs.declared.event.Event.{Event}
-use Rattle.sdb_stores.specs.declared.place.Place.{Place}
+use Rattle.sdb_types.specs.declared.place.Place.{Place}
 use Rattle.sdb_model.specs.Events.{StoreContents, Effect}
 use Rattle.sdb_laws.specs.Plan.{Plan, written, deletes, is_delete}
 use Rattle.sdb_laws.specs.History.{Rolls, Removes, ProtocolState, History, Final, base_of, final_of, rolled, happens, IsWriter}

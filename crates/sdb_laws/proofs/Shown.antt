@@ -23,7 +23,7 @@ use Rattle.sdb_types.proofs.Replies.{record_at-key}
 use Rattle.sdb_types.proofs.Keys.{same_key_tells}
 use Rattle.sdb_model.specs.declared.event.Event.{Event}
 use Rattle.sdb_model.specs.declared.event.Event.TheVariants as event
-use Rattle.sdb_stores.specs.declared.place.Place.{Place}
+use Rattle.sdb_types.specs.declared.place.Place.{Place}
 use Rattle.sdb_model.specs.Events.{StoreContents, Effect, standing, table_asked}
 use Rattle.sdb_laws.specs.Lawful.{InReply, InEvent}
 use Rattle.sdb_laws.proofs.Effects.{AtCall, at_call}

@@ -12,18 +12,18 @@ use Rattle.sdb_model.specs.declared.answer.Answer.{Answer}
 use Rattle.sdb_types.specs.declared.key.Key.{Key}
 use Rattle.sdb_types.proofs.Keys.{tests}
 use Rattle.sdb_record.specs.declared.coordinator.Decision.TheVariants.{Committed, Aborted}
-use Rattle.sdb_stores.specs.declared.place.Place.{Place}
+use Rattle.sdb_types.specs.declared.place.Place.{Place}
 use Rattle.sdb_model.specs.Events.{StoreContents, IsTrace}
 use Rattle.sdb_model.specs.Tables.{is_data}
 use Rattle.sdb_laws.specs.Plan.{Plan, written}
-use Rattle.sdb_laws.specs.History.{Action, Begins, Prepares, Ends, Ack, ProtocolState, History, Standing, Final, Held, base_of, final_of, has_version, happens}
+use Rattle.sdb_laws.specs.History.{Action, Begins, Prepares, Ack, ProtocolState, History, Standing, Final, Held, base_of, final_of, has_version, happens}
 use Rattle.sdb_laws.specs.Lawful.{Labelled, protocol_state, id, answer_of, is_denial, IsBadRow, IsKnownAborted, MayAnswer}
 use Rattle.sdb_laws.specs.Trace.{closing, IsTraced, has_effect, after_end, history}
 use Rattle.sdb_laws.specs.Records.{record_left_by, record_for, row_for}
 use Rattle.sdb_laws.specs.Explained.{IsRunOf, RowsFinal, IsAnsweredCommitted, IsDenied, StoodBefore, newest_first, events_of}
 use Rattle.sdb_laws.proofs.Allowed.{Allowed}
 use Rattle.sdb_laws.proofs.Small.{row_kept, point_fixed}
-use Rattle.sdb_laws.proofs.Seen.{All, all_kept, closed_still}
+use Rattle.sdb_laws.proofs.Seen.{All, closed_still}
 use Rattle.sdb_laws.proofs.Known.{held_before, moment_stays, row_stays, taken_fits}
 use Rattle.sdb_laws.proofs.Settled.{Knows, committed_of, aborted_of}
 use Rattle.sdb_laws.proofs.Moves.{Moves}

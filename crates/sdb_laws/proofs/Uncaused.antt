@@ -9,7 +9,7 @@ use Rattle.sdb_types.specs.declared.value.Value.TheVariants as value
 use Rattle.sdb_schema.specs.declared.table.Table.{Table}
 use Rattle.sdb_record.specs.declared.access.Image.{Image}
 use Rattle.sdb_model.specs.declared.answer.Answer.TheVariants as answer
-use Rattle.sdb_stores.specs.declared.place.Place.{Place}
+use Rattle.sdb_types.specs.declared.place.Place.{Place}
 use Rattle.sdb_model.specs.Events.{StoreContents}
 use Rattle.sdb_model.specs.Transactions.{Executed, ends, id_of, statements_of, through_end}
 use Rattle.sdb_model.specs.declared.statement.Statement.{Statement}

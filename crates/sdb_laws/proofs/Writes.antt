@@ -12,7 +12,7 @@ use Rattle.sdb_types.specs.Contents.{Contents, record_at, holds, put_reply, repl
 use Rattle.sdb_types.specs.Order.{same_key}
 use Rattle.sdb_types.proofs.Keys.{same_key_self, same_key_tells}
 use Rattle.sdb_model.specs.declared.event.How.{How}
-use Rattle.sdb_stores.specs.declared.place.Place.{Place}
+use Rattle.sdb_types.specs.declared.place.Place.{Place}
 use Rattle.sdb_model.specs.Rows.{Name}
 use Rattle.sdb_model.specs.Events.{StoreContents, standing, table_asked, IsCall}
 use Rattle.sdb_laws.specs.Trace.{takes_effect_at}

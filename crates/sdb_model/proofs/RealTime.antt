@@ -1,7 +1,7 @@
 -- Real time between transactions is real time between what clients see, where each answer Committed has its transaction.
 use Rattle.sdb_model.specs.declared.event.Event.{Event}
 use Rattle.sdb_model.specs.declared.event.Point.{Point}
-use Rattle.sdb_stores.specs.declared.place.Place.{Place}
+use Rattle.sdb_types.specs.declared.place.Place.{Place}
 use Rattle.sdb_model.specs.Events.{StoreContents}
 use Rattle.sdb_model.specs.Serial.{CommittedIsOwned, RespectsRealTime, TransactionsInRealTime}
 use Rattle.std.specs.Prelude.{List}

@@ -10,7 +10,7 @@ use Rattle.sdb_record.specs.declared.coordinator.Decided.{Decided}
 use Rattle.sdb_record.specs.Coordinator.{coordinator_key_of, decision_in}
 use Rattle.sdb_record.specs.Meta.{id_in}
 use Rattle.sdb_record.specs.Rolls.{image_of, row_of_image}
-use Rattle.sdb_stores.specs.declared.place.Place.{Place}
+use Rattle.sdb_types.specs.declared.place.Place.{Place}
 use Rattle.sdb_model.specs.Events.{StoreContents, standing}
 
 -- the decision on a transaction: what its row in the coordinator's table says, where there is one and it is well formed

@@ -2,7 +2,7 @@
 ghost use Rattle.std.specs.Prelude.{◌≡◌, IfOk};
 
 use sdb_schema::Catalog;
-pub use sdb_stores::Place;
+pub use sdb_types::Place;
 use sdb_types::{Duplicate, Name, NoMemory, Seq, Txt};
 
 pub type Places = Seq<Place>;

@@ -1,7 +1,7 @@
 //! Laws of what a retirement leaves.
 ghost use Rattle.std.specs.Prelude.{◌≡◌, ℕ, List, map};
 ghost use Rattle.sdb_types.specs.declared.key.Key.{Key};
-ghost use Rattle.sdb_stores.specs.declared.place.Place.{Place};
+ghost use Rattle.sdb_types.specs.declared.place.Place.{Place};
 ghost use Rattle.sdb_model.specs.Events.{StoreContents, standing};
 ghost use Rattle.sdb_model.specs.Images.{image_at};
 ghost use Rattle.sdb_catalog.specs.declared.entry.Entry.{Entry};

@@ -17,7 +17,7 @@ use Rattle.sdb_schema.specs.declared.table.Table.{Table}
 use Rattle.sdb_record.specs.declared.access.Image.{Image}
 use Rattle.sdb_record.specs.Rolls.{image_of, row_of_image}
 use Rattle.sdb_model.specs.declared.event.Event.{Event}
-use Rattle.sdb_stores.specs.declared.place.Place.{Place}
+use Rattle.sdb_types.specs.declared.place.Place.{Place}
 use Rattle.sdb_model.specs.declared.statement.Statement.{Statement}
 use Rattle.sdb_model.specs.declared.statement.Statement.TheVariants as statement
 use Rattle.sdb_model.specs.Events.{contents_under, moment, standing, store_of}

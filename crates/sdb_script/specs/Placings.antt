@@ -1,6 +1,6 @@
 -- Places, as pairs of a namespace and its store.
 use Rattle.std.specs.Prelude.{ℕ, List, map}
-use Rattle.sdb_stores.specs.declared.place.Place.{Place}
+use Rattle.sdb_types.specs.declared.place.Place.{Place}
 
 abbrev pub placing : List ℕ × List ℕ → Place
 placing e = record { ns = e.0; store = e.1 }

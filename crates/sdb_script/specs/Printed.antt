@@ -5,7 +5,7 @@ use Rattle.sdb_types.specs.Order.{table_text}
 use Rattle.sdb_schema.specs.declared.table.Table.{Table}
 use Rattle.sdb_catalog.specs.Definition.{definition_text}
 use Rattle.sdb_model.specs.declared.script.Move.{Move}
-use Rattle.sdb_stores.specs.declared.place.Place.{Place}
+use Rattle.sdb_types.specs.declared.place.Place.{Place}
 use Rattle.sdb_model.specs.declared.script.ScriptClient.{ScriptClient}
 use Rattle.sdb_model.specs.declared.script.Script.{Script}
 use Rattle.sdb_model.specs.Form.{client_line}

@@ -24,7 +24,7 @@ impl Drop for Placings {
 
 impl Model for Placings {
     ghost use Rattle.std.specs.Prelude.{List};
-    ghost use Rattle.sdb_stores.specs.declared.place.Place.{Place as OnePlace};
+    ghost use Rattle.sdb_types.specs.declared.place.Place.{Place as OnePlace};
     ghost use Rattle.sdb_script.specs.Placings.{placings};
 
     ghost Value = { List OnePlace };

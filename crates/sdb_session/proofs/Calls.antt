@@ -14,7 +14,7 @@ use Rattle.sdb_types.specs.Order.{same_key}
 use Rattle.sdb_types.proofs.Keys.{same_key_tells}
 use Rattle.sdb_types.proofs.Replies.{rows_in-are_rows_of}
 use Rattle.sdb_model.specs.declared.event.How.{How}
-use Rattle.sdb_stores.specs.declared.place.Place.{Place}
+use Rattle.sdb_types.specs.declared.place.Place.{Place}
 use Rattle.sdb_model.specs.Rows.{Name}
 use Rattle.sdb_model.specs.Events.{StoreContents, standing, table_asked, IsCall}
 use Rattle.sdb_laws.proofs.Effects.{AtCall, at_call, after_put, after_delete}

@@ -24,7 +24,7 @@ use Rattle.sdb_model.specs.Access.{with_row}
 use Rattle.sdb_model.specs.Events.{StoreContents, contents_under, standing, store_of}
 use Rattle.sdb_model.specs.Exec.{Tables, row_of_entry}
 use Rattle.sdb_model.specs.Rows.{Name, same_name}
-use Rattle.sdb_stores.specs.declared.place.Place.{Place}
+use Rattle.sdb_types.specs.declared.place.Place.{Place}
 use Rattle.sdb_exec.proofs.Laid.{by_key, get-with_row}
 use Rattle.sdb_steps.specs.Fitting.{row_is_well_typed}
 use Rattle.sdb_session.specs.Database.{Database, database_of, is_listed, row_in, decided_on}

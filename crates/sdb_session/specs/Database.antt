@@ -21,7 +21,7 @@ use Rattle.sdb_record.specs.Rolls.{image_of, row_of_image}
 use Rattle.sdb_schema.specs.declared.table.Table.{Table}
 use Rattle.sdb_model.specs.Exec.{find_table}
 use Rattle.sdb_model.specs.Events.{StoreContents, standing}
-use Rattle.sdb_stores.specs.declared.place.Place.{Place}
+use Rattle.sdb_types.specs.declared.place.Place.{Place}
 
 -- A database: the record at each key, if there is one.
 abbrev pub Database : Type 0

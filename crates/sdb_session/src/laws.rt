@@ -9,7 +9,7 @@ ghost use Rattle.sdb_schema.specs.declared.table.Table.{Table};
 ghost use Rattle.sdb_model.specs.declared.answer.Answer.TheVariants as answer;
 ghost use Rattle.sdb_model.specs.declared.answer.Refusal.{Refusal};
 ghost use Rattle.sdb_model.specs.declared.event.How.{How};
-ghost use Rattle.sdb_stores.specs.declared.place.Place.{Place};
+ghost use Rattle.sdb_types.specs.declared.place.Place.{Place};
 ghost use Rattle.sdb_model.specs.declared.statement.Statement.{Statement};
 ghost use Rattle.sdb_model.specs.Events.{IsCall, StoreContents};
 ghost use Rattle.sdb_model.specs.Rows.{Name};

@@ -9,7 +9,7 @@ ghost use Rattle.sdb_schema.specs.declared.table.Table.{Table};
 ghost use Rattle.sdb_model.specs.declared.event.Event.{Event};
 ghost use Rattle.sdb_model.specs.declared.event.How.TheVariants as how;
 ghost use Rattle.sdb_model.specs.declared.event.Outcome.{Outcome};
-ghost use Rattle.sdb_stores.specs.declared.place.Place.{Place};
+ghost use Rattle.sdb_types.specs.declared.place.Place.{Place};
 ghost use Rattle.sdb_model.specs.declared.script.Script.{Script};
 ghost use Rattle.sdb_model.specs.Rows.{Name};
 ghost use Rattle.sdb_model.specs.Events.{StoreContents, IsCall, IsTrace, contents_under, store_of, table_asked};

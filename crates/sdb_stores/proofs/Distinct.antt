@@ -9,7 +9,7 @@ use Rattle.std.proofs.lemmas.List.Quantifiers.{all_pairs_push, all_pairs_remove}
 use Rattle.std.proofs.lemmas.Option.{slice_get-map, slice_get-get_or}
 use Rattle.std.proofs.lemmas.Slice.Eq.{bytes_eq-Decides}
 use Rattle.sdb_store.specs.Store.{StoreState}
-use Rattle.sdb_stores.specs.declared.place.Place.{Place}
+use Rattle.sdb_types.specs.declared.place.Place.{Place}
 use Rattle.sdb_stores.specs.Views.{StoreView, AreDistinct, IsAdded, attached_as, view_of, names_of, place_of, total_faults}
 use Rattle.sdb_stores.proofs.Called.{names_of-map, map-remove, set_same}
 use Rattle.sdb_types.proofs.Basics.{none_before}

@@ -11,7 +11,7 @@ use Rattle.sdb_types.specs.declared.record.Reply.TheVariants as reply
 use Rattle.sdb_types.specs.Contents.{Contents, CanAnswer}
 use Rattle.sdb_types.specs.Draws.{counted as next_number}
 use Rattle.sdb_store.specs.Store.{StoreState, Performs, faults_after}
-use Rattle.sdb_stores.specs.declared.place.Place.{Place}
+use Rattle.sdb_types.specs.declared.place.Place.{Place}
 
 -- a store: its name, what it holds where that is known, how many of its calls have failed, and how many were made
 pub record StoreView : Type 0 where

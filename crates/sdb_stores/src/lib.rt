@@ -5,6 +5,6 @@ mod place;
 mod registry;
 mod stores;
 
-pub use place::{Place, PlaceRefused, table_of};
+pub use place::{PlaceRefused, table_of};
 pub use registry::Registry;
 pub use stores::{AttachRefused, Stores};

@@ -1,34 +1,11 @@
-//! The places of namespaces.
+//! Where the places of namespaces lead.
 ghost use Rattle.std.specs.Prelude.{◌≡◌, IfOk, find, filter, not};
 ghost use Rattle.std.specs.Option.{option_copied};
 ghost use Rattle.sdb_stores.specs.Views.{route_of, places_without, table_of as table_of_lem};
 ghost use Rattle.sdb_stores.specs.declared.place.PlaceRefused.TheVariants.{NoMemory as OutOfMemory};
 
-use sdb_types::{Duplicate, Name, NoMemory, Request, TableName};
+use sdb_types::{Name, NoMemory, Place, Request, TableName};
 use thiserror::Error;
-
-/// A namespace, and the store that it is placed on.
-#[derive(Debug, PartialEq, Eq)]
-pub struct Place {
-    pub ns: Name,
-    pub store: Name,
-}
-
-// By hand: each drop is then one call, where a derived one is written out at each exit, with a call for each field.
-impl Drop for Place {
-    fn drop(self) {
-        let Place { ns: _, store: _ } = self;
-    }
-}
-
-impl Duplicate for Place {
-    fn copy(&self) -> Result<Place, NoMemory> {
-        Ok(Place {
-            ns: self.ns.copy()?,
-            store: self.store.copy()?,
-        })
-    }
-}
 
 #[derive(Clone, Copy, Debug, PartialEq, Eq, Error)]
 pub enum PlaceRefused {

@@ -3,12 +3,12 @@ ghost use Rattle.std.specs.Prelude.{◌≡◌, ◌↔◌, ◌⊎◌, ◌<◌, �
 ghost use Rattle.std.specs.Str.{bytes_eq};
 ghost use Rattle.sdb_store.specs.Store.{IsStoreCall};
 ghost use Rattle.sdb_stores.specs.Views.{AreDistinct, IsAdded, IsCallAt, IsTakenOut, AreUnchanged, attached_as, home_in, index_in};
-ghost use Rattle.sdb_stores.specs.declared.place.Place.{Place};
+ghost use Rattle.sdb_types.specs.declared.place.Place.{Place};
 
-use crate::place::{Place, PlaceRefused, find_store, leave, table_of};
+use crate::place::{PlaceRefused, find_store, leave, table_of};
 use crate::registry::Registry;
 use sdb_store::{Store, call};
-use sdb_types::{Duplicate, Name, Names, NoMemory, Reply, Request, Seq, TableName};
+use sdb_types::{Duplicate, Name, Names, NoMemory, Place, Reply, Request, Seq, TableName};
 use std::alloc::Global;
 
 /// Why a store was not attached. It is handed back.

@@ -16,7 +16,7 @@ use Rattle.sdb_record.specs.Parts.{is_column_name}
 use Rattle.sdb_schema.specs.declared.table.Kind.{Kind}
 use Rattle.sdb_schema.specs.declared.table.Kind.TheVariants as kinds
 use Rattle.sdb_loader.specs.Words.{is_spelled, kind_named}
-use Rattle.sdb_stores.specs.declared.place.Place.{Place}
+use Rattle.sdb_types.specs.declared.place.Place.{Place}
 use Rattle.clap.specs.Lexer.{usize_max}
 use Rattle.clap.specs.Simple.{subcommand_of}
 use Rattle.clap.specs.Walk.{Row, Text}

@@ -8,7 +8,7 @@ use Rattle.std.proofs.lemmas.List.Elements.{All-head, All-tail}
 use Rattle.sdb_types.proofs.Basics.{false_true, some_is}
 use Rattle.sdb_types.specs.declared.key.TableName.{TableName}
 use Rattle.sdb_loader.specs.Words.{kind_named}
-use Rattle.sdb_stores.specs.declared.place.Place.{Place}
+use Rattle.sdb_types.specs.declared.place.Place.{Place}
 use Rattle.sdb_words.specs.declared.command.Command.{Command}
 use Rattle.sdb_words.specs.declared.command.Command.TheVariants as command
 use Rattle.sdb_data.specs.declared.fault.Mode.{Mode}

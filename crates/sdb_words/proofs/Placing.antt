@@ -10,7 +10,7 @@ use Rattle.sdb_types.specs.NameText.{around}
 use Rattle.sdb_types.proofs.Basics.{by_test, drop_next, false_true, none_some, some_is}
 use Rattle.sdb_record.specs.Parts.{is_column_name}
 use Rattle.sdb_stores.specs.Views.{AreDistinct}
-use Rattle.sdb_stores.specs.declared.place.Place.{Place}
+use Rattle.sdb_types.specs.declared.place.Place.{Place}
 use Rattle.sdb_words.specs.Places.{is_placed, place_text, ArePlaces, IsPlace}
 use Rattle.sdb_words.proofs.Joined.{Halves, joined, no_equals, parted}
 

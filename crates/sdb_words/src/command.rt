@@ -1,8 +1,7 @@
 //! The commands of the program.
 use sdb_data::Mode;
 use sdb_schema::Kind;
-use sdb_stores::Place;
-use sdb_types::{Name, NoMemory, Seq, TableName};
+use sdb_types::{Name, NoMemory, Place, Seq, TableName};
 use std::alloc::AllocError;
 use thiserror::Error;
 

@@ -2,15 +2,14 @@
 ghost use Rattle.sdb_types.specs.NameText.{around};
 ghost use Rattle.std.specs.Prelude.{◌≡◌, ◌≢◌, List, map, string_bytes, IfOk, IsErrOf};
 ghost use Rattle.std.specs.Option.{option_map};
-ghost use Rattle.sdb_stores.specs.declared.place.Place.{Place};
+ghost use Rattle.sdb_types.specs.declared.place.Place.{Place};
 ghost use Rattle.sdb_words.specs.declared.command.WordsRefused.{WordsRefused};
 ghost use Rattle.sdb_words.specs.Places.{is_placed as is_placed_lem, place_text, ArePlaces, IsPlace};
 
 use crate::command::WordsRefused;
 use crate::names::attached;
 use sdb_loader::{is_short_name, known_name};
-use sdb_stores::Place;
-use sdb_types::{Duplicate, Name, Names, Seq};
+use sdb_types::{Duplicate, Name, Names, Place, Seq};
 use std::alloc::Global;
 
 fn around_equals(word: &str) -> Option<(&str, &str)>

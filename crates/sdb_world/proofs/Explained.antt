@@ -7,7 +7,7 @@ use Rattle.sdb_record.specs.Coordinator.{coordinator_table}
 use Rattle.sdb_schema.specs.declared.table.Table.{Table}
 use Rattle.sdb_model.specs.declared.event.Event.{Event}
 use Rattle.sdb_model.specs.declared.script.Act.{Act}
-use Rattle.sdb_stores.specs.declared.place.Place.{Place}
+use Rattle.sdb_types.specs.declared.place.Place.{Place}
 use Rattle.sdb_model.specs.declared.script.Script.{Script}
 use Rattle.sdb_model.specs.Events.{Effect, IsTrace, StoreContents}
 use Rattle.sdb_model.specs.Exec.{find_table}

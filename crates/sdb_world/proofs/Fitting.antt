@@ -22,7 +22,7 @@ use Rattle.sdb_record.specs.Meta.{id_in}
 use Rattle.sdb_record.specs.Rolls.{image_of, row_of_image}
 use Rattle.sdb_schema.specs.declared.table.Table.{Table}
 use Rattle.sdb_schema.specs.Catalog.{rises, is_above_name}
-use Rattle.sdb_stores.specs.declared.place.Place.{Place}
+use Rattle.sdb_types.specs.declared.place.Place.{Place}
 use Rattle.sdb_model.specs.Events.{StoreContents, standing}
 use Rattle.sdb_model.specs.Exec.{Tables, find_table, row_of_entry}
 use Rattle.sdb_model.specs.Images.{decision_at, decision_on, row_at}

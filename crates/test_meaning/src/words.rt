@@ -1,8 +1,7 @@
 //! Words of the program, and which command they are.
 use sdb_data::Mode;
 use sdb_schema::Kind;
-use sdb_stores::Place;
-use sdb_types::TableName;
+use sdb_types::{Place, TableName};
 use sdb_words::{Command, WordsRefused, command_of};
 use std::alloc::Global;
 use std::test::Fail;

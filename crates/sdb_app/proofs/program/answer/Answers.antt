@@ -1,5 +1,5 @@
 use Rattle.std.proofs.Common.{IfErr, IfOk, List, refl, subst, sym}
-use Rattle.sdb_stores.specs.declared.place.Place.{Place}
+use Rattle.sdb_types.specs.declared.place.Place.{Place}
 use Rattle.sdb_app.specs.Schema.{IsSchemaKept, StopsSchema}
 use Rattle.sdb_words.specs.declared.command.Command.{Command}
 use Rattle.sdb_app.specs.Ends.{draws, stream, work_of, work_on}
