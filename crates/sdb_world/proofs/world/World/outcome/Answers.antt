@@ -11,7 +11,7 @@ use Rattle.sdb_dump.proofs.Later.{odd_before, recorded_later}
 use Rattle.sdb_record.specs.Coordinator.{coordinator_table}
 use Rattle.sdb_dump.specs.Held.{AreDumpsWhereKnown, AreWellFormedWhereKnown, IsOddIn}
 use Rattle.sdb_dump.proofs.Closings.{coordinator_fit}
-use Rattle.sdb_board.specs.Board.{AreFit, known_before, shown}
+use Rattle.sdb_board.specs.Board.{AreUsable, known_before, contents_of_views}
 use Rattle.sdb_endings.specs.Order.{HasRisen}
 use Rattle.sdb_dump.proofs.Refusals.{passed, refused_as}
 use Rattle.sdb_world.proofs.Explained.{played_explained}
@@ -26,7 +26,7 @@ returns-in_err-recorded-clause-err g c =
     let stopped = c.in_err-recorded.ensures in
     passed _ c.from_residual.result c.in_err-recorded.field-0.0 c.from_residual.ensures.1
     (refused_as _ _ _ _ c.in_err-recorded.field-0.0
-    (λ key odd opening on. outcome_sound (λ (ts : List Table). AreFit ts old) c.args.self c.requires.world opening (shown old.shelves) (shown old.shelves) old.places catalog (ap (λ (s : Script). s.catalog) c.into_parts-script.ensures.script) key (λ fit. odd_before old new stopped.goes stopped.known catalog key fit (stopped.still fit) odd) on.fit on.as_placed on.played)
+    (λ key odd opening on. outcome_sound (λ (ts : List Table). AreUsable ts old) c.args.self c.requires.world opening (contents_of_views old.views) (contents_of_views old.views) old.places catalog (ap (λ (s : Script). s.catalog) c.into_parts-script.ensures.script) key (λ fit. odd_before old new stopped.goes stopped.known catalog key fit (stopped.still fit) odd) on.fit on.as_placed on.labelled)
     (λ h. h) c.in_err-recorded.ensures.err)
 
 pub returns-clause-run : goal.returns-clause-run
@@ -38,13 +38,13 @@ returns-clause-run g c =
     let rose : HasRisen c.as_slice.result.now c.as_slice-2.result.now order = record { points = c.in_ok-order.ensures.points; rising = c.in_ok-order.ensures.rising; among = c.in_ok-order.ensures.among; whole = c.in_ok-order.ensures.ids } in
     let risen = subst (λ (es : List Event). HasRisen es c.in_ok-recorded.field-0.recorded order) c.as_slice.ensures (subst (λ (ids : List TxId). HasRisen c.as_slice.result.now ids order) c.as_slice-2.ensures rose) in
     λ opening on.
-    outcome_run (λ (ts : List Table). AreFit ts old) c.args.self c.requires.world opening (shown old.shelves) (shown (g.R.Registry.state c.closing_dump.new.stores).shelves) old.places catalog (ap (λ (s : Script). s.catalog) c.into_parts-script.ensures.script)
+    outcome_run (λ (ts : List Table). AreUsable ts old) c.args.self c.requires.world opening (contents_of_views old.views) (contents_of_views (g.R.Registry.state c.closing_dump.new.stores).views) old.places catalog (ap (λ (s : Script). s.catalog) c.into_parts-script.ensures.script)
     c.into_parts-script.result.1 c.in_ok-recorded.field-0.recorded order c.in_ok-recorded.field-0.tables c.into_parts-script.ensures.events
-    (record { printed = read.tables; each = λ fit. read.recorded (coordinator_fit catalog old fit); small = read.small; still = read.still }) risen on.fit on.as_placed on.played
+    (record { printed = read.tables; each = λ fit. read.recorded (coordinator_fit catalog old fit); small = read.small; still = read.still }) risen on.fit on.as_placed on.labelled
 
 pub returns-clause-explained : goal.returns-clause-explained
 returns-clause-explained g c =
-    λ opening played. played_explained c.args.self c.requires.world c.into_parts-script.result.1 c.into_parts-script.ensures.events opening (shown (g.R.Registry.state c.args.stores.now).shelves) played
+    λ opening labelled. played_explained c.args.self c.requires.world c.into_parts-script.result.1 c.into_parts-script.ensures.events opening (contents_of_views (g.R.Registry.state c.args.stores.now).views) labelled
 
 pub returns-clause-read : goal.returns-clause-read
 returns-clause-read g c =
@@ -67,7 +67,7 @@ returns-clause-read g c =
 pub returns-clause-still : goal.returns-clause-still
 returns-clause-still g c =
     let old = g.R.Registry.state c.args.stores.now in
-    λ fit. c.in_ok-recorded.ensures.still (subst (λ (ts : List Table). AreFit ts old) (sym (ap (λ (s : Script). s.catalog) c.into_parts-script.ensures.script)) fit)
+    λ fit. c.in_ok-recorded.ensures.still (subst (λ (ts : List Table). AreUsable ts old) (sym (ap (λ (s : Script). s.catalog) c.into_parts-script.ensures.script)) fit)
 
 pub returns-in_err-recorded-clause-bad : goal.returns-in_err-recorded-clause-bad
 returns-in_err-recorded-clause-bad g c =
@@ -81,4 +81,4 @@ returns-in_err-recorded-clause-bad g c =
 pub returns-in_err-recorded-clause-still : goal.returns-in_err-recorded-clause-still
 returns-in_err-recorded-clause-still g c =
     let old = g.R.Registry.state c.args.stores.now in
-    λ fit. c.in_err-recorded.ensures.still (subst (λ (ts : List Table). AreFit ts old) (sym (ap (λ (s : Script). s.catalog) c.into_parts-script.ensures.script)) fit)
+    λ fit. c.in_err-recorded.ensures.still (subst (λ (ts : List Table). AreUsable ts old) (sym (ap (λ (s : Script). s.catalog) c.into_parts-script.ensures.script)) fit)
