@@ -172,7 +172,7 @@ played_on script old mid then new o same still goes fit none quiet run explained
   empty = sym (ap (λ (ss : List StoreContents). first_key (opening_records script.catalog script.places ss)) (ap contents_of_views still)) ∙ sym (ap (λ (xs : List Place). first_key (opening_records script.catalog xs (contents_of_views mid.views))) same) ∙ none;
   run = run_now;
   explained = explained_now;
-  contents_of_views = shown_of script (contents_of_views old.views) o.events apart caused resolved explained_now;
+  shown = shown_of script (contents_of_views old.views) o.events apart caused resolved explained_now;
   plain = λ lines. run_plain (record { script = script; opening = contents_of_views old.views; closing = new; outcome = o; playable = playable; lines = lines; executed = executed; nothing = nothing_now; run = run_now }) fits;
 }
   where

@@ -73,7 +73,7 @@ changes_seen read_set t statement.Vacuum rows h key = tt
 change_fine : (t : Table) → is_table t ≡ true → (k : Keyed) → is_ordered k.change ≡ true → change_is_well_typed t k ≡ true → is_change k.change ≡ true
 change_fine t table k o f = of_change k.change o f
   where
-    of_change : (c : Change) → is_ordered c ≡ true → Rattle.sdb_exec.specs.Plans.leaves_fit t k.key c ≡ true → is_change c ≡ true
+    of_change : (c : Change) → is_ordered c ≡ true → Rattle.sdb_exec.specs.Plans.leaves_well_typed t k.key c ≡ true → is_change c ≡ true
     of_change (change.Row columns) o f = and_both (are_columns columns) (are_user_columns columns) o (fitting_user t table k.key columns f)
     of_change change.Delete o f = refl
 

@@ -71,7 +71,7 @@ pub record Says (ns : List ReadItem) (i : ℕ) (k : Key) (v : Option ℕ) : Type
   pub as_read : version_read (item_of n) k ≡ Some version
   pub number : number_of version ≡ v
 
-says_by : (ns : List ReadItem) (i : ℕ) (k : Key) (v : Option ℕ) (o : Option ReadItem) → slice_get ns i ≡ o → option_map number_of (option_and_then (λ (n : Rattle.sdb_model.specs.ReadSet.Note). version_read n k) (option_map item_of o)) ≡ Some v → Says ns i k v
+says_by : (ns : List ReadItem) (i : ℕ) (k : Key) (v : Option ℕ) (o : Option ReadItem) → slice_get ns i ≡ o → option_map number_of (option_and_then (λ (n : Rattle.sdb_model.specs.ReadSet.ReadItem). version_read n k) (option_map item_of o)) ≡ Some v → Says ns i k v
 says_by ns i k v None e h = none_some h
 says_by ns i k v (Some n) e h = by (version_read (item_of n) k) refl h
   where
@@ -82,12 +82,12 @@ says_by ns i k v (Some n) e h = by (version_read (item_of n) k) refl h
 pub noted_says : (plans : List Plan) (t i : ℕ) (k : Key) (v : Option ℕ) → version_read_at (plan_in plans t) i k ≡ Some v → Says (items_in plans t) i k v
 unfolding version_read_at
 noted_says plans t i k v h =
-    says_by (items_in plans t) i k v (slice_get (items_in plans t) i) refl (ap (λ o. option_map number_of (option_and_then (λ (n : Rattle.sdb_model.specs.ReadSet.Note). version_read n k) o)) (sym (got_map item_of (items_in plans t) i)) ∙ h)
+    says_by (items_in plans t) i k v (slice_get (items_in plans t) i) refl (ap (λ o. option_map number_of (option_and_then (λ (n : Rattle.sdb_model.specs.ReadSet.ReadItem). version_read n k) o)) (sym (got_map item_of (items_in plans t) i)) ∙ h)
 
 pub says_noted : (plans : List Plan) (t i : ℕ) (k : Key) (n : ReadItem) (version : Option TxId) → slice_get (items_in plans t) i ≡ Some n → version_read (item_of n) k ≡ Some version → version_read_at (plan_in plans t) i k ≡ Some (number_of version)
 unfolding version_read_at
 says_noted plans t i k n version at says =
-    ap (λ o. option_map number_of (option_and_then (λ (n : Rattle.sdb_model.specs.ReadSet.Note). version_read n k) o)) (got_map item_of (items_in plans t) i ∙ ap (option_map item_of) at) ∙ ap (option_map number_of) says
+    ap (λ o. option_map number_of (option_and_then (λ (n : Rattle.sdb_model.specs.ReadSet.ReadItem). version_read n k) o)) (got_map item_of (items_in plans t) i ∙ ap (option_map item_of) at) ∙ ap (option_map number_of) says
 
 pub got_says : (read : Read) (k : Key) (version : Option TxId) → version_read (item_of (item.Got read)) k ≡ Some version → (read.key ≡ k) × (version ≡ read.version)
 got_says read k version h = by (same_key read.key k) refl h

@@ -62,7 +62,7 @@ only_written plan x k e h = by (write_at plan k) refl
 only_note : (plan : Plan) (read : Read) (i : ℕ) (k : Key) (v : Option ℕ) → plan.read_set ≡ KeyRead read ∷ [] → version_read_at plan i k ≡ Some v → (i ≡ 0) × (read.key ≡ k) × (v ≡ number_of read.version)
 unfolding version_read_at
 only_note plan read zero k v e h = let x = noted_got plan 0 read k v (ap (λ ns. slice_get ns 0) e) h in (refl, x.0, x.1)
-only_note plan read (suc i) k v e h = absurd (none (sym (ap (λ ns. option_map number_of (Rattle.std.specs.Option.option_and_then (λ n. Rattle.sdb_model.specs.ReadSet.version_noted n k) (slice_get ns (suc i)))) e) ∙ h))
+only_note plan read (suc i) k v e h = absurd (none (sym (ap (λ ns. option_map number_of (Rattle.std.specs.Option.option_and_then (λ n. Rattle.sdb_model.specs.ReadSet.version_read n k) (slice_get ns (suc i)))) e) ∙ h))
   where
     none : ◌≡◌ {A = Option (Option ℕ)} None (Some v) → ⊥
     none x = cc

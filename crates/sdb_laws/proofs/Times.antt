@@ -91,7 +91,7 @@ told_recorded plan places opening (p ∷ past) (s ∷ ss) t r (inl h) =
     let m : MayAnswer plan past p = r.lawful.2 h.0 in
     let before = whole plan places opening past ss r.empty r.lawful.0 r.traced.0 in
     let now = whole_of plan places opening (p ∷ past) (s ∷ ss) r in
-    let fits = taken_fits (history plan places opening past ss) m.t before.all.one.begun before.knows.fits (subst (λ (x : Rattle.sdb_laws.specs.History.Talk). x.taken m.t ≡ true) before.knows.talks m.taken) in
+    let fits = taken_fits (history plan places opening past ss) m.t before.all.one.begun before.knows.fits (subst (λ (x : Rattle.sdb_laws.specs.History.ProtocolState). x.taken m.t ≡ true) before.knows.talks m.taken) in
     subst (λ x. (history plan places opening (p ∷ past) (s ∷ ss)).row x ≡ Some Committed) (some_is m.t t (sym m.ends ∙ h.1)) (committed_of plan (history plan places opening (p ∷ past) (s ∷ ss)) (p ∷ past) m.t m.moment now.knows fits m.known).0
   where
     some_is : (a b : ℕ) → Some a ≡ Some b → a ≡ b

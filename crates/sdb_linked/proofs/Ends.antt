@@ -62,7 +62,7 @@ taken_of plan places opening past ss t run fits recorded = by ((protocol_state p
 
     by : (b : Bool) → (protocol_state past).taken t ≡ b → b ≡ true
     by true e = refl
-    by false e = absurd (((whole_of plan places opening past ss run).all.one.taken t (coordinator_key_of (id t)) 0 (ap (λ (x : Rattle.sdb_laws.specs.History.Talk). x.taken t) (sym (whole_of plan places opening past ss run).knows.talks) ∙ e)).4 row)
+    by false e = absurd (((whole_of plan places opening past ss run).all.one.taken t (coordinator_key_of (id t)) 0 (ap (λ (x : Rattle.sdb_laws.specs.History.ProtocolState). x.taken t) (sym (whole_of plan places opening past ss run).knows.talks) ∙ e)).4 row)
 
 ---- what it ran
 
@@ -224,7 +224,7 @@ going_is_run script fit events sys doing opening end moments order fitting g fol
       ran = ran_of script.catalog fit events sys doing g;
       system = subst (λ ps. Rattle.sdb_turns.specs.System.SystemOk g.plan ps sys) g.turned g.system;
       stories = subst (λ ps. Rattle.sdb_story.specs.History.AllStories (events_of g.labelled) ps sys g.told) g.turned (subst (λ es. Rattle.sdb_story.specs.History.AllStories es g.past sys g.told) g.same g.stories);
-      bodies = subst (λ ps. Rattle.sdb_story.specs.Left.AllBodiesSaid script.catalog fit g.plan (events_of g.labelled) ps (ran_of script.catalog fit events sys doing g) (ordinals_of order)) g.turned (subst (λ es. Rattle.sdb_story.specs.Left.AllBodiesSaid script.catalog fit g.plan es g.past (ran_of script.catalog fit events sys doing g) (ordinals_of order)) g.same
+      bodies = subst (λ ps. Rattle.sdb_story.specs.Left.AllBodiesExecuted script.catalog fit g.plan (events_of g.labelled) ps (ran_of script.catalog fit events sys doing g) (ordinals_of order)) g.turned (subst (λ es. Rattle.sdb_story.specs.Left.AllBodiesExecuted script.catalog fit g.plan es g.past (ran_of script.catalog fit events sys doing g) (ordinals_of order)) g.same
           (all_ids (λ t. ExecutionOk script.catalog fit g.plan g.past t (ran_of script.catalog fit events sys doing g t) × BodyIsExecuted events t (ran_of script.catalog fit events sys doing g t)) order
           (all_by (λ (p : Point). ExecutionOk script.catalog fit g.plan g.past p.id.0 (ran_of script.catalog fit events sys doing g p.id.0) × BodyIsExecuted events p.id.0 (ran_of script.catalog fit events sys doing g p.id.0)) order (λ k d l. done script.catalog fit events sys doing g (slice_index_or order k d).id.0 (taken k d l)))));
     }

@@ -171,7 +171,7 @@ module _ (catalog : List Table) (fit : Tables → Bool) (events : List Event) (s
 
   ---- a client's event that says nothing more
 
-  pub silent : (e : Event) → ((ss : List Executed) (k : ℕ) → Rattle.sdb_model.specs.Transactions.said_after c ss (k, e) ≡ ss) → statements_by c (events ++ e ∷ []) ≡ statements_by c events
+  pub silent : (e : Event) → ((ss : List Executed) (k : ℕ) → Rattle.sdb_model.specs.Transactions.statements_after c ss (k, e) ≡ ss) → statements_by c (events ++ e ∷ []) ≡ statements_by c events
   silent e f = said_more c events e ∙ f (statements_by c events) (1 + length events)
 
   ---- COMMIT is taken
@@ -442,7 +442,7 @@ module _ (catalog : List Table) (fit : Tables → Bool) (events : List Event) (s
       inside = record {
         seen = written;
         body = body_step (q ∷ g.past) catalog fit (ran n).body (ran n).answers read st a b changes body known covered answers;
-        statements_by = said_one_more parts.2 s (ran n) run st b before_it.inside.executed (effective_by s b false said_so effective) reads said_so refl refl;
+        executed = said_one_more parts.2 s (ran n) run st b before_it.inside.executed (effective_by s b false said_so effective) reads said_so refl refl;
       };
       planned = λ h. clash (sym h ∙ untaken_still);
     }) refl

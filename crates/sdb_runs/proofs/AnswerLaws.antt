@@ -89,7 +89,7 @@ module _ (catalog : List Table) (x : Stores) (events : List Event) (id : TxId) (
     parts = h.parts;
     begins = h.begins;
     finished = h.finished;
-    projected = h.shown;
+    shown = h.shown;
     read = h.read;
     made = h.made;
   }
@@ -105,7 +105,7 @@ module _ (catalog : List Table) (x : Stores) (events : List Event) (id : TxId) (
     parts = h.parts;
     begins = h.begins;
     finished = h.finished;
-    projected = h.shown;
+    shown = h.shown;
     read = h.read;
     made = h.made;
   }

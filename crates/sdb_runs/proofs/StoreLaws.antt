@@ -12,6 +12,6 @@ held_is [] name = refl
 held_is (s ∷ ss) name = by (same_name s.name name) (held_is ss name)
   where
     by : (b : Bool) → contents_under (all_contents ss) name ≡ option_map (λ (x : StoreContents). x.rows) (find (λ (x : StoreContents). same_name x.name name) ss)
-        → option_map (λ (x : Rattle.sdb_model.specs.Events.Shelf). x.contents) (if b then Some (contents_value s) else find (λ x. same_name x.name name) (all_contents ss)) ≡ option_map (λ (x : StoreContents). x.rows) (if b then Some s else find (λ (x : StoreContents). same_name x.name name) ss)
+        → option_map (λ (x : Rattle.sdb_model.specs.Events.StoreContents). x.contents) (if b then Some (contents_value s) else find (λ x. same_name x.name name) (all_contents ss)) ≡ option_map (λ (x : StoreContents). x.rows) (if b then Some s else find (λ (x : StoreContents). same_name x.name name) ss)
     by true e = refl
     by false e = e

@@ -73,11 +73,11 @@ checked_is (p ∷ past) u j =
     ∙ checked_step (protocol_state (all_labelled past)) p.action u j
     ∙ ap (λ b. is_check_of u j p.action || b) (checked_is past u j)
 
-risk_by : (w : Rattle.sdb_laws.specs.History.Word) (f : ℕ → Bool) (t u : ℕ) → (if is_out_of_memory_ack w then f else Rattle.sdb_laws.specs.History.at f t true) u ≡ ((u == t && not (is_out_of_memory_ack w)) || f u)
+risk_by : (w : Rattle.sdb_laws.specs.History.Ack) (f : ℕ → Bool) (t u : ℕ) → (if is_out_of_memory_ack w then f else Rattle.sdb_laws.specs.History.at f t true) u ≡ ((u == t && not (is_out_of_memory_ack w)) || f u)
 risk_by Rattle.sdb_laws.specs.History.Yes f t u = if_or (u == t) (f u) ∙ and_end (u == t) (f u)
 risk_by Rattle.sdb_laws.specs.History.No f t u = if_or (u == t) (f u) ∙ and_end (u == t) (f u)
-risk_by Rattle.sdb_laws.specs.History.Silence f t u = if_or (u == t) (f u) ∙ and_end (u == t) (f u)
-risk_by Rattle.sdb_laws.specs.History.Wanting f t u = none_end (u == t) (f u)
+risk_by Rattle.sdb_laws.specs.History.NoAck f t u = if_or (u == t) (f u) ∙ and_end (u == t) (f u)
+risk_by Rattle.sdb_laws.specs.History.OutOfMemory f t u = none_end (u == t) (f u)
 
 yes_by : (b : Bool) (f : ℕ → Bool) (t u : ℕ) → (if b then Rattle.sdb_laws.specs.History.at f t true else f) u ≡ ((u == t && b) || f u)
 yes_by true f t u = if_or (u == t) (f u) ∙ and_end (u == t) (f u)

@@ -47,7 +47,7 @@ some_one (Some x) h = (x, refl)
 
 pub held_shown : (past : List Labelled) (t : ℕ) (k : Key) (r : Record) → In (observed past) r → is_prepared_at k r ≡ true → id_in r.columns ≡ Some (id t) → IsPreparedObserved (all_labelled past) t k r
 held_shown past t k r i h w = record {
-  observed = shown_is past r i;
+  shown = shown_is past r i;
   key = same_key_exact r.key k (left (same_key r.key k) (not (is_in state.Committed r.columns)) h);
   held = not_true (is_in state.Committed r.columns) (right (same_key r.key k) (not (is_in state.Committed r.columns)) h);
   writer = w;

@@ -62,8 +62,8 @@ impl<S: Held + Drop> Kept<S> {
         ensures sound { IfOk result (λ kept. (⟦<Kept<S> as Store>⟧.state kept).faults ≡ 0) }
         ensures unused { IfOk result (λ kept. (⟦<Kept<S> as Store>⟧.state kept).calls ≡ 0) }
         ensures refused { IfErr result (IsNotMade S.Store connection) }
-        ensures blank { IfOk result (λ kept. IsNewDatabase S.Store S.Held.known connection kept.connection) }
-        ensures found { IfOk result (λ kept. IsStoreOn S.Store S.Held.known connection kept.connection) }
+        ensures blank { IfOk result (λ kept. IsNewDatabase S.Store S.Held.tells connection kept.connection) }
+        ensures found { IfOk result (λ kept. IsStoreOn S.Store S.Held.tells connection kept.connection) }
     {
         match make_table(&mut connection) {
             Ok(_) => Ok(Kept {
@@ -116,7 +116,7 @@ fn reply_of(written: Written) -> Reply
 
 impl<S: Held + Drop> Store for Kept<S> {
     // In memory its contents are known, where the database has its table and index and nothing else.
-    ghost state = { λ kept. store_state_of S.Store S.Held.known kept.connection kept.faults kept.calls };
+    ghost state = { λ kept. store_state_of S.Store S.Held.tells kept.connection kept.faults kept.calls };
 
     fn get(&mut self, key: &Key) -> Reply
         ensures called { IsStoreCall (Get key.now) result (⟦<Kept<S> as Store>⟧.state self.old) (⟦<Kept<S> as Store>⟧.state self.new) }

@@ -39,7 +39,7 @@ take_said c events text a = said_more c events (event.Take c text a) ∙ ap (λ 
 -- A statement that is answered as it is taken.
 pub said_at_once : (events : List Event) (past : List Labelled) (sys : SystemAt) (c : ℕ) (x : ClientHistory) (q : Labelled) (text : List ℕ) (a : Answer) → HistoryInvariant events past sys c x → x.waiting ≡ None → q.event ≡ event.Take c text (Some a) → IsAnswerOf events c x q (executed_of_take events text (Some a))
 said_at_once events past sys c x q text a story none e = record {
-  statements_by = ap (λ y. statements_by c (events ++ y ∷ [])) e ∙ take_said c events text (Some a) ∙ ap (λ ss. ss ++ executed_of_take events text (Some a) ∷ []) (story.same ∙ none_waits x none);
+  executed = ap (λ y. statements_by c (events ++ y ∷ [])) e ∙ take_said c events text (Some a) ∙ ap (λ ss. ss ++ executed_of_take events text (Some a) ∷ []) (story.same ∙ none_waits x none);
   answer = ap answer_of e;
   answered = plus_one (length events);
   waited = λ w h. none_some w (sym none ∙ h);
@@ -53,7 +53,7 @@ answer_last (s ∷ t ∷ ss) w n a = ap (λ r. s ∷ r) (answer_last (t ∷ ss) 
 -- A statement that waited is answered by a call of its client.
 pub said_later : (events : List Event) (past : List Labelled) (sys : SystemAt) (c : ℕ) (x : ClientHistory) (q : Labelled) (w : Executed) (store : Name) (ask : Request) (how : How) (r : Reply) (a : Answer) → HistoryInvariant events past sys c x → x.waiting ≡ Some w → q.event ≡ event.Call c store ask how r (Some a) → IsAnswerOf events c x q (executed_with_answer events w a)
 said_later events past sys c x q w store ask how r a story waits e = record {
-  statements_by = ap (λ y. statements_by c (events ++ y ∷ [])) e
+  executed = ap (λ y. statements_by c (events ++ y ∷ [])) e
       ∙ said_more c events (event.Call c store ask how r (Some a))
       ∙ ap (λ t. if t then with_answer (statements_by c events) (1 + length events) a else statements_by c events) (itself c)
       ∙ ap (λ ss. with_answer ss (1 + length events) a) (story.same ∙ ap (λ o. (saids_of x.whole ++ statements_in x.rest) ++ waiting_of o) waits)

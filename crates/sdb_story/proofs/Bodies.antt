@@ -80,7 +80,7 @@ span_tells s d span q (x ∷ xs) told inside all ok h = by (same_span x.span spa
     at (Some found) i n = told (ap is_some n)
 
     by : (b : Bool) → same_span x.span span ≡ b → (b || is_scanned xs span) ≡ true → (is_scanned xs span ≡ true → row_found (base_at s.read_set q) ≡ get d q) → row_found (base_at s.read_set q) ≡ get d q
-    by true t e ih = at (record_read_at s.read_set q) (subst (λ (y : Span). in_span y q ≡ true) (sym ((Rattle.sdb_types.specs.Exactness.span_tells x.span span).0 t)) inside) refl
+    by true t e ih = at (record_read_at s.read_set q) (subst (λ (y : Span). in_span y q ≡ true) (sym ((Rattle.sdb_types.specs.Exactness.span_is_exact x.span span).0 t)) inside) refl
     by false t e ih = ih e
 
 pub access_agrees : (past : List Labelled) (s : Seen) (a : Access) (d : Tables) → SeenOk past s → IsCovered s a → AgreesAll s d → Agrees s a d

@@ -10,8 +10,8 @@ returns-clause-prepared_twice c = prepared_twice_refused
 pub returns-clause-rolled_blindly : goal.returns-clause-rolled_blindly
 returns-clause-rolled_blindly c = rolled_blindly_refused
 
-pub returns-clause-checked_moved : goal.returns-clause-checked_moved
-returns-clause-checked_moved c = checked_moved_refused
+pub returns-clause-checked_changed : goal.returns-clause-checked_changed
+returns-clause-checked_changed c = checked_moved_refused
 
 pub returns-clause-removed_while_open : goal.returns-clause-removed_while_open
 returns-clause-removed_while_open c = removed_while_open_refused
