@@ -2,7 +2,7 @@
 use Rattle.std.specs.Coded.{Coded}
 use Rattle.std.specs.FinMap.{code}
 use Rattle.sdb_types.specs.contracts.key.Key as key
-use Rattle.sdb_phases.specs.contracts.check.Wish as wish
+use Rattle.sdb_phases.specs.contracts.check.Expected as wish
 use Rattle.sdb_phases.specs.Checks.{Wishes}
 
 abbrev pub coded_wishes : Coded Wishes
