@@ -66,19 +66,19 @@ is_span a b e = (span_is_exact a b).1 e
 fits_is : (w : Ack) (r : Reply) → matches_reply w r ≡ true → ack_of w ≡ reply_word r
 fits_is word.Yes reply.Applied h = refl
 fits_is word.No (reply.NotMet found) h = refl
-fits_is word.Wanting reply.NoMemory h = refl
-fits_is word.Silence (reply.Found found) h = refl
-fits_is word.Silence (reply.Rows rows) h = refl
-fits_is word.Silence reply.Fault h = refl
+fits_is word.OutOfMemory reply.NoMemory h = refl
+fits_is word.NoAck (reply.Found found) h = refl
+fits_is word.NoAck (reply.Rows rows) h = refl
+fits_is word.NoAck reply.Fault h = refl
 fits_is _ _ h = clash (sym h)
 
 is_fit : (w : Ack) (r : Reply) → ack_of w ≡ reply_word r → matches_reply w r ≡ true
 is_fit word.Yes reply.Applied e = refl
 is_fit word.No (reply.NotMet found) e = refl
-is_fit word.Wanting reply.NoMemory e = refl
-is_fit word.Silence (reply.Found found) e = refl
-is_fit word.Silence (reply.Rows rows) e = refl
-is_fit word.Silence reply.Fault e = refl
+is_fit word.OutOfMemory reply.NoMemory e = refl
+is_fit word.NoAck (reply.Found found) e = refl
+is_fit word.NoAck (reply.Rows rows) e = refl
+is_fit word.NoAck reply.Fault e = refl
 is_fit _ _ e = absurd (cc)
 
 pub in_commit_is : (past : List Labelled) (client t : ℕ) → in_commit past client t ≡ true → InCommit (protocol_state (all_labelled past)) client t

@@ -78,10 +78,10 @@ is_valid_item rs (item.Scanned scan) = not (is_coordinator_table scan.span.table
 abbrev pub matches_reply : Ack → Reply → Bool
 matches_reply word.Yes reply.Applied = true
 matches_reply word.No (reply.NotMet found) = true
-matches_reply word.Wanting reply.NoMemory = true
-matches_reply word.Silence (reply.Found found) = true
-matches_reply word.Silence (reply.Rows rows) = true
-matches_reply word.Silence reply.Fault = true
+matches_reply word.OutOfMemory reply.NoMemory = true
+matches_reply word.NoAck (reply.Found found) = true
+matches_reply word.NoAck (reply.Rows rows) = true
+matches_reply word.NoAck reply.Fault = true
 matches_reply _ _ = false
 
 -- a client makes calls of the COMMIT of its transaction

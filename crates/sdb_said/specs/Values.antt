@@ -24,8 +24,8 @@ use Rattle.sdb_said.specs.declared.labelled.Labelled.{Labelled}
 abbrev pub ack_of : Ack → part.Ack
 ack_of word.Yes = part.Yes
 ack_of word.No = part.No
-ack_of word.Silence = part.NoAck
-ack_of word.Wanting = part.OutOfMemory
+ack_of word.NoAck = part.NoAck
+ack_of word.OutOfMemory = part.OutOfMemory
 
 abbrev pub action_of : Action → part.Action
 action_of action.Other = part.Other

@@ -4,5 +4,5 @@ use Rattle.sdb_said.specs.Values.{item_of}
 use Rattle.sdb_caused.specs.Tests.{is_changed}
 use Rattle.sdb_caused.proofs.conflict.any_moved.Given as goal
 
-abbrev pub invariant-loop-add_prepare : goal.invariant-loop-add_prepare
-invariant-loop-add_prepare l = list_any (λ n. is_changed l.key l.found (item_of n)) (drop l.add_prepare-index l.read_set) ≡ list_any (λ n. is_changed l.key l.found (item_of n)) l.read_set
+abbrev pub invariant-loop-item : goal.invariant-loop-item
+invariant-loop-item l = list_any (λ n. is_changed l.key l.found (item_of n)) (drop l.item-index l.read_set) ≡ list_any (λ n. is_changed l.key l.found (item_of n)) l.read_set

@@ -4,5 +4,5 @@ use Rattle.sdb_said.specs.Values.{item_of}
 use Rattle.sdb_caused.specs.Tests.{scan_differs}
 use Rattle.sdb_caused.proofs.conflict.any_scan_differs.Given as goal
 
-abbrev pub invariant-loop-add_prepare : goal.invariant-loop-add_prepare
-invariant-loop-add_prepare l = list_any (λ n. scan_differs l.key l.base (item_of n)) (drop l.add_prepare-index l.read_set) ≡ list_any (λ n. scan_differs l.key l.base (item_of n)) l.read_set
+abbrev pub invariant-loop-item : goal.invariant-loop-item
+invariant-loop-item l = list_any (λ n. scan_differs l.key l.base (item_of n)) (drop l.item-index l.read_set) ≡ list_any (λ n. scan_differs l.key l.base (item_of n)) l.read_set
