@@ -203,7 +203,7 @@ impl Drafting {
     }
 
     // Takes a line before `run`, or `run`.
-    #[tactic(auto, unfolding(crate::specs::Told::take_head))]
+    #[tactic(auto, unfolding(crate::specs::Reading::take_head))]
     fn take_head(&mut self, alloc: Global, line: &str, stores: &Names) -> Result<(), LineRefused>
         ensures ok { OnOk result (spec.take_head stores.now self.old line.now ≡ Ok self.new) }
         ensures bad { IfErr result (spec.Refuses (spec.take_head stores.now self.old line.now)) }
@@ -255,7 +255,7 @@ impl Drafting {
     }
 
     /// Takes one line more.
-    #[tactic(auto, unfolding(crate::specs::Told::told))]
+    #[tactic(auto, unfolding(crate::specs::Reading::read_line_on))]
     pub fn take(&mut self, alloc: Global, line: &[u8], stores: &Names) -> Result<(), LineRefused>
         ensures ok { OnOk result (spec.read_line_on stores.now self.old line.now ≡ Ok self.new) }
         ensures bad { IfErr result (spec.Refuses (spec.read_line_on stores.now self.old line.now)) }

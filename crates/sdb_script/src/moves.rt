@@ -88,7 +88,7 @@ fn rest_in(line: &str) -> Option<Move>
 }
 
 /// The move of a line, over so many clients. Of steps that are more than a script may have, one more than that means all.
-#[tactic(auto, unfolding(crate::specs::Told::move_in))]
+#[tactic(auto, unfolding(crate::specs::Reading::move_in))]
 pub fn move_in(clients: u32, line: &str) -> Option<Move>
     ensures { result ≡ option_map spec.capped (spec.move_in clients line.now) }
 {
