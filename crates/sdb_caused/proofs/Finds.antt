@@ -3,7 +3,7 @@ use Rattle.std.proofs.Common.{◌≡◌, zero, suc, Bool, true, false, List, [],
 use Rattle.std.specs.Prelude.{filter, Contains, ◌||◌, if◌then◌else◌}
 use Rattle.std.specs.List.{list_any}
 use Rattle.sdb_types.specs.declared.record.Record.{Record}
-use Rattle.sdb_model.specs.ReadSet as noted
+use Rattle.sdb_model.specs.ReadSet as as_read
 use Rattle.sdb_said.specs.declared.plan.ReadItem.{ReadItem}
 use Rattle.sdb_said.specs.Values.{item_of}
 use Rattle.sdb_said.proofs.ShownLaws.{record_is, is_record}

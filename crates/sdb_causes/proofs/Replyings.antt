@@ -45,7 +45,7 @@ use Rattle.sdb_txn.specs.Txn.{IsCommitting as GoesOn, TxnAt, idle, pending_in, p
 use Rattle.sdb_client.specs.declared.next.Next.{Next}
 use Rattle.sdb_client.specs.declared.next.Next.TheVariants as next
 use Rattle.sdb_vacuum.specs.declared.work.VacuumStep.{VacuumStep}
-use Rattle.sdb_vacuum.specs.declared.work.VacuumStep.TheVariants as sweep
+use Rattle.sdb_vacuum.specs.declared.work.VacuumStep.TheVariants as vacuuming
 use Rattle.sdb_vacuum.specs.Vacuum as Sweeping
 use Rattle.sdb_vacuum.specs.Vacuum.{Gives, Removing, Scanning, VacuumAt, VacuumStage, vacuum_step}
 use Rattle.sdb_client.specs.Client.{CallPost, ClientAt as Client, CommitNext, RowsReadPost, IsChangedAt, NextPost, OpenTxnPost, ReplyPost, StagePost, VacuumPost, after, answer_in, answer_of, given_answer, given_left, gives, holding, next_of, with_rows_read, pending_by, pending_of, resting, too_many, vacuum_left}

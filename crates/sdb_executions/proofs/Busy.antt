@@ -28,7 +28,7 @@ use Rattle.sdb_phases.specs.Commit.{step as commit_step}
 use Rattle.sdb_txn.specs.declared.progress.Progress.{Progress}
 use Rattle.sdb_txn.specs.Txn.{TxnAt, progress_of}
 use Rattle.sdb_vacuum.specs.declared.work.VacuumStep.{VacuumStep}
-use Rattle.sdb_vacuum.specs.declared.work.VacuumStep.TheVariants as sweep
+use Rattle.sdb_vacuum.specs.declared.work.VacuumStep.TheVariants as vacuuming
 use Rattle.sdb_client.specs.Client.{ClientAt, CommitStartPost, ParsedPost, Parses, StatementPost, Taking, TextPost, VacuumStartPost, answer_in, answer_of, next_id, next_of, TextStep}
 use Rattle.sdb_story.specs.History.{executed_of_take}
 use Rattle.sdb_steps.proofs.Taken.{other_no_commit}

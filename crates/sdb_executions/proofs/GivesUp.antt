@@ -27,7 +27,7 @@ use Rattle.sdb_phases.specs.declared.step.RecoverStep.TheVariants as steps
 use Rattle.sdb_phases.specs.Recover.{recover_next, roll_to, recover_request_at}
 use Rattle.sdb_read.specs.Read.{Asking, Bad, Ended, Firm, Kind, Open, ReadStage, Resolving, answered, kind_of, read_step, resolved, settle, settle_one, read_pending_at, read_result, request_of}
 use Rattle.sdb_vacuum.specs.declared.work.VacuumStep.{VacuumStep}
-use Rattle.sdb_vacuum.specs.declared.work.VacuumStep.TheVariants as sweep
+use Rattle.sdb_vacuum.specs.declared.work.VacuumStep.TheVariants as vacuuming
 use Rattle.sdb_vacuum.specs.Vacuum as vacuum
 use Rattle.sdb_vacuum.specs.Vacuum.{First, Gives, VacuumAt, VacuumStage, vacuum_step}
 use Rattle.sdb_executions.specs.Laws.{DecisionsAreDue, GivesUp, HasExpired, IsOwnDecision, WritesRow, row_put}

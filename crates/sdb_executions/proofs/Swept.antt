@@ -25,7 +25,7 @@ use Rattle.sdb_model.specs.Transactions.{Executed}
 use Rattle.sdb_sqltext.proofs.Clauses.{one_statement}
 use Rattle.sdb_sqltext.proofs.OneWord.{vacuum_read}
 use Rattle.sdb_vacuum.specs.declared.work.VacuumStep.{VacuumStep}
-use Rattle.sdb_vacuum.specs.declared.work.VacuumStep.TheVariants as sweep
+use Rattle.sdb_vacuum.specs.declared.work.VacuumStep.TheVariants as vacuuming
 use Rattle.sdb_vacuum.specs.Vacuum.{Gives, Scanning, VacuumAt, begun as sweeping, spans_of, vacuum_step, whole}
 use Rattle.sdb_txn.specs.Txn.{TxnAt}
 use Rattle.sdb_client.specs.declared.next.Next.{Next}

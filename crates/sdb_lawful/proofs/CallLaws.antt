@@ -35,7 +35,7 @@ use Rattle.sdb_laws.specs.History.{Stage, Preparing, Checking, Deciding, IsPrepa
 use Rattle.sdb_laws.specs.Lawful.{id, protocol_state, ack_of as reply_word, InCommit, IsUnchanged, MayPrepare, MayCheck, MayDecide, MayAbort}
 use Rattle.sdb_said.specs.declared.plan.Plan.{Plan}
 use Rattle.sdb_said.specs.declared.plan.ReadItem.{ReadItem}
-use Rattle.sdb_said.specs.declared.plan.ReadItem.TheVariants as note
+use Rattle.sdb_said.specs.declared.plan.ReadItem.TheVariants as item
 use Rattle.sdb_said.specs.declared.labelled.Ack.{Ack}
 use Rattle.sdb_said.specs.declared.labelled.Ack.TheVariants as word
 use Rattle.sdb_said.specs.declared.labelled.Labelled.{Labelled}

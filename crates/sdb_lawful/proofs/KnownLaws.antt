@@ -11,7 +11,7 @@ use Rattle.sdb_laws.specs.Plan.{write_at}
 use Rattle.sdb_laws.specs.Lawful.{id, protocol_state, IsKnownCommitted, IsKnownAborted, prepared_at, IsLawful, IsEnabled}
 use Rattle.sdb_said.specs.declared.plan.Plan.{Plan}
 use Rattle.sdb_said.specs.declared.labelled.Action.{Action}
-use Rattle.sdb_said.specs.declared.labelled.Action.TheVariants as role
+use Rattle.sdb_said.specs.declared.labelled.Action.TheVariants as action
 use Rattle.sdb_said.specs.declared.labelled.Labelled.{Labelled}
 use Rattle.sdb_said.specs.Values.{all_labelled, action_of, plan_in, writes_in, moment_in}
 use Rattle.sdb_said.specs.Started.{is_take_of, is_prepare_of, commit_started_in, asked_in, risked_in, won_in, dead_in, met_in}

@@ -18,7 +18,7 @@ use Rattle.sdb_laws.specs.Plan.{write_at, written, version_read_at, number_of}
 use Rattle.sdb_model.specs.ReadSet.{version_read}
 use Rattle.sdb_said.specs.declared.plan.Plan.{Plan}
 use Rattle.sdb_said.specs.declared.plan.ReadItem.{ReadItem}
-use Rattle.sdb_said.specs.declared.plan.ReadItem.TheVariants as note
+use Rattle.sdb_said.specs.declared.plan.ReadItem.TheVariants as item
 use Rattle.sdb_said.specs.Values.{item_of, plan_in, writes_in, items_in}
 use Rattle.sdb_lawful.specs.Rules.{is_base, is_sound}
 use Rattle.sdb_said.proofs.Lists.{none_some, right, In, found_in, got_map}

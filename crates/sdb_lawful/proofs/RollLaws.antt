@@ -28,7 +28,7 @@ use Rattle.sdb_laws.specs.Plan.{write_at}
 use Rattle.sdb_laws.specs.Lawful.{id, protocol_state, IsPreparedThere, MayRollForward, MayRollBack, MayRollBy, MayRemove}
 use Rattle.sdb_said.specs.declared.plan.Plan.{Plan}
 use Rattle.sdb_said.specs.declared.labelled.Action.{Action}
-use Rattle.sdb_said.specs.declared.labelled.Action.TheVariants as role
+use Rattle.sdb_said.specs.declared.labelled.Action.TheVariants as action
 use Rattle.sdb_said.specs.declared.labelled.Labelled.{Labelled}
 use Rattle.sdb_said.specs.Values.{all_labelled, plan_in}
 use Rattle.sdb_said.specs.Started.{is_begin_of, touches, opens, ends_with, open_in, owner_of, stopped_in}

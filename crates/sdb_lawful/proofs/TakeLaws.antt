@@ -33,7 +33,7 @@ use Rattle.sdb_model.specs.ReadSet.{version_read}
 use Rattle.sdb_laws.specs.Lawful.{id, protocol_state, IsSettled, MayBegin, MayTake}
 use Rattle.sdb_said.specs.declared.plan.Plan.{Plan}
 use Rattle.sdb_said.specs.declared.plan.ReadItem.{ReadItem}
-use Rattle.sdb_said.specs.declared.plan.ReadItem.TheVariants as note
+use Rattle.sdb_said.specs.declared.plan.ReadItem.TheVariants as item
 use Rattle.sdb_said.specs.declared.labelled.Labelled.{Labelled}
 use Rattle.sdb_said.specs.Values.{all_labelled, item_of, plan_in, writes_in, items_in, moment_in}
 use Rattle.sdb_said.specs.Started.{begun_in, commit_started_in, open_in, owner_of, stopped_in}

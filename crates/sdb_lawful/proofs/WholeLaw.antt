@@ -12,7 +12,7 @@ use Rattle.sdb_model.specs.declared.event.Event.TheVariants as event
 use Rattle.sdb_laws.specs.Lawful.{id, protocol_state, answer_of, is_denial, IsEnabled, MayAnswer, MayDeny, IsKnownAborted, IsBadRow, IsLawful}
 use Rattle.sdb_said.specs.declared.plan.Plan.{Plan}
 use Rattle.sdb_said.specs.declared.labelled.Action.{Action}
-use Rattle.sdb_said.specs.declared.labelled.Action.TheVariants as role
+use Rattle.sdb_said.specs.declared.labelled.Action.TheVariants as action
 use Rattle.sdb_said.specs.declared.labelled.Labelled.{Labelled}
 use Rattle.sdb_said.specs.Values.{all_labelled, labelled_of, action_of, plan_in}
 use Rattle.sdb_said.specs.Started.{commit_started_in, risked_in}

@@ -31,12 +31,12 @@ use Rattle.sdb_model.specs.Sql.{reads_begin, reads_commit}
 use Rattle.sdb_model.specs.ReadSet.{version_read}
 use Rattle.sdb_laws.specs.Lawful.{id, is_quiet, is_denial, answer_of}
 use Rattle.sdb_said.specs.declared.plan.ReadItem.{ReadItem}
-use Rattle.sdb_said.specs.declared.plan.ReadItem.TheVariants as note
+use Rattle.sdb_said.specs.declared.plan.ReadItem.TheVariants as item
 use Rattle.sdb_said.specs.declared.plan.Plan.{Plan}
 use Rattle.sdb_said.specs.declared.labelled.Ack.{Ack}
 use Rattle.sdb_said.specs.declared.labelled.Ack.TheVariants as word
 use Rattle.sdb_said.specs.declared.labelled.Action.{Action}
-use Rattle.sdb_said.specs.declared.labelled.Action.TheVariants as role
+use Rattle.sdb_said.specs.declared.labelled.Action.TheVariants as action
 use Rattle.sdb_said.specs.declared.labelled.Labelled.{Labelled}
 use Rattle.sdb_said.specs.Values.{item_of, writes_in, items_in, moment_in, same_request, same_span}
 use Rattle.sdb_said.specs.Started.{commit_started_in, begun_in, asked_in, acknowledged_in, checked_in, staged_in, deciding_in, risked_in, won_in, dead_in, met_in, stopped_in, owner_of, open_in}

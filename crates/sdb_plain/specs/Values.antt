@@ -9,7 +9,7 @@ use Rattle.sdb_types.specs.Order.{key_cmp}
 use Rattle.sdb_record.specs.declared.coordinator.Decided.{Decided}
 use Rattle.sdb_model.specs.Calls as calls
 use Rattle.sdb_model.specs.Calls.{calls_of, key_asked, decision_in_reply, record_at_key}
-use Rattle.sdb_model.specs.ReadSet as noted
+use Rattle.sdb_model.specs.ReadSet as as_read
 use Rattle.sdb_model.specs.ReadSet.{has_finished, read_items, reads_rows}
 use Rattle.sdb_model.specs.Transactions.{Executed, ends, from_begin, rest_of}
 use Rattle.sdb_record.specs.Coordinator.{decision_in}

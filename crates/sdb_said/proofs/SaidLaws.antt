@@ -7,7 +7,7 @@ use Rattle.sdb_types.specs.declared.txid.TxId.{TxId}
 use Rattle.sdb_laws.specs.History.{ProtocolState, state_after_event, Stage, Preparing, Checking, Deciding, is_yes, is_met, is_out_of_memory_ack, state_after}
 use Rattle.sdb_laws.specs.Lawful.{protocol_state, ended}
 use Rattle.sdb_said.specs.declared.labelled.Action.{Action}
-use Rattle.sdb_said.specs.declared.labelled.Action.TheVariants as role
+use Rattle.sdb_said.specs.declared.labelled.Action.TheVariants as action
 use Rattle.sdb_said.specs.declared.labelled.Labelled.{Labelled}
 use Rattle.sdb_said.specs.Values.{action_of, all_labelled, ack_of}
 use Rattle.sdb_said.specs.Started.{is_begin_of, owner_in, is_take_of, is_prepare_of, is_applied, is_check_of, is_stage_of, is_decision, is_risk_of, is_win_of, is_death_of, is_meeting_of, is_stop_of, is_end_of, touches, opens, begun_in, owner_of, open_in, stopped_in, commit_started_in, asked_in, acknowledged_in, checked_in, staged_in, deciding_in, risked_in, won_in, dead_in, met_in}

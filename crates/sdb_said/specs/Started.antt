@@ -6,7 +6,7 @@ use Rattle.sdb_types.specs.declared.key.Key.{Key}
 use Rattle.sdb_types.specs.Order.{same_key}
 use Rattle.sdb_laws.specs.History.{is_yes, is_met, is_out_of_memory_ack}
 use Rattle.sdb_said.specs.declared.labelled.Action.{Action}
-use Rattle.sdb_said.specs.declared.labelled.Action.TheVariants as role
+use Rattle.sdb_said.specs.declared.labelled.Action.TheVariants as action
 use Rattle.sdb_said.specs.declared.labelled.Labelled.{Labelled}
 use Rattle.sdb_said.specs.declared.labelled.Sign.{Sign}
 use Rattle.sdb_said.specs.declared.labelled.Sign.TheVariants as sign

@@ -8,17 +8,17 @@ use Rattle.sdb_types.specs.contracts.record.RecordPartialEq.TheImpl as record_eq
 use Rattle.sdb_types.specs.contracts.record.SpanPartialEq.TheImpl as span_eq
 use Rattle.sdb_types.specs.contracts.record.RequestPartialEq.TheImpl as request_eq
 use Rattle.sdb_record.specs.declared.write.Write.{Write}
-use Rattle.sdb_model.specs.ReadSet as noted
+use Rattle.sdb_model.specs.ReadSet as as_read
 use Rattle.sdb_laws.specs.Plan as law
 use Rattle.sdb_laws.specs.History as part
 use Rattle.sdb_laws.specs.Lawful as lawful
 use Rattle.sdb_said.specs.declared.plan.ReadItem.{ReadItem}
-use Rattle.sdb_said.specs.declared.plan.ReadItem.TheVariants as note
+use Rattle.sdb_said.specs.declared.plan.ReadItem.TheVariants as item
 use Rattle.sdb_said.specs.declared.plan.Plan.{Plan}
 use Rattle.sdb_said.specs.declared.labelled.Ack.{Ack}
 use Rattle.sdb_said.specs.declared.labelled.Ack.TheVariants as word
 use Rattle.sdb_said.specs.declared.labelled.Action.{Action}
-use Rattle.sdb_said.specs.declared.labelled.Action.TheVariants as role
+use Rattle.sdb_said.specs.declared.labelled.Action.TheVariants as action
 use Rattle.sdb_said.specs.declared.labelled.Labelled.{Labelled}
 
 abbrev pub ack_of : Ack → part.Ack

@@ -60,7 +60,7 @@ use Rattle.sdb_txn.specs.declared.txn.Doing.{Doing}
 use Rattle.sdb_txn.specs.declared.txn.Doing.TheVariants as doing
 use Rattle.sdb_txn.specs.Txn.{CommitPost, IsCommitting, TxnAt, committing, progress_of, reading, work_of as txn_work}
 use Rattle.sdb_vacuum.specs.declared.work.VacuumStep.{VacuumStep}
-use Rattle.sdb_vacuum.specs.declared.work.VacuumStep.TheVariants as sweep
+use Rattle.sdb_vacuum.specs.declared.work.VacuumStep.TheVariants as vacuuming
 use Rattle.sdb_vacuum.specs.Vacuum.{First, Gives, Malformed, Nothing, Tombstone, Unresolved, VacuumAt, VacuumStage, Scanning, Removing, Over as SweptOver, Resolving as SweepResolving, answered as sweep_answered, first_of, next_of_row, removal_answered, resolved as sweep_resolved, tombstone_or, vacuum_step}
 use Rattle.sdb_client.specs.declared.next.Next.{Next}
 use Rattle.sdb_client.specs.declared.next.Next.TheVariants as next

@@ -36,7 +36,7 @@ use Rattle.sdb_txn.specs.declared.txn.Doing.TheVariants as doing
 use Rattle.sdb_txn.specs.Txn.{TxnAt, IsCommitting, pending_in, progress_of}
 use Rattle.sdb_turns.specs.Reads.{work_of}
 use Rattle.sdb_vacuum.specs.declared.work.VacuumStep.{VacuumStep}
-use Rattle.sdb_vacuum.specs.declared.work.VacuumStep.TheVariants as sweep
+use Rattle.sdb_vacuum.specs.declared.work.VacuumStep.TheVariants as vacuuming
 use Rattle.sdb_vacuum.specs.Vacuum.{Gives, VacuumAt, vacuum_step}
 use Rattle.sdb_client.specs.declared.next.Next.{Next}
 use Rattle.sdb_client.specs.declared.next.Next.TheVariants as next

@@ -12,7 +12,7 @@ use Rattle.sdb_record.specs.Rolls.{is_tombstone}
 use Rattle.sdb_schema.specs.declared.table.Table.{Table}
 use Rattle.sdb_turns.specs.ReadAt.{Rise, keys_of}
 use Rattle.sdb_vacuum.specs.declared.work.VacuumStep.{VacuumStep}
-use Rattle.sdb_vacuum.specs.declared.work.VacuumStep.TheVariants as sweep
+use Rattle.sdb_vacuum.specs.declared.work.VacuumStep.TheVariants as vacuuming
 use Rattle.sdb_vacuum.specs.Vacuum.{VacuumAt, VacuumStage, Scanning, Resolving, Removing, Over}
 use Rattle.sdb_session.specs.Database.{Database, image_in, is_listed, row_in}
 use Rattle.sdb_session.specs.Recovers.{RecoverAlone}

@@ -31,7 +31,7 @@ use Rattle.sdb_txn.specs.declared.txn.Doing.{Doing}
 use Rattle.sdb_txn.specs.declared.txn.Doing.TheVariants as doing
 use Rattle.sdb_txn.specs.Txn.{IsCommitting, TxnAt, idle, pending_in}
 use Rattle.sdb_vacuum.specs.declared.work.VacuumStep.{VacuumStep}
-use Rattle.sdb_vacuum.specs.declared.work.VacuumStep.TheVariants as sweep
+use Rattle.sdb_vacuum.specs.declared.work.VacuumStep.TheVariants as vacuuming
 use Rattle.sdb_vacuum.specs.Vacuum.{Gives, VacuumAt, begun, vacuum_step}
 use Rattle.sdb_client.specs.declared.next.Next.{Next}
 use Rattle.sdb_client.specs.declared.next.Next.TheVariants as next

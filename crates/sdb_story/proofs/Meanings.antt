@@ -42,7 +42,7 @@ use Rattle.sdb_record.proofs.IdLemmas.{id_of_text-is}
 use Rattle.sdb_record.proofs.RollLaws.{before-kept, forward-key}
 use Rattle.sdb_record.proofs.States.{state_value}
 use Rattle.sdb_model.specs.Calls.{StoreCall, key_asked, put_by}
-use Rattle.sdb_model.specs.ReadSet as noted
+use Rattle.sdb_model.specs.ReadSet as as_read
 use Rattle.sdb_model.specs.ReadSet.{condition_asked, meaning_of, rolls}
 use Rattle.sdb_phases.specs.declared.step.RecoverPhase.{RecoverPhase}
 use Rattle.sdb_phases.specs.declared.step.RecoverPhase.TheVariants as phase
