@@ -87,9 +87,9 @@ said_notes_are events client (s ∷ ss) = by (has_finished s) (said_notes_are ev
     by true more = ap (λ xs. read_items (calls_of events client s) ++ xs) more
     by false more = more
 
-composed : (events : List Event) (client : ℕ) (ss : List plain.Said) → flat_map (λ s. items_of_statement events client (executed_of s)) ss ≡ flat_map (items_of_statement events client) (all_executed ss)
+composed : (events : List Event) (client : ℕ) (ss : List plain.Executed) → flat_map (λ s. items_of_statement events client (executed_of s)) ss ≡ flat_map (items_of_statement events client) (all_executed ss)
 composed events client [] = refl
 composed events client (s ∷ ss) = ap (λ xs. items_of_statement events client (executed_of s) ++ xs) (composed events client ss)
 
-pub all_noted : (events : List Event) (client : ℕ) (ss : List plain.Said) → flat_map (λ s. items_of_statement events client (executed_of s)) ss ≡ flat_map (λ s. read_items (calls_of events client s)) (filter has_finished (all_executed ss))
+pub all_noted : (events : List Event) (client : ℕ) (ss : List plain.Executed) → flat_map (λ s. items_of_statement events client (executed_of s)) ss ≡ flat_map (λ s. read_items (calls_of events client s)) (filter has_finished (all_executed ss))
 all_noted events client ss = composed events client ss ∙ said_notes_are events client (all_executed ss)
