@@ -123,7 +123,7 @@ moved_call t u p a x r now key found h = record {
 pub record IsNoted (t u : TxnAt) (a : Access) (s : ReadStep) (found : List Image) : Type 0 where
   pub images : List Record
   pub ended : s ≡ step.Images images
-  pub as_read : u ≡ with_rows_read t a images
+  pub with_read : u ≡ with_rows_read t a images
   pub rows : found ≡ overlay a u.seen
   pub as_read : IsAsRead t a images
 
@@ -132,8 +132,8 @@ rows_in (progress.Rows rows) = rows
 rows_in g = []
 
 noted_images : (t u : TxnAt) (a : Access) (images : List Record) (rows : List Image) → ImagesEnd t a images (progress.Rows rows) u → IsNoted t u a (step.Images images) rows
-noted_images t u (access.Get key) images rows h = record { images = images; ended = refl; as_read = h.as_read; rows = ap rows_in h.rows; as_read = h.unread }
-noted_images t u (access.Scan span) images rows h = record { images = images; ended = refl; as_read = h.1; rows = h.2; as_read = h.0 }
+noted_images t u (access.Get key) images rows h = record { images = images; ended = refl; with_read = h.as_read; rows = ap rows_in h.rows; as_read = h.unread }
+noted_images t u (access.Scan span) images rows h = record { images = images; ended = refl; with_read = h.1; rows = h.2; as_read = h.0 }
 
 noted_stage : (t u : TxnAt) (a : Access) (x : ReadAt) (after : ReadStage) (s : ReadStep) (rows : List Image) → StepPost t a x after s (progress.Rows rows) u → IsNoted t u a s rows
 noted_stage t u a x after step.More rows h = absurd (let e = h.0 in cc)
@@ -163,18 +163,18 @@ noting_id t (access.Get key) images = refl
 noting_id t (access.Scan span) images = refl
 
 pub noted_idle : (t u : TxnAt) (a : Access) (s : ReadStep) (rows : List Image) → IsNoted t u a s rows → u.doing ≡ doing.Idle
-noted_idle t u a s rows h = ap (λ (v : TxnAt). v.doing) h.as_read ∙ noting_idle t a h.images
+noted_idle t u a s rows h = ap (λ (v : TxnAt). v.doing) h.with_read ∙ noting_idle t a h.images
 
 cut_of : (t v : TxnAt) (s : Seen) → v.id ≡ t.id → v.doing ≡ doing.Idle → s ≡ t.seen → ◌≡◌ {A = TxnAt} (record v { seen = s }) (idle t)
 cut_of t v s a b c = λ i. record { id = a i; seen = c i; doing = b i }
 
 pub cut_is : (t u : TxnAt) (a : Access) (s : ReadStep) (rows : List Image) (m : Mark) → m ≡ mark_of t.seen → IsNoted t u a s rows → cut m u ≡ idle t
 cut_is t u a s rows m e h =
-    cut_of t u (forgotten m u.seen) (ap (λ (v : TxnAt). v.id) h.as_read ∙ noting_id t a h.images) (noted_idle t u a s rows h)
-    (ap (λ (n : Mark). forgotten n u.seen) e ∙ ap (λ (v : TxnAt). forgotten (mark_of t.seen) v.seen) h.as_read ∙ noting_forgotten t a h.images)
+    cut_of t u (forgotten m u.seen) (ap (λ (v : TxnAt). v.id) h.with_read ∙ noting_id t a h.images) (noted_idle t u a s rows h)
+    (ap (λ (n : Mark). forgotten n u.seen) e ∙ ap (λ (v : TxnAt). forgotten (mark_of t.seen) v.seen) h.with_read ∙ noting_forgotten t a h.images)
 
 pub kept_cut_of : (t u : TxnAt) (a : Access) (s : ReadStep) (rows : List Image) (m : Mark) → m ≡ mark_of t.seen → IsSetInvariant t.seen.read_set t.seen.writes → IsNoted t u a s rows → IsSetInvariant (take m.read_set u.seen.read_set) u.seen.writes
-kept_cut_of t u a s rows m e kept h = kept_cut t.seen u.seen m e (ap (λ (v : TxnAt). forgotten (mark_of t.seen) v.seen) h.as_read ∙ noting_forgotten t a h.images) kept
+kept_cut_of t u a s rows m e kept h = kept_cut t.seen u.seen m e (ap (λ (v : TxnAt). forgotten (mark_of t.seen) v.seen) h.with_read ∙ noting_forgotten t a h.images) kept
 
 abbrev pub answer_or : Next → Answer
 answer_or (next.Answer z) = z
@@ -184,15 +184,15 @@ pub rows_call : (t u v : TxnAt) (p : Planned) (a : Access) (x : ReadAt) (r : Rep
     → (z ≢ answer.NoMemory → z ≡ given_answer u (step_of p rows)) → (z ≢ answer.NoMemory → v ≡ given_left (cut m u) u (step_of p rows)) → (z ≡ answer.NoMemory → v ≡ cut m u) → CallPost t p a x r now (next.Answer z) v
 rows_call t u v p a x r now rows m z e h told left memory =
     let same : cut m u ≡ idle t = cut_is t u a (read_result (read_step x.stage now r)) rows m e h in
-    let gave : step_of p rows ≡ gives p a (with_rows_read t a h.images) = ap (step_of p) (h.rows ∙ ap (λ (w : TxnAt). overlay a w.seen) h.as_read) in
+    let gave : step_of p rows ≡ gives p a (with_rows_read t a h.images) = ap (step_of p) (h.rows ∙ ap (λ (w : TxnAt). overlay a w.seen) h.with_read) in
     record {
       memory = λ q. memory (ap answer_or q) ∙ same;
       told = λ n.
           let some : z ≢ answer.NoMemory = λ q. n (ap next.Answer q) in
           subst (λ (s : ReadStep). StagePost t p a x (read_step x.stage now r) s (next.Answer z) v) (sym h.ended) (
             h.as_read,
-            told some ∙ ap (given_answer u) gave ∙ ap (λ (w : TxnAt). given_answer w (gives p a (with_rows_read t a h.images))) h.as_read,
-            left some ∙ ap (λ (w : TxnAt). given_left w u (step_of p rows)) same ∙ ap (given_left (idle t) u) gave ∙ ap (λ (w : TxnAt). given_left (idle t) w (gives p a (with_rows_read t a h.images))) h.as_read,
+            told some ∙ ap (given_answer u) gave ∙ ap (λ (w : TxnAt). given_answer w (gives p a (with_rows_read t a h.images))) h.with_read,
+            left some ∙ ap (λ (w : TxnAt). given_left w u (step_of p rows)) same ∙ ap (given_left (idle t) u) gave ∙ ap (λ (w : TxnAt). given_left (idle t) w (gives p a (with_rows_read t a h.images))) h.with_read,
           );
     }
 
@@ -205,7 +205,7 @@ last_noted read_set k f = ap is_some (value_last read_set k f k) ∙ or_some (va
 
 -- the key of a get was read then
 pub noting_read : (t u : TxnAt) (a : Access) (s : ReadStep) (rows : List Image) → IsNoted t u a s rows → IsKeyRead u.seen.read_set a
-noting_read t u a s rows h = subst (λ (w : TxnAt). IsKeyRead w.seen.read_set a) (sym h.as_read) (read_now t a h.images)
+noting_read t u a s rows h = subst (λ (w : TxnAt). IsKeyRead w.seen.read_set a) (sym h.with_read) (read_now t a h.images)
   where
     read_now : (t : TxnAt) (a : Access) (images : List Record) → IsKeyRead (with_rows_read t a images).seen.read_set a
     read_now t (access.Get key) images = last_noted t.seen.read_set key (slice_get images 0)

@@ -13,9 +13,9 @@ use crate::rules::are_shut;
 use sdb_model::{Answer, Event};
 use sdb_record::{Decision, coordinator_key};
 use sdb_said::{
-    Labelled, Plan, is_asked, is_dead, is_forward, is_held_by, is_kept_in, is_met_once, is_risked,
-    is_same_key, is_taken, is_won, keeps_none, moment_of, moments, settles_gone, shows_abort,
-    shows_bad_row, shows_commit, write_of, writes_of,
+    Labelled, Plan, has_no_before, is_asked, is_before_image_of, is_commit_started, is_dead,
+    is_forward, is_met_once, is_prepared_by, is_risked, is_same_key, is_won, moment_of, moments,
+    observes_abort, observes_bad_row, observes_commit, settles_removed, write_of, writes_of,
 };
 use sdb_types::{Condition, Key, NoMemory, Record, Request, Seq, State, TxId};
 use std::alloc::Global;

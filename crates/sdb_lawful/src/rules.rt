@@ -21,9 +21,10 @@ use sdb_record::{
     version_of,
 };
 use sdb_said::{
-    Ack, Action, Labelled, Plan, ReadItem, is_asked, is_begun, is_checked, is_deciding, is_open,
-    is_past_prepares, is_same_key, is_same_request, is_same_span, is_stopped, is_taken, is_told,
-    moment_of, notes_of, owner, record_among, version_among, version_noted, write_of, writes_of,
+    Ack, Action, Labelled, Plan, ReadItem, is_acknowledged, is_asked, is_begun, is_checked,
+    is_commit_started, is_deciding, is_open, is_past_prepares, is_same_key, is_same_request,
+    is_same_span, is_stopped, items_of, moment_of, owner, record_among, version_among,
+    version_read, write_of, writes_of,
 };
 use sdb_sqltokens::reads_word;
 use sdb_types::{Condition, Key, NoMemory, Record, Reply, Request, State, TxId, Txt};

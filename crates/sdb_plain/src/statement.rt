@@ -10,7 +10,7 @@ use crate::tables::PlainTables;
 use sdb_model::{Answer, Delete, Insert, Refusal, Rows, Select, Statement, Test, Update};
 use sdb_record::{Image, Images};
 use sdb_rows::{
-    cut, inserted_key, named_columns, passes, passing, set_columns, shown_all, shown_names,
+    cut, inserted_key, named_columns, passes, passing, projected_all, projected_names, set_columns,
 };
 use sdb_schema::{Catalog, Table};
 use sdb_types::{Columns, Duplicate, NoMemory, Seq, TableName};

@@ -162,15 +162,15 @@ module _ (catalog : List Table) (events : List Event) (states : ℕ → ClientSt
       done : read_then ≡ Done images
       done = sym (machine_steps x.stage y.now y.reply) ∙ ap abstract_read ends
 
-      as_read : SystemOk going.plan going.past (with_client (with_client (system_of states) y.client (Reading t.id t.seen a read_then)) y.client (Open t.id seen))
-      as_read =
+      after_read : SystemOk going.plan going.past (with_client (with_client (system_of states) y.client (Reading t.id t.seen a read_then)) y.client (Open t.id seen))
+      after_read =
           read_set going.plan going.past (with_client (system_of states) y.client (Reading t.id t.seen a read_then)) y.client t.id t.seen a images
           (record { ok = going.system; at = at_itself (system_of states).clients y.client (Reading t.id t.seen a read_then) ∙ ap (Reading t.id t.seen a) done })
           (may_note t a images as_read)
 
       kept : IsSetInvariant seen.read_set seen.writes
       kept =
-          (subst (ClientOk going.plan going.past y.client) (at_itself (with_client (system_of states) y.client (Reading t.id t.seen a read_then)).clients y.client (Open t.id seen)) (as_read.each y.client)).1.kept
+          (subst (ClientOk going.plan going.past y.client) (at_itself (with_client (system_of states) y.client (Reading t.id t.seen a read_then)).clients y.client (Open t.id seen)) (after_read.each y.client)).1.kept
 
       step_seen : (v : TxnAt) (b : Answer) (ks : List Keyed) → IsNoting t a images v → gives p a v ≡ Finished b ks → step_of p (overlay (access_of p.table p.statement) seen) ≡ Finished b ks
       step_seen v b ks n h = sym (ap (λ (q : Access). step_of p (overlay q seen)) k.access) ∙ ap (λ (s : Seen). step_of p (overlay a s)) (sym n.seen) ∙ h
