@@ -1,7 +1,7 @@
 //! The commands `load` and `export`, on stores in memory.
 use crate::attached::attach_all;
 use crate::commands::{
-    CREATED, Refusal, SCHEMA, SHOP, STORE_FAULT, Step, Steps, follow, keeps_schema, puts,
+    CREATED, Refusal, SCHEMA, SHOP, STORE_FAULT, Step, Steps, follow, puts, writes_schema,
 };
 use crate::run::{End, On};
 use crate::session::PREPARED;
