@@ -131,10 +131,10 @@ cross_svg x y = codes "<path class=\"rest\" d=\"M" ++ decimal x ++ codes "," ++ 
 
 unfoldable pub rest_svg : ℕ → ℕ → List ℕ → List ℕ
 rest_svg row client text =
-    cross_svg (client_x client) (arrow_y row) ++ text_svg (codes "item") (statement_x client) (text_y row) 48 text
+    cross_svg (client_x client) (arrow_y row) ++ text_svg (codes "note") (statement_x client) (text_y row) 48 text
 
 unfoldable pub tick_svg : ℕ → List ℕ → List ℕ
-tick_svg row text = text_svg (codes "item") 66 (text_y row) 48 text
+tick_svg row text = text_svg (codes "note") 66 (text_y row) 48 text
 
 unfoldable pub point_title_svg : ℕ → List ℕ → List ℕ
 point_title_svg place id = codes "<g>\n<title>" ++ decimal place ++ codes ": " ++ escaped_text id ++ codes "</title>\n"

@@ -4,4 +4,4 @@ use Rattle.sdb_said.specs.Observed.{has_trace}
 use Rattle.sdb_said.proofs.records.any.Given as goal
 
 abbrev pub invariant-loop-rec : goal.invariant-loop-rec
-invariant-loop-rec l = list_any (has_trace l.trace) (drop l.rec-index l.observed) ≡ list_any (has_trace l.trace) l.observed
+invariant-loop-rec l = list_any (has_trace l.trace) (drop l.rec-index l.shown) ≡ list_any (has_trace l.trace) l.shown
