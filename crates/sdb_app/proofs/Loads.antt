@@ -19,7 +19,7 @@ use Rattle.sdb_app.specs.Export.{IsExported, StopsExport}
 use Rattle.sdb_app.specs.Export.StopsExport.{Unexported, Untabled as NoTable}
 use Rattle.sdb_app.specs.Load.{IsLoaded, IsTableOpened, IsTableUnopened, StopsLoad, tables_ends}
 use Rattle.sdb_app.specs.Load.IsTableUnopened.{Unnamed, Unopened}
-use Rattle.sdb_app.specs.Load.StopsLoad.{Starved, Unread, Untabled}
+use Rattle.sdb_app.specs.Load.StopsLoad.{OutOfMemory, Unread, Untabled}
 use Rattle.sdb_app.proofs.Headline.{begun_with}
 use Rattle.sdb_app.proofs.Sessions.{AreLess, less_before, opened_before, session_less, unopened_before}
 
@@ -93,8 +93,8 @@ loaded_before before work d name m n text same where_known h = record {
 pub load_stops_before : (before : Attached) (work : Work) (d : Draws) (name : TableName) (m : Mode) (n : ℕ) (s : Status) → work.old.views ≡ before.views → ((at : ℕ) → before.known at → work.old.known at) → StopsLoad name m n work d s → StopsLoad name m n (begun_with before work) d s
 load_stops_before before work d name m n s same where_known (Untabled h unread undrawn) = Untabled (untabled_before before work name s same where_known h) unread undrawn
 load_stops_before before work d name m n s same where_known (Unread catalog places t h unread undrawn) = Unread catalog places t (table_before before work name catalog places work.left t same where_known h) unread undrawn
-load_stops_before before work d name m n s same where_known (Starved catalog places mid t rows h read out_of_memory is) =
-    Starved catalog places mid t rows (table_before before work name catalog places mid t same where_known h) read
+load_stops_before before work d name m n s same where_known (OutOfMemory catalog places mid t rows h read out_of_memory is) =
+    OutOfMemory catalog places mid t rows (table_before before work name catalog places mid t same where_known h) read
     (starved_on catalog t m rows n _ _ _ _ d.clock d.clock_then d.ids d.ids_then (less_before before work places mid where_known) (less_before before work places work.left where_known) out_of_memory) is
 
 ---- `export`

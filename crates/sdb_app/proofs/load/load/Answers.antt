@@ -1,7 +1,7 @@
 use Rattle.std.proofs.Common.{ℕ, List, inr, refl, sym, subst}
 use Rattle.sdb_app.specs.Ends.{draws, stream, work_of}
 use Rattle.sdb_app.specs.Load.{IsLoaded}
-use Rattle.sdb_app.specs.Load.StopsLoad.{Starved, Unread, Untabled}
+use Rattle.sdb_app.specs.Load.StopsLoad.{OutOfMemory, Unread, Untabled}
 use Rattle.sdb_app.specs.Load.IsTableUnopened.{Unnamed, Unopened}
 use Rattle.sdb_app.proofs.Loads.{loaded_on, starved_on}
 use Rattle.sdb_tables.specs.Statements.{load_of, rows_after}
@@ -49,7 +49,7 @@ returns-in-Ok-load_rows-clause-err g c =
     let last = g.S.Registry.state c.load_rows.new.stores in
     let opens = c.open_catalog.ensures.goes in
     let sat = c.load_rows.ensures.goes in
-    err_then _ _ c.text_of.result (λ s is. Starved c.in-Ok.catalog mid.places mid.views c.in-Some.table.now c.in-Ok-read_rows.rows (record { opened = record { opened = record { entries = c.in-Ok.ensures.opened.entries; read = c.in-Ok.ensures.opened.read; tables = c.in-Ok.ensures.opened.tables; placed = c.in-Ok.ensures.opened.placed }; known = c.in-Ok.ensures.known; unchanged = c.open_catalog.ensures.unchanged; others = c.open_catalog.ensures.goes.others }; found = sym c.in-Some.ensures }) c.in-Ok-read_rows.ensures.read
+    err_then _ _ c.text_of.result (λ s is. OutOfMemory c.in-Ok.catalog mid.places mid.views c.in-Some.table.now c.in-Ok-read_rows.rows (record { opened = record { opened = record { entries = c.in-Ok.ensures.opened.entries; read = c.in-Ok.ensures.opened.read; tables = c.in-Ok.ensures.opened.tables; placed = c.in-Ok.ensures.opened.placed }; known = c.in-Ok.ensures.known; unchanged = c.open_catalog.ensures.unchanged; others = c.open_catalog.ensures.goes.others }; found = sym c.in-Some.ensures }) c.in-Ok-read_rows.ensures.read
     (starved_on c.in-Ok.catalog c.in-Some.table.now c.args.mode c.in-Ok-read_rows.rows c.args.size mid last _ _ (g.C.Clock.told c.args.clock.now) (g.C.Clock.told c.load_rows.new.clock) (g.I.Ids.told c.args.ids.now) (g.I.Ids.told c.load_rows.new.ids) (record { places = refl; views = refl; where_known = opens.where_known }) (record { places = sat.places; views = refl; where_known = λ at told. sat.where_known at (opens.where_known at told) }) (inr (starved_after c.in-Ok.catalog (load_of c.in-Some.table.now c.args.mode c.in-Ok-read_rows.rows) (rows_after c.in-Ok-read_rows.rows) c.args.size _ _ c.in-Ok-load_rows.ensures.loaded sat))) is) c.text_of.ensures.err
 
 pub returns-clause-err : goal.returns-clause-err
@@ -58,5 +58,5 @@ returns-clause-err g c =
     let last = g.S.Registry.state c.load_rows.new.stores in
     let opens = c.open_catalog.ensures.goes in
     let sat = c.load_rows.ensures.goes in
-    Starved c.in-Ok.catalog mid.places mid.views c.in-Some.table.now c.in-Ok-read_rows.rows (record { opened = record { opened = record { entries = c.in-Ok.ensures.opened.entries; read = c.in-Ok.ensures.opened.read; tables = c.in-Ok.ensures.opened.tables; placed = c.in-Ok.ensures.opened.placed }; known = c.in-Ok.ensures.known; unchanged = c.open_catalog.ensures.unchanged; others = c.open_catalog.ensures.goes.others }; found = sym c.in-Some.ensures }) c.in-Ok-read_rows.ensures.read
+    OutOfMemory c.in-Ok.catalog mid.places mid.views c.in-Some.table.now c.in-Ok-read_rows.rows (record { opened = record { opened = record { entries = c.in-Ok.ensures.opened.entries; read = c.in-Ok.ensures.opened.read; tables = c.in-Ok.ensures.opened.tables; placed = c.in-Ok.ensures.opened.placed }; known = c.in-Ok.ensures.known; unchanged = c.open_catalog.ensures.unchanged; others = c.open_catalog.ensures.goes.others }; found = sym c.in-Some.ensures }) c.in-Ok-read_rows.ensures.read
     (starved_on c.in-Ok.catalog c.in-Some.table.now c.args.mode c.in-Ok-read_rows.rows c.args.size mid last _ _ (g.C.Clock.told c.args.clock.now) (g.C.Clock.told c.load_rows.new.clock) (g.I.Ids.told c.args.ids.now) (g.I.Ids.told c.load_rows.new.ids) (record { places = refl; views = refl; where_known = opens.where_known }) (record { places = sat.places; views = refl; where_known = λ at told. sat.where_known at (opens.where_known at told) }) c.in-Err-load_rows.ensures.out_of_memory) refl
