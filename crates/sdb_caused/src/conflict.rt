@@ -127,8 +127,8 @@ fn scan_differs(item: &ReadItem, key: &Key, base: Option<TxId>) -> bool
     ensures { result ≡ scan_differs_lem key.now base (item_of item.now) }
 {
     match item {
-        ReadItem::Got(_) => false,
-        ReadItem::Scanned(scan) => {
+        ReadItem::KeyRead(_) => false,
+        ReadItem::SpanRead(scan) => {
             scan.span.contains(key)
                 && !is_same_version(base, version_among(scan.found.as_slice(), key))
         }

@@ -219,16 +219,16 @@ is_as_noted_of ws scan rows f = both (list_all (λ (r : Record). is_as_read ws s
     ]
 
 finds_is : (plans : List Plan) (t : ℕ) (n : ReadItem) (q : Request) (r : Reply) → finds_read (writes_in plans t) n q r ≡ true → IsUnchanged (plan_in plans t) (item_of n) q r
-finds_is plans t (item.Got read) (ask.Get key) (reply.Found found) h =
+finds_is plans t (item.KeyRead read) (ask.Get key) (reply.Found found) h =
     (found, ap ask.Get (same_key_exact key read.key (left (same_key key read.key) (is_unchanged found read.version) h)), refl, right (same_key key read.key) (is_unchanged found read.version) h)
-finds_is plans t (item.Scanned scan) (ask.Scan span) (reply.Rows rows) h =
+finds_is plans t (item.SpanRead scan) (ask.Scan span) (reply.Rows rows) h =
     (rows, ap ask.Scan (span_is span scan.span (left (same_span span scan.span) (are_as_read (writes_in plans t) scan rows) h)), refl, λ k within free. as_noted_is (writes_in plans t) scan rows (right (same_span span scan.span) (are_as_read (writes_in plans t) scan rows) h) k within (free_is plans t k free))
 finds_is plans t _ _ _ h = clash (sym h)
 
 is_finds : (plans : List Plan) (t : ℕ) (n : ReadItem) (q : Request) (r : Reply) → IsUnchanged (plan_in plans t) (item_of n) q r → finds_read (writes_in plans t) n q r ≡ true
-is_finds plans t (item.Got read) q r u = (λ i. finds_read (writes_in plans t) (item.Got read) (u.1 i) (u.2 i)) ∙ both (same_key read.key read.key) (is_unchanged u.0 read.version) (same_key_of read.key read.key refl) u.3
-is_finds plans t (item.Scanned scan) q r u =
-    (λ i. finds_read (writes_in plans t) (item.Scanned scan) (u.1 i) (u.2 i))
+is_finds plans t (item.KeyRead read) q r u = (λ i. finds_read (writes_in plans t) (item.KeyRead read) (u.1 i) (u.2 i)) ∙ both (same_key read.key read.key) (is_unchanged u.0 read.version) (same_key_of read.key read.key refl) u.3
+is_finds plans t (item.SpanRead scan) q r u =
+    (λ i. finds_read (writes_in plans t) (item.SpanRead scan) (u.1 i) (u.2 i))
     ∙ both (same_span scan.span scan.span) (are_as_read (writes_in plans t) scan u.0) (is_span scan.span scan.span refl) (is_as_noted_of (writes_in plans t) scan u.0 (λ k within free. u.3 k within (is_free plans t k free)))
 
 not_deciding : (s : Stage) → is_deciding s ≡ false → s ≢ Deciding
@@ -372,13 +372,13 @@ module _ (past : List Labelled) (plans : List Plan) (t : ℕ) where
       by n i at k (Some x) e = then_noted n i at k x e (version_read (item_of n) k) refl
 
   checked_note : (i : ℕ) (n : ReadItem) (k : Key) (version : Option TxId) → is_item_checked past t (writes_in plans t) i n ≡ true → version_read (item_of n) k ≡ Some version → written (plan_in plans t) k ≡ None → checked_in past t i ≡ true
-  checked_note i (item.Got read) k version h s free =
+  checked_note i (item.KeyRead read) k version h s free =
       let g = got_says read k version s in
       elim (either (is_some (write_among (writes_in plans t) read.key)) (checked_in past t i) h) [
         | inl w ↦ not_both (is_some (write_among (writes_in plans t) read.key)) w (ap (λ x. is_some (write_among (writes_in plans t) x)) g.0 ∙ free_is plans t k free)
         | inr c ↦ c
       ]
-  checked_note i (item.Scanned scan) k version h s free = h
+  checked_note i (item.SpanRead scan) k version h s free = h
 
   checked_all : list_all (λ (e : ℕ × ReadItem). is_item_checked past t (writes_in plans t) e.0 e.1) (enumerate_from 0 (items_in plans t)) ≡ true → Checked
   checked_all h i k version n free =
@@ -395,13 +395,13 @@ module _ (past : List Labelled) (plans : List Plan) (t : ℕ) where
       plus_zero i = omega arith
 
       by : (i : ℕ) (n : ReadItem) → slice_get (items_in plans t) i ≡ Some n → is_item_checked past t (writes_in plans t) i n ≡ true
-      by i (item.Got read) at = elim (decide (is_some (write_among (writes_in plans t) read.key))) [
+      by i (item.KeyRead read) at = elim (decide (is_some (write_among (writes_in plans t) read.key))) [
         | inl w ↦ or_left (is_some (write_among (writes_in plans t) read.key)) (checked_in past t i) w
-        | inr free ↦ or_right (is_some (write_among (writes_in plans t) read.key)) (checked_in past t i) (sym (checked_is past t i) ∙ f i read.key (number_of read.version) (says_noted plans t i read.key (item.Got read) read.version at (says_got read)) (is_free plans t read.key free))
+        | inr free ↦ or_right (is_some (write_among (writes_in plans t) read.key)) (checked_in past t i) (sym (checked_is past t i) ∙ f i read.key (number_of read.version) (says_noted plans t i read.key (item.KeyRead read) read.version at (says_got read)) (is_free plans t read.key free))
       ]
-      by i (item.Scanned scan) at =
+      by i (item.SpanRead scan) at =
           let k = key_within scan.span (long (writes_in plans t)) in
-          sym (checked_is past t i) ∙ f i k (number_of (version_among scan.found k)) (says_noted plans t i k (item.Scanned scan) (version_among scan.found k) at (says_scan scan k (is_within scan.span (long (writes_in plans t))))) (is_free plans t k (fresh_key (writes_in plans t) scan.span))
+          sym (checked_is past t i) ∙ f i k (number_of (version_among scan.found k)) (says_noted plans t i k (item.SpanRead scan) (version_among scan.found k) at (says_scan scan k (is_within scan.span (long (writes_in plans t))))) (is_free plans t k (fresh_key (writes_in plans t) scan.span))
 
 pub decide_is : (past : List Labelled) (plans : List Plan) (e : Event) (t : ℕ) (w : Ack) → decides_well past plans e t w ≡ true → MayDecide (plan_in plans) (all_labelled past) e t (ack_of w)
 decide_is past plans (event.Call client store q how r answered) t w h =

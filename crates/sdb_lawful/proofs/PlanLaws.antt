@@ -89,24 +89,24 @@ unfolding version_read_at
 says_noted plans t i k n version at says =
     ap (λ o. option_map number_of (option_and_then (λ (n : Rattle.sdb_model.specs.ReadSet.ReadItem). version_read n k) o)) (got_map item_of (items_in plans t) i ∙ ap (option_map item_of) at) ∙ ap (option_map number_of) says
 
-pub got_says : (read : Read) (k : Key) (version : Option TxId) → version_read (item_of (item.Got read)) k ≡ Some version → (read.key ≡ k) × (version ≡ read.version)
+pub got_says : (read : Read) (k : Key) (version : Option TxId) → version_read (item_of (item.KeyRead read)) k ≡ Some version → (read.key ≡ k) × (version ≡ read.version)
 got_says read k version h = by (same_key read.key k) refl h
   where
     by : (b : Bool) → same_key read.key k ≡ b → (if b then Some read.version else None) ≡ Some version → (read.key ≡ k) × (version ≡ read.version)
     by true e f = (same_key_exact read.key k e, sym (some_is read.version version f))
     by false e f = none_some f
 
-pub says_got : (read : Read) → version_read (item_of (item.Got read)) read.key ≡ Some read.version
+pub says_got : (read : Read) → version_read (item_of (item.KeyRead read)) read.key ≡ Some read.version
 says_got read = ap (λ b. if b then Some read.version else None) (same_key_of read.key read.key refl)
 
-pub scan_says : (scan : Scan) (k : Key) (version : Option TxId) → version_read (item_of (item.Scanned scan)) k ≡ Some version → (in_span scan.span k ≡ true) × (version ≡ version_among scan.found k)
+pub scan_says : (scan : Scan) (k : Key) (version : Option TxId) → version_read (item_of (item.SpanRead scan)) k ≡ Some version → (in_span scan.span k ≡ true) × (version ≡ version_among scan.found k)
 scan_says scan k version h = by (in_span scan.span k) refl h
   where
     by : (b : Bool) → in_span scan.span k ≡ b → (if b then Some (version_among scan.found k) else None) ≡ Some version → (in_span scan.span k ≡ true) × (version ≡ version_among scan.found k)
     by true e f = (e, sym (some_is (version_among scan.found k) version f))
     by false e f = none_some f
 
-pub says_scan : (scan : Scan) (k : Key) → in_span scan.span k ≡ true → version_read (item_of (item.Scanned scan)) k ≡ Some (version_among scan.found k)
+pub says_scan : (scan : Scan) (k : Key) → in_span scan.span k ≡ true → version_read (item_of (item.SpanRead scan)) k ≡ Some (version_among scan.found k)
 says_scan scan k h = ap (λ b. if b then Some (version_among scan.found k) else None) h
 
 -- a version that a scan found is that of one of its reads

@@ -171,10 +171,10 @@ module _ (past : List Labelled) (plans : List Plan) (t : ℕ) where
   version_is k (Some v) u e h = subst (λ x. HasSettled past k x) (some_is v.0 u e) (settles_is past k v.0 h)
 
   note_version : (n : ReadItem) (k : Key) (version : Option TxId) → is_valid_item (observed past) n ≡ true → version_read (item_of n) k ≡ Some version → is_valid_version (observed past) k version ≡ true
-  note_version (item.Got read) k version h s =
+  note_version (item.KeyRead read) k version h s =
       let g = got_says read k version s in
       subst (λ x. is_valid_version (observed past) x version ≡ true) g.0 (subst (λ x. is_valid_version (observed past) read.key x ≡ true) (sym g.1) (right (is_data read.key) (is_valid_version (observed past) read.key read.version) h))
-  note_version (item.Scanned scan) k version h s =
+  note_version (item.SpanRead scan) k version h s =
       let g = scan_says scan k version s in
       subst (λ x. is_valid_version (observed past) k x ≡ true) (sym g.1) (by (version_among scan.found k) refl g.0)
     where
@@ -191,8 +191,8 @@ module _ (past : List Labelled) (plans : List Plan) (t : ℕ) where
           ]))
 
   note_table : (n : ReadItem) (k : Key) (version : Option TxId) → is_valid_item (observed past) n ≡ true → version_read (item_of n) k ≡ Some version → is_data k ≡ true
-  note_table (item.Got read) k version h s = subst (λ x. is_data x ≡ true) (got_says read k version s).0 (left (is_data read.key) (is_valid_version (observed past) read.key read.version) h)
-  note_table (item.Scanned scan) k version h s = span_table scan.span k (scan_says scan k version s).0 ∙ left (not (is_coordinator_table scan.span.table)) (list_all (is_valid_found (observed past) scan) scan.found) h
+  note_table (item.KeyRead read) k version h s = subst (λ x. is_data x ≡ true) (got_says read k version s).0 (left (is_data read.key) (is_valid_version (observed past) read.key read.version) h)
+  note_table (item.SpanRead scan) k version h s = span_table scan.span k (scan_says scan k version s).0 ∙ left (not (is_coordinator_table scan.span.table)) (list_all (is_valid_found (observed past) scan) scan.found) h
 
   notes_are : list_all (is_valid_item (observed past)) (items_in plans t) ≡ true → Noted
   notes_are h i k u e =
@@ -214,14 +214,14 @@ module _ (past : List Labelled) (plans : List Plan) (t : ℕ) where
   are_notes f g = each_all (is_valid_item (observed past)) (items_in plans t) (λ n i. let a = in_got (items_in plans t) n i in by n a.0 a.1)
     where
       by : (n : ReadItem) (i : ℕ) → slice_get (items_in plans t) i ≡ Some n → is_valid_item (observed past) n ≡ true
-      by (item.Got read) i at =
-          both (is_data read.key) (is_valid_version (observed past) read.key read.version) (g i read.key (number_of read.version) (says_noted plans t i read.key (item.Got read) read.version at (says_got read))) (fine_version f i (item.Got read) at read.key read.version (says_got read))
-      by (item.Scanned scan) i at =
+      by (item.KeyRead read) i at =
+          both (is_data read.key) (is_valid_version (observed past) read.key read.version) (g i read.key (number_of read.version) (says_noted plans t i read.key (item.KeyRead read) read.version at (says_got read))) (fine_version f i (item.KeyRead read) at read.key read.version (says_got read))
+      by (item.SpanRead scan) i at =
           let k = key_within scan.span [] in
           both (not (is_coordinator_table scan.span.table)) (list_all (is_valid_found (observed past) scan) scan.found)
-          (sym (span_table scan.span k (is_within scan.span [])) ∙ g i k (number_of (version_among scan.found k)) (says_noted plans t i k (item.Scanned scan) (version_among scan.found k) at (says_scan scan k (is_within scan.span []))))
+          (sym (span_table scan.span k (is_within scan.span [])) ∙ g i k (number_of (version_among scan.found k)) (says_noted plans t i k (item.SpanRead scan) (version_among scan.found k) at (says_scan scan k (is_within scan.span []))))
           (each_all (is_valid_found (observed past) scan) scan.found (λ r j. elim (decide (in_span scan.span r.key)) [
-            | inl within ↦ or_right (not (in_span scan.span r.key)) (is_valid_version (observed past) r.key (version_among scan.found r.key)) (fine_version f i (item.Scanned scan) at r.key (version_among scan.found r.key) (says_scan scan r.key within))
+            | inl within ↦ or_right (not (in_span scan.span r.key)) (is_valid_version (observed past) r.key (version_among scan.found r.key)) (fine_version f i (item.SpanRead scan) at r.key (version_among scan.found r.key) (says_scan scan r.key within))
             | inr out ↦ or_left (not (in_span scan.span r.key)) (is_valid_version (observed past) r.key (version_among scan.found r.key)) (true_not (in_span scan.span r.key) out)
           ]))
 

@@ -70,8 +70,8 @@ abbrev pub is_valid_found : List Record → Scan → Read → Bool
 is_valid_found rs scan read = not (in_span scan.span read.key) || is_valid_version rs read.key (version_among scan.found read.key)
 
 abbrev pub is_valid_item : List Record → ReadItem → Bool
-is_valid_item rs (item.Got read) = is_data read.key && is_valid_version rs read.key read.version
-is_valid_item rs (item.Scanned scan) = not (is_coordinator_table scan.span.table) && list_all (is_valid_found rs scan) scan.found
+is_valid_item rs (item.KeyRead read) = is_data read.key && is_valid_version rs read.key read.version
+is_valid_item rs (item.SpanRead scan) = not (is_coordinator_table scan.span.table) && list_all (is_valid_found rs scan) scan.found
 
 ---- calls
 
@@ -127,8 +127,8 @@ abbrev pub are_as_read : List Write → Scan → List Record → Bool
 are_as_read ws scan rows = list_all (λ r. is_as_read ws scan rows r.key) rows && list_all (λ r. is_as_read ws scan rows r.key) scan.found
 
 abbrev pub finds_read : List Write → ReadItem → Request → Reply → Bool
-finds_read ws (item.Got read) (ask.Get key) (reply.Found found) = same_key key read.key && is_unchanged found read.version
-finds_read ws (item.Scanned scan) (ask.Scan span) (reply.Rows rows) = same_span span scan.span && are_as_read ws scan rows
+finds_read ws (item.KeyRead read) (ask.Get key) (reply.Found found) = same_key key read.key && is_unchanged found read.version
+finds_read ws (item.SpanRead scan) (ask.Scan span) (reply.Rows rows) = same_span span scan.span && are_as_read ws scan rows
 finds_read ws _ _ _ = false
 
 abbrev pub checks_well : List Labelled → List Plan → Event → ℕ → ℕ → Bool
@@ -147,8 +147,8 @@ abbrev pub agrees : List Write → ReadItem → Bool
 agrees ws n = list_all (agrees_at ws n) ws
 
 abbrev pub is_item_checked : List Labelled → ℕ → List Write → ℕ → ReadItem → Bool
-is_item_checked past t ws i (item.Got read) = is_some (write_among ws read.key) || checked_in past t i
-is_item_checked past t ws i (item.Scanned scan) = checked_in past t i
+is_item_checked past t ws i (item.KeyRead read) = is_some (write_among ws read.key) || checked_in past t i
+is_item_checked past t ws i (item.SpanRead scan) = checked_in past t i
 
 abbrev pub is_ready : List Labelled → ℕ → List Write → List ReadItem → Bool
 is_ready past t ws ns = list_all (λ w. acknowledged_in past t w.key) ws && (list_all (agrees ws) ns && list_all (λ e. is_item_checked past t ws e.0 e.1) (enumerate_from 0 ns))

@@ -193,13 +193,13 @@ fn is_fine_note(alloc: Global, shown: &[Record], item: &ReadItem) -> Result<bool
     ensures { IfOk result (λ valid. valid ≡ is_valid_item_lem shown.now item.now) }
 {
     match item {
-        ReadItem::Got(read) => {
+        ReadItem::KeyRead(read) => {
             if !is_data(&read.key) {
                 return Ok(false);
             }
             is_fine_version(alloc, shown, &read.key, read.version)
         }
-        ReadItem::Scanned(scan) => {
+        ReadItem::SpanRead(scan) => {
             if is_coordinator(&scan.span.table) {
                 return Ok(false);
             }

@@ -251,10 +251,10 @@ fn finds_noted(writes: &[Write], item: &ReadItem, request: &Request, reply: &Rep
     ensures { result ≡ finds_read_lem writes.now item.now request.now reply.now }
 {
     match (item, request, reply) {
-        (ReadItem::Got(read), Request::Get(key), Reply::Found(found)) => {
+        (ReadItem::KeyRead(read), Request::Get(key), Reply::Found(found)) => {
             is_same_key(key, &read.key) && sdb_record::is_unchanged(found, read.version)
         }
-        (ReadItem::Scanned(scan), Request::Scan(span), Reply::Rows(rows)) => {
+        (ReadItem::SpanRead(scan), Request::Scan(span), Reply::Rows(rows)) => {
             is_same_span(span, &scan.span) && are_as_noted(writes, scan, rows.as_slice())
         }
         _ => false,
@@ -323,8 +323,8 @@ fn is_note_checked(past: &[Labelled], id: TxId, writes: &[Write], i: usize, item
     ensures { result ≡ is_item_checked_lem past.now id.0 writes.now i item.now }
 {
     match item {
-        ReadItem::Got(read) => write_of(writes, &read.key).is_some() || is_checked(past, id, i),
-        ReadItem::Scanned(_) => is_checked(past, id, i),
+        ReadItem::KeyRead(read) => write_of(writes, &read.key).is_some() || is_checked(past, id, i),
+        ReadItem::SpanRead(_) => is_checked(past, id, i),
     }
 }
 

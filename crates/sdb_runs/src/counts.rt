@@ -46,8 +46,8 @@ fn is_check(calls: &[Made], id: TxId, item: &ReadItem) -> bool
     ensures { result ≡ is_check_lem calls.now id (item_of item.now) }
 {
     match item {
-        ReadItem::Got(read) => !is_prepared(calls, id, &read.key),
-        ReadItem::Scanned(_) => true,
+        ReadItem::KeyRead(read) => !is_prepared(calls, id, &read.key),
+        ReadItem::SpanRead(_) => true,
     }
 }
 

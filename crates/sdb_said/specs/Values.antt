@@ -48,8 +48,8 @@ abbrev pub all_labelled : List Labelled → List lawful.Labelled
 all_labelled ps = map labelled_of ps
 
 abbrev pub item_of : ReadItem → as_read.ReadItem
-item_of (item.Got read) = as_read.KeyRead read
-item_of (item.Scanned scan) = as_read.SpanRead scan
+item_of (item.KeyRead read) = as_read.KeyRead read
+item_of (item.SpanRead scan) = as_read.SpanRead scan
 
 -- the plan of a transaction among plans: the first with its id
 abbrev pub planned : List Plan → ℕ → Option Plan

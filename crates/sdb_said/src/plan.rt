@@ -13,16 +13,16 @@ use sdb_types::{Key, Seq, TxId};
 /// One item of a read set: a key with the version found there, or a span with the versions found in it.
 #[derive(Debug)]
 pub enum ReadItem {
-    Got(Read),
-    Scanned(Scan),
+    KeyRead(Read),
+    SpanRead(Scan),
 }
 
 // By hand: each drop is then one call, where a derived one is written out at each exit, with a call for each field.
 impl Drop for ReadItem {
     fn drop(self) {
         match self {
-            ReadItem::Got(_) => {}
-            ReadItem::Scanned(_) => {}
+            ReadItem::KeyRead(_) => {}
+            ReadItem::SpanRead(_) => {}
         }
     }
 }
@@ -53,14 +53,14 @@ pub fn version_read(item: &ReadItem, key: &Key) -> Option<Option<TxId>>
     ensures { result ≡ version_read_lem (item_of item.now) key.now }
 {
     match item {
-        ReadItem::Got(read) => {
+        ReadItem::KeyRead(read) => {
             if is_same_key(&read.key, key) {
                 Some(read.version)
             } else {
                 None
             }
         }
-        ReadItem::Scanned(scan) => {
+        ReadItem::SpanRead(scan) => {
             if scan.span.contains(key) {
                 Some(version_among(scan.found.as_slice(), key))
             } else {

@@ -276,7 +276,7 @@ pub fn add_steps(
 }
 
 fn note_of(alloc: Global, version: Option<TxId>) -> Result<ReadItem, Fail> {
-    Ok(ReadItem::Got(Read {
+    Ok(ReadItem::KeyRead(Read {
         key: account(alloc)?,
         version,
     }))
