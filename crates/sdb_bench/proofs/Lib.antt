@@ -7,3 +7,4 @@ mod ReadAs
 mod Bodied
 mod Serial
 pub mod Playable
+pub mod Lines

@@ -96,12 +96,12 @@ short_inserts st h = subst (λ (x : Statement). length (statement_text_of x) < 2
 short_updates : (st : Statement) → Updates st → length (statement_text_of st) < 2 ^ 32
 short_updates st h = subst (λ (x : Statement). length (statement_text_of x) < 2 ^ 32) (sym h.same) (short_update h.side h.p h.v h.low_p h.low_v)
 
-found_in : (Q : List ℕ → Type 0) (texts : List (List ℕ)) → AllByRecursion Q texts → (i : ℕ) (text : List ℕ) → slice_get texts i ≡ Some text → Q text
+pub found_in : (Q : List ℕ → Type 0) (texts : List (List ℕ)) → AllByRecursion Q texts → (i : ℕ) (text : List ℕ) → slice_get texts i ≡ Some text → Q text
 found_in Q [] h i text e = none_some text e
 found_in Q (t ∷ ts) h zero text e = subst Q (some_is t text e) h.0
 found_in Q (t ∷ ts) h (suc i) text e = found_in Q ts h.1 i text e
 
-apart : (c : ℕ) → (c == 1) ≡ false → c ≡ 1 → ⊥
+pub apart : (c : ℕ) → (c == 1) ≡ false → c ≡ 1 → ⊥
 apart c e is = clash (sym (ap (λ (x : ℕ). x == 1) is) ∙ e)
 
 texts_short : (n c i : ℕ) (text : List ℕ) → slice_get (texts_of (bench_clients n) c) i ≡ Some text → length text < 2 ^ 32
