@@ -12,10 +12,11 @@ ghost use Rattle.sdb_sqlite.specs.Asked.{Gets, Scans, Puts, Removes, IsAnswered,
 ghost use Rattle.sdb_sqlite.specs.Stopping.{stopped_by};
 
 use crate::calls::{Written, delete, find, list, put};
-use crate::facts::{key_facts, record_facts, span_facts};
+use crate::facts::span_facts;
 use crate::held::Held;
 use crate::refused::{KeptRefused, one_more, stop};
 use crate::statements::make_table;
+use sdb_facts::{key_facts, record_facts};
 use sdb_store::Store;
 use sdb_types::{Condition, Key, Record, Reply, Span};
 use sqlite::{Connection, Error, ErrorCode, MemStore};

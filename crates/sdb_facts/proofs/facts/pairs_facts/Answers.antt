@@ -2,7 +2,7 @@ use Rattle.std.proofs.Common.{All, subst}
 use Rattle.std.proofs.lemmas.List.{take_all}
 use Rattle.std.proofs.lemmas.List.Elements.{All-more}
 use Rattle.sdb_types.specs.Fits.{pair_fits}
-use Rattle.sdb_sqlite.proofs.facts.pairs_facts.Goals as goal
+use Rattle.sdb_facts.proofs.facts.pairs_facts.Goals as goal
 
 pub loop-pair-preserved : goal.loop-pair-preserved
 loop-pair-preserved c =

@@ -2,7 +2,7 @@ use Rattle.std.proofs.Common.{All, subst}
 use Rattle.std.proofs.lemmas.List.{take_all}
 use Rattle.std.proofs.lemmas.List.Elements.{All-more}
 use Rattle.sdb_types.specs.Fits.{value_fits}
-use Rattle.sdb_sqlite.proofs.facts.values_facts.Goals as goal
+use Rattle.sdb_facts.proofs.facts.values_facts.Goals as goal
 
 pub loop-value-preserved : goal.loop-value-preserved
 loop-value-preserved c =
