@@ -91,7 +91,7 @@ fn ended<R: Registry>(alloc: Global, stores: &mut R, world: World) -> Result<Out
 {
     match world.outcome(alloc, stores) {
         Ok(outcome) => {
-            outcome_facts(&outcome);
+            prove!(outcome_facts(&outcome));
             Ok(outcome)
         }
         Err(refused) => Err(closing_status(refused)),

@@ -1,98 +1,14 @@
-//! What the types keep of every outcome: a name is one, a number lies in its range, a text is UTF-8. The functions change nothing; they
-//! say it where a proof needs it.
+//! What the types keep of every outcome: a name is one, a number lies in its range, a text is UTF-8. The functions change nothing, and are
+//! called in a `prove!` alone, whose condition a build may drop.
 ghost use Rattle.std.specs.Prelude.{◌≡◌, true, ◌<◌, ◌^◌, All, IfSome};
 ghost use Rattle.std.specs.Str.{IsUtf8};
-ghost use Rattle.sdb_types.specs.Fits.{AreBytes, text_fits, value_fits, pair_fits, key_fits, columns_fit, record_fits};
-ghost use Rattle.sdb_types.specs.Identifier.{is_name};
+ghost use Rattle.sdb_types.specs.Fits.{record_fits};
 ghost use Rattle.sdb_model.specs.Plain.{IsPlainPoint, condition_is_plain, id_is_plain, refusal_is_plain, reply_is_plain, request_is_plain, span_is_plain, table_is_plain, values_are_plain};
 ghost use Rattle.sdb_plainness.specs.Facts.{answer_fits, dump_fits, event_fits, given_fits, outcome_fits};
 
+use sdb_facts::{key_facts, name_facts, record_facts, table_facts, values_facts};
 use sdb_model::{Answer, Event, Outcome, Point, Refusal, TableDump};
-use sdb_types::{
-    Columns, Condition, Key, Name, Octets, Pair, Record, Reply, Request, Span, TableName, TxId,
-    Txt, Value, Values,
-};
-
-fn name_facts(name: &Name)
-    ensures { is_name name.now ≡ true }
-{
-    let _text = name.as_str();
-}
-
-fn text_facts(text: &Txt)
-    ensures { text_fits text.now }
-{
-    let bytes = text.as_str().as_bytes();
-    let _length = bytes.len();
-}
-
-fn octets_facts(octets: &Octets)
-    ensures { AreBytes octets.now }
-{
-    let bytes = octets.as_slice();
-    let _length = bytes.len();
-}
-
-fn value_facts(value: &Value)
-    ensures { value_fits value.now }
-{
-    match value {
-        Value::Null | Value::Bool(_) => {}
-        Value::Int(n) => {
-            let _value = *n;
-        }
-        Value::BigInt(n) => {
-            let _value = *n;
-        }
-        Value::Text(text) => text_facts(text),
-        Value::Blob(octets) => octets_facts(octets),
-    }
-}
-
-fn values_facts(values: &[Value])
-    ensures { All value_fits values.now }
-{
-    for value in values {
-        value_facts(value);
-    }
-}
-
-fn pair_facts(pair: &Pair)
-    ensures { pair_fits pair.now }
-{
-    name_facts(&pair.name);
-    value_facts(&pair.value);
-}
-
-fn pairs_facts(pairs: &[Pair])
-    ensures { All pair_fits pairs.now }
-{
-    for pair in pairs {
-        pair_facts(pair);
-    }
-}
-
-fn columns_facts(columns: &Columns)
-    ensures { columns_fit columns.now }
-{
-    let _length = columns.len();
-    pairs_facts(columns.pairs());
-}
-
-fn table_facts(table: &TableName)
-    ensures { table_is_plain table.now }
-{
-    name_facts(&table.ns);
-    name_facts(&table.table);
-}
-
-fn key_facts(key: &Key)
-    ensures { key_fits key.now }
-{
-    table_facts(&key.table);
-    values_facts(key.partition.as_slice());
-    values_facts(key.clustering.as_slice());
-}
+use sdb_types::{Condition, Record, Reply, Request, Span, TxId, Txt, Values};
 
 fn span_facts(span: &Span)
     ensures { span_is_plain span.now }
@@ -101,13 +17,6 @@ fn span_facts(span: &Span)
     if let Some(partition) = &span.partition {
         values_facts(partition.as_slice());
     }
-}
-
-fn record_facts(rec: &Record)
-    ensures { record_fits rec.now }
-{
-    key_facts(&rec.key);
-    columns_facts(&rec.columns);
 }
 
 fn found_facts(found: &Option<Record>)
@@ -301,9 +210,10 @@ fn dumps_facts(dumps: &[TableDump])
     }
 }
 
-/// What is known of an outcome.
-pub fn outcome_facts(outcome: &Outcome)
-    ensures { outcome_fits outcome.now }
+/// What is known of an outcome: a condition that is true of each, for a `prove!`.
+pub fn outcome_facts(outcome: &Outcome) -> bool
+    ensures always { result ≡ true }
+    ensures fits { outcome_fits outcome.now }
 {
     let _lengths = (
         outcome.events.len(),
@@ -313,4 +223,5 @@ pub fn outcome_facts(outcome: &Outcome)
     events_facts(outcome.events.as_slice());
     points_facts(outcome.order.as_slice());
     dumps_facts(outcome.tables.as_slice());
+    true
 }
