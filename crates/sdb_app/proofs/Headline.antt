@@ -19,6 +19,7 @@ use Rattle.sdb_model.specs.Counted.{AreResolved}
 use Rattle.sdb_model.specs.Events.{StoreContents, store_of}
 use Rattle.sdb_model.specs.Exec.{find_table}
 use Rattle.sdb_model.specs.Follows.{Follows}
+use Rattle.sdb_model.specs.Plain.{HasLines}
 use Rattle.sdb_model.specs.Serial.{IsRun}
 use Rattle.sdb_model.specs.Transactions.{Executed}
 use Rattle.sdb_spread.specs.Spread.{HoldAs}
@@ -167,13 +168,13 @@ shown_of script opening events none caused resolved explained moments end traced
         by (Some a) e h = record { among = w.0; a = a; answer = e; finished = h; no_vacuum = w.1.no_vacuum }
 
 played_on : (script : Script) (old mid then : Attached) (new : List StoreContents) (o : Outcome) → mid.places ≡ script.places → mid.views ≡ old.views → GoOn mid then → AreUsable script.catalog mid
-    → first_key (opening_in script.catalog mid) ≡ None → HoldTheSame mid then → (AreReady script then → IsRun script (contents_of_views then.views) new o) → (AreReady script then → IsExplained script o.events (contents_of_views then.views)) → AnswersHaveCauses script.catalog o.events → find_table script.catalog coordinator_table ≡ None → AreResolved o.events → IsPlayable script → IsExecution script o.events → outcome_fits o → IsCorrect script (contents_of_views old.views) new o
-played_on script old mid then new o same still goes fit none quiet run explained caused apart resolved playable executed fits = record {
+    → first_key (opening_in script.catalog mid) ≡ None → HoldTheSame mid then → (AreReady script then → IsRun script (contents_of_views then.views) new o) → (AreReady script then → IsExplained script o.events (contents_of_views then.views)) → AnswersHaveCauses script.catalog o.events → find_table script.catalog coordinator_table ≡ None → AreResolved o.events → IsPlayable script → HasLines script → IsExecution script o.events → outcome_fits o → IsCorrect script (contents_of_views old.views) new o
+played_on script old mid then new o same still goes fit none quiet run explained caused apart resolved playable lines executed fits = record {
   empty = sym (ap (λ (ss : List StoreContents). first_key (opening_records script.catalog script.places ss)) (ap contents_of_views still)) ∙ sym (ap (λ (xs : List Place). first_key (opening_records script.catalog xs (contents_of_views mid.views))) same) ∙ none;
   run = run_now;
   explained = explained_now;
   shown = shown_of script (contents_of_views old.views) o.events apart caused resolved explained_now;
-  plain = λ lines. run_plain (record { script = script; opening = contents_of_views old.views; closing = new; outcome = o; playable = playable; lines = lines; executed = executed; nothing = nothing_now; run = run_now }) fits;
+  plain = run_plain (record { script = script; opening = contents_of_views old.views; closing = new; outcome = o; playable = playable; lines = lines; executed = executed; nothing = nothing_now; run = run_now }) fits;
 }
   where
     nothing_now : HoldAs script.catalog script.places (contents_of_views old.views) empty
@@ -187,8 +188,8 @@ played_on script old mid then new o same still goes fit none quiet run explained
 
 pub outcome_is : (script : Script) (old mid then new : Attached) (o : Outcome) → mid.places ≡ script.places → mid.views ≡ old.views → ((at : ℕ) → old.known at → mid.known at) → GoOn mid then → GoOn then new → (ContentsAreKnown script old → AreUsable script.catalog mid)
     → (AreUsable script.catalog mid → first_key (opening_in script.catalog mid) ≡ None) → HoldNothing (run_tables script.catalog) mid → (AreUsable script.catalog mid → HoldTheSame mid then) → Follows script o.events → IsExecution script o.events → BreaksWithin [] o.events then.views new.views
-    → IsReadWhereKnown script.catalog (known_before then new) o → (AreReady script then → IsRun script (contents_of_views then.views) (contents_of_views new.views) o) → (AreReady script then → IsExplained script o.events (contents_of_views then.views)) → IsPlayable script → outcome_fits o → IsReportable script old new.views o
-outcome_is script old mid then new o same still where_known goes more fit none nothing quiet follows executed broken read run explained playable fits = record {
+    → IsReadWhereKnown script.catalog (known_before then new) o → (AreReady script then → IsRun script (contents_of_views then.views) (contents_of_views new.views) o) → (AreReady script then → IsExplained script o.events (contents_of_views then.views)) → IsPlayable script → HasLines script → outcome_fits o → IsReportable script old new.views o
+outcome_is script old mid then new o same still where_known goes more fit none nothing quiet follows executed broken read run explained playable lines fits = record {
   playable = playable;
   follows = follows;
   executed = executed;
@@ -196,7 +197,7 @@ outcome_is script old mid then new o same still where_known goes more fit none n
   broken = subst (λ (ss : List Counted). BreaksWithin [] o.events ss new.views) still (breaks_after [] o.events mid then new.views goes broken);
   empty = subst (λ (ss : List Counted). HoldNothing (run_tables script.catalog) (placed_as script old ss)) still (nothing_as (placed_as script old mid.views) mid (shows_placed script old mid same where_known) (run_tables script.catalog) nothing);
   read = read_as (placed_as script old new.views) (known_before then new) (shows_placed script old (known_before then new) ((more.places ∙ goes.places) ∙ same) (λ at tells. goes.where_known at (where_known at tells))) script.catalog o read;
-  played = λ all. played_on script old mid then (contents_of_views new.views) o same still goes (fit all) (none (fit all)) (quiet (fit all)) run explained caused (no_coordinator script playable) resolved playable executed fits;
+  played = λ all. played_on script old mid then (contents_of_views new.views) o same still goes (fit all) (none (fit all)) (quiet (fit all)) run explained caused (no_coordinator script playable) resolved playable lines executed fits;
 }
   where
     caused : AnswersHaveCauses script.catalog o.events
@@ -266,7 +267,6 @@ replayed_before before work report same where_known h = record {
   outcome = h.outcome;
   made = made_of h.script before work.old work.left h.outcome same where_known h.made;
   text = h.text;
-  plain = λ all. h.plain (tell_on h.script before work.old same where_known all);
   only = λ all. h.only (tell_on h.script before work.old same where_known all);
 }
 

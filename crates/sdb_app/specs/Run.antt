@@ -13,7 +13,7 @@ use Rattle.sdb_model.specs.declared.script.Script.{Script}
 use Rattle.sdb_model.specs.Causes.{AreCaused}
 use Rattle.sdb_model.specs.Events.{StoreContents, store_of}
 use Rattle.sdb_model.specs.Follows.{Follows}
-use Rattle.sdb_model.specs.Plain.{IsPlain, HasLines}
+use Rattle.sdb_model.specs.Plain.{IsPlain}
 use Rattle.sdb_model.specs.Report.{report_text_of}
 use Rattle.sdb_model.specs.Rows.{Name}
 use Rattle.sdb_model.specs.Serial.{IsRun}
@@ -54,13 +54,13 @@ ContentsAreKnown script stores =
 -- The tables of a script were empty, and one outcome is that of a run that follows it, from what the stores held at the entry
 -- to what they hold at the exit; what was in the stores at each moment is explained by its events, and what each recorded
 -- transaction noted is current at its point; no transaction, recorded or not, was shown a row that was neither its own nor
--- committed when it was read; and where no statement has an LF the outcome is plain.
+-- committed when it was read; and the outcome is plain.
 pub record IsCorrect (script : Script) (opening closing : List StoreContents) (outcome : Outcome) : Type 0 where
   pub empty : first_key (opening_records script.catalog script.places opening) ≡ None
   pub run : IsRun script opening closing outcome
   pub explained : IsExplained script outcome.events opening
   pub shown : HasNoDirtyReads script outcome.events opening
-  pub plain : HasLines script → IsPlain outcome
+  pub plain : IsPlain outcome
 
 -- The stores of a call with the places of a script, when they showed this. Those are known that were known at the entry.
 abbrev pub placed_as : Script → Attached → List Counted → Attached
@@ -81,15 +81,14 @@ pub record IsReportable (script : Script) (old : Attached) (new : List Counted) 
   pub read : IsReadWhereKnown script.catalog (placed_as script old new) outcome
   pub played : ContentsAreKnown script old → IsCorrect script (contents_of_views old.views) (contents_of_views new) outcome
 
--- A script was read, and this is the report of one outcome of it. Where the stores of its tables have known contents, the outcome is plain, and
--- no other plain outcome has this report.
+-- A script was read, and this is the report of one outcome of it. Where the stores of its tables have known contents, no other plain outcome
+-- has this report.
 pub record IsReplayed (work : Work) (report : List ℕ) : Type 0 where
   pub script : Script
   pub read : IsScriptRead (names_of work.old.views) work.input.bytes work.rest.bytes script
   pub outcome : Outcome
   pub made : IsReportable script work.old work.left outcome
   pub text : report ≡ report_text_of outcome
-  pub plain : ContentsAreKnown script work.old → IsPlain outcome
   pub only : ContentsAreKnown script work.old → (other : Outcome) → IsPlain other → report ≡ report_text_of other → other ≡ outcome
 
 -- The key is that of the first record in the tables of the script, as far as contents are known. Each store of known contents holds what it

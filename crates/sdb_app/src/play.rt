@@ -2,6 +2,7 @@
 ghost use Rattle.std.specs.Prelude.{◌≡◌, ◌<◌, [], length, Some, None, IfOk, IfErr, OnOk};
 ghost use Rattle.sdb_stores.specs.Views.{AreDistinct, names_of};
 ghost use Rattle.sdb_model.specs.Follows.{Follows};
+ghost use Rattle.sdb_model.specs.Plain.{HasLines};
 ghost use Rattle.sdb_model.specs.Serial.{IsRun};
 ghost use Rattle.sdb_board.specs.Board.{AreUsable, GoOn, HoldTheSame, known_before, contents_of_views};
 ghost use Rattle.sdb_board.specs.Opening.{HoldNothing, first_key, opening_in, run_tables};
@@ -127,6 +128,7 @@ pub fn play<R: Registry>(alloc: Global, stores: &mut R, script: Script) -> Resul
     requires playable { IsPlayable script }
     requires can { CanFollow script }
     requires places { CanBePlaced (names_of (R.state stores.old).views) script.places }
+    requires lines { HasLines script }
     ensures made { IfOk result (IsReportable script (R.state stores.old) (R.state stores.new).views) }
     ensures err { IfErr result (StopsRun script (R.state stores.old) (R.state stores.new).views) }
     ensures kept { AreKept (R.state stores.old) (R.state stores.new) }

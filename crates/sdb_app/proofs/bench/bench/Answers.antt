@@ -1,9 +1,12 @@
-use Rattle.std.proofs.Common.{◌≡◌, ◌∙◌, ap, subst, sym}
+use Rattle.std.proofs.Common.{◌≡◌, ◌∙◌, ap, length, subst, sym}
+use Rattle.std.specs.Prelude.{◌-◌}
 use Rattle.sdb_stores.specs.Views.{names_of}
 use Rattle.sdb_model.specs.declared.script.Script.{Script}
+use Rattle.sdb_model.specs.Plain.{HasLines}
 use Rattle.sdb_execution.specs.Execution.{IsPlayable}
 use Rattle.sdb_world.specs.Step.{CanFollow}
-use Rattle.sdb_app.specs.Bench.{bench_over}
+use Rattle.sdb_bench.proofs.Lines.{bench_lines}
+use Rattle.sdb_app.specs.Bench.{bench_over, name_at}
 use Rattle.sdb_app.specs.Run.{CanBePlaced, IsReportable, StopsRun}
 use Rattle.sdb_app.proofs.BenchPlayable.{benched_on, followable, placed_over, playable}
 use Rattle.sdb_app.proofs.Playing.{ok_then}
@@ -11,6 +14,11 @@ use Rattle.sdb_app.proofs.bench.bench.Goals as goal
 
 pub play-requires-clause-playable : goal.play-requires-clause-playable
 play-requires-clause-playable g c = subst (λ (s : Script). IsPlayable s) (sym c.in-Ok.ensures) (playable c.args.n _ _)
+
+pub play-requires-clause-lines : goal.play-requires-clause-lines
+play-requires-clause-lines g c =
+    let names = c.args.names.now in
+    subst (λ (s : Script). HasLines s) (sym c.in-Ok.ensures) (bench_lines c.args.n (name_at names 0) (name_at names (length names - 1)))
 
 pub play-requires-clause-can : goal.play-requires-clause-can
 play-requires-clause-can g c = subst (λ (s : Script). CanFollow s) (sym c.in-Ok.ensures) (followable c.args.n _ _)

@@ -33,7 +33,7 @@ returns-in-Ok-be_empty-clause-made g c =
     let ran = c.run_world.ensures in
     ok_seven _ _ _ _ _ _ _ _ c.run_world.result ran.follows ran.executed ran.broken ran.read ran.run ran.explained ran.fits
     (λ o follows executed broken read run explained fits. outcome_is c.args.script old mid then (g.R.Registry.state c.run_world.new.stores) o c.in-Ok.ensures.places c.route_all.ensures.stores c.route_all.ensures.where_known c.in-Ok-be_empty.ensures.goes ran.goes
-    (λ all. fit_script c.args.script old mid c.in-Ok.ensures.places c.route_all.ensures.stores c.requires.places c.requires.some c.requires.distinct c.route_all.ensures.where_known all) c.in-Ok-be_empty.ensures.empty c.in-Ok-be_empty.ensures.none c.in-Ok-be_empty.ensures.still follows executed broken read run explained c.requires.playable fits)
+    (λ all. fit_script c.args.script old mid c.in-Ok.ensures.places c.route_all.ensures.stores c.requires.places c.requires.some c.requires.distinct c.route_all.ensures.where_known all) c.in-Ok-be_empty.ensures.empty c.in-Ok-be_empty.ensures.none c.in-Ok-be_empty.ensures.still follows executed broken read run explained c.requires.playable c.requires.lines fits)
 
 pub returns-in-Ok-be_empty-clause-err : goal.returns-in-Ok-be_empty-clause-err
 returns-in-Ok-be_empty-clause-err g c =

@@ -17,15 +17,17 @@ play-requires-clause-can g c = followable c.args.names.now _ c.in-Ok.script c.in
 pub play-requires-clause-places : goal.play-requires-clause-places
 play-requires-clause-places g c = subst (λ (ns : List (List ℕ)). CanBePlaced ns c.in-Ok.script.places) c.requires.names (placeable c.args.names.now _ c.in-Ok.script c.in-Ok.ensures.read.form)
 
+pub play-requires-clause-lines : goal.play-requires-clause-lines
+play-requires-clause-lines g c = of_lines c.args.names.now _ c.in-Ok.script c.in-Ok.ensures.read.form
+
 pub returns-in-Ok-play-clause-answered : goal.returns-in-Ok-play-clause-answered
 returns-in-Ok-play-clause-answered g c =
     let work = work_of g.S.Registry.state (stream g.R.Source.remaining g.R.Source.faults) c.args.stores.now c.play.new.stores c.args.input.now c.read_input_script.new.input in
     let read = subst (λ (ns : List (List ℕ)). IsScriptRead ns work.input.bytes work.rest.bytes c.in-Ok.script) c.requires.names c.in-Ok.ensures.read in
     let outcome = c.in-Ok-play.outcome in
     let made = c.in-Ok-play.ensures.made in
-    let lines = of_lines c.args.names.now _ c.in-Ok.script c.in-Ok.ensures.read.form in
     ok_then _ _ c.text_of.result
-    (λ text is. record { script = c.in-Ok.script; read = read; outcome = outcome; made = made; text = is; plain = λ all. (made.played all).plain lines; only = λ all other plain same. one_text_of other outcome plain ((made.played all).plain lines) (sym same ∙ is) })
+    (λ text is. record { script = c.in-Ok.script; read = read; outcome = outcome; made = made; text = is; only = λ all other plain same. one_text_of other outcome plain (made.played all).plain (sym same ∙ is) })
     c.text_of.ensures.ok
 
 pub returns-in-Ok-play-clause-err : goal.returns-in-Ok-play-clause-err
