@@ -6,6 +6,7 @@ use Rattle.std.specs.Prelude.{is_some, map, not, if◌then◌else◌}
 use Rattle.std.specs.List.{AllByRecursion}
 use Rattle.sdb_types.specs.declared.txid.TxId.{TxId}
 use Rattle.sdb_types.specs.Draws.{IsAppended}
+use Rattle.sdb_types.proofs.Basics.{map_last}
 use Rattle.sdb_schema.specs.declared.table.Table.{Table}
 use Rattle.sdb_model.specs.declared.answer.Answer.{Answer}
 use Rattle.sdb_stores.specs.Views.{Attached, HaveRisen}
@@ -20,7 +21,6 @@ use Rattle.sdb_session.specs.Working.{is_open_after}
 use Rattle.sdb_session.proofs.Betweens.{between_more, parts_more}
 use Rattle.sdb_session.proofs.Fresh.{chain_more, fresh_ids, reached}
 use Rattle.sdb_session.proofs.Plain.{own_at}
-use Rattle.sdb_session.proofs.Sessions.{map_more}
 use Rattle.sdb_session.proofs.Steps.{session_serial}
 use Rattle.sdb_answer.specs.Answering.{IsAlone, database_in, exchange}
 use Rattle.sdb_answer.specs.Drawn.{drawn_id}
@@ -159,13 +159,13 @@ module _ (catalog : List Table) (old mid new : Attached) (clock clock_mid clock_
 
   -- the ids so far are new
   new_so_far : AreNewIds catalog (database_in old) (map drawn_id (so.drawn ++ so.spare ∷ [])) → AreNewIds catalog (database_in old) (begun_ids es)
-  new_so_far n = subst (AreNewIds catalog (database_in old)) (sym so.begun) (new_front catalog (database_in old) (map drawn_id so.drawn) (drawn_id so.spare) (subst (AreNewIds catalog (database_in old)) (map_more drawn_id so.drawn so.spare) n))
+  new_so_far n = subst (AreNewIds catalog (database_in old)) (sym so.begun) (new_front catalog (database_in old) (map drawn_id so.drawn) (drawn_id so.spare) (subst (AreNewIds catalog (database_in old)) (map_last drawn_id so.drawn so.spare) n))
 
   chain_now : AreUsable catalog old → (w : IsWellFormed catalog (database_in old)) → AreNewIds catalog (database_in old) (map drawn_id (so.drawn ++ so.spare ∷ [])) → Chain catalog (database_in old) no_parts (es ++ e ∷ []) (database_in new) × Between catalog (database_in new) (open_after (es ++ e ∷ [])) t.client
   chain_now f w n =
       let before = so.chain f w n in
       let there : IsReached catalog (database_in old) (database_in mid) w.tables es = reached catalog w.apart (database_in old) w.tables w.sound w.are_images w.fit es (database_in mid) (new_so_far n) before.0 in
-      let last = new_last catalog (database_in old) (map drawn_id so.drawn) (drawn_id so.spare) (subst (AreNewIds catalog (database_in old)) (map_more drawn_id so.drawn so.spare) n) in
+      let last = new_last catalog (database_in old) (map drawn_id so.drawn) (drawn_id so.spare) (subst (AreNewIds catalog (database_in old)) (map_last drawn_id so.drawn so.spare) n) in
       let alone : IsAlone catalog s.fresh h.now mid s.client = record {
         fit = so.fit f;
         about = so.about;
@@ -182,7 +182,7 @@ module _ (catalog : List Table) (old mid new : Attached) (clock clock_mid clock_
   session_more = by (begins e) refl h.hand
     where
       moments : AreAppended (map (λ (x : Exchange). x.moment) (es ++ e ∷ [])) clock clock_then
-      moments = subst (λ xs. AreAppended xs clock clock_then) (sym (map_more (λ (x : Exchange). x.moment) es e)) (tell_more (map (λ (x : Exchange). x.moment) es) h.now clock clock_mid clock_then so.moments h.moment)
+      moments = subst (λ xs. AreAppended xs clock clock_then) (sym (map_last (λ (x : Exchange). x.moment) es e)) (tell_more (map (λ (x : Exchange). x.moment) es) h.now clock clock_mid clock_then so.moments h.moment)
 
       by : (b : Bool) → begins e ≡ b → IsNextId b s.fresh t.fresh ids_mid ids_then → IsSessionSoFar catalog old new clock clock_then ids ids_then (es ++ e ∷ []) t
       by true k (draw, tells, is) = record {
@@ -190,7 +190,7 @@ module _ (catalog : List Table) (old mid new : Attached) (clock clock_mid clock_
         drawn = so.drawn ++ so.spare ∷ [];
         spare = draw;
         draws = tell_more (so.drawn ++ so.spare ∷ []) draw ids ids_mid ids_then so.draws tells;
-        begun = begun_more es e ∙ ap (λ b. begun_ids es ++ (if b then s.fresh ∷ [] else [])) k ∙ ap (λ xs. xs ++ s.fresh ∷ []) so.begun ∙ ap (λ x. map drawn_id so.drawn ++ x ∷ []) so.hand ∙ sym (map_more drawn_id so.drawn so.spare);
+        begun = begun_more es e ∙ ap (λ b. begun_ids es ++ (if b then s.fresh ∷ [] else [])) k ∙ ap (λ xs. xs ++ s.fresh ∷ []) so.begun ∙ ap (λ x. map drawn_id so.drawn ++ x ∷ []) so.hand ∙ sym (map_last drawn_id so.drawn so.spare);
         hand = is;
         taken = taken_more;
         faults = faults_more;
@@ -198,7 +198,7 @@ module _ (catalog : List Table) (old mid new : Attached) (clock clock_mid clock_
         opened = opened_more;
         about = h.answered.about so.about;
         fit = λ f. goes.fit catalog (so.fit f);
-        chain = λ f w n. chain_now f w (new_front catalog (database_in old) (map drawn_id (so.drawn ++ so.spare ∷ [])) (drawn_id draw) (subst (AreNewIds catalog (database_in old)) (map_more drawn_id (so.drawn ++ so.spare ∷ []) draw) n));
+        chain = λ f w n. chain_now f w (new_front catalog (database_in old) (map drawn_id (so.drawn ++ so.spare ∷ [])) (drawn_id draw) (subst (AreNewIds catalog (database_in old)) (map_last drawn_id (so.drawn ++ so.spare ∷ []) draw) n));
       }
       by false k (same, is) = record {
         moments = moments;
@@ -227,5 +227,5 @@ session_whole catalog old new clock clock_then ids ids_then es s so = record {
   taken = so.taken;
   faults = so.faults;
   serial = λ f w n. session_serial catalog w.apart (database_in old) w.tables w.sound w.are_images w.fit es (database_in new)
-      (fresh_ids catalog w.apart (database_in old) w.tables es (subst (AreNewIds catalog (database_in old)) (sym so.begun) (new_front catalog (database_in old) (map drawn_id so.drawn) (drawn_id so.spare) (subst (AreNewIds catalog (database_in old)) (map_more drawn_id so.drawn so.spare) n)))) (so.chain f w n).0;
+      (fresh_ids catalog w.apart (database_in old) w.tables es (subst (AreNewIds catalog (database_in old)) (sym so.begun) (new_front catalog (database_in old) (map drawn_id so.drawn) (drawn_id so.spare) (subst (AreNewIds catalog (database_in old)) (map_last drawn_id so.drawn so.spare) n)))) (so.chain f w n).0;
 }

@@ -38,9 +38,9 @@ use Rattle.sdb_endings.proofs.Finding.{answers_as, answers_committed}
 use Rattle.sdb_world.specs.Broken.{BreaksWithin}
 use Rattle.sdb_execution.specs.Execution.{IsExecution, IsPlayable}
 use Rattle.sdb_executions.proofs.Steps.{execution_caused}
+use Rattle.sdb_executions.proofs.Beginnings.{no_coordinator}
 use Rattle.sdb_world.specs.Explained.{IsExplained, HasNoDirtyReads}
 use Rattle.sdb_world.proofs.Broken.{breaks_after}
-use Rattle.sdb_world.proofs.Explained.{no_coordinator}
 use Rattle.sdb_app.specs.declared.status.Status.{Status}
 use Rattle.sdb_app.specs.declared.status.Status.TheVariants as status
 use Rattle.sdb_app.specs.Bench.{IsBenched, StopsBench, bench_over}

@@ -40,7 +40,7 @@ others_stay (x ∷ xs) s = refl
 
 ---- what the first store holds
 
-left_by : (q : Request) (r : Reply) (m n : Contents) → Performs q r m n → (n ≡ m) ⊎ (n ≡ after q m)
+pub left_by : (q : Request) (r : Reply) (m n : Contents) → Performs q r m n → (n ≡ m) ⊎ (n ≡ after q m)
 left_by q reply.Fault m n p = p
 left_by q reply.NoMemory m n p = inl p
 left_by q (reply.Found found) m n p = inr p.1

@@ -113,7 +113,7 @@ key_is a b = then_equal _ ∙ then_equal _
 abbrev lower_than : TableName → List Table → Bool
 lower_than name ts = list_all (λ (t : Table). is_lt (table_cmp name t.name)) ts
 
-key_of_row : (e : Entry) → (row_of e).key ≡ metadata_key_of e.table.name
+pub key_of_row : (e : Entry) → (row_of e).key ≡ metadata_key_of e.table.name
 unfolding row_of
 key_of_row e = refl
 

@@ -79,10 +79,6 @@ notes_stay catalog events e c (s ∷ ss) all = by (has_finished s) (notes_stay c
     by true ih = ap (λ ms. read_items ms ++ read_items_of_body (events ++ e ∷ []) c ss) (calls_stay c events e s all.0.given all.0.is all.0.answered) ∙ ap (λ ns. read_items (calls_of events c s) ++ ns) ih
     by false ih = ih
 
-pub each_front : (P : Executed → Type 0) (ss : List Executed) (s : Executed) → AllByRecursion P (ss ++ s ∷ []) → AllByRecursion P ss
-each_front P [] s all = tt
-each_front P (x ∷ ss) s all = (all.0, each_front P ss s all.1)
-
 pub each_last : (P : Executed → Type 0) (ss : List Executed) (s : Executed) → AllByRecursion P (ss ++ s ∷ []) → P s
 each_last P [] s all = all.0
 each_last P (x ∷ ss) s all = each_last P ss s all.1

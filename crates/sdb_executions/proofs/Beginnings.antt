@@ -45,7 +45,7 @@ trace_front places (suc n) [] opening (m ∷ ms) closing h = absurd h
 trace_front places (suc n) (e ∷ es) opening [] closing h = absurd h
 trace_front places (suc n) (e ∷ es) opening (m ∷ ms) closing h = (h.0, trace_front places n es m ms closing h.1)
 
-no_coordinator : (script : Script) → IsPlayable script → find_table script.catalog coordinator_table ≡ None
+pub no_coordinator : (script : Script) → IsPlayable script → find_table script.catalog coordinator_table ≡ None
 no_coordinator script p = by (find_table script.catalog coordinator_table) refl
   where
     by : (o : Option Table) → find_table script.catalog coordinator_table ≡ o → find_table script.catalog coordinator_table ≡ None

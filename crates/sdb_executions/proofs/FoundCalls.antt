@@ -46,6 +46,7 @@ use Rattle.sdb_phases.specs.Work.{Work}
 use Rattle.sdb_client.specs.declared.next.Next.{Next}
 use Rattle.sdb_client.specs.declared.next.Next.TheVariants as next
 use Rattle.sdb_client.specs.Client.{ClientAt, RowsReadPost, StagePost, after, answer_in, given_answer, given_left, gives, next_of, with_rows_read, resting}
+use Rattle.sdb_client.proofs.Calls.{noting_idle}
 use Rattle.sdb_steps.proofs.Fitted.{by_next}
 use Rattle.sdb_steps.proofs.InTables.{access_table, own_table}
 use Rattle.sdb_steps.proofs.RowsFit.{found_itself}
@@ -94,10 +95,6 @@ ends_only (progress.Conflict key found) b e = ap next.End (cc)
 ends_only progress.Committed b e = ap next.End (cc)
 ends_only (progress.Expired id) b e = ap next.End (cc)
 ends_only (progress.Unknown id) b e = ap next.End (cc)
-
-noted_idle : (t : TxnAt) (a : Access) (images : List Record) → (with_rows_read t a images).doing ≡ doing.Idle
-noted_idle t (access.Get key) images = refl
-noted_idle t (access.Scan span) images = refl
 
 -- a scan is among the scans that are then noted
 noted_scans : (t : TxnAt) (a : Access) (images : List Record) (span : Span) (m : StoreCall) → m.request ≡ request_of a → (is_scanned t.seen.scans span ≡ true) ⊎ (is_scan_of span m.request ≡ true) → is_scanned (with_rows_read t a images).seen.scans span ≡ true
@@ -215,7 +212,7 @@ module _ (catalog : List Table) (is : is_catalog catalog ≡ true) (apart : (k :
     gives_rows images e =
         let b : Answer = given_answer (with_rows_read t z.access images) (gives p z.access (with_rows_read t z.access images)) in
         follows.given_follows catalog events c h k runs (ev (Some b)) t z.opened z.free (done b) p z.access (idle t) (with_rows_read t z.access images)
-        (record { is = is; named = z.asked.named; asked = z.asked.asked; taken = z.asked.taken; literals = z.asked.literals; access = z.asked.access }) z.is.text z.is.inner.commit refl (refl, refl) (noted_idle t z.access images, same_writes t z.access images) (sees (Some b))
+        (record { is = is; named = z.asked.named; asked = z.asked.asked; taken = z.asked.taken; literals = z.asked.literals; access = z.asked.access }) z.is.text z.is.inner.commit refl (refl, refl) (noting_idle t z.access images, same_writes t z.access images) (sees (Some b))
         (view_found (view_after catalog (E (Some b)) c (running_of h.begun k.told) (sees (Some b)).run) t z.access images (found_by (calls_of (E (Some b)) c (done b))) (sees (Some b)).sees (kept t z.free z.opened z.access z.x z.reads)
         (λ key. ap (λ cs. value_at (found_by cs) key) (calls_done b) ∙ found_now (ms ++ made ∷ []) z.access images (has_read images e) own key))
         (fits_now catalog p z.access listed of_table (ms ++ made ∷ []) t images (has_read images e) fit) (scans_then b images e)

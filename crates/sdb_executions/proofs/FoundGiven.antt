@@ -29,9 +29,8 @@ use Rattle.sdb_snapshot.specs.Written.{with_writes}
 use Rattle.sdb_snapshot.proofs.Shown.{get_seen, own_is}
 use Rattle.sdb_txn.specs.Txn.{TxnAt}
 use Rattle.sdb_client.specs.Client.{given_answer, given_left, gives, left_by_answer, too_many, written}
-use Rattle.sdb_steps.proofs.RowsFit.{answers_on, found_itself}
+use Rattle.sdb_steps.proofs.RowsFit.{answers_on, found_itself, done_is, all_in_fit}
 use Rattle.sdb_session.specs.Keys.{keys_written, with_keys}
-use Rattle.sdb_session.proofs.Fits.{all_in_fit}
 use Rattle.sdb_session.proofs.Keys.{keys_changed, keys_with}
 use Rattle.sdb_causes.specs.Unfit.{SeesWellTyped}
 use Rattle.sdb_causes.proofs.Given.{asked_gives, given_middle}
@@ -94,9 +93,6 @@ module _ (p : Planned) (a : Access) (was v : TxnAt) (asked : p.asked ≡ true) w
 
 ---- a statement
 
-changes_are : (a b : Answer) (ks ls : List Keyed) → Finished a ks ≡ Finished b ls → ks ≡ ls
-changes_are a b ks ls e = cc
-
 -- A statement whose plan is on its access, taken by the catalog.
 pub record IsPlannedOn (catalog : List Table) (p : Planned) (a : Access) : Type 0 where
   pub is : is_catalog catalog ≡ true
@@ -128,7 +124,7 @@ module _ (catalog : List Table) (events : List Event) (c : ℕ) (ss : List Execu
     -- its changes are of the keys that it writes
     changes : first_unfit p.table (overlay a v.seen) ≡ None → map (λ (k : Keyed). k.key) ks ≡ keys_written catalog p.statement w.rows
     changes none =
-        ap (map (λ (k : Keyed). k.key)) (changes_are b (answer_on p.table p.statement (overlay a v.seen)) ks (changes_on p.table p.statement (overlay a v.seen)) (sym step ∙ asked_gives p (overlay a v.seen) None on.asked none))
+        ap (map (λ (k : Keyed). k.key)) (done_is b (answer_on p.table p.statement (overlay a v.seen)) ks (changes_on p.table p.statement (overlay a v.seen)) (sym step ∙ asked_gives p (overlay a v.seen) None on.asked none))
         ∙ ap (λ (x : Access). map (λ (k : Keyed). k.key) (changes_on p.table p.statement (overlay x v.seen))) on.access
         ∙ keys_changed catalog p.table p.statement (tables_seen v.seen) (named_is_table catalog p.statement p.table on.is on.named) on.named (all_in_fit catalog p.table (all_rows (tables_seen v.seen)) (found_itself catalog (table_of p.statement) p.table on.named) (fit_tables catalog v.seen fit))
         ∙ sym (ap (keys_written catalog p.statement) (view_tables w v.seen now))

@@ -19,6 +19,7 @@ use Rattle.sdb_types.proofs.KeyOrder.{key_total}
 use Rattle.sdb_types.proofs.Keys.{same_key_tells}
 use Rattle.sdb_catalog.specs.declared.entry.Entry.{Entry}
 use Rattle.sdb_catalog.specs.Rows.{metadata_key_of, metadata_table, row_of}
+use Rattle.sdb_catalog.proofs.Catalogs.{key_of_row}
 use Rattle.sdb_laws.proofs.Effects.{after_put}
 use Rattle.sdb_retire.specs.Joined.{AreApart}
 use Rattle.sdb_retire.specs.Moving.{is_moving, moving_tables, renewal, renewals, renewed}
@@ -27,17 +28,13 @@ use Rattle.sdb_retire.proofs.Joins.{after_each}
 
 ---- tables come once
 
-pub row_key : (e : Entry) → (row_of e).key ≡ metadata_key_of e.table.name
-unfolding row_of
-row_key e = refl
-
 later_names : (e : Entry) (es : List Entry) → AllByRecursion (λ (r : Record). is_lt (key_cmp (row_of e).key r.key) ≡ true) (map row_of es) → AllByRecursion (λ u. u ≢ e.table.name) (map (λ (a : Entry). a.table.name) es)
 later_names e [] h = tt
 later_names e (a ∷ as_) h = (differ, later_names e as_ h.1)
   where
     differ : a.table.name ≡ e.table.name → ⊥
     differ same =
-        let keys : (row_of a).key ≡ (row_of e).key = row_key a ∙ ap metadata_key_of same ∙ sym (row_key e) in
+        let keys : (row_of a).key ≡ (row_of e).key = key_of_row a ∙ ap metadata_key_of same ∙ sym (key_of_row e) in
         absurd (let f : false ≡ true = sym (ap is_lt (tied_itself key_total (row_of e).key)) ∙ ap (λ (k : Key). is_lt (key_cmp (row_of e).key k)) (sym keys) ∙ h.0 in cc)
 
 names_apart : (es : List Entry) → rise (map row_of es) ≡ true → AreApart (map (λ (e : Entry). e.table.name) es)

@@ -13,6 +13,7 @@ use Rattle.sdb_stores.specs.Views.{Attached, StoreView, IsCallAt, HaveRisen, ind
 use Rattle.std.specs.Prelude.{unwrap_or}
 use Rattle.sdb_stores.proofs.Called.{same_names, grown}
 use Rattle.sdb_retire.specs.Writes.{GoOn, Hold, HoldFirst, IsScanned, MayHold, Write, after_write, after_writes, contents_at, contents_of, span_of, write_at}
+use Rattle.sdb_catalog.proofs.Calling.{left_by}
 
 ---- one call
 
@@ -70,14 +71,6 @@ told_at old at i e t = subst old.known (sym e) t
 pub hold_call : (at : ℕ) (q : Request) (r : Reply) (old new : Attached) → IsCallAt at q r old new → r ≢ reply.Fault → r ≢ reply.NoMemory → Hold (write_at at q ∷ []) old new
 hold_call at q r old new c f g = λ i t. one_call at i q r old new c (λ e. answered_left q r c.before.contents c.now.contents f g (c.performed (told_at old at i e t)))
 
-maybe_left : (q : Request) (r : Reply) (m n : Contents) → Performs q r m n → (n ≡ m) ⊎ (n ≡ after q m)
-maybe_left q reply.Fault m n p = p
-maybe_left q reply.NoMemory m n p = inl p
-maybe_left q (reply.Found found) m n p = inr p.1
-maybe_left q (reply.Rows rows) m n p = inr p.1
-maybe_left q reply.Applied m n p = inr p.1
-maybe_left q (reply.NotMet found) m n p = inr p.1
-
 -- a call made its write, or not
 pub may_hold : (at : ℕ) (q : Request) (r : Reply) (old new : Attached) → IsCallAt at q r old new → MayHold (write_at at q) old new
 may_hold at q r old new c = λ i t. by_test (at == i) (here i t) (λ e. inl (other_call at i q r old new c (apart_of at i e)))
@@ -85,7 +78,7 @@ may_hold at q r old new c = λ i t. by_test (at == i) (here i t) (λ e. inl (oth
     here : (i : ℕ) → old.known i → (at == i) ≡ true → (contents_at new.views i ≡ contents_at old.views i) ⊎ (contents_at new.views i ≡ after_write i (write_at at q) (contents_at old.views i))
     here i t e =
         let same : at ≡ i = eq_of at i e in
-        elim (maybe_left q r c.before.contents c.now.contents (c.performed (told_at old at i same t))) [
+        elim (left_by q r c.before.contents c.now.contents (c.performed (told_at old at i same t))) [
           | inl kept ↦ inl (subst (λ (n : ℕ). contents_at new.views n ≡ contents_at old.views n) same (now_call at q r old new c ∙ kept ∙ sym (before_call at q r old new c)))
           | inr done ↦ inr (one_call at i q r old new c (λ _. done))
         ]
@@ -164,13 +157,6 @@ same_index old new name goes = ap (λ (ns : List (List ℕ)). unwrap_or (place_o
 
 pub still_there : (old new : Attached) (name : List ℕ) → GoOn old new → IsSome (index_in old name) → IsSome (index_in new name)
 still_there old new name goes h = subst (λ (ns : List (List ℕ)). IsSome (place_of name ns)) (sym goes.names) h
-
-pub risen_more : (old mid : Attached) (new : List StoreView) → GoOn old mid → HaveRisen mid.views new → HaveRisen old.views new
-risen_more old mid new a h =
-    elim h [
-      | inl rose ↦ inl (omega (arith, a.counted, rose))
-      | inr most ↦ inr most
-    ]
 
 pub risen_later : (old mid : List StoreView) (new : List StoreView) → mid ≡ new → HaveRisen old mid → HaveRisen old new
 risen_later old mid new e h = subst (HaveRisen old) e h

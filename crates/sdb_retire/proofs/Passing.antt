@@ -27,7 +27,7 @@ use Rattle.sdb_schema.specs.declared.table.Table.{Table}
 use Rattle.sdb_stores.specs.Views.{Attached, StoreView, index_at}
 use Rattle.sdb_catalog.specs.declared.entry.Entry.{Entry}
 use Rattle.sdb_catalog.specs.Rows.{MayHaveRow, metadata_table, row_of}
-use Rattle.sdb_catalog.proofs.Catalogs.{own_ns}
+use Rattle.sdb_catalog.proofs.Catalogs.{own_ns, key_of_row}
 use Rattle.sdb_laws.proofs.Effects.{after_put}
 use Rattle.sdb_retire.specs.declared.seen.Seen.{Seen}
 use Rattle.sdb_retire.specs.declared.survey.Survey.{Survey}
@@ -36,7 +36,7 @@ use Rattle.sdb_retire.specs.Joined.{AreApart, IsWhole, after_all}
 use Rattle.sdb_retire.specs.Moving.{FollowMoving, is_moving, renewal, renewals, renewed}
 use Rattle.sdb_retire.specs.Retired.{AreKnown, IsSurvey, Sides, writes_of}
 use Rattle.sdb_retire.specs.Writes.{Write, after_write, after_writes, contents_at, contents_of, span_of, write_at, writes_at}
-use Rattle.sdb_retire.proofs.Apart.{row_key, row_table, some_names}
+use Rattle.sdb_retire.proofs.Apart.{row_table, some_names}
 use Rattle.sdb_retire.proofs.Calls.{same_itself}
 use Rattle.sdb_retire.proofs.Joins.{Agree, IsFilled, after_each, agreed, apart_key, cleared_filled, put_fills, table_apart, table_of_key, tables_apart, within}
 use Rattle.sdb_retire.proofs.Known.{apart_of_survey, at_other, nothing_here, own_writes, whole_all}
@@ -149,7 +149,7 @@ rows_there m [] h = tt
 rows_there m (e ∷ es) h = (h.0, rows_there m es h.1)
 
 pub renewed_key : (to : List ℕ) (e : Entry) → (row_of (renewed to e)).key ≡ (row_of e).key
-renewed_key to e = row_key (renewed to e) ∙ sym (row_key e)
+renewed_key to e = key_of_row (renewed to e) ∙ sym (key_of_row e)
 
 pub version_there : (e : Entry) → holds (Version e.revision Committed) (Some (row_of e)) ≡ true
 unfolding row_of

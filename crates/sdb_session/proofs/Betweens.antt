@@ -1,13 +1,13 @@
 -- Between two statements again: what the answer of a statement leaves of its session's open transaction.
 use Rattle.std.proofs.Common.{◌≡◌, Bool, true, false, List, [], ◌∷◌, ◌++◌, Option, Some, None, Ok, refl, sym, ap, subst, ◌∙◌}
 use Rattle.std.specs.Prelude.{fold, is_some, map, ◌&&◌, ◌||◌, if◌then◌else◌}
-use Rattle.sdb_types.proofs.Basics.{by_test, none_some, some_is}
+use Rattle.sdb_types.proofs.Basics.{by_test, none_some, some_is, and_false, map_last}
 use Rattle.sdb_schema.specs.declared.table.Table.{Table}
 use Rattle.sdb_record.specs.declared.access.Access.{Access}
 use Rattle.sdb_model.specs.declared.answer.Answer.{Answer}
 use Rattle.sdb_model.specs.declared.answer.Answer.TheVariants as answer
 use Rattle.sdb_model.specs.declared.statement.Statement.{Statement}
-use Rattle.sdb_model.specs.Transactions.{changes_nothing, is_answered_from_rows, is_conflict, is_done}
+use Rattle.sdb_model.specs.Transactions.{changes_nothing, is_conflict, is_done}
 use Rattle.sdb_exec.specs.Plans.{Planned}
 use Rattle.sdb_snapshot.specs.Seen.{Seen}
 use Rattle.sdb_client.specs.Client.{ClientAt}
@@ -16,17 +16,8 @@ use Rattle.sdb_session.specs.Between.{Answered, Begun, Between, Ended, IsStill, 
 use Rattle.sdb_session.specs.Chain.{Answers, Exchanged, OutOfMemory, open_after, open_of, transaction_of}
 use Rattle.sdb_session.specs.Clients.{Added, AnsweredAlone, IsAskedFor, Kept, OpenAlone}
 use Rattle.sdb_session.specs.Session.{Exchange, Part, Parts, begins, body_in, ends, is_begin, is_commit, is_rollback, no_parts, part_after, parts_after, parts_of, statements_in, rejected}
-use Rattle.sdb_session.proofs.Sessions.{away_none, away_open, idle_meek, map_more, mild_meek, no_word, none_open, one_open, rows_meek, stays_by}
-
-and_false : (b : Bool) → (b && false) ≡ false
-and_false true = refl
-and_false false = refl
-
-rows_change_some : (z : Answer) → is_answered_from_rows z ≡ true → changes_nothing z ≡ false
-rows_change_some (answer.Rows rows) h = refl
-rows_change_some (answer.Count n) h = refl
-rows_change_some (answer.Duplicate key) h = refl
-rows_change_some z h = absurd (cc)
+use Rattle.sdb_session.proofs.Sessions.{away_none, away_open, idle_meek, mild_meek, no_word, none_open, one_open, rows_meek, stays_by}
+use Rattle.sdb_session.proofs.Statements.{rows_change}
 
 -- the transaction with one statement more
 abbrev with_one : Part → Exchange → Part
@@ -38,8 +29,8 @@ same_transaction t e n = ap (λ bs. record { id = t.id; statements = map (λ b. 
 one_transaction : (t : Part) (e : Exchange) (st : Statement) → e.says ≡ Ok st → changes_nothing e.answer ≡ false → transaction_of (with_one t e) ≡ record { id = t.id; statements = (transaction_of t).statements ++ st ∷ []; answers = (transaction_of t).answers ++ e.answer ∷ [] }
 one_transaction t e st is n =
     ap (λ (bs : List (Statement × Answer)). record { id = t.id; statements = map (λ b. b.0) bs; answers = map (λ b. b.1) bs }) (one_open t.inside e st is n)
-    ∙ ap (λ (ss : List Statement). record { id = t.id; statements = ss; answers = map (λ (b : Statement × Answer). b.1) (body_in t.inside ++ (st, e.answer) ∷ []) }) (map_more (λ (b : Statement × Answer). b.0) (body_in t.inside) (st, e.answer))
-    ∙ ap (λ (ys : List Answer). record { id = t.id; statements = statements_in t.inside ++ st ∷ []; answers = ys }) (map_more (λ (b : Statement × Answer). b.1) (body_in t.inside) (st, e.answer))
+    ∙ ap (λ (ss : List Statement). record { id = t.id; statements = ss; answers = map (λ (b : Statement × Answer). b.1) (body_in t.inside ++ (st, e.answer) ∷ []) }) (map_last (λ (b : Statement × Answer). b.0) (body_in t.inside) (st, e.answer))
+    ∙ ap (λ (ys : List Answer). record { id = t.id; statements = statements_in t.inside ++ st ∷ []; answers = ys }) (map_last (λ (b : Statement × Answer). b.1) (body_in t.inside) (st, e.answer))
 
 module _ (catalog : List Table) (g h : Database) (ts : List Part) (e : Exchange) (c : ClientAt) where
   abbrev After : Option Part → Type 0
@@ -101,7 +92,7 @@ module _ (catalog : List Table) (g h : Database) (ts : List Part) (e : Exchange)
       by : is_commit e.says ≡ false → is_rollback e.says ≡ false → AnsweredAlone catalog h (transaction_of t).statements (transaction_of t).answers st a e.moment t.id e.answer s → After (Some t)
       by commit rollback (Kept same why many opened) = nothing t (stays_by e commit (idle_meek h a e.moment e.answer why).conflict rollback) same (still_open (transaction_of t) s (transaction_of t).statements (transaction_of t).answers still opened)
       by commit rollback (Added rows few opened) =
-          let changed = rows_change_some e.answer rows in
+          let changed = rows_change e.answer rows in
           inside t (stays_by e commit (rows_meek e.answer rows).0.conflict rollback)
           (subst (λ (x : OpenTransaction). Between catalog h (Some x) c) (sym (one_transaction t e st is changed))
           (still_open (transaction_of t) s ((transaction_of t).statements ++ st ∷ []) ((transaction_of t).answers ++ e.answer ∷ []) still opened))

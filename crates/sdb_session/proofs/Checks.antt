@@ -30,8 +30,8 @@ use Rattle.sdb_validate.proofs.Rescans.{first_lost}
 use Rattle.sdb_session.specs.Database.{Called, Found, Got, Database, HasFailed, NotFound, NotReturned, Same, Scanned, Returned, is_committed_or_none, is_listed}
 use Rattle.sdb_session.specs.OnlyResolves.{IsApart, IsSound}
 use Rattle.sdb_session.specs.Commits.{OthersUnchanged, IsReadCurrent, IsScanCurrent, WorkAlone}
-use Rattle.sdb_session.proofs.Resolves.{row_key}
 use Rattle.sdb_session.proofs.Writes.{found_at, based_at, version_holds}
+use Rattle.sdb_story.proofs.Noting.{coordinators}
 
 -- A check is a read, and passes or has failed.
 pub record Passes (g : Database) (c : Check) : Type 0 where
@@ -54,7 +54,7 @@ module _ (catalog : List Table) (apart : IsApart catalog) (start : Database) (so
   -- a key of a table that isn't written is as before
   unwritten : (k : Key) → is_listed catalog k ≡ true → is_written p.writes k ≡ false → g k ≡ start k
   unwritten k listed free = others k free (elim (same_key_tells k (coordinator_key_of p.id)) [
-    | inl e ↦ false_true (sym (apart k listed) ∙ ap (λ x. is_coordinator_table x.table) e.1 ∙ row_key p.id)
+    | inl e ↦ false_true (sym (apart k listed) ∙ ap (λ x. is_coordinator_table x.table) e.1 ∙ coordinators p.id)
     | inr n ↦ n.0
   ])
 

@@ -35,8 +35,8 @@ use Rattle.sdb_session.specs.Later.{IsOwn, IsOwnRow, Later}
 use Rattle.sdb_session.specs.Seen.{AreImagesOf}
 use Rattle.sdb_session.proofs.Leaves.{done_images, given_up_rows, row_unwritten}
 use Rattle.sdb_session.proofs.Recovers.{row_at}
-use Rattle.sdb_session.proofs.Resolves.{row_key}
 use Rattle.sdb_session.proofs.Writes.{found_at, based_at}
+use Rattle.sdb_story.proofs.Noting.{coordinators}
 
 ---- rows of tables that fit
 
@@ -50,7 +50,7 @@ module _ (catalog : List Table) (apart : IsApart catalog) (start : Database) (so
     where
       by : (o : Option Write) → write_among p.writes k ≡ o → G r
       by None f = stood (sym (others k (ap is_some f) (elim (same_key_tells k row) [
-        | inl s ↦ false_true (sym (apart k listed) ∙ ap (λ (x : Key). is_coordinator_table x.table) s.1 ∙ row_key p.id)
+        | inl s ↦ false_true (sym (apart k listed) ∙ ap (λ (x : Key). is_coordinator_table x.table) s.1 ∙ coordinators p.id)
         | inr n ↦ n.0
       ])) ∙ e)
       by (Some w) f = let x = found_at p.writes k w f in wrote x.0 w x.1 x.2 (subst (λ q. h q ≡ Some r) x.2 e)

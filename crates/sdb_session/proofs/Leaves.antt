@@ -37,8 +37,9 @@ use Rattle.sdb_session.specs.Commits.{IsDone, IsGivenUp, IsLoose, IsWon, OthersU
 use Rattle.sdb_session.specs.Seen.{AreImagesOf}
 use Rattle.sdb_session.specs.Tombstones.{HasWritten, SameImages}
 use Rattle.sdb_session.proofs.Recovers.{row_at}
-use Rattle.sdb_session.proofs.Resolves.{firm_image, row_key, under_aborted}
+use Rattle.sdb_session.proofs.Resolves.{firm_image, under_aborted}
 use Rattle.sdb_session.proofs.Writes.{found_at, based_at}
+use Rattle.sdb_story.proofs.Noting.{coordinators}
 
 -- an id that a record has is of 128 bits
 id_fits : (o : Option Value) (id : TxId) → id_in_value o ≡ Some id → id.0 < 2 ^ 128
@@ -70,7 +71,7 @@ module _ (catalog : List Table) (apart : IsApart catalog) (start : Database) (so
 
   -- the decision on another transaction is as it was
   decided_other : (id : TxId) → id.0 < 2 ^ 128 → id ≢ p.id → decided_in h id ≡ decided_in start id
-  decided_other id fits differs = ap row_at (others (coordinator_key_of id) (row_unwritten (coordinator_key_of id) (row_key id)) (elim (same_key_tells (coordinator_key_of id) row) [
+  decided_other id fits differs = ap row_at (others (coordinator_key_of id) (row_unwritten (coordinator_key_of id) (coordinators id)) (elim (same_key_tells (coordinator_key_of id) row) [
     | inl e ↦ absurd (differs (some_is id p.id (sym (key-of-id id fits) ∙ ap id_of_key e.1 ∙ key-of-id p.id work.fits)))
     | inr n ↦ n.0
   ]))
@@ -81,7 +82,7 @@ module _ (catalog : List Table) (apart : IsApart catalog) (start : Database) (so
     where
       present : h k ≡ start k
       present = others k free (elim (same_key_tells k row) [
-        | inl e ↦ false_true (sym (apart k listed) ∙ ap (λ x. is_coordinator_table x.table) e.1 ∙ row_key p.id)
+        | inl e ↦ false_true (sym (apart k listed) ∙ ap (λ x. is_coordinator_table x.table) e.1 ∙ coordinators p.id)
         | inr n ↦ n.0
       ])
 

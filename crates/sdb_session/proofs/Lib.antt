@@ -9,7 +9,6 @@ pub mod Seen
 pub mod Leaves
 pub mod Sweeps
 pub mod Keys
-pub mod Fits
 pub mod Works
 pub mod Statements
 pub mod Ends

@@ -2,7 +2,6 @@
 use Rattle.std.proofs.Common.{◌≡◌, ◌≢◌, ℤ, Bool, true, false, List, [], ◌∷◌, ◌++◌, Option, Some, None, Result, Ok, Err, inl, inr, refl, sym, ap, subst, ◌∙◌, append_assoc, append-nil}
 use Rattle.std.specs.Prelude.{ℕ, is_ok, not, if◌then◌else◌}
 use Rattle.std.specs.List.{AllByRecursion, list_all}
-use Rattle.std.specs.Ordering.{is_eq}
 use Rattle.std.specs.declared.cmp.Ordering.TheVariants.{Less}
 use Rattle.sdb_types.specs.declared.key.Key.{Key}
 use Rattle.sdb_types.specs.declared.record.Record.{Record}
@@ -29,7 +28,7 @@ use Rattle.sdb_phases.specs.Recover.{recover_next}
 use Rattle.sdb_read.specs.Read.{Kind, Firm, Bad, ReadStage, Asking, Resolving, Ended, answered, kind_of, opened, read_pending_at, read_step, request_of, resolved, settle, settle_one}
 use Rattle.sdb_turns.specs.ReadAt.{AreInOrder, Rise, keys_of}
 use Rattle.sdb_turns.proofs.Lists.{each_more, each_unmap}
-use Rattle.sdb_turns.proofs.Rows.{found_each, inside_each, rise_is}
+use Rattle.sdb_turns.proofs.Rows.{found_each, inside_each, rise_is, differ_of}
 use Rattle.sdb_session.specs.Database.{Called, Found, Database, NotFound, NotReturned, Same, Returned, is_listed}
 use Rattle.sdb_session.specs.OnlyResolves.{IsApart, OnlyResolves, IsSound}
 use Rattle.sdb_session.specs.Recovers.{IsUndecided, RecoversTo}
@@ -59,17 +58,14 @@ pub among_none : (rs : List Record) (k : Key) → AllByRecursion (λ r. same_key
 among_none [] k a = refl
 among_none (r ∷ rs) k a = ap (λ b. if b then Some r else record_among rs k) a.0 ∙ among_none rs k a.1
 
-differ_less : (k q : Key) → key_cmp k q ≡ Less → same_key q k ≡ false
-differ_less k q l = same_key_turned q k ∙ same_key_is k q ∙ ap is_eq l
-
 -- the others than one in the middle of rows that rise have other keys
 pub others_apart : (xs : List Record) (x : Record) (ys : List Record) → Rise (keys_of (xs ++ x ∷ ys)) → AllByRecursion (λ r. same_key x.key r.key ≡ false) (xs ++ ys)
 others_apart [] x ys h = each_less ys (each_unmap (λ q. key_cmp x.key q ≡ Less) (λ (r : Record). r.key) ys h.0)
   where
     each_less : (rs : List Record) → AllByRecursion (λ r. key_cmp x.key r.key ≡ Less) rs → AllByRecursion (λ r. same_key x.key r.key ≡ false) rs
     each_less [] a = tt
-    each_less (r ∷ rs) a = (same_key_turned x.key r.key ∙ differ_less x.key r.key a.0, each_less rs a.1)
-others_apart (z ∷ xs) x ys h = (differ_less z.key x.key (middle (λ (r : Record). key_cmp z.key r.key ≡ Less) xs x ys (each_unmap (λ q. key_cmp z.key q ≡ Less) (λ (r : Record). r.key) (xs ++ x ∷ ys) h.0)), others_apart xs x ys h.1)
+    each_less (r ∷ rs) a = (same_key_turned x.key r.key ∙ differ_of x.key r.key a.0, each_less rs a.1)
+others_apart (z ∷ xs) x ys h = (differ_of z.key x.key (middle (λ (r : Record). key_cmp z.key r.key ≡ Less) xs x ys (each_unmap (λ q. key_cmp z.key q ≡ Less) (λ (r : Record). r.key) (xs ++ x ∷ ys) h.0)), others_apart xs x ys h.1)
 
 -- rows without one in the middle still rise
 rise_without : (xs : List Record) (x : Record) (ys : List Record) → Rise (keys_of (xs ++ x ∷ ys)) → Rise (keys_of (xs ++ ys))

@@ -35,7 +35,8 @@ use Rattle.sdb_turns.proofs.Meta.{before_firm, meta_of}
 use Rattle.sdb_session.specs.Database.{Called, Done, Found, Got, Database, IsWith, NotFound, Same, Undone, Wrote, decided_in, is_committed_or_none, is_listed}
 use Rattle.sdb_session.specs.OnlyResolves.{IsApart, OnlyResolves, IsSound}
 use Rattle.sdb_session.specs.Recovers.{RecoveryLeadsTo, IsAborted, PhaseAlone, RecoverAlone, RecoversTo}
-use Rattle.sdb_session.proofs.Resolves.{abort_settles, roll_settles, row_key, settles_refl, under_aborted}
+use Rattle.sdb_session.proofs.Resolves.{abort_settles, roll_settles, settles_refl, under_aborted}
+use Rattle.sdb_story.proofs.Noting.{coordinators}
 
 -- databases that are the same at each key are one
 pub one_database : (g h : Database) → Same g h → g ≡ h
@@ -64,7 +65,7 @@ module _ (catalog : List Table) (apart : IsApart catalog) (rec : Record) (meta :
 
   -- a row of its transaction is followed
   followed : (g : Database) (p : RecoverPhase) (row : Record) → IsSound catalog g → RecoverAlone catalog g rec meta p → g key ≡ Some row → RecoveryLeadsTo catalog g rec meta moment (row_followed meta row)
-  followed g p row sound alone e = by (decision_in row) refl (sound.rows key row (row_key meta.id) e)
+  followed g p row sound alone e = by (decision_in row) refl (sound.rows key row (coordinators meta.id) e)
     where
       to : (d : Decided) → decision_in row ≡ Ok d → (x : Decision) → d.decision ≡ x → RecoveryLeadsTo catalog g rec meta moment (elim x [ decision.Committed ↦ (phase.Forward d.created_at, steps.More) | decision.Aborted ↦ (phase.Back, steps.More) ])
       to d says decision.Committed f = with_phase g g p (phase.Forward d.created_at) alone refl (ap row_at e ∙ ap result_ok says ∙ ap (λ y. Some (record { decision = y; created_at = d.created_at })) f, decided_at row d says)
@@ -105,7 +106,7 @@ module _ (catalog : List Table) (apart : IsApart catalog) (rec : Record) (meta :
   -- a key of a table is none of the coordinator's
   apart_from_row : (k : Key) → is_listed catalog k ≡ true → same_key k key ≡ false
   apart_from_row k listed = elim (same_key_tells k key) [
-    | inl e ↦ false_true (sym (apart k listed) ∙ ap (λ x. is_coordinator_table x.table) e.1 ∙ row_key meta.id)
+    | inl e ↦ false_true (sym (apart k listed) ∙ ap (λ x. is_coordinator_table x.table) e.1 ∙ coordinators meta.id)
     | inr n ↦ n.0
   ]
 

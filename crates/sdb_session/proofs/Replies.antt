@@ -42,6 +42,7 @@ use Rattle.sdb_client.specs.declared.next.Next.{Next}
 use Rattle.sdb_client.specs.declared.next.Next.TheVariants as next
 use Rattle.sdb_client.specs.Client.{CallPost, ClientAt, CommitNext, NextPost, OpenTxnPost, ReplyPost, VacuumPost, TxnPost, after, answer_in, answer_of, client_pending, next_of, pending_by, pending_of, vacuum_left}
 use Rattle.sdb_steps.specs.Fitting.{row_is_well_typed, tables_are_well_typed}
+use Rattle.sdb_steps.proofs.RowsFit.{fits_there}
 use Rattle.sdb_session.specs.Database.{Called, Database, is_listed, row_in}
 use Rattle.sdb_session.specs.OnlyResolves.{IsApart, OnlyResolves, IsSound}
 use Rattle.sdb_session.specs.Commits.{CommitAlone, IsDone, IsGivenUp}
@@ -56,7 +57,6 @@ use Rattle.sdb_session.specs.Between.{Answered, Between, LeadsTo, CommitEnds, Co
 use Rattle.sdb_session.proofs.Commits.{commits}
 use Rattle.sdb_session.proofs.Ends.{done_later, given_up_later}
 use Rattle.sdb_session.proofs.Leaves.{done_images, done_written, given_up_images, given_up_same}
-use Rattle.sdb_session.proofs.Fits.{fits_there}
 use Rattle.sdb_session.proofs.Reading.{reads}
 use Rattle.sdb_session.proofs.Resolves.{row_stays, settles_trans, sound_stays}
 use Rattle.sdb_session.proofs.Statements.{agrees_all, read_answered}

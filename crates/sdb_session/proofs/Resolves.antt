@@ -21,12 +21,9 @@ use Rattle.sdb_record.proofs.ImageLaws.{image-is, image-open, image-settled, has
 use Rattle.sdb_schema.specs.declared.table.Table.{Table}
 use Rattle.sdb_session.specs.Database.{Database, IsWith, decided_in, decided_on, image_in, is_committed_or_none, is_listed, row_in}
 use Rattle.sdb_session.specs.OnlyResolves.{IsApart, IsPreparedFor, IsResolved, IsAbortedRow, OnlyResolves, IsSound}
+use Rattle.sdb_story.proofs.Noting.{coordinators}
 
 ---- coordinator rows
-
-pub row_key : (id : TxId) → is_coordinator_table (coordinator_key_of id).table ≡ true
-unfolding coordinator_key_of
-row_key id = refl
 
 ---- images
 
@@ -90,8 +87,8 @@ module _ (catalog : List Table) (g h : Database) (s : OnlyResolves catalog g h) 
 
       by : (x : Option Record) → g key ≡ x → (y : Option Record) → h key ≡ y → image_under r (took (h key)) ≡ image_under r (took (g key))
       by None e None f = rw (e, f) refl
-      by None e (Some row) f = rw (e, f) (aborted row (s.fresh key row (row_key id) e f).0 (result_ok (decision_in row)) refl)
-      by (Some row) e y f = ap (λ o. image_under r (took o)) (s.rows key row (row_key id) e ∙ sym e)
+      by None e (Some row) f = rw (e, f) (aborted row (s.fresh key row (coordinators id) e f).0 (result_ok (decision_in row)) refl)
+      by (Some row) e y f = ap (λ o. image_under r (took o)) (s.rows key row (coordinators id) e ∙ sym e)
 
   -- a decision stays
   pub decided_stays : (r : Record) (d : Decided) → decided_on g r ≡ Some d → decided_on h r ≡ Some d
@@ -99,7 +96,7 @@ module _ (catalog : List Table) (g h : Database) (s : OnlyResolves catalog g h) 
     where
       at : (id : TxId) (x : Option Record) → g (coordinator_key_of id) ≡ x → decided_in g id ≡ Some d → decided_in h id ≡ Some d
       at id None f e = none_some d (sym (ap (λ o. option_and_then (λ row. result_ok (decision_in row)) o) f) ∙ e)
-      at id (Some row) f e = ap (λ o. option_and_then (λ row. result_ok (decision_in row)) o) (s.rows (coordinator_key_of id) row (row_key id) f ∙ sym f) ∙ e
+      at id (Some row) f e = ap (λ o. option_and_then (λ row. result_ok (decision_in row)) o) (s.rows (coordinator_key_of id) row (coordinators id) f ∙ sym f) ∙ e
 
       by : (o : Option TxId) → option_and_then (decided_in g) o ≡ Some d → option_and_then (decided_in h) o ≡ Some d
       by None e = none_some d e
@@ -246,7 +243,7 @@ abort_settles catalog g h id moment rec apart rec_listed rec_present rec_open re
     other k f = by (same_key_tells k key)
       where
         by : ((same_key k key ≡ true) × (k ≡ key)) ⊎ ((same_key k key ≡ false) × (k ≢ key)) → h k ≡ g k
-        by (inl e) = false_true (sym f ∙ ap (λ x. is_coordinator_table x.table) e.1 ∙ row_key id)
+        by (inl e) = false_true (sym f ∙ ap (λ x. is_coordinator_table x.table) e.1 ∙ coordinators id)
         by (inr n) = now k ∙ ap (λ b. if b then Some aborted else g k) n.0
 
     rows : (k : Key) (row : Record) → g k ≡ Some row → ((same_key k key ≡ true) × (k ≡ key)) ⊎ ((same_key k key ≡ false) × (k ≢ key)) → h k ≡ Some row
@@ -291,7 +288,7 @@ roll_settles catalog g h rec d apart listed present loose decided now = record {
       where
         by : (o : Option TxId) → option_and_then (decided_in g) o ≡ Some d → option_and_then (decided_in h) o ≡ Some d
         by None f = f
-        by (Some id) f = ap (λ o. option_and_then (λ row. result_ok (decision_in row)) o) (other (coordinator_key_of id) (row_key id)) ∙ f
+        by (Some id) f = ap (λ o. option_and_then (λ row. result_ok (decision_in row)) o) (other (coordinator_key_of id) (coordinators id)) ∙ f
 
     held : (k : Key) (r : Record) → g k ≡ Some r → ((same_key k rec.key ≡ true) × (k ≡ rec.key)) ⊎ ((same_key k rec.key ≡ false) × (k ≢ rec.key)) → (h k ≡ Some r) ⊎ IsResolved h k r
     held k r e (inl s) =

@@ -1,8 +1,6 @@
 -- What an open transaction has read stays current, as more is read and written, and as unresolved records are resolved.
 use Rattle.std.proofs.Common.{◌≡◌, ◌≢◌, Bool, true, false, cond, List, [], ◌∷◌, ◌++◌, Option, Some, None, IfSome, ◌⊎◌, inl, inr, refl, sym, ap, subst, ◌∙◌}
-use Rattle.std.specs.Prelude.{is_some, not, ◌&&◌, ◌||◌, if◌then◌else◌, find}
-use Rattle.std.specs.Ordering.{is_lt}
-use Rattle.std.specs.declared.cmp.Ordering.TheVariants.{Less}
+use Rattle.std.specs.Prelude.{is_some, not, ◌||◌, if◌then◌else◌}
 use Rattle.std.specs.Option.{option_and_then, option_map}
 use Rattle.std.specs.List.{AllByRecursion, list_any}
 use Rattle.std.proofs.lemmas.List.Folds.{list_any-append}
@@ -13,20 +11,17 @@ use Rattle.sdb_types.specs.declared.record.Span.{Span}
 use Rattle.sdb_types.specs.declared.record.Request.TheVariants as ask
 use Rattle.sdb_types.specs.declared.record.Reply.TheVariants as reply
 use Rattle.sdb_types.specs.Contents.{in_span, record_among}
-use Rattle.sdb_types.specs.Order.{key_cmp, same_key}
+use Rattle.sdb_types.specs.Order.{same_key}
 use Rattle.sdb_types.proofs.Basics.{false_true, itself, none_some, or_else, or_false, or_true, some_is}
 use Rattle.sdb_types.proofs.Keys.{same_key_is, same_key_of, same_key_tells}
 use Rattle.sdb_keyed.specs.Entries.{value_at}
 use Rattle.sdb_record.specs.declared.access.Access.{Access}
 use Rattle.sdb_record.specs.declared.access.Access.TheVariants as access
-use Rattle.sdb_record.specs.declared.access.Read.{Read}
 use Rattle.sdb_record.specs.declared.access.Scan.{Scan}
-use Rattle.sdb_record.specs.Among.{version_among}
 use Rattle.sdb_record.specs.declared.write.Keyed.{Keyed}
-use Rattle.sdb_record.specs.Meta.{id_in, is_transactional}
+use Rattle.sdb_record.specs.Meta.{is_transactional}
 use Rattle.sdb_record.specs.Moved.{same_version, version_of}
 use Rattle.sdb_record.specs.Rolls.{IsBaseOf}
-use Rattle.sdb_validate.specs.Rescan.{reads_rise, starts_behind}
 use Rattle.sdb_schema.specs.declared.table.Table.{Table}
 use Rattle.sdb_model.specs.Access.{in_access}
 use Rattle.sdb_model.specs.declared.event.Event.TheVariants as event
@@ -39,10 +34,10 @@ use Rattle.sdb_snapshot.specs.Written.{AreChanges}
 use Rattle.sdb_snapshot.proofs.Differences.{noted_images}
 use Rattle.sdb_snapshot.proofs.Keys.{value_last}
 use Rattle.sdb_turns.specs.Reads.{MayRecord, SeenOk, first_image, with_read}
-use Rattle.sdb_turns.specs.ReadAt.{IsImage, IsOfData, Rise, keys_of}
+use Rattle.sdb_turns.specs.ReadAt.{IsImage, IsOfData}
 use Rattle.sdb_turns.proofs.Lists.{each_more, each_unmap}
 use Rattle.sdb_turns.proofs.Rows.{found_each, images_later}
-use Rattle.sdb_turns.proofs.Seen.{read_noted, seen_later, write_kept}
+use Rattle.sdb_turns.proofs.Seen.{read_noted, seen_later, write_kept, rise_read, version_found}
 use Rattle.sdb_session.specs.Database.{Database, is_committed_or_none, is_listed}
 use Rattle.sdb_session.specs.OnlyResolves.{IsApart, OnlyResolves, IsSound}
 use Rattle.sdb_session.specs.Reads.{AreCommitted, IsOfTables, AreRowsAt}
@@ -99,22 +94,6 @@ pub seen_written : (catalog : List Table) (past : List Labelled) (g : Database) 
 seen_written catalog past g s changes alone are = record { ok = write_kept past s changes alone.ok are; scans = alone.scans; matches = alone.matches }
 
 ---- versions
-
-rise_read : (rs : List Record) → Rise (keys_of rs) → reads_rise (reads_of rs) ≡ true
-rise_read [] h = refl
-rise_read (r ∷ rs) h = ap (λ b. b && reads_rise (reads_of rs)) (starts rs h.0) ∙ rise_read rs h.1
-  where
-    starts : (xs : List Record) → AllByRecursion (λ q. key_cmp r.key q ≡ Less) (keys_of xs) → starts_behind r.key (reads_of xs) ≡ true
-    starts [] a = refl
-    starts (x ∷ xs) a = ap is_lt a.0
-
-version_found : (rs : List Record) (q : Key) → version_among (reads_of rs) q ≡ version_of (record_among rs q)
-version_found [] q = refl
-version_found (r ∷ rs) q = by (same_key q r.key) (version_found rs q)
-  where
-    by : (b : Bool) → version_among (reads_of rs) q ≡ version_of (record_among rs q) → option_and_then (λ (y : Read). y.version) (if b then Some (record { key = r.key; version = id_in r.columns }) else find (λ (y : Read). same_key q y.key) (reads_of rs)) ≡ version_of (if b then Some r else record_among rs q)
-    by true h = refl
-    by false h = h
 
 among_firm : (rs : List Record) → AreCommitted rs → (k : Key) → is_committed_or_none (record_among rs k) ≡ true
 among_firm [] firm k = refl

@@ -15,7 +15,7 @@ use Rattle.sdb_types.specs.declared.record.Record.{Record}
 use Rattle.sdb_types.specs.declared.record.State.TheVariants as state
 use Rattle.sdb_types.specs.Exact.{equal_of}
 use Rattle.sdb_types.specs.Order.{table_cmp}
-use Rattle.sdb_types.proofs.Basics.{false_true, none_some, some_is}
+use Rattle.sdb_types.proofs.Basics.{false_true, none_some, some_is, map_last}
 use Rattle.sdb_types.proofs.KeyOrder.{table_exact}
 use Rattle.sdb_record.specs.declared.access.Access.{Access}
 use Rattle.sdb_record.specs.declared.meta.Meta.{Meta}
@@ -44,6 +44,7 @@ use Rattle.sdb_txn.specs.Txn.{TxnAt}
 use Rattle.sdb_turns.proofs.Meta.{meta_of}
 use Rattle.sdb_client.specs.Client.{ClientAt}
 use Rattle.sdb_story.specs.Body.{AgreesAll}
+use Rattle.sdb_story.proofs.Noting.{coordinators}
 use Rattle.sdb_steps.specs.Fitting.{tables_are_well_typed}
 use Rattle.sdb_session.specs.Database.{Database, decided_in, is_listed, row_in}
 use Rattle.sdb_session.specs.OnlyResolves.{IsApart, OnlyResolves, IsSound}
@@ -55,7 +56,6 @@ use Rattle.sdb_session.specs.Later.{IsOwn, Later, Own}
 use Rattle.sdb_session.specs.Between.{Answered, Begun, Between, CommitEnds, Ended, Lost, RolledBack, OpenTransaction, Vacuumed, VacuumedBy, Turned, IsTxnOf, Won}
 use Rattle.sdb_session.specs.Session.{AreSerialParts, Exchange, IfBusy, IfUnknown, IsBusyAlone, IsOfOpening, IsOfSession, IsSerialPart, IsImpossible, Part, Parts, all_parts, answers_in, begins, body_in, ends, in_body, is_begin, is_commit, is_recorded_in, is_recorded, is_recorded_by, is_rollback, is_vacuum, leaves_records, no_parts, part_after, parts_after, statements_in, tables_after, rejected, AreLimited, IsLimited}
 use Rattle.sdb_session.specs.Chain.{Chain, Exchanged, OutOfMemory, Answers, transaction_of, open_of}
-use Rattle.sdb_session.proofs.Resolves.{row_key}
 use Rattle.sdb_session.proofs.Statements.{agrees_all, rows_change}
 use Rattle.sdb_session.proofs.Recovers.{row_at}
 use Rattle.sdb_session.proofs.Stays.{rows_same, IsOther, aborted_not, is_committed_by, later_of, parts_append, parts_same, tables_append, tables_same, unused_stays}
@@ -77,10 +77,6 @@ none_open es e n = body_append es e ∙ ap (λ o. option_map_or (λ b. body_in e
 
 pub one_open : (es : List Exchange) (e : Exchange) (st : Statement) → e.says ≡ Ok st → changes_nothing e.answer ≡ false → body_in (es ++ e ∷ []) ≡ body_in es ++ (st, e.answer) ∷ []
 one_open es e st says n = body_append es e ∙ ap (λ o. option_map_or (λ b. body_in es ++ b ∷ []) o (body_in es)) (ap (λ b. if b then None else elim e.says [ Ok x ↦ Some (x, e.answer) | Err r ↦ None ]) n ∙ ap (λ (s : Result Statement Refusal). elim s [ Ok x ↦ Some (x, e.answer) | Err r ↦ None ]) says)
-
-pub map_more : {A B : Type 0} (f : A → B) (xs : List A) (x : A) → map f (xs ++ x ∷ []) ≡ map f xs ++ f x ∷ []
-map_more f [] x = refl
-map_more f (y ∷ xs) x = ap (λ ys. f y ∷ ys) (map_more f xs x)
 
 ---- what a taking turns away
 
@@ -257,7 +253,7 @@ module _ (catalog : List Table) (apart : IsApart catalog) (start : Database) (be
     where
       by : (o : Option Record) → g (coordinator_key_of id) ≡ o → g (coordinator_key_of id) ≡ None
       by None f = f
-      by (Some row) f = none_some row (sym e ∙ s.rows (coordinator_key_of id) row (row_key id) f)
+      by (Some row) f = none_some row (sym e ∙ s.rows (coordinator_key_of id) row (coordinators id) f)
 
   of_more : (ended : List Part) (t : Part) (id : TxId) (at : ℤ) → IsOfSession ended id at → IsOfSession (ended ++ t ∷ []) id at
   of_more ended t id at x = record { t = x.t; e = x.e; among = Contains-append_left ended (t ∷ []) x.t x.among; own = x.own; commit = x.commit; commits = x.commits; left = x.left; moment = x.moment }
@@ -406,7 +402,7 @@ module _ (catalog : List Table) (apart : IsApart catalog) (start : Database) (be
   more_current g h ended t e st s was says something opened busy same many = record {
     seen = s;
     opened = subst (λ (bs : List (Statement × Answer)). OpenAlone catalog h (map (λ b. b.0) bs) (map (λ b. b.1) bs) t.id s) (sym (one_open t.inside e st says something))
-        (subst (λ ss. OpenAlone catalog h ss (map (λ b. b.1) (body_in t.inside ++ (st, e.answer) ∷ [])) t.id s) (sym (map_more (λ (b : Statement × Answer). b.0) (body_in t.inside) (st, e.answer))) (subst (λ zs. OpenAlone catalog h (statements_in t.inside ++ st ∷ []) zs t.id s) (sym (map_more (λ (b : Statement × Answer). b.1) (body_in t.inside) (st, e.answer))) opened));
+        (subst (λ ss. OpenAlone catalog h ss (map (λ b. b.1) (body_in t.inside ++ (st, e.answer) ∷ [])) t.id s) (sym (map_last (λ (b : Statement × Answer). b.0) (body_in t.inside) (st, e.answer))) (subst (λ zs. OpenAlone catalog h (statements_in t.inside ++ st ∷ []) zs t.id s) (sym (map_last (λ (b : Statement × Answer). b.1) (body_in t.inside) (st, e.answer))) opened));
     busy = each_more (λ x. IfBusy x.answer (IsBusyAlone start ended x)) t.inside e was.busy busy;
     many = subst (λ d. AreLimited catalog d [] (t.inside ++ e ∷ [])) (sym same) (many_append catalog (tables_after catalog g before ended) [] t.inside e was.many many);
     last = refl;

@@ -3,7 +3,6 @@
 use Rattle.sdb_record.specs.declared.write.Write.{Write}
 use Rattle.sdb_model.specs.Access.{rows_at}
 use Rattle.sdb_session.proofs.Keys.{keys_changed, keys_more, keys_with, many_is}
-use Rattle.sdb_session.proofs.Fits.{all_in_fit}
 use Rattle.sdb_session.specs.Keys.{is_too_many, keys_of_body, keys_written, pass_with, passes_most, with_keys}
 use Rattle.std.proofs.Common.{◌≡◌, ℤ, Bool, true, false, List, [], ◌∷◌, ◌++◌, Option, Some, None, refl, sym, ap, subst, ◌∙◌, append_assoc, map}
 use Rattle.std.specs.Prelude.{◌||◌, is_some, if◌then◌else◌, find}
@@ -17,8 +16,7 @@ use Rattle.sdb_types.specs.declared.record.Request.{Request}
 use Rattle.sdb_types.specs.declared.record.Reply.{Reply}
 use Rattle.sdb_types.specs.Contents.{in_span}
 use Rattle.sdb_types.specs.Order.{same_key}
-use Rattle.sdb_types.specs.Exactness.{span_is_exact}
-use Rattle.sdb_types.proofs.Basics.{by_test, false_true, none_some, or_second, or_true}
+use Rattle.sdb_types.proofs.Basics.{by_test, false_true, none_some, or_true}
 use Rattle.sdb_record.specs.declared.access.Access.{Access}
 use Rattle.sdb_record.specs.declared.access.Access.TheVariants as access
 use Rattle.sdb_record.specs.declared.access.Read.{Read}
@@ -46,9 +44,9 @@ use Rattle.sdb_exec.proofs.Places.{named_is_table}
 use Rattle.sdb_laws.specs.Lawful.{Labelled}
 use Rattle.sdb_read.specs.declared.read.ReadStep.TheVariants as step
 use Rattle.sdb_read.specs.Read.{ReadAt, ReadStage, Asking, Resolving, Ended, read_pending_at, read_result, read_step, request_of}
-use Rattle.sdb_snapshot.specs.Reads.{base_at, is_key_read, reads_of}
+use Rattle.sdb_snapshot.specs.Reads.{base_at, is_key_read}
 use Rattle.sdb_snapshot.specs.Rows.{row_found, with_own}
-use Rattle.sdb_snapshot.specs.Seen.{Seen, is_scanned, overlay, same_span, with_written}
+use Rattle.sdb_snapshot.specs.Seen.{Seen, overlay, with_written}
 use Rattle.sdb_snapshot.specs.Written.{AreChanges}
 use Rattle.sdb_snapshot.proofs.Shown.{overlay_is}
 use Rattle.sdb_txn.specs.declared.txn.Doing.TheVariants as doing
@@ -57,14 +55,15 @@ use Rattle.sdb_client.specs.declared.next.Next.{Next}
 use Rattle.sdb_client.specs.declared.next.Next.TheVariants as next
 use Rattle.sdb_client.specs.Client.{CallPost, RowsReadPost, IsAsRead, IsChangedAt, StagePost, gives, given_answer, given_left, with_rows_read, too_many, written}
 use Rattle.sdb_client.specs.Inside.{IsValidPlan, IsKeyRead, MayWrite}
-use Rattle.sdb_client.proofs.Calls.{last_noted}
 use Rattle.sdb_client.proofs.Writable.{may_write}
-use Rattle.sdb_turns.specs.Reads.{first_image, with_read}
-use Rattle.sdb_story.specs.Body.{AgreesAll, AnswersOn, BodyOk, IsCovered, ReadAgrees, ScanAgrees}
+use Rattle.sdb_turns.specs.Reads.{with_read}
+use Rattle.sdb_story.specs.Body.{AgreesAll, AnswersOn, BodyOk, ReadAgrees, ScanAgrees}
 use Rattle.sdb_story.proofs.Bodies.{access_agrees, body_read, body_step}
+use Rattle.sdb_story.proofs.Noting.{coordinators}
 use Rattle.sdb_steps.specs.Fitting.{tables_are_well_typed}
 use Rattle.sdb_steps.proofs.Fitted.{by_next}
-use Rattle.sdb_steps.proofs.RowsFit.{answers_on, found_itself}
+use Rattle.sdb_steps.proofs.RowsFit.{answers_on, found_itself, all_in_fit}
+use Rattle.sdb_steps.proofs.ReadReplies.{covered_now, key_read_now, IsNoting, is_noting}
 use Rattle.sdb_session.specs.Database.{Called, Database, decided_on, is_committed_or_none, is_listed, row_in}
 use Rattle.sdb_session.specs.OnlyResolves.{IsApart, OnlyResolves, IsSound}
 use Rattle.sdb_session.specs.Reads.{AreCommitted, ReadAlone, AreRowsAt}
@@ -74,35 +73,10 @@ use Rattle.sdb_session.specs.Seen.{SeenAlone, AreImagesOf, was_covered}
 use Rattle.sdb_session.proofs.Reading.{reads}
 use Rattle.sdb_session.proofs.Seen.{base_firm, gotten, scanned, seen_settles, seen_written, are_images as events_of, unmoved}
 use Rattle.sdb_session.proofs.Leaves.{row_names, writer_fits}
-use Rattle.sdb_session.proofs.Resolves.{firm_image, row_key, sound_stays, unresolved_before, row_stays}
+use Rattle.sdb_session.proofs.Resolves.{firm_image, sound_stays, unresolved_before, row_stays}
 use Rattle.sdb_session.proofs.Writes.{taken_id}
 
 ---- what a read has noted
-
-scanned_last : (xs : List Scan) (x : Scan) → is_scanned (xs ++ x ∷ []) x.span ≡ true
-scanned_last [] x = ap (λ (b : Bool). b || false) ((span_is_exact x.span x.span).1 refl)
-scanned_last (y ∷ xs) x = or_second (same_span y.span x.span) (is_scanned (xs ++ x ∷ []) x.span) (scanned_last xs x)
-
-covered_now : (s : Seen) (a : Access) (images : List Record) → IsCovered (with_read s a images) a
-covered_now s (access.Get key) images = last_noted s.read_set key (first_image images)
-covered_now s (access.Scan span) images = scanned_last s.scans (record { span = span; found = reads_of images })
-
-key_read_now : (s : Seen) (a : Access) (images : List Record) → IsKeyRead (with_read s a images).read_set a
-key_read_now s (access.Get key) images = last_noted s.read_set key (first_image images)
-key_read_now s (access.Scan span) images = tt
-
-record IsNoting (t : TxnAt) (a : Access) (images : List Record) (v : TxnAt) : Type 0 where
-  id : v.id ≡ t.id
-  seen : v.seen ≡ with_read t.seen a images
-  idle : v.doing ≡ doing.Idle
-
-noting_first : (t : TxnAt) (key : Key) (images : List Record) → IsNoting t (access.Get key) images (with_rows_read t (access.Get key) images)
-noting_first t key [] = record { id = refl; seen = refl; idle = refl }
-noting_first t key (r ∷ rs) = record { id = refl; seen = refl; idle = refl }
-
-is_noting : (t : TxnAt) (a : Access) (images : List Record) → IsNoting t a images (with_rows_read t a images)
-is_noting t (access.Get key) images = noting_first t key images
-is_noting t (access.Scan span) images = record { id = refl; seen = refl; idle = refl }
 
 ---- tables that are the images agree with all that was read
 
@@ -205,7 +179,7 @@ id_stays catalog g h id sound s new = record {
     undecided : (o : Option Record) → h key ≡ o → h key ≡ None
     undecided None e = e
     undecided (Some row) e =
-        let held = (s.fresh key row (row_key id) new.undecided e).1 in
+        let held = (s.fresh key row (coordinators id) new.undecided e).1 in
         absurd (new.unused held.at held.r held.listed held.present held.loose (held.writer ∙ ap (λ x. Some x) (row_names id held.id new.fits (writer_fits held.r held.id held.writer) held.key)))
 
 module _ (catalog : List Table) (apart : IsApart catalog) (g h : Database) (sound : IsSound catalog g) (own : (k : Key) (x : Record) → h k ≡ Some x → x.key ≡ k) (d : Tables) (are_images : AreImagesOf catalog h d) (fit : tables_are_well_typed catalog d ≡ true)

@@ -26,7 +26,7 @@ use Rattle.sdb_session.specs.Vacuums.{Quiet}
 use Rattle.sdb_session.specs.Session.{AreSerialParts, Exchange, IsSerialPart, Part, answers_in, is_recorded_in, is_recorded, is_recorded_by, recorded_of, statements_in, tables_after}
 use Rattle.sdb_session.proofs.Leaves.{row_names, writer_fits}
 use Rattle.sdb_session.proofs.Recovers.{row_at}
-use Rattle.sdb_session.proofs.Resolves.{row_key}
+use Rattle.sdb_story.proofs.Noting.{coordinators}
 
 pub later_of : (catalog : List Table) (own : Option Own) (g h : Database) → Quiet catalog g h → Later catalog own g h
 later_of catalog own g h s = record {
@@ -53,7 +53,7 @@ module _ (catalog : List Table) (own : Option Own) (g h : Database) (s : Later c
   held_same id fits other = by (g (coordinator_key_of id)) refl (h (coordinator_key_of id)) refl
     where
       fresh : (row : Record) → g (coordinator_key_of id) ≡ None → h (coordinator_key_of id) ≡ Some row → is_committed_by (row_at (Some row)) ≡ false
-      fresh row e f = on (s.fresh (coordinator_key_of id) row (row_key id) e f)
+      fresh row e f = on (s.fresh (coordinator_key_of id) row (coordinators id) e f)
         where
           on : (IsAbortedRow row × IsPreparedFor catalog g (coordinator_key_of id)) ⊎ IsOwnRow own (coordinator_key_of id) → is_committed_by (row_at (Some row)) ≡ false
           on (inl x) = aborted_not (result_ok (decision_in row)) x.0
@@ -62,7 +62,7 @@ module _ (catalog : List Table) (own : Option Own) (g h : Database) (s : Later c
       by : (a : Option Record) → g (coordinator_key_of id) ≡ a → (b : Option Record) → h (coordinator_key_of id) ≡ b → is_recorded_in h id ≡ is_recorded_in g id
       by None e None f = ap (λ o. is_committed_by (row_at o)) (f ∙ sym e)
       by None e (Some row) f = ap (λ o. is_committed_by (row_at o)) f ∙ fresh row e f ∙ sym (ap (λ o. is_committed_by (row_at o)) e)
-      by (Some row) e b f = ap (λ o. is_committed_by (row_at o)) (s.rows (coordinator_key_of id) row (row_key id) e ∙ sym e)
+      by (Some row) e b f = ap (λ o. is_committed_by (row_at o)) (s.rows (coordinator_key_of id) row (coordinators id) e ∙ sym e)
 
   by_answer : (id : TxId) → id.0 < 2 ^ 128 → IsOther own id → (z : Answer) → is_recorded_by h id z ≡ is_recorded_by g id z
   by_answer id fits other (answer.Unknown x) = held_same id fits other
@@ -119,7 +119,7 @@ module _ (catalog : List Table) (own : Option Own) (g h : Database) (s : Later c
 
       by : (b : Option Record) → h (coordinator_key_of id) ≡ b → h (coordinator_key_of id) ≡ None
       by None f = f
-      by (Some row) f = absurd (fresh row (s.fresh (coordinator_key_of id) row (row_key id) new.undecided f))
+      by (Some row) f = absurd (fresh row (s.fresh (coordinator_key_of id) row (coordinators id) new.undecided f))
 
       on : (k : Key) (r : Record) → is_listed catalog k ≡ true → is_in state.Committed r.columns ≡ false → id_in r.columns ≡ Some id → (g k ≡ Some r) ⊎ IsOwn own r → ⊥
       on k r listed loose writer (inl e) = new.unused k r listed e loose writer

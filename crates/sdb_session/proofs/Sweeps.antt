@@ -43,10 +43,11 @@ use Rattle.sdb_session.specs.OnlyResolves.{IsApart, IsPreparedFor, IsAbortedRow,
 use Rattle.sdb_session.specs.Recovers.{RecoveryLeadsTo}
 use Rattle.sdb_session.specs.Vacuums.{IsVacuumedAt, LeftAlone, Quiet, RemovedSoFar, VacuumLeadsTo, VacuumStageAlone}
 use Rattle.sdb_session.specs.Tombstones.{HasVacuumed, IsPassedOver, is_among, is_clean, is_deleted, is_removed}
-use Rattle.sdb_session.proofs.Resolves.{firm_image, image_stays, row_key, row_stays, sound_stays, unresolved_before}
+use Rattle.sdb_session.proofs.Resolves.{firm_image, image_stays, row_stays, sound_stays, unresolved_before}
 use Rattle.sdb_session.proofs.Reading.{others_apart}
 use Rattle.sdb_session.proofs.Recovers.{one_database, recovers}
 use Rattle.sdb_session.proofs.Writes.{version_holds}
+use Rattle.sdb_story.proofs.Noting.{coordinators}
 
 ---- what a database means
 
@@ -118,7 +119,7 @@ removed_others catalog apart g h b listed now k n = ap (means h) (now k ∙ ap (
     decided_same r = ap (λ f. option_and_then f (id_in r.columns)) same
       where
         same : decided_in h ≡ decided_in g
-        same = λ i id. ap (λ o. option_and_then (λ row. result_ok (decision_in row)) o) (other (coordinator_key_of id) (row_key id)) i
+        same = λ i id. ap (λ o. option_and_then (λ row. result_ok (decision_in row)) o) (other (coordinator_key_of id) (coordinators id)) i
 
     deciding : decided_on h ≡ decided_on g
     deciding = λ i r. decided_same r i
@@ -382,7 +383,7 @@ module _ (catalog : List Table) (now : ℤ) (was g h : Database) (ss : List Span
 
       undecided : (o : Option Record) → was (coordinator_key_of meta.id) ≡ o → was (coordinator_key_of meta.id) ≡ None
       undecided None e = e
-      undecided (Some row) e = none_some row (sym x.2 ∙ quiet.rows (coordinator_key_of meta.id) row (row_key meta.id) e)
+      undecided (Some row) e = none_some row (sym x.2 ∙ quiet.rows (coordinator_key_of meta.id) row (coordinators meta.id) e)
 
   resolved_alone : Quiet catalog was h → RemovedSoFar catalog was h n → is_in state.Committed rec.columns ≡ false → StaysBut catalog rec.key g h → (next : RecoverPhase × RecoverStep) → RecoveryLeadsTo catalog h rec meta now next → VacuumLeadsTo catalog was now h (resolved ss n rec meta left next)
   resolved_alone quiet removed loose stays (p, steps.More) x = (removed, (replaced catalog was now g h ss rec left l stays rec refl x.present, x))

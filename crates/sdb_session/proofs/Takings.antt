@@ -2,7 +2,6 @@
 use Rattle.sdb_record.specs.declared.write.Write.{Write}
 use Rattle.sdb_model.specs.Access.{rows_at}
 use Rattle.sdb_session.proofs.Keys.{keys_changed, keys_more, keys_with, many_is}
-use Rattle.sdb_session.proofs.Fits.{all_in_fit}
 use Rattle.sdb_session.specs.Keys.{is_too_many, keys_of_body, keys_written, pass_with, passes_most, with_keys}
 use Rattle.std.proofs.Common.{◌≡◌, ℕ, ℤ, Bool, true, false, List, [], ◌∷◌, Option, Some, None, Result, Ok, Err, inr, refl, sym, ap, subst, ◌∙◌, length, arith, map, ◌++◌}
 use Rattle.std.specs.Prelude.{◌&&◌, ◌||◌, is_some, nat_lt, if◌then◌else◌}
@@ -58,11 +57,12 @@ use Rattle.sdb_vacuum.specs.Vacuum.{begun as sweeping, spans_of, whole}
 use Rattle.sdb_client.specs.Client.{AskPost, BeginPost, ClientAt, CommitStartPost, GatePost, IsAnsweredAtOnce, RollbackPost, RowsPost, ParsedPost, StatementPost, Taking, Parses, VacuumStartPost, given_answer, given_left, gives, is_covered, plan_of, too_many, written}
 use Rattle.sdb_client.specs.Inside.{IsValidPlan, IsKeyRead, MayWrite}
 use Rattle.sdb_client.proofs.Writable.{may_write}
-use Rattle.sdb_story.specs.Body.{AnswersOn, IsCovered}
+use Rattle.sdb_story.specs.Body.{AnswersOn}
 use Rattle.sdb_story.proofs.Bodies.{access_agrees, body_begins, body_step}
 use Rattle.sdb_steps.specs.Fitting.{tables_are_well_typed}
-use Rattle.sdb_steps.proofs.RowsFit.{answers_on, found_itself}
+use Rattle.sdb_steps.proofs.RowsFit.{answers_on, found_itself, all_in_fit}
 use Rattle.sdb_steps.proofs.Whole.{literals_read}
+use Rattle.sdb_steps.proofs.Asked.{covered_is}
 use Rattle.sdb_session.specs.Database.{Database}
 use Rattle.sdb_session.specs.OnlyResolves.{IsApart, IsSound}
 use Rattle.sdb_session.specs.Commits.{CommitAlone, EachWrite, IsPrepared, StageAlone, WorkAlone, IsBaseCurrent}
@@ -80,10 +80,6 @@ use Rattle.sdb_session.proofs.Works.{work_alone}
 use Rattle.sdb_turns.proofs.Lists.{each_at}
 
 ---- a statement that is answered from what was read before
-
-covered_is : (s : Seen) (a : Access) → is_covered s a ≡ true → IsCovered s a
-covered_is s (access.Get key) h = h
-covered_is s (access.Scan span) h = h
 
 key_read : (s : Seen) (a : Access) → is_covered s a ≡ true → IsKeyRead s.read_set a
 key_read s (access.Get key) h = h

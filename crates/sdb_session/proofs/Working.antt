@@ -41,7 +41,7 @@ use Rattle.sdb_client.specs.declared.next.Next.{Next}
 use Rattle.sdb_client.specs.declared.next.Next.TheVariants as next
 use Rattle.sdb_client.specs.Client.{AskPost, BeginPost, CallPost, ClientAt, CommitNext, CommitStartPost, GatePost, RowsReadPost, IsIdle, IsAnsweredAtOnce, NextPost, OpenTxnPost, ReplyPost, RollbackPost, RowsPost, ParsedPost, Parses, StagePost, StatementPost, VacuumPost, Taking, VacuumStartPost, after, answer_in, answer_of, given_answer, given_left, gives, holding, is_covered, next_of, with_rows_read, plan_of, resting, out_of_memory, too_many, vacuum_left, with_begun}
 use Rattle.sdb_client.proofs.Left.{given_idle as left_idle}
-use Rattle.sdb_steps.proofs.Fitted.{by_next}
+use Rattle.sdb_steps.proofs.Fitted.{by_next, no_none}
 use Rattle.sdb_steps.proofs.Whole.{by_memory}
 use Rattle.sdb_session.specs.Session.{Exchange, IsAccepted, MayAnswer, begins, ends, is_commit, is_rollback, rejected}
 use Rattle.sdb_session.specs.Working.{Commits, IsAtWork, IsEnded, LeadsOn, Reads, InVacuum, ExecutedBy, is_open_after}
@@ -49,9 +49,6 @@ use Rattle.sdb_session.proofs.Starves.{reads_as_commit}
 
 no_answer : (z : Answer) → ◌≡◌ {A = Option Answer} None (Some z) → ⊥
 no_answer z e = cc
-
-some_answer : (z : Answer) → ◌≡◌ {A = Option Answer} (Some z) None → ⊥
-some_answer z e = cc
 
 one_answer : (y z : Answer) → ◌≡◌ {A = Option Answer} (Some y) (Some z) → y ≡ z
 one_answer y z e = cc
@@ -122,7 +119,7 @@ module _ (catalog : List Table) (now : ℤ) (id : TxId) where
   answered : (opened : Bool) (says : Result Statement Refusal) (z : Answer) (result : Option Answer) (u d : ClientAt) → result ≡ Some z → d ≡ u → Ended opened says z u → Leads opened says result d
   answered opened says z result u d e k h = record {
     ended = λ y f. subst (λ x. Ended opened says x d) (one_answer z y (sym e ∙ f)) (subst (Ended opened says z) (sym k) h);
-    waits = λ f. absurd (some_answer z (sym e ∙ f));
+    waits = λ f. absurd (no_none z (sym e ∙ f));
   }
 
   waiting : (opened : Bool) (st : Statement) (result : Option Answer) (u d : ClientAt) → result ≡ None → d ≡ u → rejected catalog opened (Ok st) ≡ None → IsAtWork st opened u → Leads opened (Ok st) result d
@@ -133,7 +130,7 @@ module _ (catalog : List Table) (now : ℤ) (id : TxId) where
 
   -- it wasn't turned away
   stays_taken : (opened : Bool) (says : Result Statement Refusal) (z : Answer) → rejected catalog opened says ≡ None → MayAnswer z → IsAccepted catalog opened (taken_with says z)
-  stays_taken opened says z stays may = record { away = λ a f. absurd (some_answer a (sym f ∙ stays)); stays = λ f. may }
+  stays_taken opened says z stays may = record { away = λ a f. absurd (no_none a (sym f ∙ stays)); stays = λ f. may }
 
   -- a statement that is turned away leaves its transaction open, or none
   away_refused : (o : Option Refusal) (z : Answer) → option_map (λ r. answer.Refused r) o ≡ Some z → (is_done (Some z) ≡ false) × (is_conflict (Some z) ≡ false)
@@ -168,7 +165,7 @@ module _ (catalog : List Table) (now : ℤ) (id : TxId) where
   -- a client is as it was, and its statement was turned away
   turned : (opened : Bool) (says : Result Statement Refusal) (z : Answer) (c : ClientAt) → rejected catalog opened says ≡ Some z → is_some c.txn ≡ opened → IsIdle c → Ended opened says z c
   turned opened says z c e is_open idle = record {
-    taken = record { away = λ a f. inl (one_answer z a (sym e ∙ f)); stays = λ f. absurd (some_answer z (sym e ∙ f)) };
+    taken = record { away = λ a f. inl (one_answer z a (sym e ∙ f)); stays = λ f. absurd (no_none z (sym e ∙ f)) };
     has_txn = is_open ∙ sym (away_open opened says z e);
     idle = idle;
   }

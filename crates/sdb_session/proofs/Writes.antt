@@ -34,7 +34,7 @@ use Rattle.sdb_turns.proofs.Lists.{each_at}
 use Rattle.sdb_session.specs.Database.{Database, IsWith, is_committed_or_none}
 use Rattle.sdb_session.specs.OnlyResolves.{IsApart}
 use Rattle.sdb_session.specs.Commits.{EachWrite, OthersUnchanged, WorkAlone, IsBaseCurrent}
-use Rattle.sdb_session.proofs.Resolves.{row_key}
+use Rattle.sdb_story.proofs.Noting.{coordinators}
 
 ---- writes of a list with each key once
 
@@ -125,13 +125,13 @@ module _ (catalog : List Table) (apart : IsApart catalog) (start : Database) (p 
   -- a write's key is none of the coordinator's
   pub not_row : (i : ℕ) (w : Write) → slice_get p.writes i ≡ Some w → same_key w.key row ≡ false
   not_row i w at = elim (same_key_tells w.key row) [
-    | inl e ↦ false_true (sym (apart w.key (based_at i w at).listed) ∙ ap (λ x. is_coordinator_table x.table) e.1 ∙ row_key p.id)
+    | inl e ↦ false_true (sym (apart w.key (based_at i w at).listed) ∙ ap (λ x. is_coordinator_table x.table) e.1 ∙ coordinators p.id)
     | inr n ↦ n.0
   ]
 
   pub row_not : (i : ℕ) (w : Write) → slice_get p.writes i ≡ Some w → same_key row w.key ≡ false
   row_not i w at = elim (same_key_tells row w.key) [
-    | inl e ↦ false_true (sym (apart w.key (based_at i w at).listed) ∙ ap (λ x. is_coordinator_table x.table) (sym e.1) ∙ row_key p.id)
+    | inl e ↦ false_true (sym (apart w.key (based_at i w at).listed) ∙ ap (λ x. is_coordinator_table x.table) (sym e.1) ∙ coordinators p.id)
     | inr n ↦ n.0
   ]
 

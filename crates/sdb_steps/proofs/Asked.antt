@@ -45,7 +45,7 @@ use Rattle.sdb_steps.proofs.RowsFit.{answers_on}
 use Rattle.sdb_steps.proofs.Taken.{IsSo, at_open, moved}
 use Rattle.sdb_types.proofs.Basics.{by_test}
 
-covered_is : (s : Seen) (a : Access) → is_covered s a ≡ true → IsCovered s a
+pub covered_is : (s : Seen) (a : Access) → is_covered s a ≡ true → IsCovered s a
 covered_is s (access.Get key) h = h
 covered_is s (access.Scan span) h = h
 

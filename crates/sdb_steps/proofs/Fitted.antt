@@ -43,7 +43,7 @@ use Rattle.sdb_types.proofs.Basics.{by_test}
 
 ---- a client that is so after it
 
-no_none : (b : Answer) → ◌≡◌ {A = Option Answer} (Some b) None → ⊥
+pub no_none : (b : Answer) → ◌≡◌ {A = Option Answer} (Some b) None → ⊥
 no_none b e = cc
 
 none_some : is_some {T = Answer} None ≡ true → ⊥

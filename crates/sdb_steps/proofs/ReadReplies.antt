@@ -65,11 +65,11 @@ scanned_last : (xs : List Scan) (x : Scan) → is_scanned (xs ++ x ∷ []) x.spa
 scanned_last [] x = ap (λ (b : Bool). b || false) ((span_is_exact x.span x.span).1 refl)
 scanned_last (y ∷ xs) x = or_so (same_span y.span x.span) (is_scanned (xs ++ x ∷ []) x.span) (scanned_last xs x)
 
-covered_now : (s : Seen) (a : Access) (images : List Record) → IsCovered (with_read s a images) a
+pub covered_now : (s : Seen) (a : Access) (images : List Record) → IsCovered (with_read s a images) a
 covered_now s (access.Get key) images = last_noted s.read_set key (first_image images)
 covered_now s (access.Scan span) images = scanned_last s.scans (record { span = span; found = reads_of images })
 
-key_read_now : (s : Seen) (a : Access) (images : List Record) → IsKeyRead (with_read s a images).read_set a
+pub key_read_now : (s : Seen) (a : Access) (images : List Record) → IsKeyRead (with_read s a images).read_set a
 key_read_now s (access.Get key) images = last_noted s.read_set key (first_image images)
 key_read_now s (access.Scan span) images = tt
 
@@ -78,16 +78,16 @@ may_note t (access.Get key) images h = h
 may_note t (access.Scan span) images h = h
 
 -- The transaction with what its read has found.
-record IsNoting (t : TxnAt) (a : Access) (images : List Record) (v : TxnAt) : Type 0 where
-  id : v.id ≡ t.id
-  seen : v.seen ≡ with_read t.seen a images
-  idle : v.doing ≡ doing.Idle
+pub record IsNoting (t : TxnAt) (a : Access) (images : List Record) (v : TxnAt) : Type 0 where
+  pub id : v.id ≡ t.id
+  pub seen : v.seen ≡ with_read t.seen a images
+  pub idle : v.doing ≡ doing.Idle
 
 noting_first : (t : TxnAt) (key : Key) (images : List Record) → IsNoting t (access.Get key) images (with_rows_read t (access.Get key) images)
 noting_first t key [] = record { id = refl; seen = refl; idle = refl }
 noting_first t key (r ∷ rs) = record { id = refl; seen = refl; idle = refl }
 
-is_noting : (t : TxnAt) (a : Access) (images : List Record) → IsNoting t a images (with_rows_read t a images)
+pub is_noting : (t : TxnAt) (a : Access) (images : List Record) → IsNoting t a images (with_rows_read t a images)
 is_noting t (access.Get key) images = noting_first t key images
 is_noting t (access.Scan span) images = record { id = refl; seen = refl; idle = refl }
 

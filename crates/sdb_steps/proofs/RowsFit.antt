@@ -46,7 +46,7 @@ use Rattle.sdb_model.specs.Tables.{is_data}
 
 ---- rows of tables, by their keys
 
-abbrev Entries : Type 0
+abbrev pub Entries : Type 0
 Entries = List (Key × List Pair)
 
 -- a key below those of all entries has none
@@ -81,7 +81,7 @@ module _ (P : Key → List Pair → Bool) where
       let parts = and_parts (below_all key_cmp e.0 es) (is_sorted key_cmp es) h in
       and_both (P e.0 e.1) (rows_pass es) (each e.0 e.1 (rw (tied_itself key_total e.0) refl)) (found_pass es parts.1 (λ q cs found. each q cs (later e es q cs parts.0 found)))
 
-fits_there : (catalog : List Table) (d : Tables) (q : Key) (cs : List Pair) → tables_are_well_typed catalog d ≡ true → get d q ≡ Some cs → row_is_well_typed catalog q cs ≡ true
+pub fits_there : (catalog : List Table) (d : Tables) (q : Key) (cs : List Pair) → tables_are_well_typed catalog d ≡ true → get d q ≡ Some cs → row_is_well_typed catalog q cs ≡ true
 fits_there catalog d q cs h found = passes_found (row_is_well_typed catalog) (entries d) q cs h (sym (get-entries d q) ∙ found)
 
 there_fits : (catalog : List Table) (d : Tables) → ((q : Key) (cs : List Pair) → get d q ≡ Some cs → row_is_well_typed catalog q cs ≡ true) → tables_are_well_typed catalog d ≡ true
@@ -179,7 +179,7 @@ found_itself catalog None t h = absurd (cc)
 found_itself catalog (Some name) t h = ap (find_table catalog) (found_named catalog name t h) ∙ h
 
 -- where all rows fit, those of a table do
-all_in_fit : (catalog : List Table) (t : Table) (rows : List Image) → find_table catalog t.name ≡ Some t → list_all (λ r. row_is_well_typed catalog r.key r.columns) rows ≡ true → list_all (λ r. not (is_row_of t r) || fits_table t r.key r.columns) rows ≡ true
+pub all_in_fit : (catalog : List Table) (t : Table) (rows : List Image) → find_table catalog t.name ≡ Some t → list_all (λ r. row_is_well_typed catalog r.key r.columns) rows ≡ true → list_all (λ r. not (is_row_of t r) || fits_table t r.key r.columns) rows ≡ true
 all_in_fit catalog t [] found h = refl
 all_in_fit catalog t (r ∷ rows) found h =
     let rest = all_in_fit catalog t rows found (and_second (row_is_well_typed catalog r.key r.columns) _ h) in
@@ -190,7 +190,7 @@ all_in_fit catalog t (r ∷ rows) found h =
     rw (q, fits) rest)
     (λ q. rw q rest)
 
-done_is : (b c : Answer) (ks ls : List Keyed) → Finished b ks ≡ Finished c ls → ks ≡ ls
+pub done_is : (b c : Answer) (ks ls : List Keyed) → Finished b ks ≡ Finished c ls → ks ≡ ls
 done_is b c ks ls e = cc
 
 -- the tables that it leaves fit

@@ -89,7 +89,7 @@ keys_more images b ks = sym (append_assoc (keys_of images) (b.key ∷ []) ks) �
 place_more : (a : Access) (images : List Record) (b : Record) (k : Key) (ks : List Key) → b.key ≡ k → AreInOrder a (keys_of images ++ k ∷ ks) → AreInOrder a (keys_of (images ++ b ∷ []) ++ ks)
 place_more a images b k ks e h = subst (AreInOrder a) (ap (λ q. keys_of images ++ q ∷ ks) (sym e) ∙ keys_more images b ks) h
 
-differ_of : (k q : Key) → key_cmp k q ≡ Less → same_key q k ≡ false
+pub differ_of : (k q : Key) → key_cmp k q ≡ Less → same_key q k ≡ false
 differ_of k q l = same_key_turned q k ∙ same_key_is k q ∙ ap is_eq l
 
 -- each of rows that rise is found by its key

@@ -154,7 +154,7 @@ notes_images past read_set (r ∷ rs) n i = notes_images past (with_read_record 
     by true = n
     by false = each_more (IsReadItemOk past) read_set (r.key, Some r) n (i.0.1, i.0.0.0)
 
-rise_read : (rs : List Record) → Rise (keys_of rs) → reads_rise (reads_of rs) ≡ true
+pub rise_read : (rs : List Record) → Rise (keys_of rs) → reads_rise (reads_of rs) ≡ true
 rise_read [] h = refl
 rise_read (r ∷ rs) h = ap (λ b. b && reads_rise (reads_of rs)) (starts rs h.0) ∙ rise_read rs h.1
   where
@@ -175,7 +175,7 @@ version_read past (r ∷ rs) k all = by (same_key_tells k r.key) (version_read p
     by (inr x) ih = subst (λ b. VersionSettled past k (option_and_then (λ (y : Read). y.version) (if b then Some (record { key = r.key; version = version_of (Some r) }) else find (λ (y : Read). same_key k y.key) (reads_of rs)))) (sym x.0) ih
 
 -- the version of what a scan found at a key
-version_found : (rs : List Record) (q : Key) → version_among (reads_of rs) q ≡ version_of (record_among rs q)
+pub version_found : (rs : List Record) (q : Key) → version_among (reads_of rs) q ≡ version_of (record_among rs q)
 version_found [] q = refl
 version_found (r ∷ rs) q = by (same_key q r.key) (version_found rs q)
   where

@@ -1,16 +1,12 @@
 -- What is there at every moment is explained by the events of a world.
-use Rattle.std.proofs.Common.{◌≡◌, List, [], ◌∷◌, ◌++◌, Option, Some, None, refl, sym, ap, subst, ◌∙◌}
-use Rattle.std.specs.Prelude.{is_some, OnOk, Result, Ok, Err}
+use Rattle.std.proofs.Common.{◌≡◌, List, [], ◌∷◌, ◌++◌, refl, sym, ap, subst, ◌∙◌}
+use Rattle.std.specs.Prelude.{OnOk, Result, Ok, Err}
 use Rattle.std.specs.FinMap.{empty}
-use Rattle.sdb_types.proofs.Basics.{clash}
-use Rattle.sdb_record.specs.Coordinator.{coordinator_table}
-use Rattle.sdb_schema.specs.declared.table.Table.{Table}
 use Rattle.sdb_model.specs.declared.event.Event.{Event}
 use Rattle.sdb_model.specs.declared.script.Act.{Act}
 use Rattle.sdb_types.specs.declared.place.Place.{Place}
 use Rattle.sdb_model.specs.declared.script.Script.{Script}
 use Rattle.sdb_model.specs.Events.{Effect, IsTrace, StoreContents}
-use Rattle.sdb_model.specs.Exec.{find_table}
 use Rattle.sdb_model.specs.Explained.{Explained, AreTransactional}
 use Rattle.sdb_spread.specs.Spread.{HoldAs}
 use Rattle.sdb_stores.specs.Views.{Attached}
@@ -19,24 +15,17 @@ use Rattle.sdb_steps.specs.Fitting.{tables_are_well_typed}
 use Rattle.sdb_steps.specs.States.{doing_of, system_of}
 use Rattle.sdb_endings.proofs.Explains.{going_is_explained, going_is_taken}
 use Rattle.sdb_endings.proofs.Moments.{lone_effect}
-use Rattle.sdb_execution.specs.Execution.{IsExecution, IsPlayable, IsReachedBy}
+use Rattle.sdb_execution.specs.Execution.{IsExecution, IsReachedBy}
 use Rattle.sdb_executions.specs.World.{IsWorld, WorldAt, states_of, state_of}
 use Rattle.sdb_executions.specs.Linked.{one_name}
 use Rattle.sdb_executions.proofs.Steps.{execution_linked}
+use Rattle.sdb_executions.proofs.Beginnings.{no_coordinator}
 use Rattle.sdb_world.specs.Ran.{HasRun}
 use Rattle.sdb_world.specs.Step.{HasCome, IsExecutionStep, IsOne}
 use Rattle.sdb_world.specs.Explained.{IsExplained, IsExplainedAfter}
 use Rattle.sdb_world.proofs.Acts.{Came}
 use Rattle.sdb_execution.proofs.Paths.{paths_on}
 use Rattle.sdb_world.proofs.Goes.{traces_on}
-
--- no table of a script is the coordinator's
-pub no_coordinator : (script : Script) → IsPlayable script → find_table script.catalog coordinator_table ≡ None
-no_coordinator script p = by (find_table script.catalog coordinator_table) refl
-  where
-    by : (o : Option Table) → find_table script.catalog coordinator_table ≡ o → find_table script.catalog coordinator_table ≡ None
-    by None e = e
-    by (Some t) e = clash (sym (p.apart (record { table = coordinator_table; partition = []; clustering = [] }) (ap is_some e)))
 
 pub world_explained : (w : WorldAt) → IsWorld w → IsExecution w.script w.events → (places : List Place) (opening closing : List StoreContents) (moments : List (List StoreContents)) → HoldAs w.script.catalog places opening empty → IsTrace places w.events opening moments closing → Explained w.script.catalog places w.events opening moments
 world_explained w h x places opening closing moments nothing traced =

@@ -29,7 +29,7 @@ use Rattle.sdb_model.specs.Images.{decision_at, decision_on, row_at}
 use Rattle.sdb_model.specs.Transactions.{Recorded}
 use Rattle.sdb_steps.specs.Fitting.{row_is_well_typed, tables_are_well_typed}
 use Rattle.sdb_story.specs.Left.{ContainsTables}
-use Rattle.sdb_steps.proofs.RowsFit.{is_fitting}
+use Rattle.sdb_steps.proofs.RowsFit.{is_fitting, Entries}
 use Rattle.sdb_spread.specs.Spread.{one_store}
 use Rattle.sdb_spread.proofs.Single.{Single, single}
 use Rattle.sdb_spread.proofs.Told.{one_standing}
@@ -47,9 +47,6 @@ use Rattle.sdb_world.specs.Ran.{HasRun}
 use Rattle.sdb_world.proofs.FinalRows.{tables_left}
 
 ---- rows of tables that fit
-
-abbrev Entries : Type 0
-Entries = List (Key × List Pair)
 
 found_fits : (P : Key → List Pair → Bool) (es : Entries) (q : Key) (cs : List Pair) → list_all (λ r. P r.key r.columns) (map row_of_entry es) ≡ true → find_key key_cmp q es ≡ Some cs → P q cs ≡ true
 found_fits P [] q cs all e = absurd (none_some cs e)
