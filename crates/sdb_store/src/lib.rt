@@ -4,11 +4,15 @@
 mod condition;
 mod fail;
 mod memory;
+mod puppet;
+mod replies;
 mod rows;
 mod store;
 
 pub use condition::{holds, holds_of_columns};
 pub use fail::{Fail, Fails};
 pub use memory::Memory;
+pub use puppet::{Puppet, Replies};
+pub use replies::can_answer;
 pub use rows::Rows;
 pub use store::{Store, call};
