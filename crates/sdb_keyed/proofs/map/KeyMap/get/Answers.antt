@@ -1,11 +1,10 @@
-use Rattle.std.proofs.Common.{◌≡◌, ◌∙◌, ap, rules}
-use Rattle.std.specs.Option.{option_copied}
-use Rattle.std.specs.Map.{lookup}
-use Rattle.sdb_types.specs.contracts.key.KeyPartialEq.TheImpl as key_eq
-use Rattle.sdb_types.proofs.Keys.{key_eq_is_same}
+use Rattle.std.proofs.Common.{sym, ◌∙◌}
+use Rattle.sdb_types.specs.Order.{same_key}
+use Rattle.sdb_keyed.proofs.Firsts.{no_value, value_at_first}
 use Rattle.sdb_keyed.proofs.map.KeyMap.get.Goals as goal
 
-pub returns : goal.returns
-returns g c =
-    let found : option_copied c.get.result ≡ lookup ((key_eq.ghosts).eq c.args.key.now) c.args.self.now = search rules in
-    found ∙ ap (λ eq. lookup (eq c.args.key.now) c.args.self.now) key_eq_is_same
+pub returns-in-Some : goal.returns-in-Some
+returns-in-Some g c = c.value_of.ensures ∙ sym (value_at_first (same_key c.args.key.now) c.args.self.now c.in-Some.i (sym c.in-Some.ensures))
+
+pub returns-in-None : goal.returns-in-None
+returns-in-None g c = sym (no_value (same_key c.args.key.now) c.args.self.now (sym c.in-None.ensures))

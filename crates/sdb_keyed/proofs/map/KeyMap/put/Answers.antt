@@ -1,10 +1,12 @@
-use Rattle.std.proofs.Common.{◌≡◌, ◌∙◌, ap, rules}
-use Rattle.indexmap.specs.IndexMap.{insert_entry}
-use Rattle.sdb_types.specs.contracts.key.KeyPartialEq.TheImpl as key_eq
-use Rattle.sdb_types.proofs.Keys.{key_eq_is_same}
+use Rattle.std.proofs.Common.{◌≡◌, sym, subst}
+use Rattle.std.specs.Prelude.{OnOk}
+use Rattle.sdb_keyed.proofs.Firsts.{put_last, put_there}
 use Rattle.sdb_keyed.proofs.map.KeyMap.put.Goals as goal
 
-pub returns-in-Ok-clause-ok : goal.returns-in-Ok-clause-ok
-returns-in-Ok-clause-ok g c =
-    let put : c.insert.new.self.entries ≡ insert_entry (key_eq.ghosts).eq c.args.self.now c.args.key c.args.value = search rules in
-    put ∙ ap (λ eq. insert_entry eq c.args.self.now c.args.key c.args.value) key_eq_is_same
+pub returns-in-Some-clause-ok : goal.returns-in-Some-clause-ok
+returns-in-Some-clause-ok g c =
+    subst (λ es. OnOk c.replace.result (c.replace.new.self ≡ es)) (put_there c.args.key c.args.value c.args.self.now c.in-Some.i (sym c.in-Some.ensures)).0 c.replace.ensures.ok
+
+pub returns-in-None-clause-ok : goal.returns-in-None-clause-ok
+returns-in-None-clause-ok g c =
+    subst (λ es. OnOk c.push.result (c.push.new.self ≡ es)) (put_last c.args.key c.args.value c.args.self.now (sym c.in-None.ensures)) c.push.ensures.ok
