@@ -2,6 +2,7 @@
 #![tactic(auto)]
 
 mod place;
+mod places;
 mod registry;
 mod stores;
 

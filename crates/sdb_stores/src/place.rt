@@ -1,10 +1,9 @@
-//! Where the places of namespaces lead.
-ghost use Rattle.std.specs.Prelude.{◌≡◌, IfOk, find, filter, not};
-ghost use Rattle.std.specs.Option.{option_copied};
-ghost use Rattle.sdb_stores.specs.Views.{route_of, places_without, table_of as table_of_lem};
+//! The table of a request, and why a namespace was not placed.
+ghost use Rattle.std.specs.Prelude.{◌≡◌};
+ghost use Rattle.sdb_stores.specs.Views.{table_of as table_of_lem};
 ghost use Rattle.sdb_stores.specs.declared.place.PlaceRefused.TheVariants.{NoMemory as OutOfMemory};
 
-use sdb_types::{Name, NoMemory, Place, Request, TableName};
+use sdb_types::{NoMemory, Request, TableName};
 use thiserror::Error;
 
 #[derive(Clone, Copy, Debug, PartialEq, Eq, Error)]
@@ -23,23 +22,6 @@ impl From<NoMemory> for PlaceRefused {
     fn from(_e: NoMemory) -> PlaceRefused {
         PlaceRefused::NoMemory
     }
-}
-
-/// The name of the store that a namespace is placed on.
-pub(crate) fn find_store<'a>(places: &'a [Place], ns: &Name) -> Option<&'a Name>
-    ensures { option_copied result ≡ route_of ns.now places.now }
-{
-    places
-        .iter()
-        .find(|place| place.ns == *ns)
-        .map(|place| &place.store)
-}
-
-/// Takes the places on a store away.
-pub(crate) fn leave(places: &mut Vec<Place>, store: &Name)
-    ensures { places.new.items ≡ places_without store.now places.old.items }
-{
-    places.retain(|place| place.store != *store);
 }
 
 /// The table that a request is about.

@@ -5,7 +5,8 @@ ghost use Rattle.sdb_store.specs.Store.{IsStoreCall};
 ghost use Rattle.sdb_stores.specs.Views.{AreDistinct, IsAdded, IsCallAt, IsTakenOut, AreUnchanged, attached_as, home_in, index_in};
 ghost use Rattle.sdb_types.specs.declared.place.Place.{Place};
 
-use crate::place::{PlaceRefused, find_store, leave, table_of};
+use crate::place::{PlaceRefused, table_of};
+use crate::places::{Places, leave};
 use crate::registry::Registry;
 use sdb_store::{Store, call};
 use sdb_types::{Duplicate, Name, Names, NoMemory, Place, Reply, Request, Seq, TableName};
@@ -27,7 +28,7 @@ struct Slot {
 /// Stores in boxes, by name.
 pub struct Stores {
     slots: Vec<Slot>,
-    places: Vec<Place>,
+    places: Places,
     ghost distinct: { AreDistinct (map (λ slot. slot.name) slots.items) },
 }
 
@@ -79,7 +80,7 @@ impl Stores {
     {
         Stores {
             slots: Vec::new(alloc),
-            places: Vec::new(alloc),
+            places: Places::new(alloc),
         }
     }
 
@@ -94,7 +95,7 @@ impl Stores {
     fn home_of(&self, ns: &Name) -> usize
         ensures { result ≡ home_in (⟦<Stores as Registry>⟧.state self.now) ns.now }
     {
-        match find_store(&self.places, ns) {
+        match self.places.store_of(ns) {
             Some(store) => self.index_of(store).unwrap_or(0),
             None => 0,
         }
@@ -143,7 +144,7 @@ impl Stores {
 }
 
 impl Registry for Stores {
-    ghost state = { λ s. attached_as (λ slot. slot.name) (λ slot. (Store-box slot.store).state slot.store.value) s.places.items s.slots.items };
+    ghost state = { λ s. attached_as (λ slot. slot.name) (λ slot. (Store-box slot.store).state slot.store.value) s.places s.slots.items };
 
     fn len(&self) -> usize {
         self.slots.len()
@@ -157,11 +158,11 @@ impl Registry for Stores {
         if self.index_of(store).is_none() {
             return Err(PlaceRefused::NoStore);
         }
-        if find_store(&self.places, &ns).is_some() {
+        if self.places.store_of(&ns).is_some() {
             return Err(PlaceRefused::AlreadyPlaced);
         }
         let store = store.copy()?;
-        put_place(&mut self.places, Place { ns, store })?;
+        self.places.push(Place { ns, store })?;
         Ok(())
     }
 
@@ -197,12 +198,4 @@ fn names_in<T: Named>(alloc: Global, items: &[T]) -> Result<Names, NoMemory>
         names.push(item.name().copy()?)?;
     }
     Ok(names)
-}
-
-fn put_place(places: &mut Vec<Place>, place: Place) -> Result<(), NoMemory>
-    ensures ok { OnOk result (places.new.items ≡ places.old.items ++ place ∷ []) }
-    ensures err { OnErr result (places.new.items ≡ places.old.items) }
-{
-    places.push(place)?;
-    Ok(())
 }
