@@ -99,7 +99,7 @@ impl Rows for Buckets {
     }
 }
 
-/// The store in memory over hashed partitions. Its contents are known.
+/// The store in memory over buckets of partitions. Its contents are known.
 pub type Hashed = Memory<Buckets>;
 
 /// A store that lends the records of a partition.

@@ -1,4 +1,4 @@
-//! A store in memory that finds a table, and a partition in it, by their hashes.
+//! A store in memory that finds a table, and a partition in it, in trees, and keeps each partition in a bucket of its own.
 #![tactic(auto)]
 
 mod bucket;

@@ -1,7 +1,8 @@
 //! Records by a part of their keys.
 ghost use Rattle.std.specs.Prelude.{◌≡◌, true, IfOk, IfSome, IfNone, OnOk, OnErr, None, Some};
 ghost use Rattle.std.specs.FinMap as map;
-ghost use Rattle.std.specs.HashMap.{IsUnique, get};
+ghost use Rattle.std.specs.BTreeMap.{IsOrdered, get};
+ghost use Rattle.std.specs.Ordering.{eq_by_cmp};
 ghost use Rattle.sdb_types.specs.declared.key.Key.{Key};
 ghost use Rattle.sdb_types.specs.Contents.{in_span, rows_in, put_reply};
 ghost use Rattle.sdb_hashed.specs.Gathered.{contents_of_all, HasOwnKeys, ChangesAt, IsPartOf};
@@ -12,13 +13,14 @@ use sdb_ordered::Tree;
 use sdb_store::{Rows, holds};
 use sdb_types::{Condition, Duplicate, Key, NoMemory, Record, Records, Reply, Seq, Span};
 use std::alloc::Global;
-use std::collections::HashMap;
+use std::collections::BTreeMap;
 use std::marker::Model;
 
-/// A hash map from a part of keys to the records there, seen as what it holds.
+/// A tree from a part of keys to the records there, seen as what it holds. A part is found in as many steps as the logarithm of their
+/// number, whatever parts are chosen.
 pub struct Parts<K: Part, R: Rows> {
     alloc: Global,
-    rows: HashMap<K, R>,
+    rows: BTreeMap<K, R>,
 }
 
 // By hand: each drop is then one call, where a derived one is written out at each exit, with a call for each field.
@@ -29,7 +31,8 @@ impl<K: Part, R: Rows> Drop for Parts<K, R> {
 }
 
 impl<K: Part, R: Rows> Model for Parts<K, R> {
-    ghost use Rattle.std.specs.HashMap.{IsUnique};
+    ghost use Rattle.std.specs.BTreeMap.{IsOrdered};
+    ghost use Rattle.std.specs.Ordering.{eq_by_cmp};
     ghost use Rattle.sdb_types.specs.Contents.{Contents};
     ghost use Rattle.sdb_store.specs.HeldCode.{coded_contents};
     ghost use Rattle.sdb_hashed.specs.Gathered.{contents_of_all, HasOwnKeys};
@@ -40,7 +43,7 @@ impl<K: Part, R: Rows> Model for Parts<K, R> {
 
     ghost view = { λ p. contents_of_all R.contents p.rows.entries };
 
-    ghost invariant = { λ p. IsUnique K.eq p.rows × HasOwnKeys K.eq K.part R.contents p.rows.entries };
+    ghost invariant = { λ p. IsOrdered K.cmp p.rows × HasOwnKeys (eq_by_cmp K.cmp) K.part R.contents p.rows.entries };
 }
 
 impl<K: Part, R: Rows> Parts<K, R> {
@@ -59,7 +62,7 @@ impl<K: Part + Duplicate, R: Rows> Rows for Parts<K, R> {
     fn new(alloc: Global) -> Parts<K, R> {
         Parts {
             alloc,
-            rows: HashMap::new(alloc),
+            rows: BTreeMap::new(alloc),
         }
     }
 
@@ -129,13 +132,13 @@ fn reply_to_none(condition: &Condition) -> Reply
 // Puts a record in a part of its own.
 fn add_part<K: Part + Duplicate, R: Rows>(
     alloc: Global,
-    parts: &mut HashMap<K, R>,
+    parts: &mut BTreeMap<K, R>,
     rec: Record,
 ) -> Result<(), NoMemory>
-    requires unique { IsUnique K.eq parts.old }
-    ensures ok { OnOk result (ChangesAt K.eq R.contents (K.part rec.key) (map.insert map.empty rec.key rec.columns) parts.old.entries parts.new.entries) }
-    ensures err { OnErr result ((s : K) → get K.eq parts.new s ≡ get K.eq parts.old s) }
-    ensures unique { IsUnique K.eq parts.new }
+    requires ordered { IsOrdered K.cmp parts.old }
+    ensures ok { OnOk result (ChangesAt (eq_by_cmp K.cmp) R.contents (K.part rec.key) (map.insert map.empty rec.key rec.columns) parts.old.entries parts.new.entries) }
+    ensures err { OnErr result ((s : K) → get K.cmp parts.new s ≡ get K.cmp parts.old s) }
+    ensures ordered { IsOrdered K.cmp parts.new }
 {
     let part = K::of(&rec.key).copy()?;
     let mut rows = R::new(alloc);
@@ -147,7 +150,7 @@ fn add_part<K: Part + Duplicate, R: Rows>(
 // The records of a span among those of all parts.
 fn gather<K: Part, R: Rows>(
     alloc: Global,
-    parts: &HashMap<K, R>,
+    parts: &BTreeMap<K, R>,
     span: &Span,
 ) -> Result<Tree, NoMemory>
     ensures { IfOk result (λ all. (q : Key) → in_span span.now q ≡ true → map.get all q ≡ map.get (contents_of_all R.contents parts.now.entries) q) }

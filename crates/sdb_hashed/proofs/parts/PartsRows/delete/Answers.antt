@@ -1,5 +1,6 @@
 use Rattle.std.proofs.Common.{◌∙◌, ap, None, Some}
 use Rattle.std.specs.FinMap.{get}
+use Rattle.std.proofs.lemmas.Map.Keys.{IsDistinct-from_sorted}
 use Rattle.sdb_types.specs.declared.record.Request.TheVariants.{DeleteIf}
 use Rattle.sdb_types.specs.Contents.{after}
 use Rattle.sdb_hashed.proofs.Changes.{delete_local}
@@ -18,7 +19,7 @@ invariant_of-self g c =
           let w = s.delete.new.self in
           let h = rw c.of.ensures at c.get_mut.follows.holds w in
           rw s.self-inside-is
-          (h.4, through_own g.K.PartialEq.eq g.met.K.Exact.decides g.K.Part.part f c.self.inside.rows (c.get_mut.follows.lender w) k v w c.self.invariant.0 c.self.invariant.1 (rw c.of.ensures at s.in-Some.ensures.value) h (after q) (delete_local k c.args.condition.now) s.delete.result (leaves q s.delete.result (f v) (f w) s.delete.ensures.ok) s.delete.ensures.err)
+          (h.4, through_own g.K.Ord.cmp g.met.K.Part.exact g.K.Part.part f c.self.inside.rows (c.get_mut.follows.lender w) k v w (IsDistinct-from_sorted g.K.Ord.cmp _ c.self.invariant.0) c.self.invariant.1 (rw c.of.ensures at s.in-Some.ensures.value) h (after q) (delete_local k c.args.condition.now) s.delete.result (leaves q s.delete.result (f v) (f w) s.delete.ensures.ok) s.delete.ensures.err)
       | in-None s ↦ rw (s.self-inside-is, c.get_mut.follows.holds-at-none) c.self.invariant
     ]
 
@@ -34,14 +35,14 @@ returns-clause-ok g c =
           let w = s.delete.new.self in
           let h = rw c.of.ensures at c.get_mut.follows.holds w in
           let found = rw c.of.ensures at s.in-Some.ensures.value in
-          let is = found_part g.K.PartialEq.eq g.met.K.Exact.decides g.K.Part.part f es c.self.invariant.0 c.self.invariant.1 k (Some v) found ∙ ap (λ m. get m k) c.self.view_is in
+          let is = found_part g.K.Ord.cmp g.met.K.Part.exact g.K.Part.part f es (IsDistinct-from_sorted g.K.Ord.cmp _ c.self.invariant.0) c.self.invariant.1 k (Some v) found ∙ ap (λ m. get m k) c.self.view_is in
           rw (s.result-is, s.self-inside-is)
           (answers_along q s.delete.result (f v) (f w) c.args.self.now _ (write_reply c.args.condition.now k (get (f v) k) (get c.args.self.now k) is)
-          (through_ok g.K.PartialEq.eq g.met.K.Exact.decides g.K.Part.part f c.self.inside.rows (c.get_mut.follows.lender w) k v w c.self.invariant.0 c.self.invariant.1 found h (after q) (delete_local k c.args.condition.now) c.args.self.now c.self.view_is s.delete.result (leaves q s.delete.result (f v) (f w) s.delete.ensures.ok))
+          (through_ok g.K.Ord.cmp g.met.K.Part.exact g.K.Part.part f c.self.inside.rows (c.get_mut.follows.lender w) k v w (IsDistinct-from_sorted g.K.Ord.cmp _ c.self.invariant.0) c.self.invariant.1 found h (after q) (delete_local k c.args.condition.now) c.args.self.now c.self.view_is s.delete.result (leaves q s.delete.result (f v) (f w) s.delete.ensures.ok))
           s.delete.ensures.ok)
       | in-None s ↦
           let none = rw c.of.ensures at s.in-None.ensures.value in
-          let is = found_part g.K.PartialEq.eq g.met.K.Exact.decides g.K.Part.part f es c.self.invariant.0 c.self.invariant.1 k None none ∙ ap (λ m. get m k) c.self.view_is in
+          let is = found_part g.K.Ord.cmp g.met.K.Part.exact g.K.Part.part f es (IsDistinct-from_sorted g.K.Ord.cmp _ c.self.invariant.0) c.self.invariant.1 k None none ∙ ap (λ m. get m k) c.self.view_is in
           rw (s.result-is, s.self-inside-is, c.get_mut.follows.holds-at-none)
           (delete_none c.args.condition.now c.args.self.now _ k is s.reply_to_none.result s.reply_to_none.ensures c.self.view_is)
     ]
@@ -53,6 +54,6 @@ returns-clause-err g c =
           let w = s.delete.new.self in
           let h = rw c.of.ensures at c.get_mut.follows.holds w in
           rw (s.result-is, s.self-inside-is)
-          (through_err g.K.PartialEq.eq g.met.K.Exact.decides g.K.Part.part g.R.Rows.contents c.self.inside.rows (c.get_mut.follows.lender w) c.args.key.now s.in-Some.rows.now w c.self.invariant.0 c.self.invariant.1 (rw c.of.ensures at s.in-Some.ensures.value) h c.args.self.now c.self.view_is s.delete.result s.delete.ensures.err)
+          (through_err g.K.Ord.cmp g.met.K.Part.exact g.K.Part.part g.R.Rows.contents c.self.inside.rows (c.get_mut.follows.lender w) c.args.key.now s.in-Some.rows.now w (IsDistinct-from_sorted g.K.Ord.cmp _ c.self.invariant.0) c.self.invariant.1 (rw c.of.ensures at s.in-Some.ensures.value) h c.args.self.now c.self.view_is s.delete.result s.delete.ensures.err)
       | in-None s ↦ rw s.result-is tt
     ]

@@ -1,5 +1,6 @@
 use Rattle.std.proofs.Common.{◌∙◌, sym, ap, None}
 use Rattle.std.specs.FinMap.{get, remove}
+use Rattle.std.proofs.lemmas.Map.Keys.{IsDistinct-from_sorted}
 use Rattle.sdb_hashed.proofs.Changes.{remove_local, remove_absent}
 use Rattle.sdb_hashed.proofs.Calls.{found_part, through_own, through_ok, through_err}
 use Rattle.sdb_hashed.proofs.parts.PartsRows.remove.Goals as goal
@@ -13,7 +14,7 @@ invariant_of-self g c =
           let w = v.remove.new.self in
           let h = rw c.of.ensures at c.get_mut.follows.holds w in
           rw v.self-inside-is
-          (h.4, through_own g.K.PartialEq.eq g.met.K.Exact.decides g.K.Part.part g.R.Rows.contents c.self.inside.rows (c.get_mut.follows.lender w) k v.in-Some.rows.now w c.self.invariant.0 c.self.invariant.1 (rw c.of.ensures at v.in-Some.ensures.value) h (λ m. remove m k) (remove_local k) v.remove.result v.remove.ensures.ok v.remove.ensures.err)
+          (h.4, through_own g.K.Ord.cmp g.met.K.Part.exact g.K.Part.part g.R.Rows.contents c.self.inside.rows (c.get_mut.follows.lender w) k v.in-Some.rows.now w (IsDistinct-from_sorted g.K.Ord.cmp _ c.self.invariant.0) c.self.invariant.1 (rw c.of.ensures at v.in-Some.ensures.value) h (λ m. remove m k) (remove_local k) v.remove.result v.remove.ensures.ok v.remove.ensures.err)
       | in-None v ↦ rw (v.self-inside-is, c.get_mut.follows.holds-at-none) c.self.invariant
     ]
 
@@ -25,10 +26,10 @@ returns-clause-ok g c =
           let w = v.remove.new.self in
           let h = rw c.of.ensures at c.get_mut.follows.holds w in
           rw (v.result-is, v.self-inside-is)
-          (through_ok g.K.PartialEq.eq g.met.K.Exact.decides g.K.Part.part g.R.Rows.contents c.self.inside.rows (c.get_mut.follows.lender w) k v.in-Some.rows.now w c.self.invariant.0 c.self.invariant.1 (rw c.of.ensures at v.in-Some.ensures.value) h (λ m. remove m k) (remove_local k) c.args.self.now c.self.view_is v.remove.result v.remove.ensures.ok)
+          (through_ok g.K.Ord.cmp g.met.K.Part.exact g.K.Part.part g.R.Rows.contents c.self.inside.rows (c.get_mut.follows.lender w) k v.in-Some.rows.now w (IsDistinct-from_sorted g.K.Ord.cmp _ c.self.invariant.0) c.self.invariant.1 (rw c.of.ensures at v.in-Some.ensures.value) h (λ m. remove m k) (remove_local k) c.args.self.now c.self.view_is v.remove.result v.remove.ensures.ok)
       | in-None v ↦
           let none = rw c.of.ensures at v.in-None.ensures.value in
-          let is = found_part g.K.PartialEq.eq g.met.K.Exact.decides g.K.Part.part g.R.Rows.contents c.self.inside.rows.entries c.self.invariant.0 c.self.invariant.1 k None none ∙ ap (λ m. get m k) c.self.view_is in
+          let is = found_part g.K.Ord.cmp g.met.K.Part.exact g.K.Part.part g.R.Rows.contents c.self.inside.rows.entries (IsDistinct-from_sorted g.K.Ord.cmp _ c.self.invariant.0) c.self.invariant.1 k None none ∙ ap (λ m. get m k) c.self.view_is in
           rw (v.result-is, v.self-inside-is, c.get_mut.follows.holds-at-none) (c.self.view_is ∙ sym (remove_absent c.args.self.now k (sym is)))
     ]
 
@@ -39,6 +40,6 @@ returns-clause-err g c =
           let w = v.remove.new.self in
           let h = rw c.of.ensures at c.get_mut.follows.holds w in
           rw (v.result-is, v.self-inside-is)
-          (through_err g.K.PartialEq.eq g.met.K.Exact.decides g.K.Part.part g.R.Rows.contents c.self.inside.rows (c.get_mut.follows.lender w) c.args.key.now v.in-Some.rows.now w c.self.invariant.0 c.self.invariant.1 (rw c.of.ensures at v.in-Some.ensures.value) h c.args.self.now c.self.view_is v.remove.result v.remove.ensures.err)
+          (through_err g.K.Ord.cmp g.met.K.Part.exact g.K.Part.part g.R.Rows.contents c.self.inside.rows (c.get_mut.follows.lender w) c.args.key.now v.in-Some.rows.now w (IsDistinct-from_sorted g.K.Ord.cmp _ c.self.invariant.0) c.self.invariant.1 (rw c.of.ensures at v.in-Some.ensures.value) h c.args.self.now c.self.view_is v.remove.result v.remove.ensures.err)
       | in-None v ↦ rw v.result-is tt
     ]
