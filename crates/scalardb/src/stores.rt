@@ -32,7 +32,7 @@ fn file_names(alloc: Global) -> Result<(Name, Name), NameRefused>
     Ok((file, file2))
 }
 
-/// Runs the program on its own stores: two in memory that never fail, one in the order of its keys and one hashed, and a database in
+/// Runs the program on its own stores: two in memory that never fail, one in the order of its keys and one by partitions, and a database in
 /// memory that holds nothing. All that `run` promises of known contents holds, since each of them has.
 pub fn run_on_own<R: Source, W: Sink, C: Clock, I: Ids>(
     alloc: Global,

@@ -45,9 +45,9 @@ impl From<NoMemory> for NoteRefused {
 
 /// What a transaction has read and written.
 ///
-/// Records of the read set are found by a hash of the key, and so are own writes; scans are found by a hash of the span. So
-/// `lookup` and `scanned` take constant time, and `write` constant time for each change, as far as hashes don't collide. The
-/// keys read are in a tree in their own order too, so that `overlay_span` looks at the keys of its span alone.
+/// Records of the read set are found in a tree of keys, and so are own writes; scans are found by a hash of the span. So
+/// `lookup` takes time as the logarithm of the number of keys, and `write` as much for each change; `scanned` takes constant time, as
+/// far as hashes don't collide. The keys read are in a tree of their own too, so that `overlay_span` looks at the keys of its span alone.
 pub struct Snapshot {
     alloc: Global,
     read_set: ReadSet,

@@ -178,8 +178,8 @@ impl WriteSet {
         self.writes = Writes::from_vec(writes);
     }
 
-    /// Writes changes, one after the other: all or, where they are refused, none. A change costs constant time, as far as
-    /// the hashes of keys don't collide, but for its own length.
+    /// Writes changes, one after the other: all or, where they are refused, none. A change costs time as the logarithm of the number of
+    /// keys written, but for its own length.
     pub fn write(&mut self, read_set: &ReadSet, changes: Changes) -> Result<(), WriteRefused>
         ensures ok { OnOk result (self.new ≡ with_writes read_set.now self.old changes) }
         ensures fits { OnOk result (length (with_writes read_set.now self.old changes) ≤ most_writes) }
