@@ -1,5 +1,5 @@
 //! The places of namespaces, found by the namespace.
-ghost use Rattle.std.specs.Prelude.{◌≡◌, ◌++◌, ◌∷◌, [], ◌==◌, None, not, filter, length, OnOk, OnErr};
+ghost use Rattle.std.specs.Prelude.{◌≡◌, ◌++◌, ◌∷◌, [], None, not, filter, OnOk, OnErr};
 ghost use Rattle.std.specs.BTreeMap.{IsOrdered};
 ghost use Rattle.std.specs.Option.{option_copied};
 ghost use Rattle.std.specs.Str.{bytes_eq};
@@ -71,13 +71,6 @@ impl Places {
             list: Vec::new(alloc),
             stores: BTreeMap::new(alloc),
         }
-    }
-
-    /// Whether there are no places.
-    pub(crate) fn is_empty(&self) -> bool
-        ensures { result ≡ (length self.now == 0) }
-    {
-        self.list.is_empty()
     }
 
     /// The name of the store that a namespace is placed on.
