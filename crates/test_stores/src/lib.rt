@@ -16,6 +16,8 @@ mod closing;
 #[cfg(test)]
 mod foreign;
 #[cfg(test)]
+mod puppet;
+#[cfg(test)]
 mod registry;
 #[cfg(test)]
 mod retire;
