@@ -10,4 +10,6 @@ mod inputs;
 #[cfg(test)]
 mod played;
 #[cfg(test)]
+mod puppet;
+#[cfg(test)]
 mod statements;

@@ -20,7 +20,8 @@ pub struct Asked<'a> {
 /// The word of the command that plays a script.
 pub const REPLAY: &[&str] = &["replay"];
 
-fn attach(
+/// Attaches a store under a name.
+pub fn attach(
     alloc: Global,
     stores: &mut Stores,
     name: &str,
