@@ -1,5 +1,5 @@
 -- What a verdict on a script and the report of it says.
-use Rattle.std.specs.Prelude.{◌≡◌, ℕ, List, [], ◌∷◌, ◌++◌, codes}
+use Rattle.std.specs.Prelude.{ℕ, List, [], ◌∷◌, codes}
 use Rattle.sdb_model.specs.declared.event.Outcome.{Outcome}
 use Rattle.sdb_model.specs.declared.script.Script.{Script}
 use Rattle.sdb_model.specs.Causes.{AreCaused}
@@ -8,13 +8,18 @@ use Rattle.sdb_model.specs.Plain.{IsPlain}
 use Rattle.sdb_model.specs.Report.{report_text_of}
 use Rattle.sdb_model.specs.DirtyReads.{NoDirtyReads}
 use Rattle.sdb_execution.specs.Execution.{IsExecution}
-use Rattle.sdb_script.specs.Whole.{IsScript}
+use Rattle.sdb_report.specs.Reports.{IsFirstBad}
+use Rattle.sdb_script.specs.Whole.{IsScript, IsRefused}
+use Rattle.sdb_script.specs.declared.fault.ScriptRefused.{ScriptRefused}
 use Rattle.sdb_runs.specs.declared.stores.Stores.{Stores}
 use Rattle.sdb_runs.specs.Values.{all_moments, all_contents}
+use Rattle.sdb_judge.specs.Input.{IsSplit}
 use Rattle.sdb_judge.specs.declared.promises.Promise.{Promise}
 use Rattle.sdb_judge.specs.declared.promises.Promise.TheVariants as promise
 use Rattle.sdb_judge.specs.declared.promises.Verdict.{Verdict}
 use Rattle.sdb_judge.specs.declared.promises.Verdict.TheVariants as verdict
+use Rattle.sdb_judge.specs.declared.refused.JudgeRefused.{JudgeRefused}
+use Rattle.sdb_judge.specs.declared.refused.JudgeRefused.TheVariants as refused
 
 -- the stores that the program attaches, in their order
 abbrev pub own_stores : List (List ℕ)
@@ -50,7 +55,42 @@ pub record IsJudged (text : List ℕ) (v : Verdict) : Type 0 where
   pub before : List ℕ
   pub script : Script
   pub outcome : Outcome
-  pub split : text ≡ before ++ report_text_of outcome
+  pub split : IsSplit text before (report_text_of outcome)
   pub is_script : IsScript own_stores before script
   pub is_plain : IsPlain outcome
   pub says : IsVerdictOf script outcome v
+
+---- refusals
+
+-- What comes before the report is refused as a script.
+pub record HasNoScript (text : List ℕ) (r : ScriptRefused) : Type 0 where
+  pub before : List ℕ
+  pub report : List ℕ
+  pub split : IsSplit text before report
+  pub refused : IsRefused own_stores before r
+
+-- What comes before the report is a script, and this line of what comes after it is the first that no report has there.
+pub record HasNoReport (text : List ℕ) (line : ℕ) : Type 0 where
+  pub before : List ℕ
+  pub script : Script
+  pub report : List ℕ
+  pub split : IsSplit text before report
+  pub is_script : IsScript own_stores before script
+  pub refused : IsFirstBad report line
+
+-- Why a text isn't judged. Out of memory may come of any text.
+abbrev pub IsNotJudged : List ℕ → JudgeRefused → Type 0
+IsNotJudged text (refused.NoScript r) = HasNoScript text r
+IsNotJudged text (refused.NoReport line) = HasNoReport text line
+IsNotJudged text refused.NoMemory = Unit {0}
+
+-- a refusal of what comes before the report, and one of the report
+abbrev pub IsNoScript : List ℕ → JudgeRefused → Type 0
+IsNoScript before (refused.NoScript r) = IsRefused own_stores before r
+IsNoScript before (refused.NoReport line) = ⊥
+IsNoScript before refused.NoMemory = Unit {0}
+
+abbrev pub IsNoReport : List ℕ → JudgeRefused → Type 0
+IsNoReport report (refused.NoScript r) = ⊥
+IsNoReport report (refused.NoReport line) = IsFirstBad report line
+IsNoReport report refused.NoMemory = Unit {0}

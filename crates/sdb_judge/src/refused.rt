@@ -2,7 +2,6 @@
 ghost use Rattle.std.specs.Prelude.{◌≡◌};
 ghost use Rattle.sdb_judge.specs.declared.refused.JudgeRefused.TheVariants.{NoMemory as RefusedNoMemory};
 
-use sdb_report::ReportRefused;
 use sdb_script::ScriptRefused;
 use sdb_types::NoMemory;
 use thiserror::Error;
@@ -25,23 +24,5 @@ impl From<NoMemory> for JudgeRefused {
 
     fn from(_e: NoMemory) -> JudgeRefused {
         JudgeRefused::NoMemory
-    }
-}
-
-impl From<ScriptRefused> for JudgeRefused {
-    fn from(refused: ScriptRefused) -> JudgeRefused {
-        match refused {
-            ScriptRefused::NoMemory => JudgeRefused::NoMemory,
-            refused => JudgeRefused::NoScript(refused),
-        }
-    }
-}
-
-impl From<ReportRefused> for JudgeRefused {
-    fn from(refused: ReportRefused) -> JudgeRefused {
-        match refused {
-            ReportRefused::BadLine(line) => JudgeRefused::NoReport(line),
-            ReportRefused::NoMemory => JudgeRefused::NoMemory,
-        }
     }
 }

@@ -1,6 +1,9 @@
 //! A script and the report of it, judged.
-ghost use Rattle.std.specs.Prelude.{◌≡◌, IfOk, IfSome, None};
-ghost use Rattle.sdb_judge.specs.Judged.{Fails, IsJudged, FollowsProtocol, IsVerdictOf, ReadsAreCommitted, own_stores};
+ghost use Rattle.std.specs.Prelude.{◌≡◌, IfOk, IfErr, IfSome, None};
+ghost use Rattle.sdb_model.specs.Plain.{IsPlain};
+ghost use Rattle.sdb_model.specs.Report.{report_text_of};
+ghost use Rattle.sdb_script.specs.Whole.{IsScript};
+ghost use Rattle.sdb_judge.specs.Judged.{Fails, IsJudged, FollowsProtocol, IsNoReport, IsNoScript, IsNotJudged, IsVerdictOf, ReadsAreCommitted, own_stores};
 
 use crate::input::split;
 use crate::moments::stores_of;
@@ -11,9 +14,9 @@ use crate::serial::is_serial;
 use sdb_caused::answers_have_causes;
 use sdb_executed::is_execution;
 use sdb_model::{Outcome, Script};
-use sdb_report::read_report;
+use sdb_report::{ReportRefused, read_report};
 use sdb_runs::{Stores, calls_are_counted, have_no_dirty_reads, records_are_resolved};
-use sdb_script::read_script;
+use sdb_script::{ScriptRefused, read_script};
 use sdb_types::{Name, Names, NoMemory};
 use std::alloc::Global;
 
@@ -106,14 +109,41 @@ fn verdict_of(
     }
 }
 
-/// Whether the report at the end of a text is as promised of the script before it.
-pub fn judge(alloc: Global, bytes: &[u8]) -> Result<Verdict, JudgeRefused>
-    ensures { IfOk result (IsJudged bytes.now) }
+// The script that comes before a report.
+fn script_of(alloc: Global, names: &Names, before: &[u8]) -> Result<Script, JudgeRefused>
+    requires { names.now ≡ own_stores }
+    ensures ok { IfOk result (IsScript own_stores before.now) }
+    ensures refused { IfErr result (IsNoScript before.now) }
 {
-    let (before, after) = split(bytes);
+    match read_script(alloc, before, names) {
+        Ok(script) => Ok(script),
+        Err(ScriptRefused::NoMemory) => Err(JudgeRefused::NoMemory),
+        Err(refused) => Err(JudgeRefused::NoScript(refused)),
+    }
+}
+
+// The outcome whose report comes after a script.
+fn outcome_of(alloc: Global, report: &[u8]) -> Result<Outcome, JudgeRefused>
+    ensures ok { IfOk result (λ o. IsPlain o × (report.now ≡ report_text_of o)) }
+    ensures refused { IfErr result (IsNoReport report.now) }
+{
+    match read_report(alloc, report) {
+        Ok(outcome) => Ok(outcome),
+        Err(ReportRefused::BadLine(line)) => Err(JudgeRefused::NoReport(line)),
+        Err(ReportRefused::NoMemory) => Err(JudgeRefused::NoMemory),
+    }
+}
+
+/// Whether the report at the end of a text is as promised of the script before it. The report begins at the first line that is a
+/// report's title.
+pub fn judge(alloc: Global, bytes: &[u8]) -> Result<Verdict, JudgeRefused>
+    ensures judged { IfOk result (IsJudged bytes.now) }
+    ensures refused { IfErr result (IsNotJudged bytes.now) }
+{
+    let (before, report) = split(bytes);
     let names = store_names(alloc)?;
-    let script = read_script(alloc, before, &names)?;
-    let outcome = read_report(alloc, after)?;
+    let script = script_of(alloc, &names, before)?;
+    let outcome = outcome_of(alloc, report)?;
     let verdict = verdict_of(alloc, &names, &script, &outcome)?;
     Ok(verdict)
 }
