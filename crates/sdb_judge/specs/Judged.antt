@@ -19,7 +19,7 @@ use Rattle.sdb_judge.specs.declared.promises.Promise.TheVariants as promise
 use Rattle.sdb_judge.specs.declared.promises.Verdict.{Verdict}
 use Rattle.sdb_judge.specs.declared.promises.Verdict.TheVariants as verdict
 use Rattle.sdb_judge.specs.declared.refused.JudgeRefused.{JudgeRefused}
-use Rattle.sdb_judge.specs.declared.refused.JudgeRefused.TheVariants as refused
+use Rattle.sdb_judge.specs.declared.refused.JudgeRefused.TheVariants.{NoScript, NoReport, NoMemory as OutOfMemory}
 
 -- the stores that the program attaches, in their order
 abbrev pub own_stores : List (List ℕ)
@@ -80,17 +80,17 @@ pub record HasNoReport (text : List ℕ) (line : ℕ) : Type 0 where
 
 -- Why a text isn't judged. Out of memory may come of any text.
 abbrev pub IsNotJudged : List ℕ → JudgeRefused → Type 0
-IsNotJudged text (refused.NoScript r) = HasNoScript text r
-IsNotJudged text (refused.NoReport line) = HasNoReport text line
-IsNotJudged text refused.NoMemory = Unit {0}
+IsNotJudged text (NoScript r) = HasNoScript text r
+IsNotJudged text (NoReport line) = HasNoReport text line
+IsNotJudged text OutOfMemory = Unit {0}
 
 -- a refusal of what comes before the report, and one of the report
 abbrev pub IsNoScript : List ℕ → JudgeRefused → Type 0
-IsNoScript before (refused.NoScript r) = IsRefused own_stores before r
-IsNoScript before (refused.NoReport line) = ⊥
-IsNoScript before refused.NoMemory = Unit {0}
+IsNoScript before (NoScript r) = IsRefused own_stores before r
+IsNoScript before (NoReport line) = ⊥
+IsNoScript before OutOfMemory = Unit {0}
 
 abbrev pub IsNoReport : List ℕ → JudgeRefused → Type 0
-IsNoReport report (refused.NoScript r) = ⊥
-IsNoReport report (refused.NoReport line) = IsFirstBad report line
-IsNoReport report refused.NoMemory = Unit {0}
+IsNoReport report (NoScript r) = ⊥
+IsNoReport report (NoReport line) = IsFirstBad report line
+IsNoReport report OutOfMemory = Unit {0}

@@ -1,5 +1,6 @@
 //! Scripts that `bench/generated.py` made from seeds, with the reports that the program gave them, and forged reports.
-use sdb_judge::{Promise, Verdict, judge};
+use sdb_judge::{JudgeRefused, Promise, Verdict, judge};
+use sdb_script::ScriptRefused;
 use std::alloc::Global;
 use std::test::Fail;
 use test_builders::{Case, all_cases};
@@ -126,4 +127,59 @@ static FORGED: [Judged; 3] = [
 #[test]
 fn forged(rt: HostRuntime) -> Result<(), Fail> {
     all_cases(rt.alloc(), "forged", FORGED.as_slice())
+}
+
+/// Why a text isn't judged: the line, from 1, at which the script or the report is refused.
+#[derive(Clone, Copy, PartialEq, Eq)]
+enum Why {
+    Script(u64),
+    Report(u64),
+    Other,
+}
+
+fn why_of(judged: Result<Verdict, JudgeRefused>) -> Why {
+    match judged {
+        Err(JudgeRefused::NoScript(ScriptRefused::BadLine(line, _))) => Why::Script(line),
+        Err(JudgeRefused::NoReport(line)) => Why::Report(line),
+        _ => Why::Other,
+    }
+}
+
+/// A text that isn't judged.
+#[derive(Clone, Copy)]
+struct Refused(&'static str, Why);
+
+impl Case for Refused {
+    fn holds(self, alloc: Global) -> Result<bool, Fail> {
+        Ok(why_of(judge(alloc, self.0.as_bytes())) == self.1)
+    }
+}
+
+static REFUSED: [Refused; 6] = [
+    Refused("", Why::Script(1)),
+    // A script without a report.
+    Refused("run\n", Why::Report(1)),
+    // The title begins the report where it is a line, and not within one.
+    Refused(
+        "client a\nscalardb report 1\nevents 0\norder 0\ntables 0\nend\n",
+        Why::Script(2),
+    ),
+    Refused(
+        "run\nstep 1 scalardb report 1\nevents 0\norder 0\ntables 0\nend\n",
+        Why::Script(2),
+    ),
+    // The report begins at the first title.
+    Refused(
+        "run\nscalardb report 1\nscalardb report 1\n",
+        Why::Report(2),
+    ),
+    Refused(
+        "run\nscalardb report 1\nevents 0\norder 0\ntables 0\nend\n\n",
+        Why::Report(6),
+    ),
+];
+
+#[test]
+fn texts_are_refused(rt: HostRuntime) -> Result<(), Fail> {
+    all_cases(rt.alloc(), "refused", REFUSED.as_slice())
 }
