@@ -1,4 +1,4 @@
--- What the program promises of the play of a script.
+-- What the program promises of the run of a script.
 use Rattle.std.specs.Prelude.{◌≡◌, ◌≢◌, ◌⊎◌, ℕ, ◌<◌, true, List, [], length, map, slice_get, All, Contains, Option, None, Some}
 use Rattle.std.specs.List.{AllPairs}
 use Rattle.std.specs.FinMap.{empty}
@@ -51,9 +51,9 @@ abbrev pub ContentsAreKnown : Script → Attached → Type 0
 ContentsAreKnown script stores =
     (at : ℕ) (store : Counted) (table : TableName) → slice_get stores.views at ≡ Some store → is_table_of_run script.catalog table ≡ true → store_of script.places (contents_of_views stores.views) table.ns ≡ store.name → stores.known at
 
--- The tables of a script were empty, and one outcome is that of a run that follows it, from what the stores held at the entry
--- to what they hold at the exit; what was in the stores at each moment is explained by its events, and what each recorded
--- transaction noted is current at its point; no transaction, recorded or not, was shown a row that was neither its own nor
+-- The tables of a script were empty, and one outcome is that of a run that follows it, from what the stores contained at the entry
+-- to what they contain at the exit; what was in the stores at each moment is explained by its events, and what each recorded
+-- transaction read is current at its point; no transaction, recorded or not, observed a row that was neither its own nor
 -- committed when it was read; and the outcome is plain.
 pub record IsCorrect (script : Script) (opening closing : List StoreContents) (outcome : Outcome) : Type 0 where
   pub empty : first_key (opening_records script.catalog script.places opening) ≡ None
@@ -62,15 +62,14 @@ pub record IsCorrect (script : Script) (opening closing : List StoreContents) (o
   pub shown : HasNoDirtyReads script outcome.events opening
   pub plain : IsPlain outcome
 
--- The stores of a call with the places of a script, when they showed this. Those are known that were known at the entry.
+-- The stores of a call with the places of a script, in this state. Those are known that were known at the entry.
 abbrev pub placed_as : Script → Attached → List Counted → Attached
 placed_as script stores shelves = record { places = script.places; views = shelves; known = stores.known }
 
--- One outcome of a script on any stores: its events follow the script's moves, and are an execution of its clients: each takes, asks and
--- answers as the protocol says, whatever the stores reply. So the laws of executions are laws of outcomes. Each answer has its cause among
--- the events. No more calls are Broken than the
--- stores failed. Of each table whose store has known contents it is known that it held nothing at the entry, and that its dump is that of what
--- is there in the end. Where all of them are known, it is the outcome of a run of the script.
+-- One outcome of a script on any stores: its events follow the script's moves, and are an execution of its clients by the protocol,
+-- whatever the stores reply. So the laws of executions are laws of outcomes. Each answer has its cause among the events. No more calls are
+-- Broken than the stores failed. Each table whose store has known contents was empty at the entry, and its dump is that of what is there in
+-- the end. Where all of them are known, it is the outcome of a run of the script.
 pub record IsReportable (script : Script) (old : Attached) (new : List Counted) (outcome : Outcome) : Type 0 where
   pub playable : IsPlayable script
   pub follows : Follows script outcome.events
@@ -170,7 +169,7 @@ Stops old left bad found (status.NotEmpty key) = found key
 Stops old left bad found (status.BadStore key) = bad key
 Stops old left bad found _ = ⊥
 
--- Why the look for records stopped.
+-- Why the search for records stopped.
 abbrev pub StopsLook : List Table → Attached → Attached → Status → Type 0
 StopsLook catalog old new = Stops old.views new.views (λ key. ⊥) (IsFoundIn catalog old new)
 

@@ -1,4 +1,4 @@
--- What the program promises of a schema that is kept.
+-- What the program promises of a schema that is stored.
 use Rattle.std.specs.Prelude.{◌≡◌, ℕ, List, drop, Ok, Err}
 use Rattle.sdb_types.specs.Bytes.{HasRisen}
 use Rattle.sdb_schema.specs.declared.table.Table.{Table}

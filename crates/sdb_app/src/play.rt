@@ -1,4 +1,4 @@
-//! Playing a script on stores.
+//! Running a script on stores.
 ghost use Rattle.std.specs.Prelude.{◌≡◌, ◌<◌, [], length, Some, None, IfOk, IfErr, OnOk};
 ghost use Rattle.sdb_stores.specs.Views.{AreDistinct, names_of};
 ghost use Rattle.sdb_model.specs.Follows.{Follows};

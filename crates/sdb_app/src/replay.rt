@@ -57,7 +57,7 @@ fn text_of(alloc: Global, outcome: &Outcome) -> Result<Octets, Status>
     }
 }
 
-/// Reads a script, places its namespaces as it says, sees to it that its tables are empty, plays it on the stores, and returns the report
+/// Reads a script, places its namespaces as it says, requires that its tables are empty, runs it on the stores, and returns the report
 /// of its run.
 pub fn replay<S: Registry, R: Source>(
     alloc: Global,

@@ -1,4 +1,4 @@
-//! The cause of Conflict: what is found at a key is no longer what was read there.
+//! The cause of Conflict: what is found at a key has changed since it was read.
 ghost use Rattle.std.specs.Prelude.{◌≡◌, ◌&&◌, IfOk, IsTrue, ◌↔◌};
 ghost use Rattle.std.specs.Option.{option_and_then, option_copied};
 ghost use Rattle.std.specs.List.{list_any};

@@ -1,4 +1,4 @@
--- What a statement that reads has settled the records as that it found, which is what they mean by its calls.
+-- What the records that a statement has read were settled as, which is what they mean by its calls.
 use Rattle.std.specs.Prelude.{◌≡◌, ◌⊎◌, ◌<◌, ◌^◌, ℕ, Bool, true, false, List, [], ◌∷◌, ◌++◌, map, filter, find, Option, Some, IfSome, Contains}
 use Rattle.std.specs.List.{AllByRecursion, filter_map, flat_map, list_all}
 use Rattle.std.specs.Option.{option_and_then}
@@ -124,22 +124,22 @@ pub record WorkBy (read_set : List ReadItem) (p : Work) : Type 0 where
 
 ---- statements
 
--- what these statements of a transaction noted
+-- the read set of these statements of a transaction
 abbrev pub read_items_of_body : List Event → ℕ → List Executed → List ReadItem
 read_items_of_body events c body = flat_map (λ s. read_items (calls_of events c s)) (filter has_finished body)
 
--- What a scan of a statement found at a key, by what its rows mean, is something else than was noted there.
+-- What a scan of a statement found at a key, by what its rows mean, is something else than the read set has there.
 abbrev pub ChangesAtScan : List StoreCall → List ReadItem → Key → Option Record → Type 0
 ChangesAtScan calls read_set key found =
     (m : StoreCall) × (span : Span) × (rows : List Record) × Contains calls m × (m.request ≡ ask.Scan span) × (m.reply ≡ reply.Rows rows) × (in_span span key ≡ true)
     × (found ≡ option_and_then (meaning_of calls) (record_among rows key)) × HasChanged read_set key found
 
--- Why a statement moved, by whether it is COMMIT: a call of the COMMIT found something else, or such a scan.
+-- Why a statement found a change, by whether it is COMMIT: a call of the COMMIT found something else, or such a scan.
 abbrev pub ChangesBy : Bool → TxId → List StoreCall → List ReadItem → Key → Option Record → Type 0
 ChangesBy true id calls read_set key found = ConflictsAtCommit calls read_set id key found
 ChangesBy false id calls read_set key found = ChangesAtScan calls read_set key found
 
--- A statement that was answered Conflict ended its transaction, and moved.
+-- A statement that was answered Conflict ended its transaction, and had found a change.
 pub record IsChangedIn (events : List Event) (c : ℕ) (told : List Executed) (s : Executed) (key : Key) (found : Option Record) : Type 0 where
   pub n : ℕ
   pub begin : Executed

@@ -1,4 +1,4 @@
--- What the calls of a COMMIT so far say of where it is, and why it ends so.
+-- The stage of a COMMIT by its calls so far, and why it ends so.
 use Rattle.std.specs.Prelude.{◌≡◌, ◌⊎◌, ℕ, true, false, List, None, Err, MatchBool, Contains, All}
 use Rattle.std.specs.List.{AllByRecursion}
 use Rattle.sdb_types.specs.declared.txid.TxId.{TxId}

@@ -1,4 +1,4 @@
--- What the calls of a COMMIT so far say of what it prepared and checked, and why it ends with a conflict.
+-- What a COMMIT has prepared and checked by its calls so far, and why it ends with a conflict.
 use Rattle.std.specs.Prelude.{◌≡◌, ◌<◌, ℕ, true, List, length, Some, Contains, slice_get}
 use Rattle.std.specs.List.{AllByRecursion}
 use Rattle.sdb_types.specs.declared.key.Key.{Key}

@@ -1,5 +1,5 @@
--- What ties the events of a run to its clients, so that each answer has its cause: a client's statements, why each statement was answered
--- so, and what the calls of the statement that waits say of where the client is.
+-- The invariant between events and clients by which each answer has its cause: a client's statements, why each statement was answered
+-- so, and what the calls of the statement that waits determine of the client's state.
 use Rattle.std.specs.Prelude.{◌≡◌, ◌≢◌, ◌⊎◌, ◌<◌, ◌≤◌, ◌^◌, ℕ, suc, ℤ, not, if◌then◌else◌, Bool, true, false, List, [], ◌∷◌, ◌++◌, length, fold, Option, Some, None, IfSome, is_some}
 use Rattle.std.specs.List.{AllByRecursion}
 use Rattle.sdb_schema.specs.declared.table.Table.{Table}
@@ -97,7 +97,7 @@ IsDoing events c t (Some p) (Some w) (doing.Read a x) = IsReading events c w p x
 IsDoing events c t p (Some w) (doing.Commit k) = IsCommitting events c w t k
 IsDoing events c t p w d = ⊥
 
--- What was noted is what the transaction has read; and so it is with what its COMMIT takes, prepares and checks.
+-- The read set of the statements is what the transaction has read, and what its COMMIT takes, prepares and checks.
 abbrev pub IsReadSetOf : List Event → ℕ → List Executed → List Executed → TxnAt → Doing → Option Executed → Type 0
 IsReadSetOf events c told body t (doing.Commit k) None = Unit {0}
 IsReadSetOf events c told body t (doing.Commit k) (Some w) =
@@ -140,7 +140,7 @@ pub record Knows (catalog : List Table) (events : List Event) (c : ℕ) (h : Cli
 
 ---- all clients
 
--- The events so far, with the moment that the clock shows, tied to the clients.
+-- The cause invariant: of the events so far, the moment that the clock shows, and the clients.
 pub record CauseInvariant (catalog : List Table) (events : List Event) (now : ℤ) (states : ℕ → ClientState) : Type 0 where
   pub clock : clock_at events (length events) ≡ now
   pub stopped : (c : ℕ) → has_stopped c events ≡ (states c).stopped
@@ -150,7 +150,7 @@ pub record CauseInvariant (catalog : List Table) (events : List Event) (now : �
 abbrev pub with_stopped : (ℕ → ClientState) → ℕ → ℕ → ClientState
 with_stopped states c d = at states c (record { client = (states c).client; stopped = true }) d
 
--- no client that goes on, but this one, has a transaction open
+-- no client that hasn't stopped, but this one, has a transaction open
 abbrev pub NoneElsewhere : (ℕ → ClientState) → ℕ → Type 0
 NoneElsewhere states c = (d : ℕ) → d ≢ c → (states d).stopped ≡ false → is_some (states d).client.txn ≡ false
 
@@ -158,7 +158,7 @@ NoneElsewhere states c = (d : ℕ) → d ≢ c → (states d).stopped ≡ false 
 abbrev pub SomeElsewhere : (ℕ → ClientState) → ℕ → Type 0
 SomeElsewhere states c = (d : ℕ) × (d ≢ c) × ((states d).stopped ≡ false) × (is_some (states d).client.txn ≡ true)
 
--- no client that goes on, but this one, runs VACUUM
+-- no client that hasn't stopped, but this one, runs VACUUM
 abbrev pub NoneInVacuum : (ℕ → ClientState) → ℕ → Type 0
 NoneInVacuum states c = (d : ℕ) → d ≢ c → (states d).stopped ≡ false → is_some (states d).client.vacuum ≡ false
 
@@ -166,17 +166,17 @@ NoneInVacuum states c = (d : ℕ) → d ≢ c → (states d).stopped ≡ false �
 abbrev pub SomeInVacuum : (ℕ → ClientState) → ℕ → Type 0
 SomeInVacuum states c = (d : ℕ) × (d ≢ c) × ((states d).stopped ≡ false) × (is_some (states d).client.vacuum ≡ true)
 
--- A gate says what the other clients do: whether one that goes on runs VACUUM, and whether one has a transaction open.
+-- A gate says what the other clients do: whether one that hasn't stopped runs VACUUM, and whether one has a transaction open.
 pub record IsGate (states : ℕ → ClientState) (c : ℕ) (g : Gate) : Type 0 where
   pub sweeps : g.vacuum_runs ≡ true → SomeInVacuum states c
   pub rests : g.vacuum_runs ≡ false → NoneInVacuum states c
   pub some : g.open_elsewhere ≡ true → SomeElsewhere states c
   pub none : g.open_elsewhere ≡ false → NoneElsewhere states c
 
----- what follows of the events
+---- what follows for the events
 
 -- Each answer of a run has its cause, and a statement that is to be turned away is, unless memory ran out; the calls of all statements are
--- counted; the unresolved records that were found were rolled first; and rows that are shown are rows that their transactions have.
+-- counted; the unresolved records that were found were rolled first; and rows in answers are rows that their transactions have.
 pub record AnswersHaveCauses (catalog : List Table) (events : List Event) : Type 0 where
   pub caused : AreCaused catalog events
   pub counted : CallsAreCounted catalog events

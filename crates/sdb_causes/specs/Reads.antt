@@ -1,4 +1,4 @@
--- What the calls of a statement that reads say of where its read is, and why it ends so.
+-- The stage of a read by the calls of its statement, and why it ends so.
 use Rattle.std.specs.Prelude.{◌≡◌, ℤ, true, List, ◌∷◌, Contains}
 use Rattle.std.specs.List.{AllByRecursion}
 use Rattle.sdb_types.specs.declared.txid.TxId.{TxId}
@@ -50,7 +50,7 @@ pub record ResolvesBy (calls : List StoreCall) (rec : Record) (meta : Meta) (p :
   pub is_open : kind_of rec ≡ Open meta
   pub phase : IsPhaseBy calls p
 
--- What the calls say where it goes on.
+-- What the calls say while it hasn't ended.
 abbrev pub ReadsBy : List StoreCall → ReadStage → Type 0
 ReadsBy calls Asking = Unit {0}
 ReadsBy calls (Resolving images rec meta p left) = ResolvesBy calls rec meta p left

@@ -1,4 +1,4 @@
--- What comes of the turns of clients, as the laws of causes speak of it.
+-- Turns of clients, and the cause invariant after them.
 use Rattle.std.specs.Prelude.{◌≡◌, ℕ, ℤ, Bool, List, true}
 use Rattle.sdb_schema.specs.declared.table.Table.{Table}
 use Rattle.sdb_model.specs.declared.event.Event.{Event}
@@ -12,7 +12,7 @@ use Rattle.sdb_steps.specs.Turns.{CallReplied, TextExecuted}
 use Rattle.sdb_causes.specs.Invariant.{CauseInvariant, IsGate}
 use Rattle.sdb_model.specs.Calls.{is_stored_reply}
 
--- The events so far over a catalog, the moment that the clock shows, and the clients, to which these are tied.
+-- The events so far over a catalog, the moment that the clock shows, and the clients, with the cause invariant of these.
 pub record CauseInvariantAt : Type 0 where
   pub catalog : List Table
   pub events : List Event
@@ -20,7 +20,7 @@ pub record CauseInvariantAt : Type 0 where
   pub states : ℕ → ClientState
   pub tied : CauseInvariant catalog events now states
 
--- Clients are those that some events are tied to by the laws of clients, as those of the same run on other stores are.
+-- The run invariant holds of these clients with some events, such as those of the same run on other stores.
 pub record AreReached (catalog : List Table) (states : ℕ → ClientState) : Type 0 where
   pub events : List Event
   pub fit : Tables → Bool
@@ -31,7 +31,7 @@ pub record IsGatedTake (t : TextExecuted) : Type 0 where
   pub gate : IsGate t.states t.client t.q.gate
   pub reached : AreReached t.q.catalog t.states
 
--- events are tied to clients at its moment
+-- the cause invariant holds at its moment
 abbrev pub CauseInvariantAtTake : TextExecuted → List Event → (ℕ → ClientState) → Type 0
 CauseInvariantAtTake t events states = CauseInvariant t.q.catalog events t.q.now states
 
@@ -41,7 +41,7 @@ pub record IsStoredReply (r : CallReplied) : Type 0 where
   pub about : IsOfTables r.catalog (r.states r.call.client).client
   pub reached : AreReached r.catalog r.states
 
--- events are tied to clients at its moment
+-- the cause invariant holds at its moment
 abbrev pub CauseInvariantAtReply : CallReplied → List Event → (ℕ → ClientState) → Type 0
 CauseInvariantAtReply r events states = CauseInvariant r.catalog events r.call.now states
 

@@ -1,4 +1,4 @@
--- What the calls of a VACUUM say of where it is, and why it ends so.
+-- The stage of a VACUUM by its calls, and why it ends so.
 use Rattle.std.specs.Prelude.{◌≡◌, List}
 use Rattle.std.specs.List.{count_by}
 use Rattle.sdb_model.specs.Calls.{StoreCall}

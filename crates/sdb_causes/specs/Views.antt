@@ -1,4 +1,4 @@
--- Which rows a transaction has, by what its statements so far were observed and made of them.
+-- Which rows a transaction has, by what its statements so far observed, and by what they made of it.
 use Rattle.std.specs.Prelude.{◌≡◌, ℕ, true, false, List, [], ◌∷◌, ◌++◌, map, filter, fold, Option, Some, IfSome, Contains}
 use Rattle.std.specs.List.{AllByRecursion}
 use Rattle.sdb_types.specs.declared.txid.TxId.{TxId}
@@ -40,7 +40,7 @@ pub record FoundFor (catalog : List Table) (events : List Event) (c : ℕ) (s : 
 abbrev pub WasRead : List Table → List Event → ℕ → Executed → Key → Option (List Pair) → Type 0
 WasRead catalog events c s key row = Contains (statements_by c events) s × FoundFor catalog events c s key row
 
--- A transaction has a row at a key when it takes a statement after those of a body: one of these, or that statement, was shown a row
+-- A transaction has a row at a key when it takes a statement after those of a body: one of these, or that statement, observed a row
 -- there, and the effective ones from there on made this of it.
 pub record HasBefore (catalog : List Table) (events : List Event) (c : ℕ) (body : List Executed) (s : Executed) (key : Key) (row : Option (List Pair)) : Type 0 where
   pub first : Executed

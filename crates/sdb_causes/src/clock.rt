@@ -4,7 +4,7 @@ ghost use Rattle.sdb_model.specs.declared.event.Event.TheVariants as event;
 ghost use Rattle.sdb_causes.specs.Invariant.{CauseInvariant, with_stopped};
 ghost use Rattle.sdb_causes.specs.Turns.{CauseInvariantAt};
 
-/// What ties the events to all clients holds after a client stops, after one without work idles, and after the clock moves.
+/// The cause invariant is preserved where a client stops, where one without work idles, and where the clock moves.
 pub fn stops_and_clock()
     ensures stops { (k : CauseInvariantAt) (c : ℕ) → CauseInvariant k.catalog (k.events ++ event.Stop c ∷ []) k.now (with_stopped k.states c) }
     ensures idles { (k : CauseInvariantAt) (c : ℕ) → CauseInvariant k.catalog (k.events ++ event.Idle c ∷ []) k.now k.states }

@@ -36,7 +36,7 @@ pub fn records_are_rolled()
     ensures seen { (s : ScriptEvents) → RecordsAreRolled s.events → AreResolved s.events }
 {}
 
-/// And each row that is shown is one that its transaction has by what the calls of its statements were shown, of those whose reads
+/// And each row in an answer is one that its transaction has by what the calls of its statements observed, of those whose reads
 /// finished, at keys of tables.
 pub fn answers_have_own_rows()
     ensures each { (catalog : List Table) (events : List Event) (now : ℤ) (states : ℕ → ClientState) → CauseInvariant catalog events now states → RowsAreOwn catalog events }

@@ -4,8 +4,8 @@ ghost use Rattle.sdb_model.specs.declared.event.Event.{Event};
 ghost use Rattle.sdb_steps.specs.Turns.{TextExecuted, states_after_text, take_event};
 ghost use Rattle.sdb_causes.specs.Turns.{IsGatedTake, CauseInvariantAtTake};
 
-/// Whatever text a client takes, and whatever that comes to by its contract, what ties the events to all clients holds with the event of
-/// its taking, where the gate says what the other clients do.
+/// Whatever text a client takes, and whatever that comes to by its contract, the event of its taking preserves the cause invariant,
+/// where the gate says what the other clients do.
 pub fn causes_of_text()
     ensures { (t : TextExecuted) (events : List Event) → IsGatedTake t → CauseInvariantAtTake t events t.states → CauseInvariantAtTake t (events ++ take_event t ∷ []) (states_after_text t) }
 {}

@@ -1,4 +1,4 @@
--- What a client is inside.
+-- The representation invariant of a client.
 use Rattle.std.specs.Prelude.{◌≡◌, ◌<◌, ◌≤◌, ℤ, length, IsSome, IsSomeAnd, true, false, List, Option, Some, None}
 use Rattle.sdb_types.specs.declared.record.Reply.{Reply}
 use Rattle.sdb_types.specs.declared.record.Request.{Request}
@@ -57,7 +57,7 @@ abbrev pub IsKeyRead : List ReadRecord → Access → Type 0
 IsKeyRead read_set (access.Get key) = is_key_read read_set key ≡ true
 IsKeyRead read_set (access.Scan span) = Unit {0}
 
--- A COMMIT goes on: a call of it is pending, and those that are left to it are within what it writes and checks.
+-- A COMMIT is pending: a call of it is, and those that are left to it are within what it writes and checks.
 abbrev pub IsCommitPending : Work → Stage → Type 0
 IsCommitPending p (Preparing i) = i < length p.writes
 IsCommitPending p (Checking i) = i < length (checks p)
@@ -67,7 +67,7 @@ IsCommitPending p (Stopping a n) = n ≤ length p.writes
 IsCommitPending p (Back a n i) = (i < n) × (n ≤ length p.writes)
 IsCommitPending p (Over a) = ⊥
 
--- A statement has a plan while it reads, and reads where the plan says. Where it reads, and where a COMMIT goes on, a call is pending.
+-- A statement has a plan while it reads, and reads where the plan says. Where it reads, and where a COMMIT is pending, a call is.
 abbrev pub IsUnder : Doing → Option Planned → Type 0
 IsUnder doing.Idle None = Unit {0}
 IsUnder (doing.Read a x) (Some p) = IsValidPlan p × (a ≡ access_of p.table p.statement) × IsSome (read_pending x)

@@ -54,8 +54,8 @@ pub fn finish(txn: &mut Txn, plan: &mut Plan, rows: Images) -> Answer
     }
 }
 
-/// Answers a statement on rows that it read after a mark. Where it is refused, what it read stays noted; where it is answered otherwise that
-/// it changed nothing, that is forgotten.
+/// Answers a statement on rows that it read after a mark. Where it is refused, what it read stays in the read set; where another answer
+/// says that it changed nothing, that is forgotten.
 pub fn finish_read(txn: &mut Txn, plan: &mut Plan, rows: Images, mark: Mark) -> Answer
     requires idle { txn.old.doing ≡ doing.Idle }
     requires valid { IsValidPlan plan.old }

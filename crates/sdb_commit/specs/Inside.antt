@@ -1,4 +1,4 @@
--- What a COMMIT under way is inside.
+-- The representation of a COMMIT under way, and its invariant.
 use Rattle.std.specs.Prelude.{◌≡◌, ◌<◌, ℕ, Bool, if◌then◌else◌, Option, Some, None, IsSome}
 use Rattle.sdb_phases.specs.declared.step.Outcome.{Outcome}
 use Rattle.sdb_phases.specs.declared.step.Outcome.TheVariants as outcome

@@ -1,4 +1,4 @@
--- What a decision is inside.
+-- The representation of a decision, and its invariant.
 use Rattle.std.specs.Prelude.{◌≡◌}
 use Rattle.sdb_phases.specs.Work.{decide_of, abort_of, look_of}
 use Rattle.sdb_decide.specs.declared.decide.Decide.TheInside.{Inside}

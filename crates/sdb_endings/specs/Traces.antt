@@ -1,4 +1,4 @@
--- Events, and stores that agree with them at every moment, as the laws of their ends speak of them.
+-- Events with a trace of the stores that agrees with them at every moment.
 use Rattle.std.specs.Prelude.{◌≡◌, Bool, List, None, Option, ℕ}
 use Rattle.std.specs.FinMap.{empty}
 use Rattle.sdb_types.specs.declared.key.Key.{Key}
@@ -80,7 +80,7 @@ WereDecidedAt {t} x = FoundDecided t.events x.client x.executed x.key
 abbrev pub WasCommittedAt : {t : Traced} → ExecutedAtKey t → Option (List Pair) → Type 0
 WasCommittedAt {t} x row = WasCommitted t.places t.events t.opening t.moments x.client x.executed x.key row
 
----- events that are tied to their clients
+---- events of which the run invariant holds
 
 -- Such events agree with stores whose tables began empty.
 pub record TracedProgress : Type 0 where
@@ -92,7 +92,7 @@ pub record TracedProgress : Type 0 where
   pub trace : IsTrace places progress.events opening moments closing
   pub empty : StartsEmpty places opening
 
--- Events that are tied to their clients as made on one store.
+-- The run invariant holds of events as made on one store.
 pub record InvariantOnOne (catalog : List Table) : Type 0 where
   pub name : Name
   pub fit : Tables → Bool

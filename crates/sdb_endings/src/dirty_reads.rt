@@ -1,4 +1,4 @@
-//! Which rows statements were observed: those of committed images.
+//! Which rows statements observed: those of committed images.
 ghost use Rattle.std.specs.Prelude.{List, Option};
 ghost use Rattle.sdb_types.specs.declared.pair.Pair.{Pair};
 ghost use Rattle.sdb_model.specs.Counted.{AreResolved};
@@ -17,8 +17,8 @@ pub fn resolved_are_decided()
     ensures { (t : Traced) (x : ExecutedAtKey t) → IsApart t → HasTransactional t → AreResolved t.events → IsReader t.events x.client x.executed → WereDecidedAt x }
 {}
 
-/// Where answers show rows that their transactions have, as the calls of statements whose reads finished showed them, no transaction was
-/// shown a row that was neither its own nor committed.
+/// Where answers have rows that their transactions have, as the calls of statements whose reads finished observed them, no transaction
+/// observed a row that was neither its own nor committed.
 pub fn answers_have_committed_rows()
     ensures { (t : Traced) → IsApart t → IsExplainedTrace t → HasTransactional t → AreResolved t.events → AnswersAsRead t → HasNoDirtyReads t }
 {}

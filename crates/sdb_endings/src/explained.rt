@@ -3,7 +3,7 @@
 ghost use Rattle.sdb_model.specs.Explained.{Explained, AreTransactional};
 ghost use Rattle.sdb_endings.specs.Traces.{TracedOnStores};
 
-/// Where events, as made on one store, are tied to their clients, and agree with stores that held nothing of their tables, what
+/// Where the run invariant holds of events, as made on one store, which agree with stores that held nothing of their tables, what
 /// is there at every moment is explained by the events, whatever the stores held in between, and what each recorded transaction
 /// read is current at its point.
 pub fn invariant_gives_explained_on_stores()

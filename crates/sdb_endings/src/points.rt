@@ -2,7 +2,7 @@
 ghost use Rattle.sdb_endings.specs.Points.{HavePoints};
 ghost use Rattle.sdb_endings.specs.Traces.{TracedProgress};
 
-/// Where events are tied to their clients and agree with stores whose tables began empty, the COMMIT of each recorded transaction was
+/// Where the run invariant holds of events that agree with stores whose tables began empty, the COMMIT of each recorded transaction was
 /// taken, and no two of them have one point.
 pub fn recorded_have_points()
     ensures { (t : TracedProgress) → HavePoints t.places t.progress.events t.closing }

@@ -1,10 +1,10 @@
-//! What the events of a run owe the stores where its tables lie.
+//! What holds of the events of a run and of the stores where its tables are.
 ghost use Rattle.sdb_model.specs.declared.script.Script.{Script};
 ghost use Rattle.sdb_endings.specs.Points.{HavePoints};
 ghost use Rattle.sdb_endings.specs.Stores.{AreSound};
 ghost use Rattle.sdb_endings.specs.Traces.{TraceOnStores};
 
-/// Where events, as made on one store, are tied to their clients, and agree with the stores of a script whose tables held nothing, each
+/// Where the run invariant holds of events, as made on one store, which agree with the stores of a script whose tables held nothing, each
 /// recorded transaction has its point, and what is in the tables is sound.
 pub fn invariant_gives_end_on_stores()
     ensures points { (script : Script) (p : TraceOnStores script) → HavePoints script.places p.going.events p.closing }

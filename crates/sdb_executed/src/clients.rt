@@ -82,7 +82,7 @@ impl Clients {
         })
     }
 
-    // The place of a client that goes on.
+    // The index of a client that hasn't stopped.
     fn place(&self, client: u32) -> Option<usize>
         ensures { IfSome result (λ at. (client ≡ suc at) × (at < length self.now.client_slots) × IfSome (slice_get self.now.client_slots at) (λ s. s.stopped ≡ false)) }
     {

@@ -22,7 +22,7 @@ impl Drop for ClientSlot {
 }
 
 impl ClientSlot {
-    /// A gate with what the client adds to it: where it goes on, whether it runs VACUUM, and whether it has a transaction open. Takes no
+    /// A gate with what the client adds to it: unless it has stopped, whether it runs VACUUM and whether it has a transaction open. Takes no
     /// memory.
     pub fn joined(&self, gate: Gate) -> Gate
         ensures sweeps { result.vacuum_runs ≡ (gate.vacuum_runs || (not self.now.stopped && is_some self.now.client.vacuum)) }

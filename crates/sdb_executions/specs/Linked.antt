@@ -1,4 +1,4 @@
--- What ties the events of a world to its clients.
+-- The invariant between the events of a run and its clients.
 use Rattle.std.specs.Prelude.{List, codes}
 use Rattle.sdb_model.specs.declared.event.Event.{Event}
 use Rattle.sdb_model.specs.Rows.{Name}

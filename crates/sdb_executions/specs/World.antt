@@ -1,4 +1,4 @@
--- The clients of a script at work, and what has happened.
+-- The state of a run: the clients of a script, and the events so far.
 use Rattle.std.specs.Prelude.{◌≡◌, ℕ, zero, suc, ℤ, true, false, List, [], ◌∷◌, ◌++◌, length, Option, Some, None, slice_get, slice_set}
 use Rattle.sdb_record.specs.Meta.{is_moment}
 use Rattle.sdb_model.specs.declared.event.Event.{Event}

@@ -25,7 +25,7 @@ plan_of n = plan_in n.plans
 abbrev pub past_of : NextEvent → List lawful.Labelled
 past_of n = all_labelled n.past
 
--- the events before it keep the rules
+-- the events before it obey the rules
 abbrev pub IsAfterLawful : NextEvent → Type 0
 IsAfterLawful n = IsLawful (plan_of n) (past_of n)
 

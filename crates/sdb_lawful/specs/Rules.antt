@@ -229,7 +229,7 @@ rolls_well rs past plans e t k decision.Aborted = rolls_back rs past plans e t k
 unfoldable pub is_left : List Labelled → ℕ → Bool
 is_left past t = not (open_in past t) || stopped_in past (owner_of past t)
 
--- no transaction that begins here is open of a client that goes on
+-- no transaction that begins here is open of a client that hasn't stopped
 abbrev pub is_shut : List Labelled → Action → Bool
 is_shut past (action.Begins t c) = is_left past t.0
 is_shut past _ = true
@@ -280,7 +280,7 @@ may_deny rs whole past (Some t) = not (commit_started_in past t.0) || (is_known_
 abbrev pub answers_well : List Record → List Labelled → List Labelled → Labelled → Bool
 answers_well rs whole past p = (not (is_committed_answer (answer_of p.event)) || may_answer rs whole past p.ends) && (not (denies (answer_of p.event)) || may_deny rs whole past p.ends)
 
--- The whole list keeps the rules.
+-- The whole list obeys the rules.
 abbrev pub obeys_rules : List Plan → List Labelled → Bool
 obeys_rules plans [] = true
 obeys_rules plans (p ∷ past) = obeys_rules plans past && (acts_well (observed past) past plans p.event p.action && answers_well (observed (p ∷ past)) (p ∷ past) past p)

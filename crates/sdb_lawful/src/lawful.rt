@@ -1,4 +1,4 @@
-//! The law decided on a list of events.
+//! Whether a list of events is lawful, decided.
 ghost use Rattle.std.specs.Prelude.{◌≡◌, ◌&&◌, ◌↔◌, IsTrue, IfOk};
 ghost use Rattle.sdb_laws.specs.Lawful.{IsLawful};
 ghost use Rattle.sdb_said.specs.Values.{plan_in, all_labelled};
@@ -81,7 +81,7 @@ fn all_follow(alloc: Global, plans: &[Plan], past: &[Labelled]) -> Result<bool, 
     }
 }
 
-/// Whether a list of events, newest first, keeps the rules of the protocol, where transactions go into their COMMITs with these
+/// Whether a list of events, newest first, obeys the rules of the protocol, where transactions go into their COMMITs with these
 /// plans. One that has no plan writes and reads nothing. Slow: each event is tested against all those before it, several times
 /// over.
 pub fn is_lawful(alloc: Global, plans: &[Plan], past: &[Labelled]) -> Result<bool, NoMemory>

@@ -298,7 +298,7 @@ fn removes_version(condition: Condition, id: TxId) -> bool
     }
 }
 
-/// VACUUM's removal of a tombstone that was read, while no transaction is open of a client that goes on.
+/// VACUUM's removal of a tombstone that was read, while no transaction is open of a client that hasn't stopped.
 pub fn may_remove(
     alloc: Global,
     shown: &[Record],

@@ -482,7 +482,7 @@ fn is_shut(past: &[Labelled], action: &Action) -> bool
     }
 }
 
-/// Whether no transaction is open of a client that goes on.
+/// Whether no transaction is open of a client that hasn't stopped.
 pub fn are_shut(past: &[Labelled]) -> bool
     ensures { result ≡ are_shut_lem past.now }
 {

@@ -105,7 +105,7 @@ ImageOf plan w k (Some r) = (u : ℕ) × IsLastWriter plan w k u × (r ≡ recor
 abbrev pub ImageIsLastWriter : (ℕ → Plan) → List Place → History → List StoreContents → Type 0
 ImageIsLastWriter plan places w shelves = (k : Key) → is_data k ≡ true → ImageOf plan w k (image_at places shelves k)
 
--- Whose tombstone was removed was recorded before each transaction began that is open and whose client goes on.
+-- Whose tombstone was removed was recorded before each transaction began that is open and whose client hasn't stopped.
 abbrev pub RemovedBeforeBegin : History → Type 0
 RemovedBeforeBegin w = (t : ℕ) (k : Key) (u : ℕ) → w.gone k ≡ Some u → IsLive w.protocol t → w.decided_at u < w.protocol.begun t
 

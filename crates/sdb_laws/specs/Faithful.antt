@@ -1,4 +1,4 @@
--- Where the actions are those that the model reads off the texts of the events.
+-- Faithful runs: their actions are those that the model derives from the texts of the events.
 use Rattle.std.specs.Prelude.{None, ◌≡◌, ◌⊎◌, ◌↔◌, ℕ, ◌^◌, ◌<◌, true, List, [], ◌∷◌, Some, Contains}
 use Rattle.std.specs.Option.{option_map_or}
 use Rattle.sdb_types.specs.declared.txid.TxId.{TxId}
@@ -30,7 +30,7 @@ pub record IsCommitOf (events : List Event) (client : ℕ) (s : Executed) : Type
 abbrev pub AreReadSets : (ℕ → Plan) → List Event → List Labelled → Type 0
 AreReadSets plan events past = (t : ℕ) → (protocol_state past).taken t ≡ true → (item : ReadItem) → Contains (plan t).read_set item ↔ Contains (read_set_of events (id t)) item
 
--- The parts say of each transaction what the texts say: when it began, when its COMMIT was taken, and when that was answered
+-- The actions agree with the texts about each transaction: when it began, when its COMMIT was taken, and when that was answered
 -- Committed, or that it was denied. Nothing but the COMMIT of a transaction is answered Committed. Unknown names the transaction.
 pub record IsFaithful (events : List Event) (past : List Labelled) : Type 0 where
   pub begun : (t n : ℕ) → t < 2 ^ 128 → begun events (id t) ≡ Some n → (protocol_state past).begun t ≡ n

@@ -15,7 +15,7 @@ pub data Ack : Type 0 where
   NoAck : Ack
   OutOfMemory : Ack
 
--- The part that an event plays. Transactions are named by the numbers of their ids.
+-- The action of an event in the protocol. Transactions are named by the numbers of their ids.
 pub data Action : Type 0 where
   -- none: reads of statements and of rows, moves of the clock, idle steps, refused statements
   Other : Action
@@ -281,7 +281,7 @@ happens plan w (Stops c) done = record w { protocol = state_after_event w.protoc
 
 ---- facts
 
--- its client goes on with it
+-- its client hasn't stopped
 abbrev pub IsLive : ProtocolState → ℕ → Type 0
 IsLive h t = (h.is_open t ≡ true) × (h.stopped (h.owner t) ≡ false)
 

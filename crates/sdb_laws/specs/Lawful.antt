@@ -35,7 +35,7 @@ use Rattle.sdb_model.specs.ReadSet.{ReadItem, KeyRead, SpanRead}
 use Rattle.sdb_laws.specs.History.{Action, Other, Begins, Takes, Prepares, Checks, Decides, Aborts, Rolls, Removes, Ends, Stops, Ack, Yes, No, NoAck, OutOfMemory, ProtocolState, Preparing, Deciding, initial_state, state_after_event, state_after, IsPrepared}
 use Rattle.sdb_model.specs.Tables.{is_data}
 
--- An event, the part that it plays, and the transaction that its answer ends, if one is ended.
+-- An event, its action, and the transaction that its answer ends, if one is ended.
 pub record Labelled : Type 0 where
   pub event : Event
   pub action : Action
@@ -79,7 +79,7 @@ pub record IsRowObserved (past : List Labelled) (t : ℕ) (d : Decision) (moment
   pub says : decision_in row ≡ Ok (record { decision = d; created_at = moment })
 
 -- It is known that a transaction is committed, at this moment: its row was observed, or the put of it was seen and applied. Its own
--- client rolls forward to the moment at which it took the COMMIT, whatever moment the row has that it was observed.
+-- client rolls forward to the moment at which it took the COMMIT, whatever moment the row has that was observed.
 abbrev pub IsKnownCommitted : (ℕ → Plan) → List Labelled → ℕ → ℤ → Type 0
 IsKnownCommitted plan past t moment =
     IsRowObserved past t decision.Committed moment
@@ -163,7 +163,7 @@ pub record MayTake (plan : ℕ → Plan) (past : List Labelled) (e : Event) (t :
   pub commit : reads_commit text ≡ true
   pub take : e ≡ event.Take client text answered
   pub owner : (protocol_state past).owner t ≡ client
-  -- the transaction is open, and its client goes on
+  -- the transaction is open, and its client hasn't stopped
   pub is_open : (protocol_state past).is_open t ≡ true
   pub goes_on : (protocol_state past).stopped client ≡ false
   -- a transaction has one COMMIT
@@ -273,7 +273,7 @@ pub record MayRemove (past : List Labelled) (e : Event) (k : Key) (t : ℕ) : Ty
   pub settled : IsSettled past k tombstone
   pub gone : is_tombstone tombstone ≡ true
   pub writer : id_in tombstone.columns ≡ Some (id t)
-  -- no transaction is open of a client that goes on: one that read no record might else take its absence for never written
+  -- no transaction is open of a client that hasn't stopped: one that read no record might else take its absence for never written
   pub gate : (u : ℕ) → (protocol_state past).is_open u ≡ true → (protocol_state past).stopped ((protocol_state past).owner u) ≡ true
 
 -- No part: the event changes nothing at the stores, and is no stop.
@@ -344,7 +344,7 @@ IsLawful plan (p ∷ past) =
     × (answer_of p.event ≡ Some answer.Committed → MayAnswer plan past p)
     × ((a : Answer) → answer_of p.event ≡ Some a → is_denial a ≡ true → MayDeny past p)
 
--- an event that plays a part, and ends no transaction
+-- an event with an action, which ends no transaction
 abbrev pub labelled_with : Action → Event → Labelled
 labelled_with action e = record { event = e; action = action; ends = None }
 

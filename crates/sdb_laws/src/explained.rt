@@ -1,4 +1,4 @@
-//! The invariant of every moment, in the words of the model: which records are in the stores, and which event put them.
+//! The invariant of every moment, in terms of the model: which records are in the stores, and which event put them.
 ghost use Rattle.std.specs.Prelude.{◌≤◌, ℕ};
 ghost use Rattle.sdb_model.specs.Explained.{AbortedRemoved, CommittedRecorded, PreparedPersists, ReadsCurrent, RowsFinal, UnchangedResolved, UnresolvedPrepared, WritesPersist};
 ghost use Rattle.sdb_laws.specs.Runs.{DataTables, IsFaithfulRun, IsMomentOf, HasReadSets, RunInOrder, events_in, contents_at};

@@ -8,7 +8,7 @@ pub fn image_is_last_writer()
     ensures { (r : LawfulRun) → ImageIsLastWriter r.plan r.places (history_of r) (contents_of_run r) }
 {}
 
-/// Whose tombstone was removed was recorded before each open transaction of a client that goes on began.
+/// Whose tombstone was removed was recorded before each open transaction of a client that hasn't stopped began.
 pub fn removed_before_begin()
     ensures { (r : LawfulRun) → RemovedBeforeBegin (history_of r) }
 {}

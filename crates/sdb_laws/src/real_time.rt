@@ -1,4 +1,4 @@
-//! Laws in the words of the model, where the actions are those that the texts of the events say.
+//! Laws in terms of the model, where the actions are those of the texts of the events.
 ghost use Rattle.std.specs.Prelude.{◌≡◌, ◌≤◌, List, Some, length, map, ℕ};
 ghost use Rattle.sdb_record.specs.declared.coordinator.Decision.TheVariants.{Committed};
 ghost use Rattle.sdb_model.specs.declared.event.Point.{Point};
@@ -20,7 +20,7 @@ pub fn answered_was_decided()
     ensures by_then { (r : LawfulRun) (t n : ℕ) → IsAnsweredCommittedAt r.past t n → (history_of r).decided_at t ≤ n }
 {}
 
-/// The order of the recorded transactions keeps real time.
+/// The order of the recorded transactions respects real time.
 pub fn respects_real_time()
     ensures { (r : RunInOrder) (order : List Point) → IsFaithfulRun r → IsOrderOf r order → TransactionsInRealTime r.places (events_in r) (final_contents r) order }
 {}

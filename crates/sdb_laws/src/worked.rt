@@ -1,4 +1,4 @@
-//! Runs that the rules let through, and runs that they refuse.
+//! Runs that the rules allow, and runs that they don't.
 ghost use Rattle.std.specs.Prelude.{◌≡◌, ℕ, List, [], Some};
 ghost use Rattle.std.specs.FinMap.{empty};
 ghost use Rattle.sdb_record.specs.declared.coordinator.Decision.TheVariants.{Committed};

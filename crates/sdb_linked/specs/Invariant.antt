@@ -1,4 +1,4 @@
--- What ties the events so far to the clients while they go on: what all know, the story of each, and what the statements of each
+-- The invariant between the events so far and the clients: what all know, the story of each, and what the statements of each
 -- transaction come to.
 use Rattle.std.specs.Prelude.{◌≡◌, ◌≢◌, ◌⊎◌, ℕ, Bool, true, false, List, length, Option, Some, None}
 use Rattle.sdb_schema.specs.declared.table.Table.{Table}
@@ -95,8 +95,8 @@ pub record ClientInvariant (catalog : List Table) (fit : Tables → Bool) (plan 
 
 ---- all clients
 
--- The events so far, with parts that keep the rules, tied to the clients where they are, to the statements that they run, and to
--- what these read.
+-- The invariant between the events so far, with actions that obey the rules, the states of the clients, the statements that they run,
+-- and what these read.
 pub record RunInvariant (catalog : List Table) (fit : Tables → Bool) (events : List Event) (sys : SystemAt) (doing : ℕ → Option Statement) : Type 0 where
   pub plan : ℕ → Plan
   pub labelled : List Labelled

@@ -1,4 +1,4 @@
--- The events so far and what ties them to the clients, as the laws of going on speak of it.
+-- The events so far with the run invariant, and its preservation by one more event.
 use Rattle.std.specs.Prelude.{◌≡◌, ◌<◌, ◌^◌, All, ℕ, ℤ, Bool, true, false, List, [], ◌∷◌, ◌++◌, Option, Some}
 use Rattle.sdb_types.specs.declared.record.Record.{Record}
 use Rattle.sdb_types.specs.declared.txid.TxId.{TxId}
@@ -33,7 +33,7 @@ use Rattle.sdb_story.specs.Body.{AnswersOn, IsCovered}
 use Rattle.sdb_story.specs.Left.{IsFitting}
 use Rattle.sdb_linked.specs.Invariant.{RunInvariant, IsInner}
 
--- The events so far over a catalog, the clients as they are and the statements that they run, and what ties these together.
+-- The events so far over a catalog, the clients as they are and the statements that they run, and the invariant of these.
 pub record Progress : Type 0 where
   pub catalog : List Table
   pub fit : Tables → Bool
@@ -42,7 +42,7 @@ pub record Progress : Type 0 where
   pub doing : ℕ → Option Statement
   pub going : RunInvariant catalog fit events sys doing
 
--- The events so far are tied to these clients too.
+-- The invariant holds of the events so far and these clients too.
 abbrev pub IsPreservedAs : Progress → SystemAt → (ℕ → Option Statement) → Type 0
 IsPreservedAs p sys doing = RunInvariant p.catalog p.fit p.events sys doing
 
@@ -175,7 +175,7 @@ vacuum_next_at r = vacuum_model_step r.kind r.stage r.call.now r.call.reply
 
 ---- the end of the events
 
--- Events that are tied to the clients of a script follow its moves, and agree with stores whose tables began empty; and the transactions
+-- Events of which the invariant holds follow the moves of a script, and agree with stores whose tables began empty; and the transactions
 -- that are recorded have an order.
 pub record Ending (script : Script) : Type 0 where
   pub fit : Tables → Bool

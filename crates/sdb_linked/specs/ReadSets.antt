@@ -1,4 +1,4 @@
--- What the transactions of a client have read, by what the calls of its statements showed.
+-- What the transactions of a client have read, by what the calls of its statements observed.
 use Rattle.std.specs.Prelude.{◌≡◌, ◌≤◌, ℕ, List, length, Option, Some, IfSome}
 use Rattle.std.specs.List.{AllByRecursion}
 use Rattle.sdb_model.specs.declared.event.Event.{Event}
@@ -10,12 +10,12 @@ use Rattle.sdb_story.specs.Left.{Execution}
 use Rattle.sdb_story.specs.Story.{Closed, Finished, Opened, Rest, txn_ended_at}
 use Rattle.sdb_story.specs.History.{ClientHistory}
 
--- The statements said inside of a transaction were answered, and what they noted is what the transaction has read.
+-- The statements inside of a transaction were answered, and their read set is what the transaction has read.
 pub record ReadSetInside (events : List Event) (c : ℕ) (inside : List Executed) (seen : Seen) : Type 0 where
   pub answered : AllByRecursion (WasAnswered events) inside
   pub as_read : IsReadSetIn events c inside seen
 
--- this holds of each transaction that ended
+-- this holds of each transaction that has ended
 abbrev pub ReadSetsEnded : List Event → ℕ → List Finished → (ℕ → Execution) → Type 0
 ReadSetsEnded events c whole ran = (k : ℕ) (f : Finished) → txn_ended_at whole k ≡ Some f → ReadSetInside events c f.body (ran k).seen
 

@@ -1,4 +1,4 @@
-//! Each event keeps what ties the events to the clients.
+//! Each event preserves the invariant between the events and the clients.
 ghost use Rattle.std.specs.Prelude.{◌≡◌, ℕ, ℤ, Bool, true, false, List, ◌∷◌, ◌++◌, [], Option, Some, None};
 ghost use Rattle.sdb_types.specs.declared.record.Span.{Span};
 ghost use Rattle.sdb_record.specs.declared.access.Access.{Access};
@@ -61,9 +61,9 @@ pub fn answers()
     ensures leaves { (p : Progress) (q : Asked p) (b : Answer) → LeavesAtOnce q.text b → AfterAsked q (Some b) Resting None }
 {}
 
-/// A statement begins to read; whatever call of the read is pending and whatever its reply, the read goes on; and the statement is
-/// answered: as one that changes nothing, whose read has not finished, or was done and stays noted, from the rows that the read was done
-/// with, or by a conflict, which ends the transaction.
+/// A statement begins to read; whatever call of the read is pending and whatever its reply, the read continues; and the statement is
+/// answered: as one that changes nothing, whose read has not finished, or has and stays recorded, from the rows that the read returned,
+/// or by a conflict, which ends the transaction.
 pub fn reads()
     ensures asks { (p : Progress) (q : Asked p) (st : Statement) (a : Access) → MayRead q st a → AfterAsked q None (Reading q.id q.seen a Asking) (Some st) }
     ensures goes_on { (p : Progress) (r : ReadReply p) → AfterReply p r.call None (Reading r.id r.seen r.asked (read_next r)) (p.doing r.call.client) }
@@ -73,7 +73,7 @@ pub fn reads()
     ensures differs { (p : Progress) (r : ReadReply p) (b : Answer) → Runs p r.call.client → is_conflict (Some b) ≡ true → AfterReply p r.call (Some b) Resting None }
 {}
 
-/// VACUUM is taken while no client that goes on has an open transaction; whatever call of it is pending and whatever its reply, it goes
+/// VACUUM is taken while no client that hasn't stopped has an open transaction; whatever call of it is pending and whatever its reply, it goes
 /// on, by the rows of its table or by a further table; and it is answered.
 pub fn vacuum_steps()
     ensures taken { (p : Progress) (c : ℕ) (text : List ℕ) (span : Span) → MayScanSpan p.sys c span → AfterTake p c text None (RunsVacuum (Scanning span)) None }
@@ -82,13 +82,13 @@ pub fn vacuum_steps()
     ensures ends { (p : Progress) (r : VacuumReplied p) (b : Answer) → IsMild b → AfterReply p r.call (Some b) Resting None }
 {}
 
-/// Where the events end: events of any number of clients that are tied to them, follow a script's moves, and agree with stores whose
-/// tables began empty, are a run of the script, with some tables to print.
+/// Where the events end: events of which the invariant holds, which follow a script's moves and agree with stores whose tables began
+/// empty, are a run of the script, with some tables to print.
 pub fn invariant_gives_run()
     ensures { (script : Script) (e : Ending script) → (tables : List TableDump) × IsRun script e.opening e.closing (outcome_with e tables) }
 {}
 
-/// The notes of each transaction whose COMMIT was taken are what its statements noted.
+/// The read set in the plan of each transaction whose COMMIT was taken is that of its statements.
 pub fn invariant_gives_read_sets()
     ensures { (p : Progress) → AreReadSets p.going.plan p.events p.going.past }
 {}

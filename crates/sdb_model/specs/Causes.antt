@@ -51,7 +51,7 @@ abbrev pub is_select : Statement → Bool
 is_select (statement.Select s) = true
 is_select st = false
 
----- what a client is in, after some events
+---- the state of a client after some events
 
 -- A transaction is open from its BEGIN to the answer of the statement that ends it.
 abbrev pub is_open_after : Bool → Executed → Bool
@@ -69,7 +69,7 @@ runs_vacuum events client = fold (λ was s. reads_vacuum s.text && is_none s.ans
 abbrev pub SomeClient : (List Event → ℕ → Bool) → List Event → Type 0
 SomeClient is events = (client : ℕ) × (has_stopped client events ≡ false) × (is events client ≡ true)
 
----- statements that are turned away when they are taken
+---- statements that are rejected when they are taken
 
 abbrev pub refused : ℕ → Answer
 refused kind = answer.Refused (record { kind = kind; place = 0 })
@@ -102,7 +102,7 @@ MeetsVacuum past client text a = Reads text statement.Begin × (is_open past cli
 abbrev pub MeetsTransaction : List Event → List ℕ → Answer → Type 0
 MeetsTransaction past text a = Reads text statement.Vacuum × SomeClient is_open past × (a ≡ answer.OpenTransactions)
 
--- A statement that a client takes after some events is turned away with this answer.
+-- A statement that a client takes after some events is rejected with this answer.
 abbrev pub IsRejected : List Table → List Event → ℕ → List ℕ → Answer → Type 0
 IsRejected catalog past client text a =
     IsUnread text a ⊎ BeginsInside past client text a ⊎ IsOutside past client text a ⊎ IsUnfit catalog past client text a ⊎ MeetsVacuum past client text a ⊎ MeetsTransaction past text a
@@ -158,7 +158,7 @@ prepares_key id key m = any_of (λ r. is_prepared_record id r && same_key r.key 
 abbrev pub IsUnmet : List StoreCall → TxId → Key → Option Record → Type 0
 IsUnmet calls id key found = (m : StoreCall) × Contains calls m × (prepares_key id key m ≡ true) × Contains (shown_by m.request m.reply) (key, found)
 
--- A check showed it at a key that was not prepared.
+-- A check observed this at a key that was not prepared.
 abbrev pub IsChecked : List StoreCall → TxId → Key → Option Record → Type 0
 IsChecked calls id key found = (m : StoreCall) × Contains calls m × ReadObserves m key found × (list_any (prepares_key id key) calls ≡ false)
 
@@ -181,7 +181,7 @@ ConflictsAtCommit calls read_set id key found =
 abbrev pub IsConflictAtCommit : List Event → ℕ → Executed → TxId → Key → Option Record → Type 0
 IsConflictAtCommit events client s id key found = ConflictsAtCommit (calls_of events client s) (read_set_of events id) id key found
 
--- What a scan of a statement found at a key, by what its rows mean, is something else than was noted there.
+-- What a scan of a statement found at a key, by what its rows mean, is something else than the read set has there.
 abbrev pub IsConflictAtScan : List Event → ℕ → Executed → TxId → Key → Option Record → Type 0
 IsConflictAtScan events client s id key found =
     (m : StoreCall) × (span : Span) × (rows : List Record) × Contains (calls_of events client s) m × (m.request ≡ ask.Scan span) × (m.reply ≡ reply.Rows rows) × (in_span span key ≡ true)
@@ -319,7 +319,7 @@ IsCaused catalog events client s answer.Vacuuming = IsRejected catalog (before s
 IsCaused catalog events client s answer.OpenTransactions = IsRejected catalog (before s events) client s.text answer.OpenTransactions
 IsCaused catalog events client s answer.NoMemory = Unit {0}
 
--- Every answer of a run has its cause; and a statement that is to be turned away is, unless memory ran out.
+-- Every answer of a run has its cause; and a statement that is to be rejected is, at once, unless memory ran out.
 pub record AreCaused (catalog : List Table) (events : List Event) : Type 0 where
   pub caused : (client : ℕ) (s : Executed) (a : Answer) → Contains (statements_by client events) s → s.answer ≡ Some a → IsCaused catalog events client s a
   pub rejected : (client : ℕ) (s : Executed) (a : Answer) → Contains (statements_by client events) s → IsRejected catalog (before s events) client s.text a → (s.reached ≡ s.taken) × ((s.answer ≡ Some a) ⊎ (s.answer ≡ Some answer.NoMemory))

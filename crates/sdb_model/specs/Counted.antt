@@ -1,4 +1,4 @@
--- How many calls statements make, how unresolved records are rolled, and how many calls stores may fail.
+-- How many calls statements make, how unresolved records are rolled, and how many calls of stores may fail.
 use Rattle.std.specs.Prelude.{◌≡◌, ◌⊎◌, ◌≤◌, ℕ, ℤ, ◌+◌, ◌*◌, Bool, true, false, not, if◌then◌else◌, List, filter, length, Some, Contains, All}
 use Rattle.std.specs.Option.{option_map_or}
 use Rattle.std.specs.List.{count_by, flat_map, list_any}

@@ -35,7 +35,7 @@ use Rattle.sdb_model.specs.Transactions.{Executed, client_of, is_effective, stat
 use Rattle.sdb_model.specs.Serial.{AreRead}
 use Rattle.sdb_model.specs.Calls.{StoreCall, calls_of, decision_observed, end_of}
 
----- what the stores showed
+---- what the stores contained, and what calls observed
 
 -- a call reads a key: it asks for it, or scans a span over it
 abbrev pub ReadsKey : Key → Request → Type 0
@@ -44,7 +44,7 @@ ReadsKey key (ask.Scan span) = in_span span key ≡ true
 ReadsKey key (ask.PutIf rec condition) = ⊥
 ReadsKey key (ask.DeleteIf k condition) = ⊥
 
--- A statement that read a key was observed the row of its committed image at a moment between its Take and its answer.
+-- A statement read a key, and the row is that of its committed image at a moment between the statement's Take and its answer.
 pub record WasCommitted (places : List Place) (events : List Event) (opening : List StoreContents) (moments : List (List StoreContents)) (client : ℕ) (s : Executed) (key : Key) (row : Option (List Pair)) : Type 0 where
   pub call : StoreCall
   pub at : ℕ
@@ -71,11 +71,11 @@ pub record WasFound (calls : List StoreCall) (key : Key) (row : Option (List Pai
   pub stands : row ≡ option_and_then row_of_image (option_and_then (meaning_of calls) found)
   pub meant : IfSome found (λ r. is_in state.Committed r.columns ≡ false → IsMeantBy calls r)
 
--- a statement's own calls did
+-- the calls of a statement did
 abbrev pub FoundBy : List Event → ℕ → Executed → Key → Option (List Pair) → Type 0
 FoundBy events client s key row = WasFound (calls_of events client s) key row
 
--- a statement was observed the committed row
+-- a statement read the committed row
 abbrev pub CommittedBy : List Place → List Event → List StoreContents → List (List StoreContents) → ℕ → Executed → Key → Option (List Pair) → Type 0
 CommittedBy places events opening moments client s key row = WasCommitted places events opening moments client s key row
 
@@ -94,8 +94,8 @@ abbrev pub StartsWith : Executed → List Executed → Type 0
 StartsWith s [] = ⊥
 StartsWith s (x ∷ xs) = s ≡ x
 
--- A transaction has a row at a key when it takes a statement: a statement of it, this one or one before, whose read has finished, was shown
--- a row there, in some way, and the effective statements from that one on made this of it.
+-- A transaction has a row at a key when it takes a statement: a statement of it, this one or one before, whose read has finished, observed
+-- a row there, in the given way, and the effective statements from that one on made this of it.
 pub record HasRow (catalog : List Table) (was : Executed → Key → Option (List Pair) → Type 0) (events : List Event) (id : TxId) (s : Executed) (key : Key) (row : Option (List Pair)) : Type 0 where
   pub first : Executed
   pub earlier : List Executed
@@ -110,7 +110,7 @@ pub record HasRow (catalog : List Table) (was : Executed → Key → Option (Lis
   pub read : AreRead (filter is_effective changing) sts
   pub made : row ≡ fold (λ r st. row_left catalog st key r) base sts
 
----- what answers show
+---- the rows of answers
 
 -- Rows that a SELECT is answered are rows that its transaction has.
 abbrev pub RowsAreOf : List Table → (Executed → Key → Option (List Pair) → Type 0) → List Event → TxId → Executed → List (List Value) → Type 0
@@ -127,7 +127,7 @@ AnswersAreOf catalog was events id s (answer.Rows rows) = RowsAreOf catalog was 
 AnswersAreOf catalog was events id s (answer.Duplicate key) = KeyHasRow catalog was events id s key
 AnswersAreOf catalog was events id s a = Unit {0}
 
--- The rows that answers show are rows that their transactions have, where each read showed rows in that way.
+-- The rows in answers are rows that their transactions have, where each read observed rows in that way.
 abbrev pub AnswersHaveRows : List Table → (ℕ → Executed → Key → Option (List Pair) → Type 0) → List Event → Type 0
 AnswersHaveRows catalog was events = (id : TxId) (s : Executed) (a : Answer) → Contains (statements_of events id) s → s.answer ≡ Some a → AnswersAreOf catalog (was (client_of id)) events id s a
 

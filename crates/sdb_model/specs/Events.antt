@@ -1,4 +1,4 @@
--- What events do to what the stores hold, and when a list of events agrees with the stores.
+-- The effect of events on the contents of the stores, and traces: when a list of events agrees with the stores.
 use Rattle.std.specs.Prelude.{◌≡◌, ◌⊎◌, ℕ, zero, suc, if◌then◌else◌, List, [], ◌∷◌, map, Option, Some, None, find}
 use Rattle.std.specs.Option.{option_map, option_map_or}
 use Rattle.sdb_types.specs.declared.key.Key.{Key}

@@ -1,4 +1,4 @@
--- Plain tables, and what a statement answers and leaves on them.
+-- Plain tables, and the meaning of a statement on them: its answer, and the tables after it.
 use Rattle.std.specs.Prelude.{ℕ, ℤ, pos, negsuc, Bool, not, ◌&&◌, if◌then◌else◌, List, [], ◌∷◌, map, filter, take, length, Option, Some, None, is_some, unwrap_or, take_while, fold, find, insert as list_insert}
 use Rattle.std.specs.Option.{option_map_or}
 use Rattle.std.specs.List.{list_all}

@@ -1,4 +1,4 @@
--- What holds at every moment of a run of the protocol, in the words of events and of what the stores hold.
+-- What holds at every moment of a run of the protocol, stated about its events and the contents of the stores.
 use Rattle.std.specs.Prelude.{◌≡◌, ◌≢◌, ◌⊎◌, ℕ, suc, ◌<◌, ◌≤◌, ◌^◌, true, false, List, ◌∷◌, ◌++◌, length, Option, Some, None, is_some, IsSomeAnd, Contains}
 use Rattle.sdb_types.specs.declared.txid.TxId.{TxId}
 use Rattle.sdb_types.specs.declared.key.Key.{Key}
@@ -54,7 +54,7 @@ AbortedRemoved catalog places now = (id : TxId) (key : Key) (r : Record) → id.
 
 ---- from one moment to a later one
 
--- A row of the coordinator's table never changes, nor goes.
+-- A row of the coordinator's table is never changed nor deleted.
 abbrev pub RowsFinal : List Place → List StoreContents → List StoreContents → Type 0
 RowsFinal places early late = (id : TxId) (row : Record) → id.0 < 2 ^ 128 → standing places early (coordinator_key_of id) ≡ Some row → standing places late (coordinator_key_of id) ≡ Some row
 
@@ -167,7 +167,7 @@ pub record ContentsExplained (catalog : List Table) (places : List Place) (event
   pub rows_final : (early late : ℕ) → early ≤ late → late ≤ length moments → RowsFinal places (moment opening moments early) (moment opening moments late)
   pub unchanged_resolved : UnchangedResolved catalog places events opening moments
 
--- The invariant of every moment: what so many events and the moments of a trace that agrees with them owe.
+-- The invariant: what holds of events and of the moments of a trace that agrees with them.
 pub record Explained (catalog : List Table) (places : List Place) (events : List Event) (opening : List StoreContents) (moments : List (List StoreContents)) : Type 0 where
   pub standing : ContentsExplained catalog places events opening moments
   pub reads_current : ReadsCurrent catalog places events opening moments

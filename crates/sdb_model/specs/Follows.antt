@@ -1,4 +1,4 @@
--- Which events a script allows.
+-- Which events follow a script: those of its moves, in order.
 use Rattle.std.specs.Prelude.{◌≡◌, ◌⊎◌, ℕ, zero, suc, ◌+◌, ◌≤◌, ◌<◌, Bool, true, false, not, ◌&&◌, ◌||◌, ◌==◌, nat_lt, if◌then◌else◌, MatchBool, List, [], ◌∷◌, ◌++◌, length, Some, is_none, fold, slice_get}
 use Rattle.std.specs.Option.{option_map_or}
 use Rattle.std.specs.List.{list_any, count_by}

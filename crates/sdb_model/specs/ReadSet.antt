@@ -1,4 +1,4 @@
--- What the statements of a transaction noted: what the records that they read mean, with the versions found.
+-- The read set of a transaction: what the records that its statements read mean, with the versions found.
 use Rattle.std.specs.Prelude.{Bool, true, false, List, ◌&&◌, filter, find, Option, Some, None, if◌then◌else◌}
 use Rattle.std.specs.Option.{option_and_then, option_map, option_map_or}
 use Rattle.std.specs.List.{filter_map, flat_map}
@@ -90,7 +90,7 @@ read_finished a = false
 abbrev pub has_finished : Executed → Bool
 has_finished s = option_map_or read_finished s.answer false
 
--- What the statements of a transaction noted, in order. A statement notes what it read where its read has finished, whatever it is then
+-- The read set of a transaction, in order. What a statement read is in it where its read has finished, whatever the statement is then
 -- answered.
 abbrev pub read_set_of : List Event → TxId → List ReadItem
 read_set_of events id = flat_map (λ s. read_items (calls_of events (client_of id) s)) (filter has_finished (statements_inside events id))

@@ -1,4 +1,4 @@
--- The text of a report: what a run has come to, line by line. Every line ends with LF.
+-- The text of a report: the outcome of a run, line by line. Every line ends with LF.
 use Rattle.std.specs.Prelude.{ℕ, ◌+◌, List, [], ◌∷◌, ◌++◌, length, codes, Option, None, Some, decimal}
 use Rattle.std.specs.List.{flat_map}
 use Rattle.std.specs.Fmt.{signed_decimal}

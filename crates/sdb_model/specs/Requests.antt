@@ -38,7 +38,7 @@ shown_by (ask.PutIf r condition) (reply.NotMet found) = (r.key, found) ∷ []
 shown_by (ask.DeleteIf key condition) (reply.NotMet found) = (key, found) ∷ []
 shown_by q r = []
 
----- said by these
+---- by these two
 
 -- the records that a request puts
 abbrev pub records_put : Request → List Record

@@ -1,5 +1,5 @@
--- What a run owes its clients: whole transactions, run one after the other on plain tables in the order of their points,
--- give the answers that were given and the final rows.
+-- Serializability: whole transactions, run one after the other on plain tables in the order of their points, give the answers
+-- that clients got and the final rows.
 use Rattle.std.specs.Prelude.{◌≡◌, ◌⊎◌, ℕ, ◌<◌, ◌^◌, if◌then◌else◌, List, [], ◌∷◌, ◌++◌, map, filter, length, Option, Some, None, is_some, Contains}
 use Rattle.std.specs.Option.{option_and_then}
 use Rattle.std.specs.FinMap.{get, empty}
@@ -81,7 +81,7 @@ pub record IsRecordedCommit (places : List Place) (events : List Event) (closing
   pub commit : commit_of events id ≡ Some s
   pub recorded : Recorded places closing id
 
--- Nothing but the COMMIT of a recorded transaction is answered Committed, whoever asks.
+-- Nothing but the COMMIT of a recorded transaction is answered Committed, whichever client takes it.
 abbrev pub CommittedIsOwned : List Place → List Event → List StoreContents → Type 0
 CommittedIsOwned places events closing = (client : ℕ) (s : Executed) → Contains (statements_by client events) s → s.answer ≡ Some answer.Committed → IsRecordedCommit places events closing client s
 
@@ -117,7 +117,7 @@ TransactionsInRealTime places events closing order =
     → Recorded places closing late → (m n : ℕ) → answered s ≡ Some m → begun events late ≡ Some n → m < n
     → Precedes order early late
 
--- The same of what clients see: whatever statement was answered Committed, a recorded transaction that began after that answer
+-- The same in terms of statements: whatever statement was answered Committed, a recorded transaction that began after that answer
 -- comes after the transaction of that statement in the order.
 abbrev pub RespectsRealTime : List Place → List Event → List StoreContents → List Point → Type 0
 RespectsRealTime places events closing order =
@@ -129,7 +129,7 @@ RespectsRealTime places events closing order =
 
 -- One run of a script, from what the stores held to what they hold: its events are those of the script's moves; one trace of
 -- the stores agrees with them; the recorded transactions, each once, ordered by the end of their last prepare and run whole
--- on plain tables, give the answers that were given and the final rows; and that order keeps real time.
+-- on plain tables, give the answers that clients got and the final rows; and that order respects real time.
 pub record IsRun (script : Script) (opening closing : List StoreContents) (outcome : Outcome) : Type 0 where
   pub moments : List (List StoreContents)
   pub follows : Follows script outcome.events

@@ -99,7 +99,7 @@ abbrev pub rest_of : {X : Type 0} → List X → List X
 rest_of [] = []
 rest_of (x ∷ xs) = xs
 
----- of what a client said from a transaction's BEGIN on
+---- among a client's statements from a transaction's BEGIN on
 
 -- the statement that ended it, if one did
 abbrev pub ending_in : List Executed → Option Executed
@@ -150,7 +150,7 @@ changes_nothing answer.OpenTransactions = true
 changes_nothing answer.NoMemory = true
 changes_nothing _ = false
 
--- Some answers say what rows a statement saw.
+-- Some answers are computed from the rows that a statement read.
 abbrev pub is_answered_from_rows : Answer → Bool
 is_answered_from_rows (answer.Rows rows) = true
 is_answered_from_rows (answer.Count n) = true
@@ -164,7 +164,7 @@ is_committed_answer a = false
 abbrev pub is_effective : Executed → Bool
 is_effective s = not (option_map_or changes_nothing s.answer false)
 
--- A transaction's statements between its BEGIN and its end, of what its client said from the BEGIN on.
+-- A transaction's statements between its BEGIN and its end, among its client's statements from the BEGIN on.
 abbrev pub inside_in : List Executed → List Executed
 inside_in ss = take_while (λ s. not (ends s)) (rest_of ss)
 

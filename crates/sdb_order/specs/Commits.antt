@@ -4,7 +4,7 @@ use Rattle.sdb_model.specs.Sql.{reads_commit}
 use Rattle.sdb_model.specs.Transactions.{Executed as SaidOf, begins, ends}
 use Rattle.sdb_order.specs.declared.executed.Executed.{Executed}
 
--- a executed statement, as the definitions have it
+-- an executed statement, as the definitions have it
 abbrev pub executed_of : Executed → SaidOf
 executed_of s = record { taken = s.taken; text = s.text; answer = s.answer; reached = s.reached }
 

@@ -1,4 +1,4 @@
--- Why a COMMIT goes on and ends as it does, by its calls.
+-- Why a COMMIT continues or ends as it does, by its calls.
 use Rattle.std.specs.Prelude.{◌≡◌, ◌≢◌, ◌⊎◌, ◌≤◌, ℕ, ◌+◌, ℤ, Bool, true, false, List, [], ◌∷◌, ◌++◌, nat_lt, Option, Some, None, Ok, Contains, slice_get}
 use Rattle.std.specs.List.{AllByRecursion}
 use Rattle.sdb_types.specs.declared.key.Key.{Key}
@@ -92,7 +92,7 @@ pub record ObservesRow (id : TxId) (d : Decision) (at : ℤ) (r : Reply) : Type 
   pub says : decision_in row ≡ Ok (record { decision = d; created_at = at })
   pub shown : (r ≡ reply.Found (Some row)) ⊎ (r ≡ reply.NotMet (Some row))
 
--- a call for the row observed it ABORTED, and none before it had put that
+-- a call for the row observed ABORTED, and none before it had put that
 pub record IsGivenUp (p : Work) (calls : List Call) : Type 0 where
   pub before : List Call
   pub call : Call
@@ -103,7 +103,7 @@ pub record IsGivenUp (p : Work) (calls : List Call) : Type 0 where
   pub shown : ObservesRow p.id decision.Aborted at call.reply
   pub not_own : AllByRecursion (λ c. c.request ≢ abort_of p.id p.now) before
 
--- the deciding put was applied, or a call for the row observed it COMMITTED, of a moment
+-- the deciding put was applied, or a call for the row observed COMMITTED, of a moment
 pub record IsLearned (p : Work) (calls : List Call) : Type 0 where
   pub call : Call
   pub among : Contains calls call

@@ -1,4 +1,4 @@
--- What a COMMIT asks and is answered, call by call.
+-- The calls of a COMMIT, with their requests and replies.
 use Rattle.std.specs.Prelude.{◌≡◌, ◌⊎◌, ℕ, ℤ, Bool, true, false, List, [], ◌∷◌, ◌++◌, map, take, Option, Some, None, Contains}
 use Rattle.std.specs.List.{AllByRecursion, list_any}
 use Rattle.sdb_types.specs.declared.record.Request.{Request}

@@ -1,4 +1,4 @@
--- What a recovery asks and is answered, call by call, and how it ends where nothing stops it.
+-- The calls of a recovery with their replies, and how it ends where none of them fails.
 use Rattle.std.specs.Prelude.{◌≡◌, ◌<◌, ◌^◌, ℤ, true, false, List, [], ◌∷◌, ◌++◌, Option, Some, None, is_some}
 use Rattle.std.specs.List.{AllByRecursion}
 use Rattle.sdb_types.specs.declared.record.Record.{Record}
@@ -32,7 +32,7 @@ abbrev pub calls_of_recovery : Record → Meta → List Received → List Recove
 calls_of_recovery rec meta [] = []
 calls_of_recovery rec meta (c ∷ past) = with_recover_call (recover_pending rec meta past) c (calls_of_recovery rec meta past)
 
--- no call faulted, was out of memory, or was observed a record in the row's place that isn't a well formed row
+-- no call faulted, was out of memory, or observed a record in the row's place that isn't a well formed row
 abbrev pub HaveNoFailure : Meta → List RecoverCall → Type 0
 HaveNoFailure meta calls = AllByRecursion (λ c. (is_served c.reply ≡ true) × (holds_malformed meta.id c.reply ≡ false)) calls
 

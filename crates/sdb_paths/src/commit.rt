@@ -52,7 +52,7 @@ pub fn rolling()
 {}
 
 /// A conflict is observed in the reply to a prepare or a check of its key, which isn't what was read there, and the deciding put
-/// was not asked. Expired is answered only where a call for the row observed it ABORTED and none before had put that. Out of
+/// was not asked. Expired is answered only where a call for the row observed ABORTED and none before had put that. Out of
 /// memory ends a COMMIT that asked for its deciding put only where that put was out of memory.
 pub fn causes()
     ensures conflict { (p : Work) (calls : List Call) (key : Key) (found : Option Record) → EndsIn p calls (outcome.Conflict key found) → HasChangedBy p calls key found }

@@ -11,7 +11,7 @@ pub fn recoveries_are_decided()
     ensures { (rec : Record) (meta : Meta) (past : List Received) → AreRecoverReplies rec meta past → map received_of (calls_of_recovery rec meta past) ≡ reverse past }
 {}
 
-/// A recovery none of whose calls faulted, was out of memory or was observed a malformed row goes on, or ends with the record's
+/// A recovery none of whose calls faulted, was out of memory or observed a malformed row continues, or ends with the record's
 /// image, or is busy, and that only where its look found no row before the record has expired.
 pub fn resolves()
     ensures { (rec : Record) (meta : Meta) (past : List Received) → RecoveryRunsWell rec meta past → Resolves rec meta past (recover_answer rec meta past) }

@@ -1,4 +1,4 @@
--- How each phase of a COMMIT goes on, from a reply.
+-- The step of each phase of a COMMIT, from a reply.
 use Rattle.std.specs.Prelude.{ℕ, ℤ, ◌+◌, Bool, true, false, if◌then◌else◌, List, [], length, nat_lt, Option, Some, None, Result, Ok, Err, slice_get}
 use Rattle.std.specs.Option.{option_map}
 use Rattle.sdb_types.specs.declared.key.Key.{Key}
@@ -70,7 +70,7 @@ abbrev pub prepare_at : Prepares → Reply → ℕ
 prepare_at p reply.Applied = p.at + 1
 prepare_at p r = 0
 
--- it goes on where the prepare was applied, and else has ended
+-- it continues where the prepare was applied, and else has ended
 abbrev pub prepare_next : Prepares → Reply → Prepares
 prepare_next p r = record { asks = prepare_left p r; at = prepare_at p r; touched = touched_after p.touched r }
 
@@ -101,7 +101,7 @@ abbrev pub validate_at : Validates → ValidateStep → ℕ
 validate_at v validate.More = v.at + 1
 validate_at v s = length v.checks
 
--- it goes on where a check passed and another is left, and else has ended
+-- it continues where a check passed and another is left, and else has ended
 abbrev pub validate_next : Validates → ValidateStep → Validates
 validate_next v s = record v { at = validate_at v s }
 

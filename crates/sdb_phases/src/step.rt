@@ -1,4 +1,4 @@
-//! What the phases answer to a reply, and where they are.
+//! The stages of the phases, and what a step gives.
 use sdb_types::{Key, Record, TxId};
 
 /// What a COMMIT answers.

@@ -1,4 +1,4 @@
--- What the values mean in the words of the model.
+-- What the values mean in the model.
 use Rattle.std.specs.Prelude.{ℕ, Bool, false, if◌then◌else◌, ◌&&◌, nat_lt, nat_le, List, [], map, take_while, not, Option, Some, None, find, is_some}
 use Rattle.std.specs.List.{cons_option, list_any}
 use Rattle.std.specs.Option.{option_and_then, option_map_or}
@@ -87,6 +87,6 @@ someone_does w past = list_any (λ e. option_map_or (is_client_doing w past) (ta
 abbrev pub items_by : List calls.StoreCall → calls.StoreCall → List as_read.ReadItem
 items_by ms m = if reads_rows m then cons_option (as_read.read_item_of ms m.request m.reply) [] else []
 
--- what one statement of a transaction noted, where its read has finished
+-- what one statement of a transaction adds to the read set, where its read has finished
 abbrev pub items_of_statement : List Event → ℕ → Executed → List as_read.ReadItem
 items_of_statement events client s = if has_finished s then read_items (calls_of events client s) else []

@@ -156,7 +156,7 @@ fn add_all_said(
     Ok(())
 }
 
-/// What the statements of a transaction noted, in order: what the records mean that those read whose reads have finished.
+/// The read set of a transaction, in order: what the records mean that those of its statements read whose reads have finished.
 #[tactic(auto, using(crate::proofs::Walks::all_noted))]
 pub fn read_set_of(alloc: Global, events: &[Event], id: TxId) -> Result<Seq<ReadItem>, NoMemory>
     ensures { IfOk result (λ read_set. all_items read_set ≡ read_set_of_lem events.now id) }

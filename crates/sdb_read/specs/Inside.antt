@@ -1,4 +1,4 @@
--- What a read under way is inside.
+-- The representation of a read under way, and its invariant.
 use Rattle.std.specs.Prelude.{◌≡◌, [], IsSome}
 use Rattle.sdb_read.specs.declared.read.ReadStep.TheVariants as step
 use Rattle.sdb_read.specs.declared.read.Phase.{Phase}

@@ -1,4 +1,4 @@
--- What a recovery is inside.
+-- The representation of a recovery, and its invariant.
 use Rattle.std.specs.Prelude.{◌≡◌, true, Option, Some, None, Ok}
 use Rattle.sdb_types.specs.declared.record.Record.{Record}
 use Rattle.sdb_types.specs.declared.record.Request.{Request}

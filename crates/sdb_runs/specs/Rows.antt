@@ -31,7 +31,7 @@ use Rattle.sdb_runs.specs.declared.stores.Stores.{Stores}
 use Rattle.sdb_runs.specs.declared.turn.Turn.{Turn}
 use Rattle.sdb_runs.specs.Values.{row_then}
 
----- what a statement was observed at a key
+---- what a statement may have observed at a key
 
 abbrev pub reads_key : Key → Request → Bool
 reads_key key (ask.Get k) = same_key k key

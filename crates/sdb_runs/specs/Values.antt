@@ -1,4 +1,4 @@
--- What the stores contain at moments, in the words of the model.
+-- What the stores contain at moments, as values of the model.
 use Rattle.std.specs.Prelude.{ℕ, List, map, Option}
 use Rattle.sdb_types.specs.declared.key.Key.{Key}
 use Rattle.sdb_types.specs.declared.pair.Pair.{Pair}

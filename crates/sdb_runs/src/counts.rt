@@ -41,7 +41,7 @@ fn is_prepared(calls: &[Made], id: TxId, key: &Key) -> bool
     false
 }
 
-// Whether a COMMIT checks a note: a scan, or a get of a key that it doesn't prepare.
+// Whether a COMMIT checks a read item: a scan, or a get of a key that it doesn't prepare.
 fn is_check(calls: &[Made], id: TxId, item: &ReadItem) -> bool
     ensures { result ≡ is_check_lem calls.now id (item_of item.now) }
 {

@@ -72,7 +72,7 @@ fn add_below(
     Ok(())
 }
 
-// The committed rows that a statement whose read has finished was shown at a key.
+// The committed rows that a statement whose read has finished may have observed at a key.
 fn bases(alloc: Global, stores: &Stores, key: &Key, turn: &Turn) -> Result<Bases, NoMemory>
     ensures { IfOk result (λ rows. rows ≡ bases_lem stores.now key.now turn.now) }
 {
@@ -157,7 +157,7 @@ fn add_from_all(
     add_from_all(alloc, images, catalog, executed, key, rest, turns)
 }
 
-/// Adds the rows that a transaction has at a key when it takes a statement, each of which one of these statements was observed first.
+/// Adds the rows that a transaction has at a key when it takes a statement, each of which one of these statements observed first.
 pub fn add_had(
     alloc: Global,
     images: &mut Images,

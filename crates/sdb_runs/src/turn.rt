@@ -11,7 +11,7 @@ use sdb_plain::{Made, calls_of, client_of, end_of, from_begin, ordinal_of, rest_
 use sdb_types::{Duplicate, NoMemory, Seq, TxId};
 use std::alloc::Global;
 
-/// A executed statement, what its text is read as, its calls, and the number of the event that it ends at.
+/// An executed statement, what its text is read as, its calls, and the number of the event that it ends at.
 pub struct Turn {
     pub executed: Executed,
     pub statement: Option<Statement>,

@@ -1,4 +1,4 @@
--- What the values mean in the words of the law.
+-- What the values mean in the law.
 use Rattle.std.specs.Prelude.{ℕ, ℤ, pos, Bool, ◌==◌, List, [], map, Option, find}
 use Rattle.std.specs.Option.{option_map, option_map_or}
 use Rattle.sdb_types.specs.declared.record.Record.{Record}

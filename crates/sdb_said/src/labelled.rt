@@ -21,7 +21,7 @@ pub enum Ack {
     OutOfMemory,
 }
 
-/// The part that an event plays.
+/// The action of an event in the protocol.
 #[derive(Debug)]
 pub enum Action {
     /// None.
@@ -67,7 +67,7 @@ impl Drop for Action {
     }
 }
 
-/// An event, the part that it plays, and the transaction that its answer ends, if one is ended.
+/// An event, its action, and the transaction that its answer ends, if one is ended.
 #[derive(Debug)]
 pub struct Labelled {
     pub event: Event,
@@ -361,7 +361,7 @@ pub fn is_checked(past: &[Labelled], id: TxId, item: usize) -> bool
     any(past, Sign::Check(id, item))
 }
 
-/// Whether it has gone on from its prepares.
+/// Whether it has passed its prepares.
 pub fn is_past_prepares(past: &[Labelled], id: TxId) -> bool
     ensures { result ≡ staged_in past.now id.0 }
 {

@@ -37,7 +37,7 @@ abbrev pub with_images : List ReadRecord → List Record → List ReadRecord
 with_images read_set [] = read_set
 with_images read_set (r ∷ rs) = with_images (with_read_record read_set r.key (Some r)) rs
 
--- each note is none or a committed record of its key
+-- what was found at each key is none or a committed record of that key
 abbrev pub AreBases : List ReadRecord → Type 0
 AreBases read_set = AllByRecursion (λ e. IfSome e.1 (IsBaseOf e.0)) read_set
 

@@ -38,7 +38,7 @@ IsRecordIn catalog found = IfSome found (λ r. IsIn catalog r.key)
 abbrev pub AreRecordsIn : List Table → List Record → Type 0
 AreRecordsIn catalog rs = AllByRecursion (λ r. IsIn catalog r.key) rs
 
--- a note, and the record that it found
+-- a key that was read, and the record found there
 abbrev pub AreReadItemsIn : List Table → List ReadRecord → Type 0
 AreReadItemsIn catalog read_set = AllByRecursion (λ e. IsIn catalog e.0 × IsRecordIn catalog e.1) read_set
 

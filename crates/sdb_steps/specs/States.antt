@@ -1,4 +1,4 @@
--- The clients of a run, and where each is in the words of the laws of clients.
+-- The clients of a run, and the state of each in the model of clients.
 use Rattle.std.specs.Prelude.{◌≡◌, ◌≢◌, ℕ, ◌<◌, ◌^◌, Bool, true, false, if◌then◌else◌, List, Option, Some, None, IsSome}
 use Rattle.std.specs.Option.{option_map}
 use Rattle.sdb_types.specs.declared.record.Request.{Request}

@@ -1,4 +1,4 @@
--- What comes of the turns of a client, as the laws of its steps speak of it.
+-- Turns of a client, and the invariant after them.
 use Rattle.std.specs.Prelude.{◌≡◌, ◌<◌, ◌^◌, ℕ, ℤ, None, true, List, Option, Some, is_some}
 use Rattle.sdb_types.specs.declared.key.Key.{Key}
 use Rattle.sdb_types.specs.declared.record.Reply.{Reply}
@@ -64,7 +64,7 @@ pub record IsDataCatalog (catalog : List Table) : Type 0 where
   pub is : is_catalog catalog ≡ true
   pub apart : (k : Key) → is_some (find_table catalog k.table) ≡ true → is_data k ≡ true
 
--- Events so far are tied to the clients where they are, over tables that fit.
+-- The run invariant holds of the events so far and the clients as they are, over tables that fit.
 abbrev pub IsInvariantWith : List Table → List Event → (ℕ → ClientState) → Type 0
 IsInvariantWith catalog events states = RunInvariant catalog (tables_are_well_typed catalog) events (system_of states) (doing_of states)
 

@@ -1,4 +1,4 @@
--- Where the machine of a VACUUM is, as the laws of clients say it.
+-- The states of a VACUUM's machine, mapped to those of the model of clients.
 use Rattle.sdb_vacuum.specs.Vacuum as machine
 use Rattle.sdb_turns.specs.Vacuum.{VacuumModel, Scanning, Resolving, Removing, Between}
 

@@ -32,11 +32,11 @@ IsExtendedBy k q next x = HistoryStep k.events k.past q next k.client x
 abbrev pub Leaves : Account → Labelled → SystemAt → Type 0
 Leaves k q next = LeavesHold k.past k.sys next k.client q
 
--- With the event the client's history is unchanged.
+-- The event leaves the client's statements as they were.
 abbrev pub IsUnchangedBy : Account → Labelled → Type 0
 IsUnchangedBy k q = statements_by k.client (k.events ++ q.event ∷ []) ≡ statements_by k.client k.events
 
--- With the event the client's history has this statement more.
+-- With the event this statement of the client has its answer.
 abbrev pub IsExtendedWith : Account → Labelled → Executed → Type 0
 IsExtendedWith k q s = IsAnswerOf k.events k.client k.told q s
 
@@ -79,7 +79,7 @@ pub record AnswersWaiting (k : Account) (q : Labelled) (a : Answer) : Type 0 whe
   pub waits : k.told.waiting ≡ Some waiting
   pub calls : q.event ≡ event.Call k.client store ask how reply (Some a)
 
--- A turn of one client that leaves all so of all clients and the others where they are, and with which its story goes on.
+-- A turn of one client that keeps the invariant of all clients, leaves the others where they are, and extends its story.
 pub record StoryTurn : Type 0 where
   pub plan : ℕ → Plan
   pub events : List Event

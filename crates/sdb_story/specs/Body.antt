@@ -1,4 +1,4 @@
--- What the statements of a transaction come to, over any tables that agree with what was read.
+-- The answers and the writes of a transaction's statements, over any tables that agree with what was read.
 use Rattle.std.specs.Prelude.{◌≡◌, Bool, true, false, List, None}
 use Rattle.std.specs.List.{AllByRecursion}
 use Rattle.std.specs.FinMap.{get}
@@ -21,7 +21,7 @@ use Rattle.sdb_snapshot.specs.Rows.{row_found, with_own}
 use Rattle.sdb_snapshot.specs.Seen.{Seen, is_scanned, overlay}
 use Rattle.sdb_turns.specs.Reads.{SeenOk, is_found}
 
----- tables that agree, note by note
+---- tables that agree, item by item of the read set
 
 -- the row that a get found is there
 abbrev pub ReadAgrees : Seen → Tables → Read → Type 0

@@ -80,7 +80,7 @@ pub record MadeReply : Type 0 where
 abbrev pub stage_after : MadeReply → ReadAt
 stage_after r = read_step r.kind r.stage r.call.now r.call.reply
 
--- the note of a read that is done with these images
+-- the read item of a read that returned these images
 abbrev pub read_item_with : Access → List Record → ReadItem
 read_item_with (access.Get key) images = KeyRead (record { key = key; version = version_of (first_image images) })
 read_item_with (access.Scan span) images = SpanRead (record { span = span; found = reads_of images })
@@ -107,11 +107,11 @@ pub record WasAnswered (events : List Event) (s : Executed) : Type 0 where
   pub answered : is_some s.answer ≡ true
   pub before : s.reached ≤ length events
 
--- the notes of the statements of a list whose reads have finished
+-- the read set of the statements of a list whose reads have finished
 abbrev pub read_items_by : List Event → ℕ → List Executed → List ReadItem
 read_items_by events c ss = flat_map (λ s. read_items (calls_of events c s)) (filter has_finished ss)
 
--- What a transaction has read has this note.
+-- What a transaction has read contains this item.
 abbrev pub HasReadItem : Seen → ReadItem → Type 0
 HasReadItem seen n = Contains (map KeyRead seen.reads ++ map SpanRead seen.scans) n
 
@@ -119,7 +119,7 @@ HasReadItem seen n = Contains (map KeyRead seen.reads ++ map SpanRead seen.scans
 abbrev pub IsReadSetIn : List Event → ℕ → List Executed → Seen → Type 0
 IsReadSetIn events c ss seen = (n : ReadItem) → HasReadItem seen n ↔ Contains (read_items_by events c ss) n
 
--- a statement noted nothing: its read has not finished, or it made none
+-- a statement adds nothing to the read set: its read has not finished, or it made none
 abbrev pub ReadsNothing : List Event → ℕ → Executed → Type 0
 ReadsNothing events c s = (has_finished s ≡ false) ⊎ (read_items (calls_of events c s) ≡ [])
 

@@ -1,4 +1,4 @@
--- Where each transaction of a client's story is filed among the events: what the parts say of it is what the texts say.
+-- Where each transaction of a client's story is filed among the events: the actions agree with the texts about it.
 use Rattle.std.specs.Prelude.{◌≡◌, ◌<◌, ◌^◌, ℕ, suc, true, false, List, ◌++◌, length, Some, None}
 use Rattle.std.specs.List.{AllByRecursion}
 use Rattle.sdb_types.specs.declared.txid.TxId.{TxId}
@@ -30,7 +30,7 @@ pub record IsOpenAt (past : List Labelled) (t : ℕ) (b : Executed) : Type 0 whe
   pub begun : (protocol_state past).begun t ≡ b.taken
   pub untaken : (protocol_state past).taken t ≡ false
 
--- A client's statements is a story, and each transaction of it is filed.
+-- The statements of a client are a story, and each transaction of it is filed.
 pub record Filed (c : ℕ) (events : List Event) (past : List Labelled) : Type 0 where
   pub whole : List Finished
   pub rest : Rest

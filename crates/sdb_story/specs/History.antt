@@ -189,7 +189,7 @@ pub record EndsOpen (past : List Labelled) (sys next : SystemAt) (c : ℕ) (x : 
 abbrev pub AllStories : List Event → List Labelled → SystemAt → (ℕ → ClientHistory) → Type 0
 AllStories events past sys told = (c : ℕ) → HistoryInvariant events past sys c (told c)
 
--- with the story of one client going on
+-- with another history of one client
 abbrev pub with_history : (ℕ → ClientHistory) → ℕ → ClientHistory → ℕ → ClientHistory
 with_history told c x d = at told c x d
 

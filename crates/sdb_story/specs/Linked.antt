@@ -1,4 +1,4 @@
--- What ties the events of a run to its clients.
+-- The invariant between the events of a run and its clients, with each client's story.
 use Rattle.std.specs.Prelude.{ℕ, Bool, List}
 use Rattle.sdb_schema.specs.declared.table.Table.{Table}
 use Rattle.sdb_model.specs.declared.event.Point.{Point}

@@ -43,15 +43,15 @@ pub record RunWithTexts : Type 0 where
   pub ran : ℕ → Execution
   pub executed : AllBodiesExecuted catalog fit run.plan (events_in run) (newest_first run.labelled) ran (ordinals_of order)
 
--- with these tables to print it owes its clients nothing
+-- with these printed tables it is serial
 abbrev pub IsSerialWith : RunWithTexts → List TableDump → Type 0
 IsSerialWith r tables = IsSerial r.catalog r.run.places (events_in r.run) (final_contents r.run) r.order tables
 
--- its order keeps real time
+-- its order respects real time
 abbrev pub IsInRealTime : RunWithTexts → Type 0
 IsInRealTime r = RespectsRealTime r.run.places (events_in r.run) (final_contents r.run) r.order
 
--- Events that are tied to any number of clients follow a script's moves, and agree with stores whose tables began empty; with the order of
+-- Events of any number of clients with their stories follow a script's moves, and agree with stores whose tables began empty; with the order of
 -- the recorded transactions.
 pub record StoriesEnd (script : Script) : Type 0 where
   pub fit : Tables → Bool

@@ -1,4 +1,4 @@
-//! How a client's story goes on, event by event, and how it is filed.
+//! How a client's story is extended, event by event, and how it is filed.
 ghost use Rattle.std.specs.Prelude.{◌≡◌, ◌≢◌, ℕ, List, ◌++◌, ◌∷◌, [], Some};
 ghost use Rattle.sdb_model.specs.declared.answer.Answer.{Answer};
 ghost use Rattle.sdb_model.specs.declared.answer.Answer.TheVariants as answer;
@@ -16,8 +16,8 @@ pub fn initial_story()
     ensures { (c : ℕ) → HistoryInvariant [] [] idle c nothing_yet }
 {}
 
-/// An event that says nothing of a client, and is apart from its transactions, leaves its story. So does each lawful event of another
-/// client.
+/// An event that changes no statement of a client, and is apart from its transactions, leaves its story as it was. So does each lawful
+/// event of another client.
 pub fn story_is_unchanged()
     ensures silent { (k : Account) (next : SystemAt) (q : Labelled) → Leaves k q next → IsUnchangedBy k q → IsExtendedBy k q next k.told }
     ensures others { (plan : ℕ → Plan) (past : List Labelled) (c d : ℕ) (q : Labelled) → d ≢ c → IsBy d q.event → IsEnabled plan past q.event q.action → IsApart past c q.action }
@@ -36,7 +36,7 @@ pub fn statement_is_recorded()
     ensures later { (k : Account) (q : Labelled) (a : Answer) (r : AnswersWaiting k q a) → IsExtendedWith k q (executed_with_answer k.events r.waiting a) }
 {}
 
-/// A story goes on with an answered statement: an ordinary one, a BEGIN that is answered Done, or one that ends the open
+/// A story is extended by an answered statement: an ordinary one, a BEGIN that is answered Done, or one that ends the open
 /// transaction.
 pub fn story_is_extended()
     ensures ordinary { (k : Account) (next : SystemAt) (q : Labelled) (s : Executed) → IsExtendedWith k q s → IsOrdinaryStatement k s → Leaves k q next → IsExtendedBy k q next (with_answered k.told s) }
@@ -50,8 +50,8 @@ pub fn story_is_filed()
     ensures { (plan : ℕ → Plan) (k : Account) → SystemOk plan k.past k.sys → Filed k.client k.events k.past }
 {}
 
-/// Where a turn of one client leaves all so of all clients, and its own story goes on, all stories go on: it leaves where the others
-/// are.
+/// Where a turn of one client keeps the invariant of all clients, and its own story is extended, all stories are: the turn leaves the
+/// others where they are.
 pub fn stories_go_on()
     ensures all { (t : StoryTurn) → AllStories (t.events ++ t.turn.event ∷ []) (t.turn ∷ t.past) t.next (with_history t.told t.client t.more) }
     ensures moved { (sys : SystemAt) (c : ℕ) (x : ClientAt) → OthersUnchanged c sys (with_client sys c x) }

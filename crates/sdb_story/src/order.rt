@@ -32,12 +32,12 @@ pub fn order_runs_whole()
 {}
 
 /// Over a run whose actions are those that the texts give, where each recorded transaction ran as its statements say: there are tables to
-/// print with which the run owes its clients nothing, and the order keeps real time.
+/// print with which the run is serial, and the order respects real time.
 pub fn run_is_serial()
     ensures { (r : RunWithTexts) → (tables : List TableDump) × IsSerialWith r tables × IsInRealTime r }
 {}
 
-/// Events of any number of clients that are tied to these, follow a script's moves, and agree with stores whose tables began empty, are
+/// Events of any number of clients with their stories, which follow a script's moves and agree with stores whose tables began empty, are
 /// a run of the script, with some tables to print.
 pub fn story_gives_run()
     ensures { (script : Script) (e : StoriesEnd script) → (tables : List TableDump) × IsRun script e.opening e.closing (outcome_of e tables) }

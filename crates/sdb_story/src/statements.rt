@@ -1,4 +1,4 @@
-//! What the statements of a transaction come to.
+//! The answers and the writes of a transaction's statements.
 ghost use Rattle.std.specs.Prelude.{◌≤◌, ◌+◌, length, ◌↔◌, ◌⊎◌, ℤ, filter, false, ◌≡◌, ℕ, List, ◌++◌, ◌∷◌, [], Bool};
 ghost use Rattle.sdb_types.specs.declared.record.Record.{Record};
 ghost use Rattle.sdb_record.specs.declared.access.Access.{Access};
@@ -61,7 +61,7 @@ pub fn calls_observe_rows()
     ensures { (r : MadeReply) (m : StoreCall) → IsMade m r.call.request r.call.reply → ReadMade (r.made ++ m ∷ []) r.asked (stage_after r) }
 {}
 
-/// The model notes of the calls of a read what the read is done with, and nothing else; and that is what the transaction's notes are more by.
+/// The model's read item of the calls of a read is what the read returned, and nothing else; and that is what the read set grows by.
 pub fn read_is_recorded()
     ensures calls { (ms : List StoreCall) (a : Access) (images : List Record) → ReadMade ms a (Done images) → AsksRows a → read_items ms ≡ read_item_with a images ∷ [] }
     ensures adds { (s : Seen) (a : Access) (images : List Record) (n : ReadItem) → HasReadItem (with_read s a images) n ↔ (HasReadItem s n ⊎ (n ≡ read_item_with a images)) }

@@ -28,7 +28,7 @@ fn select_all(alloc: Global, table: &Table) -> Result<Statement, NoMemory>
     }))
 }
 
-// Whether an export goes on after this answer.
+// Whether an export continues after this answer.
 fn is_wanted(statement: &Statement, answer: &Answer) -> bool
     ensures { result ≡ is_wanted_lem statement.now answer.now }
 {

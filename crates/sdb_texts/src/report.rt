@@ -1,4 +1,4 @@
-//! Reports: what a run has come to, line by line.
+//! Reports: the outcome of a run, line by line.
 ghost use Rattle.std.specs.Prelude.{◌≡◌, ◌++◌, OnOk, IfOk, decimal};
 ghost use Rattle.std.specs.List.{flat_map};
 ghost use Rattle.std.specs.String.{string_bytes};

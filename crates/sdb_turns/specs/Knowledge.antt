@@ -1,4 +1,4 @@
--- What holds of all clients after the events so far, as the laws of their turns and moves speak of it.
+-- The events so far with the invariant of all clients, and its preservation by turns and moves.
 use Rattle.std.specs.Prelude.{◌≡◌, ◌≢◌, ◌++◌, ℕ, List, ◌∷◌, Option, Some}
 use Rattle.std.specs.List.{AllByRecursion}
 use Rattle.sdb_types.specs.declared.txid.TxId.{TxId}
@@ -24,7 +24,7 @@ use Rattle.sdb_turns.specs.ReadAt.{AreInOrder, IsImage, IsLeft, IsOfData, ReadAt
 use Rattle.sdb_turns.specs.Vacuum.{VacuumModel, vacuum_call, vacuum_action, vacuum_model_step}
 use Rattle.sdb_turns.specs.System.{ClientAt, ClientCall, Committing, EndsOwn, IsBegin, IsBy, IsReplyTo, NoneOpen, NoneRunVacuum, Open, Reading, Resting, RunsVacuum, SystemAt, SystemOk, call_event, commit_begun, next_id, take_labelled, with_begun, with_client, with_plan}
 
--- The events so far with their parts, plans with which they keep the rules, and the clients where they are: and what holds of these.
+-- The events so far with their actions, plans with which they obey the rules, and the states of the clients: and what holds of these.
 pub record Knowledge : Type 0 where
   pub plan : ℕ → Plan
   pub past : List Labelled

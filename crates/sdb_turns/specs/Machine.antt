@@ -1,4 +1,4 @@
--- Where the machine of a read is, as the laws of clients say it.
+-- The states of a read's machine, mapped to those of the model of clients.
 use Rattle.sdb_types.specs.declared.record.Record.{Record}
 use Rattle.sdb_read.specs.declared.read.ReadStep.TheVariants as step
 use Rattle.sdb_read.specs.Read as machine

@@ -1,4 +1,4 @@
--- What a COMMIT plays in the law of the protocol, and what it knows where it is.
+-- The actions of a COMMIT in the law of the protocol, and what is known at each of its stages.
 use Rattle.std.specs.Prelude.{◌≡◌, ◌≢◌, ◌⊎◌, ◌≤◌, ◌<◌, ◌^◌, ℕ, true, false, not, if◌then◌else◌, List, ◌++◌, map, filter, length, Option, Some, None, slice_get}
 use Rattle.sdb_types.specs.declared.key.Key.{Key}
 use Rattle.sdb_types.specs.declared.record.Reply.{Reply}
@@ -56,7 +56,7 @@ abbrev pub roll_action : ℕ → Decision → Option Write → Action
 roll_action t d None = Other
 roll_action t d (Some w) = Rolls t w.key d
 
--- The part of the call at a stage, with its reply. A check plays one where it passes, and a look none.
+-- The action of the call at a stage, with its reply. A check has one where it passes, and a look none.
 abbrev pub action_of : Work → Stage → Reply → Action
 action_of p (Preparing i) r = prepare_action p.id.0 (slice_get p.writes i) r
 action_of p (Checking i) r = if as_wished p (Checking i) r then Checks p.id.0 i else Other
@@ -70,11 +70,11 @@ action_of p (Over a) r = Other
 
 ---- what holds of what it writes and has read, once and for all
 
--- what a note says of each key that is written is the version of the base
+-- what an item of the read set says of each key that is written is the version of the base
 abbrev pub ItemAgrees : Work → ℕ → Type 0
 ItemAgrees p j = (k : Key) (version base : Option ℕ) → version_read_at (plan_of p) j k ≡ Some version → written (plan_of p) k ≡ Some base → version ≡ base
 
--- A check that passes has found its note unchanged.
+-- A check that passes has found its read item unchanged.
 pub record CheckPasses (p : Work) (i : ℕ) (q : Request) (r : Reply) : Type 0 where
   pub item : ReadItem
   pub at : slice_get (plan_of p).read_set i ≡ Some item

@@ -93,7 +93,7 @@ read_step kind Asking now r = settle_reply kind r
 read_step kind (Resolving images rec meta p left) now r = after_recovery kind images rec meta left (recover_next rec meta p now r)
 read_step kind s now r = s
 
--- the part that its call plays
+-- the action of its call
 abbrev pub read_action : ReadAt → Reply → Action
 read_action (Resolving images rec meta p left) r = recover_action rec meta p r
 read_action s r = Other

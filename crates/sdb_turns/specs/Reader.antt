@@ -1,4 +1,4 @@
--- What the recovery of a record plays in the law of the protocol, and what its client knows at each call.
+-- The actions of a recovery in the law of the protocol, and what its client knows at each call.
 use Rattle.std.specs.Prelude.{◌≡◌, ◌⊎◌, ◌<◌, ◌^◌, ℕ, ℤ, true, false, List, Some}
 use Rattle.sdb_types.specs.declared.record.Record.{Record}
 use Rattle.sdb_types.specs.declared.record.Reply.{Reply}

@@ -1,4 +1,4 @@
--- Several clients: where each is, and what holds of all of them after the events so far.
+-- The model of several clients: the state of each, and the invariant of all of them after the events so far.
 use Rattle.std.specs.Prelude.{◌≡◌, ◌≢◌, ◌⊎◌, ◌≤◌, ◌<◌, ◌+◌, ◌/◌, ◌%◌, ◌^◌, ℕ, ℤ, Bool, true, false, List, Option, Some, None}
 use Rattle.sdb_types.specs.declared.txid.TxId.{TxId}
 use Rattle.sdb_types.specs.declared.record.Request.{Request}
@@ -68,7 +68,7 @@ abbrev pub is_in_vacuum : ClientAt → Bool
 is_in_vacuum (RunsVacuum v) = true
 is_in_vacuum x = false
 
--- no transaction is open of a client that goes on
+-- no transaction is open of a client that hasn't stopped
 abbrev pub Gate : ProtocolState → Type 0
 Gate h = (u : ℕ) → h.is_open u ≡ true → h.stopped (h.owner u) ≡ true
 
@@ -85,13 +85,13 @@ pub record IsNumbered (h : ProtocolState) (begun : ℕ → ℕ) (t : ℕ) : Type
   pub most : t % 2 ^ 64 ≤ begun (t / 2 ^ 64)
   pub owner : h.owner t ≡ t / 2 ^ 64
 
--- What holds of all clients after the events so far. With these plans the events keep the rules of the protocol.
+-- The invariant of all clients after the events so far. With these plans the events obey the rules of the protocol.
 pub record SystemOk (plan : ℕ → Plan) (past : List Labelled) (sys : SystemAt) : Type 0 where
   pub lawful : IsLawful plan past
   pub each : (c : ℕ) → ClientOk plan past c (sys.clients c)
   -- a transaction that is open is that of its client, unless that has stopped
   pub opened : (u : ℕ) → (protocol_state past).is_open u ≡ true → ((protocol_state past).stopped ((protocol_state past).owner u) ≡ true) ⊎ Has (sys.clients ((protocol_state past).owner u)) u
-  -- while a client runs VACUUM no transaction is open of a client that goes on
+  -- while a client runs VACUUM no transaction is open of a client that hasn't stopped
   pub gate : (c : ℕ) → is_in_vacuum (sys.clients c) ≡ true → Gate (protocol_state past)
   pub ids : (t : ℕ) → (protocol_state past).begun t ≢ 0 → IsNumbered (protocol_state past) sys.begun t
 

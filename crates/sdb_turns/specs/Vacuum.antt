@@ -69,7 +69,7 @@ abbrev pub vacuum_scanned : (Record → Kind) → Reply → VacuumModel
 vacuum_scanned kind (reply.Rows rows) = vacuum_rows kind rows
 vacuum_scanned kind r = Between
 
--- after a removal that was applied or not met it goes on
+-- after a removal that was applied or not met it continues
 abbrev pub vacuum_removed : (Record → Kind) → List Record → Reply → VacuumModel
 vacuum_removed kind left reply.Applied = vacuum_rows kind left
 vacuum_removed kind left (reply.NotMet found) = vacuum_rows kind left
@@ -87,7 +87,7 @@ abbrev pub removes_action : Record → Option TxId → Action
 removes_action b None = Other
 removes_action b (Some id) = Removes b.key id.0
 
--- the part that its call plays
+-- the action of its call
 abbrev pub vacuum_action : VacuumModel → Reply → Action
 vacuum_action (Scanning span) r = Other
 vacuum_action (Resolving rec meta p left) r = recover_action rec meta p r

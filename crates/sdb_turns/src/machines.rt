@@ -1,4 +1,4 @@
-//! The machine of a read, where the laws of clients say.
+//! The machine of a read refines the model of clients.
 ghost use Rattle.std.specs.Prelude.{◌≡◌, ℤ};
 ghost use Rattle.sdb_types.specs.declared.record.Reply.{Reply};
 ghost use Rattle.sdb_record.specs.declared.access.Access.{Access};

@@ -33,7 +33,7 @@ pub fn starves()
     ensures { (k : Knowledge) (c : ℕ) (p : Work) (s : Stage) → k.sys.clients c ≡ Committing p s → StepsTo k c (Committing p (out_of_memory s)) }
 {}
 
-/// VACUUM starts with the rows of a table while no client that goes on has an open transaction; goes on to a further table; and
+/// VACUUM starts with the rows of a table while no client that hasn't stopped has an open transaction; goes on to a further table; and
 /// ends.
 pub fn vacuums()
     ensures starts { (k : Knowledge) (c : ℕ) (span : Span) → MayScanSpan k.sys c span → StepsTo k c (RunsVacuum (Scanning span)) }

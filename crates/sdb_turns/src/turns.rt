@@ -1,4 +1,4 @@
-//! Turns: each event of a client, where it is, keeps what holds of all clients.
+//! Turns: each event of a client preserves the invariant of all clients.
 ghost use Rattle.std.specs.Prelude.{ℕ, ℤ, List};
 ghost use Rattle.sdb_types.specs.declared.record.Record.{Record};
 ghost use Rattle.sdb_model.specs.declared.event.Event.{Event};
@@ -11,7 +11,7 @@ ghost use Rattle.sdb_turns.specs.ReadAt.{AreKinds};
 ghost use Rattle.sdb_turns.specs.System.{IsBy, IsCommit, IsQuiet, Resting, Stopped, begin_labelled, commit_left, commit_labelled};
 ghost use Rattle.sdb_read.specs.Read.{Kind};
 
-/// BEGIN is answered Done to a client without an open transaction, while no client that goes on runs VACUUM: a transaction is
+/// BEGIN is answered Done to a client without an open transaction, while no client that hasn't stopped runs VACUUM: a transaction is
 /// open, under an id that was never used, and has read and written nothing.
 pub fn begin_turn()
     ensures { (k : Knowledge) (c : ℕ) (text : List ℕ) → MayBegin k.sys c text → TurnsTo k (begin_labelled k.sys c text) (with_opened k.sys c) }

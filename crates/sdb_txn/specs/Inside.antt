@@ -1,4 +1,4 @@
--- What a transaction is inside.
+-- The representation invariant of a transaction.
 use Rattle.std.specs.Prelude.{◌≡◌, List}
 use Rattle.sdb_types.specs.declared.record.Record.{Record}
 use Rattle.sdb_record.specs.declared.access.Access.{Access}

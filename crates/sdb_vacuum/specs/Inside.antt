@@ -1,4 +1,4 @@
--- What a VACUUM under way is inside.
+-- The representation of a VACUUM under way, and its invariant.
 use Rattle.std.specs.Prelude.{◌≡◌, List, Option, Some, None}
 use Rattle.sdb_types.specs.declared.record.Record.{Record}
 use Rattle.sdb_types.specs.declared.record.Request.{Request}

@@ -1,4 +1,4 @@
--- What the checks of a COMMIT are inside, and what they answer.
+-- The representation of the checks of a COMMIT, and what they answer.
 use Rattle.std.specs.Prelude.{◌≡◌, true, ℕ, ◌+◌, List}
 use Rattle.std.specs.List.{list_all}
 use Rattle.sdb_phases.specs.declared.check.Check.{Check}

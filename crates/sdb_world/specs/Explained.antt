@@ -1,4 +1,4 @@
--- Which records are there at every moment of what a world does, which events put them there, and that reads are current.
+-- Which records are in the stores at every moment of a run, which events put them there, and that reads are current.
 use Rattle.std.specs.Prelude.{List, [], ◌∷◌, ◌++◌}
 use Rattle.std.specs.FinMap.{empty}
 use Rattle.sdb_model.specs.declared.event.Event.{Event}
@@ -27,14 +27,14 @@ IsExplained script events opening = (moments : List (List StoreContents)) (closi
 abbrev pub HasNoDirtyReads : Script → List Event → List StoreContents → Type 0
 HasNoDirtyReads script events opening = (moments : List (List StoreContents)) (closing : List StoreContents) → IsTrace script.places events opening moments closing → NoDirtyReads script.catalog script.places events opening moments
 
--- Stores, as they are now, end a trace that goes on from these moments and agrees with a world's events, and by these what was
+-- Stores, as they are now, end a trace that extends these moments and agrees with a world's events, and by these what was
 -- there at each moment is explained, and what was read is current.
 pub record IsTraceExplainedAfter (places : List Place) (v : WorldAt) (opening : List StoreContents) (moments : List (List StoreContents)) (now : List StoreContents) : Type 0 where
   pub traced : IsTrace places v.events opening (moments ++ now ∷ []) now
   pub explained : Explained v.script.catalog places v.events opening (moments ++ now ∷ [])
 
 -- A world came to another by one event. On stores that are fit for it, where its events so far are an execution that leads to where its
--- clients are, each trace of them goes on explained that began with stores that held nothing of the script's tables and ended as the stores
+-- clients are, each trace of them stays explained that began with stores that held nothing of the script's tables and ended as the stores
 -- were before the event.
 abbrev pub IsExplainedAfter : Attached → Attached → WorldAt → WorldAt → Type 0
 IsExplainedAfter old new w v =

@@ -1,4 +1,4 @@
-//! What a run has come to.
+//! The outcome of a run.
 ghost use Rattle.std.specs.Prelude.{◌≡◌, ◌<◌, length, IfOk, IfErr, OnOk};
 ghost use Rattle.sdb_board.specs.Board.{AreUsable, GoOn, HoldTheSame, KnownAreUnchanged, known_before};
 ghost use Rattle.sdb_dump.specs.Held.{IsOddIn};

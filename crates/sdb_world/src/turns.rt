@@ -67,7 +67,7 @@ impl World {
         Ok(())
     }
 
-    /// Gives each client that has work and goes on one step in turn, by number, round after round, until none has work. After out of
+    /// Gives each client that has work and hasn't stopped one step in turn, by number, round after round, until none has work. After out of
     /// memory, as which more than 2^64 - 1 steps count, the world isn't used again.
     pub fn rest<R: Registry>(&mut self, stores: &mut R) -> Result<(), NoMemory>
         requires some { 0 < length (R.state stores.old).views }

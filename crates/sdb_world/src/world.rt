@@ -1,4 +1,4 @@
-//! A world: the clients of a script, and what has happened.
+//! A world, the state of a run: the clients of a script, and the events so far.
 ghost use Rattle.std.specs.Prelude.{◌≡◌, ◌<◌, ◌≤◌, [], suc, length, Some, IfOk, OnOk, IfSome, slice_get};
 ghost use Rattle.sdb_model.specs.Follows.{has_work as has_work_lem, texts_of};
 ghost use Rattle.sdb_board.specs.Board.{GoOn};
@@ -103,7 +103,7 @@ impl World {
         }
     }
 
-    // Whether a client has work: it goes on, and a call of it is pending or a statement is left.
+    // Whether a client has work: it hasn't stopped, and a call of it is pending or a statement is left.
     pub(crate) fn has_work(&self, at: usize) -> bool
         requires world { IsWorld self.now }
         requires at { at < length self.now.client_slots }
