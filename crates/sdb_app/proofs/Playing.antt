@@ -66,7 +66,7 @@ module _ (script : Script) (w v : WorldAt) (old mid : Attached) (same : w.script
   played ready = record {
     fit = goes.fit v.script.catalog (subst (λ (s : Script). AreUsable s.catalog old) (sym vs) ready.fit);
     as_placed = goes.places ∙ ready.placed_so ∙ ap (λ (s : Script). s.places) (sym vs);
-    played = has_played old mid script w v same none initial came ready;
+    ran = has_played old mid script w v same none initial came ready;
   }
 
   -- its outcome is that of a run

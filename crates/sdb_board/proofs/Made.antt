@@ -12,11 +12,11 @@ use Rattle.sdb_types.specs.declared.record.Reply.{Reply}
 use Rattle.sdb_types.specs.declared.record.Reply.TheVariants as reply
 use Rattle.sdb_types.specs.Contents.{Contents, after}
 use Rattle.sdb_store.specs.Store.{Performs}
-use Rattle.sdb_stores.specs.Views.{Attached, StoreView as Counted, IsCallAt, names_of, home_in, table_of}
+use Rattle.sdb_stores.specs.Views.{Attached, StoreView as Counted, AreUnchanged, IsCallAt, names_of, home_in, table_of}
 use Rattle.sdb_model.specs.declared.event.How.TheVariants.{Seen, Lost, Discarded}
 use Rattle.sdb_model.specs.Rows.{Name}
 use Rattle.sdb_model.specs.Events.{IsPerformed, contents_under, with_contents, store_of, table_asked}
-use Rattle.sdb_board.specs.Board.{AreUsableFor, HoldTheSame, IsCalled, IsMade, KnownAreUnchanged, how_lost, how_seen, reply_lost, contents_of_views}
+use Rattle.sdb_board.specs.Board.{AreUsableFor, HoldTheSame, IsCalled, IsDelivered, IsMade, IsOneCall, KnownAreUnchanged, how_lost, how_seen, reply_lost, contents_of_views}
 use Rattle.sdb_board.proofs.Shelves.{held_at, set_there, set_still, named_home}
 use Rattle.sdb_types.proofs.Basics.{some_is}
 use Rattle.sdb_model.specs.Calls.{is_read}
@@ -148,3 +148,25 @@ lost q (reply.Found found) old new c = loses q (reply.Found found) old new c (λ
 lost q (reply.Rows rows) old new c = loses q (reply.Rows rows) old new c (λ e. cc)
 lost q reply.Applied old new c = loses q reply.Applied old new c (λ e. cc)
 lost q (reply.NotMet found) old new c = loses q (reply.NotMet found) old new c (λ e. cc)
+
+-- a call whose reply is handed on is one call
+pub once_seen : (q : Request) (r : Reply) (old new : Attached) → IsOneCall q r old new → IsDelivered q (how_seen r) r old new
+once_seen q reply.Fault old new h = h
+once_seen q reply.NoMemory old new h = h
+once_seen q (reply.Found found) old new h = h
+once_seen q (reply.Rows rows) old new h = h
+once_seen q reply.Applied old new h = h
+once_seen q (reply.NotMet found) old new h = h
+
+-- and so is one whose reply is lost
+pub once_lost : (q : Request) (r : Reply) (old new : Attached) → IsOneCall q r old new → IsDelivered q (how_lost r) (reply_lost r) old new
+once_lost q reply.Fault old new h = h
+once_lost q reply.NoMemory old new h = h
+once_lost q (reply.Found found) old new h = (reply.Found found, h)
+once_lost q (reply.Rows rows) old new h = (reply.Rows rows, h)
+once_lost q reply.Applied old new h = (reply.Applied, h)
+once_lost q (reply.NotMet found) old new h = (reply.NotMet found, h)
+
+-- stores that nothing is asked stay
+pub unasked : (stores : Attached) → AreUnchanged stores stores
+unasked stores = record { places = refl; views = refl; where_known = λ i h. h }

@@ -5,9 +5,9 @@ use Rattle.sdb_types.specs.declared.record.Request.{Request}
 use Rattle.sdb_types.specs.declared.record.Reply.{Reply}
 use Rattle.sdb_types.specs.declared.record.Reply.TheVariants as reply
 use Rattle.sdb_schema.specs.declared.table.Table.{Table}
-use Rattle.sdb_stores.specs.Views.{Attached, StoreView as Counted, AreDistinct, HaveRisen, home_in, names_of, place_of, route_of, total_faults}
+use Rattle.sdb_stores.specs.Views.{Attached, StoreView as Counted, AreDistinct, AreUnchanged, HaveRisen, IsCallAt, home_in, names_of, place_of, route_of, total_faults}
 use Rattle.sdb_model.specs.declared.event.How.{How}
-use Rattle.sdb_model.specs.declared.event.How.TheVariants.{Seen, Lost, Broken}
+use Rattle.sdb_model.specs.declared.event.How.TheVariants.{Seen, Lost, Broken, Discarded}
 use Rattle.sdb_model.specs.Events.{StoreContents, IsCall, store_of, table_asked}
 use Rattle.sdb_board.specs.declared.refused.CallRefused.{CallRefused}
 use Rattle.sdb_board.specs.declared.refused.CallRefused.TheVariants as refused
@@ -94,3 +94,16 @@ IsMade q how r old new = IsCall old.places (store_of old.places (contents_of_vie
 -- A request that was made on the store of its table.
 abbrev pub IsCalled : Request → Reply → Attached → Attached → Type 0
 IsCalled q r old new = IsMade q (how_seen r) r old new
+
+---- what the stores were asked
+
+-- One call was made, on the store of the request's table, and it was answered so: each store's count of calls says it.
+abbrev pub IsOneCall : Request → Reply → Attached → Attached → Type 0
+IsOneCall q r old new = IsCallAt (home_in old (table_asked q).ns) q r old new
+
+-- A request was delivered: by one call whose reply is handed on; by one whose reply is lost, whatever it was; or not at all.
+abbrev pub IsDelivered : Request → How → Reply → Attached → Attached → Type 0
+IsDelivered q Seen r old new = IsOneCall q r old new
+IsDelivered q Broken r old new = IsOneCall q r old new
+IsDelivered q Lost r old new = (real : Reply) × IsOneCall q real old new
+IsDelivered q Discarded r old new = AreUnchanged old new

@@ -12,3 +12,4 @@ pub mod Goings
 pub mod Explained
 pub mod Broken
 pub mod Hows
+pub mod Asked

@@ -2,3 +2,4 @@ pub mod Step
 pub mod Ran
 pub mod Explained
 pub mod Broken
+pub mod Asked

@@ -32,7 +32,7 @@ pub record HasRun (w : WorldAt) (opening closing : List StoreContents) : Type 0 
 pub record HasRunOn (w : WorldAt) (opening : List StoreContents) (stores : Attached) : Type 0 where
   pub fit : AreUsable w.script.catalog stores
   pub as_placed : stores.places ≡ w.script.places
-  pub labelled : HasRun w opening (contents_of_views stores.views)
+  pub ran : HasRun w opening (contents_of_views stores.views)
 
 -- The outcome is that of a run of a world's script, where the world has run it on stores that are fit for it.
 abbrev pub IsOutcomeOf : WorldAt → Attached → Attached → Outcome → Type 0

@@ -3,7 +3,7 @@ ghost use Rattle.std.specs.Prelude.{◌≡◌, ◌<◌, length};
 ghost use Rattle.sdb_types.specs.Contents.{CanAnswer};
 ghost use Rattle.sdb_stores.specs.Views.{HaveRisen};
 ghost use Rattle.sdb_model.specs.Events.{table_asked};
-ghost use Rattle.sdb_board.specs.Board.{AreUsableFor, GoOn, IsMade, how_lost as how_lost_lem, how_seen as how_seen_lem, reply_lost as reply_lost_lem};
+ghost use Rattle.sdb_board.specs.Board.{AreUsableFor, GoOn, IsDelivered, IsMade, how_lost as how_lost_lem, how_seen as how_seen_lem, reply_lost as reply_lost_lem};
 ghost use Rattle.sdb_world.specs.Step.{IsDeliveryOf};
 
 use crate::delivery::Delivery;
@@ -43,6 +43,7 @@ fn reply_lost(reply: Reply) -> Reply
 /// Makes a call on the store of its table in some way: how it came out, and the reply that its client gets.
 pub fn perform<R: Registry>(stores: &mut R, request: &Request, way: Delivery) -> (How, Reply)
     requires some { 0 < length (R.state stores.old).views }
+    ensures once { IsDelivered request.now result.0 result.1 (R.state stores.old) (R.state stores.new) }
     ensures made { AreUsableFor (table_asked request.now) (R.state stores.old) → IsMade request.now result.0 result.1 (R.state stores.old) (R.state stores.new) }
     ensures lawful { CanAnswer request.now result.1 }
     ensures allowed { IsDeliveryOf way result.0 result.1 }

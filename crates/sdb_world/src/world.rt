@@ -4,6 +4,7 @@ ghost use Rattle.sdb_model.specs.Follows.{has_work as has_work_lem, texts_of};
 ghost use Rattle.sdb_board.specs.Board.{GoOn};
 ghost use Rattle.sdb_execution.specs.Execution.{IsGateAt, IsInitial, IsPlayable};
 ghost use Rattle.sdb_executions.specs.World.{IsWorld, state_of};
+ghost use Rattle.sdb_world.specs.Asked.{AsksOnce};
 ghost use Rattle.sdb_world.specs.Broken.{BreaksWithin};
 ghost use Rattle.sdb_world.specs.Explained.{IsExplainedAfter};
 ghost use Rattle.sdb_world.specs.Step.{CanAct, HasActed, HasCalled, HasLeft, HasStopped, HasStarted, IsBusyAt, IsIdleAt, IsNumber, IsPendingAt, act_of};
@@ -180,6 +181,7 @@ impl World {
         requires at { at < length self.old.client_slots }
         requires busy { IsBusyAt self.old at }
         ensures called { OnOk result (HasCalled (R.state stores.old) (R.state stores.new) self.old at way self.new) }
+        ensures asked { OnOk result (AsksOnce (R.state stores.old) (R.state stores.new) self.old.events self.new.events) }
         ensures broken { OnOk result (BreaksWithin self.old.events self.new.events (R.state stores.old).views (R.state stores.new).views) }
         ensures goes { GoOn (R.state stores.old) (R.state stores.new) }
     {
@@ -205,6 +207,7 @@ impl World {
         requires client { IsNumber self.old.script client }
         ensures world { OnOk result (IsWorld self.new) }
         ensures acted { OnOk result (HasActed (act_of way client) (R.state stores.old) (R.state stores.new) self.old self.new) }
+        ensures asked { OnOk result (AsksOnce (R.state stores.old) (R.state stores.new) self.old.events self.new.events) }
         ensures broken { OnOk result (BreaksWithin self.old.events self.new.events (R.state stores.old).views (R.state stores.new).views) }
         ensures goes { GoOn (R.state stores.old) (R.state stores.new) }
     {
@@ -241,6 +244,7 @@ impl World {
         ensures world { OnOk result (IsWorld self.new) }
         ensures acted { OnOk result (HasActed act (R.state stores.old) (R.state stores.new) self.old self.new) }
         ensures explained { OnOk result (IsExplainedAfter (R.state stores.old) (R.state stores.new) self.old self.new) }
+        ensures asked { OnOk result (AsksOnce (R.state stores.old) (R.state stores.new) self.old.events self.new.events) }
         ensures broken { OnOk result (BreaksWithin self.old.events self.new.events (R.state stores.old).views (R.state stores.new).views) }
         ensures goes { GoOn (R.state stores.old) (R.state stores.new) }
     {

@@ -1,5 +1,8 @@
+use Rattle.std.proofs.Common.{subst}
+use Rattle.sdb_types.specs.declared.key.TableName.{TableName}
+use Rattle.sdb_stores.specs.Views.{IsCallAt, home_in}
 use Rattle.sdb_board.proofs.GoesOn.{goes_call}
-use Rattle.sdb_board.proofs.Made.{called, known_stay, still}
+use Rattle.sdb_board.proofs.Made.{asked, called, known_stay, still}
 use Rattle.sdb_board.proofs.calls.call.Goals as goal
 
 pub returns : goal.returns
@@ -8,6 +11,7 @@ returns g c =
     let new = g.R.Registry.state c.perform.new.self in
     let call = c.perform.ensures.called in
     record {
+      once = subst (λ (t : TableName). IsCallAt (home_in old t.ns) c.args.request.now c.perform.result old new) (asked c.args.request.now) call;
       called = λ f. called old c.args.request.now f new c.perform.result call;
       still = λ f read. still old c.args.request.now f new c.perform.result call read;
       known = λ read. known_stay _ c.args.request.now c.perform.result old new call read;

@@ -7,6 +7,7 @@ use Rattle.sdb_model.specs.Events.{table_asked}
 use Rattle.sdb_board.proofs.GoesOn.{fit_for}
 use Rattle.sdb_executions.specs.World.{WorldAt}
 use Rattle.sdb_world.proofs.Takings.{called, named_store}
+use Rattle.sdb_world.proofs.Asked.{asks_called}
 use Rattle.sdb_world.proofs.Broken.{breaks_called}
 use Rattle.sdb_world.proofs.world.World.call.Goals as goal
 
@@ -28,3 +29,8 @@ returns-clause-broken g c =
     let made = c.perform-how.ensures in
     let came = c.in_ok-push.ensures.ok ∙ ap (λ (r : Reply). c.self.inside.events ++ event.Call (c.args.at + 1) c.in_ok-store.store c.in_ok-request.request c.perform-how.result.0 r c.advance-answer.result ∷ []) c.in_ok-told.ensures in
     breaks_called _ c.args.self.now c.self.view_is c.push.new.self (c.args.at + 1) c.in_ok-store.store c.in_ok-request.request c.perform-how.result.0 c.perform-how.result.1 c.advance-answer.result (g.R.Registry.state c.args.stores.now).views (g.R.Registry.state c.perform-how.new.stores).views came made.broken made.goes.counted
+
+pub returns-clause-asked : goal.returns-clause-asked
+returns-clause-asked g c =
+    let came = c.in_ok-push.ensures.ok ∙ ap (λ (r : Reply). c.self.inside.events ++ event.Call (c.args.at + 1) c.in_ok-store.store c.in_ok-request.request c.perform-how.result.0 r c.advance-answer.result ∷ []) c.in_ok-told.ensures in
+    asks_called _ c.args.self.now c.self.view_is c.push.new.self (c.args.at + 1) c.in_ok-store.store c.in_ok-request.request c.perform-how.result.0 c.perform-how.result.1 c.advance-answer.result (g.R.Registry.state c.args.stores.now) (g.R.Registry.state c.perform-how.new.stores) came c.perform-how.ensures.once

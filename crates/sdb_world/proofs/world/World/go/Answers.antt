@@ -5,6 +5,8 @@ use Rattle.sdb_executions.specs.World.{WorldAt}
 use Rattle.sdb_world.proofs.Goings.{at_write, goes_call, goes_idle, goes_take, left_of, place_low}
 use Rattle.sdb_world.proofs.Takings.{on_ok}
 use Rattle.sdb_model.specs.declared.event.Event.TheVariants as event
+use Rattle.sdb_board.proofs.Made.{unasked}
+use Rattle.sdb_world.proofs.Asked.{asks_pushed, asks_take}
 use Rattle.sdb_world.proofs.Broken.{breaks_pushed, breaks_take}
 use Rattle.sdb_world.proofs.world.World.go.Goals as goal
 
@@ -67,3 +69,11 @@ returns-then-not-has_work-clause-broken g c = breaks_pushed _ c.args.self.now c.
 
 pub returns-then-is_idle-clause-broken : goal.returns-then-is_idle-clause-broken
 returns-then-is_idle-clause-broken g c = on_ok c.take.result c.take.ensures (λ t. breaks_take c.args.self.now c.take.new.self (c.args.client - 1) (g.R.Registry.state c.args.stores.now).views t)
+
+pub returns-then-not-has_work-clause-asked : goal.returns-then-not-has_work-clause-asked
+returns-then-not-has_work-clause-asked g c =
+    let held = g.R.Registry.state c.args.stores.now in
+    asks_pushed _ c.args.self.now c.self.view_is c.push.new.self (event.Idle c.args.client) held held c.in_ok-push.ensures.ok (unasked held)
+
+pub returns-then-is_idle-clause-asked : goal.returns-then-is_idle-clause-asked
+returns-then-is_idle-clause-asked g c = on_ok c.take.result c.take.ensures (λ t. asks_take c.args.self.now c.take.new.self (c.args.client - 1) (g.R.Registry.state c.args.stores.now) t)

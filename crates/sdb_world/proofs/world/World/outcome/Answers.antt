@@ -26,7 +26,7 @@ returns-in_err-recorded-clause-err g c =
     let stopped = c.in_err-recorded.ensures in
     passed _ c.from_residual.result c.in_err-recorded.field-0.0 c.from_residual.ensures.1
     (refused_as _ _ _ _ c.in_err-recorded.field-0.0
-    (λ key odd opening on. outcome_sound (λ (ts : List Table). AreUsable ts old) c.args.self c.requires.world opening (contents_of_views old.views) (contents_of_views old.views) old.places catalog (ap (λ (s : Script). s.catalog) c.into_parts-script.ensures.script) key (λ fit. odd_before old new stopped.goes stopped.known catalog key fit (stopped.still fit) odd) on.fit on.as_placed on.labelled)
+    (λ key odd opening on. outcome_sound (λ (ts : List Table). AreUsable ts old) c.args.self c.requires.world opening (contents_of_views old.views) (contents_of_views old.views) old.places catalog (ap (λ (s : Script). s.catalog) c.into_parts-script.ensures.script) key (λ fit. odd_before old new stopped.goes stopped.known catalog key fit (stopped.still fit) odd) on.fit on.as_placed on.ran)
     (λ h. h) c.in_err-recorded.ensures.err)
 
 pub returns-clause-run : goal.returns-clause-run
@@ -40,11 +40,11 @@ returns-clause-run g c =
     λ opening on.
     outcome_run (λ (ts : List Table). AreUsable ts old) c.args.self c.requires.world opening (contents_of_views old.views) (contents_of_views (g.R.Registry.state c.closing_dump.new.stores).views) old.places catalog (ap (λ (s : Script). s.catalog) c.into_parts-script.ensures.script)
     c.into_parts-script.result.1 c.in_ok-recorded.field-0.recorded order c.in_ok-recorded.field-0.tables c.into_parts-script.ensures.events
-    (record { printed = read.tables; each = λ fit. read.recorded (coordinator_fit catalog old fit); small = read.small; still = read.still }) risen on.fit on.as_placed on.labelled
+    (record { printed = read.tables; each = λ fit. read.recorded (coordinator_fit catalog old fit); small = read.small; still = read.still }) risen on.fit on.as_placed on.ran
 
 pub returns-clause-explained : goal.returns-clause-explained
 returns-clause-explained g c =
-    λ opening labelled. played_explained c.args.self c.requires.world c.into_parts-script.result.1 c.into_parts-script.ensures.events opening (contents_of_views (g.R.Registry.state c.args.stores.now).views) labelled
+    λ opening ran. played_explained c.args.self c.requires.world c.into_parts-script.result.1 c.into_parts-script.ensures.events opening (contents_of_views (g.R.Registry.state c.args.stores.now).views) ran
 
 pub returns-clause-read : goal.returns-clause-read
 returns-clause-read g c =

@@ -8,6 +8,8 @@ use Rattle.sdb_world.proofs.Acts.{Came, acts_stop}
 use Rattle.sdb_world.proofs.Explained.{came_explained, on_explained}
 use Rattle.sdb_world.proofs.Goings.{goes_clock}
 use Rattle.sdb_world.proofs.Takings.{on_ok}
+use Rattle.sdb_board.proofs.Made.{unasked}
+use Rattle.sdb_world.proofs.Asked.{asks_pushed, asks_stop}
 use Rattle.sdb_world.proofs.Broken.{breaks_pushed, breaks_stop}
 use Rattle.sdb_world.proofs.world.World.step.Goals as goal
 
@@ -72,3 +74,13 @@ returns-in_ok-push-in-Clock-clause-broken g c =
     let same : to_z w64 (of_z w64 c.in-Clock.moment) ≡ c.in-Clock.moment = search rules in
     let came = c.in_ok-push-in-Clock.ensures.ok ∙ ap (λ (m : ℤ). c.self.inside.events ++ event.Clock m ∷ []) same in
     breaks_pushed _ c.args.self.now c.self.view_is c.push.new.self (event.Clock c.in-Clock.moment) (g.R.Registry.state c.args.stores.now).views came refl
+
+pub returns-in-Stop-clause-asked : goal.returns-in-Stop-clause-asked
+returns-in-Stop-clause-asked g c = on_ok c.stop.result c.stop.ensures (λ h. asks_stop c.args.self.now c.stop.new.self c.in-Stop.client (g.R.Registry.state c.args.stores.now) h)
+
+pub returns-in_ok-push-in-Clock-clause-asked : goal.returns-in_ok-push-in-Clock-clause-asked
+returns-in_ok-push-in-Clock-clause-asked g c =
+    let same : to_z w64 (of_z w64 c.in-Clock.moment) ≡ c.in-Clock.moment = search rules in
+    let came = c.in_ok-push-in-Clock.ensures.ok ∙ ap (λ (m : ℤ). c.self.inside.events ++ event.Clock m ∷ []) same in
+    let held = g.R.Registry.state c.args.stores.now in
+    asks_pushed _ c.args.self.now c.self.view_is c.push.new.self (event.Clock c.in-Clock.moment) held held came (unasked held)

@@ -1,0 +1,29 @@
+-- What the stores are asked, event by event.
+use Rattle.std.proofs.Common.{◌≡◌, ℕ, suc, List, [], ◌∷◌, ◌++◌, Option, ap, ◌∙◌}
+use Rattle.sdb_types.specs.declared.record.Reply.{Reply}
+use Rattle.sdb_types.specs.declared.record.Request.{Request}
+use Rattle.sdb_stores.specs.Views.{Attached}
+use Rattle.sdb_model.specs.declared.answer.Answer.{Answer}
+use Rattle.sdb_model.specs.declared.event.Event.{Event}
+use Rattle.sdb_model.specs.declared.event.Event.TheVariants as event
+use Rattle.sdb_model.specs.declared.event.How.{How}
+use Rattle.sdb_model.specs.Rows.{Name}
+use Rattle.sdb_board.specs.Board.{IsDelivered}
+use Rattle.sdb_board.proofs.Made.{unasked}
+use Rattle.sdb_executions.specs.World.{WorldAt}
+use Rattle.sdb_world.specs.Asked.{AskedBy, AsksOnce}
+use Rattle.sdb_world.specs.Step.{HasStopped, HasStarted}
+
+-- an event was pushed
+pub asks_pushed : (u w : WorldAt) → u ≡ w → (more : List Event) (e : Event) (a b : Attached) → more ≡ u.events ++ e ∷ [] → AskedBy e a b → AsksOnce a b w.events more
+asks_pushed u w same more e a b came asked = record { event = e; came = came ∙ ap (λ (x : WorldAt). x.events ++ e ∷ []) same; asked = asked }
+
+-- a call was made, or discarded
+pub asks_called : (u w : WorldAt) → u ≡ w → (more : List Event) (c : ℕ) (store : Name) (q : Request) (h : How) (r : Reply) (answer : Option Answer) (a b : Attached) → more ≡ u.events ++ event.Call c store q h r answer ∷ [] → IsDelivered q h r a b → AsksOnce a b w.events more
+asks_called u w same more c store q h r answer a b came made = asks_pushed u w same more (event.Call c store q h r answer) a b came made
+
+pub asks_take : (w v : WorldAt) (i : ℕ) (a : Attached) → HasStarted w i v → AsksOnce a a w.events v.events
+asks_take w v i a t = record { event = event.Take (suc i) t.text t.answer; came = ap (λ (x : WorldAt). x.events) t.left; asked = unasked a }
+
+pub asks_stop : (w v : WorldAt) (c : ℕ) (a : Attached) → HasStopped w c v → AsksOnce a a w.events v.events
+asks_stop w v c a t = record { event = event.Stop c; came = ap (λ (x : WorldAt). x.events) t.left; asked = unasked a }
