@@ -10,7 +10,7 @@ use Rattle.sdb_types.proofs.Basics.{map_last}
 use Rattle.sdb_schema.specs.declared.table.Table.{Table}
 use Rattle.sdb_model.specs.declared.answer.Answer.{Answer}
 use Rattle.sdb_stores.specs.Views.{Attached, HaveRisen}
-use Rattle.sdb_board.specs.Board.{AreUsable, GoOn, contents_of_views}
+use Rattle.sdb_contents.specs.Board.{AreUsable, GoOn, contents_of_views}
 use Rattle.sdb_client.specs.Client.{nothing_done}
 use Rattle.sdb_session.specs.Database.{Database}
 use Rattle.sdb_session.specs.Between.{Between}

@@ -12,13 +12,13 @@ use Rattle.sdb_types.proofs.Basics.{none_some, some_is}
 use Rattle.sdb_stores.specs.Views.{Attached, HaveCause, HaveRisen}
 use Rattle.sdb_types.specs.declared.place.Place.{Place}
 use Rattle.sdb_model.specs.Events.{table_asked}
-use Rattle.sdb_board.specs.Board.{GoOn, how_seen, contents_of_views}
-use Rattle.sdb_board.specs.declared.refused.CallRefused.TheVariants as refused
-use Rattle.sdb_board.proofs.GoesOn.{fit_for, refused_after}
+use Rattle.sdb_contents.specs.Board.{GoOn, how_seen, contents_of_views}
+use Rattle.sdb_contents.specs.declared.refused.CallRefused.TheVariants as refused
+use Rattle.sdb_contents.proofs.GoesOn.{fit_for, refused_after}
 use Rattle.sdb_client.specs.Client.{ClientAt, IsIdle, ParsedPost, Parses, Taking, TextPost, out_of_memory}
-use Rattle.sdb_steps.specs.About.{IsOfTables}
-use Rattle.sdb_steps.proofs.ClientIn.{asks_in, replies_in, takes_in}
-use Rattle.sdb_steps.proofs.Whole.{by_memory}
+use Rattle.law_clients.specs.About.{IsOfTables}
+use Rattle.law_clients.proofs.ClientIn.{asks_in, replies_in, takes_in}
+use Rattle.law_clients.proofs.Whole.{by_memory}
 use Rattle.sdb_session.specs.Database.{Called, database_of}
 use Rattle.sdb_session.specs.Between.{Answers, LeadsTo, More, StatementEnds, Waits}
 use Rattle.sdb_session.specs.Chain.{Exchanged, Answers as Was}

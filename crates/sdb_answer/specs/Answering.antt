@@ -11,9 +11,9 @@ use Rattle.sdb_model.specs.declared.answer.Refusal.{Refusal}
 use Rattle.sdb_model.specs.declared.statement.Statement.{Statement}
 use Rattle.sdb_model.specs.Events.{table_asked}
 use Rattle.sdb_stores.specs.Views.{Attached, HaveCause, HaveRisen}
-use Rattle.sdb_board.specs.Board.{AreUsable, AreUsableFor, IsCalled, contents_of_views}
+use Rattle.sdb_contents.specs.Board.{AreUsable, AreUsableFor, IsCalled, contents_of_views}
 use Rattle.sdb_client.specs.Client.{ClientAt, ReplyPost, Parses, client_pending}
-use Rattle.sdb_steps.specs.About.{IsOfTables}
+use Rattle.law_clients.specs.About.{IsOfTables}
 use Rattle.sdb_session.specs.Database.{Database, database_of}
 use Rattle.sdb_session.specs.Between.{Between, OpenTransaction, StatementEnds, Waits}
 use Rattle.sdb_session.specs.Chain.{Exchanged}

@@ -6,9 +6,9 @@ use Rattle.sdb_record.specs.Meta.{is_moment}
 use Rattle.sdb_schema.specs.declared.table.Table.{Table}
 use Rattle.sdb_model.specs.declared.answer.Answer.{Answer}
 use Rattle.sdb_stores.specs.Views.{Attached, StoreView, total_faults}
-use Rattle.sdb_board.specs.Board.{AreUsable, IsFull}
+use Rattle.sdb_contents.specs.Board.{AreUsable, IsFull}
 use Rattle.sdb_client.specs.Client.{ClientAt, IsIdle}
-use Rattle.sdb_steps.specs.About.{IsOfTables}
+use Rattle.law_clients.specs.About.{IsOfTables}
 use Rattle.sdb_session.specs.Between.{Between}
 use Rattle.sdb_session.specs.Chain.{Chain, open_after}
 use Rattle.sdb_session.specs.Session.{AreNewIds, AreAccepted, Exchange, IsSerialSession, begins, begun_ids, faults_in, no_parts, parts_of}

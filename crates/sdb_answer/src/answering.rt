@@ -1,11 +1,11 @@
 //! A statement of a client, from its text to its answer.
 ghost use Rattle.std.specs.Prelude.{◌≡◌, ◌<◌, ◌^◌, length, IfOk};
-ghost use Rattle.sdb_board.specs.Board.{GoOn};
+ghost use Rattle.sdb_contents.specs.Board.{GoOn};
 ghost use Rattle.sdb_client.specs.Client.{IsIdle};
 ghost use Rattle.sdb_answer.specs.Answering.{AreMade, HasCalled, IsAnswered, IsWorking};
 
-use sdb_board::call;
 use sdb_client::{Client, Gate};
+use sdb_contents::call;
 use sdb_model::Answer;
 use sdb_schema::Catalog;
 use sdb_stores::Registry;

@@ -1,7 +1,7 @@
 //! The statements of one client that is alone, one after the other.
 ghost use Rattle.std.specs.Prelude.{◌≡◌, ◌<◌, ◌^◌, ◌&&◌, not, ℕ, length, is_some, IfOk};
 ghost use Rattle.sdb_types.specs.Draws.{IsAppended};
-ghost use Rattle.sdb_board.specs.Board.{GoOn};
+ghost use Rattle.sdb_contents.specs.Board.{GoOn};
 ghost use Rattle.sdb_client.specs.Client.{IsIdle, nothing_done};
 ghost use Rattle.sdb_answer.specs.Drawn.{drawn_id as drawn_id_lem};
 ghost use Rattle.sdb_answer.specs.Sessions.{HasAnswered, IsNextId};

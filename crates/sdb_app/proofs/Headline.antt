@@ -22,23 +22,23 @@ use Rattle.sdb_model.specs.Follows.{Follows}
 use Rattle.sdb_model.specs.Plain.{HasLines}
 use Rattle.sdb_model.specs.Serial.{IsRun}
 use Rattle.sdb_model.specs.Transactions.{Executed}
-use Rattle.sdb_spread.specs.Spread.{HoldAs}
-use Rattle.sdb_board.specs.Board.{AreUsable, GoOn, HoldTheSame, known_before, contents_of_views}
-use Rattle.sdb_board.specs.Opening.{HoldNothing, IsFirstKey, first_key, opening_in, opening_records, run_tables}
-use Rattle.sdb_board.specs.declared.refused.CallRefused.TheVariants as refused
-use Rattle.sdb_board.proofs.Empty.{no_record}
-use Rattle.sdb_board.proofs.GoesOn.{refused_after}
-use Rattle.sdb_causes.specs.Invariant.{AnswersHaveCauses}
-use Rattle.sdb_causes.proofs.Faults.{answered_seen}
-use Rattle.sdb_causes.proofs.Rolled.{all_resolved}
-use Rattle.sdb_causes.specs.Views.{WasRead}
-use Rattle.sdb_causes.proofs.ShowsWhole.{answers_own}
-use Rattle.sdb_endings.specs.DirtyReads.{IsReader, ReadBy}
-use Rattle.sdb_endings.proofs.Finding.{answers_as, answers_committed}
+use Rattle.law_protocol.specs.Spread.{HoldAs}
+use Rattle.sdb_contents.specs.Board.{AreUsable, GoOn, HoldTheSame, known_before, contents_of_views}
+use Rattle.sdb_contents.specs.Opening.{HoldNothing, IsFirstKey, first_key, opening_in, opening_records, run_tables}
+use Rattle.sdb_contents.specs.declared.refused.CallRefused.TheVariants as refused
+use Rattle.sdb_contents.proofs.Empty.{no_record}
+use Rattle.sdb_contents.proofs.GoesOn.{refused_after}
+use Rattle.law_answers.specs.Invariant.{AnswersHaveCauses}
+use Rattle.law_answers.proofs.Faults.{answered_seen}
+use Rattle.law_answers.proofs.Rolled.{all_resolved}
+use Rattle.law_answers.specs.Views.{WasRead}
+use Rattle.law_answers.proofs.ShowsWhole.{answers_own}
+use Rattle.law_runs.specs.DirtyReads.{IsReader, ReadBy}
+use Rattle.law_runs.proofs.Finding.{answers_as, answers_committed}
 use Rattle.sdb_world.specs.Broken.{BreaksWithin}
 use Rattle.sdb_execution.specs.Execution.{IsExecution, IsPlayable}
-use Rattle.sdb_executions.proofs.Steps.{execution_caused}
-use Rattle.sdb_executions.proofs.Beginnings.{no_coordinator}
+use Rattle.law_runs.proofs.Steps.{execution_caused}
+use Rattle.law_runs.proofs.Beginnings.{no_coordinator}
 use Rattle.sdb_world.specs.Explained.{IsExplained, HasNoDirtyReads}
 use Rattle.sdb_world.proofs.Broken.{breaks_after}
 use Rattle.sdb_app.specs.declared.status.Status.{Status}
@@ -50,8 +50,8 @@ use Rattle.sdb_app.specs.Run.StopsReplay.{Unread, Unplayed}
 use Rattle.sdb_app.proofs.Placing.{fit_for}
 use Rattle.sdb_app.proofs.WhereKnown.{first_as, known_from, nothing_as, odd_as, read_as, shows_less, shows_placed}
 use Rattle.sdb_world.specs.Ran.{IsReadWhereKnown}
-use Rattle.sdb_plainness.specs.Facts.{outcome_fits}
-use Rattle.sdb_plainness.proofs.Plain.{run_plain}
+use Rattle.law_runs.specs.Facts.{outcome_fits}
+use Rattle.law_runs.proofs.PlainRuns.{run_plain}
 
 ---- why it stopped
 

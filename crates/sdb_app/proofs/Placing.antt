@@ -14,11 +14,11 @@ use Rattle.sdb_types.specs.declared.place.Place.{Place}
 use Rattle.sdb_stores.proofs.Distinct.{apart}
 use Rattle.sdb_model.specs.Rows.{Name}
 use Rattle.sdb_model.specs.Events.{store_of}
-use Rattle.sdb_board.specs.Board.{AreUsable, contents_of_views}
-use Rattle.sdb_board.proofs.Shelves.{named_home}
+use Rattle.sdb_contents.specs.Board.{AreUsable, contents_of_views}
+use Rattle.sdb_contents.proofs.Shelves.{named_home}
 use Rattle.sdb_app.specs.Run.{CanBePlaced}
 use Rattle.sdb_types.proofs.Basics.{by_test, none_some, some_is}
-use Rattle.sdb_board.proofs.Lists.{take_suc}
+use Rattle.sdb_contents.proofs.Lists.{take_suc}
 use Rattle.sdb_model.specs.Tables.{is_table_of_run}
 
 ---- the stores of places

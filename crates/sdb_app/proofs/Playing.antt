@@ -10,19 +10,19 @@ use Rattle.sdb_model.specs.declared.script.Script.{Script}
 use Rattle.sdb_model.specs.Events.{IsTrace, StoreContents}
 use Rattle.sdb_model.specs.Follows.{AreOfMoves, Follows}
 use Rattle.sdb_model.specs.Serial.{IsRun}
-use Rattle.sdb_spread.specs.Spread.{HoldAs}
-use Rattle.sdb_board.specs.Board.{AreUsable, GoOn, Refuses, known_before, contents_of_views}
-use Rattle.sdb_board.specs.declared.refused.CallRefused.{CallRefused}
-use Rattle.sdb_board.specs.declared.refused.CallRefused.TheVariants as call
-use Rattle.sdb_dump.specs.Refused.{Refuses as ClosingRefuses}
-use Rattle.sdb_dump.specs.declared.refused.ClosingRefused.{ClosingRefused}
-use Rattle.sdb_dump.specs.declared.refused.ClosingRefused.TheVariants as closing
+use Rattle.law_protocol.specs.Spread.{HoldAs}
+use Rattle.sdb_contents.specs.Board.{AreUsable, GoOn, Refuses, known_before, contents_of_views}
+use Rattle.sdb_contents.specs.declared.refused.CallRefused.{CallRefused}
+use Rattle.sdb_contents.specs.declared.refused.CallRefused.TheVariants as call
+use Rattle.sdb_contents.specs.Refused.{Refuses as ClosingRefuses}
+use Rattle.sdb_contents.specs.declared.dump_refused.ClosingRefused.{ClosingRefused}
+use Rattle.sdb_contents.specs.declared.dump_refused.ClosingRefused.TheVariants as closing
 use Rattle.sdb_world.specs.Broken.{BreaksWithin}
 use Rattle.sdb_world.specs.Explained.{IsExplained}
-use Rattle.sdb_executions.specs.World.{WorldAt, state_of}
+use Rattle.law_runs.specs.World.{WorldAt, state_of}
 use Rattle.sdb_execution.specs.Execution.{IsExecution, IsInitial}
 use Rattle.sdb_world.specs.Ran.{HasNotRun, HasRun, HasRunOn, IsOutcomeOf, IsRunExplained, IsReadWhereKnown}
-use Rattle.sdb_dump.specs.Held.{IsOddIn}
+use Rattle.sdb_contents.specs.Held.{IsOddIn}
 use Rattle.sdb_app.proofs.WhereKnown.{ShowsAs, odd_as, read_as, shows_less}
 use Rattle.sdb_world.specs.Step.{HasFollowed}
 use Rattle.sdb_world.proofs.Broken.{breaks_more, breaks_still}

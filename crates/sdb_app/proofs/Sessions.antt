@@ -5,7 +5,7 @@ use Rattle.sdb_types.specs.Bytes.{HasRisen}
 use Rattle.sdb_schema.specs.declared.table.Table.{Table}
 use Rattle.sdb_types.specs.declared.place.Place.{Place}
 use Rattle.sdb_stores.specs.Views.{Attached, StoreView as Counted, AreDistinct, home, names_of, place_of, route_of}
-use Rattle.sdb_board.specs.Board.{AreUsable, contents_of_views}
+use Rattle.sdb_contents.specs.Board.{AreUsable, contents_of_views}
 use Rattle.sdb_catalog.specs.Calls.{first_contents}
 use Rattle.sdb_catalog.specs.Known.{IsBadIn, IsCatalogIn}
 use Rattle.sdb_catalog.specs.declared.refused.CatalogRefused.{CatalogRefused}

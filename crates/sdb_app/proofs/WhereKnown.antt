@@ -12,14 +12,14 @@ use Rattle.sdb_model.specs.declared.script.Script.{Script}
 use Rattle.sdb_model.specs.Events.{StoreContents}
 use Rattle.sdb_model.specs.Images.{decision_at}
 use Rattle.sdb_model.specs.Transactions.{Recorded}
-use Rattle.sdb_board.specs.Board.{AreUsableFor, KnownAreUnchanged, contents_of_views}
-use Rattle.sdb_board.specs.Opening.{HoldNothing, IsFirstKey, first_key, records_in, records_of}
-use Rattle.sdb_board.proofs.GoesOn.{fit_for_as}
-use Rattle.sdb_dump.specs.Decided.{is_decided}
-use Rattle.sdb_dump.specs.Dumped.{dump_by}
-use Rattle.sdb_dump.specs.Held.{AreDecisions, IsOddIn}
-use Rattle.sdb_dump.specs.Odd.{IsOddAt, first_ill_formed}
-use Rattle.sdb_dump.specs.Refused.{first_unlike}
+use Rattle.sdb_contents.specs.Board.{AreUsableFor, KnownAreUnchanged, contents_of_views}
+use Rattle.sdb_contents.specs.Opening.{HoldNothing, IsFirstKey, first_key, records_in, records_of}
+use Rattle.sdb_contents.proofs.GoesOn.{fit_for_as}
+use Rattle.sdb_contents.specs.Decided.{is_decided}
+use Rattle.sdb_contents.specs.Dumped.{dump_by}
+use Rattle.sdb_contents.specs.Held.{AreDecisions, IsOddIn}
+use Rattle.sdb_contents.specs.Odd.{IsOddAt, first_ill_formed}
+use Rattle.sdb_contents.specs.Refused.{first_unlike}
 use Rattle.sdb_world.specs.Ran.{IsReadWhereKnown}
 use Rattle.sdb_app.specs.Run.{placed_as}
 

@@ -21,14 +21,14 @@ use Rattle.sdb_script.specs.declared.fault.ScriptRefused.{ScriptRefused}
 use Rattle.sdb_script.specs.declared.fault.ScriptRefused.TheVariants.{BadLine, Limit as Limited, NoMemory as OutOfMemory}
 use Rattle.sdb_script.specs.Lines.{most_bytes}
 use Rattle.sdb_script.specs.Whole.{IsScript, IsRefused as IsRefusedText}
-use Rattle.sdb_spread.specs.Spread.{HoldAs}
-use Rattle.sdb_board.specs.Board.{AreUsable, HoldTheSame, KnownAreUnchanged, known_before, contents_of_views}
-use Rattle.sdb_board.specs.Opening.{HoldNothing, IsFirstKey, first_key, opening_in, opening_records, run_tables}
-use Rattle.sdb_board.specs.declared.refused.CallRefused.{CallRefused}
-use Rattle.sdb_board.specs.declared.refused.CallRefused.TheVariants as call
-use Rattle.sdb_dump.specs.Held.{IsOddIn}
-use Rattle.sdb_dump.specs.declared.refused.ClosingRefused.{ClosingRefused}
-use Rattle.sdb_dump.specs.declared.refused.ClosingRefused.TheVariants as closing
+use Rattle.law_protocol.specs.Spread.{HoldAs}
+use Rattle.sdb_contents.specs.Board.{AreUsable, HoldTheSame, KnownAreUnchanged, known_before, contents_of_views}
+use Rattle.sdb_contents.specs.Opening.{HoldNothing, IsFirstKey, first_key, opening_in, opening_records, run_tables}
+use Rattle.sdb_contents.specs.declared.refused.CallRefused.{CallRefused}
+use Rattle.sdb_contents.specs.declared.refused.CallRefused.TheVariants as call
+use Rattle.sdb_contents.specs.Held.{IsOddIn}
+use Rattle.sdb_contents.specs.declared.dump_refused.ClosingRefused.{ClosingRefused}
+use Rattle.sdb_contents.specs.declared.dump_refused.ClosingRefused.TheVariants as closing
 use Rattle.sdb_world.specs.Broken.{BreaksWithin}
 use Rattle.sdb_execution.specs.Execution.{IsExecution, IsPlayable}
 use Rattle.sdb_world.specs.Explained.{IsExplained, HasNoDirtyReads}

@@ -3,9 +3,9 @@ ghost use Rattle.std.specs.Prelude.{◌≡◌, IfOk, Some};
 ghost use Rattle.sdb_model.specs.Rows.{order_names};
 ghost use Rattle.sdb_exec.specs.Reads.{is_equals, fixed, all_fixed, access_for, access_of};
 
+use crate::{inserted_key, literal_at};
 use sdb_model::{Comparison, Statement, Test};
 use sdb_record::Access;
-use sdb_rows::{inserted_key, literal_at};
 use sdb_schema::{Order, Table};
 use sdb_types::{Duplicate, Key, Name, Names, NoMemory, Span, Value, Values};
 use std::alloc::Global;

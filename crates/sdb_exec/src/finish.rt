@@ -8,9 +8,9 @@ ghost use Rattle.sdb_exec.specs.Plans.{is_unfit as is_unfit_lem, first_unfit as 
 
 use crate::plan::PlanStep;
 use crate::select::selected;
+use crate::{deletes, inserted_key, named_columns, passing, updates};
 use sdb_model::{Answer, Delete, Insert, Refusal, Select, Statement, Update};
 use sdb_record::{Change, Changes, Image, Images, Keyed};
-use sdb_rows::{deletes, inserted_key, named_columns, passing, updates};
 use sdb_schema::Table;
 use sdb_types::{Columns, Duplicate, Key, NoMemory, Seq};
 use std::alloc::Global;

@@ -8,8 +8,8 @@ ghost use Rattle.sdb_model.specs.Rows.{same_name};
 ghost use Rattle.sdb_model.specs.Refused.{suits as suits_lem, is_within as is_within_lem, is_unknown as is_unknown_lem, names_key as names_key_lem, is_of_other_kind as is_of_other_kind_lem, is_null_in_key as is_null_in_key_lem, is_out_of_range as is_out_of_range_lem, is_too_long as is_too_long_lem, is_named_by, or_next, repeat_place, refusal, first_place, written as written_lem, mentions as mentions_lem, key_refusal, literal_refusal, missing_refusal, refusal_on};
 
 use crate::mention::{mentions_of, written_in};
+use crate::{is_key_name, kind_of};
 use sdb_model::{Insert, Mention, Refusal, Statement};
-use sdb_rows::{is_key_name, kind_of};
 use sdb_schema::{Column, Kind, Table};
 use sdb_types::{Duplicate, Name, Names, NoMemory, Seq, Value};
 use std::alloc::Global;

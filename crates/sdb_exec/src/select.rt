@@ -2,9 +2,9 @@
 ghost use Rattle.std.specs.Prelude.{◌≡◌, IfOk, map};
 ghost use Rattle.sdb_model.specs.Exec.{sorted as sorted_lem, cut as cut_lem, projected as projected_lem};
 
+use crate::{cut, projected_all, projected_names};
 use sdb_model::{Rows, Select};
 use sdb_record::{Image, Images};
-use sdb_rows::{cut, projected_all, projected_names};
 use sdb_schema::Table;
 use sdb_types::{NoMemory, Seq};
 use std::alloc::Global;

@@ -11,8 +11,8 @@ use Rattle.sdb_execution.specs.Execution.{IsExecution}
 use Rattle.sdb_report.specs.Reports.{IsFirstBad}
 use Rattle.sdb_script.specs.Whole.{IsScript, IsRefused}
 use Rattle.sdb_script.specs.declared.fault.ScriptRefused.{ScriptRefused}
-use Rattle.sdb_runs.specs.declared.stores.Stores.{Stores}
-use Rattle.sdb_runs.specs.Values.{all_moments, all_contents}
+use Rattle.check_answers.specs.declared.stores.Stores.{Stores}
+use Rattle.check_answers.specs.Values.{all_moments, all_contents}
 use Rattle.sdb_judge.specs.Input.{IsSplit}
 use Rattle.sdb_judge.specs.declared.promises.Promise.{Promise}
 use Rattle.sdb_judge.specs.declared.promises.Promise.TheVariants as promise

@@ -1,9 +1,9 @@
 //! What a store contains after a call.
 
+use check_protocol::is_same_key;
+use check_tables::PlainTables;
 use sdb_model::How;
-use sdb_plain::PlainTables;
 use sdb_record::{Image, Images};
-use sdb_said::is_same_key;
 use sdb_store::holds;
 use sdb_types::{Condition, Duplicate, Key, NoMemory, Record, Records, Reply, Request, Seq, Span};
 use std::alloc::Global;

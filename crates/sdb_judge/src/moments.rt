@@ -1,9 +1,9 @@
 //! What the stores contain after each event.
 
 use crate::contents::{copied, performed};
+use check_answers::{Shelves, StoreContents, Stores};
+use check_tables::PlainTables;
 use sdb_model::{Event, How, Place, Places};
-use sdb_plain::PlainTables;
-use sdb_runs::{Shelves, StoreContents, Stores};
 use sdb_types::{Duplicate, Name, NoMemory, Reply, Request, Seq};
 use std::alloc::Global;
 

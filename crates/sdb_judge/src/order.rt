@@ -1,11 +1,11 @@
 //! The recorded transactions, and their order.
 use crate::contents::records_in;
 use crate::moments::{closing_of, rows_of, store_of};
+use check_answers::Stores;
+use check_protocol::decided;
+use check_tables::{PlainTables, order_of};
 use sdb_model::{Event, Points};
-use sdb_plain::{PlainTables, order_of};
 use sdb_record::{Decision, coordinator_table, id_of_row};
-use sdb_runs::Stores;
-use sdb_said::decided;
 use sdb_types::{NoMemory, Record, Seq, Span, TxId};
 use std::alloc::Global;
 

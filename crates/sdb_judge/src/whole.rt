@@ -11,11 +11,12 @@ use crate::order::is_in_order;
 use crate::promises::{Promise, Verdict};
 use crate::refused::JudgeRefused;
 use crate::serial::is_serial;
-use sdb_caused::answers_have_causes;
-use sdb_executed::is_execution;
+use check_answers::{
+    Stores, answers_have_causes, calls_are_counted, have_no_dirty_reads, is_execution,
+    records_are_resolved,
+};
 use sdb_model::{Outcome, Script};
 use sdb_report::{ReportRefused, read_report};
-use sdb_runs::{Stores, calls_are_counted, have_no_dirty_reads, records_are_resolved};
 use sdb_script::{ScriptRefused, read_script};
 use sdb_types::{Name, Names, NoMemory};
 use std::alloc::Global;

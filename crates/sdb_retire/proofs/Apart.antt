@@ -20,7 +20,7 @@ use Rattle.sdb_types.proofs.Keys.{same_key_tells}
 use Rattle.sdb_catalog.specs.declared.entry.Entry.{Entry}
 use Rattle.sdb_catalog.specs.Rows.{metadata_key_of, metadata_table, row_of}
 use Rattle.sdb_catalog.proofs.Catalogs.{key_of_row}
-use Rattle.sdb_laws.proofs.Effects.{after_put}
+use Rattle.law_protocol.proofs.Effects.{after_put}
 use Rattle.sdb_retire.specs.Joined.{AreApart}
 use Rattle.sdb_retire.specs.Moving.{is_moving, moving_tables, renewal, renewals, renewed}
 use Rattle.sdb_retire.specs.Writes.{after_write, after_writes, write_at, writes_at}

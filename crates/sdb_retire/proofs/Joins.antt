@@ -19,8 +19,8 @@ use Rattle.sdb_types.proofs.Bools.{and_first, and_second}
 use Rattle.sdb_types.proofs.KeyOrder.{key_total, starts_trans, table_exact}
 use Rattle.sdb_types.proofs.Keys.{same_key_exact, same_key_self, same_key_tells}
 use Rattle.sdb_types.proofs.Replies.{rows_in-are_rows_of}
-use Rattle.sdb_laws.proofs.Effects.{after_delete, after_put}
-use Rattle.sdb_laws.proofs.Shown.{row_there}
+use Rattle.law_protocol.proofs.Effects.{after_delete, after_put}
+use Rattle.law_protocol.proofs.Shown.{row_there}
 use Rattle.sdb_retire.specs.declared.seen.Seen.{Seen}
 use Rattle.sdb_retire.specs.Copying.{IsFree, delete_of, delete_on, put_of, requests_for, requests_of, version_in}
 use Rattle.sdb_retire.specs.Joined.{AreApart, IsWhole, after_all, is_among}

@@ -28,7 +28,7 @@ use Rattle.sdb_stores.specs.Views.{Attached, StoreView, index_at}
 use Rattle.sdb_catalog.specs.declared.entry.Entry.{Entry}
 use Rattle.sdb_catalog.specs.Rows.{MayHaveRow, metadata_table, row_of}
 use Rattle.sdb_catalog.proofs.Catalogs.{own_ns, key_of_row}
-use Rattle.sdb_laws.proofs.Effects.{after_put}
+use Rattle.law_protocol.proofs.Effects.{after_put}
 use Rattle.sdb_retire.specs.declared.seen.Seen.{Seen}
 use Rattle.sdb_retire.specs.declared.survey.Survey.{Survey}
 use Rattle.sdb_retire.specs.Copying.{Passes, WasUnmet, delete_of, delete_on, put_of, requests_for, requests_of, version_in}

@@ -19,8 +19,8 @@ use Rattle.sdb_types.proofs.Replies.{rows_in-are_rows_of}
 use Rattle.sdb_stores.specs.Views.{Attached, index_at}
 use Rattle.sdb_catalog.specs.declared.entry.Entry.{Entry}
 use Rattle.sdb_catalog.specs.Rows.{metadata_key_of, metadata_table, row_of}
-use Rattle.sdb_laws.proofs.Effects.{after_put}
-use Rattle.sdb_laws.proofs.Shown.{row_there}
+use Rattle.law_protocol.proofs.Effects.{after_put}
+use Rattle.law_protocol.proofs.Shown.{row_there}
 use Rattle.sdb_retire.specs.declared.survey.Survey.{Survey}
 use Rattle.sdb_retire.specs.Copying.{requests_of}
 use Rattle.sdb_retire.specs.Joined.{after_all, settle}

@@ -17,8 +17,8 @@ use Rattle.sdb_model.specs.declared.event.How.{How}
 use Rattle.sdb_types.specs.declared.place.Place.{Place}
 use Rattle.sdb_model.specs.Rows.{Name}
 use Rattle.sdb_model.specs.Events.{StoreContents, standing, table_asked, IsCall}
-use Rattle.sdb_laws.proofs.Effects.{AtCall, at_call, after_put, after_delete}
-use Rattle.sdb_laws.proofs.Shown.{row_there, span_table}
+use Rattle.law_protocol.proofs.Effects.{AtCall, at_call, after_put, after_delete}
+use Rattle.law_protocol.proofs.Shown.{row_there, span_table}
 use Rattle.sdb_session.specs.Database.{database_of, Same, Wrote, Done, Undone, Got, Found, NotFound, Scanned, Returned, NotReturned, Called}
 
 ---- writes

@@ -24,14 +24,14 @@ use Rattle.sdb_phases.specs.declared.step.ValidateStep.TheVariants as validate
 use Rattle.sdb_phases.specs.Work.{Work}
 use Rattle.sdb_phases.specs.Checks.{base_of, check_of_read, check_of_scan, checks, first_difference, wanted}
 use Rattle.sdb_phases.specs.Steps.{judged, validate_step}
-use Rattle.sdb_turns.proofs.Lists.{each_filter, each_map}
+use Rattle.law_clients.proofs.Lists.{each_filter, each_map}
 use Rattle.sdb_validate.specs.Rescan.{IsFirstLost, is_unchanged_at, is_unchanged_by}
 use Rattle.sdb_validate.proofs.Rescans.{first_lost}
 use Rattle.sdb_session.specs.Database.{Called, Found, Got, Database, HasFailed, NotFound, NotReturned, Same, Scanned, Returned, is_committed_or_none, is_listed}
 use Rattle.sdb_session.specs.OnlyResolves.{IsApart, IsSound}
 use Rattle.sdb_session.specs.Commits.{OthersUnchanged, IsReadCurrent, IsScanCurrent, WorkAlone}
 use Rattle.sdb_session.proofs.Writes.{found_at, based_at, version_holds}
-use Rattle.sdb_story.proofs.Noting.{coordinators}
+use Rattle.law_clients.proofs.Noting.{coordinators}
 
 -- A check is a read, and passes or has failed.
 pub record Passes (g : Database) (c : Check) : Type 0 where

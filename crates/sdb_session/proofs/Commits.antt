@@ -46,7 +46,7 @@ use Rattle.sdb_session.specs.OnlyResolves.{IsApart, IsSound}
 use Rattle.sdb_session.specs.Recovers.{IsAborted, IsCommittedAt, IsUndecided}
 use Rattle.sdb_session.specs.Commits.{ArePrepared, CommitAlone, EachWrite, EndedAlone, IsDone, IsFailure, IsGivenUp, IsLoose, IsPrepared, IsWon, OthersUnchanged, StageAlone, WorkAlone}
 use Rattle.sdb_session.proofs.Recovers.{one_database, row_at}
-use Rattle.sdb_turns.proofs.Lists.{each_at}
+use Rattle.law_clients.proofs.Lists.{each_at}
 use Rattle.sdb_session.proofs.Checks.{Passes, all_pass}
 use Rattle.sdb_session.proofs.Writes.{each_row, each_write, once_apart, others_row, others_stay, row_is, row_stays, based_at, there, version_holds}
 

@@ -26,7 +26,7 @@ use Rattle.sdb_schema.specs.declared.table.Table.{Table}
 use Rattle.sdb_model.specs.Exec.{Tables}
 use Rattle.sdb_phases.specs.Work.{Work}
 use Rattle.sdb_snapshot.specs.Rows.{with_own}
-use Rattle.sdb_steps.specs.Fitting.{row_is_well_typed}
+use Rattle.law_clients.specs.Fitting.{row_is_well_typed}
 use Rattle.sdb_session.specs.Database.{Database, decided_in, is_listed, row_in}
 use Rattle.sdb_session.specs.OnlyResolves.{IsApart, IsPreparedFor, IsAbortedRow, IsSound}
 use Rattle.sdb_session.specs.Recovers.{IsAborted, IsCommittedAt, IsUndecided}
@@ -36,7 +36,7 @@ use Rattle.sdb_session.specs.Seen.{AreImagesOf}
 use Rattle.sdb_session.proofs.Leaves.{done_images, given_up_rows, row_unwritten}
 use Rattle.sdb_session.proofs.Recovers.{row_at}
 use Rattle.sdb_session.proofs.Writes.{found_at, based_at}
-use Rattle.sdb_story.proofs.Noting.{coordinators}
+use Rattle.law_clients.proofs.Noting.{coordinators}
 
 ---- rows of tables that fit
 

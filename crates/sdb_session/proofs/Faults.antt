@@ -65,8 +65,8 @@ use Rattle.sdb_vacuum.specs.Vacuum.{First, Gives, Malformed, Nothing, Tombstone,
 use Rattle.sdb_client.specs.declared.next.Next.{Next}
 use Rattle.sdb_client.specs.declared.next.Next.TheVariants as next
 use Rattle.sdb_client.specs.Client.{AskPost, BeginPost, CallPost, ClientAt, CommitNext, CommitStartPost, GatePost, RowsReadPost, IsIdle, IsAnsweredAtOnce, NextPost, OpenTxnPost, ReplyPost, RollbackPost, RowsPost, ParsedPost, StagePost, StatementPost, VacuumPost, Taking, VacuumStartPost, after, answer_in, answer_of, given_answer, gives, is_covered, next_of, with_rows_read, plan_of, too_many, vacuum_left}
-use Rattle.sdb_steps.proofs.Fitted.{by_next}
-use Rattle.sdb_steps.proofs.Whole.{by_memory}
+use Rattle.law_clients.proofs.Fitted.{by_next}
+use Rattle.law_clients.proofs.Whole.{by_memory}
 use Rattle.sdb_types.proofs.Basics.{by_test}
 use Rattle.sdb_session.specs.Session.{is_of_fault}
 use Rattle.sdb_session.specs.Working.{Commits, IsAtWork, Reads, RepliedBy, InVacuum, ExecutedBy}

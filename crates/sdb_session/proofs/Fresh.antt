@@ -1,7 +1,7 @@
 -- Where the ids at hand differ, each transaction has an id of its own.
 use Rattle.sdb_session.specs.Chain.{Chain, Exchanged, IsReached, open_of}
 use Rattle.sdb_session.specs.Seen.{AreImagesOf}
-use Rattle.sdb_steps.specs.Fitting.{tables_are_well_typed}
+use Rattle.law_clients.specs.Fitting.{tables_are_well_typed}
 use Rattle.sdb_client.specs.Client.{ClientAt}
 use Rattle.sdb_types.specs.declared.record.Record.{Record}
 use Rattle.sdb_types.specs.declared.key.Key.{Key}
@@ -10,7 +10,7 @@ use Rattle.std.specs.Prelude.{if◌then◌else◌, fold}
 use Rattle.std.specs.List.{AllByRecursion}
 use Rattle.sdb_types.specs.declared.txid.TxId.{TxId}
 use Rattle.sdb_types.proofs.Basics.{false_true}
-use Rattle.sdb_turns.proofs.Lists.{each_more}
+use Rattle.law_clients.proofs.Lists.{each_more}
 use Rattle.sdb_schema.specs.declared.table.Table.{Table}
 use Rattle.sdb_model.specs.Exec.{Tables}
 use Rattle.sdb_session.specs.Database.{Database}

@@ -39,7 +39,7 @@ use Rattle.sdb_session.specs.Tombstones.{HasWritten, SameImages}
 use Rattle.sdb_session.proofs.Recovers.{row_at}
 use Rattle.sdb_session.proofs.Resolves.{firm_image, under_aborted}
 use Rattle.sdb_session.proofs.Writes.{found_at, based_at}
-use Rattle.sdb_story.proofs.Noting.{coordinators}
+use Rattle.law_clients.proofs.Noting.{coordinators}
 
 -- an id that a record has is of 128 bits
 id_fits : (o : Option Value) (id : TxId) → id_in_value o ≡ Some id → id.0 < 2 ^ 128

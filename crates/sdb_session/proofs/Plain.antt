@@ -26,7 +26,7 @@ use Rattle.sdb_model.specs.Exec.{Tables, row_of_entry}
 use Rattle.sdb_model.specs.Rows.{Name, same_name}
 use Rattle.sdb_types.specs.declared.place.Place.{Place}
 use Rattle.sdb_exec.proofs.Laid.{by_key, get-with_row}
-use Rattle.sdb_steps.specs.Fitting.{row_is_well_typed}
+use Rattle.law_clients.specs.Fitting.{row_is_well_typed}
 use Rattle.sdb_session.specs.Database.{Database, database_of, is_listed, row_in, decided_on}
 use Rattle.sdb_session.specs.OnlyResolves.{IsSound}
 use Rattle.sdb_session.specs.Seen.{AreImagesOf, HasTables}

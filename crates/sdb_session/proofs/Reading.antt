@@ -26,9 +26,9 @@ use Rattle.sdb_phases.specs.declared.step.RecoverStep.TheVariants as steps
 use Rattle.sdb_phases.specs.declared.step.RecoverPhase.{RecoverPhase}
 use Rattle.sdb_phases.specs.Recover.{recover_next}
 use Rattle.sdb_read.specs.Read.{Kind, Firm, Bad, ReadStage, Asking, Resolving, Ended, answered, kind_of, opened, read_pending_at, read_step, request_of, resolved, settle, settle_one}
-use Rattle.sdb_turns.specs.ReadAt.{AreInOrder, Rise, keys_of}
-use Rattle.sdb_turns.proofs.Lists.{each_more, each_unmap}
-use Rattle.sdb_turns.proofs.Rows.{found_each, inside_each, rise_is, differ_of}
+use Rattle.law_clients.specs.ReadAt.{AreInOrder, Rise, keys_of}
+use Rattle.law_clients.proofs.Lists.{each_more, each_unmap}
+use Rattle.law_clients.proofs.Rows.{found_each, inside_each, rise_is, differ_of}
 use Rattle.sdb_session.specs.Database.{Called, Found, Database, NotFound, NotReturned, Same, Returned, is_listed}
 use Rattle.sdb_session.specs.OnlyResolves.{IsApart, OnlyResolves, IsSound}
 use Rattle.sdb_session.specs.Recovers.{IsUndecided, RecoversTo}

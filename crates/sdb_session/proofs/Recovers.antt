@@ -30,13 +30,13 @@ use Rattle.sdb_phases.specs.declared.step.RecoverStep.TheVariants as steps
 use Rattle.sdb_phases.specs.declared.step.RecoverPhase.{RecoverPhase}
 use Rattle.sdb_phases.specs.declared.step.RecoverPhase.TheVariants as phase
 use Rattle.sdb_phases.specs.Recover.{recover_next, recover_request_at, roll_to, row_followed, undecided, is_as_found}
-use Rattle.sdb_turns.specs.Reader.{IsMetaOf}
-use Rattle.sdb_turns.proofs.Meta.{before_firm, meta_of}
+use Rattle.law_clients.specs.Reader.{IsMetaOf}
+use Rattle.law_clients.proofs.Meta.{before_firm, meta_of}
 use Rattle.sdb_session.specs.Database.{Called, Done, Found, Got, Database, IsWith, NotFound, Same, Undone, Wrote, decided_in, is_committed_or_none, is_listed}
 use Rattle.sdb_session.specs.OnlyResolves.{IsApart, OnlyResolves, IsSound}
 use Rattle.sdb_session.specs.Recovers.{RecoveryLeadsTo, IsAborted, PhaseAlone, RecoverAlone, RecoversTo}
 use Rattle.sdb_session.proofs.Resolves.{abort_settles, roll_settles, settles_refl, under_aborted}
-use Rattle.sdb_story.proofs.Noting.{coordinators}
+use Rattle.law_clients.proofs.Noting.{coordinators}
 
 -- databases that are the same at each key are one
 pub one_database : (g h : Database) → Same g h → g ≡ h

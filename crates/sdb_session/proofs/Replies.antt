@@ -34,15 +34,15 @@ use Rattle.sdb_snapshot.specs.Seen.{Seen}
 use Rattle.sdb_txn.specs.declared.txn.Doing.{Doing}
 use Rattle.sdb_txn.specs.declared.txn.Doing.TheVariants as doing
 use Rattle.sdb_txn.specs.Txn.{TxnAt, IsCommitting, pending_in, progress_of}
-use Rattle.sdb_turns.specs.Reads.{work_of}
+use Rattle.law_clients.specs.Reads.{work_of}
 use Rattle.sdb_vacuum.specs.declared.work.VacuumStep.{VacuumStep}
 use Rattle.sdb_vacuum.specs.declared.work.VacuumStep.TheVariants as vacuuming
 use Rattle.sdb_vacuum.specs.Vacuum.{Gives, VacuumAt, vacuum_step}
 use Rattle.sdb_client.specs.declared.next.Next.{Next}
 use Rattle.sdb_client.specs.declared.next.Next.TheVariants as next
 use Rattle.sdb_client.specs.Client.{CallPost, ClientAt, CommitNext, NextPost, OpenTxnPost, ReplyPost, VacuumPost, TxnPost, after, answer_in, answer_of, client_pending, next_of, pending_by, pending_of, vacuum_left}
-use Rattle.sdb_steps.specs.Fitting.{row_is_well_typed, tables_are_well_typed}
-use Rattle.sdb_steps.proofs.RowsFit.{fits_there}
+use Rattle.law_clients.specs.Fitting.{row_is_well_typed, tables_are_well_typed}
+use Rattle.law_clients.proofs.RowsFit.{fits_there}
 use Rattle.sdb_session.specs.Database.{Called, Database, is_listed, row_in}
 use Rattle.sdb_session.specs.OnlyResolves.{IsApart, OnlyResolves, IsSound}
 use Rattle.sdb_session.specs.Commits.{CommitAlone, IsDone, IsGivenUp}

@@ -21,7 +21,7 @@ use Rattle.sdb_record.proofs.ImageLaws.{image-is, image-open, image-settled, has
 use Rattle.sdb_schema.specs.declared.table.Table.{Table}
 use Rattle.sdb_session.specs.Database.{Database, IsWith, decided_in, decided_on, image_in, is_committed_or_none, is_listed, row_in}
 use Rattle.sdb_session.specs.OnlyResolves.{IsApart, IsPreparedFor, IsResolved, IsAbortedRow, OnlyResolves, IsSound}
-use Rattle.sdb_story.proofs.Noting.{coordinators}
+use Rattle.law_clients.proofs.Noting.{coordinators}
 
 ---- coordinator rows
 

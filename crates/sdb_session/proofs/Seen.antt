@@ -26,18 +26,18 @@ use Rattle.sdb_schema.specs.declared.table.Table.{Table}
 use Rattle.sdb_model.specs.Access.{in_access}
 use Rattle.sdb_model.specs.declared.event.Event.TheVariants as event
 use Rattle.sdb_model.specs.declared.event.How.TheVariants as how
-use Rattle.sdb_laws.specs.History.{Other}
-use Rattle.sdb_laws.specs.Lawful.{Itself, Labelled, labelled_with}
+use Rattle.law_protocol.specs.History.{Other}
+use Rattle.law_protocol.specs.Lawful.{Itself, Labelled, labelled_with}
 use Rattle.sdb_snapshot.specs.Reads.{AreBases, IsUnmoved, ReadRecord, base_at, has_changed, is_key_read, record_read_at, reads_of, with_images}
 use Rattle.sdb_snapshot.specs.Seen.{Seen, with_get, with_scan, with_written}
 use Rattle.sdb_snapshot.specs.Written.{AreChanges}
 use Rattle.sdb_snapshot.proofs.Differences.{noted_images}
 use Rattle.sdb_snapshot.proofs.Keys.{value_last}
-use Rattle.sdb_turns.specs.Reads.{MayRecord, SeenOk, first_image, with_read}
-use Rattle.sdb_turns.specs.ReadAt.{IsImage, IsOfData}
-use Rattle.sdb_turns.proofs.Lists.{each_more, each_unmap}
-use Rattle.sdb_turns.proofs.Rows.{found_each, images_later}
-use Rattle.sdb_turns.proofs.Seen.{read_noted, seen_later, write_kept, rise_read, version_found}
+use Rattle.law_clients.specs.Reads.{MayRecord, SeenOk, first_image, with_read}
+use Rattle.law_clients.specs.ReadAt.{IsImage, IsOfData}
+use Rattle.law_clients.proofs.Lists.{each_more, each_unmap}
+use Rattle.law_clients.proofs.Rows.{found_each, images_later}
+use Rattle.law_clients.proofs.Seen.{read_noted, seen_later, write_kept, rise_read, version_found}
 use Rattle.sdb_session.specs.Database.{Database, is_committed_or_none, is_listed}
 use Rattle.sdb_session.specs.OnlyResolves.{IsApart, OnlyResolves, IsSound}
 use Rattle.sdb_session.specs.Reads.{AreCommitted, IsOfTables, AreRowsAt}

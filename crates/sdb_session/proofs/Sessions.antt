@@ -39,13 +39,13 @@ use Rattle.sdb_exec.specs.Plans.{Planned}
 use Rattle.sdb_exec.proofs.Whole.{own}
 use Rattle.sdb_snapshot.specs.Rows.{with_own}
 use Rattle.sdb_snapshot.specs.Seen.{Seen}
-use Rattle.sdb_turns.proofs.Lists.{each_more}
+use Rattle.law_clients.proofs.Lists.{each_more}
 use Rattle.sdb_txn.specs.Txn.{TxnAt}
-use Rattle.sdb_turns.proofs.Meta.{meta_of}
+use Rattle.law_clients.proofs.Meta.{meta_of}
 use Rattle.sdb_client.specs.Client.{ClientAt}
-use Rattle.sdb_story.specs.Body.{AgreesAll}
-use Rattle.sdb_story.proofs.Noting.{coordinators}
-use Rattle.sdb_steps.specs.Fitting.{tables_are_well_typed}
+use Rattle.law_clients.specs.Body.{AgreesAll}
+use Rattle.law_clients.proofs.Noting.{coordinators}
+use Rattle.law_clients.specs.Fitting.{tables_are_well_typed}
 use Rattle.sdb_session.specs.Database.{Database, decided_in, is_listed, row_in}
 use Rattle.sdb_session.specs.OnlyResolves.{IsApart, OnlyResolves, IsSound}
 use Rattle.sdb_session.specs.Recovers.{IsAborted, IsCommittedAt, IsUndecided}

@@ -9,7 +9,7 @@ use Rattle.sdb_model.specs.declared.statement.Statement.TheVariants as statement
 use Rattle.sdb_model.specs.Sql.{reads_commit}
 use Rattle.sdb_sqltext.proofs.OneWord.{commit_read}
 use Rattle.sdb_client.specs.Client.{ClientAt, Parses, resting, out_of_memory}
-use Rattle.sdb_steps.proofs.Taken.{other_no_commit, refused_no_commit}
+use Rattle.law_clients.proofs.Taken.{other_no_commit, refused_no_commit}
 use Rattle.sdb_session.specs.Database.{Database}
 use Rattle.sdb_session.specs.Between.{Between, OpenTransaction}
 use Rattle.sdb_session.specs.Chain.{Exchanged, OutOfMemory}

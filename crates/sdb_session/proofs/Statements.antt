@@ -41,7 +41,7 @@ use Rattle.sdb_exec.specs.declared.plan.PlanStep.TheVariants.{Finished}
 use Rattle.sdb_exec.specs.Plans.{Planned, finished, first_unfit, step_at, step_of, changes_on}
 use Rattle.sdb_exec.specs.Reads.{access_of}
 use Rattle.sdb_exec.proofs.Places.{named_is_table}
-use Rattle.sdb_laws.specs.Lawful.{Labelled}
+use Rattle.law_protocol.specs.Lawful.{Labelled}
 use Rattle.sdb_read.specs.declared.read.ReadStep.TheVariants as step
 use Rattle.sdb_read.specs.Read.{ReadAt, ReadStage, Asking, Resolving, Ended, read_pending_at, read_result, read_step, request_of}
 use Rattle.sdb_snapshot.specs.Reads.{base_at, is_key_read}
@@ -56,14 +56,14 @@ use Rattle.sdb_client.specs.declared.next.Next.TheVariants as next
 use Rattle.sdb_client.specs.Client.{CallPost, RowsReadPost, IsAsRead, IsChangedAt, StagePost, gives, given_answer, given_left, with_rows_read, too_many, written}
 use Rattle.sdb_client.specs.Inside.{IsValidPlan, IsKeyRead, MayWrite}
 use Rattle.sdb_client.proofs.Writable.{may_write}
-use Rattle.sdb_turns.specs.Reads.{with_read}
-use Rattle.sdb_story.specs.Body.{AgreesAll, AnswersOn, BodyOk, ReadAgrees, ScanAgrees}
-use Rattle.sdb_story.proofs.Bodies.{access_agrees, body_read, body_step}
-use Rattle.sdb_story.proofs.Noting.{coordinators}
-use Rattle.sdb_steps.specs.Fitting.{tables_are_well_typed}
-use Rattle.sdb_steps.proofs.Fitted.{by_next}
-use Rattle.sdb_steps.proofs.RowsFit.{answers_on, found_itself, all_in_fit}
-use Rattle.sdb_steps.proofs.ReadReplies.{covered_now, key_read_now, IsNoting, is_noting}
+use Rattle.law_clients.specs.Reads.{with_read}
+use Rattle.law_clients.specs.Body.{AgreesAll, AnswersOn, BodyOk, ReadAgrees, ScanAgrees}
+use Rattle.law_clients.proofs.Bodies.{access_agrees, body_read, body_step}
+use Rattle.law_clients.proofs.Noting.{coordinators}
+use Rattle.law_clients.specs.Fitting.{tables_are_well_typed}
+use Rattle.law_clients.proofs.Fitted.{by_next}
+use Rattle.law_clients.proofs.RowsFit.{answers_on, found_itself, all_in_fit}
+use Rattle.law_clients.proofs.ReadReplies.{covered_now, key_read_now, IsNoting, is_noting}
 use Rattle.sdb_session.specs.Database.{Called, Database, decided_on, is_committed_or_none, is_listed, row_in}
 use Rattle.sdb_session.specs.OnlyResolves.{IsApart, OnlyResolves, IsSound}
 use Rattle.sdb_session.specs.Reads.{AreCommitted, ReadAlone, AreRowsAt}

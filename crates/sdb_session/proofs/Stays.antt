@@ -26,7 +26,7 @@ use Rattle.sdb_session.specs.Vacuums.{Quiet}
 use Rattle.sdb_session.specs.Session.{AreSerialParts, Exchange, IsSerialPart, Part, answers_in, is_recorded_in, is_recorded, is_recorded_by, recorded_of, statements_in, tables_after}
 use Rattle.sdb_session.proofs.Leaves.{row_names, writer_fits}
 use Rattle.sdb_session.proofs.Recovers.{row_at}
-use Rattle.sdb_story.proofs.Noting.{coordinators}
+use Rattle.law_clients.proofs.Noting.{coordinators}
 
 pub later_of : (catalog : List Table) (own : Option Own) (g h : Database) → Quiet catalog g h → Later catalog own g h
 later_of catalog own g h s = record {

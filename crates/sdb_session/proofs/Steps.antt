@@ -16,7 +16,7 @@ use Rattle.sdb_model.specs.declared.statement.Statement.TheVariants as statement
 use Rattle.sdb_model.specs.Exec.{Tables}
 use Rattle.sdb_client.specs.Client.{ClientAt}
 use Rattle.sdb_snapshot.specs.Seen.{Seen}
-use Rattle.sdb_steps.specs.Fitting.{tables_are_well_typed}
+use Rattle.law_clients.specs.Fitting.{tables_are_well_typed}
 use Rattle.sdb_session.specs.Database.{Database, decided_in}
 use Rattle.sdb_session.specs.OnlyResolves.{IsApart, IsSound}
 use Rattle.sdb_session.specs.Recovers.{IsAborted, IsCommittedAt, IsUndecided}

@@ -34,10 +34,10 @@ use Rattle.sdb_phases.specs.declared.step.RecoverPhase.TheVariants as phase
 use Rattle.sdb_phases.specs.Recover.{recover_next}
 use Rattle.sdb_read.specs.Read.{Kind, Firm, Bad, kind_of, opened}
 use Rattle.sdb_vacuum.specs.Vacuum.{Removing, Resolving, Scanning, Tombstone, VacuumStage, Over, answered, first_of, first_one, with_call, next_of_row, next_table, pending_at, removal_answered, resolved, step_at}
-use Rattle.sdb_turns.specs.ReadAt.{Rise, keys_of}
-use Rattle.sdb_turns.proofs.Lists.{each_both, each_unmap}
-use Rattle.sdb_turns.proofs.Meta.{meta_of}
-use Rattle.sdb_turns.proofs.Rows.{found_each, inside_each, rise_is}
+use Rattle.law_clients.specs.ReadAt.{Rise, keys_of}
+use Rattle.law_clients.proofs.Lists.{each_both, each_unmap}
+use Rattle.law_clients.proofs.Meta.{meta_of}
+use Rattle.law_clients.proofs.Rows.{found_each, inside_each, rise_is}
 use Rattle.sdb_session.specs.Database.{Called, Done, Database, IsWith, NotReturned, Scanned, Returned, Undone, Wrote, decided_in, decided_on, image_in, is_committed_or_none, is_listed, row_in}
 use Rattle.sdb_session.specs.OnlyResolves.{IsApart, IsPreparedFor, IsAbortedRow, OnlyResolves, IsSound}
 use Rattle.sdb_session.specs.Recovers.{RecoveryLeadsTo}
@@ -47,7 +47,7 @@ use Rattle.sdb_session.proofs.Resolves.{firm_image, image_stays, row_stays, soun
 use Rattle.sdb_session.proofs.Reading.{others_apart}
 use Rattle.sdb_session.proofs.Recovers.{one_database, recovers}
 use Rattle.sdb_session.proofs.Writes.{version_holds}
-use Rattle.sdb_story.proofs.Noting.{coordinators}
+use Rattle.law_clients.proofs.Noting.{coordinators}
 
 ---- what a database means
 

@@ -52,17 +52,17 @@ use Rattle.sdb_snapshot.specs.Written.{AreChanges}
 use Rattle.sdb_snapshot.proofs.Shown.{overlay_is}
 use Rattle.sdb_txn.specs.declared.txn.Doing.TheVariants as doing
 use Rattle.sdb_txn.specs.Txn.{TxnAt, committing, reading, work_of as txn_work}
-use Rattle.sdb_turns.specs.Reads.{work_of}
+use Rattle.law_clients.specs.Reads.{work_of}
 use Rattle.sdb_vacuum.specs.Vacuum.{begun as sweeping, spans_of, whole}
 use Rattle.sdb_client.specs.Client.{AskPost, BeginPost, ClientAt, CommitStartPost, GatePost, IsAnsweredAtOnce, RollbackPost, RowsPost, ParsedPost, StatementPost, Taking, Parses, VacuumStartPost, given_answer, given_left, gives, is_covered, plan_of, too_many, written}
 use Rattle.sdb_client.specs.Inside.{IsValidPlan, IsKeyRead, MayWrite}
 use Rattle.sdb_client.proofs.Writable.{may_write}
-use Rattle.sdb_story.specs.Body.{AnswersOn}
-use Rattle.sdb_story.proofs.Bodies.{access_agrees, body_begins, body_step}
-use Rattle.sdb_steps.specs.Fitting.{tables_are_well_typed}
-use Rattle.sdb_steps.proofs.RowsFit.{answers_on, found_itself, all_in_fit}
-use Rattle.sdb_steps.proofs.Whole.{literals_read}
-use Rattle.sdb_steps.proofs.Asked.{covered_is}
+use Rattle.law_clients.specs.Body.{AnswersOn}
+use Rattle.law_clients.proofs.Bodies.{access_agrees, body_begins, body_step}
+use Rattle.law_clients.specs.Fitting.{tables_are_well_typed}
+use Rattle.law_clients.proofs.RowsFit.{answers_on, found_itself, all_in_fit}
+use Rattle.law_clients.proofs.Whole.{literals_read}
+use Rattle.law_clients.proofs.Asked.{covered_is}
 use Rattle.sdb_session.specs.Database.{Database}
 use Rattle.sdb_session.specs.OnlyResolves.{IsApart, IsSound}
 use Rattle.sdb_session.specs.Commits.{CommitAlone, EachWrite, IsPrepared, StageAlone, WorkAlone, IsBaseCurrent}
@@ -77,7 +77,7 @@ use Rattle.sdb_session.proofs.Statements.{agrees_all, answered_at, rows_change}
 use Rattle.sdb_session.proofs.Seen.{seen_written}
 use Rattle.sdb_session.proofs.Sweeps.{has_vacuumed, quiet_refl, removed_none}
 use Rattle.sdb_session.proofs.Works.{work_alone}
-use Rattle.sdb_turns.proofs.Lists.{each_at}
+use Rattle.law_clients.proofs.Lists.{each_at}
 
 ---- a statement that is answered from what was read before
 

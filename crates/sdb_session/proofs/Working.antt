@@ -41,8 +41,8 @@ use Rattle.sdb_client.specs.declared.next.Next.{Next}
 use Rattle.sdb_client.specs.declared.next.Next.TheVariants as next
 use Rattle.sdb_client.specs.Client.{AskPost, BeginPost, CallPost, ClientAt, CommitNext, CommitStartPost, GatePost, RowsReadPost, IsIdle, IsAnsweredAtOnce, NextPost, OpenTxnPost, ReplyPost, RollbackPost, RowsPost, ParsedPost, Parses, StagePost, StatementPost, VacuumPost, Taking, VacuumStartPost, after, answer_in, answer_of, given_answer, given_left, gives, holding, is_covered, next_of, with_rows_read, plan_of, resting, out_of_memory, too_many, vacuum_left, with_begun}
 use Rattle.sdb_client.proofs.Left.{given_idle as left_idle}
-use Rattle.sdb_steps.proofs.Fitted.{by_next, no_none}
-use Rattle.sdb_steps.proofs.Whole.{by_memory}
+use Rattle.law_clients.proofs.Fitted.{by_next, no_none}
+use Rattle.law_clients.proofs.Whole.{by_memory}
 use Rattle.sdb_session.specs.Session.{Exchange, IsAccepted, MayAnswer, begins, ends, is_commit, is_rollback, rejected}
 use Rattle.sdb_session.specs.Working.{Commits, IsAtWork, IsEnded, LeadsOn, Reads, InVacuum, ExecutedBy, is_open_after}
 use Rattle.sdb_session.proofs.Starves.{reads_as_commit}

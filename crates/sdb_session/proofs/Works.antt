@@ -9,11 +9,11 @@ use Rattle.sdb_record.specs.Meta.{is_moment}
 use Rattle.sdb_record.specs.Moved.{version_of}
 use Rattle.sdb_record.specs.Rolls.{IsWrite}
 use Rattle.sdb_schema.specs.declared.table.Table.{Table}
-use Rattle.sdb_laws.specs.Lawful.{Labelled}
+use Rattle.law_protocol.specs.Lawful.{Labelled}
 use Rattle.sdb_snapshot.specs.Reads.{base_at, is_key_read}
 use Rattle.sdb_snapshot.specs.Seen.{Seen}
-use Rattle.sdb_turns.specs.Reads.{IsReadOk, work_of}
-use Rattle.sdb_turns.proofs.Lists.{each_both}
+use Rattle.law_clients.specs.Reads.{IsReadOk, work_of}
+use Rattle.law_clients.proofs.Lists.{each_both}
 use Rattle.sdb_session.specs.Database.{Database, is_committed_or_none, is_listed}
 use Rattle.sdb_session.specs.Commits.{IsReadCurrent, WorkAlone, IsBaseCurrent}
 use Rattle.sdb_session.specs.Clients.{IsUnused}

@@ -30,11 +30,11 @@ use Rattle.sdb_record.specs.Moved.{condition_of, version_of}
 use Rattle.sdb_schema.specs.declared.table.Table.{Table}
 use Rattle.sdb_phases.specs.Work.{Work}
 use Rattle.sdb_snapshot.specs.Written.{HaveKeysOnce}
-use Rattle.sdb_turns.proofs.Lists.{each_at}
+use Rattle.law_clients.proofs.Lists.{each_at}
 use Rattle.sdb_session.specs.Database.{Database, IsWith, is_committed_or_none}
 use Rattle.sdb_session.specs.OnlyResolves.{IsApart}
 use Rattle.sdb_session.specs.Commits.{EachWrite, OthersUnchanged, WorkAlone, IsBaseCurrent}
-use Rattle.sdb_story.proofs.Noting.{coordinators}
+use Rattle.law_clients.proofs.Noting.{coordinators}
 
 ---- writes of a list with each key once
 

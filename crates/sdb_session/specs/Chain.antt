@@ -2,7 +2,7 @@
 use Rattle.sdb_session.specs.Clients.{IsUnused}
 use Rattle.sdb_session.specs.Seen.{AreImagesOf}
 use Rattle.sdb_session.specs.OnlyResolves.{IsSound}
-use Rattle.sdb_steps.specs.Fitting.{tables_are_well_typed}
+use Rattle.law_clients.specs.Fitting.{tables_are_well_typed}
 use Rattle.sdb_model.specs.Exec.{Tables}
 use Rattle.sdb_types.specs.declared.txid.TxId.{TxId}
 use Rattle.std.specs.List.{AllByRecursion}

@@ -24,10 +24,10 @@ use Rattle.sdb_txn.specs.Txn.{TxnAt}
 use Rattle.sdb_client.specs.declared.next.Next.{Next}
 use Rattle.sdb_client.specs.declared.next.Next.TheVariants as next
 use Rattle.sdb_model.specs.declared.statement.Statement.{Statement}
-use Rattle.sdb_laws.specs.Lawful.{Labelled}
+use Rattle.law_protocol.specs.Lawful.{Labelled}
 use Rattle.sdb_snapshot.specs.Seen.{Seen}
-use Rattle.sdb_story.specs.Body.{BodyOk}
-use Rattle.sdb_steps.specs.Fitting.{tables_are_well_typed}
+use Rattle.law_clients.specs.Body.{BodyOk}
+use Rattle.law_clients.specs.Fitting.{tables_are_well_typed}
 use Rattle.sdb_session.specs.Database.{Database, is_listed}
 use Rattle.sdb_session.specs.Recovers.{IsUndecided}
 use Rattle.sdb_session.specs.Reads.{IsOfTables, ReadAlone, IsBusyRecord}

@@ -13,7 +13,7 @@ use Rattle.sdb_record.specs.Coordinator.{coordinator_key_of, decision_in, is_coo
 use Rattle.sdb_record.specs.Meta.{id_in, is_in, is_transactional}
 use Rattle.sdb_record.specs.Rolls.{image_under}
 use Rattle.sdb_schema.specs.declared.table.Table.{Table}
-use Rattle.sdb_steps.specs.Fitting.{row_is_well_typed}
+use Rattle.law_clients.specs.Fitting.{row_is_well_typed}
 use Rattle.sdb_session.specs.Database.{AreOwn, Database, decided_on, is_committed_or_none, is_listed, row_in}
 
 -- a coordinator row says that its transaction is aborted

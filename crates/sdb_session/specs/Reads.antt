@@ -15,7 +15,7 @@ use Rattle.sdb_model.specs.Access.{in_access}
 use Rattle.sdb_read.specs.declared.read.ReadStep.{ReadStep}
 use Rattle.sdb_read.specs.declared.read.ReadStep.TheVariants as read
 use Rattle.sdb_read.specs.Read.{ReadStage, Asking, Resolving, Ended}
-use Rattle.sdb_turns.specs.ReadAt.{AreInOrder, keys_of}
+use Rattle.law_clients.specs.ReadAt.{AreInOrder, keys_of}
 use Rattle.sdb_session.specs.Database.{Database, is_listed}
 use Rattle.sdb_session.specs.Recovers.{IsUndecided, RecoverAlone}
 

@@ -9,10 +9,10 @@ use Rattle.sdb_schema.specs.declared.table.Table.{Table}
 use Rattle.sdb_model.specs.Exec.{Tables}
 use Rattle.sdb_snapshot.specs.Reads.{base_at, is_key_read}
 use Rattle.sdb_snapshot.specs.Seen.{Seen}
-use Rattle.sdb_laws.specs.Lawful.{Labelled}
-use Rattle.sdb_turns.specs.Reads.{SeenOk}
+use Rattle.law_protocol.specs.Lawful.{Labelled}
+use Rattle.law_clients.specs.Reads.{SeenOk}
 use Rattle.sdb_session.specs.Commits.{IsScanCurrent}
-use Rattle.sdb_steps.specs.Fitting.{tables_are_well_typed}
+use Rattle.law_clients.specs.Fitting.{tables_are_well_typed}
 use Rattle.sdb_session.specs.Database.{Database, is_listed, row_in}
 
 -- a key was read by a get, or lies in a span that was scanned

@@ -17,7 +17,7 @@ use Rattle.sdb_model.specs.Events.{IsCall, StoreContents}
 use Rattle.sdb_model.specs.Exec.{Tables}
 use Rattle.sdb_model.specs.Rows.{Name}
 use Rattle.sdb_client.specs.Client.{ClientAt, ReplyPost, ParsedPost, Parses, Taking, client_pending}
-use Rattle.sdb_steps.specs.Fitting.{tables_are_well_typed}
+use Rattle.law_clients.specs.Fitting.{tables_are_well_typed}
 use Rattle.sdb_session.specs.Database.{AreOwn, Called, Database}
 use Rattle.sdb_session.specs.OnlyResolves.{IsApart, IsSound}
 use Rattle.sdb_session.specs.Seen.{AreImagesOf}

@@ -10,7 +10,7 @@ use Rattle.sdb_record.specs.Coordinator.{is_coordinator_table}
 use Rattle.sdb_record.specs.Meta.{is_in}
 use Rattle.sdb_record.specs.Rolls.{is_tombstone}
 use Rattle.sdb_schema.specs.declared.table.Table.{Table}
-use Rattle.sdb_turns.specs.ReadAt.{Rise, keys_of}
+use Rattle.law_clients.specs.ReadAt.{Rise, keys_of}
 use Rattle.sdb_vacuum.specs.declared.work.VacuumStep.{VacuumStep}
 use Rattle.sdb_vacuum.specs.declared.work.VacuumStep.TheVariants as vacuuming
 use Rattle.sdb_vacuum.specs.Vacuum.{VacuumAt, VacuumStage, Scanning, Resolving, Removing, Over}

@@ -12,8 +12,8 @@ use Rattle.sdb_schema.specs.declared.table.Table.{Table}
 use Rattle.sdb_model.specs.Form.{lines_of, onto_first}
 use Rattle.sdb_model.specs.Rows.{Name}
 use Rattle.sdb_stores.specs.Views.{Attached, AreDistinct, home, place_of, route_of}
-use Rattle.sdb_board.specs.Board.{GoOn, HoldTheSame, contents_of_views}
-use Rattle.sdb_board.proofs.GoesOn.{some_more}
+use Rattle.sdb_contents.specs.Board.{GoOn, HoldTheSame, contents_of_views}
+use Rattle.sdb_contents.proofs.GoesOn.{some_more}
 use Rattle.sdb_client.specs.Client.{Parses, nothing_done}
 use Rattle.sdb_session.specs.Database.{Database, database_of}
 use Rattle.sdb_session.specs.Between.{Between}

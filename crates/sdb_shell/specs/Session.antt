@@ -7,7 +7,7 @@ use Rattle.sdb_schema.specs.declared.table.Table.{Table}
 use Rattle.sdb_model.specs.declared.answer.Answer.{Answer}
 use Rattle.sdb_model.specs.Form.{lines_of}
 use Rattle.sdb_stores.specs.Views.{Attached, StoreView}
-use Rattle.sdb_board.specs.Board.{HoldTheSame}
+use Rattle.sdb_contents.specs.Board.{HoldTheSame}
 use Rattle.sdb_client.specs.Client.{Parses}
 use Rattle.sdb_session.specs.Session.{Exchange}
 use Rattle.sdb_answer.specs.Sessions.{HasAnswered, IsSession, IsSessionSoFar, SessionAt}

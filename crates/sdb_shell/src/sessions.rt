@@ -1,7 +1,7 @@
 //! A session.
 ghost use Rattle.std.specs.Prelude.{◌≡◌, ◌≤◌, ◌<◌, length, IfErr, OnOk, IsErrOf};
 ghost use Rattle.sdb_types.specs.Bytes.{HasRisen};
-ghost use Rattle.sdb_board.specs.Board.{GoOn};
+ghost use Rattle.sdb_contents.specs.Board.{GoOn};
 ghost use Rattle.sdb_shell.specs.Handed.{handed, views};
 ghost use Rattle.sdb_shell.specs.Session.{IsDone, IsCutOff};
 

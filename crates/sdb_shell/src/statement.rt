@@ -1,7 +1,7 @@
 //! One statement of a session, and the line of its answer.
 ghost use Rattle.std.specs.Prelude.{◌≡◌, ◌≤◌, ◌<◌, ◌^◌, length, IfErr, OnOk, OnErr, IsErrOf};
 ghost use Rattle.sdb_types.specs.Bytes.{Appends, HasRisen};
-ghost use Rattle.sdb_board.specs.Board.{GoOn};
+ghost use Rattle.sdb_contents.specs.Board.{GoOn};
 ghost use Rattle.sdb_client.specs.Client.{IsIdle};
 ghost use Rattle.sdb_shell.specs.Answers.{IsPrefix, answer_line_of};
 ghost use Rattle.sdb_shell.specs.Handed.{handed, views};

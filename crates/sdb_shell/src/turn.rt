@@ -1,7 +1,7 @@
 //! One line of a session.
 ghost use Rattle.std.specs.Prelude.{◌≤◌, ◌<◌, length, IfOk, IfErr, IsErrOf};
 ghost use Rattle.sdb_types.specs.Bytes.{HasRisen};
-ghost use Rattle.sdb_board.specs.Board.{GoOn};
+ghost use Rattle.sdb_contents.specs.Board.{GoOn};
 ghost use Rattle.sdb_client.specs.Client.{IsIdle};
 ghost use Rattle.sdb_shell.specs.Handed.{handed, reading, views};
 ghost use Rattle.sdb_shell.specs.Session.{HasExecutedLine, IsCutLine};

@@ -5,7 +5,7 @@ use Rattle.std.proofs.lemmas.List.{append-nil, length-take, take-append-drop}
 use Rattle.sdb_types.specs.declared.value.Value.{Value}
 use Rattle.sdb_schema.specs.declared.table.Table.{Table}
 use Rattle.sdb_stores.specs.Views.{Attached}
-use Rattle.sdb_board.specs.Board.{GoOn}
+use Rattle.sdb_contents.specs.Board.{GoOn}
 use Rattle.sdb_session.specs.Session.{Exchange}
 use Rattle.sdb_answer.proofs.Chains.{session_whole}
 use Rattle.sdb_tables.specs.declared.group.Ending.{Ending}

@@ -5,7 +5,7 @@ use Rattle.std.specs.Prelude.{IfErr, IfOk, IsErrAnd, Result, Ok, Err}
 use Rattle.sdb_types.specs.Draws.{IsAppended}
 use Rattle.sdb_schema.specs.declared.table.Table.{Table}
 use Rattle.sdb_stores.specs.Views.{Attached, total_faults}
-use Rattle.sdb_board.specs.Board.{GoOn, contents_of_views}
+use Rattle.sdb_contents.specs.Board.{GoOn, contents_of_views}
 use Rattle.sdb_model.specs.declared.answer.Answer.{Answer}
 use Rattle.sdb_model.specs.declared.statement.Statement.{Statement}
 use Rattle.sdb_model.specs.Sql.{statement_text_of}

@@ -3,7 +3,7 @@ use Rattle.std.specs.Prelude.{◌≡◌, ℕ, Bool, true, false, List, [], ◌�
 use Rattle.sdb_schema.specs.declared.table.Table.{Table}
 use Rattle.sdb_data.specs.Printed.{printed}
 use Rattle.sdb_stores.specs.Views.{Attached}
-use Rattle.sdb_board.specs.Board.{GoOn}
+use Rattle.sdb_contents.specs.Board.{GoOn}
 use Rattle.sdb_model.specs.declared.answer.Answer.{Answer}
 use Rattle.sdb_model.specs.declared.answer.Answer.TheVariants as answer
 use Rattle.sdb_model.specs.declared.statement.Statement.{Statement}

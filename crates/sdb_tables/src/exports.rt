@@ -1,6 +1,6 @@
 //! A table, exported as CSV.
 ghost use Rattle.std.specs.Prelude.{◌≡◌, ◌<◌, length, true, IfOk, IfErr, OnOk};
-ghost use Rattle.sdb_board.specs.Board.{GoOn};
+ghost use Rattle.sdb_contents.specs.Board.{GoOn};
 ghost use Rattle.sdb_client.specs.Client.{IsIdle};
 ghost use Rattle.sdb_tables.specs.Ends.{ends};
 ghost use Rattle.sdb_tables.specs.Exports.{IsAnsweredAsWanted, IsExport, IsNotAnswered, IsNotExported, IsTableRead, IsTableUnread, IsTextOf, is_no_memory as is_no_memory_lem, is_rows, is_wanted as is_wanted_lem};

@@ -1,6 +1,6 @@
 //! A group of rows, loaded as one transaction.
 ghost use Rattle.std.specs.Prelude.{◌≡◌, ◌<◌, length, Some, IfOk, OnOk};
-ghost use Rattle.sdb_board.specs.Board.{GoOn};
+ghost use Rattle.sdb_contents.specs.Board.{GoOn};
 ghost use Rattle.sdb_client.specs.Client.{IsIdle};
 ghost use Rattle.sdb_model.specs.Transactions.{is_done as is_done_lem};
 ghost use Rattle.sdb_tables.specs.Turns.{IsBegunLoaded, IsEndedIn, IsGroupLoaded, turn};

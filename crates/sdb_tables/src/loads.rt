@@ -1,7 +1,7 @@
 //! Rows, loaded into a table.
 ghost use Rattle.std.specs.Prelude.{◌≡◌, ◌<◌, ◌≤◌, ◌++◌, length, IfErr, IfOk, OnOk, string_bytes};
 ghost use Rattle.std.specs.List.{list_any};
-ghost use Rattle.sdb_board.specs.Board.{GoOn};
+ghost use Rattle.sdb_contents.specs.Board.{GoOn};
 ghost use Rattle.sdb_tables.specs.Ends.{ends};
 ghost use Rattle.sdb_tables.specs.Loads.{IsLoad, IsLoadOf, IsLoadOutOfMemory, IsLoadOfOutOfMemory, line_of};
 ghost use Rattle.sdb_tables.specs.Statements as spec;

@@ -1,6 +1,6 @@
 //! The rows of a group.
 ghost use Rattle.std.specs.Prelude.{◌≡◌, ◌<◌, length, IfOk, OnOk};
-ghost use Rattle.sdb_board.specs.Board.{GoOn};
+ghost use Rattle.sdb_contents.specs.Board.{GoOn};
 ghost use Rattle.sdb_client.specs.Client.{IsIdle};
 ghost use Rattle.sdb_tables.specs.Groups.{is_loaded as is_loaded_lem, is_written as is_written_lem};
 ghost use Rattle.sdb_tables.specs.Statements.{row_statement as row_statement_lem};

@@ -1,6 +1,6 @@
 //! One statement of a session, taken by the text that it is printed as.
 ghost use Rattle.std.specs.Prelude.{◌<◌, length, IfOk, OnOk};
-ghost use Rattle.sdb_board.specs.Board.{GoOn};
+ghost use Rattle.sdb_contents.specs.Board.{GoOn};
 ghost use Rattle.sdb_client.specs.Client.{IsIdle};
 ghost use Rattle.sdb_tables.specs.Turns.{IsAnsweredIn, IsRolledBackIn, turn};
 

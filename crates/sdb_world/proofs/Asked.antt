@@ -8,9 +8,9 @@ use Rattle.sdb_model.specs.declared.event.Event.{Event}
 use Rattle.sdb_model.specs.declared.event.Event.TheVariants as event
 use Rattle.sdb_model.specs.declared.event.How.{How}
 use Rattle.sdb_model.specs.Rows.{Name}
-use Rattle.sdb_board.specs.Board.{IsDelivered}
-use Rattle.sdb_board.proofs.Made.{unasked}
-use Rattle.sdb_executions.specs.World.{WorldAt}
+use Rattle.sdb_contents.specs.Board.{IsDelivered}
+use Rattle.sdb_contents.proofs.Made.{unasked}
+use Rattle.law_runs.specs.World.{WorldAt}
 use Rattle.sdb_world.specs.Asked.{AskedBy, AsksOnce}
 use Rattle.sdb_world.specs.Step.{HasStopped, HasStarted}
 

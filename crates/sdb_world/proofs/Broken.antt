@@ -11,8 +11,8 @@ use Rattle.sdb_model.specs.declared.event.How.{How}
 use Rattle.sdb_model.specs.declared.event.How.TheVariants as how
 use Rattle.sdb_model.specs.Rows.{Name}
 use Rattle.sdb_model.specs.Counted.{broken_in, is_broken}
-use Rattle.sdb_board.specs.Board.{GoOn}
-use Rattle.sdb_executions.specs.World.{WorldAt}
+use Rattle.sdb_contents.specs.Board.{GoOn}
+use Rattle.law_runs.specs.World.{WorldAt}
 use Rattle.sdb_world.specs.Step.{HasStopped, HasStarted}
 use Rattle.sdb_world.specs.Broken.{BreaksWithin}
 

@@ -8,18 +8,18 @@ use Rattle.sdb_types.specs.declared.place.Place.{Place}
 use Rattle.sdb_model.specs.declared.script.Script.{Script}
 use Rattle.sdb_model.specs.Events.{Effect, IsTrace, StoreContents}
 use Rattle.sdb_model.specs.Explained.{Explained, AreTransactional}
-use Rattle.sdb_spread.specs.Spread.{HoldAs}
+use Rattle.law_protocol.specs.Spread.{HoldAs}
 use Rattle.sdb_stores.specs.Views.{Attached}
-use Rattle.sdb_board.specs.Board.{contents_of_views}
-use Rattle.sdb_steps.specs.Fitting.{tables_are_well_typed}
-use Rattle.sdb_steps.specs.States.{doing_of, system_of}
-use Rattle.sdb_endings.proofs.Explains.{going_is_explained, going_is_taken}
-use Rattle.sdb_endings.proofs.Moments.{lone_effect}
+use Rattle.sdb_contents.specs.Board.{contents_of_views}
+use Rattle.law_clients.specs.Fitting.{tables_are_well_typed}
+use Rattle.law_clients.specs.States.{doing_of, system_of}
+use Rattle.law_runs.proofs.Explains.{going_is_explained, going_is_taken}
+use Rattle.law_runs.proofs.Moments.{lone_effect}
 use Rattle.sdb_execution.specs.Execution.{IsExecution, IsReachedBy}
-use Rattle.sdb_executions.specs.World.{IsWorld, WorldAt, states_of, state_of}
-use Rattle.sdb_executions.specs.Linked.{one_name}
-use Rattle.sdb_executions.proofs.Steps.{execution_linked}
-use Rattle.sdb_executions.proofs.Beginnings.{no_coordinator}
+use Rattle.law_runs.specs.World.{IsWorld, WorldAt, states_of, state_of}
+use Rattle.law_runs.specs.Linked.{one_name}
+use Rattle.law_runs.proofs.Steps.{execution_linked}
+use Rattle.law_runs.proofs.Beginnings.{no_coordinator}
 use Rattle.sdb_world.specs.Ran.{HasRun}
 use Rattle.sdb_world.specs.Step.{HasCome, IsExecutionStep, IsOne}
 use Rattle.sdb_world.specs.Explained.{IsExplained, IsExplainedAfter}

@@ -13,28 +13,28 @@ use Rattle.sdb_model.specs.declared.statement.Statement.{Statement}
 use Rattle.sdb_model.specs.Events.{IsTrace, StoreContents}
 use Rattle.sdb_model.specs.Exec.{Tables}
 use Rattle.sdb_model.specs.Transactions.{Recorded, Executed}
-use Rattle.sdb_laws.specs.Explained.{IsRunOf, newest_first}
-use Rattle.sdb_laws.specs.History.{History, ProtocolState}
-use Rattle.sdb_laws.specs.Lawful.{IsLawful, id, protocol_state}
-use Rattle.sdb_laws.specs.Serial.{IsIn}
-use Rattle.sdb_laws.specs.Trace.{IsTraced, StartsEmpty, closing, history}
-use Rattle.sdb_laws.proofs.Derived.{points_differ, recorded_row, row_recorded}
-use Rattle.sdb_laws.proofs.Known.{taken_fits}
-use Rattle.sdb_laws.proofs.Small.{any_key}
-use Rattle.sdb_laws.proofs.Times.{traced_of, whole_of}
-use Rattle.sdb_laws.proofs.Whole.{Whole}
-use Rattle.sdb_turns.specs.System.{SystemAt}
-use Rattle.sdb_turns.proofs.Begin.{taken_begun}
-use Rattle.sdb_story.specs.Filed.{number}
-use Rattle.sdb_story.specs.Left.{ExecutionOk, ContainsTables}
-use Rattle.sdb_story.specs.Story.{Closed, Finished, Opened, Rest, txn_ended_at}
-use Rattle.sdb_story.specs.History.{ClientHistory, begun_in, count_of}
-use Rattle.sdb_story.proofs.Faith.{beyond}
-use Rattle.sdb_story.proofs.Files.{taken_counts}
-use Rattle.sdb_story.proofs.Wholes.{order_runs}
-use Rattle.sdb_linked.specs.Invariant.{RunInvariant, OpenedOk, RanOk}
-use Rattle.sdb_linked.proofs.Ends.{ran_of}
-use Rattle.sdb_dump.proofs.Lists.{first_or_later, here_in, later_in, none_in}
+use Rattle.law_protocol.specs.Explained.{IsRunOf, newest_first}
+use Rattle.law_protocol.specs.History.{History, ProtocolState}
+use Rattle.law_protocol.specs.Lawful.{IsLawful, id, protocol_state}
+use Rattle.law_protocol.specs.Serial.{IsIn}
+use Rattle.law_protocol.specs.Trace.{IsTraced, StartsEmpty, closing, history}
+use Rattle.law_protocol.proofs.Derived.{points_differ, recorded_row, row_recorded}
+use Rattle.law_protocol.proofs.Known.{taken_fits}
+use Rattle.law_protocol.proofs.Small.{any_key}
+use Rattle.law_protocol.proofs.Times.{traced_of, whole_of}
+use Rattle.law_protocol.proofs.Whole.{Whole}
+use Rattle.law_clients.specs.System.{SystemAt}
+use Rattle.law_clients.proofs.Begin.{taken_begun}
+use Rattle.law_clients.specs.Filed.{number}
+use Rattle.law_clients.specs.Left.{ExecutionOk, ContainsTables}
+use Rattle.law_clients.specs.Story.{Closed, Finished, Opened, Rest, txn_ended_at}
+use Rattle.law_clients.specs.History.{ClientHistory, begun_in, count_of}
+use Rattle.law_clients.proofs.Faith.{beyond}
+use Rattle.law_clients.proofs.Files.{taken_counts}
+use Rattle.law_clients.proofs.Wholes.{order_runs}
+use Rattle.law_clients.specs.Invariant.{RunInvariant, OpenedOk, RanOk}
+use Rattle.law_clients.proofs.InvariantEnds.{ran_of}
+use Rattle.sdb_contents.proofs.DumpLists.{first_or_later, here_in, later_in, none_in}
 use Rattle.sdb_world.proofs.Orders.{ordered}
 
 all_in : (P : ℕ → Type 0) (ts : List ℕ) → ((t : ℕ) → IsIn t ts → P t) → AllByRecursion P ts

@@ -27,22 +27,22 @@ use Rattle.sdb_model.specs.Events.{StoreContents, standing}
 use Rattle.sdb_model.specs.Exec.{Tables, find_table, row_of_entry}
 use Rattle.sdb_model.specs.Images.{decision_at, decision_on, row_at}
 use Rattle.sdb_model.specs.Transactions.{Recorded}
-use Rattle.sdb_steps.specs.Fitting.{row_is_well_typed, tables_are_well_typed}
-use Rattle.sdb_story.specs.Left.{ContainsTables}
-use Rattle.sdb_steps.proofs.RowsFit.{is_fitting, Entries}
-use Rattle.sdb_spread.specs.Spread.{one_store}
-use Rattle.sdb_spread.proofs.Single.{Single, single}
-use Rattle.sdb_spread.proofs.Told.{one_standing}
-use Rattle.sdb_board.specs.Opening.{records_of}
-use Rattle.sdb_dump.specs.Decided.{recorded_among}
-use Rattle.sdb_dump.proofs.Coordinated.{recorded_all, recorded_has, recorded_small}
-use Rattle.sdb_dump.proofs.Images.{decision_there, records_rise}
-use Rattle.sdb_dump.proofs.Lists.{first_or_later, none_in}
-use Rattle.sdb_endings.proofs.Ended.{decides, starts_empty}
-use Rattle.sdb_executions.specs.Linked.{one_name}
-use Rattle.sdb_executions.specs.World.{IsWorld, WorldAt, states_of}
-use Rattle.sdb_executions.proofs.Steps.{execution_linked}
-use Rattle.sdb_steps.specs.States.{doing_of, system_of}
+use Rattle.law_clients.specs.Fitting.{row_is_well_typed, tables_are_well_typed}
+use Rattle.law_clients.specs.Left.{ContainsTables}
+use Rattle.law_clients.proofs.RowsFit.{is_fitting, Entries}
+use Rattle.law_protocol.specs.Spread.{one_store}
+use Rattle.law_protocol.proofs.Single.{Single, single}
+use Rattle.law_protocol.proofs.Told.{one_standing}
+use Rattle.sdb_contents.specs.Opening.{records_of}
+use Rattle.sdb_contents.specs.Decided.{recorded_among}
+use Rattle.sdb_contents.proofs.Coordinated.{recorded_all, recorded_has, recorded_small}
+use Rattle.sdb_contents.proofs.Images.{decision_there, records_rise}
+use Rattle.sdb_contents.proofs.DumpLists.{first_or_later, none_in}
+use Rattle.law_runs.proofs.Ended.{decides, starts_empty}
+use Rattle.law_runs.specs.Linked.{one_name}
+use Rattle.law_runs.specs.World.{IsWorld, WorldAt, states_of}
+use Rattle.law_runs.proofs.Steps.{execution_linked}
+use Rattle.law_clients.specs.States.{doing_of, system_of}
 use Rattle.sdb_world.specs.Ran.{HasRun}
 use Rattle.sdb_world.proofs.FinalRows.{tables_left}
 

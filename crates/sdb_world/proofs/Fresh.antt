@@ -5,7 +5,7 @@ use Rattle.sdb_model.specs.declared.event.Event.{Event}
 use Rattle.sdb_model.specs.declared.script.Script.{Script}
 use Rattle.sdb_execution.specs.declared.slot.ClientSlot.{ClientSlot}
 use Rattle.sdb_execution.specs.Execution.{AreFresh, IsInitial}
-use Rattle.sdb_executions.specs.World.{state_of}
+use Rattle.law_runs.specs.World.{state_of}
 
 pub initial_new : (script : Script) (count : ℕ) (client_slots : List ClientSlot) (events : List Event) → count ≡ length script.clients → AreFresh count client_slots → IsInitial script (state_of (record { script = script; client_slots = client_slots; events = events; clock = pos 0 }))
 initial_new script count client_slots events few h = record { fresh = subst (λ (n : ℕ). AreFresh n client_slots) few h; clock = refl }

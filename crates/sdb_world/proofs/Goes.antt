@@ -6,8 +6,8 @@ use Rattle.sdb_types.specs.declared.place.Place.{Place}
 use Rattle.sdb_model.specs.declared.script.Script.{Script}
 use Rattle.sdb_model.specs.Events.{Effect, IsTrace, StoreContents}
 use Rattle.sdb_stores.specs.Views.{Attached}
-use Rattle.sdb_board.specs.Board.{AreUsable, GoOn, contents_of_views}
-use Rattle.sdb_executions.specs.World.{WorldAt, state_of}
+use Rattle.sdb_contents.specs.Board.{AreUsable, GoOn, contents_of_views}
+use Rattle.law_runs.specs.World.{WorldAt, state_of}
 use Rattle.sdb_execution.proofs.Paths.{paths_on}
 use Rattle.sdb_execution.specs.Execution.{IsPath, IsStepFrom}
 use Rattle.sdb_world.specs.Step.{HasCome, IsExecutionStep}

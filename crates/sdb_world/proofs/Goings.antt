@@ -12,7 +12,7 @@ use Rattle.sdb_stores.specs.Views.{Attached}
 use Rattle.sdb_client.specs.Client.{IsIdle}
 use Rattle.sdb_execution.specs.declared.slot.ClientSlot.{ClientSlot}
 use Rattle.sdb_world.specs.declared.delivery.Delivery.{Delivery}
-use Rattle.sdb_executions.specs.World.{IsWorld, WorldAt, at_moment, with_event}
+use Rattle.law_runs.specs.World.{IsWorld, WorldAt, at_moment, with_event}
 use Rattle.sdb_world.specs.Step.{CanAct, HasCalled, HasLeft, HasStarted, IsBusyAt, IsIdleAt, IsNumber, act_of}
 use Rattle.sdb_world.proofs.Acts.{Came, acts_call, acts_clock, acts_idle, acts_take}
 use Rattle.sdb_world.proofs.Takings.{read_there}

@@ -3,7 +3,7 @@ use Rattle.std.proofs.Common.{refl}
 use Rattle.sdb_types.specs.declared.record.Reply.{Reply}
 use Rattle.sdb_types.specs.declared.record.Reply.TheVariants as reply
 use Rattle.sdb_model.specs.Follows.{IsHowOfLose, IsHowOfStep}
-use Rattle.sdb_board.specs.Board.{how_lost, how_seen, reply_lost}
+use Rattle.sdb_contents.specs.Board.{how_lost, how_seen, reply_lost}
 
 pub seen_allowed : (r : Reply) → IsHowOfStep (how_seen r) r
 seen_allowed (reply.Found found) = refl

@@ -3,9 +3,9 @@ use Rattle.std.proofs.Common.{◌≡◌, ◌≢◌, ◌⊎◌, inl, inr, ℕ, �
 use Rattle.std.specs.Prelude.{◌==◌, nat_lt}
 use Rattle.std.proofs.lemmas.Bool.Decides.{nat_tests}
 use Rattle.sdb_record.specs.declared.coordinator.Decision.TheVariants.{Committed}
-use Rattle.sdb_laws.specs.Explained.{PointsDiffer}
-use Rattle.sdb_laws.specs.History.{History}
-use Rattle.sdb_laws.specs.Serial.{AllAbove, IsIn, IsOrdered, IsRising}
+use Rattle.law_protocol.specs.Explained.{PointsDiffer}
+use Rattle.law_protocol.specs.History.{History}
+use Rattle.law_protocol.specs.Serial.{AllAbove, IsIn, IsOrdered, IsRising}
 use Rattle.sdb_types.proofs.Basics.{by_test, eq_of, lt_of}
 
 -- one number is less, the same, or greater

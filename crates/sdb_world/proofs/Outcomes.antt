@@ -25,21 +25,21 @@ use Rattle.sdb_model.specs.Exec.{Tables, find_table}
 use Rattle.sdb_model.specs.Images.{decision_at, decision_on, row_at}
 use Rattle.sdb_model.specs.Serial.{AreImages, IsRun, dumps_of, serial}
 use Rattle.sdb_model.specs.Transactions.{Recorded}
-use Rattle.sdb_steps.specs.Fitting.{row_is_well_typed, tables_are_well_typed}
-use Rattle.sdb_linked.specs.Invariant.{RunInvariant}
-use Rattle.sdb_steps.specs.States.{ClientState, doing_of, system_of}
-use Rattle.sdb_steps.proofs.RowsFit.{is_fitting}
-use Rattle.sdb_dump.specs.Dumped.{image_is_well_typed, row_by}
-use Rattle.sdb_dump.specs.Odd.{IsOddAt}
-use Rattle.sdb_endings.specs.Ending.{IsEnd}
-use Rattle.sdb_endings.specs.Order.{HasRisen}
-use Rattle.sdb_endings.specs.Stores.{AreSound, IsTraceOnEmpty}
-use Rattle.sdb_endings.proofs.Ended.{going_is_run_on_stores}
-use Rattle.sdb_endings.proofs.OnStores.{points_on_stores, sound_on_stores}
-use Rattle.sdb_endings.proofs.Ordered.{is_order, risen_fits}
-use Rattle.sdb_executions.specs.World.{IsWorld, WorldAt, states_of}
-use Rattle.sdb_executions.specs.Linked.{on_one, one_name}
-use Rattle.sdb_executions.proofs.Steps.{execution_linked}
+use Rattle.law_clients.specs.Fitting.{row_is_well_typed, tables_are_well_typed}
+use Rattle.law_clients.specs.Invariant.{RunInvariant}
+use Rattle.law_clients.specs.States.{ClientState, doing_of, system_of}
+use Rattle.law_clients.proofs.RowsFit.{is_fitting}
+use Rattle.sdb_contents.specs.Dumped.{image_is_well_typed, row_by}
+use Rattle.sdb_contents.specs.Odd.{IsOddAt}
+use Rattle.law_runs.specs.Ending.{IsEnd}
+use Rattle.law_runs.specs.Order.{HasRisen}
+use Rattle.law_runs.specs.Stores.{AreSound, IsTraceOnEmpty}
+use Rattle.law_runs.proofs.Ended.{going_is_run_on_stores}
+use Rattle.law_runs.proofs.OnStores.{points_on_stores, sound_on_stores}
+use Rattle.law_runs.proofs.Ordered.{is_order, risen_fits}
+use Rattle.law_runs.specs.World.{IsWorld, WorldAt, states_of}
+use Rattle.law_runs.specs.Linked.{on_one, one_name}
+use Rattle.law_runs.proofs.Steps.{execution_linked}
 use Rattle.sdb_world.specs.Ran.{HasRun}
 use Rattle.sdb_world.proofs.Fitting.{final_row_fits, found_by_name}
 

@@ -10,7 +10,7 @@ use Rattle.sdb_model.specs.declared.script.Move.TheVariants as move
 use Rattle.sdb_model.specs.declared.script.Script.{Script}
 use Rattle.sdb_model.specs.declared.script.ScriptClient.{ScriptClient}
 use Rattle.sdb_model.specs.Follows.{AllIdle, AreOfMoves, AreStepsOf, IsHowOfStep, IsOfMove, IsRest, IsStep, IsTurn, end_of, has_work}
-use Rattle.sdb_board.proofs.Lists.{take_suc}
+use Rattle.sdb_contents.proofs.Lists.{take_suc}
 use Rattle.sdb_world.specs.Step.{AreSteps, CanAct, CanMove, IsNumber, IsOne}
 
 ---- who is idle

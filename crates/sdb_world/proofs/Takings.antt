@@ -18,12 +18,12 @@ use Rattle.sdb_model.specs.Events.{store_of, table_asked}
 use Rattle.sdb_model.specs.Follows.{texts_of}
 use Rattle.sdb_client.specs.Client.{ClientAt, ReplyPost, client_pending, next_id, TextStep}
 use Rattle.sdb_client.specs.declared.gate.Gate.{Gate}
-use Rattle.sdb_board.specs.Board.{AreUsable, IsMade, contents_of_views}
-use Rattle.sdb_board.proofs.Made.{asked}
-use Rattle.sdb_board.proofs.Shelves.{named_home}
+use Rattle.sdb_contents.specs.Board.{AreUsable, IsMade, contents_of_views}
+use Rattle.sdb_contents.proofs.Made.{asked}
+use Rattle.sdb_contents.proofs.Shelves.{named_home}
 use Rattle.sdb_execution.specs.declared.slot.ClientSlot.{ClientSlot}
 use Rattle.sdb_world.specs.declared.delivery.Delivery.{Delivery}
-use Rattle.sdb_executions.specs.World.{IsWorld, WorldAt}
+use Rattle.law_runs.specs.World.{IsWorld, WorldAt}
 use Rattle.sdb_world.specs.Step.{HasCalled, HasLeft, HasStarted, IsDeliveryOf, IsPendingAt}
 use Rattle.sdb_execution.specs.Execution.{IsGateAt}
 use Rattle.sdb_types.proofs.Basics.{some_is}

@@ -8,7 +8,7 @@ use Rattle.sdb_txn.specs.declared.txn.Doing.TheVariants as doing
 use Rattle.sdb_txn.specs.Txn.{TxnAt}
 use Rattle.sdb_vacuum.specs.Vacuum.{VacuumAt}
 use Rattle.sdb_execution.specs.declared.slot.ClientSlot.{ClientSlot}
-use Rattle.sdb_executions.specs.World.{IsClientState, IsWorld, WorldAt}
+use Rattle.law_runs.specs.World.{IsClientState, IsWorld, WorldAt}
 
 -- a client waits for one thing
 pub not_both : (c : ClientAt) → IsIdle c → IsBusy c → ⊥

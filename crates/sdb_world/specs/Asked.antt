@@ -3,7 +3,7 @@ use Rattle.std.specs.Prelude.{◌≡◌, ◌++◌, ◌∷◌, [], List}
 use Rattle.sdb_stores.specs.Views.{Attached, AreUnchanged}
 use Rattle.sdb_model.specs.declared.event.Event.{Event}
 use Rattle.sdb_model.specs.declared.event.Event.TheVariants as event
-use Rattle.sdb_board.specs.Board.{IsDelivered}
+use Rattle.sdb_contents.specs.Board.{IsDelivered}
 
 -- What an event says that the stores were asked: of a call, one call of the store of its table, or none where it was discarded; of any other
 -- event, nothing, and they are as they were.

@@ -7,10 +7,10 @@ use Rattle.sdb_model.specs.declared.script.Script.{Script}
 use Rattle.sdb_model.specs.Events.{IsTrace, StoreContents}
 use Rattle.sdb_model.specs.Explained.{Explained, AreTransactional}
 use Rattle.sdb_model.specs.DirtyReads.{NoDirtyReads}
-use Rattle.sdb_spread.specs.Spread.{HoldAs}
+use Rattle.law_protocol.specs.Spread.{HoldAs}
 use Rattle.sdb_stores.specs.Views.{Attached}
-use Rattle.sdb_board.specs.Board.{AreUsable, contents_of_views}
-use Rattle.sdb_executions.specs.World.{WorldAt, state_of}
+use Rattle.sdb_contents.specs.Board.{AreUsable, contents_of_views}
+use Rattle.law_runs.specs.World.{WorldAt, state_of}
 use Rattle.sdb_execution.specs.Execution.{IsReachedBy}
 
 -- What was there at each of these moments is explained by the events of a script's run, what each recorded transaction read is

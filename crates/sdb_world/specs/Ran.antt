@@ -11,11 +11,11 @@ use Rattle.sdb_model.specs.Events.{IsTrace, StoreContents}
 use Rattle.sdb_model.specs.Follows.{Follows}
 use Rattle.sdb_model.specs.Serial.{IsRun}
 use Rattle.sdb_model.specs.Transactions.{Recorded, point}
-use Rattle.sdb_spread.specs.Spread.{HoldAs}
+use Rattle.law_protocol.specs.Spread.{HoldAs}
 use Rattle.sdb_stores.specs.Views.{Attached}
-use Rattle.sdb_board.specs.Board.{AreUsable, AreUsableFor, contents_of_views}
-use Rattle.sdb_dump.specs.Held.{AreDumpsWhereKnown, AreWellFormedWhereKnown}
-use Rattle.sdb_executions.specs.World.{WorldAt}
+use Rattle.sdb_contents.specs.Board.{AreUsable, AreUsableFor, contents_of_views}
+use Rattle.sdb_contents.specs.Held.{AreDumpsWhereKnown, AreWellFormedWhereKnown}
+use Rattle.law_runs.specs.World.{WorldAt}
 use Rattle.sdb_execution.specs.Execution.{IsExecution}
 use Rattle.sdb_world.specs.Explained.{IsExplained}
 

@@ -21,11 +21,11 @@ use Rattle.sdb_model.specs.Follows.{AllIdle, AreOfMoves, AreStepsOf, IsActed, Is
 use Rattle.sdb_client.specs.Client.{ClientAt, IsBusy, IsIdle, ReplyPost, client_pending, next_id, TextStep}
 use Rattle.sdb_client.specs.declared.gate.Gate.{Gate}
 use Rattle.sdb_stores.specs.Views.{Attached}
-use Rattle.sdb_board.specs.Board.{AreUsable, IsMade, contents_of_views}
+use Rattle.sdb_contents.specs.Board.{AreUsable, IsMade, contents_of_views}
 use Rattle.sdb_execution.specs.declared.slot.ClientSlot.{ClientSlot}
 use Rattle.sdb_world.specs.declared.delivery.Delivery.{Delivery}
 use Rattle.sdb_world.specs.declared.delivery.Delivery.TheVariants as way
-use Rattle.sdb_executions.specs.World.{WorldAt, state_of, with_event, with_client}
+use Rattle.law_runs.specs.World.{WorldAt, state_of, with_event, with_client}
 use Rattle.sdb_execution.specs.Execution.{IsGateAt, IsPath, client_after, client_stopped}
 use Rattle.sdb_model.specs.Tables.{is_table_of_run}
 use Rattle.sdb_model.specs.Calls.{is_stored_reply}

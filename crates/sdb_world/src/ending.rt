@@ -1,13 +1,13 @@
 //! The outcome of a run.
 ghost use Rattle.std.specs.Prelude.{◌≡◌, ◌<◌, length, IfOk, IfErr, OnOk};
-ghost use Rattle.sdb_board.specs.Board.{AreUsable, GoOn, HoldTheSame, KnownAreUnchanged, known_before};
-ghost use Rattle.sdb_dump.specs.Held.{IsOddIn};
-ghost use Rattle.sdb_dump.specs.Refused.{RefusesOn};
-ghost use Rattle.sdb_executions.specs.World.{IsWorld};
+ghost use Rattle.sdb_contents.specs.Board.{AreUsable, GoOn, HoldTheSame, KnownAreUnchanged, known_before};
+ghost use Rattle.sdb_contents.specs.Held.{IsOddIn};
+ghost use Rattle.sdb_contents.specs.Refused.{RefusesOn};
+ghost use Rattle.law_runs.specs.World.{IsWorld};
 ghost use Rattle.sdb_world.specs.Ran.{HasNotRun, IsOutcomeOf, IsRunExplained, IsReadWhereKnown};
 
 use crate::world::World;
-use sdb_dump::{Closing, ClosingRefused, closing_dump};
+use sdb_contents::{Closing, ClosingRefused, closing_dump};
 use sdb_model::Outcome;
 use sdb_order::order_of;
 use sdb_stores::Registry;

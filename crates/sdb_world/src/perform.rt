@@ -3,11 +3,11 @@ ghost use Rattle.std.specs.Prelude.{◌≡◌, ◌<◌, length};
 ghost use Rattle.sdb_types.specs.Contents.{CanAnswer};
 ghost use Rattle.sdb_stores.specs.Views.{HaveRisen};
 ghost use Rattle.sdb_model.specs.Events.{table_asked};
-ghost use Rattle.sdb_board.specs.Board.{AreUsableFor, GoOn, IsDelivered, IsMade, how_lost as how_lost_lem, how_seen as how_seen_lem, reply_lost as reply_lost_lem};
+ghost use Rattle.sdb_contents.specs.Board.{AreUsableFor, GoOn, IsDelivered, IsMade, how_lost as how_lost_lem, how_seen as how_seen_lem, reply_lost as reply_lost_lem};
 ghost use Rattle.sdb_world.specs.Step.{IsDeliveryOf};
 
 use crate::delivery::Delivery;
-use sdb_board::call;
+use sdb_contents::call;
 use sdb_model::How;
 use sdb_stores::Registry;
 use sdb_types::{Reply, Request};

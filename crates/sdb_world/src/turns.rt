@@ -1,8 +1,8 @@
 //! The moves of a script, one after the other.
 ghost use Rattle.std.specs.Prelude.{◌≡◌, ◌<◌, ◌≤◌, length, Some, IfSome, IfNone, OnOk, slice_get};
 ghost use Rattle.sdb_model.specs.Follows.{AllIdle, IsRest, IsTurn, end_of};
-ghost use Rattle.sdb_board.specs.Board.{GoOn};
-ghost use Rattle.sdb_executions.specs.World.{IsWorld};
+ghost use Rattle.sdb_contents.specs.Board.{GoOn};
+ghost use Rattle.law_runs.specs.World.{IsWorld};
 ghost use Rattle.sdb_world.specs.Broken.{BreaksWithin};
 ghost use Rattle.sdb_world.specs.Step.{CanFollow, CanMove, HasCome, HasFollowed, HasMadeMove, HasStepped, IsFirst, IsNumber};
 

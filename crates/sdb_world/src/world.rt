@@ -1,9 +1,9 @@
 //! A world, the state of a run: the clients of a script, and the events so far.
 ghost use Rattle.std.specs.Prelude.{◌≡◌, ◌<◌, ◌≤◌, [], suc, length, Some, IfOk, OnOk, IfSome, slice_get};
 ghost use Rattle.sdb_model.specs.Follows.{has_work as has_work_lem, texts_of};
-ghost use Rattle.sdb_board.specs.Board.{GoOn};
+ghost use Rattle.sdb_contents.specs.Board.{GoOn};
 ghost use Rattle.sdb_execution.specs.Execution.{IsGateAt, IsInitial, IsPlayable};
-ghost use Rattle.sdb_executions.specs.World.{IsWorld, state_of};
+ghost use Rattle.law_runs.specs.World.{IsWorld, state_of};
 ghost use Rattle.sdb_world.specs.Asked.{AsksOnce};
 ghost use Rattle.sdb_world.specs.Broken.{BreaksWithin};
 ghost use Rattle.sdb_world.specs.Explained.{IsExplainedAfter};
@@ -40,7 +40,7 @@ impl Drop for World {
 }
 
 impl Model for World {
-    ghost use Rattle.sdb_executions.specs.World.{WorldAt};
+    ghost use Rattle.law_runs.specs.World.{WorldAt};
 
     ghost Value = { WorldAt };
 

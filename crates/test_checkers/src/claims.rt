@@ -1,5 +1,5 @@
 //! Scripts with events that claim to be an execution of their clients.
-use sdb_executed::is_execution;
+use check_answers::is_execution;
 use sdb_report::read_report;
 use sdb_script::read_script;
 use sdb_types::{Name, Names};

@@ -1,10 +1,10 @@
 //! The events of a run, named in short.
 use crate::writes::{ONE, Second, THREE, TWO, account, held, left, prepared_of, write_of};
+use check_protocol::{Ack, Action, Labelled, Plan, ReadItem};
 use sdb_model::{Answer, Event, How};
 use sdb_record::{
     Decision, Read, Writes, condition_of, coordinator_key, coordinator_row, version_of,
 };
-use sdb_said::{Ack, Action, Labelled, Plan, ReadItem};
 use sdb_types::{Condition, Key, Name, Record, Records, Reply, Request, Seq, State, TxId, Txt};
 use std::alloc::Global;
 use std::test::Fail;

@@ -1,8 +1,7 @@
 //! Worked runs, and runs that leave a rule at one event.
 use crate::events::{Found, Step, add_plans, add_steps};
 use crate::writes::{ONE, Second, THREE, TWO};
-use sdb_lawful::is_lawful;
-use sdb_said::{Labelled, Plan};
+use check_protocol::{Labelled, Plan, is_lawful};
 use sdb_types::{Condition, State};
 use std::alloc::Global;
 use std::test::Fail;

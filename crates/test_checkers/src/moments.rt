@@ -1,8 +1,8 @@
 //! What a store that was empty contains after each event.
+use check_answers::{Shelves, StoreContents, Stores};
+use check_tables::PlainTables;
 use sdb_model::{Event, How, Places};
 use sdb_ordered::Tree;
-use sdb_plain::PlainTables;
-use sdb_runs::{Shelves, StoreContents, Stores};
 use sdb_store::Rows;
 use sdb_types::{Duplicate, Name, NameRefused, NoMemory, Record, Request, Seq};
 use std::alloc::Global;

@@ -1,10 +1,11 @@
 //! Events read from reports, and what is asked of them.
 use crate::moments::stores_of;
-use sdb_caused::answers_have_causes;
+use check_answers::{
+    answers_have_causes, broken_in, calls_are_counted, have_no_dirty_reads, records_are_resolved,
+};
 use sdb_loader::catalog_of;
 use sdb_model::Event;
 use sdb_report::read_report;
-use sdb_runs::{broken_in, calls_are_counted, have_no_dirty_reads, records_are_resolved};
 use sdb_schema::Catalog;
 use std::alloc::Global;
 use std::test::Fail;

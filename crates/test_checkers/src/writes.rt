@@ -1,5 +1,5 @@
 //! The writes of two clients to one account, and the records that they leave there.
-use sdb_lawful::prepared_if_sound;
+use check_protocol::prepared_if_sound;
 use sdb_record::{Change, Write, rolled_forward};
 use sdb_types::{Key, Record, TxId};
 use std::alloc::Global;

@@ -64,7 +64,7 @@ fn quick(alloc: Global) -> Result<Points, Fail> {
 fn slow(alloc: Global) -> Result<Points, Fail> {
     let events = events(alloc)?;
     let ids = Seq::from_slice(alloc, [WRITER, READER].as_slice())?;
-    Ok(sdb_plain::order_of(alloc, events.as_slice(), ids.as_slice())?)
+    Ok(check_tables::order_of(alloc, events.as_slice(), ids.as_slice())?)
 }
 
 fn is_wanted(points: &Points) -> bool {

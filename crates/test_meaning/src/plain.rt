@@ -1,7 +1,7 @@
 //! One client inserts one account: the answers, the row, and the place in the order.
+use check_tables::{Answers, Bodies, Body, PlainTables, order_of, point, serial};
 use sdb_loader::catalog_of;
 use sdb_model::{Answer, Point};
-use sdb_plain::{Answers, Bodies, Body, PlainTables, order_of, point, serial};
 use sdb_sqltext::parse_statement;
 use sdb_types::{Condition, Name, Seq, TxId, Value};
 use std::alloc::Global;

@@ -1,8 +1,8 @@
 //! Statements one after the other: the answer of each plan, and what it leaves, beside those of the slow functions.
 use crate::shop::shop;
+use check_tables::{PlainTables, exec};
 use sdb_exec::{Plan, PlanStep};
 use sdb_model::{Answer, Statement};
-use sdb_plain::{PlainTables, exec};
 use sdb_record::{Access, Change, Changes, Image, Images, Keyed};
 use sdb_schema::Catalog;
 use sdb_sqltext::parse_statement;

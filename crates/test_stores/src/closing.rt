@@ -1,6 +1,6 @@
 //! The closing dump of stores: it names the first record that isn't well formed, and gives rows where each is.
 use crate::attached::{attach_both, runs};
-use sdb_dump::{ClosingRefused, closing_dump};
+use sdb_contents::{ClosingRefused, closing_dump};
 use sdb_loader::catalog_of;
 use sdb_schema::Catalog;
 use sdb_stores::{Registry, Stores};

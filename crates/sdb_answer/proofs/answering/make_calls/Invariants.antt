@@ -2,8 +2,8 @@ use Rattle.std.proofs.Common.{◌<◌, length, List}
 use Rattle.sdb_schema.specs.declared.table.Table.{Table}
 use Rattle.sdb_stores.specs.Views.{HaveRisen}
 use Rattle.sdb_session.specs.Faults.{IsAfterFault}
-use Rattle.sdb_board.specs.Board.{GoOn}
-use Rattle.sdb_steps.specs.About.{IsOfTables}
+use Rattle.sdb_contents.specs.Board.{GoOn}
+use Rattle.law_clients.specs.About.{IsOfTables}
 use Rattle.sdb_session.specs.Between.{Waits}
 use Rattle.sdb_session.specs.Working.{IsAtWork}
 use Rattle.sdb_answer.specs.Answering.{IsWorking, WaitsOver, database_in}

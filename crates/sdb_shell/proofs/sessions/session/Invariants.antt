@@ -1,5 +1,5 @@
 use Rattle.std.proofs.Common.{◌<◌, ◌≤◌, length}
-use Rattle.sdb_board.specs.Board.{GoOn}
+use Rattle.sdb_contents.specs.Board.{GoOn}
 use Rattle.sdb_shell.specs.Ahead.{left}
 use Rattle.sdb_shell.specs.Session.{IsSoFar}
 use Rattle.sdb_shell.proofs.sessions.session.Given as goal

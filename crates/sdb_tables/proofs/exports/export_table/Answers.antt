@@ -1,5 +1,5 @@
 use Rattle.std.proofs.Common.{refl}
-use Rattle.sdb_board.proofs.GoesOn.{goes_none}
+use Rattle.sdb_contents.proofs.GoesOn.{goes_none}
 use Rattle.sdb_tables.specs.declared.fault.ExportRefused.TheVariants as refused
 use Rattle.sdb_tables.specs.Ends.{ends}
 use Rattle.sdb_tables.specs.Exports.{IsNotExported}

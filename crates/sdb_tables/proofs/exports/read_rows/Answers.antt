@@ -1,4 +1,4 @@
-use Rattle.sdb_board.proofs.GoesOn.{goes_more}
+use Rattle.sdb_contents.proofs.GoesOn.{goes_more}
 use Rattle.sdb_tables.specs.declared.fault.ExportRefused.TheVariants as refused
 use Rattle.sdb_tables.specs.Exports.{HaveNotRead}
 use Rattle.sdb_tables.specs.Turns.{point}

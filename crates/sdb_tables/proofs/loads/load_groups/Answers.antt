@@ -2,7 +2,7 @@ use Rattle.std.proofs.Common.{◌≡◌, ◌<◌, ◌∙◌, false, length, take
 use Rattle.std.specs.Prelude.{◌==◌}
 use Rattle.std.proofs.lemmas.Bool.Decides.{nat_tests}
 use Rattle.sdb_types.proofs.Basics.{eq_of}
-use Rattle.sdb_board.proofs.GoesOn.{goes_more, goes_none, some_more}
+use Rattle.sdb_contents.proofs.GoesOn.{goes_more, goes_none, some_more}
 use Rattle.sdb_tables.specs.Turns.{point}
 use Rattle.sdb_tables.proofs.LoadSteps.{loaded_all, so_more, so_start, starved_so_far}
 use Rattle.sdb_tables.proofs.Points.{all_errs, so_none}

@@ -1,5 +1,5 @@
 use Rattle.std.proofs.Common.{◌<◌, length, string_bytes}
-use Rattle.sdb_board.specs.Board.{GoOn}
+use Rattle.sdb_contents.specs.Board.{GoOn}
 use Rattle.sdb_client.specs.Client.{IsIdle}
 use Rattle.sdb_tables.specs.Turns.{point}
 use Rattle.sdb_tables.proofs.LoadSteps.{AreLoadedSoFar}

@@ -1,5 +1,5 @@
 use Rattle.std.proofs.Common.{◌<◌, ◌≤◌, length, take}
-use Rattle.sdb_board.specs.Board.{GoOn}
+use Rattle.sdb_contents.specs.Board.{GoOn}
 use Rattle.sdb_client.specs.Client.{IsIdle}
 use Rattle.sdb_tables.specs.Turns.{AreAllExecuted, point}
 use Rattle.sdb_tables.proofs.rows.take_rows.Given as goal

@@ -1,7 +1,7 @@
 use Rattle.std.proofs.Common.{◌<◌, length, take}
 use Rattle.sdb_model.specs.Follows.{AreOfMoves}
-use Rattle.sdb_board.specs.Board.{GoOn}
-use Rattle.sdb_executions.specs.World.{IsWorld}
+use Rattle.sdb_contents.specs.Board.{GoOn}
+use Rattle.law_runs.specs.World.{IsWorld}
 use Rattle.sdb_world.specs.Broken.{BreaksWithin}
 use Rattle.sdb_world.specs.Step.{HasCome}
 use Rattle.sdb_world.proofs.world.World.follow.Given as goal

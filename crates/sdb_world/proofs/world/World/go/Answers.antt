@@ -1,11 +1,11 @@
 use Rattle.std.proofs.Common.{◌≡◌, ◌-◌, ◌∙◌, ap, get_or, refl, sym}
 use Rattle.sdb_client.specs.Client.{IsBusy, IsIdle}
 use Rattle.sdb_execution.specs.declared.slot.ClientSlot.{ClientSlot}
-use Rattle.sdb_executions.specs.World.{WorldAt}
+use Rattle.law_runs.specs.World.{WorldAt}
 use Rattle.sdb_world.proofs.Goings.{at_write, goes_call, goes_idle, goes_take, left_of, place_low}
 use Rattle.sdb_world.proofs.Takings.{on_ok}
 use Rattle.sdb_model.specs.declared.event.Event.TheVariants as event
-use Rattle.sdb_board.proofs.Made.{unasked}
+use Rattle.sdb_contents.proofs.Made.{unasked}
 use Rattle.sdb_world.proofs.Asked.{asks_pushed, asks_take}
 use Rattle.sdb_world.proofs.Broken.{breaks_pushed, breaks_take}
 use Rattle.sdb_world.proofs.world.World.go.Goals as goal

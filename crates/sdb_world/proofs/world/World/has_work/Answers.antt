@@ -1,5 +1,5 @@
 use Rattle.std.proofs.Common.{◌≡◌, ◌∙◌, ap, get_or, length}
-use Rattle.sdb_executions.specs.World.{WorldAt}
+use Rattle.law_runs.specs.World.{WorldAt}
 use Rattle.sdb_world.proofs.Works.{works_busy, works_left, works_not}
 use Rattle.sdb_world.proofs.world.World.has_work.Goals as goal
 

@@ -1,6 +1,6 @@
 use Rattle.std.proofs.Common.{◌<◌, length}
-use Rattle.sdb_board.specs.Board.{GoOn}
-use Rattle.sdb_executions.specs.World.{IsWorld}
+use Rattle.sdb_contents.specs.Board.{GoOn}
+use Rattle.law_runs.specs.World.{IsWorld}
 use Rattle.sdb_world.specs.Broken.{BreaksWithin}
 use Rattle.sdb_world.specs.Step.{AreSteps, HasCome}
 use Rattle.sdb_world.proofs.world.World.repeat.Given as goal

@@ -3,7 +3,7 @@ use Rattle.sdb_model.specs.declared.event.Event.{Event}
 use Rattle.sdb_model.specs.declared.script.Act.TheVariants as act
 use Rattle.sdb_model.specs.declared.script.Script.{Script}
 use Rattle.sdb_model.specs.Follows.{IsRest, end_of}
-use Rattle.sdb_board.proofs.GoesOn.{goes_more, some_more}
+use Rattle.sdb_contents.proofs.GoesOn.{goes_more, some_more}
 use Rattle.sdb_world.specs.Step.{IsOne}
 use Rattle.sdb_world.proofs.Broken.{breaks_more}
 use Rattle.sdb_world.proofs.Goes.{come_as, come_more}

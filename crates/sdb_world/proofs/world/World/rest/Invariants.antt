@@ -1,8 +1,8 @@
 use Rattle.std.proofs.Common.{◌<◌, ◌≤◌, List, length}
 use Rattle.sdb_model.specs.declared.event.Event.{Event}
 use Rattle.sdb_model.specs.Follows.{end_of}
-use Rattle.sdb_board.specs.Board.{GoOn}
-use Rattle.sdb_executions.specs.World.{IsWorld}
+use Rattle.sdb_contents.specs.Board.{GoOn}
+use Rattle.law_runs.specs.World.{IsWorld}
 use Rattle.sdb_world.specs.Broken.{BreaksWithin}
 use Rattle.sdb_world.specs.Step.{HasCome}
 use Rattle.sdb_world.proofs.Rounds.{Rests}

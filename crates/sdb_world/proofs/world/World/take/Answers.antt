@@ -5,7 +5,7 @@ use Rattle.sdb_client.specs.Client.{TextPost, next_id, TextStep}
 use Rattle.sdb_client.specs.declared.gate.Gate.{Gate}
 use Rattle.sdb_model.specs.Follows.{texts_of}
 use Rattle.sdb_types.specs.declared.txid.TxId.{TxId}
-use Rattle.sdb_executions.specs.World.{WorldAt}
+use Rattle.law_runs.specs.World.{WorldAt}
 use Rattle.sdb_world.proofs.Takings.{next_short, some_left, took}
 use Rattle.sdb_world.proofs.world.World.take.Goals as goal
 

@@ -1,0 +1,259 @@
+-- The tests of counts hold exactly where the calls are counted.
+use Rattle.std.proofs.Common.{◌≡◌, ℕ, zero, suc, ◌+◌, ◌-◌, ◌*◌, ◌≤◌, ◌<◌, Bool, true, false, List, [], ◌∷◌, length, Option, Some, None, refl, sym, ap, ◌∙◌, arith, subst, inl, inr}
+use Rattle.std.specs.Prelude.{◌↔◌, ◌&&◌, ◌||◌, ◌==◌, not, nat_le, All, IsTrue, count_by, filter, flat_map, cond, if◌then◌else◌}
+use Rattle.std.proofs.lemmas.List.{length-append, length-map}
+use Rattle.std.proofs.lemmas.List.Elements.{filter-append}
+use Rattle.std.proofs.lemmas.Bool.Decides.{nat_tests}
+use Rattle.sdb_types.specs.declared.txid.TxId.{TxId}
+use Rattle.sdb_schema.specs.declared.table.Table.{Table}
+use Rattle.sdb_record.specs.Meta.{is_unresolved}
+use Rattle.sdb_model.specs.declared.answer.Answer.{Answer}
+use Rattle.sdb_model.specs.declared.answer.Answer.TheVariants as answer
+use Rattle.sdb_model.specs.declared.event.Event.{Event}
+use Rattle.sdb_model.specs.Calls as calls
+use Rattle.sdb_model.specs.Calls.{calls_of, is_removal, records_read}
+use Rattle.sdb_model.specs.Causes.{IsCommitOf}
+use Rattle.sdb_model.specs.Counted.{IsCommitCounted, IsReadCounted, IsVacuumCounted, calls_wanted, is_checked_get, is_key_of, is_scan, is_seen, prepares_in, unresolved_in}
+use Rattle.sdb_model.specs.ReadSet.{ReadItem, KeyRead, SpanRead, read_set_of, reads_rows}
+use Rattle.sdb_model.specs.Sql.{reads_commit, reads_vacuum}
+use Rattle.sdb_model.specs.Transactions.{Executed, id_of, prepares, statements_by, is_committed_answer}
+use Rattle.check_protocol.proofs.Lists.{In, right, or_left, not_true, true_not, not_both, all_each, each_all}
+use Rattle.check_protocol.proofs.ShownLaws.{number_is, is_number}
+use Rattle.check_tables.specs.declared.made.Made.{Made}
+use Rattle.check_tables.specs.Values.{all_made, made_of}
+use Rattle.check_answers.specs.Tests.{any_id, any_upto, is_commit_of}
+use Rattle.check_answers.proofs.Finds.{in_made, made_in, in_contains}
+use Rattle.check_answers.proofs.IdLaws.{commit_found, commit_is, is_commit, id_some, upto_step}
+use Rattle.check_answers.specs.Counts.{IsExecutedCounted, all_seen, commit_counted, covered, is_check, miscounted, others_counted, read_counted, unresolved_by, vacuum_counted, wanted}
+use Rattle.check_answers.proofs.Maps.{any_kept, count_both, count_mapped, filter_count, kept_count}
+use Rattle.sdb_types.proofs.Basics.{clash, or_second as or_right, either, decides as decide}
+use Rattle.sdb_types.proofs.Bools.{and_first as left, and_both as both}
+
+le_is : (a b : ℕ) → nat_le a b ≡ true → a ≤ b
+le_is a b h = grind (arith, nat_tests, h)
+
+is_le : (a b : ℕ) → a ≤ b → nat_le a b ≡ true
+is_le a b h = grind (arith, nat_tests, h)
+
+all_of : {X : Type 0} (P : X → Type 0) (xs : List X) → ((x : X) → In xs x → P x) → All P xs
+all_of P [] h k d lt = absurd (omega (arith, lt))
+all_of P (x ∷ xs) h zero d lt = h x (inl refl)
+all_of P (x ∷ xs) h (suc k) d lt = all_of P xs (λ y i. h y (inr i)) k d (omega (arith, lt))
+
+---- the calls of a COMMIT
+
+wanted_is : (events : List Event) (id : TxId) (ms : List Made) → calls_wanted events id (all_made ms) ≡ wanted ms (read_set_of events id) id
+wanted_is events id ms =
+    let p : length (prepares_in id (all_made ms)) ≡ count_by (λ m. prepares id m.request) ms = kept_count (λ m. prepares id m.request) made_of ms in
+    let c : count_by (is_checked_get (prepares_in id (all_made ms))) (read_set_of events id) + count_by is_scan (read_set_of events id) ≡ count_by (is_check ms id) (read_set_of events id)
+    = count_both (is_checked_get (prepares_in id (all_made ms))) is_scan (is_check ms id) item (read_set_of events id) in
+    omega (arith, p, c)
+  where
+    either_is : (b : Bool) → cond b 1 0 + 0 ≡ cond b 1 0
+    either_is true = refl
+    either_is false = refl
+
+    item : (n : ReadItem) → cond (is_checked_get (prepares_in id (all_made ms)) n) 1 0 + cond (is_scan n) 1 0 ≡ cond (is_check ms id n) 1 0
+    item (KeyRead read) = either_is (is_checked_get (prepares_in id (all_made ms)) (KeyRead read)) ∙ ap (λ b. cond (not b) 1 0) (any_kept (is_key_of read.key) (λ m. prepares id m.request) made_of ms)
+    item (SpanRead scan) = refl
+
+seen_is : (ms : List Made) → All (λ m. is_seen m.how ≡ true) (all_made ms) → all_seen ms ≡ true
+seen_is ms all = each_all (λ m. is_seen m.how) ms (λ m i. let k = in_contains (all_made ms) (made_of m) (made_in ms m i) in subst (λ x. is_seen x.how ≡ true) k.2 (all k.0 (made_of m) k.1))
+
+is_seen_of : (ms : List Made) → all_seen ms ≡ true → All (λ m. is_seen m.how ≡ true) (all_made ms)
+is_seen_of ms h = all_of (λ m. is_seen m.how ≡ true) (all_made ms) (λ c i. let r = in_made ms c i in ap (λ x. is_seen x.how) r.2 ∙ all_each (λ m. is_seen m.how) ms h r.0 r.1)
+
+told_is : (o : Option Answer) → is_committed_answer o ≡ true → o ≡ Some answer.Committed
+told_is None h = clash (sym h)
+told_is (Some answer.Committed) h = refl
+told_is (Some (answer.Rows rows)) h = clash (sym h)
+told_is (Some (answer.Count n)) h = clash (sym h)
+told_is (Some answer.Done) h = clash (sym h)
+told_is (Some (answer.Duplicate key)) h = clash (sym h)
+told_is (Some (answer.Busy key id at)) h = clash (sym h)
+told_is (Some (answer.Conflict key found)) h = clash (sym h)
+told_is (Some (answer.Expired id)) h = clash (sym h)
+told_is (Some answer.Faulted) h = clash (sym h)
+told_is (Some (answer.Unknown id)) h = clash (sym h)
+told_is (Some (answer.BadRecord key)) h = clash (sym h)
+told_is (Some (answer.Refused r)) h = clash (sym h)
+told_is (Some answer.Vacuuming) h = clash (sym h)
+told_is (Some answer.OpenTransactions) h = clash (sym h)
+told_is (Some answer.NoMemory) h = clash (sym h)
+
+module _ (events : List Event) (id : TxId) (s : Executed) (ms : List Made) where
+  abbrev w : ℕ
+  w = wanted ms (read_set_of events id) id
+
+  abbrev most : Bool
+  most = nat_le (length ms) (w + 4)
+
+  abbrev told : Bool
+  told = is_committed_answer s.answer && all_seen ms
+
+  abbrev exact : Bool
+  exact = length ms == w + 1
+
+  counted_is : commit_counted ms (read_set_of events id) id s ≡ true → IsCommitCounted events id s (all_made ms)
+  counted_is h = record {
+    exact = λ a all. length-map ms made_of ∙ number_is (length ms) (w + 1) (elim (either (not told) exact (right most (not told || exact) h)) [
+      | inl n ↦ not_both told (both (is_committed_answer s.answer) (all_seen ms) (ap is_committed_answer a) (seen_is ms all)) (not_true told n)
+      | inr e ↦ e
+    ]) ∙ ap (λ n. n + 1) (sym (wanted_is events id ms));
+    most =
+        let l : length ms ≤ w + 4 = le_is (length ms) (w + 4) (left most (not told || exact) h) in
+        let a : length (all_made ms) ≡ length ms = length-map ms made_of in
+        let e : calls_wanted events id (all_made ms) ≡ w = wanted_is events id ms in
+        omega (arith, l, a, e);
+  }
+
+  is_counted_of : IsCommitCounted events id s (all_made ms) → commit_counted ms (read_set_of events id) id s ≡ true
+  is_counted_of c =
+      let a : length (all_made ms) ≡ length ms = length-map ms made_of in
+      let e : calls_wanted events id (all_made ms) ≡ w = wanted_is events id ms in
+      let m : length (all_made ms) ≤ calls_wanted events id (all_made ms) + 4 = c.most in
+      both most (not told || exact) (is_le (length ms) (w + 4) (omega (arith, m, a, e))) (elim (decide told) [
+        | inl t ↦ or_right (not told) exact (is_number (length ms) (w + 1) (sym a ∙ c.exact (told_is s.answer (left (is_committed_answer s.answer) (all_seen ms) t)) (is_seen_of ms (right (is_committed_answer s.answer) (all_seen ms) t)) ∙ ap (λ n. n + 1) e))
+        | inr f ↦ or_left (not told) exact (true_not told f)
+      ])
+
+---- the calls of other statements
+
+abbrev all_unresolved : List Made → ℕ
+all_unresolved [] = 0
+all_unresolved (m ∷ ms) = unresolved_by m + all_unresolved ms
+
+unresolved_is : (ms : List Made) → length (unresolved_in (all_made ms)) ≡ all_unresolved ms
+unresolved_is [] = refl
+unresolved_is (m ∷ ms) = by (reads_rows (made_of m)) (unresolved_is ms)
+  where
+    rest : List calls.StoreCall
+    rest = filter reads_rows (all_made ms)
+
+    by : (b : Bool) → length (filter is_unresolved (flat_map (λ c. records_read c.reply) rest)) ≡ all_unresolved ms
+        → length (filter is_unresolved (flat_map (λ c. records_read c.reply) (cond b (made_of m ∷ rest) rest))) ≡ (if b then count_by is_unresolved (records_read m.reply) else 0) + all_unresolved ms
+    by true e = ap length (filter-append is_unresolved (records_read m.reply) (flat_map (λ c. records_read c.reply) rest)) ∙ length-append (filter is_unresolved (records_read m.reply)) (filter is_unresolved (flat_map (λ c. records_read c.reply) rest)) ∙ ap (λ n. n + length (filter is_unresolved (flat_map (λ c. records_read c.reply) rest))) (filter_count is_unresolved (records_read m.reply)) ∙ ap (λ n. count_by is_unresolved (records_read m.reply) + n) e
+    by false e = omega (arith, e)
+
+abbrev most_of : ℕ → List Made → ℕ
+most_of each [] = 0
+most_of each (m ∷ ms) = each * unresolved_by m + most_of each ms
+
+four : (ms : List Made) → most_of 4 ms ≡ 4 * all_unresolved ms
+four [] = refl
+four (m ∷ ms) = let e = four ms in omega (arith, e)
+
+five : (ms : List Made) → most_of 5 ms ≡ 5 * all_unresolved ms
+five [] = refl
+five (m ∷ ms) = let e = five ms in omega (arith, e)
+
+covered_is : (each n : ℕ) (ms : List Made) → covered each n ms ≡ true → n ≤ most_of each ms
+covered_is each n [] h = let z : n ≡ 0 = number_is n 0 h in omega (arith, z)
+covered_is each n (m ∷ ms) h = by (each * unresolved_by m) (covered_is each (n - each * unresolved_by m) ms h)
+  where
+    by : (k : ℕ) → n - k ≤ most_of each ms → n ≤ k + most_of each ms
+    by k l = omega (arith, l)
+
+is_covered : (each n : ℕ) (ms : List Made) → n ≤ most_of each ms → covered each n ms ≡ true
+is_covered each n [] l = is_number n 0 (omega (arith, l))
+is_covered each n (m ∷ ms) l = is_covered each (n - each * unresolved_by m) ms (by (each * unresolved_by m) l)
+  where
+    by : (k : ℕ) → n ≤ k + most_of each ms → n - k ≤ most_of each ms
+    by k l = omega (arith, l)
+
+read_is : (ms : List Made) → read_counted ms ≡ true → IsReadCounted (all_made ms)
+read_is ms h =
+    let c : length ms - 1 ≤ most_of 4 ms = covered_is 4 (length ms - 1) ms h in
+    let a : length (all_made ms) ≡ length ms = length-map ms made_of in
+    let f : most_of 4 ms ≡ 4 * all_unresolved ms = four ms in
+    let u : length (unresolved_in (all_made ms)) ≡ all_unresolved ms = unresolved_is ms in
+    omega (arith, c, a, f, u)
+
+is_read_of : (ms : List Made) → IsReadCounted (all_made ms) → read_counted ms ≡ true
+is_read_of ms c =
+    let l : length (all_made ms) ≤ 1 + 4 * length (unresolved_in (all_made ms)) = c in
+    let a : length (all_made ms) ≡ length ms = length-map ms made_of in
+    let f : most_of 4 ms ≡ 4 * all_unresolved ms = four ms in
+    let u : length (unresolved_in (all_made ms)) ≡ all_unresolved ms = unresolved_is ms in
+    is_covered 4 (length ms - 1) ms (omega (arith, l, a, f, u))
+
+removals_are : (ms : List Made) → count_by (λ m. is_removal m.request) (all_made ms) ≡ length (filter (λ m. is_removal m.request) ms)
+removals_are ms = count_mapped (λ m. is_removal m.request) made_of ms ∙ sym (filter_count (λ m. is_removal m.request) ms)
+
+vacuum_is : (catalog : List Table) (ms : List Made) → vacuum_counted catalog ms ≡ true → IsVacuumCounted catalog (all_made ms)
+vacuum_is catalog ms h =
+    let c : length ms - (length catalog + length (filter (λ m. is_removal m.request) ms)) ≤ most_of 5 ms = covered_is 5 (length ms - (length catalog + length (filter (λ m. is_removal m.request) ms))) ms h in
+    let a : length (all_made ms) ≡ length ms = length-map ms made_of in
+    let f : most_of 5 ms ≡ 5 * all_unresolved ms = five ms in
+    let u : length (unresolved_in (all_made ms)) ≡ all_unresolved ms = unresolved_is ms in
+    let r : count_by (λ m. is_removal m.request) (all_made ms) ≡ length (filter (λ m. is_removal m.request) ms) = removals_are ms in
+    omega (arith, c, a, f, u, r)
+
+is_vacuum_of : (catalog : List Table) (ms : List Made) → IsVacuumCounted catalog (all_made ms) → vacuum_counted catalog ms ≡ true
+is_vacuum_of catalog ms c =
+    let l : length (all_made ms) ≤ length catalog + (count_by (λ m. is_removal m.request) (all_made ms) + 5 * length (unresolved_in (all_made ms))) = c in
+    let a : length (all_made ms) ≡ length ms = length-map ms made_of in
+    let f : most_of 5 ms ≡ 5 * all_unresolved ms = five ms in
+    let u : length (unresolved_in (all_made ms)) ≡ all_unresolved ms = unresolved_is ms in
+    let r : count_by (λ m. is_removal m.request) (all_made ms) ≡ length (filter (λ m. is_removal m.request) ms) = removals_are ms in
+    is_covered 5 (length ms - (length catalog + length (filter (λ m. is_removal m.request) ms))) ms (omega (arith, l, a, f, u, r))
+
+---- the transactions of a client
+
+module _ (f : TxId → Bool) (client n : ℕ) (i : TxId) (b : Bool) (some : n ≡ 0 → ⊥) (here : i ≡ id_of client n) (g : b ≡ f i) where
+  pub found_wrong : b ≡ true → true ≡ any_upto (λ k. f (id_of client k)) n
+  found_wrong t = by n some here
+    where
+      by : (m : ℕ) → (m ≡ 0 → ⊥) → i ≡ id_of client m → true ≡ any_upto (λ k. f (id_of client k)) m
+      by zero z e = absurd (z refl)
+      by (suc m) z e = sym (or_left (f (id_of client (suc m))) (any_upto (λ k. f (id_of client k)) m) (ap f (sym e) ∙ sym g ∙ t))
+
+  pub none_here : b ≡ false → any_upto (λ k. f (id_of client k)) (n - 1) ≡ any_upto (λ k. f (id_of client k)) n
+  none_here t = sym (upto_step (λ k. f (id_of client k)) n (by n some) ∙ ap (λ x. x || any_upto (λ k. f (id_of client k)) (n - 1)) (ap f (sym here) ∙ sym g ∙ t))
+    where
+      by : (m : ℕ) → (m ≡ 0 → ⊥) → 0 < m
+      by zero z = absurd (z refl)
+      by (suc m) z = omega arith
+
+---- a statement
+
+module _ (catalog : List Table) (events : List Event) (client : ℕ) (s : Executed) (ms : List Made) (e : all_made ms ≡ calls_of events client s) where
+  abbrev wrong : TxId → Bool
+  wrong id = miscounted events client s ms id
+
+  commits_are : any_id events client wrong ≡ false → (id : TxId) → IsCommitOf events client s id → IsCommitCounted events id s (calls_of events client s)
+  commits_are n id c = elim (decide (commit_counted ms (read_set_of events id) id s)) [
+    | inl h ↦ subst (IsCommitCounted events id s) e (counted_is events id s ms h)
+    | inr f ↦ not_both (any_id events client wrong) (commit_found events client s wrong id c (both (is_commit_of events client s id) (not (commit_counted ms (read_set_of events id) id s)) (is_commit events client s id c) (true_not (commit_counted ms (read_set_of events id) id s) f))) n
+  ]
+
+  none_wrong : ((id : TxId) → IsCommitOf events client s id → IsCommitCounted events id s (calls_of events client s)) → any_id events client wrong ≡ true → false ≡ true
+  none_wrong all h =
+      let r = id_some events client wrong h in
+      let c = commit_is events client s r.0 (left (is_commit_of events client s r.0) (not (commit_counted ms (read_set_of events r.0) r.0 s)) r.1) in
+      not_both (commit_counted ms (read_set_of events r.0) r.0 s) (is_counted_of events r.0 s ms (subst (IsCommitCounted events r.0 s) (sym e) (all r.0 c))) (not_true (commit_counted ms (read_set_of events r.0) r.0 s) (right (is_commit_of events client s r.0) (not (commit_counted ms (read_set_of events r.0) r.0 s)) r.1))
+
+  others_are : others_counted catalog s ms ≡ true → (reads_commit s.text ≡ false → reads_vacuum s.text ≡ false → IsReadCounted (calls_of events client s)) × (reads_vacuum s.text ≡ true → IsVacuumCounted catalog (calls_of events client s))
+  others_are h = by (reads_vacuum s.text) (reads_commit s.text) refl refl h
+    where
+      by : (v c : Bool) → reads_vacuum s.text ≡ v → reads_commit s.text ≡ c → (if v then vacuum_counted catalog ms else (c || read_counted ms)) ≡ true → (reads_commit s.text ≡ false → reads_vacuum s.text ≡ false → IsReadCounted (calls_of events client s)) × (reads_vacuum s.text ≡ true → IsVacuumCounted catalog (calls_of events client s))
+      by true c x y h = (λ k n. clash (sym x ∙ n), λ t. subst (IsVacuumCounted catalog) e (vacuum_is catalog ms h))
+      by false true x y h = (λ k n. clash (sym y ∙ k), λ t. clash (sym t ∙ x))
+      by false false x y h = (λ k n. subst IsReadCounted e (read_is ms h), λ t. clash (sym t ∙ x))
+
+  are_others : IsExecutedCounted catalog events client s → others_counted catalog s ms ≡ true
+  are_others c = by (reads_vacuum s.text) (reads_commit s.text) refl refl
+    where
+      by : (v k : Bool) → reads_vacuum s.text ≡ v → reads_commit s.text ≡ k → (if v then vacuum_counted catalog ms else (k || read_counted ms)) ≡ true
+      by true k x y = is_vacuum_of catalog ms (subst (IsVacuumCounted catalog) (sym e) (c.vacuums x))
+      by false true x y = refl
+      by false false x y = is_read_of ms (subst IsReadCounted (sym e) (c.reads y x))
+
+  pub said_counted : (b o : Bool) (n : ℕ) → n ≡ length (statements_by client events) → o ≡ any_upto (λ k. miscounted events client s ms (id_of client k)) n → o ≡ false → b ≡ others_counted catalog s ms → IsTrue b ↔ IsExecutedCounted catalog events client s
+  said_counted b o n l f z g =
+      let none : any_id events client wrong ≡ false = ap (any_upto (λ k. miscounted events client s ms (id_of client k))) (sym l) ∙ sym f ∙ z in
+      (λ h. let r = others_are (sym g ∙ h) in record { commits = commits_are none; reads = r.0; vacuums = r.1 }, λ c. g ∙ are_others c)
+
+  pub said_miscounted : (o : Bool) (n : ℕ) → n ≡ length (statements_by client events) → o ≡ any_upto (λ k. miscounted events client s ms (id_of client k)) n → o ≡ true → IsTrue false ↔ IsExecutedCounted catalog events client s
+  said_miscounted o n l f t =
+      (λ h. clash (sym h), λ c. none_wrong c.commits (ap (any_upto (λ k. miscounted events client s ms (id_of client k))) (sym l) ∙ sym f ∙ t))

@@ -1,0 +1,12 @@
+use Rattle.std.proofs.Common.{ap, ◌∙◌}
+use Rattle.sdb_order.specs.Commits.{executed_of}
+use Rattle.check_tables.specs.Values.{all_made}
+use Rattle.check_answers.proofs.Decided.{expired, not_expired}
+use Rattle.check_answers.proofs.commit.is_expired.Goals as goal
+
+pub returns-then-commits : goal.returns-then-commits
+returns-then-commits c =
+    expired c.args.events.now c.args.client (executed_of c.args.executed.now) c.expired_among.result c.in_ok-commits.commits c.as_slice.result.now c.in_ok-row.row c.args.id (ap all_made c.as_slice.ensures ∙ c.in_ok-calls.ensures) c.in_ok-row.ensures c.in_ok-commits.ensures c.if-commits.true c.expired_among.ensures
+
+pub returns : goal.returns
+returns c = not_expired c.args.events.now c.args.client (executed_of c.args.executed.now) c.in_ok-commits.commits c.args.id c.in_ok-commits.ensures c.if-commits.false

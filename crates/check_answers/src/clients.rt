@@ -1,0 +1,181 @@
+//! The clients of a script, and what each event does to them.
+ghost use Rattle.std.specs.Prelude.{◌≡◌, ◌<◌, ◌-◌, ◌^◌, pos, suc, true, false, length, Some, IfOk, IfSome, slice_get};
+ghost use Rattle.sdb_record.specs.Meta.{is_moment as is_moment_lem};
+ghost use Rattle.sdb_model.specs.Follows.{texts_of};
+ghost use Rattle.sdb_client.specs.Client.{IsIdle, client_pending};
+ghost use Rattle.sdb_execution.specs.Execution.{AreFresh, CallStep, IsStepFrom, StopStep, TakeStep};
+
+use crate::is_answered_alike;
+use crate::replies::{can_answer, is_moment};
+use sdb_client::Client;
+use sdb_execution::{ClientSlot, fresh_slots, gate_at, prove_order};
+use sdb_model::{Answer, Event, Script};
+use sdb_types::{Duplicate, NoMemory, Reply, Request, Txt, same};
+use std::alloc::Global;
+use std::marker::Model;
+
+/// A state of an execution: the clients, and the clock.
+pub struct Clients {
+    client_slots: Vec<ClientSlot>,
+    clock: i64,
+}
+
+// By hand: each drop is then one call, where a derived one is written out at each exit, with a call for each field.
+impl Drop for Clients {
+    fn drop(self) {
+        let Clients {
+            client_slots: _,
+            clock: _,
+        } = self;
+    }
+}
+
+impl Model for Clients {
+    ghost use Rattle.sdb_execution.specs.Execution.{State};
+
+    ghost Value = { State };
+
+    ghost view = { λ c. record { client_slots = c.client_slots.items; clock = c.clock } };
+}
+
+// A text is a client's next statement.
+fn is_next(script: &Script, at: usize, taken: usize, text: &Txt) -> bool
+    ensures { result ≡ true → slice_get (texts_of script.now.clients (suc at)) taken ≡ Some text.now }
+{
+    match script.clients.at(at) {
+        Some(client) => match client.statements.at(taken) {
+            Some(next) => same(next, text),
+            None => false,
+        },
+        None => false,
+    }
+}
+
+// A text is no longer than a statement may be.
+fn is_short(text: &Txt) -> bool
+    ensures { result ≡ true → length text.now < 2 ^ 32 }
+{
+    text.len() < 0x1_0000_0000
+}
+
+// A request is the call that a client has pending.
+fn is_pending(client: &Client, request: &Request) -> bool
+    ensures { result ≡ true → client_pending client.now ≡ Some request.now }
+{
+    match client.pending() {
+        Some(pending) => same(pending, request),
+        None => false,
+    }
+}
+
+impl Clients {
+    /// So many clients that have done nothing, at moment 0.
+    pub fn new(alloc: Global, count: usize) -> Result<Clients, NoMemory>
+        requires few { count < 2 ^ 32 - 1 }
+        ensures client_slots { IfOk result (λ c. AreFresh count c.client_slots) }
+        ensures clock { IfOk result (λ c. c.clock ≡ pos 0) }
+    {
+        let client_slots = fresh_slots(alloc, count)?;
+        Ok(Clients {
+            client_slots,
+            clock: 0,
+        })
+    }
+
+    // The index of a client that hasn't stopped.
+    fn place(&self, client: u32) -> Option<usize>
+        ensures { IfSome result (λ at. (client ≡ suc at) × (at < length self.now.client_slots) × IfSome (slice_get self.now.client_slots at) (λ s. s.stopped ≡ false)) }
+    {
+        let at = (client as usize).checked_sub(1)?;
+        match self.client_slots.get(at) {
+            Some(client_slot) if !client_slot.stopped => Some(at),
+            _ => None,
+        }
+    }
+
+    // A client takes its next statement, which is answered so.
+    fn take(&mut self, script: &Script, client: u32, text: &Txt, answer: &Option<Answer>) -> bool
+        ensures { result ≡ true → TakeStep script.now self.old client text.now answer.now self.new }
+    {
+        let Some(at) = self.place(client) else {
+            return false;
+        };
+        let gate = gate_at(&self.client_slots, at);
+        let client_slot = &mut self.client_slots[at];
+        let Some(taken) = client_slot.taken.checked_add(1) else {
+            return false;
+        };
+        if !client_slot.client.is_idle()
+            || !is_next(script, at, client_slot.taken, text)
+            || !is_short(text)
+        {
+            return false;
+        }
+        let fresh = client_slot.client.next_id();
+        let answered = client_slot
+            .client
+            .take(&script.catalog, text, gate, fresh, self.clock);
+        let _begun = client_slot.client.begun();
+        client_slot.taken = taken;
+        is_answered_alike(&answered, answer)
+    }
+
+    // A client takes the reply to the call that it has pending, which is answered so.
+    fn call(
+        &mut self,
+        client: u32,
+        request: &Request,
+        reply: Reply,
+        answer: &Option<Answer>,
+    ) -> bool
+        ensures { result ≡ true → CallStep self.old client request.now reply answer.now self.new }
+    {
+        let Some(at) = self.place(client) else {
+            return false;
+        };
+        let client_slot = &mut self.client_slots[at];
+        if !is_pending(&client_slot.client, request) || !can_answer(request, &reply) {
+            return false;
+        }
+        prove_order(&reply);
+        let answered = client_slot.client.advance(reply, self.clock);
+        is_answered_alike(&answered, answer)
+    }
+
+    // A client stops.
+    fn stop(&mut self, client: u32) -> bool
+        ensures { result ≡ true → StopStep self.old client self.new }
+    {
+        let Some(at) = (client as usize).checked_sub(1) else {
+            return false;
+        };
+        if at >= self.client_slots.len() {
+            return false;
+        }
+        self.client_slots[at].stopped = true;
+        true
+    }
+
+    // The clock shows a moment.
+    fn tick(&mut self, moment: i64) -> bool
+        ensures { result ≡ true → (is_moment_lem moment ≡ true) × (self.new ≡ record { client_slots = self.old.client_slots; clock = moment }) }
+    {
+        self.clock = moment;
+        is_moment(moment)
+    }
+
+    /// Whether an event is a step of the clients. Where it isn't they are not used again.
+    pub fn step(&mut self, script: &Script, event: &Event) -> Result<bool, NoMemory>
+        ensures { IfOk result (λ so. so ≡ true → IsStepFrom script.now self.old event.now self.new) }
+    {
+        match event {
+            Event::Take(client, text, answer) => Ok(self.take(script, *client, text, answer)),
+            Event::Call(client, _, request, _, reply, answer) => {
+                Ok(self.call(*client, request, reply.copy()?, answer))
+            }
+            Event::Stop(client) => Ok(self.stop(*client)),
+            Event::Clock(moment) => Ok(self.tick(*moment)),
+            Event::Idle(_) => Ok(true),
+        }
+    }
+}

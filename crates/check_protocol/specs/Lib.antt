@@ -1,0 +1,5 @@
+pub mod Values
+pub mod Started
+pub mod Observed
+pub mod Rules
+pub mod Next

@@ -1,0 +1,91 @@
+//! Whether a list of events is lawful, decided.
+ghost use Rattle.std.specs.Prelude.{◌≡◌, ◌&&◌, ◌↔◌, IsTrue, IfOk};
+ghost use Rattle.law_protocol.specs.Lawful.{IsLawful};
+ghost use Rattle.check_protocol.specs.Values.{plan_in, all_labelled};
+ghost use Rattle.check_protocol.specs.Rules.{acts_well, answers_well, obeys_rules};
+ghost use Rattle.check_protocol.specs.Observed.{observed as observed_lem};
+
+use crate::rolls::{answers_truly, may_remove, may_roll};
+use crate::rules::{
+    is_quiet, may_abort, may_begin, may_check, may_decide, may_prepare, may_stop, may_take,
+};
+use crate::{Action, Labelled, Plan, observed};
+use sdb_model::Event;
+use sdb_types::{NoMemory, Record};
+use std::alloc::Global;
+
+fn may_play(
+    alloc: Global,
+    shown: &[Record],
+    past: &[Labelled],
+    plans: &[Plan],
+    event: &Event,
+    action: &Action,
+) -> Result<bool, NoMemory>
+    ensures { IfOk result (λ well. well ≡ acts_well shown.now past.now plans.now event.now action.now) }
+{
+    match action {
+        Action::Other => Ok(is_quiet(event)),
+        Action::Begins(id, client) => may_begin(alloc, past, event, *id, *client),
+        Action::Takes(id) => may_take(alloc, shown, past, plans, event, *id),
+        Action::Prepares(id, key, word) => {
+            may_prepare(alloc, past, plans, event, *id, key, *word)
+        }
+        Action::Checks(id, i) => Ok(may_check(past, plans, event, *id, *i)),
+        Action::Decides(id, word) => may_decide(alloc, past, plans, event, *id, *word),
+        Action::Aborts(id, moment, word) => may_abort(alloc, event, *id, *moment, *word),
+        Action::Rolls(id, key, decision) => {
+            may_roll(alloc, shown, past, plans, event, *id, key, *decision)
+        }
+        Action::Removes(key, id) => may_remove(alloc, shown, past, event, key, *id),
+        Action::Ends(_) => Ok(false),
+        Action::Stops(client) => Ok(may_stop(event, *client)),
+    }
+}
+
+fn may_follow(
+    alloc: Global,
+    plans: &[Plan],
+    whole: &[Labelled],
+    past: &[Labelled],
+    labelled: &Labelled,
+) -> Result<bool, NoMemory>
+    ensures { IfOk result (λ well. well ≡ (acts_well (observed_lem past.now) past.now plans.now labelled.now.event labelled.now.action && answers_well (observed_lem whole.now) whole.now past.now labelled.now)) }
+{
+    let before = observed(alloc, past)?;
+    if !may_play(
+        alloc,
+        before.as_slice(),
+        past,
+        plans,
+        &labelled.event,
+        &labelled.action,
+    )? {
+        return Ok(false);
+    }
+    let after = observed(alloc, whole)?;
+    answers_truly(alloc, after.as_slice(), whole, past, labelled)
+}
+
+fn all_follow(alloc: Global, plans: &[Plan], past: &[Labelled]) -> Result<bool, NoMemory>
+    ensures { IfOk result (λ well. well ≡ obeys_rules plans.now past.now) }
+{
+    match past.split_first() {
+        None => Ok(true),
+        Some((labelled, before)) => {
+            if !all_follow(alloc, plans, before)? {
+                return Ok(false);
+            }
+            may_follow(alloc, plans, past, before, labelled)
+        }
+    }
+}
+
+/// Whether a list of events, newest first, obeys the rules of the protocol, where transactions go into their COMMITs with these
+/// plans. One that has no plan writes and reads nothing. Slow: each event is tested against all those before it, several times
+/// over.
+pub fn is_lawful(alloc: Global, plans: &[Plan], past: &[Labelled]) -> Result<bool, NoMemory>
+    ensures { IfOk result (λ lawful. IsTrue lawful ↔ IsLawful (plan_in plans.now) (all_labelled past.now)) }
+{
+    all_follow(alloc, plans, past)
+}

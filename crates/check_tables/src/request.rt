@@ -1,0 +1,78 @@
+//! What calls ask.
+ghost use Rattle.std.specs.Prelude.{◌≡◌};
+ghost use Rattle.std.specs.Option.{option_copied};
+ghost use Rattle.sdb_model.specs.Calls.{key_asked as key_asked_lem, is_read as is_read_lem, is_removal as is_removal_lem, put_by as put_by_lem};
+ghost use Rattle.sdb_model.specs.Events.{table_asked};
+ghost use Rattle.sdb_model.specs.ReadSet.{reads_rows as reads_rows_lem};
+ghost use Rattle.check_tables.specs.Values.{made_of, asks_row as asks_row_lem};
+
+use crate::made::Made;
+use sdb_record::is_coordinator;
+use sdb_types::{Condition, Key, Record, Request, State, TableName};
+
+/// The one key that a request asks for.
+pub fn key_asked(request: &Request) -> Option<&Key>
+    ensures { option_copied result ≡ key_asked_lem request.now }
+{
+    match request {
+        Request::Get(key) => Some(key),
+        Request::Scan(_) => None,
+        Request::PutIf(rec, _) => Some(&rec.key),
+        Request::DeleteIf(key, _) => Some(key),
+    }
+}
+
+/// Whether a request reads.
+pub fn is_read(request: &Request) -> bool
+    ensures { result ≡ is_read_lem request.now }
+{
+    matches!(request, Request::Get(_) | Request::Scan(_))
+}
+
+/// Whether a request deletes a committed record.
+pub fn is_removal(request: &Request) -> bool
+    ensures { result ≡ is_removal_lem request.now }
+{
+    matches!(
+        request,
+        Request::DeleteIf(_, Condition::Version(_, State::Committed))
+    )
+}
+
+/// The record that a request puts.
+pub fn put_by(request: &Request) -> Option<&Record>
+    ensures { option_copied result ≡ put_by_lem request.now }
+{
+    match request {
+        Request::PutIf(rec, _) => Some(rec),
+        _ => None,
+    }
+}
+
+/// Whether a request asks for the coordinator's row of this key, or puts it.
+pub fn asks_row(row: &Key, request: &Request) -> bool
+    ensures { result ≡ asks_row_lem row.now request.now }
+{
+    match key_asked(request) {
+        Some(key) => key.compare(row).is_eq(),
+        None => false,
+    }
+}
+
+fn asked_table(request: &Request) -> &TableName
+    ensures { result.now ≡ table_asked request.now }
+{
+    match request {
+        Request::Get(key) => &key.table,
+        Request::Scan(span) => &span.table,
+        Request::PutIf(rec, _) => &rec.key.table,
+        Request::DeleteIf(key, _) => &key.table,
+    }
+}
+
+/// Whether a call reads rows of tables, and not the coordinator's.
+pub fn reads_rows(made: &Made) -> bool
+    ensures { result ≡ reads_rows_lem (made_of made.now) }
+{
+    !is_coordinator(asked_table(&made.request)) && is_read(&made.request)
+}

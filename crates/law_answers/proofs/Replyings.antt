@@ -1,0 +1,789 @@
+-- A client that gets the reply to its call keeps what ties the events to it.
+use Rattle.std.proofs.Common.{◌≡◌, ◌≤◌, ◌<◌, ◌^◌, ◌+◌, ◌⊎◌, inl, inr, ℕ, true, false, not, List, [], ◌∷◌, ◌++◌, length, Option, Some, None, refl, sym, ap, subst, ◌∙◌, arith}
+use Rattle.std.specs.Prelude.{◌&&◌, ◌||◌, is_some, IfSome, nat_le, nat_lt, Contains}
+use Rattle.std.specs.List.{AllByRecursion, count_by}
+use Rattle.std.proofs.lemmas.List.{append-nil}
+use Rattle.sdb_types.specs.declared.key.Key.{Key}
+use Rattle.sdb_types.specs.declared.key.TableName.{TableName}
+use Rattle.sdb_types.specs.declared.record.Record.{Record}
+use Rattle.sdb_types.specs.declared.record.Request.{Request}
+use Rattle.sdb_types.specs.declared.record.Request.TheVariants as ask
+use Rattle.sdb_types.specs.declared.txid.TxId.{TxId}
+use Rattle.sdb_types.proofs.Basics.{clash, some_is, all_each as each_any, length_more, id_fits}
+use Rattle.sdb_record.specs.declared.access.Access.{Access}
+use Rattle.sdb_record.specs.declared.access.Access.TheVariants as access
+use Rattle.sdb_record.specs.declared.access.Read.{Read}
+use Rattle.sdb_record.specs.declared.write.Write.{Write}
+use Rattle.sdb_record.specs.Meta.{is_moment}
+use Rattle.sdb_schema.specs.declared.table.Table.{Table}
+use Rattle.sdb_schema.specs.Catalog.{is_catalog}
+use Rattle.sdb_model.specs.declared.answer.Answer.{Answer}
+use Rattle.sdb_model.specs.declared.answer.Answer.TheVariants as answer
+use Rattle.sdb_model.specs.declared.event.Event.{Event}
+use Rattle.sdb_model.specs.Calls.{StoreCall, calls_of, clock_at, calls_by, end_of, is_stored_reply}
+use Rattle.sdb_model.specs.Causes.{ConflictsAtCommit, HasChanged, HasReply, IsBadRecord, IsCaused, IsCommitOf, IsRejected, MayPassMost, before, is_open, is_open_after, records_found, removes, is_misfit}
+use Rattle.sdb_model.specs.declared.statement.Statement.TheVariants as statement
+use Rattle.sdb_model.specs.Exec.{find_table, table_of}
+use Rattle.sdb_sqltext.proofs.OneWord.{vacuum_read}
+use Rattle.law_clients.proofs.Taken.{other_no_commit}
+use Rattle.sdb_model.specs.Sql.{Reads, reads_commit, reads_rollback, reads_vacuum}
+use Rattle.sdb_model.specs.Transactions.{Executed, begins, changes_nothing, ends, from_begin, id_of, is_conflict, is_done, rest_of, statements_by}
+use Rattle.sdb_exec.specs.Plans.{Planned, changes_on, first_unfit}
+use Rattle.sdb_commit.specs.Phases.{CommitAt, IsNext, ended_at}
+use Rattle.sdb_phases.specs.declared.step.Outcome.{Outcome}
+use Rattle.sdb_phases.specs.Commit.{Stage, Over, pending as commit_pending, step as commit_step}
+use Rattle.sdb_phases.specs.Work.{Work}
+use Rattle.sdb_read.specs.declared.read.ReadStep.TheVariants as step
+use Rattle.sdb_read.specs.Read.{Asking, Ended, ReadAt, ReadStage, Resolving, read_pending_at, read_result, read_step, request_of}
+use Rattle.sdb_model.specs.ReadSet.{ReadItem, read_items, read_finished}
+use Rattle.sdb_snapshot.specs.Sets.{WereRead}
+use Rattle.sdb_snapshot.specs.Seen.{Seen, overlay}
+use Rattle.sdb_txn.specs.declared.progress.Progress.TheVariants as progress
+use Rattle.sdb_txn.specs.declared.txn.Doing.{Doing}
+use Rattle.sdb_txn.specs.declared.txn.Doing.TheVariants as doing
+use Rattle.sdb_txn.specs.Txn.{IsCommitting as GoesOn, TxnAt, idle, pending_in, progress_of}
+use Rattle.sdb_client.specs.declared.next.Next.{Next}
+use Rattle.sdb_client.specs.declared.next.Next.TheVariants as next
+use Rattle.sdb_vacuum.specs.declared.work.VacuumStep.{VacuumStep}
+use Rattle.sdb_vacuum.specs.declared.work.VacuumStep.TheVariants as vacuuming
+use Rattle.sdb_vacuum.specs.Vacuum as Sweeping
+use Rattle.sdb_vacuum.specs.Vacuum.{Gives, Removing, Scanning, VacuumAt, VacuumStage, vacuum_step}
+use Rattle.sdb_client.specs.Client.{CallPost, ClientAt as Client, CommitNext, RowsReadPost, IsChangedAt, NextPost, OpenTxnPost, ReplyPost, StagePost, VacuumPost, after, answer_in, answer_of, given_answer, given_left, gives, holding, next_of, with_rows_read, pending_by, pending_of, resting, too_many, vacuum_left}
+use Rattle.law_clients.specs.About.{IsDoingIn, IsIn, IsOfTables, IsReadIn, IsRecordIn, IsStageIn, IsVacuumStageIn, IsVacuumIn, IsWorkIn}
+use Rattle.law_clients.specs.States.{ClientState, IsAskedBy, IsCalled, IsFittedBy, IsUsing, IsUsingTxn}
+use Rattle.law_clients.proofs.Fitted.{by_next}
+use Rattle.law_clients.proofs.InTables.{access_table, own_table}
+use Rattle.law_clients.proofs.RowsFit.{found_itself}
+use Rattle.law_clients.specs.History.{executed_with_answer, waiting_of}
+use Rattle.law_clients.proofs.Lists.{each_more}
+use Rattle.law_clients.specs.System.{ClientCall, answer_of_outcome, call_event}
+use Rattle.law_answers.specs.Commits.{EndsBy, ObservesBad, StageByCalls}
+use Rattle.law_answers.specs.Invariant.{IsAnswered, IsCommitting, IsDoing, CauseInvariant, IsReadSetOf, IsReading, IsInVacuum, IsWaiting, Knows, DoingByHistory, ClientByHistory, begun_in, open_after}
+use Rattle.law_answers.specs.Unfit.{IsWellTypedTxn, SeesWellTyped, SeesWellTypedIn, AreStoredReplies}
+use Rattle.law_answers.specs.Conflicts.{ChecksBy, ConflictBy}
+use Rattle.law_answers.specs.Counts.{CommitCounted, CommitIsCounted, DoingCounted, IsCountedBy, ReadByTxn, ReadByDoing, ReadItemsAre, OpenCounted, ReadCounted, VacuumIsCounted, WaitCounted, read_items_since}
+use Rattle.law_answers.proofs.CountsCommit.{commit_more, commit_over, commit_starved}
+use Rattle.law_answers.proofs.CountsNotes.{none_noted, noted_idle as notes_idle, noted_read, since_open, since_same, since_stay}
+use Rattle.sdb_record.specs.Rolls.{IsWrite}
+use Rattle.law_answers.proofs.Counting.{call_counted, counts_end, counts_on}
+use Rattle.law_answers.proofs.Counts.{read_more, sweep_more}
+use Rattle.law_answers.specs.Filled.{IsFilled, IsFilledBy, IsFilledIn, rows_counted_by, records_found_by}
+use Rattle.law_answers.specs.Changes.{HasRead, IsChangedIn, ChangesAtScan, ChangesBy, SeenBy, StageObserves, WorkBy, read_items_of_body}
+use Rattle.law_answers.proofs.Conflicts.{checks_on, starved_checks}
+use Rattle.law_answers.specs.Reads.{IsBusyBy, LedBy, ReadsBy}
+use Rattle.law_answers.specs.Vacuums.{VacuumEndBy, VacuumBy}
+use Rattle.law_answers.proofs.SweepSteps.{IfMore, SweepLed, SweepsData, step_led}
+use Rattle.law_answers.proofs.Moving.{IsTold, differs_moved, scan_shows}
+use Rattle.law_answers.proofs.Noting.{moved_all, moved_still, noted_more, noted_still, notes_more, notes_one, notes_stay, seen_same, since_all, unmoved}
+use Rattle.law_answers.proofs.Settling.{read_noted, data_read}
+use Rattle.law_answers.proofs.Showing.{IsOpenAt, shows_on}
+use Rattle.law_answers.proofs.Ends.{next_by, ended_is, told_end, conflict_of, commit_is, first_in, outcome_caused, outcome_tells}
+use Rattle.law_answers.proofs.Calls.{before_same, call_said, calls_open, clock_more, end_answered, end_waiting, later_calls, later_more, later_within, made_at, own_made, silent_said, within_more, one_made}
+use Rattle.law_answers.proofs.Filling.{filled_few, filled_found, filled_given, filled_idle, filled_more, filled_noting, filled_stays, images_few, passes_given}
+use Rattle.law_answers.proofs.Passing.{pass_now, least}
+use Rattle.law_answers.proofs.Unfit.{fits_now, given_fits, misfit_read, shown_bad}
+use Rattle.law_answers.proofs.Given.{IsMiddle, given_caused, given_middle, left_by, gives_finished}
+use Rattle.law_answers.proofs.Knowing.{after_end, after_more, after_plain, open_more}
+use Rattle.law_answers.proofs.Later.{answered_stay, waiting_stays}
+use Rattle.law_answers.proofs.Lists.{begun_same, since_more, each_kept}
+use Rattle.law_answers.proofs.ReadSteps.{IsDataTable, LeavesData, busy_caused, reads_on, shown_read}
+use Rattle.law_answers.proofs.Stages.{IsOfData, stands_on, starved_stands}
+use Rattle.law_answers.specs.Rolled.{DoingRolls, ReadRolls, RolledBut, VacuumRolls, WaitRolls}
+use Rattle.law_answers.proofs.Rolled.{outcome_rows, reads_so_far, rolls_end, rolls_on, sweeps_so_far}
+use Rattle.law_answers.proofs.RolledSteps.{SweepsTo, read_rolls, sweep_rolls}
+use Rattle.law_answers.specs.Views.{IsViewOf, SeesOwn, SeesOwnIn, ViewBy}
+use Rattle.law_answers.proofs.ShowsTold.{ShowsNext, next_same, showing_stays, shows_end, shows_further}
+use Rattle.law_answers.proofs.ShowsTurn.{read_next}
+use Rattle.law_answers.proofs.Takings.{left_id, left_idle, middle_ends}
+use Rattle.sdb_types.specs.Replies.{is_fault}
+use Rattle.sdb_client.proofs.Calls.{noting_idle, noting_id}
+use Rattle.sdb_model.specs.Tables.{is_data}
+
+---- the call
+
+module _ (catalog : List Table) (events : List Event) (states : ℕ → ClientState) (y : ClientCall) (ex : CauseInvariant catalog events y.now states) (called : IsCalled catalog states y) (about : IsOfTables catalog (states y.client).client)
+    (apart : (k : Key) → is_some (find_table catalog k.table) ≡ true → is_data k ≡ true)
+    (sound : (states y.client).client.vacuum ≡ None → (t : TxnAt) (a : Access) (x : ReadAt) → (states y.client).client.txn ≡ Some t → t.doing ≡ doing.Read a x → IsTold t.seen × WereRead t.seen.read_set t.seen.writes) (is_fine : is_catalog catalog ≡ true) (stored : is_stored_reply y.reply ≡ true) where
+  abbrev c : ℕ
+  c = y.client
+
+  abbrev h : Client
+  h = (states y.client).client
+
+  abbrev k : Knows catalog events c h
+  k = ex.each c
+
+  -- with the event
+  abbrev E : Option Answer → List Event
+  E result = events ++ call_event y result ∷ []
+
+  abbrev So : Option Answer → Client → Type 0
+  So result d = Knows catalog (E result) c d
+
+  abbrev made : StoreCall
+  made = made_at events y.store y.request y.how y.reply
+
+  long : (result : Option Answer) → length (E result) ≡ 1 + length events
+  long result = length_more events (call_event y result) ∙ one_plus (length events)
+    where
+      one_plus : (n : ℕ) → n + 1 ≡ 1 + n
+      one_plus n = omega arith
+
+  clock_now : (result : Option Answer) → clock_at (E result) made.at ≡ y.now
+  clock_now result = ap (clock_at (E result)) (sym (long result)) ∙ clock_more events (call_event y result) ∙ ex.clock
+
+  -- what its transaction has noted so far
+  abbrev so_id : TxId
+  so_id = id_of c h.begun
+
+  abbrev so_noted : List ReadItem
+  so_noted = read_items_since events c h.begun k.told
+
+  data_table : (t : TableName) → is_some (find_table catalog t) ≡ true → IsDataTable t
+  data_table t listed = apart (record { table = t; partition = []; clustering = [] }) listed
+
+  -- each call so far shows records as they are held
+  all_stored : (result : Option Answer) → AreStoredReplies (calls_by (E result) c)
+  all_stored result = subst AreStoredReplies (sym (one_made c events (call_event y result) made (own_made c events y.store y.request y.how y.reply result))) (each_more (λ (m : StoreCall). is_stored_reply m.reply ≡ true) (calls_by events c) made k.stored stored)
+
+  ---- a statement that waits
+
+  module _ (w : Executed) (waiting : k.waiting ≡ Some w) where
+    abbrev ms : List StoreCall
+    ms = calls_of events c w
+
+    waits : IsWaiting catalog events c (is_some h.vacuum) w
+    waits = subst (λ (o : Option Executed). IfSome o (IsWaiting catalog events c (is_some h.vacuum))) waiting k.waits
+
+    said_told : statements_by c events ≡ k.told ++ w ∷ []
+    said_told = k.same ∙ ap (λ o. k.told ++ waiting_of o) waiting
+
+    calls_before_it : ms ≡ later_calls events c w.taken
+    calls_before_it = calls_open c events w (end_waiting events w waits.unanswered)
+
+    older : AllByRecursion (λ x. x.at < made.at) ms
+    older = subst (AllByRecursion (λ x. x.at < made.at)) (sym calls_before_it) (later_within c events w.taken)
+
+    later_one : (result : Option Answer) → later_calls (E result) c w.taken ≡ ms ++ made ∷ []
+    later_one result = later_more c events (call_event y result) w.taken made waits.taken refl (own_made c events y.store y.request y.how y.reply result) ∙ ap (λ xs. xs ++ made ∷ []) (sym calls_before_it)
+
+    calls_on : calls_of (E None) c w ≡ ms ++ made ∷ []
+    calls_on = calls_open c (E None) w (end_waiting (E None) w waits.unanswered) ∙ later_one None
+
+    abbrev done : Answer → Executed
+    done b = executed_with_answer events w b
+
+    calls_done : (b : Answer) → calls_of (E (Some b)) c (done b) ≡ ms ++ made ∷ []
+    calls_done b = calls_open c (E (Some b)) (done b) (end_answered (E (Some b)) (done b) b refl ∙ sym (long (Some b))) ∙ later_one (Some b)
+
+    said_done : (b : Answer) → statements_by c (E (Some b)) ≡ k.told ++ done b ∷ []
+    said_done b = call_said c events y.store y.request y.how y.reply b k.told w said_told
+
+    begins_none : (b : Answer) → begins (done b) ≡ false
+    begins_none b = ap (λ x. x && is_done (Some b)) waits.begin
+
+    begun_done : (b : Answer) → h.begun ≡ begun_in (k.told ++ done b ∷ [])
+    begun_done b = k.begun ∙ sym (begun_same k.told (done b) (begins_none b))
+
+    -- its calls are counted, and with this one
+    counted_now : WaitCounted catalog w.text so_id so_noted ms h.vacuum h.txn
+    counted_now = subst (λ (o : Option Executed). IfSome o (λ x. WaitCounted catalog x.text so_id so_noted (calls_of events c x) h.vacuum h.txn)) waiting k.counted.waits
+
+    counted_then : IsCountedBy catalog w.text (ms ++ made ∷ [])
+    counted_then = call_counted catalog w.text ms made h.vacuum h.txn so_id so_noted waits.vacuum called.waiting.pending counted_now
+
+    -- and what was found is dealt with
+    rolls_now : WaitRolls events (reads_vacuum w.text) ms h.vacuum h.txn
+    rolls_now = subst (λ (o : Option Executed). IfSome o (λ x. WaitRolls events (reads_vacuum x.text) (calls_of events c x) h.vacuum h.txn)) waiting k.rolled.waits
+
+    abbrev RollsThen : Answer → Type 0
+    RollsThen b = read_finished b ≡ true → RolledBut (E (Some b)) (reads_vacuum w.text) (ms ++ made ∷ []) []
+
+    -- what its calls come to where it is answered, and what its transaction has then noted
+    abbrev CountsThen : Answer → Client → Type 0
+    CountsThen b d = (reads_commit w.text ≡ true → CommitIsCounted so_noted so_id (Some b) (ms ++ made ∷ [])) × ReadByTxn (read_items_since (E (Some b)) c d.begun (k.told ++ done b ∷ [])) d.txn
+
+    -- it is answered
+    answers : (b : Answer) (d : Client) → (is_conflict (Some b) ≡ false → IsCaused catalog (E (Some b)) c (done b) b) → ((key : Key) (found : Option Record) → Some b ≡ Some (answer.Conflict key found) → IsChangedIn (E (Some b)) c (k.told ++ done b ∷ []) (done b) key found) → d.number ≡ h.number → d.begun ≡ h.begun → ClientByHistory (E (Some b)) c d.begun (k.told ++ done b ∷ []) None d.plan d.txn d.vacuum → CountsThen b d → IfSome d.txn (IsFilled (E (Some b)) c (rest_of (from_begin d.begun (k.told ++ done b ∷ [])))) → IfSome d.txn (IsWellTypedTxn catalog) → RollsThen b → ShowsNext catalog (E (Some b)) c k.told (done b) b d → So (Some b) d
+    answers b d caused moves number begun stands counts filled fits rolls shows = record {
+      told = k.told ++ done b ∷ [];
+      waiting = None;
+      same = said_done b ∙ sym (append-nil (k.told ++ done b ∷ []));
+      answered = each_more (IsAnswered catalog (E (Some b)) c) k.told (done b) (answered_stay catalog c events (call_event y (Some b)) k.told (inr (inr (k.told, w, done b, said_told, waits.unanswered, said_done b))) k.answered) (record {
+        given = b;
+        is = refl;
+        taken = within_more w.taken events (call_event y (Some b)) waits.taken;
+        answered = last (long (Some b));
+        caused = caused;
+        rejected = λ a t. absurd (waits.stays a (subst (λ es. IsRejected catalog es c w.text a) (before_same w events (call_event y (Some b)) waits.taken) t));
+      });
+      waits = tt;
+      moved = moved_all catalog events (call_event y (Some b)) c k.told (done b) k.answered k.moved moves;
+      number = number ∙ k.number;
+      begun = begun ∙ begun_done b;
+      small = subst (λ n. n < 2 ^ 64) (sym begun) k.small;
+      stands = stands;
+      counted = counts_end catalog c events (call_event y (Some b)) k.told k.waiting h k.answered k.counted (done b) d (ms ++ made ∷ []) k.begun (calls_done b) counted_then (λ t. clash (sym t ∙ begins_none b)) (λ t opened. counts.0 t) counts.1;
+      filled = filled;
+      fits = fits;
+      stored = all_stored (Some b);
+      rolled = rolls_end catalog c events (call_event y (Some b)) k.told k.waiting h k.answered k.rolled (done b) d (ms ++ made ∷ []) (calls_done b) (λ a e rows. rolls (ap read_finished (some_is b a e) ∙ rows));
+      shows = shows_end catalog c events (call_event y (Some b)) k.told k.answered h k.shows k.counted.paired (done b) b d refl shows;
+    }
+      where
+        last : length (E (Some b)) ≡ 1 + length events → 1 + length events ≤ length (E (Some b))
+        last e = omega arith
+
+    -- it goes on
+    goes_on : (d : Client) → d.number ≡ h.number → d.begun ≡ h.begun → is_some d.vacuum ≡ is_some h.vacuum → ClientByHistory (E None) c d.begun k.told (Some w) d.plan d.txn d.vacuum → ReadByTxn so_noted d.txn × WaitCounted catalog w.text so_id so_noted (ms ++ made ∷ []) d.vacuum d.txn → IfSome d.txn (IsFilled (E None) c (rest_of (from_begin d.begun k.told))) → IfSome d.txn (IsWellTypedTxn catalog) → WaitRolls (E None) (reads_vacuum w.text) (ms ++ made ∷ []) d.vacuum d.txn → (ViewBy catalog events c k.told h → IfSome d.txn (IsViewOf catalog (E None) c (rest_of (from_begin d.begun k.told)))) → So None d
+    goes_on d number begun sweeps stands counts filled fits rolls sees = record {
+      told = k.told;
+      waiting = Some w;
+      same = silent_said c events y.store y.request y.how y.reply ∙ said_told;
+      answered = answered_stay catalog c events (call_event y None) k.told (inl (silent_said c events y.store y.request y.how y.reply)) k.answered;
+      waits = subst (λ b. IsWaiting catalog (E None) c b w) (sym sweeps) (waiting_stays catalog c events (call_event y None) (is_some h.vacuum) w waits);
+      moved = moved_still catalog events (call_event y None) c k.told k.told k.answered k.moved;
+      number = number ∙ k.number;
+      begun = begun ∙ k.begun;
+      small = subst (λ n. n < 2 ^ 64) (sym begun) k.small;
+      stands = stands;
+      counted = counts_on catalog c events (call_event y None) k.told k.waiting h k.answered k.counted w d (ms ++ made ∷ []) begun calls_on counts.0 counts.1;
+      filled = filled;
+      fits = fits;
+      stored = all_stored None;
+      rolled = rolls_on catalog c events (call_event y None) k.told k.waiting h k.answered k.rolled w d (ms ++ made ∷ []) calls_on rolls;
+      shows = shows_further catalog c events (call_event y None) k.told k.answered h k.shows d sees;
+    }
+
+    calls_stored : (b : Answer) → AreStoredReplies (calls_of (E (Some b)) c (done b))
+    calls_stored b = each_kept (λ (m : StoreCall). is_stored_reply m.reply ≡ true) (λ m. nat_lt (done b).taken m.at && nat_le m.at (end_of (E (Some b)) (done b))) (calls_by (E (Some b)) c) (all_stored (Some b))
+
+    -- what isn't taken as a record of a transaction is of no form of records
+    bad_caused : (key : Key) → ObservesBad (ms ++ made ∷ []) key → IsBadRecord catalog (E (Some (answer.BadRecord key))) c (done (answer.BadRecord key)) key
+    bad_caused key b =
+        let g : ObservesBad (calls_of (E (Some (answer.BadRecord key))) c (done (answer.BadRecord key))) key = subst (λ cs. ObservesBad cs key) (sym (calls_done (answer.BadRecord key))) b in
+        (g.call, g.found, g.among, g.shown, g.same, inl (shown_bad (calls_of (E (Some (answer.BadRecord key))) c (done (answer.BadRecord key))) key (calls_stored (answer.BadRecord key)) g))
+
+    ---- where it is then
+
+    module _ (t : TxnAt) (some : h.txn ≡ Some t) (free : h.vacuum ≡ None) where
+      stands_open : DoingByHistory events c h.begun k.told k.waiting h.plan (Some t)
+      stands_open = subst (DoingByHistory events c h.begun k.told k.waiting h.plan) some (subst (ClientByHistory events c h.begun k.told k.waiting h.plan h.txn) free k.stands)
+
+      -- it runs no VACUUM
+      stands_free : (result : Option Answer) (n : ℕ) (told : List Executed) (v : Option Executed) (p : Option Planned) (o : Option TxnAt) → DoingByHistory (E result) c n told v p o → ClientByHistory (E result) c n told v p o h.vacuum
+      stands_free result n told v p o = subst (ClientByHistory (E result) c n told v p o) (sym free)
+
+      waits_open : (cs : List StoreCall) (o : Option TxnAt) → OpenCounted w.text so_id so_noted cs o → WaitCounted catalog w.text so_id so_noted cs h.vacuum o
+      waits_open cs o = subst (λ v. WaitCounted catalog w.text so_id so_noted cs v o) (sym free)
+
+      rolls_open : (o : Option TxnAt) → WaitRolls (E None) (reads_vacuum w.text) (ms ++ made ∷ []) None o → WaitRolls (E None) (reads_vacuum w.text) (ms ++ made ∷ []) h.vacuum o
+      rolls_open o = subst (λ v. WaitRolls (E None) (reads_vacuum w.text) (ms ++ made ∷ []) v o) (sym free)
+
+      open_counted : DoingCounted w.text so_id so_noted ms t.doing
+      open_counted = subst (OpenCounted w.text so_id so_noted ms) some (subst (λ v. WaitCounted catalog w.text so_id so_noted ms v h.txn) free counted_now)
+
+      open_noted : ReadByDoing so_noted t.seen t.doing
+      open_noted = subst (ReadByTxn so_noted) some k.counted.as_read
+
+      -- one that notes nothing
+      notes_as_before : (b : Answer) → read_finished b ≡ false → read_items_since (E (Some b)) c h.begun (k.told ++ done b ∷ []) ≡ so_noted
+      notes_as_before b unfinished = since_same (E (Some b)) c h.begun k.told (done b) (none_noted (E (Some b)) c (done b) unfinished) ∙ since_stay catalog events (call_event y (Some b)) c h.begun k.told k.answered
+
+      -- an answer that is no Conflict
+      stays : (b : Answer) → is_conflict (Some b) ≡ false → (key : Key) (found : Option Record) → Some b ≡ Some (answer.Conflict key found) → IsChangedIn (E (Some b)) c (k.told ++ done b ∷ []) (done b) key found
+      stays b f = unmoved (E (Some b)) c (k.told ++ done b ∷ []) (done b) b refl f
+
+      -- the transaction stays open, and does nothing
+      held : (b : Answer) (u : TxnAt) → IsMiddle b → reads_commit w.text ≡ false → u.id ≡ t.id → u.doing ≡ doing.Idle → SeenBy (read_items_of_body (E (Some b)) c (stands_open.1.body ++ done b ∷ [])) u.seen → ClientByHistory (E (Some b)) c h.begun (k.told ++ done b ∷ []) None None (Some u) h.vacuum
+      held b u m no_commit same idles as_read = stands_free (Some b) h.begun (k.told ++ done b ∷ []) None None (Some u) (
+        after_more k.told (done b) ∙ ap (λ x. is_open_after x (done b)) stands_open.0 ∙ after_plain true (done b) (begins_none b) (λ e. middle_ends (done b) b refl m no_commit),
+        open_more c h.begun k.told t u (done b) same (middle_ends (done b) b refl m no_commit) stands_open.1,
+        subst (IsDoing (E (Some b)) c u None None) (sym idles) refl,
+        subst (λ d. IsReadSetOf (E (Some b)) c (k.told ++ done b ∷ []) (stands_open.1.body ++ done b ∷ []) u d None) (sym idles) as_read,
+      )
+
+      -- it ends
+      ended : (b : Answer) → ends (done b) ≡ true → ClientByHistory (E (Some b)) c h.begun (k.told ++ done b ∷ []) None None None h.vacuum
+      ended b over = stands_free (Some b) h.begun (k.told ++ done b ∷ []) None None None (refl, after_more k.told (done b) ∙ after_end (open_after k.told) (done b) b (begins_none b) over refl)
+
+      -- it goes on, with the statement
+      further : (u : TxnAt) (p : Option Planned) → u.id ≡ t.id → IsDoing (E None) c u p (Some w) u.doing → IsReadSetOf (E None) c k.told stands_open.1.body u u.doing (Some w) → ClientByHistory (E None) c h.begun k.told (Some w) p (Some u) h.vacuum
+      further u p same does as_read = stands_free None h.begun k.told (Some w) p (Some u) (stands_open.0, record { begin = stands_open.1.begin; body = stands_open.1.body; since = stands_open.1.since; goes_on = stands_open.1.goes_on; id = same ∙ stands_open.1.id; client = stands_open.1.client }, does, as_read)
+
+      pends_txn : pending_of h.txn ≡ Some y.request
+      pends_txn = subst (λ (v : Option VacuumAt). pending_by v h.txn ≡ Some y.request) free called.waiting.pending
+
+      open_before : (b : Answer) → is_open (before (done b) (E (Some b))) c ≡ true
+      open_before b = ap (λ es. is_open es c) (before_same w events (call_event y (Some b)) waits.taken) ∙ waits.opened ∙ ap (λ o. not (is_some o)) free
+
+      ---- a read
+
+      module _ (p : Planned) (a : Access) (x : ReadAt) (plan : h.plan ≡ Some p) (reads : t.doing ≡ doing.Read a x) (asked : IsAskedBy catalog p a x) (is : IsReading events c w p x) where
+        read_in : IsReadIn catalog p a x
+        read_in =
+            let d : IsDoingIn catalog t.seen t.doing h.plan = subst (λ (o : Option TxnAt). IfSome o (λ u. IsDoingIn catalog u.seen u.doing h.plan)) some about.txn in
+            (subst (IsDoingIn catalog t.seen (doing.Read a x)) plan (subst (λ z. IsDoingIn catalog t.seen z h.plan) reads d)).1
+
+        own : IsDataTable (access_table a)
+        own = subst IsDataTable (sym (ap access_table asked.access ∙ own_table p.table p.statement)) (data_table p.table.name read_in.table)
+
+        leaves : (s : ReadStage) → IsStageIn catalog s → LeavesData (E None) ms made older y.now (clock_now None) s
+        leaves Asking i = tt
+        leaves (Resolving images rec meta q left) i = each_any (λ (r : Record). IsIn catalog r.key) (λ (r : Record). IsDataTable r.key.table) left (λ r z. apart r.key z) i.2
+        leaves (Ended s) i = tt
+
+        pends : read_pending_at (request_of a) x.stage ≡ Some made.request
+        pends =
+            let open_txn : pending_in t.doing ≡ Some y.request = subst (λ (o : Option TxnAt). pending_of o ≡ Some y.request) some pends_txn in
+            let read : read_pending_at x.request x.stage ≡ Some y.request = subst (λ (d : Doing). pending_in d ≡ Some y.request) reads open_txn in
+            subst (λ (q : Request). read_pending_at q x.stage ≡ Some y.request) asked.request read
+
+        noting_now : SeenBy (read_items_of_body events c stands_open.1.body) t.seen
+        noting_now = subst (λ d. IsReadSetOf events c k.told stands_open.1.body t d k.waiting) reads stands_open.3
+
+        filled_reading : IsFilledBy (rows_counted_by (rest_of (from_begin h.begun k.told))) (records_found_by events c (rest_of (from_begin h.begun k.told))) t.seen
+        filled_reading = subst (IsFilledIn events c (rest_of (from_begin h.begun k.told)) t.seen) reads (subst (λ (o : Option TxnAt). IfSome o (IsFilled events c (rest_of (from_begin h.begun k.told)))) some k.filled)
+
+        filled_now : IsFilledBy (rows_counted_by stands_open.1.body) (records_found_by events c stands_open.1.body) t.seen
+        filled_now = subst (λ r. IsFilledBy (rows_counted_by (rest_of r)) (records_found_by events c (rest_of r)) t.seen) stands_open.1.since filled_reading
+
+        -- what it sees fits
+        fit_now : SeesWellTyped catalog t.seen
+        fit_now = subst (SeesWellTypedIn catalog t.seen) reads (subst (λ (o : Option TxnAt). IfSome o (IsWellTypedTxn catalog)) some k.fits)
+
+        -- what it sees it has
+        sees_reading : (result : Option Answer) → ViewBy catalog events c k.told h → SeesOwn catalog (E result) c (rest_of (from_begin h.begun k.told)) t.seen
+        sees_reading result z = subst (SeesOwnIn catalog (E result) c (rest_of (from_begin h.begun k.told)) t.seen) reads (showing_stays catalog events (call_event y result) c h.begun k.told (Some t) k.answered (subst (λ (o : Option TxnAt). IfSome o (IsViewOf catalog events c (rest_of (from_begin h.begun k.told)))) some z.sees_own))
+
+        sees_now : SeesOwn catalog events c stands_open.1.body t.seen
+        sees_now = subst (λ r. SeesOwn catalog events c (rest_of r) t.seen) stands_open.1.since (subst (SeesOwnIn catalog events c (rest_of (from_begin h.begun k.told)) t.seen) reads (subst (λ (o : Option TxnAt). IfSome o (IsViewOf catalog events c (rest_of (from_begin h.begun k.told)))) some k.shows.sees_own))
+
+        listed : find_table catalog p.table.name ≡ Some p.table
+        listed = found_itself catalog (table_of p.statement) p.table asked.named
+
+        of_table : access_table a ≡ p.table.name
+        of_table = ap access_table asked.access ∙ own_table p.table p.statement
+
+        open_at : (s : ReadStage) → ReadsBy ms s → IsOpenAt x.request ms made y.now called.moment s
+        open_at Asking i = tt
+        open_at (Resolving images rec meta q left) i = i.is_open
+        open_at (Ended s) i = absurd i
+
+        shown : StageObserves x.request (ms ++ made ∷ []) (read_step x.stage y.now y.reply)
+        shown = shows_on x.request ms made y.now called.moment a x.stage asked.request (open_at x.stage is.stage) is.shows (subst (λ (q : Request). read_pending_at q x.stage ≡ Some made.request) (sym asked.request) pends) called.can
+
+        leads : (result : Option Answer) → LedBy (E result) (ms ++ made ∷ []) (read_step x.stage y.now y.reply)
+        leads result = reads_on (E result) ms made older y.now (clock_now result) a x.stage own (leaves x.stage read_in.stage) is.stage pends called.can
+
+        counted_read : ReadCounted (ms ++ made ∷ []) (read_step x.stage y.now y.reply)
+        counted_read = let d : DoingCounted w.text so_id so_noted ms (doing.Read a x) = subst (DoingCounted w.text so_id so_noted ms) reads open_counted in read_more ms made a x.stage y.now own d.1 pends
+
+        rolled_read : (result : Option Answer) → ReadRolls (E result) (reads_vacuum w.text) (ms ++ made ∷ []) (read_step x.stage y.now y.reply)
+        rolled_read result =
+            let so : ReadRolls events (reads_vacuum w.text) ms x.stage = subst (DoingRolls events (reads_vacuum w.text) ms) reads (subst (WaitRolls events (reads_vacuum w.text) ms None) some (subst (λ v. WaitRolls events (reads_vacuum w.text) ms v h.txn) free rolls_now)) in
+            read_rolls (E result) (reads_vacuum w.text) ms made older y.now (clock_now result) called.moment (request_of a) x.stage (reads_so_far c events (call_event y result) w x.stage so) pends
+
+        -- what it has noted
+        read_so : ReadItemsAre so_noted t.seen.reads t.seen.scans
+        read_so = subst (ReadByDoing so_noted t.seen) reads open_noted
+
+        no_fit : (b : Answer) → reads_commit w.text ≡ true → CommitIsCounted so_noted so_id (Some b) (ms ++ made ∷ [])
+        no_fit b e = clash (sym e ∙ is.inner.commit)
+
+        -- where it leads
+        abbrev Left : Next → TxnAt → Type 0
+        Left n u = So (answer_in n) (after h n u)
+
+        as_left : (n m : Next) (u v : TxnAt) → n ≡ m → u ≡ v → Left m v → Left n u
+        as_left n m u v e f s = subst (λ (z : Next). Left z u) (sym e) (subst (λ (z : TxnAt). Left m z) (sym f) s)
+
+        -- the statement is answered, and nothing is noted
+        fails : (b : Answer) → changes_nothing b ≡ true → read_finished b ≡ false → IsMiddle b → (is_conflict (Some b) ≡ false → IsCaused catalog (E (Some b)) c (done b) b) → Left (next.Answer b) (idle t)
+        fails b nothing unfinished m caused =
+            answers b (holding h (idle t)) caused (stays b m.agrees) refl refl
+            (held b (idle t) m is.inner.commit refl refl (noted_more catalog events (call_event y (Some b)) c h.begun k.told t stands_open.1 k.answered (done b) t.seen t.seen refl refl noting_now))
+            (no_fit b, subst (λ ns. ReadItemsAre ns t.seen.reads t.seen.scans) (sym (notes_as_before b unfinished)) read_so)
+            (filled_idle (E (Some b)) c h.begun k.told (done b) stands_open.1.begin stands_open.1.body (idle t) stands_open.1.since refl (filled_more events (call_event y (Some b)) c stands_open.1.body (done b) t.seen filled_now)) fit_now (λ z. clash (sym z ∙ unfinished))
+            (next_same catalog c events (call_event y (Some b)) k.told k.answered h.begun stands_open.1.begin stands_open.1.body stands_open.1.since t.seen sees_now (done b) b (idle t) refl nothing refl refl)
+
+        reads_further : (s : ReadStage) → ReadsBy (ms ++ made ∷ []) s → StageObserves x.request (ms ++ made ∷ []) s → ReadCounted (ms ++ made ∷ []) s → ReadRolls (E None) (reads_vacuum w.text) (ms ++ made ∷ []) s → Left next.Call (record t { doing = doing.Read a (record x { stage = s }) })
+        reads_further s i j n r =
+            goes_on (record h { txn = Some (record t { doing = doing.Read a (record x { stage = s }) }) }) refl refl refl
+            (further (record t { doing = doing.Read a (record x { stage = s }) }) h.plan refl
+            (subst (λ (o : Option Planned). IsDoing (E None) c (record t { doing = doing.Read a (record x { stage = s }) }) o (Some w) (doing.Read a (record x { stage = s }))) (sym plan)
+            (record { text = is.text; inner = is.inner; stage = subst (λ cs. ReadsBy cs s) (sym calls_on) i; shows = subst (λ cs. StageObserves x.request cs s) (sym calls_on) j }))
+            (noted_still catalog events (call_event y None) c h.begun k.told t stands_open.1 k.answered t.seen noting_now))
+            (read_so, waits_open (ms ++ made ∷ []) (Some (record t { doing = doing.Read a (record x { stage = s }) })) (is.inner.commit, n))
+            (filled_stays events (call_event y None) c (rest_of (from_begin h.begun k.told)) (Some (record t { doing = doing.Read a (record x { stage = s }) })) filled_reading)
+            fit_now (rolls_open (Some (record t { doing = doing.Read a (record x { stage = s }) })) r) (sees_reading None)
+
+        -- the read, where it is done
+        has_read : (images : List Record) → read_step x.stage y.now y.reply ≡ Ended (step.Images images) → HasRead (request_of a) (ms ++ made ∷ []) images []
+        has_read images e = subst (λ (q : Request). HasRead q (ms ++ made ∷ []) images []) asked.request (subst (StageObserves x.request (ms ++ made ∷ [])) e shown)
+
+        -- what the transaction has then noted
+        noted_then : (images : List Record) (z : Answer) (u : TxnAt) → read_step x.stage y.now y.reply ≡ Ended (step.Images images)
+            → ((read_finished z ≡ false) × (u.seen ≡ t.seen)) ⊎ ((read_finished z ≡ true) × (u.seen.reads ≡ (with_rows_read t a images).seen.reads) × (u.seen.scans ≡ (with_rows_read t a images).seen.scans))
+            → SeenBy (read_items_of_body (E (Some z)) c (stands_open.1.body ++ done z ∷ [])) u.seen
+        noted_then images z u e (inl s) = noted_more catalog events (call_event y (Some z)) c h.begun k.told t stands_open.1 k.answered (done z) t.seen u.seen (ap (λ (v : Seen). v.reads) s.1) (ap (λ (v : Seen). v.scans) s.1) noting_now
+        noted_then images z u e (inr s) =
+            let front : SeenBy (read_items_of_body (E (Some z)) c stands_open.1.body) t.seen = noted_still catalog events (call_event y (Some z)) c h.begun k.told t stands_open.1 k.answered t.seen noting_now in
+            let now_seen : SeenBy (read_items_of_body (E (Some z)) c stands_open.1.body ++ read_items (ms ++ made ∷ [])) (with_rows_read t a images).seen = read_noted a (ms ++ made ∷ []) images (read_items_of_body (E (Some z)) c stands_open.1.body) t (has_read images e) own front in
+            let last : read_items_of_body (E (Some z)) c (done z ∷ []) ≡ read_items (ms ++ made ∷ []) = notes_one (E (Some z)) c (done z) s.0 ∙ ap read_items (calls_done z) in
+            let whole : read_items_of_body (E (Some z)) c (stands_open.1.body ++ done z ∷ []) ≡ read_items_of_body (E (Some z)) c stands_open.1.body ++ read_items (ms ++ made ∷ []) = notes_more (E (Some z)) c stands_open.1.body (done z) ∙ ap (λ ns. read_items_of_body (E (Some z)) c stands_open.1.body ++ ns) last in
+            subst (λ ns. SeenBy ns u.seen) (sym whole) (seen_same (read_items_of_body (E (Some z)) c stands_open.1.body ++ read_items (ms ++ made ∷ [])) (with_rows_read t a images).seen u.seen s.1 s.2 now_seen)
+
+        -- and as what that is counted
+        told_noted : (images : List Record) (z : Answer) (u : TxnAt) → read_step x.stage y.now y.reply ≡ Ended (step.Images images) → ((read_finished z ≡ false) × (u.seen ≡ t.seen)) ⊎ ((read_finished z ≡ true) × (u.seen.reads ≡ (with_rows_read t a images).seen.reads) × (u.seen.scans ≡ (with_rows_read t a images).seen.scans))
+            → u.doing ≡ doing.Idle → ReadByDoing (read_items_since (E (Some z)) c h.begun (k.told ++ done z ∷ [])) u.seen u.doing
+        told_noted images z u e (inl s) idles = subst (λ ns. ReadByDoing ns u.seen u.doing) (sym (notes_as_before z s.0)) (notes_idle so_noted u.seen u.doing idles (subst (λ (v : Seen). ReadItemsAre so_noted v.reads v.scans) (sym s.1) read_so))
+        told_noted images z u e (inr s) idles =
+            let now_so : ReadItemsAre (so_noted ++ read_items (ms ++ made ∷ [])) (with_rows_read t a images).seen.reads (with_rows_read t a images).seen.scans = noted_read a (ms ++ made ∷ []) images so_noted t (has_read images e) own read_so in
+            let last : read_items_of_body (E (Some z)) c (done z ∷ []) ≡ read_items (ms ++ made ∷ []) = notes_one (E (Some z)) c (done z) s.0 ∙ ap read_items (calls_done z) in
+            let whole : read_items_since (E (Some z)) c h.begun (k.told ++ done z ∷ []) ≡ so_noted ++ read_items (ms ++ made ∷ []) =
+            since_open (E (Some z)) c h.begun k.told (done z) stands_open.1.begin stands_open.1.body stands_open.1.since ∙ ap (λ ns. ns ++ read_items_of_body (E (Some z)) c (done z ∷ [])) (since_stay catalog events (call_event y (Some z)) c h.begun k.told k.answered) ∙ ap (λ ns. so_noted ++ ns) last in
+            subst (λ ns. ReadByDoing ns u.seen u.doing) (sym whole) (notes_idle (so_noted ++ read_items (ms ++ made ∷ [])) u.seen u.doing idles (subst (λ rs. ReadItemsAre (so_noted ++ read_items (ms ++ made ∷ [])) rs u.seen.scans) (sym s.1) (subst (ReadItemsAre (so_noted ++ read_items (ms ++ made ∷ [])) (with_rows_read t a images).seen.reads) (sym s.2) now_so)))
+
+        -- with the images no more is noted than found
+        filled_with : (images : List Record) → read_step x.stage y.now y.reply ≡ Ended (step.Images images) → IsFilledBy (rows_counted_by stands_open.1.body) (records_found_by events c stands_open.1.body + records_found (ms ++ made ∷ [])) (with_rows_read t a images).seen
+        filled_with images e = filled_few (rows_counted_by stands_open.1.body) (records_found_by events c stands_open.1.body) (length images) (records_found (ms ++ made ∷ [])) (with_rows_read t a images).seen (images_few a (ms ++ made ∷ []) images (has_read images e) own) (filled_noting (rows_counted_by stands_open.1.body) (records_found_by events c stands_open.1.body) t a images filled_now)
+
+        found_done : (b : Answer) → records_found (ms ++ made ∷ []) ≤ records_found (calls_of (E (Some b)) c (done b))
+        found_done b = subst (λ cs. records_found (ms ++ made ∷ []) ≤ records_found cs) (sym (calls_done b)) (least (records_found (ms ++ made ∷ [])))
+
+        -- the changes may be too many
+        passes_then : (images : List Record) → read_step x.stage y.now y.reply ≡ Ended (step.Images images) → (b : Answer) → too_many (with_rows_read t a images) (changes_on p.table p.statement (overlay a (with_rows_read t a images).seen)) ≡ true → MayPassMost (E (Some b)) c (done b)
+        passes_then images e b many =
+            pass_now c h.begun (E (Some b)) k.told stands_open.1.begin (done b) stands_open.1.body p.statement k.small (said_done b) stands_open.1.since stands_open.1.goes_on is.text
+            (passes_given (rows_counted_by stands_open.1.body) (records_found_by (E (Some b)) c stands_open.1.body + records_found (calls_of (E (Some b)) c (done b))) (with_rows_read t a images) a p.table p.statement
+            (filled_found events (call_event y (Some b)) c stands_open.1.body (records_found (ms ++ made ∷ [])) (records_found (calls_of (E (Some b)) c (done b))) (with_rows_read t a images).seen (found_done b) (filled_with images e)) many)
+
+        -- a row that doesn't fit its table was read
+        misfit_caused : (images : List Record) → read_step x.stage y.now y.reply ≡ Ended (step.Images images) → (b : Answer) (key : Key) → first_unfit p.table (overlay a (with_rows_read t a images).seen) ≡ Some key → IsBadRecord catalog (E (Some b)) c (done b) key
+        misfit_caused images e b key f =
+            let no_vacuum : reads_vacuum w.text ≡ false = waits.vacuum ∙ ap is_some free in
+            let h = has_read images e in
+            let r = misfit_read catalog p a listed of_table (ms ++ made ∷ []) t images h fit_now key own f in (
+              h.first,
+              r.0,
+              subst (λ cs. Contains cs h.first) (sym (calls_done b)) (first_in h.first h.rest (ms ++ made ∷ []) h.calls_are),
+              shown_read h.first.reply r.0 r.1,
+              r.2,
+              inr (is.inner.commit, no_vacuum, data_read a own h.first h.request, subst (λ cs. is_misfit catalog cs r.0 ≡ true) (sym (calls_done b)) r.3),
+            )
+
+        -- what it shows, and what its transaction then sees
+        shows_then : (images : List Record) → read_step x.stage y.now y.reply ≡ Ended (step.Images images) → ShowsNext catalog (E (Some (given_answer (with_rows_read t a images) (gives p a (with_rows_read t a images))))) c k.told (done (given_answer (with_rows_read t a images) (gives p a (with_rows_read t a images)))) (given_answer (with_rows_read t a images) (gives p a (with_rows_read t a images))) (holding h (given_left (idle t) (with_rows_read t a images) (gives p a (with_rows_read t a images))))
+        shows_then images e =
+            let b : Answer = given_answer (with_rows_read t a images) (gives p a (with_rows_read t a images)) in
+            read_next catalog c events (call_event y (Some b)) k.told k.answered h.begun stands_open.1.begin stands_open.1.body stands_open.1.since k.begun t sees_now (sound free t a x some reads).1 (done b) p a (ms ++ made ∷ []) images (calls_done b) (has_read images e) is_fine is.text (waits.vacuum ∙ ap is_some free) asked.named asked.asked asked.access refl
+            (fits_now catalog p a listed of_table (ms ++ made ∷ []) t images (has_read images e) fit_now)
+
+        tells : (images : List Record) → read_step x.stage y.now y.reply ≡ Ended (step.Images images) → Left (next.Answer (given_answer (with_rows_read t a images) (gives p a (with_rows_read t a images)))) (given_left (idle t) (with_rows_read t a images) (gives p a (with_rows_read t a images)))
+        tells images e =
+            let v = with_rows_read t a images in
+            let m = given_middle p (overlay a v.seen) v in
+            answers (given_answer v (gives p a v)) (holding h (given_left (idle t) v (gives p a v)))
+            (given_caused catalog (E (Some (given_answer v (gives p a v)))) c (done (given_answer v (gives p a v))) p (overlay a v.seen) v is.text asked.named asked.asked (open_before (given_answer v (gives p a v))) (misfit_caused images e (given_answer v (gives p a v))) (passes_then images e (given_answer v (gives p a v)))) (stays (given_answer v (gives p a v)) m.agrees) refl refl
+            (held (given_answer v (gives p a v)) (given_left (idle t) v (gives p a v)) m is.inner.commit (left_id (idle t) v (gives p a v) (sym (noting_id t a images)) ∙ noting_id t a images) (left_idle (idle t) v (gives p a v) refl (noting_idle t a images))
+            (noted_then images (given_answer v (gives p a v)) (given_left (idle t) v (gives p a v)) e (left_by (idle t) v (gives p a v) (gives_finished p (overlay a v.seen) v))))
+            (no_fit (given_answer v (gives p a v)), told_noted images (given_answer v (gives p a v)) (given_left (idle t) v (gives p a v)) e (left_by (idle t) v (gives p a v) (gives_finished p (overlay a v.seen) v)) (left_idle (idle t) v (gives p a v) refl (noting_idle t a images)))
+            (filled_idle (E (Some (given_answer v (gives p a v)))) c h.begun k.told (done (given_answer v (gives p a v))) stands_open.1.begin stands_open.1.body (given_left (idle t) v (gives p a v)) stands_open.1.since (left_idle (idle t) v (gives p a v) refl (noting_idle t a images))
+            (filled_given events (call_event y (Some (given_answer v (gives p a v)))) c stands_open.1.body (done (given_answer v (gives p a v))) p (overlay a v.seen) (idle t) v (records_found (ms ++ made ∷ [])) refl (found_done (given_answer v (gives p a v))) filled_now (filled_with images e)))
+            (subst (SeesWellTypedIn catalog (given_left (idle t) v (gives p a v)).seen) (sym (left_idle (idle t) v (gives p a v) refl (noting_idle t a images)))
+            (given_fits catalog p a listed of_table is_fine asked.named asked.asked asked.taken asked.literals asked.access (idle t) v fit_now (fits_now catalog p a listed of_table (ms ++ made ∷ []) t images (has_read images e) fit_now)))
+            (λ z. subst (ReadRolls (E (Some (given_answer v (gives p a v)))) (reads_vacuum w.text) (ms ++ made ∷ [])) e (rolled_read (Some (given_answer v (gives p a v))))) (shows_then images e)
+
+        -- a key that was read differs
+        moves_now : (images : List Record) (key : Key) (found : Option Record) → read_step x.stage y.now y.reply ≡ Ended (step.Images images) → (z : Access) → a ≡ z → IsChangedAt t z images key found → SeenBy (read_items_of_body events c stands_open.1.body) t.seen
+            → ChangesAtScan (ms ++ made ∷ []) (read_items_of_body events c stands_open.1.body) key found
+        moves_now images key found e (access.Get k) is_it moved by_notes = absurd moved
+        moves_now images key found e (access.Scan span) is_it moved by_notes =
+            let r : HasRead (request_of a) (ms ++ made ∷ []) images [] = has_read images e in
+            let s : HasRead (ask.Scan span) (ms ++ made ∷ []) images [] = subst (λ (v : Access). HasRead (request_of v) (ms ++ made ∷ []) images []) is_it r in
+            let shows = scan_shows (ms ++ made ∷ []) span images key s in (
+              s.first,
+              span,
+              shows.0,
+              first_in s.first s.rest (ms ++ made ∷ []) s.calls_are,
+              s.request,
+              shows.1,
+              moved.inside,
+              moved.stands ∙ sym shows.2,
+              subst (HasChanged (read_items_of_body events c stands_open.1.body) key) (sym moved.stands) (differs_moved (read_items_of_body events c stands_open.1.body) t.seen images key by_notes (sound free t a x some reads).0 moved.moved),
+            )
+
+        moved_now : (images : List Record) (key : Key) (found : Option Record) → read_step x.stage y.now y.reply ≡ Ended (step.Images images) → IsChangedAt t a images key found → ends (done (answer.Conflict key found)) ≡ true
+            → (other : Key) (others : Option Record) → Some (answer.Conflict key found) ≡ Some (answer.Conflict other others)
+            → IsChangedIn (E (Some (answer.Conflict key found))) c (k.told ++ done (answer.Conflict key found) ∷ []) (done (answer.Conflict key found)) other others
+        moved_now images key found e moved over other others same =
+            let b : Answer = answer.Conflict key found in
+            let here : ChangesAtScan (ms ++ made ∷ []) (read_items_of_body events c stands_open.1.body) key found = moves_now images key found e a refl moved noting_now in
+            let keys : key ≡ other = cc in
+            let founds : found ≡ others = cc in
+            record {
+              n = h.begun;
+              begin = stands_open.1.begin;
+              body = stands_open.1.body;
+              tail = [];
+              since = since_more h.begun k.told (done b) stands_open.1.begin stands_open.1.body stands_open.1.since;
+              goes_on = stands_open.1.goes_on;
+              over = over;
+              small = k.small;
+              why = subst (λ v. ChangesBy v (id_of c h.begun) (calls_of (E (Some b)) c (done b)) (read_items_of_body (E (Some b)) c stands_open.1.body) other others) (sym is.inner.commit) (subst (λ ns. ChangesAtScan (calls_of (E (Some b)) c (done b)) ns other others) (sym (notes_stay catalog events (call_event y (Some b)) c stands_open.1.body (since_all (IsAnswered catalog events c) h.begun k.told stands_open.1.begin stands_open.1.body k.answered stands_open.1.since)))
+                  (subst (λ cs. ChangesAtScan cs (read_items_of_body events c stands_open.1.body) other others) (sym (calls_done b))
+                  (subst (λ (z : Key). ChangesAtScan (ms ++ made ∷ []) (read_items_of_body events c stands_open.1.body) z others) keys (subst (λ (z : Option Record). ChangesAtScan (ms ++ made ∷ []) (read_items_of_body events c stands_open.1.body) key z) founds here))));
+            }
+
+        images_case : (images : List Record) → read_step x.stage y.now y.reply ≡ Ended (step.Images images) → (n : Next) (u : TxnAt) → RowsReadPost t p a images n u → Left n u
+        images_case images ends_at (next.Answer z) u e = as_left (next.Answer z) (next.Answer (given_answer (with_rows_read t a images) (gives p a (with_rows_read t a images)))) u _ (ap next.Answer e.1) e.2 (tells images ends_at)
+        images_case images ends_at (next.End (answer.Conflict key found)) u e =
+            let over : ends (done (answer.Conflict key found)) ≡ true = ap (λ b. b || true || (reads_rollback w.text && false)) is.inner.commit in
+            answers (answer.Conflict key found) (resting h) (λ z. clash z) (moved_now images key found ends_at e over) refl refl (ended (answer.Conflict key found) over) (no_fit (answer.Conflict key found), tt) tt tt (λ z. clash (sym z)) ((λ was. tt), tt)
+        images_case images ends_at n u e = absurd e
+
+        stage_case : (s : ReadStage) → read_step x.stage y.now y.reply ≡ s → (n : Next) (u : TxnAt) → StagePost t p a x s (read_result s) n u → Left n u
+        stage_case Asking e n u z = as_left n next.Call u _ z.0 z.1 (reads_further Asking tt (subst (StageObserves x.request (ms ++ made ∷ [])) e shown) (subst (ReadCounted (ms ++ made ∷ [])) e counted_read) (subst (ReadRolls (E None) (reads_vacuum w.text) (ms ++ made ∷ [])) e (rolled_read None)))
+        stage_case (Resolving images rec meta q left) e n u z = as_left n next.Call u _ z.0 z.1 (reads_further (Resolving images rec meta q left) (subst (LedBy (E None) (ms ++ made ∷ [])) e (leads None)) (subst (StageObserves x.request (ms ++ made ∷ [])) e shown) (subst (ReadCounted (ms ++ made ∷ [])) e counted_read) (subst (ReadRolls (E None) (reads_vacuum w.text) (ms ++ made ∷ [])) e (rolled_read None)))
+        stage_case (Ended step.More) e n u z = absurd (subst (LedBy (E None) (ms ++ made ∷ [])) e (leads None))
+        stage_case (Ended (step.Images images)) e n u z = images_case images e n u z
+        stage_case (Ended (step.Busy key id at)) e n u z =
+            as_left n (next.Answer (answer.Busy key id at)) u (idle t) z.0 z.1
+            (fails (answer.Busy key id at) refl refl (record { undone = refl; agrees = refl }) (λ g. busy_caused (E (Some (answer.Busy key id at))) c (done (answer.Busy key id at)) key id at (subst (λ cs. IsBusyBy (E (Some (answer.Busy key id at))) cs key id at) (sym (calls_done (answer.Busy key id at))) (subst (LedBy (E (Some (answer.Busy key id at))) (ms ++ made ∷ [])) e (leads (Some (answer.Busy key id at)))))))
+        stage_case (Ended step.Faulted) e n u z =
+            as_left n (next.Answer answer.Faulted) u (idle t) z.0 z.1
+            (fails answer.Faulted refl refl (record { undone = refl; agrees = refl }) (λ g. subst (HasReply is_fault) (sym (calls_done answer.Faulted)) (subst (LedBy (E (Some answer.Faulted)) (ms ++ made ∷ [])) e (leads (Some answer.Faulted)))))
+        stage_case (Ended (step.BadRecord key)) e n u z = as_left n (next.Answer (answer.BadRecord key)) u (idle t) z.0 z.1 (fails (answer.BadRecord key) refl refl (record { undone = refl; agrees = refl }) (λ g. bad_caused key (subst (LedBy (E (Some (answer.BadRecord key))) (ms ++ made ∷ [])) e (leads (Some (answer.BadRecord key))))))
+        stage_case (Ended step.NoMemory) e n u z = absurd z
+
+        read_case : (n : Next) (u : TxnAt) → CallPost t p a x y.reply y.now n u → Left n u
+        read_case n u z =
+            by_next n
+            (λ e. as_left n (next.Answer answer.NoMemory) u (idle t) e (z.memory e) (fails answer.NoMemory refl refl (record { undone = refl; agrees = refl }) (λ g. tt)))
+            (λ e. stage_case (read_step x.stage y.now y.reply) refl n u (z.told e))
+
+      ---- a COMMIT
+
+      module _ (j : CommitAt) (plan : h.plan ≡ None) (commits : t.doing ≡ doing.Commit j) (is : IsCommitting events c w t j) where
+        work_in : IsWorkIn catalog j.work
+        work_in =
+            let d : IsDoingIn catalog t.seen t.doing h.plan = subst (λ (o : Option TxnAt). IfSome o (λ u. IsDoingIn catalog u.seen u.doing h.plan)) some about.txn in
+            subst (λ z. IsDoingIn catalog t.seen z h.plan) commits d
+
+        of_data : IsOfData j.work
+        of_data = record {
+          small = subst (λ (z : TxId). z.0 < 2 ^ 128) (sym (is.same ∙ stands_open.1.id)) (id_fits c h.begun stands_open.1.client k.small);
+          moment = is.moment;
+          writes = each_any (λ (z : Write). IsIn catalog z.key × IsRecordIn catalog z.base) (λ (z : Write). is_data z.key ≡ true) j.work.writes (λ z i. apart z.key i.0) work_in.writes;
+          reads = each_any (λ (z : Read). IsIn catalog z.key) (λ (z : Read). is_data z.key ≡ true) j.work.reads (λ z i. apart z.key i) work_in.reads;
+        }
+
+        pends_commit : commit_pending j.work j.stage ≡ Some made.request
+        pends_commit = subst (λ (d : Doing). pending_in d ≡ Some y.request) commits (subst (λ (o : Option TxnAt). pending_of o ≡ Some y.request) some pends_txn)
+
+        abbrev then_at : Stage
+        then_at = commit_step j.work j.stage y.reply
+
+        -- how many calls it has made
+        commit_noted : ReadItemsAre so_noted j.work.reads j.work.scans
+        commit_noted = subst (ReadByDoing so_noted t.seen) commits open_noted
+
+        commit_so : DoingCounted w.text so_id so_noted ms (doing.Commit j)
+        commit_so = subst (DoingCounted w.text so_id so_noted ms) commits open_counted
+
+        then_stands : StageByCalls j.work (ms ++ made ∷ []) then_at
+        then_stands = stands_on j.work of_data ms made older commit_so.2 j.stage is.stage pends_commit called.can
+
+        counted_commit : CommitCounted so_noted j.work (ms ++ made ∷ []) then_at
+        counted_commit = commit_more so_noted j.work commit_noted commit_so.2 ms made j.stage commit_so.3 pends_commit
+
+        abbrev Led : Next → TxnAt → Type 0
+        Led n u = So (answer_in n) (after h n u)
+
+        over_done : (b : Answer) → ends (done b) ≡ true
+        over_done b = ap (λ z. z || is_conflict (Some b) || (reads_rollback w.text && is_done (Some b))) is.text
+
+        commit_done : (b : Answer) → IsCommitOf (E (Some b)) c (done b) j.work.id
+        commit_done b = subst (IsCommitOf (E (Some b)) c (done b)) (sym is.same) (commit_is (E (Some b)) c h.begun k.told (done b) t k.small (said_done b) is.text (over_done b) stands_open.1)
+
+        -- why it ends so
+        end_caused : (a : Outcome) → EndsBy j.work.id (ms ++ made ∷ []) a → is_conflict (Some (answer_of_outcome a)) ≡ false → IsCaused catalog (E (Some (answer_of_outcome a))) c (done (answer_of_outcome a)) (answer_of_outcome a)
+        end_caused a e = outcome_caused catalog (E (Some (answer_of_outcome a))) c (done (answer_of_outcome a)) j.work.id a (commit_done (answer_of_outcome a)) (subst (λ cs. EndsBy j.work.id cs a) (sym (calls_done (answer_of_outcome a))) e)
+
+        -- an end of the transaction, of which a COMMIT's cause is told elsewhere
+        checks_now : WorkBy (read_items_of_body events c stands_open.1.body) j.work × ChecksBy (read_items_of_body events c stands_open.1.body) j.work ms j.stage
+        checks_now = subst (λ d. IsReadSetOf events c k.told stands_open.1.body t d (Some w)) commits (subst (λ v. IsReadSetOf events c k.told stands_open.1.body t t.doing v) waiting stands_open.3)
+
+        checks_then : WorkBy (read_items_of_body events c stands_open.1.body) j.work × ChecksBy (read_items_of_body events c stands_open.1.body) j.work (ms ++ made ∷ []) then_at
+        checks_then = let z = checks_now in (z.0, checks_on j.work (read_items_of_body events c stands_open.1.body) z.0 ms made j.stage z.1 pends_commit called.can)
+
+        body_notes : (result : Option Answer) → read_items_of_body events c stands_open.1.body ≡ read_items_of_body (E result) c stands_open.1.body
+        body_notes result = sym (notes_stay catalog events (call_event y result) c stands_open.1.body (since_all (IsAnswered catalog events c) h.begun k.told stands_open.1.begin stands_open.1.body k.answered stands_open.1.since))
+
+        ends_moved : (a : Outcome) → then_at ≡ Over a → (key : Key) (found : Option Record) → Some (answer_of_outcome a) ≡ Some (answer.Conflict key found)
+            → IsChangedIn (E (Some (answer_of_outcome a))) c (k.told ++ done (answer_of_outcome a) ∷ []) (done (answer_of_outcome a)) key found
+        ends_moved a at_end key found e =
+            let b : Answer = answer_of_outcome a in
+            let ended_by : ConflictBy (read_items_of_body events c stands_open.1.body) j.work (ms ++ made ∷ []) a = subst (ChecksBy (read_items_of_body events c stands_open.1.body) j.work (ms ++ made ∷ [])) at_end checks_then.1 in
+            let here : ConflictsAtCommit (ms ++ made ∷ []) (read_items_of_body events c stands_open.1.body) j.work.id key found = conflict_of (read_items_of_body events c stands_open.1.body) j.work (ms ++ made ∷ []) a key found (some_is b (answer.Conflict key found) e) ended_by in
+            record {
+              n = h.begun;
+              begin = stands_open.1.begin;
+              body = stands_open.1.body;
+              tail = [];
+              since = since_more h.begun k.told (done b) stands_open.1.begin stands_open.1.body stands_open.1.since;
+              goes_on = stands_open.1.goes_on;
+              over = over_done b;
+              small = k.small;
+              why = subst (λ v. ChangesBy v (id_of c h.begun) (calls_of (E (Some b)) c (done b)) (read_items_of_body (E (Some b)) c stands_open.1.body) key found) (sym is.text)
+                  (subst (λ ns. ConflictsAtCommit (calls_of (E (Some b)) c (done b)) ns (id_of c h.begun) key found) (body_notes (Some b))
+                  (subst (λ cs. ConflictsAtCommit cs (read_items_of_body events c stands_open.1.body) (id_of c h.begun) key found) (sym (calls_done b))
+                  (subst (λ (i : TxId). ConflictsAtCommit (ms ++ made ∷ []) (read_items_of_body events c stands_open.1.body) i key found) (is.same ∙ stands_open.1.id) here)));
+            }
+
+        is_over : (a : Outcome) → then_at ≡ Over a → So (Some (answer_of_outcome a)) (resting h)
+        is_over a e =
+            answers (answer_of_outcome a) (resting h) (end_caused a (subst (StageByCalls j.work (ms ++ made ∷ [])) e then_stands)) (ends_moved a e) refl refl (ended (answer_of_outcome a) (over_done (answer_of_outcome a)))
+            (λ z. subst (λ (i : TxId). CommitIsCounted so_noted i (Some (answer_of_outcome a)) (ms ++ made ∷ [])) commit_so.1 (commit_over so_noted j.work (ms ++ made ∷ []) a (subst (CommitCounted so_noted j.work (ms ++ made ∷ [])) e counted_commit) (subst (StageByCalls j.work (ms ++ made ∷ [])) e then_stands)), tt) tt tt (λ z. clash (sym z ∙ outcome_rows a))
+            ((λ was. outcome_tells catalog (E (Some (answer_of_outcome a))) c (rest_of (from_begin (begun_in k.told) k.told)) (done (answer_of_outcome a)) a), tt)
+
+        commits_on : (u : TxnAt) (m : CommitAt) → u.id ≡ t.id → u.doing ≡ doing.Commit m → m.work ≡ j.work → StageByCalls j.work (ms ++ made ∷ []) m.stage → ((ns : List ReadItem) → ChecksBy ns j.work (ms ++ made ∷ []) then_at → ChecksBy ns j.work (ms ++ made ∷ []) m.stage) → CommitCounted so_noted j.work (ms ++ made ∷ []) m.stage → So None (record h { txn = Some u })
+        commits_on u m same does work stands checked counts =
+            goes_on (record h { txn = Some u }) refl refl refl
+            (further u h.plan same
+            (subst (IsDoing (E None) c u h.plan (Some w)) (sym does) (record {
+              text = is.text;
+              same = ap (λ (z : Work). z.id) work ∙ is.same ∙ sym same;
+              moment = subst (λ (z : Work). is_moment z.now ≡ true) (sym work) is.moment;
+              stage = subst (λ (z : Work). StageByCalls z (calls_of (E None) c w) m.stage) (sym work) (subst (λ cs. StageByCalls j.work cs m.stage) (sym calls_on) stands);
+            }))
+            (subst (λ d. IsReadSetOf (E None) c k.told stands_open.1.body u d (Some w)) (sym does) (
+            let z = checks_then in (
+              subst (λ (v : Work). WorkBy (read_items_of_body (E None) c stands_open.1.body) v) (sym work) (subst (λ ns. WorkBy ns j.work) (body_notes None) z.0),
+              subst (λ (v : Work). ChecksBy (read_items_of_body (E None) c stands_open.1.body) v (calls_of (E None) c w) m.stage) (sym work)
+                  (subst (λ cs. ChecksBy (read_items_of_body (E None) c stands_open.1.body) j.work cs m.stage) (sym calls_on)
+                  (subst (λ ns. ChecksBy ns j.work (ms ++ made ∷ []) m.stage) (body_notes None) (checked (read_items_of_body events c stands_open.1.body) z.1))),
+            )))) (
+              subst (ReadByDoing so_noted u.seen) (sym does) (subst (λ (z : Work). ReadItemsAre so_noted z.reads z.scans) (sym work) commit_noted),
+              waits_open (ms ++ made ∷ []) (Some u) (subst (DoingCounted w.text so_id so_noted (ms ++ made ∷ [])) (sym does)
+                  (is.text, ap (λ (z : Work). z.id) work ∙ commit_so.1, subst (λ (z : Work). AllByRecursion IsWrite z.writes) (sym work) commit_so.2, subst (λ (z : Work). CommitCounted so_noted z (ms ++ made ∷ []) m.stage) (sym work) counts)),
+            )
+            (subst (IsFilledIn (E None) c (rest_of (from_begin h.begun k.told)) u.seen) (sym does) tt) (subst (SeesWellTypedIn catalog u.seen) (sym does) tt) (rolls_open (Some u) (subst (DoingRolls (E None) (reads_vacuum w.text) (ms ++ made ∷ [])) (sym does) tt)) (λ z. subst (SeesOwnIn catalog (E None) c (rest_of (from_begin h.begun k.told)) u.seen) (sym does) tt)
+
+        by_stage : (m : Stage) → IsNext j.work j.stage y.reply m → StageByCalls j.work (ms ++ made ∷ []) m
+        by_stage m z = next_by (StageByCalls j.work (ms ++ made ∷ [])) j.work j.stage y.reply m z then_stands (starved_stands j.work (ms ++ made ∷ []) then_at then_stands)
+
+        by_counts : (m : Stage) → IsNext j.work j.stage y.reply m → CommitCounted so_noted j.work (ms ++ made ∷ []) m
+        by_counts m z = next_by (CommitCounted so_noted j.work (ms ++ made ∷ [])) j.work j.stage y.reply m z counted_commit (commit_starved so_noted j.work (ms ++ made ∷ []) then_at counted_commit)
+
+        by_checks : (m : Stage) → IsNext j.work j.stage y.reply m → (ns : List ReadItem) → ChecksBy ns j.work (ms ++ made ∷ []) then_at → ChecksBy ns j.work (ms ++ made ∷ []) m
+        by_checks m z ns v = next_by (ChecksBy ns j.work (ms ++ made ∷ [])) j.work j.stage y.reply m z v (starved_checks ns j.work (ms ++ made ∷ []) then_at v)
+
+        by_doing : (u : TxnAt) (d : Doing) → u.id ≡ t.id → u.doing ≡ d → GoesOn d (λ m. (m.work ≡ j.work) × IsNext j.work j.stage y.reply m.stage) → Led next.Call u
+        by_doing u (doing.Commit m) same e z = commits_on u m same e z.0 (by_stage m.stage z.1) (by_checks m.stage z.1) (by_counts m.stage z.1)
+        by_doing u doing.Idle same e z = absurd z
+        by_doing u (doing.Read a x) same e z = absurd z
+        by_doing u doing.Over same e z = absurd z
+
+        commit_case : (n : Next) (u : TxnAt) → CommitNext t j y.reply n u → Led n u
+        commit_case n u z = by_end (ended_at then_at) refl
+          where
+            by_end : (o : Option Outcome) → ended_at then_at ≡ o → Led n u
+            by_end None e =
+                let more : z.progress ≡ progress.More = z.told.answer ∙ ap progress_of e in
+                subst (λ (x : Next). Led x u) (sym (z.next ∙ ap next_of more)) (by_doing u u.doing z.told.same refl (z.told.next more))
+            by_end (Some a) e = subst (λ (x : Next). Led x u) (sym (z.next ∙ ap next_of (z.told.answer ∙ ap progress_of e) ∙ told_end a)) (is_over a (ended_is then_at a e))
+
+    ---- a VACUUM
+
+    module _ (v : VacuumAt) (runs : h.vacuum ≡ Some v) (is : IsInVacuum events c k.told (Some w) h.txn v) where
+      reads_it : Reads w.text statement.Vacuum
+      reads_it = (vacuum_read w.text).0 (waits.vacuum ∙ ap is_some runs)
+
+      no_commit : reads_commit w.text ≡ false
+      no_commit = other_no_commit w.text statement.Vacuum reads_it (λ e. cc)
+
+      sweeps_data : SweepsData v.stage
+      sweeps_data = by v.stage (subst (λ (o : Option VacuumAt). IfSome o (IsVacuumIn catalog)) runs about.vacuum).0
+        where
+          rows : (left : List Record) → AllByRecursion (λ (r : Record). IsIn catalog r.key) left → AllByRecursion (λ (r : Record). IsDataTable r.key.table) left
+          rows left h = each_any (λ (r : Record). IsIn catalog r.key) (λ (r : Record). IsDataTable r.key.table) left (λ r z. apart r.key z) h
+
+          by : (s : VacuumStage) → IsVacuumStageIn catalog s → SweepsData s
+          by (Scanning span) i = data_table span.table i
+          by (Sweeping.Resolving rec meta p left) i = rows left i.1
+          by (Removing b left) i = rows left i.1
+          by Sweeping.Over i = tt
+
+      led : SweepLed (E None) ms made older y.now (clock_now None) (vacuum_step v y.now y.reply)
+      led = step_led (E None) ms made older y.now (clock_now None) v.spans v.removed v.stage sweeps_data is.2.0 is.2.1 (subst (λ (o : Option VacuumAt). pending_by o h.txn ≡ Some y.request) runs called.waiting.pending) called.can
+
+      counted_sweep : VacuumIsCounted catalog (ms ++ made ∷ []) (vacuum_step v y.now y.reply).0
+      counted_sweep = sweep_more catalog ms made v y.now sweeps_data (subst (λ o. WaitCounted catalog w.text so_id so_noted ms o h.txn) runs counted_now) (subst (λ (o : Option VacuumAt). pending_by o h.txn ≡ Some y.request) runs called.waiting.pending)
+
+      abbrev RolledTo : Option Answer → VacuumStep → Type 0
+      RolledTo result s = SweepsTo (E result) (reads_vacuum w.text) ms made older s (vacuum_step v y.now y.reply).0
+
+      rolled_sweep : (result : Option Answer) → RolledTo result (vacuum_step v y.now y.reply).1
+      rolled_sweep result = sweep_rolls (E result) (reads_vacuum w.text) ms made older y.now (clock_now result) called.moment (waits.vacuum ∙ ap is_some runs) v.spans v.removed v.stage (sweeps_so_far c events (call_event y result) w v.stage (subst (λ o. WaitRolls events (reads_vacuum w.text) ms o h.txn) runs rolls_now)) (subst (λ (o : Option VacuumAt). pending_by o h.txn ≡ Some y.request) runs called.waiting.pending)
+
+      -- another call is pending
+      sweeps_on : (left : VacuumAt) → VacuumBy (ms ++ made ∷ []) left → VacuumIsCounted catalog (ms ++ made ∷ []) left → VacuumRolls (E None) (reads_vacuum w.text) (ms ++ made ∷ []) left.stage → So None (record h { vacuum = Some left })
+      sweeps_on left by counts rolls = goes_on (record h { vacuum = Some left }) refl refl (sym (ap is_some runs)) (is.0, is.1, subst (λ cs. VacuumBy cs left) (sym calls_on) by) (k.counted.as_read, counts) (subst (λ (o : Option TxnAt). IfSome o (IsFilled (E None) c (rest_of (from_begin h.begun k.told)))) (sym is.0) tt) (subst (λ (o : Option TxnAt). IfSome o (IsWellTypedTxn catalog)) (sym is.0) tt) rolls (λ z. subst (λ (o : Option TxnAt). IfSome o (IsViewOf catalog (E None) c (rest_of (from_begin h.begun k.told)))) (sym is.0) tt)
+
+      -- it is answered
+      sweep_ends : (b : Answer) → IsMiddle b → (is_conflict (Some b) ≡ false → IsCaused catalog (E (Some b)) c (done b) b) → RollsThen b → So (Some b) (record h { vacuum = None })
+      sweep_ends b m caused rolls =
+          answers b (record h { vacuum = None }) caused (unmoved (E (Some b)) c (k.told ++ done b ∷ []) (done b) b refl m.agrees) refl refl
+          (subst (DoingByHistory (E (Some b)) c h.begun (k.told ++ done b ∷ []) None h.plan) (sym is.0) (refl, after_more k.told (done b) ∙ ap (λ x. is_open_after x (done b)) is.1 ∙ after_plain false (done b) (begins_none b) (λ e. clash (sym e))))
+          (λ e. clash (sym e ∙ no_commit), subst (ReadByTxn (read_items_since (E (Some b)) c h.begun (k.told ++ done b ∷ []))) (sym is.0) tt)
+          (subst (λ (o : Option TxnAt). IfSome o (IsFilled (E (Some b)) c (rest_of (from_begin h.begun (k.told ++ done b ∷ []))))) (sym is.0) tt) (subst (λ (o : Option TxnAt). IfSome o (IsWellTypedTxn catalog)) (sym is.0) tt) rolls ((λ was. clash (sym was ∙ is.1)), subst (λ (o : Option TxnAt). IfSome o (IsViewOf catalog (E (Some b)) c (rest_of (from_begin h.begun (k.told ++ done b ∷ []))))) (sym is.0) tt)
+
+      as_swept : (r result : Option Answer) (x o : Option VacuumAt) → result ≡ r → o ≡ x → So r (record h { vacuum = x }) → So result (record h { vacuum = o })
+      as_swept r result x o e f g = subst (λ (z : Option Answer). So z (record h { vacuum = o })) (sym e) (subst (λ (z : Option VacuumAt). So r (record h { vacuum = z })) (sym f) g)
+
+      sweeps_told : (s : VacuumStep) (left : VacuumAt) (result : Option Answer) (o : Option VacuumAt) → Gives (vacuum_step v y.now y.reply) left s → result ≡ answer_of s → o ≡ vacuum_left s left → So result (record h { vacuum = o })
+      sweeps_told vacuuming.More left result o g a e =
+          as_swept None result (Some left) o a e (sweeps_on left (subst (VacuumBy (ms ++ made ∷ [])) (sym g.0) (subst (λ (z : VacuumStep). IfMore z (VacuumBy (ms ++ made ∷ []) (vacuum_step v y.now y.reply).0)) (sym g.1) led.0)) (subst (VacuumIsCounted catalog (ms ++ made ∷ [])) (sym g.0) counted_sweep) (subst (λ (u : VacuumAt). VacuumRolls (E None) (reads_vacuum w.text) (ms ++ made ∷ []) u.stage) (sym g.0) (subst (RolledTo None) (sym g.1) (rolled_sweep None))))
+      sweeps_told (vacuuming.Count n) left result o g a e =
+          as_swept (Some (answer.Count n)) result None o a e
+          (sweep_ends (answer.Count n) (record { undone = refl; agrees = refl }) (λ t. (statement.Vacuum, reads_it, subst (λ cs. n ≡ count_by removes cs) (sym (calls_done (answer.Count n))) (subst (VacuumEndBy (ms ++ made ∷ [])) (sym g.1) led.1))) (λ z. subst (RolledTo (Some (answer.Count n))) (sym g.1) (rolled_sweep (Some (answer.Count n)))))
+      sweeps_told vacuuming.Faulted left result o g a e =
+          as_swept (Some answer.Faulted) result None o a e
+          (sweep_ends answer.Faulted (record { undone = refl; agrees = refl }) (λ t. subst (HasReply is_fault) (sym (calls_done answer.Faulted)) (subst (VacuumEndBy (ms ++ made ∷ [])) (sym g.1) led.1)) (λ z. clash (sym z)))
+      sweeps_told (vacuuming.BadRecord key) left result o g a e =
+          as_swept (Some (answer.BadRecord key)) result None o a e
+          (sweep_ends (answer.BadRecord key) (record { undone = refl; agrees = refl }) (λ t. bad_caused key (subst (VacuumEndBy (ms ++ made ∷ [])) (sym g.1) led.1)) (λ z. clash (sym z)))
+      sweeps_told vacuuming.NoMemory left result o g a e = as_swept (Some answer.NoMemory) result None o a e (sweep_ends answer.NoMemory (record { undone = refl; agrees = refl }) (λ t. tt) (λ z. clash (sym z)))
+
+      sweeps_case : (result : Option Answer) (o : Option VacuumAt) → VacuumPost v y.reply y.now result o → So result (record h { vacuum = o })
+      sweeps_case result o z = sweeps_told z.step z.left result o z.told z.answer z.goes
+
+  ---- whatever it does
+
+  next_case : (t : TxnAt) (d : Doing) (o : Option Planned) (v : Option Executed) (n : Next) (u : TxnAt) → h.vacuum ≡ None → h.txn ≡ Some t → t.doing ≡ d → h.plan ≡ o → k.waiting ≡ v → IsUsing catalog d o → IsDoing events c t o v d → NextPost t d o y.reply y.now n u → So (answer_in n) (after h n u)
+  next_case t (doing.Read a x) (Some p) (Some w) n u free some does plan waiting asked is z = read_case w waiting t some free p a x plan does asked is n u z
+  next_case t (doing.Read a x) (Some p) None n u free some does plan waiting asked is z = absurd is
+  next_case t (doing.Read a x) None v n u free some does plan waiting asked is z = absurd z
+  next_case t (doing.Commit j) None (Some w) n u free some does plan waiting asked is z = commit_case w waiting t some free j plan does is n u z
+  next_case t (doing.Commit j) None None n u free some does plan waiting asked is z = absurd is
+  next_case t (doing.Commit j) (Some p) v n u free some does plan waiting asked is z = absurd z
+  next_case t doing.Idle o v n u free some does plan waiting asked is z = absurd z
+  next_case t doing.Over o v n u free some does plan waiting asked is z = absurd z
+
+  txn_case : (o : Option TxnAt) (result : Option Answer) (d : Client) → h.vacuum ≡ None → h.txn ≡ o → IsUsingTxn catalog o h.plan → DoingByHistory events c h.begun k.told k.waiting h.plan o → OpenTxnPost h o y.reply y.now result d → So result d
+  txn_case None result d free e fitted is z = absurd z
+  txn_case (Some t) result d free e fitted is z =
+      subst (λ (r : Option Answer). So r d) (sym z.answer) (subst (λ (x : Client). So (answer_in z.next) x) (sym z.client) (next_case t t.doing h.plan k.waiting z.next z.left free e refl refl refl fitted is.2 z.told))
+
+  sweep_case : (v : VacuumAt) (o : Option Executed) (result : Option Answer) (d : Client) → h.vacuum ≡ Some v → k.waiting ≡ o → IsInVacuum events c k.told o h.txn v → VacuumPost v y.reply y.now result d.vacuum → d ≡ record h { vacuum = d.vacuum } → So result d
+  sweep_case v None result d runs waiting is z same = absurd is
+  sweep_case v (Some w) result d runs waiting is z same = subst (λ (x : Client). So result x) (sym same) (sweeps_case w waiting v runs is result d.vacuum z)
+
+  vacuum_case : (o : Option VacuumAt) (result : Option Answer) (d : Client) → h.vacuum ≡ o → ReplyPost h o y.reply y.now result d → So result d
+  vacuum_case None result d free z = txn_case h.txn result d free refl (subst (λ (o : Option VacuumAt). IsFittedBy catalog o h) free called.waiting.fitted) (subst (ClientByHistory events c h.begun k.told k.waiting h.plan h.txn) free k.stands) z
+  vacuum_case (Some v) result d runs z = sweep_case v k.waiting result d runs refl (subst (ClientByHistory events c h.begun k.told k.waiting h.plan h.txn) runs k.stands) z.0 z.1
+
+  pub replies_known : (result : Option Answer) (d : Client) → ReplyPost h h.vacuum y.reply y.now result d → So result d
+  replies_known result d z = vacuum_case h.vacuum result d refl z

@@ -1,0 +1,124 @@
+-- What the statements of each transaction were answered shows rows that it has, as statements come.
+use Rattle.std.proofs.Common.{◌≡◌, ◌⊎◌, inl, inr, ℕ, true, false, List, [], ◌∷◌, ◌++◌, Option, Some, None, refl, sym, ap, subst, ◌∙◌}
+use Rattle.std.specs.Prelude.{IfSome}
+use Rattle.std.specs.List.{AllByRecursion}
+use Rattle.sdb_schema.specs.declared.table.Table.{Table}
+use Rattle.sdb_model.specs.declared.answer.Answer.{Answer}
+use Rattle.sdb_model.specs.declared.event.Event.{Event}
+use Rattle.sdb_model.specs.Transactions.{Executed, changes_nothing, from_begin, rest_of}
+use Rattle.sdb_snapshot.specs.Seen.{Seen}
+use Rattle.sdb_txn.specs.declared.txn.Doing.{Doing}
+use Rattle.sdb_txn.specs.declared.txn.Doing.TheVariants as doing
+use Rattle.sdb_txn.specs.Txn.{TxnAt}
+use Rattle.sdb_client.specs.Client.{ClientAt}
+use Rattle.sdb_types.proofs.Basics.{some_is}
+use Rattle.law_answers.specs.Counts.{ArePaired}
+use Rattle.law_answers.specs.Views.{AllGiveOwn, IsViewOf, SeesOwn, SeesOwnIn, ViewBy, GivesOwn}
+use Rattle.law_answers.specs.Invariant.{IsAnswered, begun_in, open_after}
+use Rattle.law_answers.proofs.Calls.{calls_stay}
+use Rattle.law_answers.proofs.CountsNotes.{last_or, open_only}
+use Rattle.law_answers.proofs.Lists.{since_more, since_none}
+use Rattle.law_answers.proofs.Noting.{each_left, each_middle, since_all}
+use Rattle.law_answers.proofs.Shows.{effective_by, sees_same, sees_still, tells_none, tells_still}
+
+---- statements that were answered
+
+own_still : (catalog : List Table) (events : List Event) (e : Event) (c : ℕ) (told : List Executed) → AllByRecursion (IsAnswered catalog events c) told → AllGiveOwn catalog events c told → AllGiveOwn catalog (events ++ e ∷ []) c told
+own_still catalog events e c told all k n begin body s tail a since goes is =
+    let whole : AllByRecursion (IsAnswered catalog events c) (body ++ s ∷ tail) = since_all (IsAnswered catalog events c) n told begin (body ++ s ∷ tail) all since in
+    let here : IsAnswered catalog events c s = each_middle (IsAnswered catalog events c) body tail s whole in
+    tells_still catalog events e c body s a (each_left (IsAnswered catalog events c) body (s ∷ tail) whole) (calls_stay c events e s here.given here.is here.answered) (k n begin body s tail a since goes is)
+
+-- what the statements since the newest BEGIN are followed by
+abbrev pub GivesLast : List Table → List Event → ℕ → List Executed → Executed → Type 0
+GivesLast catalog events c told z = (a : Answer) → z.answer ≡ Some a → open_after told ≡ true → GivesOwn catalog events c (rest_of (from_begin (begun_in told) told)) z a
+
+-- with one statement more, which is of the open transaction or of none
+pub own_more : (catalog : List Table) (events : List Event) (c : ℕ) (told : List Executed) (z : Executed) → ArePaired false told → AllGiveOwn catalog events c told → GivesLast catalog events c told z → AllGiveOwn catalog events c (told ++ z ∷ [])
+own_more catalog events c told z pairs k last n begin body s tail a since goes is = by (from_begin n told) refl
+  where
+    none : (ys : List Executed) → ys ++ s ∷ tail ≡ [] → ⊥
+    none [] h = absurd (cc)
+    none (w ∷ ys) h = absurd (cc)
+
+    here : (b : Executed) (r : List Executed) → from_begin n told ≡ b ∷ r → b ≡ begin → ((r ≡ body) × (z ≡ s)) ⊎ ((front : List Executed) × (r ≡ body ++ s ∷ front)) → GivesOwn catalog events c body s a
+    here b r e f (inr h) = k n b body s h.0 a (e ∙ ap (λ x. b ∷ x) h.1) goes is
+    here b r e f (inl h) =
+        let from : from_begin n told ≡ b ∷ body = e ∙ ap (λ x. b ∷ x) h.0 in
+        let only = open_only n told false b body pairs from goes in
+        let rest : rest_of (from_begin (begun_in told) told) ≡ body = ap (λ i. rest_of (from_begin i told)) (sym only.0) ∙ ap rest_of from in
+        subst (λ (y : Executed). GivesOwn catalog events c body y a) h.1 (subst (λ (r : List Executed). GivesOwn catalog events c r z a) rest (last a (ap (λ (y : Executed). y.answer) h.1 ∙ is) only.1))
+
+    by : (r : List Executed) → from_begin n told ≡ r → GivesOwn catalog events c body s a
+    by [] e = absurd (none body (sym (ap rest_of since) ∙ since_none n told z e))
+    by (b ∷ r) e =
+        let whole : b ∷ (r ++ z ∷ []) ≡ begin ∷ (body ++ s ∷ tail) = sym (since_more n told z b r e) ∙ since in
+        let first : b ≡ begin = cc in
+        let rest : r ++ z ∷ [] ≡ body ++ s ∷ tail = cc in
+        here b r e first (last_or r z body s tail rest)
+
+-- one that has no answer shows nothing
+pub own_waits : (catalog : List Table) (events : List Event) (c : ℕ) (told : List Executed) (z : Executed) → z.answer ≡ None → ArePaired false told → AllGiveOwn catalog events c told → AllGiveOwn catalog events c (told ++ z ∷ [])
+own_waits catalog events c told z none pairs k = own_more catalog events c told z pairs k (λ a is opened. absurd (let e : ◌≡◌ {A = Option Answer} None (Some a) = sym none ∙ is in cc))
+
+---- an open transaction
+
+in_still : (catalog : List Table) (events : List Event) (e : Event) (c : ℕ) (body : List Executed) (v : Seen) (d : Doing) → AllByRecursion (IsAnswered catalog events c) body → SeesOwnIn catalog events c body v d → SeesOwnIn catalog (events ++ e ∷ []) c body v d
+in_still catalog events e c body v doing.Idle all h = sees_still catalog events e c body v all h
+in_still catalog events e c body v (doing.Read a x) all h = sees_still catalog events e c body v all h
+in_still catalog events e c body v (doing.Commit k) all h = tt
+in_still catalog events e c body v doing.Over all h = sees_still catalog events e c body v all h
+
+-- what is so of all statements is so of those after a BEGIN
+rest_all : (P : Executed → Type 0) (n : ℕ) (ss : List Executed) → AllByRecursion P ss → AllByRecursion P (rest_of (from_begin n ss))
+rest_all P n ss all = by (from_begin n ss) refl
+  where
+    by : (r : List Executed) → from_begin n ss ≡ r → AllByRecursion P (rest_of (from_begin n ss))
+    by [] e = subst (λ x. AllByRecursion P (rest_of x)) (sym e) tt
+    by (b ∷ r) e = subst (λ x. AllByRecursion P (rest_of x)) (sym e) (since_all P n ss b r all e)
+
+pub showing_stays : (catalog : List Table) (events : List Event) (e : Event) (c n : ℕ) (told : List Executed) (o : Option TxnAt) → AllByRecursion (IsAnswered catalog events c) told → IfSome o (IsViewOf catalog events c (rest_of (from_begin n told))) → IfSome o (IsViewOf catalog (events ++ e ∷ []) c (rest_of (from_begin n told)))
+showing_stays catalog events e c n told None all h = tt
+showing_stays catalog events e c n told (Some t) all h = in_still catalog events e c (rest_of (from_begin n told)) t.seen t.doing (rest_all (IsAnswered catalog events c) n told all) h
+
+-- of a transaction that does nothing
+pub showing_idle : (catalog : List Table) (events : List Event) (c n : ℕ) (told : List Executed) (s begin : Executed) (body : List Executed) (t : TxnAt) → from_begin n told ≡ begin ∷ body → t.doing ≡ doing.Idle → SeesOwn catalog events c (body ++ s ∷ []) t.seen → IsViewOf catalog events c (rest_of (from_begin n (told ++ s ∷ []))) t
+showing_idle catalog events c n told s begin body t since idle h =
+    subst (λ r. SeesOwnIn catalog events c (rest_of r) t.seen t.doing) (sym (since_more n told s begin body since)) (subst (SeesOwnIn catalog events c (body ++ s ∷ []) t.seen) (sym idle) h)
+
+---- as events come
+
+-- what is to be so of a statement that is answered, and of the client that this leaves
+abbrev pub ShowsNext : List Table → List Event → ℕ → List Executed → Executed → Answer → ClientAt → Type 0
+ShowsNext catalog events c told z b d = (open_after told ≡ true → GivesOwn catalog events c (rest_of (from_begin (begun_in told) told)) z b) × IfSome d.txn (IsViewOf catalog events c (rest_of (from_begin d.begun (told ++ z ∷ []))))
+
+module _ (catalog : List Table) (c : ℕ) (events : List Event) (e : Event) (told : List Executed) (all : AllByRecursion (IsAnswered catalog events c) told) where
+  abbrev E : List Event
+  E = events ++ e ∷ []
+
+  module _ (h : ClientAt) (k : ViewBy catalog events c told h) where
+    -- where the client goes on with what it saw
+    pub shows_further : (d : ClientAt) → (ViewBy catalog events c told h → IfSome d.txn (IsViewOf catalog E c (rest_of (from_begin d.begun told)))) → ViewBy catalog E c told d
+    shows_further d sees = record { told_own = own_still catalog events e c told all k.told_own; sees_own = sees k }
+
+    pub shows_stay : ViewBy catalog E c told h
+    shows_stay = shows_further h (λ x. showing_stays catalog events e c h.begun told h.txn all x.sees_own)
+
+    -- where a statement is answered
+    pub shows_end : ArePaired false told → (z : Executed) (b : Answer) (d : ClientAt) → z.answer ≡ Some b → ShowsNext catalog E c told z b d → ViewBy catalog E c (told ++ z ∷ []) d
+    shows_end pairs z b d is next = record {
+      told_own = own_more catalog E c told z pairs (own_still catalog events e c told all k.told_own) (λ a has opened. subst (GivesOwn catalog E c (rest_of (from_begin (begun_in told) told)) z) (some_is b a (sym is ∙ has)) (next.0 opened));
+      sees_own = next.1;
+    }
+
+  module _ (n : ℕ) (begin : Executed) (body : List Executed) (since : from_begin n told ≡ begin ∷ body) (v : Seen) (sees : SeesOwn catalog events c body v) (z : Executed) where
+    -- what the open transaction saw before
+    pub sees_then : SeesOwn catalog E c body v
+    sees_then = sees_still catalog events e c body v (since_all (IsAnswered catalog events c) n told begin body all since) sees
+
+    -- a statement that changes nothing leaves that
+    pub next_same : (b : Answer) (t : TxnAt) → z.answer ≡ Some b → changes_nothing b ≡ true → t.doing ≡ doing.Idle → t.seen ≡ v → (open_after told ≡ true → GivesOwn catalog E c (rest_of (from_begin (begun_in told) told)) z b) × IsViewOf catalog E c (rest_of (from_begin n (told ++ z ∷ []))) t
+    next_same b t is nothing idle same = (
+      λ opened. tells_none catalog E c (rest_of (from_begin (begun_in told) told)) z b nothing,
+      showing_idle catalog E c n told z begin body t since idle (subst (SeesOwn catalog E c (body ++ z ∷ [])) (sym same) (sees_same catalog E c body z v (effective_by z b true is nothing) sees_then)),
+    )

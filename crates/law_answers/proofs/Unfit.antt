@@ -1,0 +1,386 @@
+-- A row that doesn't fit its table was read by the statement that answers so; and a record that is none of a transaction is of no form of
+-- records.
+use Rattle.std.proofs.Common.{◌≡◌, ◌⊎◌, inl, inr, ℕ, Bool, true, false, not, cond, List, [], ◌∷◌, map, Option, Some, None, Result, Ok, Err, refl, sym, ap, subst, ◌∙◌}
+use Rattle.std.specs.Prelude.{if◌then◌else◌, ◌&&◌, filter, find, is_ok, slice_get, Contains, MatchBool}
+use Rattle.std.specs.List.{AllByRecursion, cons_option, filter_map, list_all}
+use Rattle.std.specs.Option.{option_and_then, option_map, option_map_or}
+use Rattle.std.specs.Ordering.{is_eq}
+use Rattle.std.specs.Cmp.{tied_itself}
+use Rattle.std.specs.FinMap.{entries, entries_sorted, find as find_key, get, get-entries}
+use Rattle.std.proofs.lemmas.Bool.{and_parts}
+use Rattle.std.proofs.lemmas.List.{append-nil}
+use Rattle.std.proofs.lemmas.List.Elements.{Contains-append_left, Contains-append_right, Contains-push}
+use Rattle.sdb_types.specs.declared.key.Key.{Key}
+use Rattle.sdb_types.specs.declared.pair.Pair.{Pair}
+use Rattle.sdb_types.specs.declared.record.Record.{Record}
+use Rattle.sdb_types.specs.declared.record.Reply.{Reply}
+use Rattle.sdb_types.specs.declared.record.Reply.TheVariants as reply
+use Rattle.sdb_types.specs.Contents.{CanAnswer, in_span, rise, record_among}
+use Rattle.sdb_types.specs.Exact.{equal_of}
+use Rattle.sdb_types.specs.Order.{key_cmp, same_key}
+use Rattle.sdb_types.proofs.Basics.{clash, none_some, some_is, truth, or_else}
+use Rattle.sdb_types.proofs.KeyOrder.{key_exact, key_total}
+use Rattle.sdb_types.proofs.Keys.{same_key_exact}
+use Rattle.sdb_keyed.specs.Entries.{value_at}
+use Rattle.sdb_record.specs.declared.access.Access.{Access}
+use Rattle.sdb_record.specs.declared.access.Access.TheVariants as access
+use Rattle.sdb_record.specs.declared.access.Image.{Image}
+use Rattle.sdb_record.specs.declared.meta.Meta.{Meta}
+use Rattle.sdb_record.specs.declared.write.Keyed.{Keyed}
+use Rattle.sdb_record.specs.declared.write.Write.{Write}
+use Rattle.sdb_record.specs.Coordinator.{decision_in, is_coordinator_table}
+use Rattle.sdb_record.specs.Meta.{checked, is_transactional}
+use Rattle.sdb_record.specs.Parts.{are_stored}
+use Rattle.sdb_record.specs.Rolls.{row_of_image}
+use Rattle.sdb_record.specs.Among.{write_among}
+use Rattle.sdb_schema.specs.declared.table.Table.{Table}
+use Rattle.sdb_schema.specs.Catalog.{is_catalog}
+use Rattle.sdb_schema.specs.Rows.{fits_table}
+use Rattle.sdb_model.specs.declared.answer.Answer.{Answer}
+use Rattle.sdb_model.specs.Access.{in_access}
+use Rattle.sdb_model.specs.Calls.{StoreCall, records_read, records_observed, is_stored_reply}
+use Rattle.sdb_model.specs.Causes.{IsBad, is_well_typed, is_misfit}
+use Rattle.sdb_model.specs.Exec.{Tables, all_rows, find_table, named_table, row_of_entry}
+use Rattle.sdb_model.specs.ReadSet.{meaning_of, read_finished}
+use Rattle.sdb_model.specs.Refused.{refusal_of}
+use Rattle.sdb_model.specs.Transactions.{changes_nothing}
+use Rattle.sdb_exec.specs.declared.plan.PlanStep.TheVariants.{Finished}
+use Rattle.sdb_exec.specs.Plans.{Planned, answer_on, changes_on, first_unfit, has_all_literals, is_unfit, step_of}
+use Rattle.sdb_exec.specs.Reads.{access_of}
+use Rattle.sdb_exec.proofs.Laid.{by_key}
+use Rattle.sdb_read.specs.Read.{request_of}
+use Rattle.sdb_snapshot.specs.Reads.{base_at}
+use Rattle.sdb_snapshot.specs.Rows.{tables_of_reads}
+use Rattle.sdb_snapshot.specs.Seen.{Seen, nothing, overlay, row_seen, row_with, tables_seen, with_written}
+use Rattle.sdb_snapshot.proofs.Differences.{noted_images}
+use Rattle.sdb_snapshot.proofs.Keys.{value_last}
+use Rattle.sdb_snapshot.proofs.Shown.{get_seen, own_is}
+use Rattle.sdb_txn.specs.Txn.{TxnAt}
+use Rattle.sdb_client.specs.Client.{given_answer, given_left, gives, with_rows_read, written}
+use Rattle.law_clients.specs.Fitting.{row_is_well_typed, tables_are_well_typed}
+use Rattle.law_clients.proofs.InTables.{access_table}
+use Rattle.law_clients.proofs.RowsFit.{answers_on}
+use Rattle.law_answers.specs.Commits.{IsBadRow, ObservesBad}
+use Rattle.law_answers.specs.Changes.{HasRead, IsRows, IsSettledAs}
+use Rattle.law_answers.specs.Unfit.{SeesWellTyped, AreStoredReplies}
+use Rattle.law_answers.proofs.Filled.{found_all}
+use Rattle.law_answers.proofs.Given.{asked_gives, found_so, inside_access, passes_all}
+use Rattle.law_answers.proofs.Lists.{each_in, each_kept}
+use Rattle.law_answers.proofs.ReadSteps.{IsDataTable}
+use Rattle.law_answers.proofs.Settling.{settled_means}
+
+---- records of no form
+
+-- a record that is none of a transaction, with its columns as records hold them, is of no form of records
+bad_stored : (r : Record) → are_stored r.columns ≡ true → IsBadRow r → IsBad r
+bad_stored r stored h = by_table (is_coordinator_table r.key.table) h
+  where
+    by_checked : (o : Result Meta (List ℕ)) → checked r.columns ≡ o → is_ok o ≡ false → (name : List ℕ) × (checked r.columns ≡ Err name)
+    by_checked (Ok m) e f = clash f
+    by_checked (Err name) e f = (name, e)
+
+    of_table : is_transactional r ≡ false → (name : List ℕ) × (checked r.columns ≡ Err name)
+    of_table f = by_checked (checked r.columns) refl (sym (ap (λ b. b && is_ok (checked r.columns)) stored) ∙ f)
+
+    by_table : (b : Bool) → MatchBool b ((name : List ℕ) × (decision_in r ≡ Err name)) (is_transactional r ≡ false) → (name : List ℕ) × MatchBool b (decision_in r ≡ Err name) (checked r.columns ≡ Err name)
+    by_table true k = k
+    by_table false k = of_table k
+
+stored_one : (rs : List Record) → list_all (λ r. are_stored r.columns) rs ≡ true → AllByRecursion (λ r. are_stored r.columns ≡ true) rs
+stored_one [] h = tt
+stored_one (r ∷ rs) h = let parts = and_parts (are_stored r.columns) (list_all (λ x. are_stored x.columns) rs) h in (parts.0, stored_one rs parts.1)
+
+-- one that calls show
+pub shown_bad : (calls : List StoreCall) (key : Key) → AreStoredReplies calls → (b : ObservesBad calls key) → IsBad b.found
+shown_bad calls key stored b = bad_stored b.found (each_in (λ (r : Record). are_stored r.columns ≡ true) (records_observed b.call.reply) b.found (stored_one (records_observed b.call.reply) (each_in (λ (m : StoreCall). is_stored_reply m.reply ≡ true) calls b.call stored b.among)) b.shown) b.bad
+
+---- rows by their keys
+
+-- what is so of each entry is so of one that is found
+at_entry : (P : Key → List Pair → Type 0) (es : List (Key × List Pair)) (q : Key) (cs : List Pair) → AllByRecursion (λ (r : Image). P r.key r.columns) (map row_of_entry es) → find_key key_cmp q es ≡ Some cs → P q cs
+at_entry P [] q cs all e = none_some cs e
+at_entry P (e ∷ es) q cs all found =
+    by_key q e (λ b. cond b (Some e.1) (find_key key_cmp q es) ≡ Some cs → P q cs)
+    (λ t i k. subst (λ (z : Key). P z cs) (sym i) (subst (P e.0) (some_is e.1 cs k) all.0))
+    (λ t k. at_entry P es q cs all.1 k)
+    found
+
+pub all_true : (p : Image → Bool) (rs : List Image) → AllByRecursion (λ r. p r ≡ true) rs → list_all p rs ≡ true
+all_true p [] all = refl
+all_true p (r ∷ rs) all = ap (λ b. b && list_all p rs) all.0 ∙ all_true p rs all.1
+
+true_all : (p : Image → Bool) (rs : List Image) → list_all p rs ≡ true → AllByRecursion (λ r. p r ≡ true) rs
+true_all p [] h = tt
+true_all p (r ∷ rs) h = let parts = and_parts (p r) (list_all p rs) h in (parts.0, true_all p rs parts.1)
+
+-- each row of tables is one that they have at its key
+pub rows_there : (P : Key → List Pair → Type 0) (d : Tables) → ((q : Key) (cs : List Pair) → get d q ≡ Some cs → P q cs) → AllByRecursion (λ (r : Image). P r.key r.columns) (all_rows d)
+rows_there P d each = found_all P (entries d) (truth _ (entries_sorted d)) (λ q cs found. each q cs (get-entries d q ∙ found))
+
+-- what a transaction sees fits where its tables do
+pub fit_tables : (catalog : List Table) (s : Seen) → SeesWellTyped catalog s → tables_are_well_typed catalog (tables_seen s) ≡ true
+fit_tables catalog s fits = all_true (λ r. row_is_well_typed catalog r.key r.columns) (all_rows (tables_seen s)) (rows_there (λ q cs. row_is_well_typed catalog q cs ≡ true) (tables_seen s) (λ q cs found. fits q cs (sym (get_seen s.read_set s.writes q) ∙ found)))
+
+tables_sees : (catalog : List Table) (s : Seen) → tables_are_well_typed catalog (tables_seen s) ≡ true → SeesWellTyped catalog s
+tables_sees catalog s fit q cs found = at_entry (λ k c. row_is_well_typed catalog k c ≡ true) (entries (tables_seen s)) q cs (true_all (λ r. row_is_well_typed catalog r.key r.columns) (all_rows (tables_seen s)) fit) (sym (get-entries (tables_seen s) q) ∙ get_seen s.read_set s.writes q ∙ found)
+
+pub fit_nothing : (catalog : List Table) → SeesWellTyped catalog nothing
+fit_nothing catalog q cs e = none_some cs e
+
+---- what a read adds
+
+-- what it found at a key
+abbrev pub found_new : Access → List Record → Key → Option (Option Record)
+found_new (access.Get k) images q = cond (same_key q k) (Some (slice_get images 0)) None
+found_new (access.Scan span) images q = option_map Some (record_among images q)
+
+pub noted_now : (t : TxnAt) (a : Access) (images : List Record) (q : Key) → value_at (with_rows_read t a images).seen.read_set q ≡ or_else (value_at t.seen.read_set q) (found_new a images q)
+noted_now t (access.Get k) images q = value_last t.seen.read_set k (slice_get images 0) q
+noted_now t (access.Scan span) images q = noted_images t.seen.read_set images q
+
+pub same_writes : (t : TxnAt) (a : Access) (images : List Record) → (with_rows_read t a images).seen.writes ≡ t.seen.writes
+same_writes t (access.Get k) images = refl
+same_writes t (access.Scan span) images = refl
+
+abbrev pub at_note : Option (Option Record) → Option Record
+at_note o = option_and_then (λ (x : Option Record). x) o
+
+-- a row that is seen then was seen before, or is that of an image
+row_new : (t : TxnAt) (a : Access) (images : List Record) (q : Key) (cs : List Pair) → row_seen (with_rows_read t a images).seen.read_set (with_rows_read t a images).seen.writes q ≡ Some cs
+    → (row_seen t.seen.read_set t.seen.writes q ≡ Some cs) ⊎ ((b : Record) × (found_new a images q ≡ Some (Some b)) × (row_of_image b ≡ Some cs))
+row_new t a images q cs h =
+    by (write_among t.seen.writes q) (value_at t.seen.read_set q) (found_new a images q)
+    (subst (λ x. row_with (write_among t.seen.writes q) (at_note x) ≡ Some cs) (noted_now t a images q) (subst (λ ws. row_with (write_among ws q) (base_at (with_rows_read t a images).seen.read_set q) ≡ Some cs) (same_writes t a images) h))
+  where
+    by : (o : Option Write) (x y : Option (Option Record)) → row_with o (at_note (or_else x y)) ≡ Some cs → (row_with o (at_note x) ≡ Some cs) ⊎ ((b : Record) × (y ≡ Some (Some b)) × (row_of_image b ≡ Some cs))
+    by (Some w) x y e = inl e
+    by None (Some x) y e = inl e
+    by None None None e = none_some cs e
+    by None None (Some None) e = none_some cs e
+    by None None (Some (Some b)) e = inr (b, refl, e)
+
+-- the record of which an image is
+record IsStepAt (es : List (Record × Option Record)) (b : Record) : Type 0 where
+  step : Record × Option Record
+  among : Contains es step
+  image : step.1 ≡ Some b
+
+step_later : (x : Record × Option Record) (es : List (Record × Option Record)) (b : Record) → IsStepAt es b → IsStepAt (x ∷ es) b
+step_later x es b h = record { step = h.step; among = Contains-append_right (x ∷ []) es h.step h.among; image = h.image }
+
+step_first : (x : Record × Option Record) (es : List (Record × Option Record)) (b : Record) → x.1 ≡ Some b → IsStepAt (x ∷ es) b
+step_first x es b e = record { step = x; among = Contains-append_left (x ∷ []) es x (Contains-push [] x); image = e }
+
+abbrev image_in : Record × Option Record → Option Record
+image_in e = e.1
+
+first_step : (es : List (Record × Option Record)) (b : Record) → slice_get (filter_map image_in es) 0 ≡ Some b → IsStepAt es b
+first_step [] b h = none_some b h
+first_step (x ∷ es) b h = by x.1 refl (λ k. first_step es b k) h
+  where
+    by : (o : Option Record) → x.1 ≡ o → (slice_get (filter_map image_in es) 0 ≡ Some b → IsStepAt es b) → slice_get (cons_option o (filter_map image_in es)) 0 ≡ Some b → IsStepAt (x ∷ es) b
+    by None e ih k = step_later x es b (ih k)
+    by (Some c) e ih k = step_first x es b (e ∙ k)
+
+found_step : (q : Key) (es : List (Record × Option Record)) (b : Record) → record_among (filter_map image_in es) q ≡ Some b → IsStepAt es b × (q ≡ b.key)
+found_step q [] b h = none_some b h
+found_step q (x ∷ es) b h = by x.1 refl (λ k. found_step q es b k) h
+  where
+    later : IsStepAt es b × (q ≡ b.key) → IsStepAt (x ∷ es) b × (q ≡ b.key)
+    later k = (step_later x es b k.0, k.1)
+
+    here : (c : Record) → x.1 ≡ Some c → (t : Bool) → same_key q c.key ≡ t → (record_among (filter_map image_in es) q ≡ Some b → IsStepAt es b × (q ≡ b.key)) → (if t then Some c else record_among (filter_map image_in es) q) ≡ Some b → IsStepAt (x ∷ es) b × (q ≡ b.key)
+    here c e true s ih k = (step_first x es b (e ∙ k), same_key_exact q c.key s ∙ ap (λ (r : Record). r.key) (some_is c b k))
+    here c e false s ih k = later (ih k)
+
+    by : (o : Option Record) → x.1 ≡ o → (record_among (filter_map image_in es) q ≡ Some b → IsStepAt es b × (q ≡ b.key)) → record_among (cons_option o (filter_map image_in es)) q ≡ Some b → IsStepAt (x ∷ es) b × (q ≡ b.key)
+    by None e ih k = later (ih k)
+    by (Some c) e ih k = here c e (same_key q c.key) refl ih k
+
+-- what a read was answered lies at its keys
+rows_inside : (a : Access) (r : Reply) → CanAnswer (request_of a) r → IsRows r → AllByRecursion (λ (x : Record). in_access a x.key ≡ true) (records_read r)
+rows_inside (access.Get k) (reply.Found None) can told = tt
+rows_inside (access.Get k) (reply.Found (Some x)) can told = (ap is_eq (ap (key_cmp k) can ∙ tied_itself key_total k), tt)
+rows_inside (access.Get k) (reply.Rows rows) can told = absurd can
+rows_inside (access.Scan span) (reply.Rows rows) can told = each rows (and_parts (rise rows) (list_all (λ (r : Record). in_span span r.key) rows) can).1
+  where
+    each : (rs : List Record) → list_all (λ (r : Record). in_span span r.key) rs ≡ true → AllByRecursion (λ (x : Record). in_span span x.key ≡ true) rs
+    each [] h = tt
+    each (x ∷ rs) h = let parts = and_parts (in_span span x.key) (list_all (λ (r : Record). in_span span r.key) rs) h in (parts.0, each rs parts.1)
+rows_inside (access.Scan span) (reply.Found found) can told = absurd can
+rows_inside a reply.Applied can told = absurd told
+rows_inside a (reply.NotMet found) can told = absurd told
+rows_inside a reply.Fault can told = absurd told
+rows_inside a reply.NoMemory can told = absurd told
+
+step_in : (es : List (Record × Option Record)) (e : Record × Option Record) → Contains es e → Contains (map (λ (x : Record × Option Record). x.0) es) e.0
+step_in es e has = each_in (λ (x : Record × Option Record). Contains (map (λ (y : Record × Option Record). y.0) es) x.0) es e (all es) has
+  where
+    more : (x : Record × Option Record) (rs : List Record) (xs : List (Record × Option Record)) → AllByRecursion (λ (y : Record × Option Record). Contains rs y.0) xs → AllByRecursion (λ (y : Record × Option Record). Contains (x.0 ∷ rs) y.0) xs
+    more x rs [] h = tt
+    more x rs (y ∷ ys) h = (Contains-append_right (x.0 ∷ []) rs y.0 h.0, more x rs ys h.1)
+
+    all : (xs : List (Record × Option Record)) → AllByRecursion (λ (x : Record × Option Record). Contains (map (λ (y : Record × Option Record). y.0) xs) x.0) xs
+    all [] = tt
+    all (x ∷ xs) = (Contains-append_left (x.0 ∷ []) (map (λ (y : Record × Option Record). y.0) xs) x.0 (Contains-push [] x.0), more x (map (λ (y : Record × Option Record). y.0) xs) xs (all xs))
+
+-- an image that was read at a key, with its record
+pub record IsReadAt (calls : List StoreCall) (first : StoreCall) (a : Access) (q : Key) (b : Record) : Type 0 where
+  pub found : Record
+  pub settled : IsSettledAs calls (found, Some b)
+  pub shown : Contains (records_read first.reply) found
+  pub key : found.key ≡ q
+  pub inside : in_access a q ≡ true
+
+module _ (calls : List StoreCall) (a : Access) (images : List Record) (h : HasRead (request_of a) calls images []) where
+  step_shown : (b : Record) (s : IsStepAt h.steps b) → Contains (records_read h.first.reply) s.step.0
+  step_shown b s = subst (λ rs. Contains rs s.step.0) (sym (h.rows ∙ append-nil (map (λ (x : Record × Option Record). x.0) h.steps))) (step_in h.steps s.step s.among)
+
+  step_inside : (b : Record) (s : IsStepAt h.steps b) → in_access a s.step.0.key ≡ true
+  step_inside b s = each_in (λ (x : Record). in_access a x.key ≡ true) (records_read h.first.reply) s.step.0 (rows_inside a h.first.reply h.can h.told) (step_shown b s)
+
+  step_settled : (b : Record) (s : IsStepAt h.steps b) → IsSettledAs calls (s.step.0, Some b)
+  step_settled b s = subst (λ (o : Option Record). IsSettledAs calls (s.step.0, o)) s.image (each_in (IsSettledAs calls) h.steps s.step h.settled s.among)
+
+  read_by : (q : Key) (b : Record) (s : IsStepAt h.steps b) → s.step.0.key ≡ q → IsReadAt calls h.first a q b
+  read_by q b s e = record { found = s.step.0; settled = step_settled b s; shown = step_shown b s; key = e; inside = subst (λ (k : Key). in_access a k ≡ true) e (step_inside b s) }
+
+pub new_read : (calls : List StoreCall) (a : Access) (images : List Record) (h : HasRead (request_of a) calls images []) (q : Key) (b : Record) → found_new a images q ≡ Some (Some b) → IsReadAt calls h.first a q b
+new_read calls (access.Get k) images h q b e = by (same_key q k) refl e
+  where
+    by : (t : Bool) → same_key q k ≡ t → cond t (Some (slice_get images 0)) None ≡ Some (Some b) → IsReadAt calls h.first (access.Get k) q b
+    by false s f = none_some (Some b) f
+    by true s f =
+        let step : IsStepAt h.steps b = first_step h.steps b (sym (ap (λ is. slice_get is 0) h.images_are) ∙ some_is (slice_get images 0) (Some b) f) in
+        read_by calls (access.Get k) images h q b step (sym (key_exact k step.step.0.key (equal_of _ (step_inside calls (access.Get k) images h b step))) ∙ sym (same_key_exact q k s))
+new_read calls (access.Scan span) images h q b e = by (record_among images q) refl e
+  where
+    by : (o : Option Record) → record_among images q ≡ o → option_map Some o ≡ Some (Some b) → IsReadAt calls h.first (access.Scan span) q b
+    by None s f = none_some (Some b) f
+    by (Some c) s f =
+        let step : IsStepAt h.steps b × (q ≡ b.key) = found_step q h.steps b (sym (ap (λ is. record_among is q) h.images_are) ∙ s ∙ some_is (Some c) (Some b) f) in
+        read_by calls (access.Scan span) images h q b step.0 (sym (step_settled calls (access.Scan span) images h b step.0).key ∙ sym step.1)
+
+---- rows that fit
+
+-- the rows of an access, where none is unfit
+none_unfit : (t : Table) (p : Image → Bool) (rs : List Image) → option_map (λ (r : Image). r.key) (find (is_unfit t) (filter p rs)) ≡ None → AllByRecursion (λ (r : Image). p r ≡ true → fits_table t r.key r.columns ≡ true) rs
+none_unfit t p [] h = tt
+none_unfit t p (r ∷ rs) h = by (p r) refl (λ k. none_unfit t p rs k) h
+  where
+    here : (u : Bool) → fits_table t r.key r.columns ≡ u → (option_map (λ (r : Image). r.key) (find (is_unfit t) (filter p rs)) ≡ None → AllByRecursion (λ (r : Image). p r ≡ true → fits_table t r.key r.columns ≡ true) rs)
+        → option_map (λ (r : Image). r.key) (if not u then Some r else find (is_unfit t) (filter p rs)) ≡ None → (p r ≡ true → fits_table t r.key r.columns ≡ true) × AllByRecursion (λ (r : Image). p r ≡ true → fits_table t r.key r.columns ≡ true) rs
+    here true e ih k = ((λ z. e), ih k)
+    here false e ih k = none_some r.key (sym k)
+
+    by : (b : Bool) → p r ≡ b → (option_map (λ (r : Image). r.key) (find (is_unfit t) (filter p rs)) ≡ None → AllByRecursion (λ (r : Image). p r ≡ true → fits_table t r.key r.columns ≡ true) rs)
+        → option_map (λ (r : Image). r.key) (find (is_unfit t) (if b then r ∷ filter p rs else filter p rs)) ≡ None → (p r ≡ true → fits_table t r.key r.columns ≡ true) × AllByRecursion (λ (r : Image). p r ≡ true → fits_table t r.key r.columns ≡ true) rs
+    by true e ih k = here (fits_table t r.key r.columns) refl ih k
+    by false e ih k = ((λ z. clash (sym z ∙ e)), ih k)
+
+pub find_true : (p : Image → Bool) (xs : List Image) (x : Image) → find p xs ≡ Some x → p x ≡ true
+find_true p [] x e = none_some x e
+find_true p (y ∷ xs) x e = by (p y) refl (λ k. find_true p xs x k) e
+  where
+    by : (b : Bool) → p y ≡ b → (find p xs ≡ Some x → p x ≡ true) → (if b then Some y else find p xs) ≡ Some x → p x ≡ true
+    by true t ih k = subst (λ z. p z ≡ true) (some_is y x k) t
+    by false t ih k = ih k
+
+-- a row that is seen at an access and doesn't fit
+record IsUnfitRow (t : Table) (a : Access) (s : Seen) (key : Key) : Type 0 where
+  columns : List Pair
+  unfit : fits_table t key columns ≡ false
+  inside : in_access a key ≡ true
+  seen : row_seen s.read_set s.writes key ≡ Some columns
+
+unfit_row : (t : Table) (a : Access) (s : Seen) (key : Key) → first_unfit t (overlay a s) ≡ Some key → IsUnfitRow t a s key
+unfit_row t a s key e = by (find (is_unfit t) (overlay a s)) refl e
+  where
+    unfits : (b : Bool) → not b ≡ true → b ≡ false
+    unfits true h = clash (sym h)
+    unfits false h = refl
+
+    here : (r : Image) → find (is_unfit t) (overlay a s) ≡ Some r → IsUnfitRow t a s r.key
+    here r f = record {
+      columns = r.columns;
+      unfit = unfits (fits_table t r.key r.columns) (find_true (is_unfit t) (overlay a s) r f);
+      inside = found_so (λ (x : Image). in_access a x.key ≡ true) (is_unfit t) (overlay a s) r (passes_all (λ (x : Image). in_access a x.key) (all_rows (tables_seen s))) f;
+      seen = found_so (λ (x : Image). row_seen s.read_set s.writes x.key ≡ Some x.columns) (is_unfit t) (overlay a s) r (each_kept (λ (x : Image). row_seen s.read_set s.writes x.key ≡ Some x.columns) (λ (x : Image). in_access a x.key) (all_rows (tables_seen s)) (rows_there (λ q cs. row_seen s.read_set s.writes q ≡ Some cs) (tables_seen s) (λ q cs found. sym (get_seen s.read_set s.writes q) ∙ found))) f;
+    }
+
+    by : (o : Option Image) → find (is_unfit t) (overlay a s) ≡ o → option_map (λ (r : Image). r.key) o ≡ Some key → IsUnfitRow t a s key
+    by None f k = none_some key k
+    by (Some r) f k = subst (IsUnfitRow t a s) (some_is r.key key k) (here r f)
+
+---- a statement's plan on its access
+
+module _ (catalog : List Table) (p : Planned) (a : Access) (listed : find_table catalog p.table.name ≡ Some p.table) (own : access_table a ≡ p.table.name) where
+  pub table_at : (q : Key) → in_access a q ≡ true → find_table catalog q.table ≡ Some p.table
+  table_at q inside = ap (find_table catalog) (inside_access a q inside ∙ own) ∙ listed
+
+  row_at : (q : Key) (cs : List Pair) → in_access a q ≡ true → row_is_well_typed catalog q cs ≡ fits_table p.table q cs
+  row_at q cs inside = ap (λ (o : Option Table). option_map_or (λ t. fits_table t q cs) o false) (table_at q inside)
+
+  -- a transaction whose rows fit sees none that doesn't
+  pub none_unfits : (s : Seen) (key : Key) → SeesWellTyped catalog s → first_unfit p.table (overlay a s) ≡ Some key → ⊥
+  none_unfits s key fits e = let r = unfit_row p.table a s key e in clash (sym (fits key r.columns r.seen) ∙ row_at key r.columns r.inside ∙ r.unfit)
+
+  module _ (calls : List StoreCall) (t : TxnAt) (images : List Record) (h : HasRead (request_of a) calls images []) (fits : SeesWellTyped catalog t.seen) where
+    -- where it sees none that doesn't fit with what was read, all fits then
+    pub fits_now : first_unfit p.table (overlay a (with_rows_read t a images).seen) ≡ None → SeesWellTyped catalog (with_rows_read t a images).seen
+    fits_now none q cs found = by (row_new t a images q cs found)
+      where
+        by : (row_seen t.seen.read_set t.seen.writes q ≡ Some cs) ⊎ ((b : Record) × (found_new a images q ≡ Some (Some b)) × (row_of_image b ≡ Some cs)) → row_is_well_typed catalog q cs ≡ true
+        by (inl e) = fits q cs e
+        by (inr (b, e, f)) =
+            let r : IsReadAt calls h.first a q b = new_read calls a images h q b e in
+            row_at q cs r.inside
+            ∙ at_entry (λ k c. in_access a k ≡ true → fits_table p.table k c ≡ true) (entries (tables_seen (with_rows_read t a images).seen)) q cs (none_unfit p.table (λ (x : Image). in_access a x.key) (all_rows (tables_seen (with_rows_read t a images).seen)) none)
+            (sym (get-entries (tables_seen (with_rows_read t a images).seen) q) ∙ get_seen (with_rows_read t a images).seen.read_set (with_rows_read t a images).seen.writes q ∙ found) r.inside
+
+    -- and one that doesn't is that of a record that was read
+    pub misfit_read : (key : Key) → IsDataTable (access_table a) → first_unfit p.table (overlay a (with_rows_read t a images).seen) ≡ Some key → (r : Record) × Contains (records_read h.first.reply) r × (r.key ≡ key) × (is_misfit catalog calls r ≡ true)
+    misfit_read key is e = by (row_new t a images key row.columns row.seen)
+      where
+        row : IsUnfitRow p.table a (with_rows_read t a images).seen key
+        row = unfit_row p.table a (with_rows_read t a images).seen key e
+
+        by : (row_seen t.seen.read_set t.seen.writes key ≡ Some row.columns) ⊎ ((b : Record) × (found_new a images key ≡ Some (Some b)) × (row_of_image b ≡ Some row.columns)) → (r : Record) × Contains (records_read h.first.reply) r × (r.key ≡ key) × (is_misfit catalog calls r ≡ true)
+        by (inl f) = clash (sym (fits key row.columns f) ∙ row_at key row.columns row.inside ∙ row.unfit)
+        by (inr (b, f, g)) =
+            let r : IsReadAt calls h.first a key b = new_read calls a images h key b f in (
+              r.found,
+              r.shown,
+              r.key,
+              ap (λ (k : Key). not (is_coordinator_table k.table) && option_map_or (λ columns. not (is_well_typed catalog k columns)) (option_and_then row_of_image (meaning_of calls r.found)) false) r.key
+                  ∙ ap (λ x. not (is_coordinator_table x) && option_map_or (λ columns. not (is_well_typed catalog key columns)) (option_and_then row_of_image (meaning_of calls r.found)) false) (inside_access a key row.inside)
+                  ∙ ap (λ x. x && option_map_or (λ columns. not (is_well_typed catalog key columns)) (option_and_then row_of_image (meaning_of calls r.found)) false) is
+                  ∙ ap (λ o. option_map_or (λ columns. not (is_well_typed catalog key columns)) (option_and_then row_of_image o) false) (settled_means calls (r.found, Some b) r.settled)
+                  ∙ ap (λ o. option_map_or (λ columns. not (is_well_typed catalog key columns)) o false) g
+                  ∙ ap (λ (o : Option Table). not (option_map_or (λ x. fits_table x key row.columns) o true)) (table_at key row.inside)
+                  ∙ ap not row.unfit,
+            )
+
+  -- what it leaves fits
+  module _ (is : is_catalog catalog ≡ true) (named : named_table catalog p.statement ≡ Some p.table) (asked : p.asked ≡ true) (taken : refusal_of catalog p.statement ≡ None) (literals : has_all_literals p.statement ≡ true) (access_is : a ≡ access_of p.table p.statement) where
+    written_fits : (s : Seen) (b : Answer) (ks : List Keyed) → step_of p (overlay a s) ≡ Finished b ks → SeesWellTyped catalog s → SeesWellTyped catalog (with_written s ks)
+    written_fits s b ks step fits =
+        tables_sees catalog (with_written s ks)
+        (subst (λ (d : Tables). tables_are_well_typed catalog d ≡ true) (sym (own_is (tables_of_reads s.read_set) s.read_set s.writes ks))
+        (answers_on catalog p s b ks is named asked taken literals (subst (λ (z : Access). step_of p (overlay z s) ≡ Finished b ks) access_is step) (tables_seen s) (fit_tables catalog s fits) refl).1)
+
+    pub given_fits : (was v : TxnAt) → SeesWellTyped catalog was.seen → (first_unfit p.table (overlay a v.seen) ≡ None → SeesWellTyped catalog v.seen) → SeesWellTyped catalog (given_left was v (gives p a v)).seen
+    given_fits was v before now = by (first_unfit p.table (overlay a v.seen)) refl
+      where
+        left : (ks : List Keyed) (t f : Bool) → SeesWellTyped catalog v.seen → SeesWellTyped catalog (with_written v.seen ks) → SeesWellTyped catalog (if t then (if f then v else was) else written v ks).seen
+        left ks true true seen fits = seen
+        left ks true false seen fits = before
+        left ks false f seen fits = fits
+
+        by : (o : Option Key) → first_unfit p.table (overlay a v.seen) ≡ o → SeesWellTyped catalog (given_left was v (gives p a v)).seen
+        by None e =
+            let step : step_of p (overlay a v.seen) ≡ Finished (answer_on p.table p.statement (overlay a v.seen)) (changes_on p.table p.statement (overlay a v.seen)) = asked_gives p (overlay a v.seen) None asked e in
+            subst (λ y. SeesWellTyped catalog (given_left was v y).seen) (sym step)
+            (left (changes_on p.table p.statement (overlay a v.seen)) (changes_nothing (given_answer v (Finished (answer_on p.table p.statement (overlay a v.seen)) (changes_on p.table p.statement (overlay a v.seen)))))
+            (read_finished (given_answer v (Finished (answer_on p.table p.statement (overlay a v.seen)) (changes_on p.table p.statement (overlay a v.seen))))) (now e) (written_fits v.seen (answer_on p.table p.statement (overlay a v.seen)) (changes_on p.table p.statement (overlay a v.seen)) step (now e)))
+        by (Some key) e = subst (λ y. SeesWellTyped catalog (given_left was v y).seen) (sym (asked_gives p (overlay a v.seen) (Some key) asked e)) before

@@ -1,0 +1,230 @@
+-- Where the events end, what ties them to the clients is what a run owes them.
+use Rattle.std.proofs.Common.{◌≡◌, ◌<◌, ◌≤◌, ◌+◌, ◌-◌, ◌*◌, ◌/◌, ◌%◌, ◌^◌, ℕ, zero, suc, Bool, true, false, List, [], ◌∷◌, ◌++◌, length, map, Option, Some, None, IfSome, refl, sym, ap, ◌∙◌, subst, arith}
+use Rattle.std.specs.Prelude.{◌&&◌, All, Contains, filter, slice_index_or, if◌then◌else◌}
+use Rattle.std.specs.List.{AllByRecursion}
+use Rattle.std.proofs.lemmas.List.{append_assoc}
+use Rattle.std.proofs.lemmas.Nat.{div-add-mod'}
+use Rattle.sdb_record.specs.Coordinator.{coordinator_key_of}
+use Rattle.sdb_schema.specs.declared.table.Table.{Table}
+use Rattle.sdb_model.specs.declared.answer.Answer.TheVariants as answer
+use Rattle.sdb_model.specs.declared.event.Event.{Event}
+use Rattle.sdb_model.specs.declared.event.Point.{Point}
+use Rattle.sdb_model.specs.declared.event.TableDump.{TableDump}
+use Rattle.sdb_types.specs.declared.place.Place.{Place}
+use Rattle.sdb_model.specs.declared.script.Script.{Script}
+use Rattle.sdb_model.specs.declared.statement.Statement.{Statement}
+use Rattle.sdb_model.specs.Events.{IsTrace, StoreContents}
+use Rattle.sdb_model.specs.Exec.{Tables}
+use Rattle.sdb_model.specs.Follows.{Follows}
+use Rattle.sdb_model.specs.Serial.{IsRun}
+use Rattle.sdb_model.specs.Transactions.{IsOrder, Recorded, Executed, begins, client_of, is_effective, ordinal_of, statements_by, statements_inside}
+use Rattle.sdb_model.specs.Sql.{reads_begin, reads_commit}
+use Rattle.law_protocol.specs.Explained.{IsRunOf, events_of, newest_first}
+use Rattle.law_protocol.specs.Faithful.{AreReadSets}
+use Rattle.sdb_record.specs.declared.coordinator.Decision.TheVariants.{Committed}
+use Rattle.law_protocol.specs.History.{History}
+use Rattle.law_protocol.specs.Lawful.{Labelled, id, protocol_state}
+use Rattle.law_protocol.specs.Plan.{Plan}
+use Rattle.law_protocol.specs.Trace.{IsTraced, StartsEmpty, closing, history}
+use Rattle.law_protocol.proofs.Derived.{recorded_row}
+use Rattle.law_protocol.proofs.Times.{traced_of, whole_of}
+use Rattle.law_clients.specs.System.{SystemAt}
+use Rattle.law_clients.proofs.Begin.{taken_begun}
+use Rattle.law_clients.specs.Reads.{work_of}
+use Rattle.law_clients.specs.Filed.{number}
+use Rattle.law_clients.specs.Left.{Execution, ExecutionOk, BodyIsExecuted, IsFitting, ordinals_of}
+use Rattle.law_clients.specs.Linked.{HaveStories}
+use Rattle.law_clients.specs.Story.{Closed, Finished, IsWellFormedStory, MayCome, Opened, Rest, all_of, txn_ended_at, statements_in, saids_of, settle}
+use Rattle.law_clients.specs.History.{OpenFiled, HistoryInvariant, ClientHistory, begun_in, count_of, waiting_of}
+use Rattle.law_clients.proofs.Answered.{commit_ends}
+use Rattle.law_clients.proofs.Bodily.{noted_whole}
+use Rattle.law_clients.proofs.Faith.{beyond}
+use Rattle.law_clients.proofs.Files.{taken_counts}
+use Rattle.law_clients.proofs.Notes.{are_noted}
+use Rattle.law_clients.proofs.Places.{finished_inside, story_kept, story_same}
+use Rattle.law_clients.proofs.Run.{linked_run}
+use Rattle.law_clients.proofs.HistoryTurns.{body_is_said}
+use Rattle.law_clients.specs.Invariant.{RunInvariant, OpenedOk, RanOk}
+use Rattle.law_clients.specs.ReadSets.{ReadSetInside, ReadSetOpened}
+use Rattle.law_clients.proofs.InvariantOwn.{finished, over}
+use Rattle.sdb_types.proofs.Basics.{none_some, and_false as no_second}
+
+---- a recorded transaction's COMMIT was taken
+
+taken_of : (plan : ℕ → Plan) (places : List Place) (opening : List StoreContents) (past : List Labelled) (ss : List (List StoreContents)) (t : ℕ) → IsRunOf plan places opening past ss → t < 2 ^ 128 → Recorded places (closing opening ss) (id t) → (protocol_state past).taken t ≡ true
+taken_of plan places opening past ss t run fits recorded = by ((protocol_state past).taken t) refl
+  where
+    w : History
+    w = history plan places opening past ss
+
+    row : w.row t ≡ Some Committed
+    row = recorded_row plan places w past (closing opening ss) t (whole_of plan places opening past ss run) fits recorded
+
+    by : (b : Bool) → (protocol_state past).taken t ≡ b → b ≡ true
+    by true e = refl
+    by false e = absurd (((whole_of plan places opening past ss run).all.one.taken t (coordinator_key_of (id t)) 0 (ap (λ (x : Rattle.law_protocol.specs.History.ProtocolState). x.taken t) (sym (whole_of plan places opening past ss run).knows.talks) ∙ e)).4 row)
+
+---- what it ran
+
+last_at : (fs : List Finished) (f : Finished) → txn_ended_at (fs ++ f ∷ []) (length fs) ≡ Some f
+last_at [] f = refl
+last_at (g ∷ fs) f = last_at fs f
+
+-- What is so of a transaction, with its body as the texts have it.
+pub record Ran (catalog : List Table) (fit : Tables → Bool) (plan : ℕ → Plan) (events : List Event) (past : List Labelled) (t : ℕ) (r : Execution) : Type 0 where
+  pub inside : List Executed
+  pub body : statements_inside events (id t) ≡ inside
+  pub ok : RanOk catalog fit plan past t inside r
+  pub as_read : ReadSetInside events (client_of (id t)) inside r.seen
+
+module _ (catalog : List Table) (fit : Tables → Bool) (events : List Event) (sys : SystemAt) (doing : ℕ → Option Statement) (g : RunInvariant catalog fit events sys doing) where
+  -- of a client's transaction whose COMMIT was taken
+  ran_by : (c k : ℕ) → client_of (id (number c k)) ≡ c → ordinal_of (id (number c k)) ≡ suc k → suc k < 2 ^ 64 → (protocol_state g.past).taken (number c k) ≡ true → Ran catalog fit g.plan events g.past (number c k) (g.ran c k)
+  ran_by c k client ordinal small taken = by (txn_ended_at x.whole k) refl
+    where
+      x : ClientHistory
+      x = g.told c
+
+      story : HistoryInvariant events g.past sys c x
+      story = g.stories c
+
+      counts : k < count_of x
+      counts = subst (λ m. k < m) story.count (taken_counts g.plan g.past sys c k g.system small taken)
+
+      told : (whole : List Finished) (more : List Executed) → statements_by c events ≡ saids_of whole ++ more → statements_by (client_of (id (number c k))) events ≡ saids_of whole ++ more
+      told whole more e = ap (λ d. statements_by d events) client ∙ e
+
+      -- it is the one that is open, and its COMMIT waits
+      in_hand : (gap : List Executed) (b : Executed) (inside : List Executed) → x.rest ≡ Opened gap b inside → k ≡ length x.whole → Ran catalog fit g.plan events g.past (number c k) (g.ran c k)
+      in_hand gap b inside e at = record {
+        inside = inside;
+        body = finished_inside events (id (number c k)) (x.whole ++ f ∷ []) [] (length x.whole) f (told (x.whole ++ f ∷ []) [] all) (ordinal ∙ ap suc at) kept.whole (last_at x.whole f);
+        ok = subst (λ j. RanOk catalog fit g.plan g.past (number c j) inside (g.ran c j)) (sym at) (subst (λ r. OpenedOk catalog fit g.plan g.past (number c (length x.whole)) r (g.ran c (length x.whole))) e (g.clients c).opened);
+        as_read = subst (λ d. ReadSetInside events d inside (g.ran c k).seen) (sym client) (subst (λ j. ReadSetInside events c inside (g.ran c j).seen) (sym at) (subst (λ r. ReadSetOpened events c r (g.ran c (length x.whole))) e (g.as_read c).opened));
+      }
+        where
+          w : (w : Executed) × (x.waiting ≡ Some w) × (reads_commit w.text ≡ true) × (w.taken ≡ (protocol_state g.past).taken_at (number c (length x.whole)))
+          w = (subst (OpenFiled g.past c x) e story.opened).1 (ap (λ j. (protocol_state g.past).taken (number c j)) (sym at) ∙ taken)
+
+          f : Finished
+          f = finished gap b inside w.0
+
+          unanswered : w.0.answer ≡ None
+          unanswered = subst (λ o. IfSome o (λ (s : Executed). s.answer ≡ None)) w.1 story.waits
+
+          plain : begins w.0 ≡ false
+          plain = ap (λ o. reads_begin w.0.text && Rattle.sdb_model.specs.Transactions.is_done o) unanswered ∙ no_second (reads_begin w.0.text)
+
+          may : MayCome x.rest w.0
+          may = subst (λ r. MayCome r w.0) (sym e) (plain, λ n h. none_some answer.Committed (sym unanswered ∙ h))
+
+          settled : settle x.whole x.rest w.0 ≡ over x gap b inside w.0
+          settled = ap (λ r. settle x.whole r w.0) e ∙ ap (λ z. if z then over x gap b inside w.0 else record { whole = x.whole; rest = Opened gap b (inside ++ w.0 ∷ []) }) (commit_ends w.0 w.2)
+
+          kept : IsWellFormedStory (over x gap b inside w.0)
+          kept = subst IsWellFormedStory settled (story_kept x.whole x.rest w.0 story.ok story.rest_ok may)
+
+          all : statements_by c events ≡ saids_of (x.whole ++ f ∷ []) ++ []
+          all = story.same ∙ ap (λ o. (saids_of x.whole ++ statements_in x.rest) ++ waiting_of o) w.1 ∙ sym (story_same x.whole x.rest w.0) ∙ ap all_of settled
+
+      open_one : (r : Rest) → x.rest ≡ r → length x.whole ≤ k → k < length x.whole + begun_in r → Ran catalog fit g.plan events g.past (number c k) (g.ran c k)
+      open_one (Closed gap) e low high = absurd (none (length x.whole) low high)
+        where
+          none : (m : ℕ) → m ≤ k → k < m + 0 → ⊥
+          none m a b = omega arith
+      open_one (Opened gap b inside) e low high = in_hand gap b inside e (one (length x.whole) low high)
+        where
+          one : (m : ℕ) → m ≤ k → k < m + 1 → k ≡ m
+          one m a b = omega arith
+
+      by : (o : Option Finished) → txn_ended_at x.whole k ≡ o → Ran catalog fit g.plan events g.past (number c k) (g.ran c k)
+      by (Some f) e = record {
+        inside = f.body;
+        body = finished_inside events (id (number c k)) x.whole (statements_in x.rest ++ waiting_of x.waiting) k f (told x.whole (statements_in x.rest ++ waiting_of x.waiting) (story.same ∙ append_assoc (saids_of x.whole) (statements_in x.rest) (waiting_of x.waiting))) ordinal story.ok e;
+        ok = (g.clients c).ended k f e;
+        as_read = subst (λ d. ReadSetInside events d f.body (g.ran c k).seen) (sym client) ((g.as_read c).ended k f e);
+      }
+      by None e = open_one x.rest refl (beyond x.whole k e) counts
+
+  -- by its number
+  abbrev pub ran_of : ℕ → Execution
+  ran_of t = g.ran (t / 2 ^ 64) (t % 2 ^ 64 - 1)
+
+  ran_at : (t : ℕ) → (protocol_state g.past).taken t ≡ true → Ran catalog fit g.plan events g.past t (ran_of t)
+  ran_at t taken = subst (λ u. Ran catalog fit g.plan events g.past u (ran_of t)) whole (ran_by (t / 2 ^ 64) (t % 2 ^ 64 - 1) (ap (λ u. u / 2 ^ 64) whole) (ap (λ u. u % 2 ^ 64) whole ∙ ordinal) (subst (λ m. m < 2 ^ 64) ordinal (small t)) (ap (protocol_state g.past).taken whole ∙ taken))
+    where
+      positive : (m : ℕ) → 0 < m → m ≡ suc (m - 1)
+      positive m l = omega (arith, l)
+
+      ordinal : t % 2 ^ 64 ≡ suc (t % 2 ^ 64 - 1)
+      ordinal = positive (t % 2 ^ 64) (taken_begun g.plan g.past sys t g.system taken)
+
+      small : (m : ℕ) → m % 2 ^ 64 < 2 ^ 64
+      small m = omega arith
+
+      whole : number (t / 2 ^ 64) (t % 2 ^ 64 - 1) ≡ t
+      whole = ap (λ m. t / 2 ^ 64 * 2 ^ 64 + m) (sym ordinal) ∙ div-add-mod' t (2 ^ 64)
+
+  done : (t : ℕ) → (protocol_state g.past).taken t ≡ true → ExecutionOk catalog fit g.plan g.past t (ran_of t) × BodyIsExecuted events t (ran_of t)
+  done t taken =
+      let r = ran_at t taken in
+      (record { seen = r.ok.inside.seen; planned = r.ok.planned taken; body = r.ok.inside.body }, body_is_said events t r.inside (ran_of t) (ap (filter is_effective) r.body) r.ok.inside.executed)
+
+  -- the plans' notes are what the statements noted
+  pub going_is_noted : AreReadSets g.plan events g.past
+  going_is_noted = are_noted g.plan events g.past (λ t. work_of (id t) (ran_of t).now (ran_of t).seen) (λ t taken.
+      let r = ran_at t taken in
+      noted_whole g.plan events (client_of (id t)) t (ran_of t).now r.inside (ran_of t).seen refl r.body (r.ok.planned taken) r.as_read.as_read)
+
+---- points
+
+all_by : {A : Type 0} (P : A → Type 0) (xs : List A) → All P xs → AllByRecursion P xs
+all_by P [] all = tt
+all_by P (x ∷ xs) all = (all 0 x (omega arith), all_by P xs (λ k d l. all (suc k) d (omega (arith, l))))
+
+all_ids : (P : ℕ → Type 0) (ps : List Point) → AllByRecursion (λ (p : Point). P p.id.0) ps → AllByRecursion P (ordinals_of ps)
+all_ids P [] all = tt
+all_ids P (p ∷ ps) all = (all.0, all_ids P ps all.1)
+
+index_map : (ps : List Point) (k : ℕ) (d e : Point) → k < length ps → slice_index_or (map (λ (p : Point). p.id) ps) k e.id ≡ (slice_index_or ps k d).id
+index_map [] k d e l = absurd (omega (arith, l))
+index_map (p ∷ ps) zero d e l = refl
+index_map (p ∷ ps) (suc k) d e l = index_map ps k d e (omega (arith, l))
+
+length_ids : (ps : List Point) → length (map (λ (p : Point). p.id) ps) ≡ length ps
+length_ids [] = refl
+length_ids (p ∷ ps) = ap suc (length_ids ps)
+
+-- Events of any number of clients that are tied to them, follow a script's moves, and agree with stores whose tables began empty, are a run.
+pub going_is_run : (script : Script) (fit : Tables → Bool) (events : List Event) (sys : SystemAt) (doing : ℕ → Option Statement) (opening end : List StoreContents) (moments : List (List StoreContents)) (order : List Point) → IsFitting script.catalog fit → RunInvariant script.catalog fit events sys doing
+    → Follows script events → IsTrace script.places events opening moments end → StartsEmpty script.places opening → IsOrder script.places events end order → All (λ (p : Point). p.id.0 < 2 ^ 128) order
+    → (tables : List TableDump) × IsRun script opening end (record { events = events; order = order; tables = tables })
+going_is_run script fit events sys doing opening end moments order fitting g follows trace empty ordered small =
+    subst (λ es. (tables : List TableDump) × IsRun script opening end (record { events = es; order = order; tables = tables })) (sym g.same)
+    (linked_run script fit g.labelled opening end moments order fitting linked (subst (Follows script) g.same follows) (subst (λ es. IsTrace script.places es opening moments end) g.same trace) empty (subst (λ es. IsOrder script.places es end order) g.same ordered) small)
+  where
+    turned : IsTraced script.places opening (newest_first g.labelled) (newest_first moments) × (closing opening (newest_first moments) ≡ end)
+    turned = traced_of script.places opening g.labelled moments end (subst (λ es. IsTrace script.places es opening moments end) g.same trace)
+
+    run : IsRunOf g.plan script.places opening g.past (newest_first moments)
+    run = subst (λ ps. IsRunOf g.plan script.places opening ps (newest_first moments)) (sym g.turned) (record { empty = empty; lawful = subst (Rattle.law_protocol.specs.Lawful.IsLawful g.plan) g.turned g.system.lawful; traced = turned.0 })
+
+    taken : All (λ (p : Point). (protocol_state g.past).taken p.id.0 ≡ true) order
+    taken k d l =
+        let p : Point = slice_index_or order k d in
+        let among : Contains (map (λ (q : Point). q.id) order) p.id = (k, subst (λ m. k < m) (sym (length_ids order)) l, index_map order k d p l) in
+        let recorded : Recorded script.places end p.id = (ordered.recorded p.id (small k d l)).0 among in
+        taken_of g.plan script.places opening g.past (newest_first moments) p.id.0 run (small k d l) (subst (λ s. Recorded script.places s p.id) (sym turned.1) recorded)
+
+    linked : HaveStories script.catalog fit g.labelled order
+    linked = record {
+      plan = g.plan;
+      sys = sys;
+      told = g.told;
+      ran = ran_of script.catalog fit events sys doing g;
+      system = subst (λ ps. Rattle.law_clients.specs.System.SystemOk g.plan ps sys) g.turned g.system;
+      stories = subst (λ ps. Rattle.law_clients.specs.History.AllStories (events_of g.labelled) ps sys g.told) g.turned (subst (λ es. Rattle.law_clients.specs.History.AllStories es g.past sys g.told) g.same g.stories);
+      bodies = subst (λ ps. Rattle.law_clients.specs.Left.AllBodiesExecuted script.catalog fit g.plan (events_of g.labelled) ps (ran_of script.catalog fit events sys doing g) (ordinals_of order)) g.turned (subst (λ es. Rattle.law_clients.specs.Left.AllBodiesExecuted script.catalog fit g.plan es g.past (ran_of script.catalog fit events sys doing g) (ordinals_of order)) g.same
+          (all_ids (λ t. ExecutionOk script.catalog fit g.plan g.past t (ran_of script.catalog fit events sys doing g t) × BodyIsExecuted events t (ran_of script.catalog fit events sys doing g t)) order
+          (all_by (λ (p : Point). ExecutionOk script.catalog fit g.plan g.past p.id.0 (ran_of script.catalog fit events sys doing g p.id.0) × BodyIsExecuted events p.id.0 (ran_of script.catalog fit events sys doing g p.id.0)) order (λ k d l. done script.catalog fit events sys doing g (slice_index_or order k d).id.0 (taken k d l)))));
+    }

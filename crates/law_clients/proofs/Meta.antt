@@ -1,0 +1,92 @@
+-- What the metadata of an unresolved record and a coordinator's row say, and that images are committed records of their keys.
+use Rattle.std.proofs.Common.{◌≡◌, ◌<◌, ◌^◌, ℕ, ℤ, Bool, true, false, cond, List, Option, Some, None, Result, Ok, Err, refl, sym, ap, ◌∙◌}
+use Rattle.std.specs.Prelude.{if◌then◌else◌, not, find}
+use Rattle.std.specs.List.{list_any}
+use Rattle.sdb_types.specs.declared.value.Value.{Value}
+use Rattle.sdb_types.specs.declared.value.Value.TheVariants as value
+use Rattle.sdb_types.specs.declared.pair.Pair.{Pair}
+use Rattle.sdb_types.specs.declared.txid.TxId.{TxId}
+use Rattle.sdb_types.specs.declared.record.Record.{Record}
+use Rattle.sdb_types.specs.declared.record.State.TheVariants.{Committed}
+use Rattle.sdb_types.specs.Columns.{column}
+use Rattle.sdb_types.specs.Contents.{tx_id}
+use Rattle.sdb_types.proofs.Bools.{and_both, and_first}
+use Rattle.sdb_record.specs.declared.coordinator.Decided.{Decided}
+use Rattle.sdb_record.specs.declared.coordinator.Decision.TheVariants as decision
+use Rattle.sdb_record.specs.declared.meta.Meta.{Meta}
+use Rattle.sdb_record.specs.Meta.{id_in, id_in_value, is_in, is_moment, is_committed, is_transactional, is_unresolved, checked, checked_before, checked_part, refuse, with_before, is_misnamed}
+use Rattle.sdb_record.specs.Parts.{before_record, before_part, is_before_pair}
+use Rattle.sdb_record.specs.Rolls.{forward_record}
+use Rattle.sdb_record.proofs.Fine.{taken, refuse-ok}
+use Rattle.sdb_record.proofs.IdLemmas.{id_of_text-is}
+use Rattle.sdb_record.proofs.ImageLaws.{image-open, image-is, checked-state}
+use Rattle.law_clients.specs.ReadAt.{AreKinds, IsKind, kind_by, kind_of}
+use Rattle.law_clients.specs.Reader.{IsMetaOf}
+use Rattle.sdb_read.proofs.Images.{held_of}
+use Rattle.sdb_read.specs.Read.{Firm, Open, Bad}
+
+---- a row's moment
+
+---- metadata
+
+before_id : (m : Meta) (r : Result Meta (List ℕ)) (y : Meta) → with_before m r ≡ Ok y → m.id ≡ y.id
+before_id m (Ok b) y h = let e : record m { has_before = true } ≡ y = cc in ap (λ (x : Meta). x.id) e
+before_id m (Err name) y h = absurd (cc)
+
+-- the ninth check leaves the writer
+final_id : (ps : List Pair) (m y : Meta) → checked_before ps m ≡ Ok y → m.id ≡ y.id
+final_id ps m y h = by (list_any is_before_pair ps) h
+  where
+    by : (b : Bool) → cond b (refuse (find is_misnamed ps) (with_before m (checked_part is_committed (before_part ps)))) (Ok m) ≡ Ok y → m.id ≡ y.id
+    by true k = before_id m (checked_part is_committed (before_part ps)) y (refuse-ok (find is_misnamed ps) (with_before m (checked_part is_committed (before_part ps))) y k).1
+    by false k = let e : m ≡ y = cc in ap (λ (x : Meta). x.id) e
+
+id_fits : (o : Option Value) (id : TxId) → id_in_value o ≡ Some id → id.0 < 2 ^ 128
+id_fits None id h = absurd (cc)
+id_fits (Some (value.Text text)) id h = (id_of_text-is text id h).0
+id_fits (Some v) id h = absurd (cc)
+
+-- The metadata of an unresolved record is of its writer, and its state is open.
+pub meta_of : (r : Record) (m : Meta) → is_unresolved r ≡ true → checked r.columns ≡ Ok m → IsMetaOf r m
+meta_of r m loose says =
+    let t = taken r.columns m says in
+    let writer : id_in r.columns ≡ Some m.id = t.1.says.id ∙ ap Some (final_id r.columns t.0 m t.2) in
+    record { held = held_of r loose; writer = writer; fits = id_fits (column r.columns tx_id) m.id writer; is_open = sym (checked-state r.columns m says) ∙ held_of r loose }
+
+---- images
+
+-- What an unresolved record is rolled forward to is a committed record of its key.
+pub record IsFirm (k : Rattle.sdb_types.specs.declared.key.Key.Key) (b : Record) : Type 0 where
+  pub key : b.key ≡ k
+  pub taken : is_transactional b ≡ true
+  pub committed : is_in Committed b.columns ≡ true
+
+pub forward_firm : (r : Record) (m : ℤ) → is_unresolved r ≡ true → is_moment m ≡ true → IsFirm r.key (forward_record r m)
+forward_firm r m loose moment =
+    let d : Option Decided = Some (record { decision = decision.Committed; created_at = m }) in
+    let i = image-is r (forward_record r m) d (and_first (is_transactional r) (not (is_in Committed r.columns)) loose) moment (image-open r d (held_of r loose)) in
+    record { key = i.key; taken = i.taken; committed = i.committed }
+
+-- And so is what it is rolled back to.
+pub before_firm : (r b : Record) → is_unresolved r ≡ true → before_record r ≡ Some b → IsFirm r.key b
+before_firm r b loose says =
+    let i = image-is r b None (and_first (is_transactional r) (not (is_in Committed r.columns)) loose) tt (image-open r None (held_of r loose) ∙ says) in
+    record { key = i.key; taken = i.taken; committed = i.committed }
+
+---- kinds
+
+-- What a record is by its columns it is.
+pub kinds_are : AreKinds kind_of
+kinds_are r = by (is_transactional r) refl
+  where
+    committed : (m : Meta) → is_transactional r ≡ true → checked r.columns ≡ Ok m → (b : Bool) → is_committed m.state ≡ b → IsKind r (if b then Firm else Open m)
+    committed m taken says true t = (taken, checked-state r.columns m says ∙ t)
+    committed m taken says false f = (and_both (is_transactional r) (not (is_in Committed r.columns)) taken (ap not (checked-state r.columns m says ∙ f)), says)
+
+    at : (c : Result Meta (List ℕ)) → is_transactional r ≡ true → checked r.columns ≡ c → IsKind r (kind_by c)
+    at (Err column) taken says = tt
+    at (Ok m) taken says = committed m taken says (is_committed m.state) refl
+
+    by : (b : Bool) → is_transactional r ≡ b → IsKind r (if b then kind_by (checked r.columns) else Bad)
+    by true taken = at (checked r.columns) taken refl
+    by false f = tt

@@ -1,0 +1,123 @@
+-- Events of no client, the start, and what changes without an event.
+use Rattle.std.proofs.lemmas.Bool.Decides.{nat_tests}
+use Rattle.std.specs.Prelude.{◌==◌, if◌then◌else◌}
+use Rattle.sdb_phases.specs.Work.{Work}
+use Rattle.sdb_phases.specs.Commit.{Stage, out_of_memory}
+use Rattle.law_clients.proofs.Commit.{starved_commit}
+use Rattle.law_clients.specs.Filed.{number}
+use Rattle.std.proofs.Common.{◌≡◌, ◌+◌, ℕ, pos, Bool, List, [], ◌∷◌, ◌++◌, Option, Some, None, true, false, length, arith, subst, refl, sym, ap, ◌∙◌}
+use Rattle.sdb_schema.specs.declared.table.Table.{Table}
+use Rattle.sdb_model.specs.declared.answer.Answer.{Answer}
+use Rattle.sdb_model.specs.declared.answer.Answer.TheVariants as answer
+use Rattle.sdb_model.specs.declared.event.Event.{Event}
+use Rattle.sdb_model.specs.declared.event.Event.TheVariants as event
+use Rattle.sdb_model.specs.declared.statement.Statement.{Statement}
+use Rattle.sdb_model.specs.Exec.{Tables}
+use Rattle.sdb_model.specs.Transactions.{statements_by}
+use Rattle.law_protocol.specs.History.{Other}
+use Rattle.law_protocol.specs.Lawful.{Labelled, id, labelled_with}
+use Rattle.law_protocol.specs.Plan.{Plan}
+use Rattle.sdb_snapshot.specs.Seen.{nothing}
+use Rattle.law_clients.specs.Reads.{work_of}
+use Rattle.law_clients.specs.Owner.{plan_of}
+use Rattle.law_clients.specs.System.{ClientAt, Committing, Has, IsQuiet, SystemAt, idle, with_client}
+use Rattle.law_clients.proofs.Begin.{begins as system_begins}
+use Rattle.law_clients.proofs.Quiet.{quiet_turn}
+use Rattle.law_clients.specs.History.{IsOpened, nothing_yet}
+use Rattle.law_clients.proofs.Files.{story_starts}
+use Rattle.law_clients.proofs.Tellings.{said_more, story_stays}
+use Rattle.law_clients.specs.Invariant.{IsOpenOf, RunInvariant, IsSilent}
+use Rattle.law_clients.specs.ReadSets.{IsMadeSince}
+use Rattle.law_clients.proofs.Goings.{events_more, kept_apart, newest_more}
+use Rattle.law_clients.proofs.InvariantReads.{noted_stays, silent_call}
+use Rattle.law_clients.proofs.InvariantOwn.{plain_apart}
+use Rattle.law_clients.proofs.Small.{nothing_ran}
+
+---- no client's event
+
+module _ (catalog : List Table) (fit : Tables → Bool) where
+  pub going_starts : RunInvariant catalog fit [] idle (λ c. None)
+  going_starts = record {
+    plan = plan;
+    labelled = [];
+    past = [];
+    told = λ c. nothing_yet;
+    ran = λ c k. nothing_ran;
+    same = refl;
+    turned = refl;
+    system = system_begins plan;
+    stories = λ c. story_starts c;
+    clients = λ c. record { ended = λ k f e. absurd (cc (e)); opened = tt; hand = (tt, refl) };
+    as_read = λ c. record { ended = λ k f e. absurd (cc (e)); opened = tt; taken = tt; made = tt };
+  }
+    where
+      plan : ℕ → Plan
+      plan t = plan_of (work_of (id t) (pos 0) nothing)
+
+  pub going_rests : (events : List Event) (sys : SystemAt) (doing : ℕ → Option Statement) (e : Event) → IsSilent e → RunInvariant catalog fit events sys doing → RunInvariant catalog fit (events ++ e ∷ []) sys doing
+  going_rests events sys doing e silent_one g = record {
+    plan = g.plan;
+    labelled = g.labelled ++ q ∷ [];
+    past = q ∷ g.past;
+    told = g.told;
+    ran = g.ran;
+    same = ap (λ es. es ++ e ∷ []) g.same ∙ sym (events_more g.labelled q);
+    turned = ap (λ ps. q ∷ ps) g.turned ∙ sym (newest_more g.labelled q);
+    system = quiet_turn g.plan g.past sys e g.system (quiet e silent_one);
+    stories = λ c. story_stays events g.past sys sys c (g.told c) q (g.stories c) tt (plain_apart g.past c Other tt) (record { begun = refl; hold = λ u h. h }) (unsaid c e silent_one);
+    clients = λ c. let kept = kept_apart catalog fit g.plan g.plan events g.past sys q c (g.told c) (g.ran c) (λ t h. refl) (g.stories c) (plain_apart g.past c Other tt) (g.clients c).ended (g.clients c).opened in record { ended = kept.0; opened = kept.1; hand = (g.clients c).hand };
+    as_read = λ c. noted_stays events c e (sys.clients c) (g.told c) (g.ran c) (silent_call c (1 + length events) e silent_one) (g.as_read c);
+  }
+    where
+      q : Labelled
+      q = labelled_with Other e
+
+      none_some : ◌≡◌ {A = Option Answer} None (Some answer.Committed) → ⊥
+      none_some h = cc
+
+      quiet : (e : Event) → IsSilent e → IsQuiet e
+      quiet (event.Clock moment) i = record { quiet = refl; other = λ h. none_some h }
+      quiet (event.Idle d) i = record { quiet = refl; other = λ h. none_some h }
+      quiet (event.Take d text a) i = absurd i
+      quiet (event.Call d store ask how r a) i = absurd i
+      quiet (event.Stop d) i = absurd i
+
+      unsaid : (c : ℕ) (e : Event) → IsSilent e → statements_by c (events ++ e ∷ []) ≡ statements_by c events
+      unsaid c (event.Clock moment) i = said_more c events (event.Clock moment)
+      unsaid c (event.Idle d) i = said_more c events (event.Idle d)
+      unsaid c (event.Take d text a) i = absurd i
+      unsaid c (event.Call d store ask how r a) i = absurd i
+      unsaid c (event.Stop d) i = absurd i
+
+  ---- without an event
+
+  -- A COMMIT may be out of memory in place of a conflict.
+  module _ (events : List Event) (sys : SystemAt) (doing : ℕ → Option Statement) (g : RunInvariant catalog fit events sys doing) (c : ℕ) (p : Work) (s : Stage) (at_commit : sys.clients c ≡ Committing p s) where
+    abbrev short : SystemAt
+    short = with_client sys c (Committing p (out_of_memory s))
+
+    is : (m k : ℕ) → (m == k) ≡ true → m ≡ k
+    is m k e = grind (arith, nat_tests)
+
+    -- a client is where it was, but for the stage
+    by_client : (P : ℕ → ClientAt → Type 0) → (P c (Committing p s) → P c (Committing p (out_of_memory s))) → ((d : ℕ) → P d (sys.clients d)) → (d : ℕ) → P d (short.clients d)
+    by_client P f all d = on (d == c) refl
+      where
+        on : (b : Bool) → (d == c) ≡ b → P d (if b then Committing p (out_of_memory s) else sys.clients d)
+        on true e = subst (λ k. P k (Committing p (out_of_memory s))) (sym (is d c e)) (f (subst (P c) at_commit (all c)))
+        on false e = all d
+
+    pub going_starves : RunInvariant catalog fit events short doing
+    going_starves = record {
+      plan = g.plan;
+      labelled = g.labelled;
+      past = g.past;
+      told = g.told;
+      ran = g.ran;
+      same = g.same;
+      turned = g.turned;
+      system = starved_commit g.plan g.past sys c p s (record { ok = g.system; at = at_commit });
+      stories = λ d. let story = g.stories d in record { now = story.now; same = story.same; ok = story.ok; rest_ok = story.rest_ok; waits = story.waits; count = story.count; alive = story.alive; filed = story.filed; opened = story.opened; hold = by_client (λ k y. (u : ℕ) → Has y u → IsOpened (g.told k).rest × (u ≡ number k (length (g.told k).whole))) (λ h. h) (λ k. (g.stories k).hold) d };
+      clients = λ d. let was = g.clients d in record { ended = was.ended; opened = was.opened; hand = by_client (λ k y. IsOpenOf (doing k) (g.told k) (g.ran k (length (g.told k).whole)) y) (λ h. h) (λ k. (g.clients k).hand) d };
+      as_read = λ d. let was = g.as_read d in record { ended = was.ended; opened = was.opened; taken = was.taken; made = by_client (λ k y. IsMadeSince events k (g.told k).waiting y) (λ h. h) (λ k. (g.as_read k).made) d };
+    }

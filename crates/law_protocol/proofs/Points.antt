@@ -1,0 +1,320 @@
+-- A transaction's point is the last of its prepares that were seen and applied, or else the event that took its COMMIT.
+use Rattle.std.proofs.Common.{◌≡◌, ℕ, ℤ, ◌+◌, ◌<◌, ◌^◌, Bool, true, false, List, [], ◌∷◌, ◌++◌, suc, length, Option, Some, None, refl, sym, ap, subst, ◌∙◌, arith}
+use Rattle.std.specs.Prelude.{fold, ◌||◌, ◌&&◌, ◌==◌, if◌then◌else◌, unwrap_or}
+use Rattle.std.specs.Option.{option_map}
+use Rattle.std.specs.List.{enumerate_from}
+use Rattle.std.proofs.lemmas.List.Sums.{fold-append}
+use Rattle.sdb_types.specs.declared.key.Key.{Key}
+use Rattle.sdb_types.specs.declared.txid.TxId.{TxId}
+use Rattle.sdb_types.specs.declared.record.Record.{Record}
+use Rattle.sdb_types.specs.declared.record.State.{State}
+use Rattle.sdb_types.specs.declared.record.State.TheVariants as state
+use Rattle.sdb_types.specs.declared.record.Condition.{Condition}
+use Rattle.sdb_types.specs.declared.record.Condition.TheVariants as condition
+use Rattle.sdb_record.specs.Moved.{condition_of, version_of}
+use Rattle.sdb_types.specs.declared.record.Request.{Request}
+use Rattle.sdb_types.specs.declared.record.Request.TheVariants as ask
+use Rattle.sdb_types.specs.declared.record.Reply.{Reply}
+use Rattle.sdb_types.specs.declared.record.Reply.TheVariants as reply
+use Rattle.sdb_types.specs.Contents.{is_version, Contents}
+use Rattle.sdb_record.specs.declared.coordinator.Decision.{Decision}
+use Rattle.sdb_record.specs.declared.coordinator.Decision.TheVariants.{Committed, Aborted}
+use Rattle.sdb_record.specs.declared.write.Change.{Change}
+use Rattle.sdb_record.specs.declared.write.Change.TheVariants as change
+use Rattle.sdb_record.specs.Coordinator.{coordinator_row_of}
+use Rattle.sdb_record.specs.Meta.{is_in}
+use Rattle.sdb_record.specs.Parts.{before_record}
+use Rattle.sdb_record.specs.Rolls.{forward_record, prepared_record, state_of_change, undo}
+use Rattle.sdb_record.proofs.ImageLaws.{prepared-version, version-writer}
+use Rattle.sdb_record.proofs.RollLaws.{forward-committed}
+use Rattle.sdb_model.specs.declared.answer.Answer.{Answer}
+use Rattle.sdb_model.specs.declared.event.Event.{Event}
+use Rattle.sdb_model.specs.declared.event.Event.TheVariants as event
+use Rattle.sdb_model.specs.declared.event.How.{How}
+use Rattle.sdb_model.specs.declared.event.How.TheVariants.{Seen, Lost, Discarded, Broken}
+use Rattle.sdb_types.specs.declared.place.Place.{Place}
+use Rattle.sdb_model.specs.Events.{StoreContents, Effect, IsPerformed, IsCall}
+use Rattle.sdb_model.specs.Transactions.{prepares, is_prepared_by, last_prepare}
+use Rattle.law_protocol.specs.Plan.{Plan, written}
+use Rattle.sdb_model.specs.ReadSet.{KeyRead, SpanRead, ReadItem}
+use Rattle.law_protocol.specs.History.{Action, Other, Begins, Takes, Prepares, Checks, Decides, Aborts, Rolls, Removes, Ends, Stops, is_yes, ProtocolState, History, state_after_event, base_of}
+use Rattle.law_protocol.specs.Lawful.{Labelled, protocol_state, ended, id, ack_of, is_quiet, IsCallOf, IsUnchanged, IsEnabled, MayRollBack}
+use Rattle.law_protocol.specs.Records.{write_there, record_prepared_by, record_left_by}
+use Rattle.law_protocol.specs.Trace.{closing, history}
+use Rattle.law_protocol.specs.Explained.{IsRunOf, newest_first, events_of}
+use Rattle.law_protocol.proofs.Canon.{held_writer, firm_committed, not_open_version, same_writer}
+use Rattle.law_protocol.proofs.Known.{taken_fits, held_before}
+use Rattle.law_protocol.proofs.Settled.{Knows, IsOwn, prepared_there}
+use Rattle.law_protocol.proofs.Moves.{held_is}
+use Rattle.law_protocol.proofs.Whole.{Whole, whole}
+use Rattle.sdb_types.proofs.Basics.{clash}
+use Rattle.sdb_types.proofs.Keys.{tests}
+
+---- which events are prepares
+
+-- a request that prepares nothing of a transaction
+no_prepare : (t : TxId) (client : ℕ) (store : List ℕ) (q : Request) (how : How) (r : Reply) (a : Option Answer) → prepares t q ≡ false → is_prepared_by t (event.Call client store q how r a) ≡ false
+no_prepare t client store q Seen reply.Applied a h = h
+no_prepare t client store q Seen (reply.NotMet found) a h = refl
+no_prepare t client store q Seen reply.NoMemory a h = refl
+no_prepare t client store q Seen (reply.Found found) a h = refl
+no_prepare t client store q Seen (reply.Rows rows) a h = refl
+no_prepare t client store q Seen reply.Fault a h = refl
+no_prepare t client store q Lost r a h = refl
+no_prepare t client store q Discarded r a h = refl
+no_prepare t client store q Broken r a h = refl
+
+no_call : (t : TxId) (e : Event) (client : ℕ) (q : Request) (r : Reply) → IsCallOf e client q r → prepares t q ≡ false → is_prepared_by t e ≡ false
+no_call t e client q r c h = ap (is_prepared_by t) c.call ∙ no_prepare t client c.store q c.how r c.answer h
+
+-- a committed record is no prepare
+pub firm_no : (t : TxId) (r : Record) (c : Condition) → is_in state.Committed r.columns ≡ true → prepares t (ask.PutIf r c) ≡ false
+firm_no t r c h = ap (λ b. b || is_version t state.Deleted r) (not_open_version t state.Prepared r refl h) ∙ not_open_version t state.Deleted r refl h
+
+row_no : (t : TxId) (u : ℕ) (d : Decision) (m : ℤ) (c : Condition) → prepares t (ask.PutIf (coordinator_row_of (id u) d m) c) ≡ false
+unfolding coordinator_row_of
+row_no t u d m c = refl
+
+-- a prepare is of its own transaction
+or_version : (t : TxId) (r : Record) (c : Change) → is_version t (state_of_change c) r ≡ true → (is_version t state.Prepared r || is_version t state.Deleted r) ≡ true
+or_version t r (change.Row columns) h = ap (λ b. b || is_version t state.Deleted r) h
+or_version t r change.Delete h = ap (λ b. is_version t state.Prepared r || b) h ∙ true_right (is_version t state.Prepared r)
+  where
+    true_right : (b : Bool) → (b || true) ≡ true
+    true_right true = refl
+    true_right false = refl
+
+held_version : (plan : ℕ → Plan) (u : ℕ) (k : Key) → is_version (id u) (state_of_change (write_there (plan u) k).change) (record_prepared_by plan u k) ≡ true
+unfolding record_prepared_by
+held_version plan u k = prepared-version (write_there (plan u) k) (id u) (plan u).now
+
+pub held_prepares : (plan : ℕ → Plan) (t u : ℕ) (k : Key) (c : Condition) → t < 2 ^ 128 → u < 2 ^ 128 → prepares (id t) (ask.PutIf (record_prepared_by plan u k) c) ≡ (t == u)
+held_prepares plan t u k c a b = by (t == u) refl
+  where
+    same : (t == u) ≡ true → t ≡ u
+    same e = grind (arith, tests)
+
+    equal : t ≡ u → (t == u) ≡ true
+    equal e = grind (arith, tests)
+
+    apart : (s : State) (x : Bool) → is_version (id t) s (record_prepared_by plan u k) ≡ x → (t == u) ≡ false → x ≡ false
+    apart s true f e = clash (sym (equal (same_writer (record_prepared_by plan u k) t u (version-writer (record_prepared_by plan u k) (id t) s a f) (held_writer plan u k b))) ∙ e)
+    apart s false f e = refl
+
+    by : (x : Bool) → (t == u) ≡ x → prepares (id t) (ask.PutIf (record_prepared_by plan u k) c) ≡ (t == u)
+    by true e = rw e (rw (same e) (or_version (id u) (record_prepared_by plan u k) (write_there (plan u) k).change (held_version plan u k)))
+    by false e = rw e (ap (λ y. y || is_version (id t) state.Deleted (record_prepared_by plan u k)) (apart state.Prepared (is_version (id t) state.Prepared (record_prepared_by plan u k)) refl e) ∙ apart state.Deleted (is_version (id t) state.Deleted (record_prepared_by plan u k)) refl e)
+
+-- what a reply was seen as
+seen_applied : (q : Request) (how : How) (held left : Contents) → IsPerformed q how reply.Applied held left → how ≡ Seen
+seen_applied q Seen held left p = refl
+seen_applied q Lost held left p = absurd (fault p.0)
+  where
+    fault : reply.Applied ≡ reply.Fault → ⊥
+    fault e = cc
+seen_applied q Discarded held left p = absurd (fault p.0)
+  where
+    fault : reply.Applied ≡ reply.Fault → ⊥
+    fault e = cc
+seen_applied q Broken held left p = absurd (fault p.0)
+  where
+    fault : reply.Applied ≡ reply.Fault → ⊥
+    fault e = cc
+
+abbrev is_applied : Reply → Bool
+is_applied r = is_yes (ack_of r)
+
+-- a call that wasn't seen and applied
+unseen : (t : TxId) (client : ℕ) (store : List ℕ) (q : Request) (how : How) (r : Reply) (a : Option Answer) → is_applied r ≡ false → is_prepared_by t (event.Call client store q how r a) ≡ false
+unseen t client store q Seen reply.Applied a h = clash h
+unseen t client store q Seen (reply.NotMet found) a h = refl
+unseen t client store q Seen reply.NoMemory a h = refl
+unseen t client store q Seen (reply.Found found) a h = refl
+unseen t client store q Seen (reply.Rows rows) a h = refl
+unseen t client store q Seen reply.Fault a h = refl
+unseen t client store q Lost r a h = refl
+unseen t client store q Discarded r a h = refl
+unseen t client store q Broken r a h = refl
+
+applied_is : (r : Reply) → is_applied r ≡ true → r ≡ reply.Applied
+applied_is reply.Applied h = refl
+applied_is (reply.NotMet found) h = clash (sym h)
+applied_is reply.NoMemory h = clash (sym h)
+applied_is (reply.Found found) h = clash (sym h)
+applied_is (reply.Rows rows) h = clash (sym h)
+applied_is reply.Fault h = clash (sym h)
+
+told_prepare : (places : List Place) (t : TxId) (client : ℕ) (store : List ℕ) (q : Request) (how : How) (r : Reply) (a : Option Answer) (before now : List StoreContents) (b : Bool) → prepares t q ≡ b → IsCall places store q how r before now → is_prepared_by t (event.Call client store q how r a) ≡ (b && is_yes (ack_of r))
+told_prepare places t client store q how r a before now b h c = by (is_applied r) refl
+  where
+    false_right : (b : Bool) → (b && false) ≡ false
+    false_right true = refl
+    false_right false = refl
+
+    true_right : (b : Bool) → (b && true) ≡ b
+    true_right true = refl
+    true_right false = refl
+
+    by : (x : Bool) → is_applied r ≡ x → is_prepared_by t (event.Call client store q how r a) ≡ (b && is_yes (ack_of r))
+    by false e = unseen t client store q how r a e ∙ sym (ap (λ x. b && x) e ∙ false_right b)
+    by true e =
+        let applied = applied_is r e in
+        ap (λ x. is_prepared_by t (event.Call client store q how x a)) applied
+        ∙ ap (λ x. is_prepared_by t (event.Call client store q x reply.Applied a)) (seen_applied q how c.held c.left (subst (λ x. IsPerformed q how x c.held c.left) applied c.performed))
+        ∙ h ∙ sym (ap (λ x. b && x) e ∙ true_right b)
+
+-- the part of a told prepare of t
+abbrev tells_prepare : ℕ → Action → Bool
+tells_prepare t (Prepares u k word) = (t == u) && is_yes word
+tells_prepare t _ = false
+
+quiet_no : (t : TxId) (e : Event) → is_quiet e ≡ true → is_prepared_by t e ≡ false
+quiet_no t (event.Take client text answer) h = refl
+quiet_no t (event.Call client store (ask.Get key) how r answer) h = no_prepare t client store (ask.Get key) how r answer refl
+quiet_no t (event.Call client store (ask.Scan span) how r answer) h = no_prepare t client store (ask.Scan span) how r answer refl
+quiet_no t (event.Call client store (ask.PutIf rec c) how r answer) h = clash (sym h)
+quiet_no t (event.Call client store (ask.DeleteIf key c) how r answer) h = clash (sym h)
+quiet_no t (event.Stop client) h = refl
+quiet_no t (event.Clock moment) h = refl
+quiet_no t (event.Idle client) h = refl
+
+note_no : (plan : Plan) (t : TxId) (item : ReadItem) (q : Request) (r : Reply) → IsUnchanged plan item q r → prepares t q ≡ false
+note_no plan t (KeyRead read) q r u = ap (prepares t) u.1
+note_no plan t (SpanRead scan) q r u = ap (prepares t) u.1
+
+back_no : (plan : ℕ → Plan) (t : TxId) (k : Key) (u : ℕ) (s : State) (v : Option ℕ) → prepares t (undo (condition.Version (id u) s) k (option_map (λ x. record_left_by plan x k) v)) ≡ false
+back_no plan t k u s None = refl
+back_no plan t k u s (Some x) = firm_no t (record_left_by plan x k) (condition.Version (id u) s) (firm_committed plan x k)
+
+prepared_by : (plan : ℕ → Plan) (places : List Place) (w : History) (past : List Labelled) (e : Event) (before now : List StoreContents) (r : Action) (t : ℕ) → Knows plan w past → Effect places e before now → IsEnabled plan past e r → t < 2 ^ 128 → is_prepared_by (id t) e ≡ tells_prepare t r
+prepared_by plan places w past e before now (Prepares u k word) t knows effect m fits =
+    let taken : w.protocol.taken u ≡ true = subst (λ (x : ProtocolState). x.taken u ≡ true) knows.talks m.within.taken in
+    let c = condition_of (version_of m.write.base) in
+    ap (is_prepared_by (id t)) m.call.call
+    ∙ told_prepare places (id t) m.client m.call.store (ask.PutIf (prepared_record m.write (id u) (plan u).now) c) m.call.how m.r m.call.answer before now (t == u) (ap (λ x. prepares (id t) (ask.PutIf x c)) (held_is plan u k m.write m.at) ∙ held_prepares plan t u k c fits (taken_fits w u knows.inv.begun knows.fits taken)) (subst (λ x. Effect places x before now) m.call.call effect)
+    ∙ ap (λ x. (t == u) && is_yes x) (sym m.word_is)
+prepared_by plan places w past e before now Other t knows effect m fits = quiet_no (id t) e m
+prepared_by plan places w past e before now (Begins u c) t knows effect m fits = ap (is_prepared_by (id t)) m.take
+prepared_by plan places w past e before now (Takes u) t knows effect m fits = ap (is_prepared_by (id t)) m.take
+prepared_by plan places w past e before now (Checks u i) t knows effect m fits = no_call (id t) e m.client m.q m.r m.call (note_no (plan u) (id t) m.item m.q m.r m.unchanged)
+prepared_by plan places w past e before now (Decides u word) t knows effect m fits = no_call (id t) e m.client _ m.r m.call (row_no (id t) u Committed (plan u).now condition.Absent)
+prepared_by plan places w past e before now (Aborts u moment word) t knows effect m fits = no_call (id t) e m.client _ m.r m.call (row_no (id t) u Aborted moment condition.Absent)
+prepared_by plan places w past e before now (Rolls u k Committed) t knows effect m fits = no_call (id t) e m.roll.client _ m.roll.r m.call (firm_no (id t) (forward_record m.roll.rolled m.moment) (condition.Version (id u) m.roll.s) (forward-committed m.roll.rolled m.moment))
+prepared_by plan places w past e before now (Rolls u k Aborted) t knows effect m fits = back m (prepared_there plan w past u k m.roll.rolled knows m.roll.outside m.roll.prepared)
+  where
+    back : (m : MayRollBack plan past e u k) → IsOwn plan w u k m.roll.rolled → is_prepared_by (id t) e ≡ false
+    back m own = no_call (id t) e m.roll.client _ m.roll.r m.call (ap (λ o. prepares (id t) (undo (condition.Version (id u) m.roll.s) k o)) (ap before_record own.same ∙ held_before plan u k (knows.planned u own.taken) own.writes) ∙ back_no plan (id t) k u m.roll.s (base_of (written (plan u) k)))
+prepared_by plan places w past e before now (Removes k u) t knows effect m fits = no_call (id t) e m.client _ m.r m.call refl
+prepared_by plan places w past e before now (Ends u) t knows effect m fits = absurd m
+prepared_by plan places w past e before now (Stops c) t knows effect m fits = ap (is_prepared_by (id t)) m
+
+---- counting
+
+-- the events in order
+abbrev in_order : List Labelled → List Event
+in_order [] = []
+in_order (p ∷ past) = in_order past ++ p.event ∷ []
+
+enumerate_snoc : (n : ℕ) (es : List Event) (e : Event) → enumerate_from n (es ++ e ∷ []) ≡ enumerate_from n es ++ (n + length es, e) ∷ []
+enumerate_snoc n [] e = ap (λ m. (m, e) ∷ []) (plus n)
+  where
+    plus : (n : ℕ) → n ≡ n + 0
+    plus n = omega arith
+enumerate_snoc n (x ∷ es) e = ap (λ xs. (n, x) ∷ xs) (enumerate_snoc (n + 1) es e ∙ ap (λ m. enumerate_from (n + 1) es ++ (m, e) ∷ []) (later n (length es)))
+  where
+    later : (n l : ℕ) → (n + 1) + l ≡ n + suc l
+    later n l = omega arith
+
+last_snoc : (es : List Event) (e : Event) (t : TxId) → last_prepare (es ++ e ∷ []) t ≡ (if is_prepared_by t e then Some (1 + length es) else last_prepare es t)
+last_snoc es e t = ap (fold (λ (found : Option ℕ) (x : ℕ × Event). if is_prepared_by t x.1 then Some x.0 else found) None) (enumerate_snoc 1 es e) ∙ fold-append (λ (found : Option ℕ) (x : ℕ × Event). if is_prepared_by t x.1 then Some x.0 else found) None (enumerate_from 1 es) ((1 + length es, e) ∷ [])
+
+-- what is counted at one moment
+record Counted (h : ProtocolState) (es : List Event) (t : ℕ) : Type 0 where
+  now : h.now ≡ length es
+  none : h.taken t ≡ false → last_prepare es (id t) ≡ None
+  point : h.taken t ≡ true → h.point t ≡ unwrap_or (last_prepare es (id t)) (h.taken_at t)
+
+abbrev Asks : ProtocolState → Action → Type 0
+Asks h (Takes u) = h.taken u ≡ false
+Asks h (Prepares u k word) = h.taken u ≡ true
+Asks h (Ends u) = ⊥
+Asks h _ = Unit {0}
+
+count : (h : ProtocolState) (r : Action) (t : ℕ) (last next : Option ℕ) → Asks h r → next ≡ (if tells_prepare t r then Some (1 + h.now) else last) → (h.taken t ≡ false → last ≡ None) → (h.taken t ≡ true → h.point t ≡ unwrap_or last (h.taken_at t))
+    → ((state_after_event h r).now ≡ h.now + 1) × ((state_after_event h r).taken t ≡ false → next ≡ None) × ((state_after_event h r).taken t ≡ true → (state_after_event h r).point t ≡ unwrap_or next ((state_after_event h r).taken_at t))
+count h (Takes u) t last next a e none point = grind (arith, tests)
+count h (Prepares u k word) t last next a e none point = grind (arith, tests)
+count h (Ends u) t last next a e none point = absurd a
+count h Other t last next a e none point = grind (arith, tests)
+count h (Begins u c) t last next a e none point = grind (arith, tests)
+count h (Checks u i) t last next a e none point = grind (arith, tests)
+count h (Decides u word) t last next a e none point = grind (arith, tests)
+count h (Aborts u m word) t last next a e none point = grind (arith, tests)
+count h (Rolls u k d) t last next a e none point = grind (arith, tests)
+count h (Removes k u) t last next a e none point = grind (arith, tests)
+count h (Stops c) t last next a e none point = grind (arith, tests)
+
+asks : (plan : ℕ → Plan) (past : List Labelled) (e : Event) (r : Action) → IsEnabled plan past e r → Asks (protocol_state past) r
+asks plan past e (Takes u) m = m.fresh
+asks plan past e (Prepares u k word) m = m.within.taken
+asks plan past e (Ends u) m = m
+asks plan past e Other m = tt
+asks plan past e (Begins u c) m = tt
+asks plan past e (Checks u i) m = tt
+asks plan past e (Decides u word) m = tt
+asks plan past e (Aborts u moment word) m = tt
+asks plan past e (Rolls u k d) m = tt
+asks plan past e (Removes k u) m = tt
+asks plan past e (Stops c) m = tt
+
+length_snoc : (es : List Event) (e : Event) → length (es ++ e ∷ []) ≡ length es + 1
+length_snoc [] e = refl
+length_snoc (x ∷ es) e = more (length (es ++ e ∷ [])) (length es) (length_snoc es e)
+  where
+    more : (a b : ℕ) → a ≡ b + 1 → suc a ≡ suc b + 1
+    more a b e = omega arith
+
+count_more : (plan : ℕ → Plan) (places : List Place) (opening : List StoreContents) (p : Labelled) (past : List Labelled) (s : List StoreContents) (ss : List (List StoreContents)) (t : ℕ) → t < 2 ^ 128 → IsRunOf plan places opening (p ∷ past) (s ∷ ss) → Counted (protocol_state past) (in_order past) t → Counted (protocol_state (p ∷ past)) (in_order past ++ p.event ∷ []) t
+count_more plan places opening p past s ss t fits r c = over p.ends
+  where
+    before : Whole plan places (history plan places opening past ss) past (closing opening ss)
+    before = whole plan places opening past ss r.empty r.lawful.0 r.traced.0
+
+    next : last_prepare (in_order past ++ p.event ∷ []) (id t) ≡ (if tells_prepare t p.action then Some (1 + (protocol_state past).now) else last_prepare (in_order past) (id t))
+    next = last_snoc (in_order past) p.event (id t)
+        ∙ ap (λ b. if b then Some (1 + length (in_order past)) else last_prepare (in_order past) (id t)) (prepared_by plan places (history plan places opening past ss) past p.event (closing opening ss) s p.action t before.knows r.traced.1 r.lawful.1 fits)
+        ∙ ap (λ n. if tells_prepare t p.action then Some (1 + n) else last_prepare (in_order past) (id t)) (sym c.now)
+
+    x : ((state_after_event (protocol_state past) p.action).now ≡ (protocol_state past).now + 1) × ((state_after_event (protocol_state past) p.action).taken t ≡ false → last_prepare (in_order past ++ p.event ∷ []) (id t) ≡ None) × ((state_after_event (protocol_state past) p.action).taken t ≡ true → (state_after_event (protocol_state past) p.action).point t ≡ unwrap_or (last_prepare (in_order past ++ p.event ∷ []) (id t)) ((state_after_event (protocol_state past) p.action).taken_at t))
+    x = count (protocol_state past) p.action t (last_prepare (in_order past) (id t)) (last_prepare (in_order past ++ p.event ∷ []) (id t)) (asks plan past p.event p.action r.lawful.1) next c.none c.point
+
+    numbered_now : (state_after_event (protocol_state past) p.action).now ≡ length (in_order past ++ p.event ∷ [])
+    numbered_now = x.0 ∙ ap (λ n. n + 1) c.now ∙ sym (length_snoc (in_order past) p.event)
+
+    over : (ends : Option ℕ) → Counted (ended (state_after_event (protocol_state past) p.action) ends) (in_order past ++ p.event ∷ []) t
+    over None = record { now = numbered_now; none = x.1; point = x.2 }
+    over (Some u) = record { now = numbered_now; none = x.1; point = x.2 }
+
+counted : (plan : ℕ → Plan) (places : List Place) (opening : List StoreContents) (past : List Labelled) (ss : List (List StoreContents)) (t : ℕ) → t < 2 ^ 128 → IsRunOf plan places opening past ss → Counted (protocol_state past) (in_order past) t
+counted plan places opening [] ss t fits r = record { now = refl; none = λ e. refl; point = λ e. absurd (cc) }
+counted plan places opening (p ∷ past) [] t fits r = absurd r.traced
+counted plan places opening (p ∷ past) (s ∷ ss) t fits r = count_more plan places opening p past s ss t fits r (counted plan places opening past ss t fits (record { empty = r.empty; lawful = r.lawful.0; traced = r.traced.0 }))
+
+---- in order
+
+order_onto : (acc labelled : List Labelled) → in_order (fold (λ newer x. x ∷ newer) acc labelled) ≡ in_order acc ++ events_of labelled
+order_onto acc [] = sym (nil (in_order acc))
+  where
+    nil : (es : List Event) → es ++ [] ≡ es
+    nil [] = refl
+    nil (e ∷ es) = ap (λ x. e ∷ x) (nil es)
+order_onto acc (p ∷ labelled) = order_onto (p ∷ acc) labelled ∙ assoc (in_order acc) p.event (events_of labelled)
+  where
+    assoc : (xs : List Event) (e : Event) (ys : List Event) → (xs ++ e ∷ []) ++ ys ≡ xs ++ e ∷ ys
+    assoc [] e ys = refl
+    assoc (x ∷ xs) e ys = ap (λ z. x ∷ z) (assoc xs e ys)
+
+pub point_is_last : (plan : ℕ → Plan) (places : List Place) (opening : List StoreContents) (labelled : List Labelled) (ss : List (List StoreContents)) (t : ℕ) → IsRunOf plan places opening (newest_first labelled) ss → t < 2 ^ 128 → (protocol_state (newest_first labelled)).taken t ≡ true → (protocol_state (newest_first labelled)).point t ≡ unwrap_or (last_prepare (events_of labelled) (id t)) ((protocol_state (newest_first labelled)).taken_at t)
+point_is_last plan places opening labelled ss t r fits taken =
+    (counted plan places opening (newest_first labelled) ss t fits r).point taken
+    ∙ ap (λ es. unwrap_or (last_prepare es (id t)) ((protocol_state (newest_first labelled)).taken_at t)) (order_onto [] labelled)

@@ -1,0 +1,7 @@
+use Rattle.law_protocol.proofs.reads.prepare_saw.Goals as goal
+use Rattle.law_protocol.specs.Runs.{history_of}
+use Rattle.law_protocol.proofs.Times.{whole_of}
+use Rattle.law_protocol.proofs.Derived.{prepare_saw}
+
+pub returns : goal.returns
+returns c = λ r. prepare_saw r.plan (history_of r) (whole_of r.plan r.places r.opening r.past r.moments r.run).all

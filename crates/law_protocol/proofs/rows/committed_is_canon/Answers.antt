@@ -1,0 +1,7 @@
+use Rattle.law_protocol.proofs.rows.committed_is_canon.Goals as goal
+use Rattle.law_protocol.specs.Runs.{history_of, contents_of_run}
+use Rattle.law_protocol.proofs.Times.{whole_of}
+use Rattle.law_protocol.proofs.Derived.{committed_is_canon}
+
+pub returns : goal.returns
+returns c = λ r. committed_is_canon r.plan r.places (history_of r) r.past (contents_of_run r) (whole_of r.plan r.places r.opening r.past r.moments r.run)

@@ -1,0 +1,5 @@
+use Rattle.law_protocol.proofs.runs.protocol_state_is_decidable.Goals as goal
+use Rattle.law_protocol.proofs.Times.{whole_of}
+
+pub returns : goal.returns
+returns c = λ r. (whole_of r.plan r.places r.opening r.past r.moments r.run).knows.talks

@@ -1,0 +1,12 @@
+pub mod Plan
+pub mod History
+pub mod Lawful
+pub mod Trace
+pub mod Records
+pub mod Explained
+pub mod Worked
+pub mod Forged
+pub mod Serial
+pub mod Faithful
+pub mod Runs
+pub mod Spread

@@ -1,0 +1,54 @@
+-- A trace beside the events, newest first, and what was done.
+use Rattle.std.specs.Prelude.{◌≡◌, ℕ, Bool, false, not, ◌&&◌, List, [], ◌∷◌, Option, Some, None}
+use Rattle.std.specs.Option.{option_map_or}
+use Rattle.sdb_types.specs.declared.key.Key.{Key}
+use Rattle.sdb_types.specs.declared.record.Condition.{Condition}
+use Rattle.sdb_types.specs.declared.record.Request.{Request}
+use Rattle.sdb_types.specs.declared.record.Request.TheVariants as ask
+use Rattle.sdb_types.specs.Contents.{holds}
+use Rattle.sdb_model.specs.declared.event.Event.{Event}
+use Rattle.sdb_types.specs.declared.place.Place.{Place}
+use Rattle.sdb_model.specs.Events.{StoreContents, Effect, contact_of, standing}
+use Rattle.law_protocol.specs.Plan.{Plan}
+use Rattle.law_protocol.specs.History.{Ends, History, start, happens, state_after}
+use Rattle.law_protocol.specs.Lawful.{Labelled}
+
+-- what the stores held last
+abbrev pub closing : List StoreContents → List (List StoreContents) → List StoreContents
+closing opening [] = opening
+closing opening (s ∷ ss) = s
+
+-- What the stores hold after each event is made by the event's effect from what they held before.
+abbrev pub IsTraced : List Place → List StoreContents → List Labelled → List (List StoreContents) → Type 0
+IsTraced places opening [] [] = Unit {0}
+IsTraced places opening [] (s ∷ ss) = ⊥
+IsTraced places opening (p ∷ past) [] = ⊥
+IsTraced places opening (p ∷ past) (s ∷ ss) = IsTraced places opening past ss × Effect places p.event (closing opening ss) s
+
+-- nothing is at any key
+abbrev pub StartsEmpty : List Place → List StoreContents → Type 0
+StartsEmpty places opening = (k : Key) → standing places opening k ≡ None
+
+-- A write took effect where its condition held before it and fails after it: what the protocol puts or removes never meets
+-- the condition of its own put.
+abbrev pub takes_effect_at : List Place → Key → Condition → List StoreContents → List StoreContents → Bool
+takes_effect_at places k c before now = holds c (standing places before k) && not (holds c (standing places now k))
+
+abbrev pub takes_effect : List Place → Request → List StoreContents → List StoreContents → Bool
+takes_effect places (ask.Get key) before now = false
+takes_effect places (ask.Scan span) before now = false
+takes_effect places (ask.PutIf r c) before now = takes_effect_at places r.key c before now
+takes_effect places (ask.DeleteIf key c) before now = takes_effect_at places key c before now
+
+abbrev pub has_effect : List Place → Event → List StoreContents → List StoreContents → Bool
+has_effect places e before now = option_map_or (λ c. takes_effect places c.request before now) (contact_of e) false
+
+abbrev pub after_end : (ℕ → Plan) → History → Option ℕ → History
+after_end plan w None = w
+after_end plan w (Some t) = record w { protocol = state_after w.protocol (Ends t) }
+
+-- what the events did, over a trace
+abbrev pub history : (ℕ → Plan) → List Place → List StoreContents → List Labelled → List (List StoreContents) → History
+history plan places opening [] ss = start
+history plan places opening (p ∷ past) [] = start
+history plan places opening (p ∷ past) (s ∷ ss) = after_end plan (happens plan (history plan places opening past ss) p.action (has_effect places p.event (closing opening ss) s)) p.ends

@@ -1,0 +1,94 @@
+-- The causes of answers are kept by each step of a world.
+use Rattle.std.proofs.Common.{◌≡◌, ℕ, suc, ℤ, ◌<◌, ◌^◌, Bool, true, false, List, [], ◌∷◌, ◌++◌, Option, Some, None, refl, sym, ap, subst}
+use Rattle.std.specs.Prelude.{IsSomeAnd, is_some, pos, slice_get, slice_set}
+use Rattle.sdb_types.specs.declared.record.Reply.{Reply}
+use Rattle.sdb_types.specs.declared.record.Request.{Request}
+use Rattle.sdb_types.specs.Contents.{CanAnswer}
+use Rattle.sdb_record.specs.Meta.{is_moment}
+use Rattle.sdb_model.specs.declared.answer.Answer.{Answer}
+use Rattle.sdb_model.specs.declared.event.Event.{Event}
+use Rattle.sdb_model.specs.declared.event.Event.TheVariants as event
+use Rattle.sdb_model.specs.declared.event.How.{How}
+use Rattle.sdb_model.specs.declared.script.Script.{Script}
+use Rattle.sdb_model.specs.Rows.{Name}
+use Rattle.sdb_schema.specs.declared.table.Table.{Table}
+use Rattle.sdb_client.specs.Client.{ClientAt as Client, ReplyPost, next_id, TextStep}
+use Rattle.sdb_client.specs.declared.gate.Gate.{Gate}
+use Rattle.law_protocol.specs.History.{at}
+use Rattle.law_clients.specs.About.{IsOfTables}
+use Rattle.law_clients.specs.Fitting.{tables_are_well_typed}
+use Rattle.law_clients.specs.States.{ClientState, IsReady, IsWaiting}
+use Rattle.law_answers.specs.Invariant.{AnswersHaveCauses, CauseInvariant, IsGate, with_stopped}
+use Rattle.law_answers.proofs.Whole.{clock_all, explained, idles_all, replies_all, starts_all, stops_all, takes_all}
+use Rattle.sdb_execution.specs.declared.slot.ClientSlot.{ClientSlot}
+use Rattle.sdb_execution.specs.Execution.{AreFresh, IsGateAt, IsPlayable, client_after, client_stopped}
+use Rattle.law_runs.specs.World.{WorldAt, at_moment, state_in, states_of, with_event, with_client}
+use Rattle.law_runs.specs.Linked.{HaveCauses, IsLinked, on_one}
+use Rattle.law_runs.proofs.Linked.{fresh_hand, on_hand}
+use Rattle.law_runs.proofs.Seats.{hands_moved, suc_is}
+use Rattle.law_runs.proofs.Gates.{gated_at}
+use Rattle.sdb_model.specs.Calls.{is_stored_reply}
+
+-- what is so of clients that are in the same place
+same_kept : (catalog : List Table) (events : List Event) (moment : ℤ) (f g : ℕ → ClientState) → ((c : ℕ) → f c ≡ g c) → CauseInvariant catalog events moment f → CauseInvariant catalog events moment g
+same_kept catalog events moment f g same h = subst (λ (x : ℕ → ClientState). CauseInvariant catalog events moment x) (λ i c. same c i) h
+
+pub caused_new : (script : Script) (count : ℕ) (client_slots : List ClientSlot) (events : List Event) → AreFresh count client_slots → events ≡ [] → HaveCauses (record { script = script; client_slots = client_slots; events = events; clock = pos 0 })
+caused_new script count client_slots events h none = subst (λ (es : List Event). CauseInvariant script.catalog es (pos 0) (states_of client_slots)) (sym none) (starts_all script.catalog (states_of client_slots) (fresh_hand count client_slots h))
+
+pub caused_idles : (w : WorldAt) (c : ℕ) → HaveCauses w → HaveCauses (with_event w (event.Idle c))
+caused_idles w c h = idles_all w.script.catalog w.events w.clock (states_of w.client_slots) c h
+
+pub caused_ticks : (w : WorldAt) (moment : ℤ) → HaveCauses w → HaveCauses (with_event (at_moment w moment) (event.Clock moment))
+caused_ticks w moment h = clock_all w.script.catalog w.events w.clock moment (states_of w.client_slots) h
+
+-- one client elsewhere
+caused_by : (w : WorldAt) (i : ℕ) (s t : ClientSlot) (e : Event) → slice_get w.client_slots i ≡ Some s → CauseInvariant w.script.catalog (w.events ++ e ∷ []) w.clock (at (states_of w.client_slots) (suc i) (record { client = t.client; stopped = t.stopped })) → HaveCauses (with_event (with_client w i t) e)
+caused_by w i s t e here h = same_kept w.script.catalog (w.events ++ e ∷ []) w.clock (at (states_of w.client_slots) (suc i) (record { client = t.client; stopped = t.stopped })) (states_of (slice_set w.client_slots i t)) (λ c. sym (hands_moved w.client_slots i s t c here)) h
+
+pub caused_takes : (w : WorldAt) (i : ℕ) (s : ClientSlot) (gate : Gate) (text : List ℕ) (a : Option Answer) (d : Client) → IsPlayable w.script → slice_get w.client_slots i ≡ Some s → s.stopped ≡ false → IsReady (states_of w.client_slots) (suc i) → IsGate (states_of w.client_slots) (suc i) gate → is_moment w.clock ≡ true → d.begun < 2 ^ 64
+    → TextStep (record { catalog = w.script.catalog; now = w.clock; gate = gate; fresh = next_id s.client }) text s.client a d → IsLinked w → HaveCauses w → HaveCauses (with_event (with_client w i (client_after s 1 d)) (event.Take (suc i) text a))
+caused_takes w i s gate text a d playable here goes ready gated moment begun takes linked h =
+    caused_by w i s (client_after s 1 d) (event.Take (suc i) text a) here
+    (subst (λ (b : Bool). CauseInvariant w.script.catalog (w.events ++ event.Take (suc i) text a ∷ []) w.clock (at (states_of w.client_slots) (suc i) (record { client = d; stopped = b }))) (sym goes)
+    (takes_all (record { catalog = w.script.catalog; now = w.clock; gate = gate; fresh = next_id s.client }) w.events (states_of w.client_slots) (suc i) text a d h ready gated moment playable.catalog (on_one w.events) (tables_are_well_typed w.script.catalog) linked playable.apart (on_hand (λ (x : ClientState). next_id s.client ≡ next_id x.client) w.client_slots i s here refl) begun
+    (on_hand (λ (x : ClientState). TextStep (record { catalog = w.script.catalog; now = w.clock; gate = gate; fresh = next_id s.client }) text x.client a d) w.client_slots i s here takes)))
+
+pub caused_calls : (w : WorldAt) (i : ℕ) (s : ClientSlot) (store : Name) (how : How) (q : Request) (r : Reply) (a : Option Answer) (d : Client) → IsPlayable w.script → slice_get w.client_slots i ≡ Some s → s.stopped ≡ false → IsWaiting w.script.catalog (states_of w.client_slots) (suc i) q → IsOfTables w.script.catalog s.client → CanAnswer q r → is_stored_reply r ≡ true → ReplyPost s.client s.client.vacuum r w.clock a d → is_moment w.clock ≡ true
+    → IsLinked w → HaveCauses w → HaveCauses (with_event (with_client w i (client_after s 0 d)) (event.Call (suc i) store q how r a))
+caused_calls w i s store how q r a d playable here goes waiting about can stored told moment linked h =
+    caused_by w i s (client_after s 0 d) (event.Call (suc i) store q how r a) here
+    (subst (λ (b : Bool). CauseInvariant w.script.catalog (w.events ++ event.Call (suc i) store q how r a ∷ []) w.clock (at (states_of w.client_slots) (suc i) (record { client = d; stopped = b }))) (sym goes)
+    (replies_all w.script.catalog w.events (states_of w.client_slots) (record { client = suc i; store = store; request = q; how = how; reply = r; now = w.clock }) a d playable.catalog playable.apart (record { waiting = waiting; can = can; moment = moment }) stored
+    (on_hand (λ (x : ClientState). IsOfTables w.script.catalog x.client) w.client_slots i s here about) (on_one w.events) (tables_are_well_typed w.script.catalog) linked h (on_hand (λ (x : ClientState). ReplyPost x.client x.client.vacuum r w.clock a d) w.client_slots i s here told)))
+
+pub caused_stops : (w : WorldAt) (i : ℕ) (s : ClientSlot) → slice_get w.client_slots i ≡ Some s → HaveCauses w → HaveCauses (with_event (with_client w i (client_stopped s)) (event.Stop (suc i)))
+caused_stops w i s here h =
+    caused_by w i s (client_stopped s) (event.Stop (suc i)) here
+    (same_kept w.script.catalog (w.events ++ event.Stop (suc i) ∷ []) w.clock (with_stopped (states_of w.client_slots) (suc i)) (at (states_of w.client_slots) (suc i) (record { client = s.client; stopped = true }))
+    (λ c. ap (λ (x : Client). at (states_of w.client_slots) (suc i) (record { client = x; stopped = true }) c) (ap (λ (o : Option ClientSlot). (state_in o (suc i)).client) here))
+    (stops_all w.script.catalog w.events w.clock (states_of w.client_slots) (suc i) h))
+
+-- then the answers have their causes
+pub outcome_caused : (w : WorldAt) (events : List Event) → events ≡ w.events → HaveCauses w → AnswersHaveCauses w.script.catalog events
+outcome_caused w events same h = subst (λ (es : List Event). AnswersHaveCauses w.script.catalog es) (sym same) (explained w.script.catalog w.events w.clock (states_of w.client_slots) h)
+
+---- the gate
+
+-- the client that was read at a place, by its number
+open_hand : (o : Option ClientSlot) (c : ℕ) → IsSomeAnd o (λ s. (s.stopped ≡ false) × (is_some s.client.txn ≡ true)) → ((state_in o c).stopped ≡ false) × (is_some (state_in o c).client.txn ≡ true)
+open_hand None c h = absurd h
+open_hand (Some s) c h = h
+
+sweeping_hand : (o : Option ClientSlot) (c : ℕ) → IsSomeAnd o (λ s. (s.stopped ≡ false) × (is_some s.client.vacuum ≡ true)) → ((state_in o c).stopped ≡ false) × (is_some (state_in o c).client.vacuum ≡ true)
+sweeping_hand None c h = absurd h
+sweeping_hand (Some s) c h = h
+
+-- What is so of the others by their places is so of them by their numbers.
+pub gated_by : (gate : Gate) (client_slots : List ClientSlot) (i : ℕ) → IsGateAt gate client_slots i → IsGate (states_of client_slots) (suc i) gate
+gated_by gate client_slots i h = record {
+  sweeps = λ e. let x = h.swept e in let k = sweeping_hand (slice_get client_slots x.0) (suc x.0) x.2 in (suc x.0, (λ n. x.1 (suc_is x.0 i n)), k.0, k.1);
+  rests = λ e d n goes. ap is_some ((gated_at gate client_slots i h).sweeps e d n goes);
+  some = λ e. let x = h.opened e in let k = open_hand (slice_get client_slots x.0) (suc x.0) x.2 in (suc x.0, (λ n. x.1 (suc_is x.0 i n)), k.0, k.1);
+  none = λ e d n goes. ap is_some ((gated_at gate client_slots i h).opens e d n goes);
+}

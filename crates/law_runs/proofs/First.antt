@@ -1,0 +1,29 @@
+-- What is so before the first statement.
+use Rattle.std.proofs.Common.{◌≡◌, ℕ, List, [], length, sym, subst, ◌∙◌, refl}
+use Rattle.std.specs.Prelude.{pos}
+use Rattle.sdb_model.specs.declared.event.Event.{Event}
+use Rattle.sdb_model.specs.declared.script.Script.{Script}
+use Rattle.sdb_execution.specs.declared.slot.ClientSlot.{ClientSlot}
+use Rattle.sdb_execution.specs.Execution.{AreFresh, IsPlayable, initial_client}
+use Rattle.law_runs.specs.World.{IsClientState, IsWorld}
+
+seat_first : (script : Script) (i : ℕ) → IsClientState script [] i (initial_client i)
+seat_first script i = record {
+  number = refl;
+  fitted = refl;
+  about = record { txn = tt; vacuum = tt };
+  taken = refl;
+  stopped = refl;
+  busy = λ e. absurd (cc);
+  idle = λ e. record { free = refl; still = tt };
+}
+
+-- before the first statement
+pub world_first : (script : Script) (count : ℕ) (client_slots : List ClientSlot) (events : List Event) → IsPlayable script → count ≡ length script.clients → AreFresh count client_slots → events ≡ [] → IsWorld (record { script = script; client_slots = client_slots; events = events; clock = pos 0 })
+world_first script count client_slots events playable few h none = subst (λ (es : List Event). IsWorld (record { script = script; client_slots = client_slots; events = es; clock = pos 0 })) (sym none) (record {
+  playable = playable;
+  clients = h.size ∙ few;
+  each = λ i s here. subst (λ (t : ClientSlot). IsClientState script [] i t) (sym (h.each i s here)) (seat_first script i);
+  moment = refl;
+  about = tt;
+})

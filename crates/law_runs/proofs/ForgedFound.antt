@@ -1,0 +1,353 @@
+-- Statements of a transaction that are answered otherwise than on what they found are refused.
+use Rattle.std.proofs.Common.{◌≡◌, ◌+◌, ℕ, ℤ, zero, suc, pos, Bool, true, false, not, cond, List, [], ◌∷◌, ◌++◌, map, take, Option, Some, None, refl, sym, ap, subst, ◌∙◌, arith}
+use Rattle.std.specs.Prelude.{◌&&◌, if◌then◌else◌, filter, find, is_some, length, ◌||◌}
+use Rattle.std.specs.Cmp.{tied_itself}
+use Rattle.std.specs.FinMap.{empty, entries, entries-insert, get, get-insert, get-remove, insert, len-empty, len-entries, put, get-empty, same_map}
+use Rattle.std.specs.List.{flat_map, list_any}
+use Rattle.std.specs.Option.{option_and_then}
+use Rattle.std.specs.Ordering.{is_eq}
+use Rattle.sdb_types.specs.declared.key.Key.{Key}
+use Rattle.sdb_types.specs.declared.pair.Pair.{Pair}
+use Rattle.sdb_types.specs.declared.record.Record.{Record}
+use Rattle.sdb_types.specs.declared.record.Reply.{Reply}
+use Rattle.sdb_types.specs.declared.record.Reply.TheVariants as reply
+use Rattle.sdb_types.specs.declared.record.Request.{Request}
+use Rattle.sdb_types.specs.declared.record.Request.TheVariants as ask
+use Rattle.sdb_types.specs.declared.txid.TxId.{TxId}
+use Rattle.sdb_types.specs.declared.value.Value.{Value}
+use Rattle.sdb_types.specs.Order.{key_cmp, table_cmp, same_key}
+use Rattle.sdb_types.proofs.KeyOrder.{key_total, table_total, key_exact}
+use Rattle.sdb_types.proofs.Keys.{same_key_self}
+use Rattle.sdb_types.proofs.Basics.{clash, and_false}
+use Rattle.std.proofs.lemmas.List.Elements.{Contains-push}
+use Rattle.sdb_model.specs.Counted.{is_key_of}
+use Rattle.sdb_record.specs.declared.access.Image.{Image}
+use Rattle.sdb_record.specs.Coordinator.{is_coordinator_table}
+use Rattle.sdb_record.specs.Parts.{user_columns}
+use Rattle.sdb_record.specs.Rolls.{row_of_image}
+use Rattle.sdb_schema.specs.declared.table.Table.{Table}
+use Rattle.sdb_model.specs.declared.answer.Answer.{Answer}
+use Rattle.sdb_model.specs.declared.answer.Answer.TheVariants as answer
+use Rattle.sdb_model.specs.declared.event.Event.{Event}
+use Rattle.sdb_model.specs.declared.event.How.TheVariants.{Seen}
+use Rattle.sdb_model.specs.declared.statement.Statement.{Statement}
+use Rattle.sdb_model.specs.declared.statement.Test.{Test}
+use Rattle.sdb_model.specs.Access.{with_row}
+use Rattle.sdb_model.specs.Calls.{StoreCall, calls_of, put_by}
+use Rattle.sdb_model.specs.Exec.{Tables, answer_of, cut, exec, exec_in, left_by, nat_of, passes, passing, row_of_entry, projected, sorted, with_named}
+use Rattle.sdb_model.specs.Sql.{Reads, reads_commit}
+use Rattle.sdb_model.specs.ReadSet.{has_finished}
+use Rattle.sdb_model.specs.Transactions.{Executed, begins, changes_nothing, from_begin, is_effective, rest_of, statements_by, through_end, statements_of, ends}
+use Rattle.sdb_sqltext.proofs.Clauses.{one_statement}
+use Rattle.law_clients.proofs.Taken.{other_no_commit}
+use Rattle.law_answers.proofs.Given.{IsMiddle}
+use Rattle.law_answers.proofs.Shows.{effective_by}
+use Rattle.law_answers.proofs.Takings.{middle_ends}
+use Rattle.law_runs.specs.Forged.{FindsRow, InsertOn, SelectOn, IsCommittedRow, StatementOn, UpdateOn, answered_after, answered_at_once, counts_over, counts_twice, counts_unread, duplicates_none, insert_key, leaves_out, answers_two, answers_unread, reads_again, FindsUnresolved, answers_unrolled}
+use Rattle.sdb_model.specs.ReadSet.{meaning_of, rolls, has_finished}
+use Rattle.law_runs.specs.Found.{IsRunOnFound, RunsOnFound, View, exec_on, found_by, found_in, is_answered, nothing_found, run_on_found, with_found, ReadsAreNew, was_found, AllRunAs, takes_part}
+use Rattle.law_runs.proofs.Running.{is_running, running, running_more}
+
+---- the statements of the first transaction of client 1
+
+abbrev first : TxId
+first = record { 0 = 18446744073709551617 }
+
+pub since_first : (b : Executed) (ss : List Executed) → begins b ≡ true → rest_of (from_begin 1 (b ∷ ss)) ≡ ss
+since_first b ss e = ap (λ t. rest_of (if t then b ∷ ss else from_begin 1 ss)) e
+
+runs_of : (catalog : List Table) (events : List Event) (b : Executed) (ss : List Executed) → RunsOnFound catalog events → begins b ≡ true → statements_by 1 events ≡ b ∷ ss → IsRunOnFound catalog events 1 (running ss)
+runs_of catalog events b ss law e same = subst (λ xs. IsRunOnFound catalog events 1 (running xs)) (ap (λ xs. rest_of (from_begin 1 xs)) same ∙ since_first b ss e) (law first)
+
+-- a statement that reads rows, which is answered so
+pub record IsPlain (s : Executed) (st : Statement) (b : Answer) : Type 0 where
+  pub reads : Reads s.text st
+  pub answered : s.answer ≡ Some b
+  pub middle : IsMiddle b
+  pub changes : changes_nothing b ≡ false
+  pub no_commit : reads_commit s.text ≡ false
+
+runs_plain : (s : Executed) (st : Statement) (b : Answer) → IsPlain s st b → is_running s ≡ true
+runs_plain s st b h =
+    ap (λ x. not x && takes_part s && is_answered s) (middle_ends s b h.answered h.middle h.no_commit)
+    ∙ ap (λ x. (x || has_finished s) && is_answered s) (effective_by s b false h.answered h.changes)
+    ∙ ap is_some h.answered
+
+pub one_running : (s : Executed) (st : Statement) (b : Answer) → IsPlain s st b → running (s ∷ []) ≡ s ∷ []
+one_running s st b h = running_more [] s tt ∙ ap (λ t. if t then s ∷ [] else []) (runs_plain s st b h)
+
+two_running : (s z : Executed) (st : Statement) (a b : Answer) → IsPlain s st a → IsPlain z st b → running (s ∷ z ∷ []) ≡ s ∷ z ∷ []
+two_running s z st a b h k = running_more (s ∷ []) z (middle_ends s a h.answered h.middle h.no_commit, tt) ∙ ap (λ xs. xs ++ (if is_running z then z ∷ [] else [])) (one_running s st a h) ∙ ap (λ t. s ∷ (if t then z ∷ [] else [])) (runs_plain z st b k)
+
+---- what it is answered
+
+-- one statement, on what it found
+one_answer : (catalog : List Table) (events : List Event) (s : Executed) (st : Statement) (b : Answer) → is_effective s ≡ true → Reads s.text st → s.answer ≡ Some b → IsRunOnFound catalog events 1 (s ∷ []) → (exec catalog st (with_found nothing_found (found_by (calls_of events 1 s))).rows).0 ≡ b
+one_answer catalog events s st b effective reads answered r = by r.statements r.run (sym (ap (λ t. map (λ (x : Executed). x.answer) (if t then s ∷ [] else [])) effective) ∙ r.answers)
+  where
+    by : (sts : List (Option Statement)) → AllRunAs (s ∷ []) sts → s.answer ∷ [] ≡ map Some (run_on_found catalog (found_by (calls_of events 1 s) ∷ []) sts nothing_found).0 → (exec catalog st (with_found nothing_found (found_by (calls_of events 1 s))).rows).0 ≡ b
+    by [] h e = absurd h
+    by (y ∷ z ∷ zs) h e = absurd h.1
+    by (None ∷ []) h e = clash (sym effective ∙ h.0)
+    by (Some y ∷ []) h e =
+        let same : y ≡ st = one_statement s.text y st h.0.1 reads in
+        let is : Some b ∷ [] ≡ Some (exec catalog y (with_found nothing_found (found_by (calls_of events 1 s))).rows).0 ∷ [] = ap (λ (o : Option Answer). o ∷ []) (sym answered) ∙ e in
+        let here : b ≡ (exec catalog y (with_found nothing_found (found_by (calls_of events 1 s))).rows).0 = cc in
+        sym (here ∙ ap (λ x. (exec catalog x (with_found nothing_found (found_by (calls_of events 1 s))).rows).0) same)
+
+-- two that read as one statement, the second on what the first left
+two_answers : (catalog : List Table) (events : List Event) (s z : Executed) (st : Statement) (b : Answer) → is_effective s ≡ true → is_effective z ≡ true → Reads s.text st → Reads z.text st → z.answer ≡ Some b → IsRunOnFound catalog events 1 (s ∷ z ∷ [])
+    → (exec catalog st (with_found (exec_on catalog st (with_found nothing_found (found_by (calls_of events 1 s)))).1 (found_by (calls_of events 1 z))).rows).0 ≡ b
+two_answers catalog events s z st b effective after reads again answered r =
+    by r.statements r.run (sym (ap (λ t. map (λ (x : Executed). x.answer) (if t then s ∷ filter is_effective (z ∷ []) else filter is_effective (z ∷ []))) effective ∙ ap (λ t. s.answer ∷ map (λ (x : Executed). x.answer) (if t then z ∷ [] else [])) after) ∙ r.answers)
+  where
+    by : (sts : List (Option Statement)) → AllRunAs (s ∷ z ∷ []) sts → s.answer ∷ z.answer ∷ [] ≡ map Some (run_on_found catalog (found_by (calls_of events 1 s) ∷ found_by (calls_of events 1 z) ∷ []) sts nothing_found).0
+        → (exec catalog st (with_found (exec_on catalog st (with_found nothing_found (found_by (calls_of events 1 s)))).1 (found_by (calls_of events 1 z))).rows).0 ≡ b
+    by [] h e = absurd h
+    by (y ∷ []) h e = absurd h.1
+    by (y ∷ w ∷ x ∷ xs) h e = absurd h.1.1
+    by (None ∷ w ∷ []) h e = clash (sym effective ∙ h.0)
+    by (Some y ∷ None ∷ []) h e = clash (sym after ∙ h.1.0)
+    by (Some y ∷ Some w ∷ []) h e =
+        let one : y ≡ st = one_statement s.text y st h.0.1 reads in
+        let two : w ≡ st = one_statement z.text w st h.1.0.1 again in
+        let is : z.answer ≡ Some (exec catalog w (with_found (exec_on catalog y (with_found nothing_found (found_by (calls_of events 1 s)))).1 (found_by (calls_of events 1 z))).rows).0 = cc in
+        let here : b ≡ (exec catalog w (with_found (exec_on catalog y (with_found nothing_found (found_by (calls_of events 1 s)))).1 (found_by (calls_of events 1 z))).rows).0 = let k = sym answered ∙ is in cc in
+        sym (here ∙ ap (λ x. (exec catalog x (with_found (exec_on catalog y (with_found nothing_found (found_by (calls_of events 1 s)))).1 (found_by (calls_of events 1 z))).rows).0) two ∙ ap (λ x. (exec catalog st (with_found (exec_on catalog x (with_found nothing_found (found_by (calls_of events 1 s)))).1 (found_by (calls_of events 1 z))).rows).0) one)
+
+---- tables
+
+none_of : (es : List (Key × List Pair)) → length es ≡ 0 → es ≡ []
+none_of [] e = refl
+none_of (x ∷ xs) e = absurd (omega (arith, e))
+
+no_entries : entries (empty {X = List Pair} {R = key_cmp}) ≡ []
+no_entries = none_of (entries empty) (sym (len-entries (empty {X = List Pair} {R = key_cmp})) ∙ len-empty key_cmp (List Pair))
+
+none_passing : (t : Table) (tests : List Test) → passing t tests empty ≡ []
+none_passing t tests = ap (λ es. filter (passes t tests) (map row_of_entry es)) no_entries
+
+one_entry : (k : Key) (c : List Pair) → entries (insert (empty {X = List Pair} {R = key_cmp}) k c) ≡ (k, c) ∷ []
+one_entry k c = entries-insert key_total empty k c ∙ ap (λ es. put key_cmp k c es) no_entries
+
+one_passing : (t : Table) (k : Key) (c : List Pair) → k.table ≡ t.name → passing t [] (insert empty k c) ≡ record { key = k; columns = c } ∷ []
+one_passing t k c same =
+    ap (λ es. filter (passes t []) (map row_of_entry es)) (one_entry k c)
+    ∙ ap (λ b. if b && true then record { key = k; columns = c } ∷ [] else []) (ap (λ n. is_eq (table_cmp n t.name)) same ∙ ap is_eq (tied_itself table_total t.name))
+
+got_inserted : (d : Tables) (k : Key) (c : List Pair) → is_some (get (insert d k c) k) ≡ true
+got_inserted d k c = ap is_some (get-insert key_total d k c k ∙ ap (λ b. cond b (Some c) (get d k)) (ap is_eq (tied_itself key_total k)))
+
+pub got_removed : (d : Tables) (k : Key) → get (with_row d k None) k ≡ None
+got_removed d k = get-remove key_total d k k ∙ ap (λ b. cond b None (get d k)) (ap is_eq (tied_itself key_total k))
+
+---- a get of a key of the table
+
+module _ (f : StatementOn) where
+  -- what its statement is answered on tables
+  answers_on : (d : Tables) → exec f.catalog f.statement d ≡ (answer_of f.table f.statement d, left_by f.table f.statement d)
+  answers_on d = ap (λ (o : Option Table). exec_in o f.statement d) f.named
+
+  abbrev pub begin_said : Executed
+  begin_said = record { taken = 1; text = f.begin; answer = Some answer.Done; reached = 1 }
+
+  pub begun : begins begin_said ≡ true
+  begun = ap (λ b. b && true) f.begins
+
+  abbrev at_once : Answer → Executed
+  at_once b = record { taken = 2; text = f.text; answer = Some b; reached = 2 }
+
+  abbrev pub after_call : Answer → Executed
+  after_call b = record { taken = 2; text = f.text; answer = Some b; reached = 3 }
+
+  module _ (no_commit : reads_commit f.text ≡ false) (b : Answer) (middle : IsMiddle b) (changes : changes_nothing b ≡ false) where
+    -- without a call
+    once_answer : RunsOnFound f.catalog (answered_at_once f b) → answer_of f.table f.statement empty ≡ b
+    once_answer law =
+        let h : IsPlain (at_once b) f.statement b = record { reads = f.reads; answered = refl; middle = middle; changes = changes; no_commit = no_commit } in
+        sym (ap (λ (x : Answer × Tables). x.0) (answers_on empty))
+        ∙ one_answer f.catalog (answered_at_once f b) (at_once b) f.statement b (effective_by (at_once b) b false refl changes) f.reads refl (subst (IsRunOnFound f.catalog (answered_at_once f b) 1) (one_running (at_once b) f.statement b h) (runs_of f.catalog (answered_at_once f b) begin_said (at_once b ∷ []) law begun refl))
+
+    -- after one
+    after_answer : (q : Request) (r : Reply) → RunsOnFound f.catalog (answered_after f q r b) → answer_of f.table f.statement (with_found nothing_found (found_by (record { at = 3; store = []; request = q; how = Seen; reply = r } ∷ []))).rows ≡ b
+    after_answer q r law =
+        let h : IsPlain (after_call b) f.statement b = record { reads = f.reads; answered = refl; middle = middle; changes = changes; no_commit = no_commit } in
+        sym (ap (λ (x : Answer × Tables). x.0) (answers_on (with_found nothing_found (found_by (record { at = 3; store = []; request = q; how = Seen; reply = r } ∷ []))).rows))
+        ∙ one_answer f.catalog (answered_after f q r b) (after_call b) f.statement b (effective_by (after_call b) b false refl changes) f.reads refl (subst (IsRunOnFound f.catalog (answered_after f q r b) 1) (one_running (after_call b) f.statement b h) (runs_of f.catalog (answered_after f q r b) begin_said (after_call b ∷ []) law begun refl))
+
+  -- what a get of a key of the table finds
+  got : (key : Key) (found : Option Record) → key.table ≡ f.table.name → found_by (record { at = 3; store = []; request = ask.Get key; how = Seen; reply = reply.Found found } ∷ []) ≡ (key, option_and_then (meaning_of (record { at = 3; store = []; request = ask.Get key; how = Seen; reply = reply.Found found } ∷ [])) found) ∷ []
+  got key found same = ap (λ b. flat_map (λ (m : StoreCall). found_in (record { at = 3; store = []; request = ask.Get key; how = Seen; reply = reply.Found found } ∷ []) m.request m.reply) (if (if b then false else true) then record { at = 3; store = []; request = ask.Get key; how = Seen; reply = reply.Found found } ∷ [] else [])) (ap is_coordinator_table same ∙ f.apart)
+
+  -- of a row
+  got_row : (key : Key) (r : Record) → key.table ≡ f.table.name → IsCommittedRow r → (with_found nothing_found (found_by (record { at = 3; store = []; request = ask.Get key; how = Seen; reply = reply.Found (Some r) } ∷ []))).rows ≡ insert empty key (user_columns r.columns)
+  got_row key r same shows =
+      ap (λ fs. (with_found nothing_found fs).rows) (got key (Some r) same)
+      ∙ ap (λ o. with_row empty key (option_and_then row_of_image o)) (ap (λ b. if b then Some r else option_and_then (λ m. put_by m.request) (find (rolls r) (record { at = 3; store = []; request = ask.Get key; how = Seen; reply = reply.Found (Some r) } ∷ []))) shows.0)
+      ∙ ap (λ b. with_row empty key (if b then None else Some (user_columns r.columns))) shows.1
+
+  -- of none
+  pub got_none : (key : Key) → key.table ≡ f.table.name → (with_found nothing_found (found_by (record { at = 3; store = []; request = ask.Get key; how = Seen; reply = reply.Found None } ∷ []))).rows ≡ with_row empty key None
+  got_none key same = ap (λ fs. (with_found nothing_found fs).rows) (got key None same)
+
+---- the forgeries
+
+no_rows_cut : (o : Option ℤ) → cut o [] ≡ []
+no_rows_cut None = refl
+no_rows_cut (Some n) = by (nat_of n)
+  where
+    by : (m : ℕ) → take {A = Image} m [] ≡ []
+    by zero = refl
+    by (suc m) = refl
+
+pub select_commits : (f : SelectOn) → reads_commit f.on.text ≡ false
+select_commits f = other_no_commit f.on.text f.on.statement f.on.reads (λ e. let k = sym f.is ∙ e in cc)
+
+pub insert_commits : (f : InsertOn) → reads_commit f.on.text ≡ false
+insert_commits f = other_no_commit f.on.text f.on.statement f.on.reads (λ e. let k = sym f.is ∙ e in cc)
+
+update_commits : (f : UpdateOn) → reads_commit f.on.text ≡ false
+update_commits f = other_no_commit f.on.text f.on.statement f.on.reads (λ e. let k = sym f.is ∙ e in cc)
+
+pub invented_refused : (f : SelectOn) (row : List Value) (rows : List (List Value)) → RunsOnFound f.on.catalog (answers_unread f row rows) → ⊥
+invented_refused f row rows law =
+    let e = once_answer f.on (select_commits f) (answer.Rows (row ∷ rows)) (record { undone = refl; agrees = refl }) refl law in
+    let k : answer.Rows [] ≡ answer.Rows (row ∷ rows) =
+    sym (ap (λ st. answer_of f.on.table st empty) f.is ∙ ap (λ rs. answer.Rows (map (projected f.on.table f.select.columns) (cut f.select.limit (sorted f.on.table rs)))) (none_passing f.on.table f.select.tests) ∙ ap (λ rs. answer.Rows (map (projected f.on.table f.select.columns) rs)) (no_rows_cut f.select.limit)) ∙ e in
+    cc
+
+pub left_out_refused : (f : SelectOn) (key : Key) (r : Record) → FindsRow f key r → RunsOnFound f.on.catalog (leaves_out f key r) → ⊥
+left_out_refused f key r finds law =
+    let e = after_answer f.on (select_commits f) (answer.Rows []) (record { undone = refl; agrees = refl }) refl (ask.Get key) (reply.Found (Some r)) law in
+    let d : Tables = insert empty key (user_columns r.columns) in
+    let k : answer.Rows (projected f.on.table f.select.columns (record { key = key; columns = user_columns r.columns }) ∷ []) ≡ answer.Rows [] =
+    sym (ap (answer_of f.on.table f.on.statement) (got_row f.on key r finds.inside finds.shows) ∙ ap (λ st. answer_of f.on.table st d) f.is ∙ ap (λ ts. answer.Rows (map (projected f.on.table f.select.columns) (cut f.select.limit (sorted f.on.table (passing f.on.table ts d))))) finds.tests ∙ ap (λ o. answer.Rows (map (projected f.on.table f.select.columns) (cut o (sorted f.on.table (passing f.on.table [] d))))) finds.limit
+    ∙ ap (λ rs. answer.Rows (map (projected f.on.table f.select.columns) (sorted f.on.table rs))) (one_passing f.on.table key (user_columns r.columns) finds.inside)) ∙ e in
+    cc
+
+-- nothing is left of what wasn't there
+none_removed : (k : Key) → with_row empty k None ≡ empty
+none_removed k = same_map key_total key_exact (with_row empty k None) empty (λ q. get-remove key_total empty k q ∙ ap (λ o. cond (is_eq (key_cmp q k)) None o) (get-empty key_cmp q) ∙ none (is_eq (key_cmp q k)) ∙ sym (get-empty key_cmp q))
+  where
+    none : (b : Bool) → cond {A = Option (List Pair)} b None None ≡ None
+    none true = refl
+    none false = refl
+
+pub unrolled_refused : (f : SelectOn) (key : Key) (r : Record) (row : List Value) → FindsUnresolved f key r → RunsOnFound f.on.catalog (answers_unrolled f key r row) → ⊥
+unrolled_refused f key r row finds law =
+    let e = after_answer f.on (select_commits f) (answer.Rows (row ∷ [])) (record { undone = refl; agrees = refl }) refl (ask.Get key) (reply.Found (Some r)) law in
+    let k : answer.Rows [] ≡ answer.Rows (row ∷ []) =
+    sym (ap (answer_of f.on.table f.on.statement) (rows ∙ none_removed key) ∙ ap (λ st. answer_of f.on.table st empty) f.is ∙ ap (λ rs. answer.Rows (map (projected f.on.table f.select.columns) (cut f.select.limit (sorted f.on.table rs)))) (none_passing f.on.table f.select.tests)
+    ∙ ap (λ rs. answer.Rows (map (projected f.on.table f.select.columns) rs)) (no_rows_cut f.select.limit)) ∙ e in
+    cc
+  where
+    get_call : StoreCall
+    get_call = record { at = 3; store = []; request = ask.Get key; how = Seen; reply = reply.Found (Some r) }
+
+    means : meaning_of (get_call ∷ []) r ≡ None
+    means =
+        ap (λ b. if b then Some r else option_and_then (λ m. put_by m.request) (find (rolls r) (get_call ∷ []))) finds.unresolved
+        ∙ ap (λ b. option_and_then (λ (m : StoreCall). put_by m.request) (if b then Some get_call else None)) (and_false (is_key_of r.key get_call))
+
+    rows : (with_found nothing_found (found_by (get_call ∷ []))).rows ≡ with_row empty key None
+    rows = ap (λ fs. (with_found nothing_found fs).rows) (got f.on key (Some r) finds.inside) ∙ ap (λ o. with_row empty key (option_and_then row_of_image o)) means
+
+pub unlimited_refused : (f : SelectOn) (q : Request) (r : Reply) (a b : List Value) → f.select.limit ≡ Some (pos 1) → RunsOnFound f.on.catalog (answers_two f q r a b) → ⊥
+unlimited_refused f q r a b limit law =
+    let e = after_answer f.on (select_commits f) (answer.Rows (a ∷ b ∷ [])) (record { undone = refl; agrees = refl }) refl q r law in
+    let d : Tables = (with_found nothing_found (found_by (record { at = 3; store = []; request = q; how = Seen; reply = r } ∷ []))).rows in
+    by (sorted f.on.table (passing f.on.table f.select.tests d))
+    (sym (ap (λ st. answer_of f.on.table st d) f.is ∙ ap (λ o. answer.Rows (map (projected f.on.table f.select.columns) (cut o (sorted f.on.table (passing f.on.table f.select.tests d))))) limit) ∙ e)
+  where
+    by : (rs : List Image) → answer.Rows (map (projected f.on.table f.select.columns) (take 1 rs)) ≡ answer.Rows (a ∷ b ∷ []) → ⊥
+    by [] k = cc
+    by (x ∷ xs) k = cc
+
+pub miscounted_refused : (f : UpdateOn) (n : ℕ) → RunsOnFound f.on.catalog (counts_unread f n) → ⊥
+miscounted_refused f n law =
+    let e = once_answer f.on (update_commits f) (answer.Count (n + 1)) (record { undone = refl; agrees = refl }) refl law in
+    let k : answer.Count 0 ≡ answer.Count (n + 1) = sym (ap (λ st. answer_of f.on.table st empty) f.is ∙ ap (λ rs. answer.Count (length rs)) (none_passing f.on.table f.update.tests)) ∙ e in
+    no_count k
+  where
+    no_count : answer.Count 0 ≡ answer.Count (n + 1) → ⊥
+    no_count k = let same : 0 ≡ n + 1 = cc in omega (arith, same)
+
+-- what an INSERT is answered
+insert_answer : (f : InsertOn) (d : Tables) (b : Bool) → is_some (get d (insert_key f)) ≡ b → answer_of f.on.table f.on.statement d ≡ (if b then answer.Duplicate (insert_key f) else answer.Count 1)
+insert_answer f d b e = ap (λ st. answer_of f.on.table st d) f.is ∙ ap (λ t. if t then answer.Duplicate (insert_key f) else answer.Count 1) e
+
+pub counted_over_refused : (f : InsertOn) (r : Record) → IsCommittedRow r → RunsOnFound f.on.catalog (counts_over f r) → ⊥
+counted_over_refused f r shows law =
+    let e = after_answer f.on (insert_commits f) (answer.Count 1) (record { undone = refl; agrees = refl }) refl (ask.Get (insert_key f)) (reply.Found (Some r)) law in
+    let k : answer.Duplicate (insert_key f) ≡ answer.Count 1 = sym (ap (answer_of f.on.table f.on.statement) (got_row f.on (insert_key f) r refl shows) ∙ insert_answer f (insert empty (insert_key f) (user_columns r.columns)) true (got_inserted empty (insert_key f) (user_columns r.columns))) ∙ e in
+    cc
+
+pub no_duplicate_refused : (f : InsertOn) → RunsOnFound f.on.catalog (duplicates_none f) → ⊥
+no_duplicate_refused f law =
+    let e = after_answer f.on (insert_commits f) (answer.Duplicate (insert_key f)) (record { undone = refl; agrees = refl }) refl (ask.Get (insert_key f)) (reply.Found None) law in
+    let k : answer.Count 1 ≡ answer.Duplicate (insert_key f) = sym (ap (answer_of f.on.table f.on.statement) (got_none f.on (insert_key f) refl) ∙ insert_answer f (with_row empty (insert_key f) None) false (ap is_some (got_removed empty (insert_key f)))) ∙ e in
+    cc
+
+pub forgotten_refused : (f : InsertOn) → RunsOnFound f.on.catalog (counts_twice f) → ⊥
+forgotten_refused f law = no_count (sym (ap (answer_of f.on.table f.on.statement) rows ∙ insert_answer f (insert (with_row empty (insert_key f) None) (insert_key f) (with_named f.on.table f.insert.columns f.insert.values [])) true (got_inserted (with_row empty (insert_key f) None) (insert_key f) (with_named f.on.table f.insert.columns f.insert.values []))) ∙ answered)
+  where
+    es : List Event
+    es = counts_twice f
+
+    s : Executed
+    s = record { taken = 2; text = f.on.text; answer = Some (answer.Count 1); reached = 3 }
+
+    z : Executed
+    z = record { taken = 4; text = f.on.text; answer = Some (answer.Count 1); reached = 4 }
+
+    plain_s : IsPlain s f.on.statement (answer.Count 1)
+    plain_s = record { reads = f.on.reads; answered = refl; middle = record { undone = refl; agrees = refl }; changes = refl; no_commit = insert_commits f }
+
+    plain_z : IsPlain z f.on.statement (answer.Count 1)
+    plain_z = record { reads = f.on.reads; answered = refl; middle = record { undone = refl; agrees = refl }; changes = refl; no_commit = insert_commits f }
+
+    w : View
+    w = with_found nothing_found (found_by (record { at = 3; store = []; request = ask.Get (insert_key f); how = Seen; reply = reply.Found None } ∷ []))
+
+    answered : answer_of f.on.table f.on.statement (exec f.on.catalog f.on.statement w.rows).1 ≡ answer.Count 1
+    answered =
+        sym (ap (λ (x : Answer × Tables). x.0) (answers_on f.on (exec f.on.catalog f.on.statement w.rows).1))
+        ∙ two_answers f.on.catalog es s z f.on.statement (answer.Count 1) refl refl f.on.reads f.on.reads refl
+        (subst (IsRunOnFound f.on.catalog es 1) (two_running s z f.on.statement (answer.Count 1) (answer.Count 1) plain_s plain_z) (runs_of f.on.catalog es (begin_said f.on) (s ∷ z ∷ []) law (begun f.on) refl))
+
+    rows : (exec f.on.catalog f.on.statement w.rows).1 ≡ insert (with_row empty (insert_key f) None) (insert_key f) (with_named f.on.table f.insert.columns f.insert.values [])
+    rows =
+        ap (λ d. (exec f.on.catalog f.on.statement d).1) (got_none f.on (insert_key f) refl)
+        ∙ ap (λ (x : Answer × Tables). x.1) (answers_on f.on (with_row empty (insert_key f) None))
+        ∙ ap (λ st. left_by f.on.table st (with_row empty (insert_key f) None)) f.is
+        ∙ ap (λ b. if b then with_row empty (insert_key f) None else insert (with_row empty (insert_key f) None) (insert_key f) (with_named f.on.table f.insert.columns f.insert.values [])) (ap is_some (got_removed empty (insert_key f)))
+
+    no_count : answer.Duplicate (insert_key f) ≡ answer.Count 1 → ⊥
+    no_count k = cc
+
+---- a read that isn't new
+
+pub again_refused : (f : InsertOn) → ReadsAreNew (reads_again f) → ⊥
+again_refused f law = clash (sym found ∙ law first (s ∷ []) z m (record { after = []; statements = statements; no_commit = insert_commits f; call = Contains-push [] m; reads = ap (λ b. if b then false else true) f.on.apart }))
+  where
+    s : Executed
+    s = record { taken = 2; text = f.on.text; answer = Some (answer.Count 1); reached = 3 }
+
+    z : Executed
+    z = record { taken = 4; text = f.on.text; answer = None; reached = 4 }
+
+    m : StoreCall
+    m = record { at = 5; store = []; request = ask.Get (insert_key f); how = Seen; reply = reply.Found None }
+
+    ends_last : (b : Bool) → (if b then z ∷ [] else z ∷ []) ≡ z ∷ []
+    ends_last true = refl
+    ends_last false = refl
+
+    statements : statements_of (reads_again f) first ≡ s ∷ z ∷ []
+    statements =
+        ap through_end (since_first (begin_said f.on) (s ∷ z ∷ []) (begun f.on))
+        ∙ ap (λ b. if b then s ∷ [] else s ∷ through_end (z ∷ [])) (middle_ends s (answer.Count 1) refl (record { undone = refl; agrees = refl }) (insert_commits f))
+        ∙ ap (λ xs. s ∷ xs) (ends_last (ends z))
+
+    found : was_found (reads_again f) 1 (s ∷ []) (insert_key f) ≡ true
+    found = ap (λ (fs : List (Key × Option Record)). list_any (λ e. same_key (insert_key f) e.0) fs || false) (got f.on (insert_key f) None refl) ∙ ap (λ b. (b || false) || false) (same_key_self (insert_key f))

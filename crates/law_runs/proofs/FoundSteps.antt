@@ -1,0 +1,272 @@
+-- What the transactions of a client ran on what they found, as it takes statements and replies.
+use Rattle.std.proofs.Common.{◌≡◌, ◌⊎◌, inl, inr, ℕ, Bool, true, false, not, List, [], ◌∷◌, ◌++◌, Option, Some, None, IfSome, refl, sym, ap, subst, ◌∙◌}
+use Rattle.std.specs.Prelude.{◌&&◌, ◌||◌, if◌then◌else◌, filter, is_some}
+use Rattle.std.specs.List.{AllByRecursion}
+use Rattle.std.proofs.lemmas.List.{append-nil}
+use Rattle.std.proofs.lemmas.List.Elements.{filter-append}
+use Rattle.sdb_types.proofs.Basics.{clash, none_some, or_false}
+use Rattle.sdb_record.specs.declared.access.Access.{Access}
+use Rattle.sdb_record.specs.declared.write.Write.{Write}
+use Rattle.sdb_schema.specs.declared.table.Table.{Table}
+use Rattle.sdb_model.specs.declared.answer.Answer.{Answer}
+use Rattle.sdb_model.specs.declared.event.Event.{Event}
+use Rattle.sdb_model.specs.declared.statement.Statement.{Statement}
+use Rattle.sdb_model.specs.Calls.{StoreCall, calls_of}
+use Rattle.sdb_model.specs.Sql.{Reads, reads_commit}
+use Rattle.sdb_model.specs.ReadSet.{has_finished, read_finished}
+use Rattle.sdb_model.specs.Transactions.{Executed, changes_nothing, ends, from_begin, is_effective, rest_of, statements_by}
+use Rattle.std.specs.Option.{option_map_or}
+use Rattle.sdb_exec.specs.declared.plan.PlanStep.{PlanStep}
+use Rattle.sdb_exec.specs.declared.plan.PlanStep.TheVariants.{Finished, Read as Wants}
+use Rattle.sdb_exec.specs.Plans.{Planned, first_unfit}
+use Rattle.sdb_snapshot.specs.Seen.{Seen, overlay}
+use Rattle.sdb_txn.specs.declared.txn.Doing.{Doing}
+use Rattle.sdb_txn.specs.declared.txn.Doing.TheVariants as doing
+use Rattle.sdb_txn.specs.Txn.{TxnAt}
+use Rattle.sdb_client.specs.Client.{ClientAt, given_answer, given_left, gives, holding, written}
+use Rattle.law_clients.specs.History.{waiting_of}
+use Rattle.law_answers.specs.Invariant.{IsAnswered, IsOpenAs, IsWaiting, Knows, DoingByHistory, ClientByHistory, begun_in, open_after}
+use Rattle.law_answers.specs.Unfit.{SeesWellTyped}
+use Rattle.law_answers.proofs.Lists.{since_more, since_none}
+use Rattle.law_answers.proofs.Shows.{effective_by}
+use Rattle.sdb_vacuum.specs.Vacuum.{VacuumAt}
+use Rattle.law_runs.specs.Found.{AllRunAs, IsRunOnFound, found_by, is_answered, nothing_found, scans_span, takes_part, was_scanned, with_found}
+use Rattle.law_runs.specs.Written.{keys_of, written_on_found}
+use Rattle.law_runs.proofs.FoundGiven.{IsPlannedOn, given_runs}
+use Rattle.law_runs.proofs.Running.{HoldsScans, RunsTo, each_more, each_running, finds_stay, goes_on, is_running, none_run, run_stays, running, running_more, running_of, running_same, runs_kept, runs_stay, scanned_more, view_after}
+use Rattle.law_runs.proofs.Views.{IsViewOf}
+use Rattle.law_runs.proofs.Writing.{run_once, write_keys}
+use Rattle.law_runs.proofs.WroteCommits.{CommitsWrote, LastWrote, commits_more, commits_still}
+
+---- a client
+
+-- its statements that were answered
+abbrev pub answered_of : ℕ → List Event → List Executed
+answered_of c events = filter is_answered (statements_by c events)
+
+-- writes are of the keys that statements wrote
+abbrev pub WroteAs : List Table → List Event → ℕ → List Executed → List Write → Type 0
+WroteAs catalog events c ss ws = (statements : List (Option Statement)) → AllRunAs ss statements → write_keys ws ≡ keys_of catalog events c ss statements
+
+-- An open transaction has what its statements left, until its COMMIT is taken, which then writes what they wrote.
+abbrev pub SeesIn : List Table → List Event → ℕ → List Executed → Seen → Doing → Type 0
+SeesIn catalog events c ss s (doing.Commit k) = WroteAs catalog events c ss k.work.writes
+SeesIn catalog events c ss s d = RunsTo catalog events c ss s
+
+abbrev pub SeesRun : List Table → List Event → ℕ → List Executed → TxnAt → Type 0
+SeesRun catalog events c ss t = SeesIn catalog events c ss t.seen t.doing
+
+-- Each transaction of a client ran on what it found, its open one has what that left, and each COMMIT prepares what its statements wrote.
+pub record ClientRuns (catalog : List Table) (events : List Event) (c : ℕ) (h : ClientAt) : Type 0 where
+  pub ran : (n : ℕ) → IsRunOnFound catalog events c (running_of n (answered_of c events))
+  pub sees : IfSome h.txn (SeesRun catalog events c (running_of h.begun (answered_of c events)))
+  pub commits : CommitsWrote catalog events c (answered_of c events)
+
+pub runs_wrote : (catalog : List Table) (events : List Event) (c : ℕ) (ss : List Executed) (s : Seen) → RunsTo catalog events c ss s → WroteAs catalog events c ss s.writes
+runs_wrote catalog events c ss s r statements read = r.writes ∙ ap (keys_of catalog events c ss) (run_once ss r.run.statements statements r.run.run read)
+
+wrote_stays : (catalog : List Table) (events : List Event) (e : Event) (c : ℕ) (ss : List Executed) (ws : List Write) → AllByRecursion (IsAnswered catalog events c) ss → WroteAs catalog events c ss ws → WroteAs catalog (events ++ e ∷ []) c ss ws
+wrote_stays catalog events e c ss ws all h statements read = h statements read ∙ ap (λ fs. written_on_found catalog fs statements nothing_found []) (sym (finds_stay catalog events e c ss all))
+
+---- what it was past
+
+pub all_answered : (catalog : List Table) (events : List Event) (c : ℕ) (past : List Executed) → AllByRecursion (IsAnswered catalog events c) past → filter is_answered past ≡ past
+all_answered catalog events c [] all = refl
+all_answered catalog events c (s ∷ ss) all = ap (λ (o : Option Answer). if is_some o then s ∷ filter is_answered ss else filter is_answered ss) all.0.is ∙ ap (λ xs. s ∷ xs) (all_answered catalog events c ss all.1)
+
+pub answered_of_is : (catalog : List Table) (events : List Event) (c : ℕ) (h : ClientAt) (k : Knows catalog events c h) → answered_of c events ≡ k.told
+answered_of_is catalog events c h k = ap (filter is_answered) k.same ∙ filter-append is_answered k.told (waiting_of k.waiting) ∙ ap (λ xs. xs ++ filter is_answered (waiting_of k.waiting)) (all_answered catalog events c k.told k.answered) ∙ by k.waiting k.waits ∙ append-nil k.told
+  where
+    by : (o : Option Executed) → IfSome o (IsWaiting catalog events c (is_some h.vacuum)) → k.told ++ filter is_answered (waiting_of o) ≡ k.told ++ []
+    by None h = refl
+    by (Some w) x = ap (λ (o : Option Answer). k.told ++ (if is_some o then w ∷ [] else [])) x.unanswered
+
+-- the transaction that a statement leaves does nothing
+left_idle : (was v : TxnAt) (x : PlanStep) → was.doing ≡ doing.Idle → v.doing ≡ doing.Idle → (given_left was v x).doing ≡ doing.Idle
+left_idle was v (Finished b ks) h k = by (changes_nothing (given_answer v (Finished b ks))) (read_finished (given_answer v (Finished b ks)))
+  where
+    by : (t f : Bool) → (if t then (if f then v else was) else written v ks).doing ≡ doing.Idle
+    by true true = k
+    by true false = h
+    by false f = k
+left_idle was v (Wants a) h k = h
+
+---- statements that don't run
+
+pub ends_stays : (z : Executed) → ends z ≡ true → is_running z ≡ false
+ends_stays z e = ap (λ b. not b && takes_part z && is_answered z) e
+
+pub nothing_stays : (z : Executed) (b : Answer) → z.answer ≡ Some b → changes_nothing b ≡ true → read_finished b ≡ false → is_running z ≡ false
+nothing_stays z b is e unfinished =
+    ap (λ x. goes_on z && (x || has_finished z) && is_answered z) (effective_by z b true is e)
+    ∙ ap (λ (o : Option Answer). goes_on z && option_map_or read_finished o false && is_answered z) is
+    ∙ ap (λ x. goes_on z && x && is_answered z) unfinished
+    ∙ none (goes_on z)
+  where
+    none : (x : Bool) → (x && false && is_answered z) ≡ false
+    none true = refl
+    none false = refl
+
+running_of_same : (n : ℕ) (past : List Executed) (z : Executed) → is_running z ≡ false → running_of n (past ++ z ∷ []) ≡ running_of n past
+running_of_same n past z none = by (from_begin n past) refl
+  where
+    by : (r : List Executed) → from_begin n past ≡ r → running_of n (past ++ z ∷ []) ≡ running_of n past
+    by [] e = ap running (since_none n past z e) ∙ sym (ap (λ x. running (rest_of x)) e)
+    by (b ∷ r) e = ap (λ x. running (rest_of x)) (since_more n past z b r e) ∙ running_same r z none ∙ sym (ap (λ x. running (rest_of x)) e)
+
+running_of_more : (n : ℕ) (past : List Executed) (z begin : Executed) (body : List Executed) → from_begin n past ≡ begin ∷ body → AllByRecursion (λ s. ends s ≡ false) body → is_running z ≡ true → running_of n (past ++ z ∷ []) ≡ running_of n past ++ z ∷ []
+running_of_more n past z begin body since opens runs =
+    ap (λ x. running (rest_of x)) (since_more n past z begin body since) ∙ running_more body z opens ∙ ap (λ b. running body ++ (if b then z ∷ [] else [])) runs ∙ ap (λ x. running (rest_of x) ++ z ∷ []) (sym since)
+
+sees_stay : (catalog : List Table) (events : List Event) (e : Event) (c : ℕ) (ss : List Executed) (s : Seen) (d : Doing) → AllByRecursion (IsAnswered catalog events c) ss → SeesIn catalog events c ss s d → SeesIn catalog (events ++ e ∷ []) c ss s d
+sees_stay catalog events e c ss s doing.Idle all h = runs_stay catalog events e c ss s all h
+sees_stay catalog events e c ss s (doing.Read a x) all h = runs_stay catalog events e c ss s all h
+sees_stay catalog events e c ss s (doing.Commit k) all h = wrote_stays catalog events e c ss k.work.writes all h
+sees_stay catalog events e c ss s doing.Over all h = runs_stay catalog events e c ss s all h
+
+---- one event more
+
+module _ (catalog : List Table) (events : List Event) (c : ℕ) (h : ClientAt) (k : Knows catalog events c h) (runs : ClientRuns catalog events c h) (e : Event) where
+  abbrev E : List Event
+  E = events ++ e ∷ []
+
+  abbrev answered_same : answered_of c events ≡ k.told
+  answered_same = answered_of_is catalog events c h k
+
+  ran_then : (n : ℕ) → IsRunOnFound catalog E c (running_of n k.told)
+  ran_then n = run_stays catalog events e c (running_of n k.told) (each_running (IsAnswered catalog events c) n k.told k.answered) (subst (λ ts. IsRunOnFound catalog events c (running_of n ts)) answered_same (runs.ran n))
+
+  pub sees_then : IfSome h.txn (SeesRun catalog E c (running_of h.begun k.told))
+  sees_then = by h.txn (subst (λ ts. IfSome h.txn (SeesRun catalog events c (running_of h.begun ts))) answered_same runs.sees)
+    where
+      by : (o : Option TxnAt) → IfSome o (SeesRun catalog events c (running_of h.begun k.told)) → IfSome o (SeesRun catalog E c (running_of h.begun k.told))
+      by None x = tt
+      by (Some t) x = sees_stay catalog events e c (running_of h.begun k.told) t.seen t.doing (each_running (IsAnswered catalog events c) h.begun k.told k.answered) x
+
+  -- where no statement is answered
+  abbrev Stays : ClientAt → Type 0
+  Stays d = IfSome d.txn (SeesRun catalog E c (running_of d.begun k.told))
+
+  -- the COMMITs that were answered
+  wrote_then : CommitsWrote catalog E c k.told
+  wrote_then = commits_still catalog events e c k.told k.answered (subst (CommitsWrote catalog events c) answered_same runs.commits)
+
+  pub still_runs : (d : ClientAt) → answered_of c E ≡ k.told → Stays d → ClientRuns catalog E c d
+  still_runs d same sees = record {
+    ran = λ n. subst (λ ts. IsRunOnFound catalog E c (running_of n ts)) (sym same) (ran_then n);
+    sees = subst (λ ts. IfSome d.txn (SeesRun catalog E c (running_of d.begun ts))) (sym same) sees;
+    commits = subst (CommitsWrote catalog E c) (sym same) wrote_then;
+  }
+
+  -- where one is
+  abbrev pub Follows : Executed → ClientAt → Type 0
+  Follows z d = (open_after k.told ≡ true → is_running z ≡ true → IsRunOnFound catalog E c (running_of (begun_in k.told) k.told ++ z ∷ [])) × IfSome d.txn (SeesRun catalog E c (running_of d.begun (k.told ++ z ∷ [])))
+
+  pub next_runs : (z : Executed) (d : ClientAt) → answered_of c E ≡ k.told ++ z ∷ [] → Follows z d → LastWrote catalog E c k.told z → ClientRuns catalog E c d
+  next_runs z d same f last = record {
+    ran = λ n. subst (λ ts. IsRunOnFound catalog E c (running_of n ts)) (sym same) (each_more (IsRunOnFound catalog E c) k.told z k.counted.paired (none_run catalog E c) ran_then f.0 n);
+    sees = subst (λ ts. IfSome d.txn (SeesRun catalog E c (running_of d.begun ts))) (sym same) f.1;
+    commits = subst (CommitsWrote catalog E c) (sym same) (commits_more catalog E c k.told z k.counted.paired wrote_then last);
+  }
+
+  ---- where its transaction is
+
+  abbrev At : Executed → TxnAt → Type 0
+  At z u = SeesRun catalog E c (running_of h.begun (k.told ++ z ∷ [])) u
+
+  sees_same : (z : Executed) (s : Seen) (u : TxnAt) → is_running z ≡ false → u.doing ≡ doing.Idle → u.seen ≡ s → RunsTo catalog E c (running_of h.begun k.told) s → At z u
+  sees_same z s u none idle same r = subst (λ xs. SeesIn catalog E c xs u.seen u.doing) (sym (running_of_same h.begun k.told z none)) (subst (SeesIn catalog E c (running_of h.begun k.told) u.seen) (sym idle) (subst (RunsTo catalog E c (running_of h.begun k.told)) (sym same) r))
+
+  -- no transaction is open
+  pub closed : h.txn ≡ None → open_after k.told ≡ false
+  closed none = by_vacuum h.vacuum k.waiting k.stands
+    where
+      by_txn : (o : Option TxnAt) (w : Option Executed) → o ≡ None → DoingByHistory events c h.begun k.told w h.plan o → open_after k.told ≡ false
+      by_txn None w e s = s.1
+      by_txn (Some t) w e s = none_some t (sym e)
+
+      by_vacuum : (v : Option VacuumAt) (w : Option Executed) → ClientByHistory events c h.begun k.told w h.plan h.txn v → open_after k.told ≡ false
+      by_vacuum None w s = by_txn h.txn w none s
+      by_vacuum (Some v) None s = absurd s
+      by_vacuum (Some v) (Some x) s = s.1
+
+  -- it changes nothing, or no transaction is open
+  pub no_more : (z : Executed) → (is_running z ≡ false) ⊎ (h.txn ≡ None) → open_after k.told ≡ true → is_running z ≡ true → IsRunOnFound catalog E c (running_of (begun_in k.told) k.told ++ z ∷ [])
+  no_more z (inl f) opened t = clash (sym t ∙ f)
+  no_more z (inr f) opened t = clash (sym opened ∙ closed f)
+
+  -- and the client is as it was
+  pub same_follows : (z : Executed) → (is_running z ≡ false) ⊎ (h.txn ≡ None) → Follows z h
+  same_follows z none = (no_more z none, by none)
+    where
+      by_txn : (o : Option TxnAt) → is_running z ≡ false → IfSome o (SeesRun catalog E c (running_of h.begun k.told)) → IfSome o (At z)
+      by_txn None f x = tt
+      by_txn (Some t) f x = subst (λ xs. SeesIn catalog E c xs t.seen t.doing) (sym (running_of_same h.begun k.told z f)) x
+
+      by : (is_running z ≡ false) ⊎ (h.txn ≡ None) → IfSome h.txn (At z)
+      by (inl f) = by_txn h.txn f sees_then
+      by (inr f) = subst (λ (o : Option TxnAt). IfSome o (At z)) (sym f) tt
+
+  -- or has none open
+  pub ended_follows : (z : Executed) (d : ClientAt) → (is_running z ≡ false) ⊎ (h.txn ≡ None) → d.txn ≡ None → Follows z d
+  ended_follows z d none f = (no_more z none, subst (λ (o : Option TxnAt). IfSome o (SeesRun catalog E c (running_of d.begun (k.told ++ z ∷ [])))) (sym f) tt)
+
+  module _ (t : TxnAt) (some : h.txn ≡ Some t) (free : h.vacuum ≡ None) where
+    opened : IsOpenAs c h.begun k.told t
+    opened = (subst (DoingByHistory events c h.begun k.told k.waiting h.plan) some (subst (ClientByHistory events c h.begun k.told k.waiting h.plan h.txn) free k.stands)).1
+
+    pub sees_open : SeesRun catalog E c (running_of h.begun k.told) t
+    sees_open = subst (λ (o : Option TxnAt). IfSome o (SeesRun catalog E c (running_of h.begun k.told))) some sees_then
+
+    -- it is answered that nothing was changed
+    pub held_follows : (z : Executed) (u : TxnAt) → is_running z ≡ false → u.doing ≡ doing.Idle → u.seen ≡ t.seen → RunsTo catalog E c (running_of h.begun k.told) t.seen → Follows z (holding h u)
+    held_follows z u none idle same r = (no_more z (inl none), sees_same z t.seen u none idle same r)
+
+    -- it is answered that nothing was changed, and what it found stays
+    pub kept_follows : (z : Executed) (u : TxnAt) → is_running z ≡ true → is_effective z ≡ false → u.doing ≡ doing.Idle → (r : RunsTo catalog E c (running_of h.begun k.told) t.seen)
+        → IsViewOf (with_found (view_after catalog E c (running_of h.begun k.told) r.run) (found_by (calls_of E c z))) u.seen → HoldsScans E c (running_of h.begun k.told ++ z ∷ []) u.seen → write_keys u.seen.writes ≡ write_keys t.seen.writes → Follows z (holding h u)
+    kept_follows z u takes idle rests r now scans same =
+        let more : RunsTo catalog E c (running_of h.begun k.told ++ z ∷ []) u.seen = runs_kept catalog E c (running_of h.begun k.told) z r.run u.seen idle now scans (same ∙ r.writes) in (
+          λ opened_now runs_now. subst (λ n. IsRunOnFound catalog E c (running_of n k.told ++ z ∷ [])) k.begun more.run,
+          subst (SeesIn catalog E c (running_of h.begun (k.told ++ z ∷ [])) u.seen) (sym rests) (subst (λ xs. RunsTo catalog E c xs u.seen) (sym (running_of_more h.begun k.told z opened.begin opened.body opened.since opened.goes_on takes)) more),
+        )
+
+    -- it is answered so without a call, and the transaction is as it was
+    pub turned_open : (z : Executed) (b : Answer) → z.answer ≡ Some b → changes_nothing b ≡ true → calls_of E c z ≡ [] → t.doing ≡ doing.Idle → Follows z h
+    turned_open z b is nothing none idle = by (is_running z) refl
+      where
+        r : RunsTo catalog E c (running_of h.begun k.told) t.seen
+        r = subst (SeesIn catalog E c (running_of h.begun k.told) t.seen) idle sees_open
+
+        scans : HoldsScans E c (running_of h.begun k.told ++ z ∷ []) t.seen
+        scans span e = r.scans span (sym (scanned_more E c (running_of h.begun k.told) z span ∙ ap (λ ms. was_scanned E c (running_of h.begun k.told) span || scans_span span ms) none ∙ or_false (was_scanned E c (running_of h.begun k.told) span)) ∙ e)
+
+        by : (x : Bool) → is_running z ≡ x → Follows z h
+        by false e = same_follows z (inl e)
+        by true e =
+            let f = kept_follows z t e (effective_by z b true is nothing) idle r (subst (λ (ms : List StoreCall). IsViewOf (with_found (view_after catalog E c (running_of h.begun k.told) r.run) (found_by ms)) t.seen) (sym none) r.sees) scans refl in
+            (f.0, subst (λ (o : Option TxnAt). IfSome o (At z)) (sym some) f.1)
+
+    -- it is answered from the rows that are seen
+    pub given_follows : (z : Executed) (p : Planned) (a : Access) (was v : TxnAt) → IsPlannedOn catalog p a → Reads z.text p.statement → reads_commit z.text ≡ false → z.answer ≡ Some (given_answer v (gives p a v)) → (was.doing ≡ doing.Idle) × (was.seen ≡ t.seen) → (v.doing ≡ doing.Idle) × (v.seen.writes ≡ t.seen.writes) → (r : RunsTo catalog E c (running_of h.begun k.told) t.seen)
+        → IsViewOf (with_found (view_after catalog E c (running_of h.begun k.told) r.run) (found_by (calls_of E c z))) v.seen → (first_unfit p.table (overlay a v.seen) ≡ None → SeesWellTyped catalog v.seen) → HoldsScans E c (running_of h.begun k.told ++ z ∷ []) v.seen → Follows z (holding h (given_left was v (gives p a v)))
+    given_follows z p a was v on reads no_commit answered same unwritten r now fits scans = by (given_runs catalog E c (running_of h.begun k.told) z p a on was v reads answered r.run now fits scans (ap write_keys unwritten.1 ∙ r.writes) no_commit)
+      where
+        rests : (given_left was v (gives p a v)).doing ≡ doing.Idle
+        rests = left_idle was v (gives p a v) same.0 unwritten.0
+
+        by : ((is_running z ≡ true) × RunsTo catalog E c (running_of h.begun k.told ++ z ∷ []) (given_left was v (gives p a v)).seen) ⊎ ((is_running z ≡ false) × (given_left was v (gives p a v) ≡ was)) → Follows z (holding h (given_left was v (gives p a v)))
+        by (inl x) = (
+          λ opened_now runs_now. subst (λ n. IsRunOnFound catalog E c (running_of n k.told ++ z ∷ [])) k.begun x.1.run,
+          subst (SeesIn catalog E c (running_of h.begun (k.told ++ z ∷ [])) (given_left was v (gives p a v)).seen) (sym rests)
+              (subst (λ xs. RunsTo catalog E c xs (given_left was v (gives p a v)).seen) (sym (running_of_more h.begun k.told z opened.begin opened.body opened.since opened.goes_on x.0)) x.1),
+        )
+        by (inr x) = held_follows z (given_left was v (gives p a v)) x.0 rests (ap (λ (u : TxnAt). u.seen) x.1 ∙ same.1) r
+
+  -- it is answered that nothing was changed without a call, and the client is as it was
+  pub turned_follows : (z : Executed) (b : Answer) → z.answer ≡ Some b → changes_nothing b ≡ true → calls_of E c z ≡ [] → h.vacuum ≡ None → IfSome h.txn (λ t. t.doing ≡ doing.Idle) → Follows z h
+  turned_follows z b is nothing none free idle = by h.txn refl idle
+    where
+      by : (o : Option TxnAt) → h.txn ≡ o → IfSome o (λ t. t.doing ≡ doing.Idle) → Follows z h
+      by None e i = same_follows z (inr e)
+      by (Some t) e i = turned_open t e free z b is nothing none i

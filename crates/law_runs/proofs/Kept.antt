@@ -1,0 +1,118 @@
+-- What is so of a world stays so.
+use Rattle.std.proofs.Common.{◌≡◌, ℕ, zero, suc, ℤ, ◌+◌, true, false, List, [], ◌∷◌, ◌++◌, Option, Some, None, refl, sym, ap, subst, ◌∙◌, slice_set, add-zero}
+use Rattle.std.specs.Prelude.{is_none, slice_get, IsSome}
+use Rattle.sdb_types.specs.declared.record.Reply.{Reply}
+use Rattle.sdb_types.specs.declared.record.Request.{Request}
+use Rattle.sdb_record.specs.Meta.{is_moment}
+use Rattle.sdb_model.specs.declared.answer.Answer.{Answer}
+use Rattle.sdb_model.specs.declared.event.Event.{Event}
+use Rattle.sdb_model.specs.declared.event.Event.TheVariants as event
+use Rattle.sdb_model.specs.declared.event.How.{How}
+use Rattle.sdb_model.specs.declared.script.Script.{Script}
+use Rattle.sdb_model.specs.Rows.{Name}
+use Rattle.law_protocol.specs.Spread.{IsAbout}
+use Rattle.sdb_client.specs.Client.{ClientAt}
+use Rattle.law_clients.specs.About.{IsOfTables}
+use Rattle.law_clients.specs.States.{IsAfter}
+use Rattle.sdb_execution.specs.declared.slot.ClientSlot.{ClientSlot}
+use Rattle.law_runs.specs.World.{IsClientState, IsWorld, WorldAt, at_moment, with_event, with_client}
+use Rattle.sdb_execution.specs.Execution.{client_after, client_stopped}
+use Rattle.law_runs.proofs.Seats.{set_here, set_length, set_other, suc_is}
+use Rattle.law_runs.proofs.Ties.{IsApart, apart_pending, apart_stopped, apart_taken, own_call_pending, own_call_stopped, own_call_taken, own_stop_pending, own_stop_stopped, own_stop_taken, own_take_pending, own_take_stopped, own_take_taken}
+use Rattle.sdb_types.proofs.Basics.{some_is, all_last as all_more}
+
+pub by_nat : {G : Type 0} (i j : ℕ) → (i ≡ j → G) → ((i ≡ j → ⊥) → G) → G
+by_nat zero zero a b = a refl
+by_nat zero (suc j) a b = b (λ e. cc)
+by_nat (suc i) zero a b = b (λ e. cc)
+by_nat (suc i) (suc j) a b = by_nat i j (λ e. a (ap suc e)) (λ n. b (λ e. n (suc_is i j e)))
+
+---- a client that the event isn't of
+
+seat_stays : (script : Script) (es : List Event) (e : Event) (j : ℕ) (s : ClientSlot) → IsApart (suc j) e → IsClientState script es j s → IsClientState script (es ++ e ∷ []) j s
+seat_stays script es e j s apart h = record {
+  number = h.number;
+  fitted = h.fitted;
+  about = h.about;
+  taken = h.taken ∙ sym (apart_taken (suc j) es e apart);
+  stopped = h.stopped ∙ sym (apart_stopped (suc j) es e apart);
+  busy = λ t. h.busy (sym (apart_pending (suc j) es e apart) ∙ t);
+  idle = λ t. h.idle (sym (apart_pending (suc j) es e apart) ∙ t);
+}
+
+-- an event that is of no client's doing
+pub world_stays : (w : WorldAt) (e : Event) → ((j : ℕ) → IsApart (suc j) e) → IsAbout w.script.catalog e → IsWorld w → IsWorld (with_event w e)
+world_stays w e apart about h = record {
+  playable = h.playable;
+  clients = h.clients;
+  each = λ j s at. seat_stays w.script w.events e j s (apart j) (h.each j s at);
+  moment = h.moment;
+  about = all_more (IsAbout w.script.catalog) w.events e h.about about;
+}
+
+-- the clock moves
+pub world_ticks : (w : WorldAt) (m : ℤ) → is_moment m ≡ true → ((j : ℕ) → IsApart (suc j) (event.Clock m)) → IsWorld w → IsWorld (with_event (at_moment w m) (event.Clock m))
+world_ticks w m is apart h = record {
+  playable = h.playable;
+  clients = h.clients;
+  each = λ j s at. seat_stays w.script w.events (event.Clock m) j s (apart j) (h.each j s at);
+  moment = is;
+  about = all_more (IsAbout w.script.catalog) w.events (event.Clock m) h.about tt;
+}
+
+-- a client is elsewhere, and the event is its own
+pub world_moves : (w : WorldAt) (i : ℕ) (s t : ClientSlot) (e : Event) → slice_get w.client_slots i ≡ Some s → ((j : ℕ) → (i ≡ j → ⊥) → IsApart (suc j) e) → IsClientState w.script (w.events ++ e ∷ []) i t → IsAbout w.script.catalog e → IsWorld w → IsWorld (with_event (with_client w i t) e)
+world_moves w i s t e at apart own about h = record {
+  playable = h.playable;
+  clients = set_length w.client_slots i t ∙ h.clients;
+  each = λ j u there.
+      by_nat i j
+      (λ same. subst (λ (k : ℕ). slice_get (slice_set w.client_slots i t) k ≡ Some u → IsClientState w.script (w.events ++ e ∷ []) k u) same (λ here. subst (IsClientState w.script (w.events ++ e ∷ []) i) (some_is t u (sym (set_here w.client_slots i s t at) ∙ here)) own) there)
+      (λ other. seat_stays w.script w.events e j u (apart j other) (h.each j u (sym (set_other w.client_slots i j t (λ same. other (sym same))) ∙ there)));
+  moment = h.moment;
+  about = all_more (IsAbout w.script.catalog) w.events e h.about about;
+}
+
+---- a client after its own event
+
+none_true : (o : Option Answer) → is_none o ≡ true → o ≡ None
+none_true None t = refl
+none_true (Some a) t = absurd (cc)
+
+none_false : (o : Option Answer) → is_none o ≡ false → IsSome o
+none_false None t = absurd (cc)
+none_false (Some a) t = refl
+
+module _ (script : Script) (es : List Event) (i : ℕ) (s : ClientSlot) (h : IsClientState script es i s) (a : Option Answer) (d : ClientAt) (after : IsAfter script.catalog s.client a d) (about : IsOfTables script.catalog d) where
+  pub seat_takes : (text : List ℕ) → IsClientState script (es ++ event.Take (suc i) text a ∷ []) i (client_after s 1 d)
+  seat_takes text = record {
+    number = after.number ∙ h.number;
+    fitted = after.fitted;
+    about = about;
+    taken = ap (λ (n : ℕ). n + 1) h.taken ∙ sym (own_take_taken (suc i) es text a);
+    stopped = h.stopped ∙ sym (own_take_stopped (suc i) es text a);
+    busy = λ t. after.busy (none_true a (sym (own_take_pending (suc i) es text a) ∙ t));
+    idle = λ t. after.idle (none_false a (sym (own_take_pending (suc i) es text a) ∙ t));
+  }
+
+  pub seat_calls : (store : Name) (q : Request) (how : How) (r : Reply) → IsClientState script (es ++ event.Call (suc i) store q how r a ∷ []) i (client_after s 0 d)
+  seat_calls store q how r = record {
+    number = after.number ∙ h.number;
+    fitted = after.fitted;
+    about = about;
+    taken = add-zero s.taken ∙ h.taken ∙ sym (own_call_taken (suc i) es store q how r a);
+    stopped = h.stopped ∙ sym (own_call_stopped (suc i) es store q how r a);
+    busy = λ t. after.busy (none_true a (sym (own_call_pending (suc i) es store q how r a) ∙ t));
+    idle = λ t. after.idle (none_false a (sym (own_call_pending (suc i) es store q how r a) ∙ t));
+  }
+
+pub seat_stops : (script : Script) (es : List Event) (i : ℕ) (s : ClientSlot) → IsClientState script es i s → IsClientState script (es ++ event.Stop (suc i) ∷ []) i (client_stopped s)
+seat_stops script es i s h = record {
+  number = h.number;
+  fitted = h.fitted;
+  about = h.about;
+  taken = h.taken ∙ sym (own_stop_taken (suc i) es);
+  stopped = sym (own_stop_stopped (suc i) es);
+  busy = λ t. h.busy (sym (own_stop_pending (suc i) es) ∙ t);
+  idle = λ t. h.idle (sym (own_stop_pending (suc i) es) ∙ t);
+}

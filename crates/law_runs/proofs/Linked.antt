@@ -1,0 +1,145 @@
+-- What ties the events of a world to its clients is kept by each step.
+use Rattle.std.proofs.Common.{◌≡◌, ℕ, zero, suc, ◌<◌, ◌^◌, Bool, true, false, List, [], ◌∷◌, ◌++◌, length, Option, Some, None, refl, sym, ap, subst, ◌∙◌}
+use Rattle.std.specs.Prelude.{◌==◌, slice_get, slice_set}
+use Rattle.std.proofs.lemmas.Bool.{eqb-false, eqb-true, ne_eqb}
+use Rattle.sdb_types.specs.declared.record.Reply.{Reply}
+use Rattle.sdb_types.specs.declared.record.Request.{Request}
+use Rattle.sdb_types.specs.Contents.{CanAnswer}
+use Rattle.sdb_record.specs.Meta.{is_moment}
+use Rattle.sdb_model.specs.declared.answer.Answer.{Answer}
+use Rattle.sdb_model.specs.declared.event.Event.{Event}
+use Rattle.sdb_model.specs.declared.event.Event.TheVariants as event
+use Rattle.sdb_model.specs.declared.event.How.{How}
+use Rattle.sdb_model.specs.declared.statement.Statement.{Statement}
+use Rattle.sdb_model.specs.Rows.{Name}
+use Rattle.sdb_model.specs.Exec.{Tables}
+use Rattle.law_protocol.specs.History.{at}
+use Rattle.sdb_schema.specs.declared.table.Table.{Table}
+use Rattle.law_protocol.specs.Spread.{relocated_event}
+use Rattle.law_protocol.proofs.Moved.{moved_more}
+use Rattle.sdb_client.specs.Client.{ClientAt as Client, ReplyPost, Taking, nothing_done, next_id, TextStep}
+use Rattle.law_clients.specs.System.{ClientAt, Stopped, SystemAt}
+use Rattle.law_clients.specs.Invariant.{ClientInvariant, IsOpenOf, RunInvariant, IsSilent}
+use Rattle.law_clients.proofs.Rests.{going_rests, going_starts}
+use Rattle.law_clients.proofs.InvariantTurns.{going_stops}
+use Rattle.law_clients.specs.Fitting.{tables_are_well_typed}
+use Rattle.law_clients.specs.States.{ClientState, IsGated, IsReady, IsWaiting, doing_of, abstract_client, system_of, with_state}
+use Rattle.law_clients.proofs.Replied.{replies_so}
+use Rattle.law_clients.proofs.Taken.{kept_at, mapped_at}
+use Rattle.law_clients.proofs.Whole.{takes_so}
+use Rattle.sdb_execution.specs.declared.slot.ClientSlot.{ClientSlot}
+use Rattle.sdb_execution.specs.Execution.{AreFresh, IsPlayable, client_after, client_stopped}
+use Rattle.law_runs.specs.World.{WorldAt, state_in, states_of, with_event, with_client}
+use Rattle.law_runs.specs.Linked.{IsLinked, on_one, one_name}
+use Rattle.law_runs.proofs.Seats.{hands_moved}
+use Rattle.law_runs.proofs.Ties.{itself}
+
+-- one event more, on the one store
+pub on_one_more : (es : List Event) (e : Event) → on_one (es ++ e ∷ []) ≡ on_one es ++ relocated_event (λ ns. one_name) e ∷ []
+on_one_more es e = moved_more (λ ns. one_name) es (e ∷ [])
+
+-- what is so of clients that are in the same place
+same_going : (catalog : List Table) (events : List Event) (f g : ℕ → ClientState) → ((c : ℕ) → f c ≡ g c) → RunInvariant catalog (tables_are_well_typed catalog) events (system_of f) (doing_of f) → RunInvariant catalog (tables_are_well_typed catalog) events (system_of g) (doing_of g)
+same_going catalog events f g same h = subst (λ (x : ℕ → ClientState). RunInvariant catalog (tables_are_well_typed catalog) events (system_of x) (doing_of x)) (λ i c. same c i) h
+
+---- at first
+
+pub fresh_hand : (count : ℕ) (client_slots : List ClientSlot) → AreFresh count client_slots → (c : ℕ) → states_of client_slots c ≡ record { client = nothing_done c; stopped = false }
+fresh_hand count client_slots h zero = refl
+fresh_hand count client_slots h (suc i) = by (slice_get client_slots i) refl
+  where
+    by : (o : Option ClientSlot) → slice_get client_slots i ≡ o → state_in o (suc i) ≡ record { client = nothing_done (suc i); stopped = false }
+    by None e = refl
+    by (Some s) e = ap (λ (t : ClientSlot). state_in (Some t) (suc i)) (h.each i s e)
+
+pub linked_first : (catalog : List Table) (count : ℕ) (client_slots : List ClientSlot) → AreFresh count client_slots → RunInvariant catalog (tables_are_well_typed catalog) [] (system_of (states_of client_slots)) (doing_of (states_of client_slots))
+linked_first catalog count client_slots h = same_going catalog [] (λ c. record { client = nothing_done c; stopped = false }) (states_of client_slots) (λ c. sym (fresh_hand count client_slots h c)) (going_starts catalog (tables_are_well_typed catalog))
+
+---- an event of no client's doing
+
+pub linked_rests : (w : WorldAt) (e : Event) → IsSilent (relocated_event (λ ns. one_name) e) → IsLinked w → IsLinked (with_event w e)
+linked_rests w e silent g =
+    subst (λ (es : List Event). RunInvariant w.script.catalog (tables_are_well_typed w.script.catalog) es (system_of (states_of w.client_slots)) (doing_of (states_of w.client_slots))) (sym (on_one_more w.events e))
+    (going_rests w.script.catalog (tables_are_well_typed w.script.catalog) (on_one w.events) (system_of (states_of w.client_slots)) (doing_of (states_of w.client_slots)) (relocated_event (λ ns. one_name) e) silent g)
+
+---- a client's own
+
+-- one client elsewhere
+linked_by : (w : WorldAt) (i : ℕ) (s t : ClientSlot) (e : Event) → slice_get w.client_slots i ≡ Some s
+    → RunInvariant w.script.catalog (tables_are_well_typed w.script.catalog) (on_one w.events ++ relocated_event (λ ns. one_name) e ∷ []) (system_of (at (states_of w.client_slots) (suc i) (record { client = t.client; stopped = t.stopped }))) (doing_of (at (states_of w.client_slots) (suc i) (record { client = t.client; stopped = t.stopped })))
+    → IsLinked (with_event (with_client w i t) e)
+linked_by w i s t e here g =
+    subst (λ (es : List Event). RunInvariant w.script.catalog (tables_are_well_typed w.script.catalog) es (system_of (states_of (slice_set w.client_slots i t))) (doing_of (states_of (slice_set w.client_slots i t)))) (sym (on_one_more w.events e))
+    (same_going w.script.catalog (on_one w.events ++ relocated_event (λ ns. one_name) e ∷ []) (at (states_of w.client_slots) (suc i) (record { client = t.client; stopped = t.stopped })) (states_of (slice_set w.client_slots i t)) (λ c. sym (hands_moved w.client_slots i s t c here)) g)
+
+-- where a client goes on, it is as it was
+pub on_hand : (P : ClientState → Type 0) (client_slots : List ClientSlot) (i : ℕ) (s : ClientSlot) → slice_get client_slots i ≡ Some s → P (record { client = s.client; stopped = s.stopped }) → P (states_of client_slots (suc i))
+on_hand P client_slots i s here p = subst (λ (o : Option ClientSlot). P (state_in o (suc i))) (sym here) p
+
+pub linked_takes : (w : WorldAt) (i : ℕ) (s : ClientSlot) (q : Taking) (text : List ℕ) (a : Option Answer) (d : Client) → IsPlayable w.script → q.catalog ≡ w.script.catalog → slice_get w.client_slots i ≡ Some s → s.stopped ≡ false → IsReady (states_of w.client_slots) (suc i) → IsGated q.gate (states_of w.client_slots) (suc i) → TextStep q text s.client a d → q.fresh ≡ next_id s.client → d.begun < 2 ^ 64 → is_moment q.now ≡ true
+    → IsLinked w → IsLinked (with_event (with_client w i (client_after s 1 d)) (event.Take (suc i) text a))
+linked_takes w i s q text a d playable same here goes ready gated takes numbered begun moment g =
+    linked_by w i s (client_after s 1 d) (event.Take (suc i) text a) here
+    (subst (λ (b : Bool). RunInvariant w.script.catalog (tables_are_well_typed w.script.catalog) (on_one w.events ++ event.Take (suc i) text a ∷ []) (system_of (at (states_of w.client_slots) (suc i) (record { client = d; stopped = b }))) (doing_of (at (states_of w.client_slots) (suc i) (record { client = d; stopped = b })))) (sym goes) so)
+  where
+    so : RunInvariant w.script.catalog (tables_are_well_typed w.script.catalog) (on_one w.events ++ event.Take (suc i) text a ∷ []) (system_of (with_state (states_of w.client_slots) (suc i) d)) (doing_of (with_state (states_of w.client_slots) (suc i) d))
+    so = takes_so (record { catalog = w.script.catalog; now = q.now; gate = q.gate; fresh = q.fresh }) (on_one w.events) (states_of w.client_slots) g (suc i) ready text playable.catalog playable.apart moment gated (on_hand (λ (h : ClientState). q.fresh ≡ next_id h.client) w.client_slots i s here numbered) a d begun
+        (subst (λ (c : List Table). TextStep (record { catalog = c; now = q.now; gate = q.gate; fresh = q.fresh }) text (states_of w.client_slots (suc i)).client a d) same (on_hand (λ (h : ClientState). TextStep q text h.client a d) w.client_slots i s here takes))
+
+pub linked_calls : (w : WorldAt) (i : ℕ) (s : ClientSlot) (store : Name) (how : How) (q : Request) (r : Reply) (a : Option Answer) (d : Client) → IsPlayable w.script → slice_get w.client_slots i ≡ Some s → s.stopped ≡ false → IsWaiting w.script.catalog (states_of w.client_slots) (suc i) q → CanAnswer q r → ReplyPost s.client s.client.vacuum r w.clock a d → is_moment w.clock ≡ true
+    → IsLinked w → IsLinked (with_event (with_client w i (client_after s 0 d)) (event.Call (suc i) store q how r a))
+linked_calls w i s store how q r a d playable here goes waiting can told moment g =
+    linked_by w i s (client_after s 0 d) (event.Call (suc i) store q how r a) here
+    (subst (λ (b : Bool). RunInvariant w.script.catalog (tables_are_well_typed w.script.catalog) (on_one w.events ++ event.Call (suc i) one_name q how r a ∷ []) (system_of (at (states_of w.client_slots) (suc i) (record { client = d; stopped = b }))) (doing_of (at (states_of w.client_slots) (suc i) (record { client = d; stopped = b })))) (sym goes)
+    (replies_so w.script.catalog (on_one w.events) (states_of w.client_slots) g (record { client = suc i; store = one_name; request = q; how = how; reply = r; now = w.clock }) playable.catalog (record { waiting = waiting; can = can; moment = moment }) playable.apart a d (on_hand (λ (h : ClientState). ReplyPost h.client h.client.vacuum r w.clock a d) w.client_slots i s here told)))
+
+---- a client stops
+
+-- what a client that has stopped ran is nobody's matter
+free_doing : (catalog : List Table) (fit : Tables → Bool) (events : List Event) (sys : SystemAt) (doing other : ℕ → Option Statement) (c : ℕ) → sys.clients c ≡ Stopped → ((e : ℕ) → (e ≡ c → ⊥) → doing e ≡ other e) → RunInvariant catalog fit events sys doing → RunInvariant catalog fit events sys other
+free_doing catalog fit events sys doing other c stopped same g = record {
+  plan = g.plan;
+  labelled = g.labelled;
+  past = g.past;
+  told = g.told;
+  ran = g.ran;
+  same = g.same;
+  turned = g.turned;
+  system = g.system;
+  stories = g.stories;
+  clients = λ e. by e (e == c) refl;
+  as_read = g.as_read;
+}
+  where
+    by : (e : ℕ) (b : Bool) → (e == c) ≡ b → ClientInvariant catalog fit g.plan g.past e (other e) (sys.clients e) (g.told e) (g.ran e)
+    by e true t =
+        let here : sys.clients e ≡ Stopped = ap sys.clients (eqb-true e c t) ∙ stopped in
+        record {
+          ended = (g.clients e).ended;
+          opened = (g.clients e).opened;
+          hand = subst (λ (x : ClientAt). IsOpenOf (other e) (g.told e) (g.ran e (length (g.told e).whole)) x) (sym here) tt;
+        }
+    by e false t = subst (λ (o : Option Statement). ClientInvariant catalog fit g.plan g.past e o (sys.clients e) (g.told e) (g.ran e)) (same e (λ k. eqb-false e c t k)) (g.clients e)
+
+abbrev stopped_hand : ClientSlot → ClientState
+stopped_hand s = record { client = s.client; stopped = true }
+
+pub linked_stops : (w : WorldAt) (i : ℕ) (s : ClientSlot) → slice_get w.client_slots i ≡ Some s → IsLinked w → IsLinked (with_event (with_client w i (client_stopped s)) (event.Stop (suc i)))
+linked_stops w i s here g =
+    linked_by w i s (client_stopped s) (event.Stop (suc i)) here
+    (free_doing w.script.catalog (tables_are_well_typed w.script.catalog) (on_one w.events ++ event.Stop (suc i) ∷ []) (system_of (at (states_of w.client_slots) (suc i) (stopped_hand s))) (at (doing_of (states_of w.client_slots)) (suc i) None) (doing_of (at (states_of w.client_slots) (suc i) (stopped_hand s))) (suc i)
+    (rw (itself (suc i)) refl) other_same
+    (subst (λ (y : SystemAt). RunInvariant w.script.catalog (tables_are_well_typed w.script.catalog) (on_one w.events ++ event.Stop (suc i) ∷ []) y (at (doing_of (states_of w.client_slots)) (suc i) None)) (λ k. record { clients = λ e. clients_same e k; begun = λ e. begun_same e k })
+    (going_stops w.script.catalog (tables_are_well_typed w.script.catalog) (on_one w.events) (system_of (states_of w.client_slots)) (doing_of (states_of w.client_slots)) g (suc i))))
+  where
+    hand_is : states_of w.client_slots (suc i) ≡ record { client = s.client; stopped = s.stopped }
+    hand_is = ap (λ (o : Option ClientSlot). state_in o (suc i)) here
+
+    clients_same : (e : ℕ) → at (λ c. abstract_client (states_of w.client_slots c)) (suc i) Stopped e ≡ abstract_client (at (states_of w.client_slots) (suc i) (stopped_hand s) e)
+    clients_same e = mapped_at abstract_client (states_of w.client_slots) (suc i) (stopped_hand s) e
+
+    begun_same : (e : ℕ) → (states_of w.client_slots e).client.begun ≡ (at (states_of w.client_slots) (suc i) (stopped_hand s) e).client.begun
+    begun_same e = kept_at (λ (h : ClientState). h.client.begun) (states_of w.client_slots) (suc i) (stopped_hand s) (ap (λ (h : ClientState). h.client.begun) (sym hand_is)) e
+
+    other_same : (e : ℕ) → (e ≡ suc i → ⊥) → at (doing_of (states_of w.client_slots)) (suc i) None e ≡ doing_of (at (states_of w.client_slots) (suc i) (stopped_hand s)) e
+    other_same e n = rw (ne_eqb e (suc i) n) refl

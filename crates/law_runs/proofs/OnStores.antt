@@ -1,0 +1,69 @@
+-- Recorded transactions and records on the stores of a script.
+use Rattle.std.proofs.Common.{◌≡◌, ℕ, Bool, true, List, [], Option, Some, sym, subst, ◌∙◌}
+use Rattle.std.specs.Prelude.{IsSome, IsSomeAnd, is_some}
+use Rattle.std.specs.FinMap.{empty}
+use Rattle.sdb_types.specs.declared.key.Key.{Key}
+use Rattle.sdb_types.specs.declared.key.TableName.{TableName}
+use Rattle.sdb_types.specs.declared.record.Record.{Record}
+use Rattle.sdb_types.specs.declared.txid.TxId.{TxId}
+use Rattle.sdb_record.specs.declared.coordinator.Decided.{Decided}
+use Rattle.sdb_record.specs.declared.coordinator.Decision.TheVariants as decision
+use Rattle.sdb_record.specs.Coordinator.{is_coordinator_table}
+use Rattle.sdb_schema.specs.declared.table.Table.{Table}
+use Rattle.sdb_model.specs.declared.event.Event.{Event}
+use Rattle.sdb_model.specs.declared.script.Script.{Script}
+use Rattle.sdb_model.specs.declared.statement.Statement.{Statement}
+use Rattle.sdb_model.specs.Events.{StoreContents, standing}
+use Rattle.sdb_model.specs.Exec.{Tables, find_table}
+use Rattle.sdb_model.specs.Rows.{Name}
+use Rattle.sdb_model.specs.Transactions.{Recorded}
+use Rattle.law_clients.specs.System.{SystemAt}
+use Rattle.law_clients.specs.Invariant.{RunInvariant}
+use Rattle.law_protocol.specs.Spread.{relocated_events, one_store}
+use Rattle.law_protocol.proofs.Moved.{commit_moved, point_moved}
+use Rattle.law_protocol.proofs.Single.{Single, single}
+use Rattle.law_protocol.proofs.Told.{one_standing}
+use Rattle.law_runs.specs.Points.{HavePoints}
+use Rattle.law_runs.specs.Stores.{AreSound, IsTraceOnEmpty}
+use Rattle.law_runs.proofs.Ended.{decides, starts_empty}
+use Rattle.law_runs.proofs.Recorded.{have_points}
+use Rattle.law_runs.proofs.Runs.{ByLaws, by_laws}
+use Rattle.law_runs.proofs.Standing.{are_known}
+use Rattle.sdb_types.proofs.Basics.{or_true}
+use Rattle.sdb_model.specs.Tables.{is_table_of_run}
+
+rows_played : (catalog : List Table) (table : TableName) → is_coordinator_table table ≡ true → is_table_of_run catalog table ≡ true
+rows_played catalog table h = rw h (or_true (is_some (find_table catalog table)))
+
+module _ (script : Script) (name : Name) (fit : Tables → Bool) (events : List Event) (sys : SystemAt) (doing : ℕ → Option Statement) (opening closing : List StoreContents) (g : RunInvariant script.catalog fit (relocated_events (λ ns. name) events) sys doing) (p : IsTraceOnEmpty script events opening closing) where
+  abbrev moved : List Event
+  moved = relocated_events (λ ns. name) events
+
+  abbrev one : Single script.catalog name script.places events empty closing
+  one = single script.catalog name script.places events opening p.moments closing empty p.traced p.about p.nothing
+
+  laws : ByLaws [] moved (one_store name empty) (one_store name one.last)
+  laws = by_laws script.catalog fit moved sys doing [] (one_store name empty) (one_store name one.last) one.singles g one.traced (starts_empty name)
+
+  recorded_there : (id : TxId) → Recorded script.places closing id → Recorded [] (one_store name one.last) id
+  recorded_there id h = subst (λ (d : Option Decided). IsSomeAnd d (λ d. d.decision ≡ decision.Committed)) (decides script.catalog script.places closing name one.last one.same id) h
+
+  pub points_on_stores : HavePoints script.places events closing
+  points_on_stores =
+      let h = have_points [] moved (one_store name empty) (one_store name one.last) laws in
+      record {
+        taken = λ id small r. subst IsSome (commit_moved (λ ns. name) events id) (h.taken id small (recorded_there id r));
+        some = λ id small r none. h.some id small (recorded_there id r) (point_moved (λ ns. name) events id ∙ none);
+        apart = λ id other small low r q differ same. h.apart id other small low (recorded_there id r) (recorded_there other q) differ (point_moved (λ ns. name) events id ∙ same ∙ sym (point_moved (λ ns. name) events other));
+      }
+
+  stands_there : (k : Key) (r : Record) → is_table_of_run script.catalog k.table ≡ true → standing script.places closing k ≡ Some r → standing [] (one_store name one.last) k ≡ Some r
+  stands_there k r about h = one_standing name one.last k ∙ sym (one.same.at k about) ∙ h
+
+  pub sound_on_stores : AreSound script.catalog script.places closing
+  sound_on_stores =
+      let h = are_known [] moved (one_store name empty) (one_store name one.last) laws in
+      record {
+        taken = λ k r about of_data stands. h.taken k r of_data (stands_there k r about stands);
+        rows = λ k row of_rows stands. h.rows k row of_rows (stands_there k row (rows_played script.catalog k.table of_rows) stands);
+      }

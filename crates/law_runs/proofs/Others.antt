@@ -1,0 +1,173 @@
+-- In the coordinator's table records are at the keys of transactions' rows alone.
+use Rattle.std.proofs.Common.{◌≡◌, ◌≢◌, ℕ, ◌<◌, ◌^◌, Bool, true, false, List, [], ◌∷◌, Option, Some, None, ◌⊎◌, inl, inr, refl, sym, ap, subst, ◌∙◌}
+use Rattle.std.specs.Prelude.{◌&&◌, if◌then◌else◌}
+use Rattle.sdb_types.specs.declared.key.Key.{Key}
+use Rattle.sdb_types.specs.declared.pair.Pair.{Pair}
+use Rattle.sdb_types.specs.declared.txid.TxId.{TxId}
+use Rattle.sdb_types.specs.declared.record.Record.{Record}
+use Rattle.sdb_types.specs.declared.record.State.{State}
+use Rattle.sdb_types.specs.declared.record.Request.{Request}
+use Rattle.sdb_types.specs.declared.record.Request.TheVariants as ask
+use Rattle.sdb_types.specs.declared.record.Reply.{Reply}
+use Rattle.sdb_types.specs.Contents.{Contents, after, holds, record_at}
+use Rattle.sdb_types.specs.Order.{same_key}
+use Rattle.sdb_types.proofs.Keys.{same_key_tells}
+use Rattle.sdb_types.specs.declared.record.Condition.TheVariants as condition
+use Rattle.sdb_record.specs.declared.coordinator.Decision.TheVariants.{Committed, Aborted}
+use Rattle.sdb_record.specs.Coordinator.{coordinator_key_of}
+use Rattle.sdb_record.specs.Parts.{before_part, before_record, record_with}
+use Rattle.sdb_record.proofs.ImageLaws.{row-key}
+use Rattle.sdb_record.proofs.RollLaws.{forward-key}
+use Rattle.sdb_record.proofs.TakenLaws.{prepared-key}
+use Rattle.sdb_record.specs.Rolls.{undo}
+use Rattle.sdb_model.specs.declared.event.Event.{Event}
+use Rattle.sdb_model.specs.declared.event.Event.TheVariants as event
+use Rattle.sdb_types.specs.declared.place.Place.{Place}
+use Rattle.sdb_model.specs.Events.{Effect, StoreContents, standing}
+use Rattle.sdb_model.specs.ReadSet.{KeyRead, ReadItem, SpanRead}
+use Rattle.law_protocol.specs.History.{Action, Other, Begins, Takes, Prepares, Checks, Decides, Aborts, Rolls, Removes, Ends, Stops, History, ProtocolState}
+use Rattle.law_protocol.specs.Lawful.{IsCallOf, IsLawful, IsUnchanged, IsEnabled, MayRoll, Labelled, id, is_quiet}
+use Rattle.law_protocol.specs.Plan.{Plan}
+use Rattle.law_protocol.specs.Trace.{IsTraced, StartsEmpty, closing, history}
+use Rattle.law_protocol.proofs.Effects.{AtCall, after_delete, after_put, at_call}
+use Rattle.law_protocol.proofs.Known.{held_key, taken_fits, write_key}
+use Rattle.law_protocol.proofs.Settled.{Knows, prepared_there}
+use Rattle.law_protocol.proofs.Whole.{whole}
+use Rattle.sdb_model.specs.Tables.{is_data}
+
+-- the key of a transaction's row
+pub record IsRowKey (k : Key) : Type 0 where
+  pub t : ℕ
+  pub fits : t < 2 ^ 128
+  pub same : k ≡ coordinator_key_of (id t)
+
+---- what is at a key was there before the event, or the event puts it there
+
+abbrev pub PutsBy : Request → Key → Type 0
+PutsBy (ask.Get key) k = ⊥
+PutsBy (ask.Scan span) k = ⊥
+PutsBy (ask.PutIf rec condition) k = rec.key ≡ k
+PutsBy (ask.DeleteIf key condition) k = ⊥
+
+abbrev pub PutsAt : Event → Key → Type 0
+PutsAt (event.Take client text answer) k = ⊥
+PutsAt (event.Call client store q how r answer) k = PutsBy q k
+PutsAt (event.Stop client) k = ⊥
+PutsAt (event.Clock moment) k = ⊥
+PutsAt (event.Idle client) k = ⊥
+
+left_or_put : (q : Request) (m : Contents) (k : Key) (row : Record) → record_at (after q m) k ≡ Some row → (record_at m k ≡ Some row) ⊎ PutsBy q k
+left_or_put (ask.Get key) m k row h = inl h
+left_or_put (ask.Scan span) m k row h = inl h
+left_or_put (ask.PutIf rec c) m k row h = by (holds c (record_at m rec.key)) (same_key k rec.key) (same_key_tells k rec.key) (sym (after_put rec c m k) ∙ h)
+  where
+    by : (b s : Bool) → ((s ≡ true) × (k ≡ rec.key)) ⊎ ((s ≡ false) × (k ≢ rec.key)) → (if b && s then Some rec else record_at m k) ≡ Some row → (record_at m k ≡ Some row) ⊎ (rec.key ≡ k)
+    by b s (inl e) h = inr (sym e.1)
+    by true true (inr n) h = absurd (cc)
+    by true false (inr n) h = inl h
+    by false s (inr n) h = inl h
+left_or_put (ask.DeleteIf key c) m k row h = by (holds c (record_at m key) && same_key k key) (sym (after_delete key c m k) ∙ h)
+  where
+    by : (b : Bool) → (if b then None else record_at m k) ≡ Some row → (record_at m k ≡ Some row) ⊎ ⊥
+    by true h = absurd (cc)
+    by false h = inl h
+
+call_left_or_put : (places : List Place) (q : Request) (r : Reply) (before now : List StoreContents) (k : Key) (row : Record) → AtCall places q r before now → standing places now k ≡ Some row → (standing places before k ≡ Some row) ⊎ PutsBy q k
+call_left_or_put places q r before now k row a h = elim (a.there k) [
+  | inl x ↦ elim a.moved [
+    | inl m ↦ elim (left_or_put q a.held k row (sym (x.1 ∙ ap (λ c. record_at c k) m.0) ∙ h)) [ inl stood ↦ inl (x.0 ∙ stood) | inr put ↦ inr put ]
+    | inr m ↦ inl (x.0 ∙ sym (x.1 ∙ ap (λ c. record_at c k) m.0) ∙ h)
+  ]
+  | inr x ↦ inl (sym x.0 ∙ h)
+]
+
+pub stood_or_put : (places : List Place) (e : Event) (before now : List StoreContents) (k : Key) (row : Record) → Effect places e before now → standing places now k ≡ Some row → (standing places before k ≡ Some row) ⊎ PutsAt e k
+stood_or_put places (event.Take client text answer) before now k row same h = inl (ap (λ s. standing places s k) (sym same) ∙ h)
+stood_or_put places (event.Call client store q how r answer) before now k row c h = call_left_or_put places q r before now k row (at_call places store q how r before now c) h
+stood_or_put places (event.Stop client) before now k row same h = inl (ap (λ s. standing places s k) (sym same) ∙ h)
+stood_or_put places (event.Clock moment) before now k row same h = inl (ap (λ s. standing places s k) (sym same) ∙ h)
+stood_or_put places (event.Idle client) before now k row same h = inl (ap (λ s. standing places s k) (sym same) ∙ h)
+
+---- where an event puts
+
+data_apart : {A : Type 0} (k q : Key) → is_data k ≡ true → is_data q ≡ false → k ≡ q → A
+data_apart k q of_data row same = absurd (clash (sym of_data ∙ ap is_data same ∙ row))
+  where
+    clash : true ≡ false → ⊥
+    clash e = cc
+
+called : (e : Event) (client : ℕ) (q : Request) (r : Reply) (k : Key) → IsCallOf e client q r → PutsAt e k → PutsBy q k
+called e client q r k call put = subst (λ x. PutsAt x k) call.call put
+
+quiet_puts_none : (e : Event) (k : Key) → is_quiet e ≡ true → PutsAt e k → ⊥
+quiet_puts_none (event.Take client text answer) k quiet put = put
+quiet_puts_none (event.Call client store (ask.Get key) how r answer) k quiet put = put
+quiet_puts_none (event.Call client store (ask.Scan span) how r answer) k quiet put = put
+quiet_puts_none (event.Call client store (ask.PutIf rec c) how r answer) k quiet put = absurd (cc)
+quiet_puts_none (event.Call client store (ask.DeleteIf key c) how r answer) k quiet put = put
+quiet_puts_none (event.Stop client) k quiet put = put
+quiet_puts_none (event.Clock moment) k quiet put = put
+quiet_puts_none (event.Idle client) k quiet put = put
+
+check_puts_none : (plan : Plan) (item : ReadItem) (q : Request) (r : Reply) (k : Key) → IsUnchanged plan item q r → PutsBy q k → ⊥
+check_puts_none plan (KeyRead read) q r k same put = subst (λ x. PutsBy x k) same.1 put
+check_puts_none plan (SpanRead scan) q r k same put = subst (λ x. PutsBy x k) same.1 put
+
+key_before : (r b : Record) → before_record r ≡ Some b → b.key ≡ r.key
+unfolding before_record
+key_before r b e = by r.key (before_part r.columns) e
+  where
+    by : (key : Key) (ps : List Pair) → record_with key ps ≡ Some b → b.key ≡ key
+    by key [] e = absurd (cc)
+    by key (p ∷ ps) e = cc
+
+back_puts : (k : Key) (t : TxId) (s : State) (o : Option Record) (q : Key) → ((b : Record) → o ≡ Some b → b.key ≡ k) → PutsBy (undo (condition.Version t s) k o) q → k ≡ q
+back_puts k t s None q key put = absurd put
+back_puts k t s (Some b) q key put = sym (key b refl) ∙ put
+
+rolled_key : (plan : ℕ → Plan) (w : History) (past : List Labelled) (e : Event) (t : ℕ) (k : Key) → Knows plan w past → (m : MayRoll plan past e t k) → m.rolled.key ≡ k
+rolled_key plan w past e t k knows m =
+    let own = prepared_there plan w past t k m.rolled knows m.outside m.prepared in
+    ap (λ (r : Record). r.key) own.same ∙ held_key plan t k own.writes
+
+-- What is put in the coordinator's table is put at the key of a transaction's row.
+puts_row : (plan : ℕ → Plan) (w : History) (past : List Labelled) (e : Event) (action : Action) (q : Key) → Knows plan w past → IsEnabled plan past e action → is_data q ≡ false → PutsAt e q → IsRowKey q
+puts_row plan w past e Other q knows m row put = absurd (quiet_puts_none e q m put)
+puts_row plan w past e (Begins t c) q knows m row put = absurd (subst (λ x. PutsAt x q) m.take put)
+puts_row plan w past e (Takes t) q knows m row put = absurd (subst (λ x. PutsAt x q) m.take put)
+puts_row plan w past e (Prepares t k word) q knows m row put =
+    let taken = subst (λ (x : ProtocolState). x.taken t ≡ true) knows.talks m.within.taken in
+    data_apart k q ((knows.planned t taken).write k m.write m.at).1 row (sym (prepared-key m.write (id t) (plan t).now ∙ write_key (plan t) k m.write m.at) ∙ called e m.client _ m.r q m.call put)
+puts_row plan w past e (Checks t i) q knows m row put = absurd (check_puts_none (plan t) m.item m.q m.r q m.unchanged (called e m.client m.q m.r q m.call put))
+puts_row plan w past e (Decides t word) q knows m row put = record {
+  t = t;
+  fits = taken_fits w t knows.inv.begun knows.fits (subst (λ (x : ProtocolState). x.taken t ≡ true) knows.talks m.within.taken);
+  same = sym (called e m.client _ m.r q m.call put) ∙ row-key (id t) Committed (plan t).now;
+}
+puts_row plan w past e (Aborts t moment word) q knows m row put = record {
+  t = t;
+  fits = m.fits;
+  same = sym (called e m.client _ m.r q m.call put) ∙ row-key (id t) Aborted moment;
+}
+puts_row plan w past e (Rolls t k Committed) q knows m row put =
+    data_apart k q m.roll.outside row (sym (forward-key m.roll.rolled m.moment ∙ rolled_key plan w past e t k knows m.roll) ∙ called e m.roll.client _ m.roll.r q m.call put)
+puts_row plan w past e (Rolls t k Aborted) q knows m row put =
+    data_apart k q m.roll.outside row (back_puts k (id t) m.roll.s (before_record m.roll.rolled) q (λ b h. key_before m.roll.rolled b h ∙ rolled_key plan w past e t k knows m.roll) (called e m.roll.client _ m.roll.r q m.call put))
+puts_row plan w past e (Removes k t) q knows m row put = absurd (called e m.client _ m.r q m.call put)
+puts_row plan w past e (Ends t) q knows m row put = absurd m
+puts_row plan w past e (Stops c) q knows m row put = absurd (subst (λ x. PutsAt x q) m put)
+
+---- every event
+
+-- After a lawful list of events from empty stores, each record of the coordinator's table is at the key of a transaction's row.
+pub only_rows : (plan : ℕ → Plan) (places : List Place) (opening : List StoreContents) (past : List Labelled) (ss : List (List StoreContents)) (k : Key) (row : Record) → StartsEmpty places opening → IsLawful plan past → IsTraced places opening past ss → is_data k ≡ false → standing places (closing opening ss) k ≡ Some row → IsRowKey k
+only_rows plan places opening [] [] k row empty l t outside h = absurd (none (sym (empty k) ∙ h))
+  where
+    none : ◌≡◌ {A = Option Record} None (Some row) → ⊥
+    none e = cc
+only_rows plan places opening [] (s ∷ ss) k row empty l t outside h = absurd t
+only_rows plan places opening (p ∷ past) [] k row empty l t outside h = absurd t
+only_rows plan places opening (p ∷ past) (s ∷ ss) k row empty l t outside h = elim (stood_or_put places p.event (closing opening ss) s k row t.1 h) [
+  | inl stood ↦ only_rows plan places opening past ss k row empty l.0 t.0 outside stood
+  | inr put ↦ puts_row plan (history plan places opening past ss) past p.event p.action k (whole plan places opening past ss empty l.0 t.0).knows l.1 outside put
+]

@@ -1,0 +1,388 @@
+-- The calls of a COMMIT, one after the other: which keys they prepare, and that all were applied where it decides.
+use Rattle.std.proofs.Common.{◌≡◌, ◌⊎◌, inl, inr, ◌<◌, ◌≤◌, ◌+◌, ℕ, ℤ, zero, suc, Bool, true, false, List, [], ◌∷◌, ◌++◌, length, take, Option, Some, None, refl, sym, ap, subst, pos, ◌∙◌, arith}
+use Rattle.std.specs.Prelude.{Contains, filter, if◌then◌else◌, nat_lt, slice_get}
+use Rattle.std.specs.List.{AllByRecursion, cons_option, filter_map}
+use Rattle.std.specs.Option.{option_and_then, option_map}
+use Rattle.std.proofs.lemmas.Bool.Decides.{nat_tests}
+use Rattle.std.proofs.lemmas.List.{append-nil, length-map, take_all}
+use Rattle.std.proofs.lemmas.List.Elements.{Contains-push_cases, filter-append, filter_map-append}
+use Rattle.sdb_types.specs.declared.key.Key.{Key}
+use Rattle.sdb_types.specs.declared.pair.Pair.{Pair}
+use Rattle.sdb_types.specs.declared.record.Record.{Record}
+use Rattle.sdb_types.specs.declared.record.Reply.{Reply}
+use Rattle.sdb_types.specs.declared.record.Reply.TheVariants as reply
+use Rattle.sdb_types.specs.declared.record.Request.{Request}
+use Rattle.sdb_types.specs.declared.record.Request.TheVariants as ask
+use Rattle.sdb_types.specs.declared.record.Condition.TheVariants as condition
+use Rattle.sdb_types.specs.declared.txid.TxId.{TxId}
+use Rattle.sdb_types.specs.declared.value.Value.{Value}
+use Rattle.sdb_types.specs.declared.value.Value.TheVariants as value
+use Rattle.sdb_types.specs.Replies.{is_applied}
+use Rattle.sdb_types.proofs.Basics.{clash, none_some, some_is}
+use Rattle.sdb_record.specs.declared.coordinator.Decision.TheVariants as decision
+use Rattle.sdb_record.specs.declared.write.Write.{Write}
+use Rattle.sdb_record.specs.Coordinator.{coordinator_row_of}
+use Rattle.sdb_record.specs.Rolls.{IsWrite, prepared_record, undo}
+use Rattle.sdb_record.proofs.TakenLaws.{prepared-key}
+use Rattle.sdb_model.specs.Calls.{StoreCall, calls_before, is_read, key_asked, put_by}
+use Rattle.sdb_model.specs.Counted.{prepares_in}
+use Rattle.sdb_model.specs.Transactions.{prepares}
+use Rattle.sdb_phases.specs.declared.check.Check.{Check}
+use Rattle.sdb_phases.specs.declared.step.DecidePhase.{DecidePhase}
+use Rattle.sdb_phases.specs.declared.step.DecidePhase.TheVariants as phase
+use Rattle.sdb_phases.specs.declared.step.DecideStep.{DecideStep}
+use Rattle.sdb_phases.specs.declared.step.DecideStep.TheVariants as decide
+use Rattle.sdb_phases.specs.declared.step.Outcome.{Outcome}
+use Rattle.sdb_phases.specs.declared.step.Outcome.TheVariants as outcome
+use Rattle.sdb_phases.specs.declared.step.ValidateStep.{ValidateStep}
+use Rattle.sdb_phases.specs.declared.step.ValidateStep.TheVariants as validate
+use Rattle.sdb_phases.specs.Checks.{checks}
+use Rattle.sdb_phases.specs.Commit.{Stage, Preparing, Checking, Deciding, Forward, Stopping, Back, Over, after_abort, after_check, after_decide, after_prepare, back, checking, forward, pending, preparing}
+use Rattle.sdb_phases.specs.Steps.{decide_next, decide_request_at, prepare_step, refused, touched_after}
+use Rattle.sdb_phases.specs.Work.{Work, abort_of, back_of, forward_of, look_of, prepare_of, is_as_prepared}
+use Rattle.sdb_phases.specs.Work as work
+use Rattle.sdb_commit.specs.Phases.{IsNext}
+use Rattle.law_clients.proofs.Lists.{each_at}
+use Rattle.law_answers.proofs.Conflicts.{mapped_at, prepared_is, undo_unprepared}
+use Rattle.law_answers.proofs.Lists.{each_in}
+use Rattle.law_answers.proofs.Rows.{before_stays}
+use Rattle.law_runs.specs.Laws.{row_put}
+use Rattle.law_runs.specs.Written.{PreparesAll, PutsCommitted, keys_applied, keys_prepared}
+use Rattle.law_runs.proofs.RowWrites.{checks_read}
+use Rattle.law_runs.proofs.Unprepared.{checks_no, decide_no, forward_no, row_no}
+use Rattle.law_runs.proofs.Writing.{write_keys}
+
+---- the keys that calls prepare
+
+prepared_append : (id : TxId) (xs ys : List StoreCall) → keys_prepared id (xs ++ ys) ≡ keys_prepared id xs ++ keys_prepared id ys
+prepared_append id xs ys = ap (filter_map (λ (x : StoreCall). key_asked x.request)) (filter-append (λ (x : StoreCall). prepares id x.request) xs ys) ∙ filter_map-append (λ (x : StoreCall). key_asked x.request) (prepares_in id xs) (prepares_in id ys)
+
+module _ (id : TxId) (calls : List StoreCall) (m : StoreCall) where
+  applied_more : keys_applied id (calls ++ m ∷ []) ≡ keys_applied id calls ++ keys_applied id (m ∷ [])
+  applied_more = ap (keys_prepared id) (filter-append (λ (x : StoreCall). is_applied x.reply) calls (m ∷ [])) ∙ prepared_append id (filter (λ (x : StoreCall). is_applied x.reply) calls) (filter (λ (x : StoreCall). is_applied x.reply) (m ∷ []))
+
+  none_prepared : prepares id m.request ≡ false → keys_prepared id (m ∷ []) ≡ []
+  none_prepared f = ap (λ b. filter_map (λ (x : StoreCall). key_asked x.request) (if b then m ∷ [] else [])) f
+
+  none_applied : prepares id m.request ≡ false → keys_applied id (m ∷ []) ≡ []
+  none_applied f = by (is_applied m.reply)
+    where
+      by : (b : Bool) → keys_prepared id (if b then m ∷ [] else []) ≡ []
+      by true = none_prepared f
+      by false = refl
+
+  pub one_prepared : (k : Key) → prepares id m.request ≡ true → key_asked m.request ≡ Some k → keys_prepared id (m ∷ []) ≡ k ∷ []
+  one_prepared k t e = ap (λ b. filter_map (λ (x : StoreCall). key_asked x.request) (if b then m ∷ [] else [])) t ∙ ap (λ (o : Option Key). cons_option o []) e
+
+  one_applied : (k : Key) → is_applied m.reply ≡ true → prepares id m.request ≡ true → key_asked m.request ≡ Some k → keys_applied id (m ∷ []) ≡ k ∷ []
+  one_applied k a t e = ap (λ b. keys_prepared id (if b then m ∷ [] else [])) a ∙ one_prepared k t e
+
+  -- a call that prepares none
+  prepared_same : prepares id m.request ≡ false → keys_prepared id (calls ++ m ∷ []) ≡ keys_prepared id calls
+  prepared_same f = prepared_append id calls (m ∷ []) ∙ ap (λ ks. keys_prepared id calls ++ ks) (none_prepared f) ∙ append-nil (keys_prepared id calls)
+
+  applied_same : prepares id m.request ≡ false → keys_applied id (calls ++ m ∷ []) ≡ keys_applied id calls
+  applied_same f = applied_more ∙ ap (λ ks. keys_applied id calls ++ ks) (none_applied f) ∙ append-nil (keys_applied id calls)
+
+---- where a COMMIT is
+
+-- its calls prepared these keys, and each prepare was applied
+abbrev pub HavePrepared : Work → List StoreCall → List Key → Type 0
+HavePrepared p calls keys = (keys_prepared p.id calls ≡ keys) × (keys_applied p.id calls ≡ keys)
+
+-- Until the deciding put each prepare was applied: those of the keys before this one, or of all.
+abbrev pub ReadyAt : Work → List StoreCall → Stage → Type 0
+ReadyAt p calls (Preparing i) = HavePrepared p calls (take i (write_keys p.writes))
+ReadyAt p calls (Checking i) = HavePrepared p calls (write_keys p.writes)
+ReadyAt p calls (Deciding phase.Put) = HavePrepared p calls (write_keys p.writes)
+ReadyAt p calls s = Unit {0}
+
+pub record CommitPrepares (p : Work) (calls : List StoreCall) (s : Stage) : Type 0 where
+  pub ready : ReadyAt p calls s
+  pub sofar : PreparesAll (write_keys p.writes) p.id calls
+
+---- lists
+
+take_next : (ws : List Write) (i : ℕ) (w : Write) → slice_get ws i ≡ Some w → take (i + 1) (write_keys ws) ≡ take i (write_keys ws) ++ w.key ∷ []
+take_next ws i w e = ap (λ n. take n (write_keys ws)) (one i) ∙ by ws i e
+  where
+    one : (n : ℕ) → n + 1 ≡ suc n
+    one n = omega arith
+
+    by : (xs : List Write) (j : ℕ) → slice_get xs j ≡ Some w → take (suc j) (write_keys xs) ≡ take j (write_keys xs) ++ w.key ∷ []
+    by [] j k = none_some w k
+    by (x ∷ xs) zero k = ap (λ (y : Write). y.key ∷ []) (some_is x w k)
+    by (x ∷ xs) (suc j) k = ap (λ r. x.key ∷ r) (by xs j k)
+
+all_before : (n : ℕ) (calls : List StoreCall) → AllByRecursion (λ x. x.at < n) calls → calls_before n calls ≡ calls
+all_before n [] all = refl
+all_before n (x ∷ xs) all = ap (λ b. if b then x ∷ calls_before n xs else calls_before n xs) (low x.at all.0) ∙ ap (λ ms. x ∷ ms) (all_before n xs all.1)
+  where
+    low : (k : ℕ) → k < n → nat_lt k n ≡ true
+    low k l = grind (arith, nat_tests)
+
+at_end : (i n : ℕ) → nat_lt i n ≡ false → n ≤ i
+at_end i n e = grind (arith, nat_tests)
+
+---- requests that decide nothing
+
+abbrev second : List Pair → Option Value
+second (x ∷ y ∷ ps) = Some y.value
+second ps = None
+
+abort_other : (id : TxId) (a b : ℤ) → abort_of id a ≡ row_put id decision.Committed b → ⊥
+unfolding coordinator_row_of
+abort_other id a b e = by (ap (λ (q : Request). option_and_then (λ (r : Record). second r.columns) (put_by q)) e)
+  where
+    by : Some (value.Int (pos 4)) ≡ Some (value.Int (pos 3)) → ⊥
+    by k = cc
+
+undo_other : (p : Work) (w : Write) (o : Option Record) (now : ℤ) → undo (is_as_prepared p.id w) w.key o ≡ row_put p.id decision.Committed now → ⊥
+undo_other p w None now e = cc
+undo_other p w (Some b) now e = cc
+
+---- one call more
+
+module _ (p : Work) (writes : AllByRecursion IsWrite p.writes) (calls : List StoreCall) (m : StoreCall) (older : AllByRecursion (λ x. x.at < m.at) calls) where
+  abbrev keys : List Key
+  keys = write_keys p.writes
+
+  abbrev more : List StoreCall
+  more = calls ++ m ∷ []
+
+  abbrev Decides : ℤ → Type 0
+  Decides now = m.request ≡ row_put p.id decision.Committed now
+
+  now_before : calls_before m.at more ≡ calls
+  now_before = before_stays p.id calls m older m.at (omega arith) ∙ all_before m.at calls older
+
+  decided_more : PreparesAll keys p.id calls → ((now : ℤ) → Decides now → keys_applied p.id calls ≡ keys) → (x : StoreCall) → Contains more x → PutsCommitted p.id x → keys_applied p.id (calls_before x.at more) ≡ keys
+  decided_more h own x has e = by (Contains-push_cases calls m x has)
+    where
+      le : (a b : ℕ) → a < b → a ≤ b
+      le a b l = omega arith
+
+      by : Contains calls x ⊎ (m ≡ x) → keys_applied p.id (calls_before x.at more) ≡ keys
+      by (inl old) = ap (keys_applied p.id) (before_stays p.id calls m older x.at (le x.at m.at (each_in (λ (y : StoreCall). y.at < m.at) calls x older old))) ∙ h.decided x old e
+      by (inr same) = subst (λ (y : StoreCall). keys_applied p.id (calls_before y.at more) ≡ keys) same (ap (keys_applied p.id) now_before ∙ own e.0 (ap (λ (y : StoreCall). y.request) same ∙ e.1))
+
+  other_more : prepares p.id m.request ≡ false → ((now : ℤ) → Decides now → keys_applied p.id calls ≡ keys) → PreparesAll keys p.id calls → PreparesAll keys p.id more
+  other_more f own h = record { count = h.count; prepared = prepared_same p.id calls m f ∙ h.prepared; decided = decided_more h own }
+
+  have_same : (ks : List Key) → prepares p.id m.request ≡ false → HavePrepared p calls ks → HavePrepared p more ks
+  have_same ks f h = (prepared_same p.id calls m f ∙ h.0, applied_same p.id calls m f ∙ h.1)
+
+  ---- a prepare
+
+  module _ (i : ℕ) (asked : slice_get (work.prepares p) i ≡ Some m.request) (ready : HavePrepared p calls (take i keys)) where
+    abbrev at_write : (w : Write) × (slice_get p.writes i ≡ Some w) × (prepare_of p.id p.now w ≡ m.request)
+    at_write = mapped_at (prepare_of p.id p.now) p.writes i m.request asked
+
+    is_put : prepares p.id m.request ≡ true
+    is_put = sym (ap (prepares p.id) at_write.2) ∙ prepared_is p.id p.now at_write.0
+
+    key_is : key_asked m.request ≡ Some at_write.0.key
+    key_is = sym (ap key_asked at_write.2) ∙ ap Some (prepared-key at_write.0 p.id p.now)
+
+    next_keys : take i keys ++ at_write.0.key ∷ [] ≡ take (i + 1) keys
+    next_keys = sym (take_next p.writes i at_write.0 at_write.1)
+
+    prepared_next : keys_prepared p.id more ≡ take (i + 1) keys
+    prepared_next = prepared_append p.id calls (m ∷ []) ∙ ap (λ ks. ks ++ keys_prepared p.id (m ∷ [])) ready.0 ∙ ap (λ ks. take i keys ++ ks) (one_prepared p.id calls m at_write.0.key is_put key_is) ∙ next_keys
+
+    applied_next : is_applied m.reply ≡ true → HavePrepared p more (take (i + 1) keys)
+    applied_next a = (prepared_next, applied_more p.id calls m ∙ ap (λ ks. ks ++ keys_applied p.id (m ∷ [])) ready.1 ∙ ap (λ ks. take i keys ++ ks) (one_applied p.id calls m at_write.0.key a is_put key_is) ∙ next_keys)
+
+    prepare_more : PreparesAll keys p.id calls → PreparesAll keys p.id more
+    prepare_more h = record { count = i + 1; prepared = prepared_next; decided = decided_more h (λ now e. clash (sym is_put ∙ ap (prepares p.id) e ∙ row_no p.id p.id decision.Committed now condition.Absent)) }
+
+    checking_ready : HavePrepared p more keys → ReadyAt p more (checking p 0)
+    checking_ready h = by (nat_lt 0 (length (checks p)))
+      where
+        by : (b : Bool) → ReadyAt p more (if b then Checking 0 else Deciding phase.Put)
+        by true = h
+        by false = h
+
+    all_keys : nat_lt (i + 1) (length p.writes) ≡ false → take (i + 1) keys ≡ keys
+    all_keys f = take_all (i + 1) keys (long (length keys) (length p.writes) (length-map p.writes (λ w. w.key)) (at_end (i + 1) (length p.writes) f))
+      where
+        long : (a b : ℕ) → a ≡ b → b ≤ i + 1 → a ≤ i + 1
+        long a b e l = omega (arith, e, l)
+
+    refused_ready : (n : ℕ) (o : Option Request) (found : Option Record) → ReadyAt p more (after_prepare p i n (refused o found))
+    refused_ready n None found = tt
+    refused_ready n (Some (ask.PutIf rec c)) found = tt
+    refused_ready n (Some (ask.Get key)) found = tt
+    refused_ready n (Some (ask.Scan span)) found = tt
+    refused_ready n (Some (ask.DeleteIf key c)) found = tt
+
+    prepare_ready : (b : Bool) (n : ℕ) (o : Option Request) (r : Reply) → nat_lt (i + 1) (length p.writes) ≡ b → m.reply ≡ r → ReadyAt p more (after_prepare p i n (prepare_step b o r))
+    prepare_ready true n o reply.Applied e a = applied_next (ap is_applied a)
+    prepare_ready false n o reply.Applied e a = checking_ready (subst (HavePrepared p more) (all_keys e) (applied_next (ap is_applied a)))
+    prepare_ready b n o (reply.NotMet found) e a = refused_ready n o found
+    prepare_ready b n o reply.Fault e a = tt
+    prepare_ready b n o (reply.Found found) e a = tt
+    prepare_ready b n o (reply.Rows rows) e a = tt
+    prepare_ready b n o reply.NoMemory e a = tt
+
+  ---- where a reply leads
+
+  check_ready : (i : ℕ) (v : ValidateStep) → HavePrepared p more keys → ReadyAt p more (after_check p i v)
+  check_ready i validate.More h = h
+  check_ready i validate.Valid h = h
+  check_ready i (validate.Conflict key found) h = tt
+  check_ready i validate.Faulted h = tt
+  check_ready i validate.NoMemory h = tt
+
+  forward_ready : (i : ℕ) → ReadyAt p more (forward p i)
+  forward_ready i = by (nat_lt i (length p.writes))
+    where
+      by : (b : Bool) → ReadyAt p more (if b then Forward i else Over outcome.Committed)
+      by true = tt
+      by false = tt
+
+  back_ready : (a : Outcome) (n i : ℕ) → ReadyAt p more (back a n i)
+  back_ready a n i = by (nat_lt i n)
+    where
+      by : (b : Bool) → ReadyAt p more (if b then Back a n i else Over a)
+      by true = tt
+      by false = tt
+
+  abort_ready : (a : Outcome) (n : ℕ) (r : Reply) → ReadyAt p more (after_abort a n r)
+  abort_ready a n reply.Applied = back_ready a n 0
+  abort_ready a n (reply.NotMet found) = back_ready a n 0
+  abort_ready a n reply.Fault = tt
+  abort_ready a n (reply.Found found) = tt
+  abort_ready a n (reply.Rows rows) = tt
+  abort_ready a n reply.NoMemory = tt
+
+  -- the deciding put is not put again
+  abbrev IsLater : DecidePhase → Type 0
+  IsLater phase.Put = ⊥
+  IsLater d = Unit {0}
+
+  next_later : (d : DecidePhase) (r : Reply) → IsLater (decide_next p.id d r).0
+  next_later phase.Put reply.Applied = tt
+  next_later phase.Put (reply.NotMet (Some row)) = tt
+  next_later phase.Put (reply.NotMet None) = tt
+  next_later phase.Put reply.Fault = tt
+  next_later phase.Put (reply.Found found) = tt
+  next_later phase.Put (reply.Rows rows) = tt
+  next_later phase.Put reply.NoMemory = tt
+  next_later phase.Look (reply.Found None) = tt
+  next_later phase.Look (reply.Found (Some row)) = tt
+  next_later phase.Look reply.Applied = tt
+  next_later phase.Look (reply.NotMet found) = tt
+  next_later phase.Look reply.Fault = tt
+  next_later phase.Look (reply.Rows rows) = tt
+  next_later phase.Look reply.NoMemory = tt
+  next_later phase.Abort reply.Applied = tt
+  next_later phase.Abort (reply.NotMet (Some row)) = tt
+  next_later phase.Abort (reply.NotMet None) = tt
+  next_later phase.Abort reply.Fault = tt
+  next_later phase.Abort (reply.Found found) = tt
+  next_later phase.Abort (reply.Rows rows) = tt
+  next_later phase.Abort reply.NoMemory = tt
+  next_later phase.Again (reply.Found (Some row)) = tt
+  next_later phase.Again (reply.Found None) = tt
+  next_later phase.Again reply.Applied = tt
+  next_later phase.Again (reply.NotMet found) = tt
+  next_later phase.Again reply.Fault = tt
+  next_later phase.Again (reply.Rows rows) = tt
+  next_later phase.Again reply.NoMemory = tt
+  next_later phase.Ended r = tt
+
+  open_ready : (d : DecidePhase) → IsLater d → ReadyAt p more (Deciding d)
+  open_ready phase.Put l = absurd l
+  open_ready phase.Look l = tt
+  open_ready phase.Abort l = tt
+  open_ready phase.Again l = tt
+  open_ready phase.Ended l = tt
+
+  decide_ready : (d : DecidePhase) (x : DecideStep) → IsLater d → ReadyAt p more (after_decide p d x)
+  decide_ready d decide.More l = open_ready d l
+  decide_ready d decide.Committed l = forward_ready 0
+  decide_ready d (decide.Expired id) l = back_ready _ (length p.writes) 0
+  decide_ready d decide.Faulted l = back_ready _ (length p.writes) 0
+  decide_ready d (decide.Unknown id) l = tt
+  decide_ready d (decide.BadRecord key) l = tt
+  decide_ready d decide.NoMemory l = tt
+
+  ---- by where it is
+
+  -- only prepares prepare
+  check_at : (i : ℕ) → pending p (Checking i) ≡ Some m.request → (prepares p.id m.request ≡ false) × (is_read m.request ≡ true)
+  check_at i e = by (slice_get (checks p) i) refl e
+    where
+      by : (o : Option Check) → slice_get (checks p) i ≡ o → option_map (λ (c : Check). c.request) o ≡ Some m.request → (prepares p.id m.request ≡ false) × (is_read m.request ≡ true)
+      by None f k = none_some m.request k
+      by (Some c) f k =
+          let same = some_is c.request m.request k in
+          (ap (prepares p.id) (sym same) ∙ each_at (λ (y : Check). prepares p.id y.request ≡ false) (checks p) i c (checks_no p.id p) f, ap is_read (sym same) ∙ each_at (λ (y : Check). is_read y.request ≡ true) (checks p) i c (checks_read p) f)
+
+  forward_at : (i : ℕ) → slice_get (work.forwards p) i ≡ Some m.request → (prepares p.id m.request ≡ false) × ((now : ℤ) → Decides now → ⊥)
+  forward_at i e =
+      let x = mapped_at (forward_of p.id p.now) p.writes i m.request e in
+      (ap (prepares p.id) (sym x.2) ∙ forward_no p.id (prepared_record x.0 p.id p.now) p.now (is_as_prepared p.id x.0), λ now d. by x.0 now (x.2 ∙ d))
+    where
+      by : (w : Write) (now : ℤ) → forward_of p.id p.now w ≡ row_put p.id decision.Committed now → ⊥
+      by w now k = cc
+
+  back_at : (i : ℕ) → slice_get (work.backs p) i ≡ Some m.request → (prepares p.id m.request ≡ false) × ((now : ℤ) → Decides now → ⊥)
+  back_at i e =
+      let x = mapped_at (back_of p.id) p.writes i m.request e in
+      (ap (prepares p.id) (sym x.2) ∙ undo_unprepared p.id x.0.key x.0.base (is_as_prepared p.id x.0) (each_at IsWrite p.writes i x.0 writes x.1).base, λ now d. undo_other p x.0 x.0.base now (x.2 ∙ d))
+
+  decide_at : (d : DecidePhase) → decide_request_at p.id p.now d ≡ Some m.request → ReadyAt p calls (Deciding d) → (now : ℤ) → Decides now → keys_applied p.id calls ≡ keys
+  decide_at phase.Put e ready now k = ready.1
+  decide_at phase.Look e ready now k = absurd (let z : look_of p.id ≡ row_put p.id decision.Committed now = some_is (look_of p.id) m.request e ∙ k in cc)
+  decide_at phase.Abort e ready now k = absurd (abort_other p.id p.now now (some_is (abort_of p.id p.now) m.request e ∙ k))
+  decide_at phase.Again e ready now k = absurd (let z : look_of p.id ≡ row_put p.id decision.Committed now = some_is (look_of p.id) m.request e ∙ k in cc)
+  decide_at phase.Ended e ready now k = none_some m.request e
+
+  stop_at : Some (abort_of p.id p.now) ≡ Some m.request → (prepares p.id m.request ≡ false) × ((now : ℤ) → Decides now → ⊥)
+  stop_at e = let same = some_is (abort_of p.id p.now) m.request e in (ap (prepares p.id) (sym same) ∙ row_no p.id p.id decision.Aborted p.now condition.Absent, λ now k. abort_other p.id p.now now (same ∙ k))
+
+  sofar_on : (s : Stage) → pending p s ≡ Some m.request → ReadyAt p calls s → PreparesAll keys p.id calls → PreparesAll keys p.id more
+  sofar_on (Preparing i) e ready h = prepare_more i e ready h
+  sofar_on (Checking i) e ready h = let x = check_at i e in other_more x.0 (λ now k. clash (sym x.1 ∙ ap is_read k)) h
+  sofar_on (Deciding d) e ready h = other_more (decide_no p.id p.id p.now d m.request e) (decide_at d e ready) h
+  sofar_on (Forward i) e ready h = let x = forward_at i e in other_more x.0 (λ now k. absurd (x.1 now k)) h
+  sofar_on (Stopping a n) e ready h = let x = stop_at e in other_more x.0 (λ now k. absurd (x.1 now k)) h
+  sofar_on (Back a n i) e ready h = let x = back_at i e in other_more x.0 (λ now k. absurd (x.1 now k)) h
+  sofar_on (Over a) e ready h = none_some m.request e
+
+  ready_on : (s next : Stage) → pending p s ≡ Some m.request → ReadyAt p calls s → IsNext p s m.reply next → ReadyAt p more next
+  ready_on (Preparing i) next e ready n = subst (ReadyAt p more) (sym n) (prepare_ready i e ready (nat_lt (i + 1) (length p.writes)) (touched_after i m.reply) (slice_get (work.prepares p) i) m.reply refl refl)
+  ready_on (Checking i) next e ready n = subst (ReadyAt p more) (sym n.2) (check_ready i n.0 (have_same keys (check_at i e).0 ready))
+  ready_on (Deciding d) next e ready n = subst (ReadyAt p more) (sym n) (decide_ready (decide_next p.id d m.reply).0 (decide_next p.id d m.reply).1 (next_later d m.reply))
+  ready_on (Forward i) next e ready n = subst (ReadyAt p more) (sym n) (forward_ready (i + 1))
+  ready_on (Stopping a k) next e ready n = subst (ReadyAt p more) (sym n) (abort_ready a k m.reply)
+  ready_on (Back a k i) next e ready n = subst (ReadyAt p more) (sym n) (back_ready a k (i + 1))
+  ready_on (Over a) next e ready n = none_some m.request e
+
+  -- what its calls have prepared, with this one
+  pub prepares_with : (s : Stage) → pending p s ≡ Some m.request → CommitPrepares p calls s → PreparesAll keys p.id more
+  prepares_with s e h = sofar_on s e h.ready h.sofar
+
+  pub prepares_on : (s next : Stage) → pending p s ≡ Some m.request → CommitPrepares p calls s → IsNext p s m.reply next → CommitPrepares p more next
+  prepares_on s next e h n = record { ready = ready_on s next e h.ready n; sofar = sofar_on s e h.ready h.sofar }
+
+-- before its first call
+pub prepares_first : (p : Work) → CommitPrepares p [] (preparing p 0)
+prepares_first p = record { ready = by (nat_lt 0 (length p.writes)) refl; sofar = record { count = 0; prepared = refl; decided = λ m has e. none_here m has } }
+  where
+    none_here : (m : StoreCall) → Contains [] m → [] ≡ write_keys p.writes
+    none_here m h = absurd (let low : h.0 < 0 = h.1 in omega (arith, low))
+
+    empty : (ws : List Write) → nat_lt 0 (length ws) ≡ false → [] ≡ write_keys ws
+    empty [] f = refl
+    empty (w ∷ ws) f = absurd (let l : suc (length ws) ≤ 0 = at_end 0 (suc (length ws)) f in omega (arith, l))
+
+    checking_first : (b : Bool) → [] ≡ write_keys p.writes → ReadyAt p [] (if b then Checking 0 else Deciding phase.Put)
+    checking_first true e = (e, e)
+    checking_first false e = (e, e)
+
+    by : (b : Bool) → nat_lt 0 (length p.writes) ≡ b → ReadyAt p [] (if b then Preparing 0 else checking p 0)
+    by true e = (refl, refl)
+    by false e = checking_first (nat_lt 0 (length (checks p))) (empty p.writes e)

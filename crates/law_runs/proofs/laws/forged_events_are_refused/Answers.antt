@@ -1,0 +1,26 @@
+use Rattle.law_runs.proofs.ForgedCommits.{early_refused, unapplied_refused, unprepared_refused, unwritten_refused}
+use Rattle.law_runs.proofs.ForgedFound.{again_refused, counted_over_refused, forgotten_refused, invented_refused, left_out_refused, miscounted_refused, no_duplicate_refused, unlimited_refused, unrolled_refused}
+use Rattle.law_runs.proofs.Forgeries.{begin_refused, busy_refused, decision_refused, lazy_refused, moment_refused}
+use Rattle.law_runs.proofs.laws.forged_events_are_refused.Goals as goal
+
+pub returns : goal.returns
+returns c = record {
+  busy = busy_refused;
+  swept = lazy_refused;
+  begun = begin_refused;
+  prepared = λ text w id now h. moment_refused text w id now h.0 h.1 h.2;
+  decided = λ text id d now h. decision_refused text id d now h.0 h.1;
+  invented = invented_refused;
+  left_out = left_out_refused;
+  unrolled = unrolled_refused;
+  unlimited = unlimited_refused;
+  miscounted = miscounted_refused;
+  counted_over = counted_over_refused;
+  forgotten = forgotten_refused;
+  no_duplicate = no_duplicate_refused;
+  read_again = again_refused;
+  unwritten = unwritten_refused;
+  unprepared = unprepared_refused;
+  unapplied = unapplied_refused;
+  early = early_refused;
+}

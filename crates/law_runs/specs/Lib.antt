@@ -1,0 +1,17 @@
+pub mod Ending
+pub mod Order
+pub mod Points
+pub mod Stores
+pub mod Decisions
+pub mod DirtyReads
+pub mod Traces
+pub mod World
+pub mod Linked
+pub mod Laws
+pub mod Vacuums
+pub mod Moments
+pub mod Found
+pub mod Written
+pub mod Forged
+pub mod Facts
+pub mod Runs

@@ -1,0 +1,94 @@
+-- The keys that a transaction's statements write, and which of them its COMMIT prepares.
+use Rattle.std.specs.Prelude.{◌≡◌, ◌<◌, ◌≤◌, ◌^◌, true, ℕ, ℤ, List, [], ◌∷◌, length, take, filter, Option, Some, None, Contains}
+use Rattle.std.specs.List.{filter_map}
+use Rattle.sdb_types.specs.declared.key.Key.{Key}
+use Rattle.sdb_types.specs.declared.record.Record.{Record}
+use Rattle.sdb_types.specs.declared.record.Reply.TheVariants as reply
+use Rattle.sdb_types.specs.declared.txid.TxId.{TxId}
+use Rattle.sdb_types.specs.Replies.{is_applied}
+use Rattle.sdb_record.specs.declared.coordinator.Decision.TheVariants as decision
+use Rattle.sdb_schema.specs.declared.table.Table.{Table}
+use Rattle.sdb_model.specs.declared.event.Event.{Event}
+use Rattle.sdb_model.specs.declared.event.How.TheVariants.{Seen}
+use Rattle.sdb_model.specs.declared.statement.Statement.{Statement}
+use Rattle.sdb_model.specs.Calls.{StoreCall, calls_before, calls_of, key_asked}
+use Rattle.sdb_model.specs.Causes.{IsCommitOf}
+use Rattle.sdb_model.specs.Counted.{prepares_in}
+use Rattle.sdb_model.specs.Exec.{Tables}
+use Rattle.sdb_model.specs.Transactions.{Executed, point, prepares}
+use Rattle.sdb_session.specs.Keys.{keys_written, with_keys}
+use Rattle.law_runs.specs.Found.{AllRunAs, View, answered_inside, finds, nothing_found, run_one, with_found}
+use Rattle.law_runs.specs.Laws.{row_put}
+
+---- keys that are written
+
+-- the keys that a statement that runs writes, or none
+abbrev pub keys_by : List Table → Option Statement → Tables → List Key
+keys_by catalog None d = []
+keys_by catalog (Some s) d = keys_written catalog s d
+
+-- The keys that statements write that run one after the other, each on what was found so far, with what it found itself: each once, in the
+-- order in which they are first written, after those that were written before.
+abbrev pub written_on_found : List Table → List (List (Key × Option Record)) → List (Option Statement) → View → List Key → List Key
+written_on_found catalog [] ss v ks = ks
+written_on_found catalog (f ∷ fs) [] v ks = ks
+written_on_found catalog (f ∷ fs) (s ∷ ss) v ks = written_on_found catalog fs ss (run_one catalog s (with_found v f)).1 (with_keys ks (keys_by catalog s (with_found v f).rows))
+
+-- those that statements of a client write, which run as these
+abbrev pub keys_of : List Table → List Event → ℕ → List Executed → List (Option Statement) → List Key
+keys_of catalog events client ss statements = written_on_found catalog (finds events client ss) statements nothing_found []
+
+---- keys that are prepared
+
+-- the keys for which calls prepare, in the order of the calls
+abbrev pub keys_prepared : TxId → List StoreCall → List Key
+keys_prepared id calls = filter_map (λ m. key_asked m.request) (prepares_in id calls)
+
+-- those of the prepares that were applied
+abbrev pub keys_applied : TxId → List StoreCall → List Key
+keys_applied id calls = keys_prepared id (filter (λ m. is_applied m.reply) calls)
+
+-- a call puts a transaction's row COMMITTED, where there is none
+abbrev pub PutsCommitted : TxId → StoreCall → Type 0
+PutsCommitted id m = (now : ℤ) × (m.request ≡ row_put id decision.Committed now)
+
+-- The calls of a COMMIT prepare these keys, each once, in their order, from the first; and all of them were applied before a call that puts the
+-- transaction's row COMMITTED.
+pub record PreparesAll (keys : List Key) (id : TxId) (calls : List StoreCall) : Type 0 where
+  pub count : ℕ
+  pub prepared : keys_prepared id calls ≡ take count keys
+  pub decided : (m : StoreCall) → Contains calls m → PutsCommitted id m → keys_applied id (calls_before m.at calls) ≡ keys
+
+-- A COMMIT of a transaction, and what its answered statements run as (`RunsOnFound` has them).
+pub record CommitOf (events : List Event) (client : ℕ) (s : Executed) (id : TxId) : Type 0 where
+  pub commit : IsCommitOf events client s id
+  pub statements : List (Option Statement)
+  pub run : AllRunAs (answered_inside events id) statements
+
+-- Each COMMIT, answered or not, prepares the keys that the statements of its transaction wrote.
+abbrev pub CommitsPrepareWritten : List Table → List Event → Type 0
+CommitsPrepareWritten catalog events =
+    (client : ℕ) (s : Executed) (id : TxId) (x : CommitOf events client s id) → PreparesAll (keys_of catalog events client (answered_inside events id) x.statements) id (calls_of events client s)
+
+---- one that decides
+
+-- A call of a transaction's COMMIT puts its row COMMITTED.
+pub record Decides (events : List Event) (client : ℕ) (s : Executed) (id : TxId) (m : StoreCall) : Type 0 where
+  pub commit : IsCommitOf events client s id
+  pub fits : id.0 < 2 ^ 128
+  pub call : Contains (calls_of events client s) m
+  pub puts : PutsCommitted id m
+
+-- Such a COMMIT makes as many prepares as keys were written.
+abbrev pub PreparesAreAsMany : List Table → List Event → Type 0
+PreparesAreAsMany catalog events =
+    (client : ℕ) (s : Executed) (id : TxId) (m : StoreCall) (x : CommitOf events client s id) → Decides events client s id m → length (prepares_in id (calls_of events client s)) ≡ length (keys_of catalog events client (answered_inside events id) x.statements)
+
+-- Each prepare of the COMMIT was seen and applied, at the transaction's point or before it, and the call is after that.
+pub record IsAfterPoint (events : List Event) (client : ℕ) (s : Executed) (id : TxId) (m : StoreCall) : Type 0 where
+  pub prepared : (p : StoreCall) → Contains (calls_of events client s) p → prepares id p.request ≡ true → (p.how ≡ Seen) × (p.reply ≡ reply.Applied) × (p.at ≤ point events id)
+  pub decides : point events id < m.at
+
+-- This holds of each.
+abbrev pub DecisionsFollowPoints : List Event → Type 0
+DecisionsFollowPoints events = (client : ℕ) (s : Executed) (id : TxId) (m : StoreCall) → Decides events client s id m → IsAfterPoint events client s id m

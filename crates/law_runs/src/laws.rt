@@ -1,0 +1,153 @@
+//! Laws of executions, whatever the stores reply.
+ghost use Rattle.std.specs.Prelude.{[], ◌∷◌, ◌≡◌, List, Some, pos, take, true, ℕ, ℤ};
+ghost use Rattle.sdb_types.specs.declared.key.Key.{Key};
+ghost use Rattle.sdb_types.specs.declared.record.Record.{Record};
+ghost use Rattle.sdb_types.specs.declared.record.Reply.{Reply};
+ghost use Rattle.sdb_types.specs.declared.record.Request.{Request};
+ghost use Rattle.sdb_types.specs.declared.txid.TxId.{TxId};
+ghost use Rattle.sdb_types.specs.declared.value.Value.{Value};
+ghost use Rattle.sdb_record.specs.declared.coordinator.Decision.{Decision};
+ghost use Rattle.sdb_record.specs.declared.write.Write.{Write};
+ghost use Rattle.sdb_schema.specs.declared.table.Table.{Table};
+ghost use Rattle.sdb_model.specs.Sql.{reads_begin, reads_commit, reads_vacuum};
+ghost use Rattle.sdb_execution.specs.Execution.{IsExecution};
+ghost use Rattle.sdb_model.specs.Causes.{AreCaused};
+ghost use Rattle.sdb_model.specs.Counted.{AreCounted, AreResolved};
+ghost use Rattle.law_protocol.specs.Spread.{AreAbout};
+ghost use Rattle.law_runs.specs.Forged.{CommitText, FindsRow, FindsUnresolved, InsertOn, IsOfOther, IsOtherMoment, SelectOn, IsCommittedRow, UpdateOn, busy_at_once, counted_at_once, counts_over, counts_twice, counts_unread, decides_at_once, decides_early, decides_unapplied, decides_unprepared, duplicates_none, leaves_out, prepares_at, prepares_unwritten, reads_again, reads_and_is_done, answers_two, answers_unread, answers_unrolled};
+ghost use Rattle.law_runs.specs.Found.{ReadsAreNew, RunsOnFound};
+ghost use Rattle.law_runs.specs.Laws.{BusyIsOfReads, CallsAreOfStatements, DecisionsAreDue, ExecutionOf, FollowsMoves, RulesHold, PreparesAreOwn, ReadsAreFew};
+ghost use Rattle.law_runs.specs.Moments.{IsSoundAfter, TraceOf, WritesPersistAfter};
+ghost use Rattle.law_runs.specs.Vacuums.{VacuumsAreComplete};
+ghost use Rattle.law_runs.specs.Written.{CommitsPrepareWritten, DecisionsFollowPoints, PreparesAreAsMany};
+
+/// Each answer has its cause among the events, and a statement that is to be turned away is.
+pub fn answers_have_causes()
+    ensures { (x : ExecutionOf) → AreCaused x.script.catalog x.events }
+{}
+
+/// Where the events follow the script's moves, the calls of every statement are counted by those that were seen.
+pub fn calls_are_counted()
+    ensures { (x : ExecutionOf) → FollowsMoves x → AreCounted x.script.catalog x.events }
+{}
+
+/// Where the events follow the script's moves, each statement whose read finished had each unresolved record that it found rolled by calls
+/// that were seen.
+pub fn records_are_resolved()
+    ensures { (x : ExecutionOf) → FollowsMoves x → AreResolved x.events }
+{}
+
+/// The rules of the protocol hold of the events.
+pub fn rules_hold()
+    ensures { (x : ExecutionOf) → RulesHold x }
+{}
+
+/// No call is about another table than the script's and the coordinator's.
+pub fn calls_are_of_the_catalog()
+    ensures { (x : ExecutionOf) → AreAbout x.script.catalog x.events }
+{}
+
+/// Each call of a client is one of a statement that the client took: what holds of the calls of all statements holds of all calls.
+pub fn calls_are_of_statements()
+    ensures { (x : ExecutionOf) → CallsAreOfStatements x.events }
+{}
+
+/// No COMMIT and no VACUUM is answered Busy.
+pub fn busy_is_of_reads()
+    ensures { (x : ExecutionOf) → BusyIsOfReads x.events }
+{}
+
+/// A call that prepares for a transaction is one of its own COMMIT, and the record that it puts has the moment that the clock showed when that
+/// COMMIT was taken. So a record expires 15 seconds after its transaction's COMMIT was taken.
+pub fn prepares_are_own()
+    ensures { (x : ExecutionOf) → PreparesAreOwn x.events }
+{}
+
+/// A statement that is no COMMIT and no VACUUM reads rows of tables by one call at most; BEGIN and ROLLBACK make no call.
+pub fn reads_are_few()
+    ensures { (x : ExecutionOf) → ReadsAreFew x.events }
+{}
+
+/// A call that writes a transaction's row puts it where there is none. It is one of the transaction's own COMMIT; or else the row is ABORTED, and
+/// the statement had read an unresolved record of the transaction, and then found no row of it while the clock showed 15 seconds or more than
+/// the record's moment.
+pub fn decisions_are_due()
+    ensures { (x : ExecutionOf) → DecisionsAreDue x.events }
+{}
+
+/// A VACUUM scans the catalog's tables whole, each once, in their order, and deletes no committed record but tombstones that its scans found or
+/// its rolls put. Where it is answered Count it has scanned all of them and has asked for the delete of each tombstone that its scans found;
+/// and the count is that of the deletes that were applied. It makes one scan at most for each table, one delete for each tombstone that its scans
+/// found, and five calls for each unresolved record.
+pub fn vacuums_are_complete()
+    ensures { (x : ExecutionOf) → VacuumsAreComplete x.script.catalog x.events }
+{}
+
+/// The answered statements of each transaction's body, recorded or not, give the answers that its client got where they run one after the
+/// other, each on what the transaction has found so far, with what it made of it. What a refused statement found is found too.
+pub fn transactions_run_on_found()
+    ensures { (x : ExecutionOf) → RunsOnFound x.script.catalog x.events }
+{}
+
+/// Each call of a statement of a transaction, but of its COMMIT, that reads rows of tables is new after the statements before it: a get is of
+/// no key at which they found something, and a scan of no span that they scanned.
+pub fn reads_are_new()
+    ensures { (x : ExecutionOf) → ReadsAreNew x.events }
+{}
+
+/// Each COMMIT prepares the keys that the statements of its transaction wrote on what they found: each once, in the order in which they were
+/// first written, from the first. Before it puts its transaction's row COMMITTED, the prepares of all of them were applied: so it makes as many
+/// prepares as keys were written.
+pub fn commits_prepare_written()
+    ensures written { (x : ExecutionOf) → CommitsPrepareWritten x.script.catalog x.events }
+    ensures counted { (x : ExecutionOf) → PreparesAreAsMany x.script.catalog x.events }
+{}
+
+/// Where the events follow the script's moves, a call that puts a transaction's row COMMITTED is after the transaction's point, and each prepare
+/// of its COMMIT was seen and applied, at the point or before it.
+pub fn decisions_follow_points()
+    ensures { (x : ExecutionOf) → FollowsMoves x → DecisionsFollowPoints x.events }
+{}
+
+/// Each beginning of an execution is an execution: what holds of every execution holds after any number of its events.
+pub fn beginnings_are_executions()
+    ensures { (x : ExecutionOf) (n : ℕ) → IsExecution x.script (take n x.events) }
+{}
+
+/// At every moment each key that a transaction recorded by then had prepared shows what it left there, or what a later one did.
+pub fn writes_persist_at_every_moment()
+    ensures { (x : ExecutionOf) (t : TraceOf x) (n : ℕ) → WritesPersistAfter x t n }
+{}
+
+/// At every moment each record in the script's tables passes the checks, and each record in the coordinator's table is a well formed row.
+pub fn records_are_sound_at_every_moment()
+    ensures { (x : ExecutionOf) (t : TraceOf x) (n : ℕ) → IsSoundAfter x t n }
+{}
+
+/// Events that no execution has, and the law that each of them breaks: a COMMIT that is answered Busy, a VACUUM of a table that counts without
+/// a scan, a BEGIN that reads, a prepare with another moment than the clock showed, and a decision on another's transaction by a first call;
+/// and statements of a transaction: a SELECT that shows a row without a read, leaves out the row that it found, shows a row of a record that it
+/// found and didn't roll, or shows two rows where its LIMIT is 1, an UPDATE that counts rows without a read, an INSERT that is counted over a
+/// row that it found or over its transaction's own row, a Duplicate where nothing was found, and an INSERT that reads its key again; and a
+/// COMMIT that prepares a key that its transaction only read, or puts its row COMMITTED without an applied prepare of what its transaction
+/// inserted: without any, after one that faulted, or before one.
+pub fn forged_events_are_refused()
+    ensures busy { (text : List ℕ) (key : Key) (id : TxId) (at : ℤ) → reads_commit text ≡ true → BusyIsOfReads (busy_at_once text key id at) → ⊥ }
+    ensures swept { (t : Table) (text : List ℕ) → reads_vacuum text ≡ true → VacuumsAreComplete (t ∷ []) (counted_at_once text) → ⊥ }
+    ensures begun { (text : List ℕ) (key : Key) → reads_begin text ≡ true → ReadsAreFew (reads_and_is_done text key) → ⊥ }
+    ensures prepared { (text : List ℕ) (w : Write) (id : TxId) (now : ℤ) → IsOtherMoment id now → PreparesAreOwn (prepares_at text w id now) → ⊥ }
+    ensures decided { (text : List ℕ) (id : TxId) (d : Decision) (now : ℤ) → IsOfOther id → DecisionsAreDue (decides_at_once text id d now) → ⊥ }
+    ensures invented { (f : SelectOn) (row : List Value) (rows : List (List Value)) → RunsOnFound f.on.catalog (answers_unread f row rows) → ⊥ }
+    ensures left_out { (f : SelectOn) (key : Key) (r : Record) → FindsRow f key r → RunsOnFound f.on.catalog (leaves_out f key r) → ⊥ }
+    ensures unrolled { (f : SelectOn) (key : Key) (r : Record) (row : List Value) → FindsUnresolved f key r → RunsOnFound f.on.catalog (answers_unrolled f key r row) → ⊥ }
+    ensures unlimited { (f : SelectOn) (q : Request) (r : Reply) (a b : List Value) → f.select.limit ≡ Some (pos 1) → RunsOnFound f.on.catalog (answers_two f q r a b) → ⊥ }
+    ensures miscounted { (f : UpdateOn) (n : ℕ) → RunsOnFound f.on.catalog (counts_unread f n) → ⊥ }
+    ensures counted_over { (f : InsertOn) (r : Record) → IsCommittedRow r → RunsOnFound f.on.catalog (counts_over f r) → ⊥ }
+    ensures forgotten { (f : InsertOn) → RunsOnFound f.on.catalog (counts_twice f) → ⊥ }
+    ensures no_duplicate { (f : InsertOn) → RunsOnFound f.on.catalog (duplicates_none f) → ⊥ }
+    ensures read_again { (f : InsertOn) → ReadsAreNew (reads_again f) → ⊥ }
+    ensures unwritten { (f : SelectOn) (r : Record) (row : List Value) (t : CommitText) → CommitsPrepareWritten f.on.catalog (prepares_unwritten f r row t) → ⊥ }
+    ensures unprepared { (f : InsertOn) (t : CommitText) → CommitsPrepareWritten f.on.catalog (decides_unprepared f t) → ⊥ }
+    ensures unapplied { (f : InsertOn) (t : CommitText) → CommitsPrepareWritten f.on.catalog (decides_unapplied f t) → ⊥ }
+    ensures early { (f : InsertOn) (t : CommitText) → DecisionsFollowPoints (decides_early f t) → ⊥ }
+{}

@@ -1,6 +1,0 @@
-use Rattle.std.proofs.Common.{◌≡◌, take}
-use Rattle.sdb_board.specs.Opening.{table_names}
-use Rattle.sdb_board.proofs.tables.table_names.Given as goal
-
-abbrev pub invariant-loop-i : goal.invariant-loop-i
-invariant-loop-i l = l.names ≡ table_names (take l.i l.catalog)

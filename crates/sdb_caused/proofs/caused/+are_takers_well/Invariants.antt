@@ -1,5 +1,0 @@
-use Rattle.std.proofs.Common.{length}
-use Rattle.sdb_caused.proofs.caused.+are_takers_well.Given as goal
-
-abbrev pub decreases-are_takers_well : goal.decreases-are_takers_well
-decreases-are_takers_well l = length l.some.now

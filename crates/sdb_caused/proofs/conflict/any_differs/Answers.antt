@@ -1,7 +1,0 @@
-use Rattle.std.proofs.Common.{sym, ◌∙◌}
-use Rattle.sdb_caused.specs.Tests.{scan_differs}
-use Rattle.sdb_caused.proofs.Finds.{any_noted}
-use Rattle.sdb_caused.proofs.conflict.any_differs.Goals as goal
-
-pub returns : goal.returns
-returns c = c.any_scan_differs.ensures ∙ sym (any_noted (scan_differs c.args.key.now c.args.base) c.args.read_set.now)

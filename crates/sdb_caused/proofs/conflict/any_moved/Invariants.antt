@@ -1,8 +1,0 @@
-use Rattle.std.proofs.Common.{◌≡◌, drop}
-use Rattle.std.specs.List.{list_any}
-use Rattle.sdb_said.specs.Values.{item_of}
-use Rattle.sdb_caused.specs.Tests.{is_changed}
-use Rattle.sdb_caused.proofs.conflict.any_moved.Given as goal
-
-abbrev pub invariant-loop-item : goal.invariant-loop-item
-invariant-loop-item l = list_any (λ n. is_changed l.key l.found (item_of n)) (drop l.item-index l.read_set) ≡ list_any (λ n. is_changed l.key l.found (item_of n)) l.read_set

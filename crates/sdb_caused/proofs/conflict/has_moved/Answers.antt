@@ -1,7 +1,0 @@
-use Rattle.std.proofs.Common.{sym, ◌∙◌}
-use Rattle.sdb_caused.specs.Tests.{is_changed}
-use Rattle.sdb_caused.proofs.Finds.{any_noted}
-use Rattle.sdb_caused.proofs.conflict.has_moved.Goals as goal
-
-pub returns : goal.returns
-returns c = c.any_moved.ensures ∙ sym (any_noted (is_changed c.args.key.now c.args.found.now) c.args.read_set.now)

@@ -1,5 +1,0 @@
-use Rattle.std.proofs.Common.{length}
-use Rattle.sdb_caused.proofs.plain.+removed.Given as goal
-
-abbrev pub decreases-removed : goal.decreases-removed
-decreases-removed l = length l.calls.now

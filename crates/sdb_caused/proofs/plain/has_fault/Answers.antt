@@ -1,9 +1,0 @@
-use Rattle.std.proofs.Common.{ap, ◌∙◌}
-use Rattle.sdb_order.specs.Commits.{executed_of}
-use Rattle.sdb_plain.specs.Values.{all_made}
-use Rattle.sdb_caused.proofs.Decided.{replied}
-use Rattle.sdb_caused.proofs.plain.has_fault.Goals as goal
-use Rattle.sdb_types.specs.Replies.{is_fault}
-
-pub returns : goal.returns
-returns c = replied c.args.events.now c.args.client (executed_of c.args.executed.now) c.any.result c.as_slice.result.now is_fault (ap all_made c.as_slice.ensures ∙ c.in_ok-calls.ensures) c.any.ensures

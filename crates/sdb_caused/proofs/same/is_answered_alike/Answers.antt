@@ -1,5 +1,0 @@
-use Rattle.sdb_caused.proofs.SameLaws.{alike_exact}
-use Rattle.sdb_caused.proofs.same.is_answered_alike.Goals as goal
-
-pub returns-clause-same : goal.returns-clause-same
-returns-clause-same c = alike_exact c.args.a.now c.args.b.now c.are_alike.result c.are_alike.ensures

@@ -1,7 +1,0 @@
-use Rattle.std.proofs.Common.{◌≡◌, drop}
-use Rattle.std.specs.List.{list_any}
-use Rattle.sdb_caused.specs.Tests.{has_sign}
-use Rattle.sdb_caused.proofs.sign.any.Given as goal
-
-abbrev pub invariant-loop-made : goal.invariant-loop-made
-invariant-loop-made l = list_any (has_sign l.sign) (drop l.made-index l.calls) ≡ list_any (has_sign l.sign) l.calls

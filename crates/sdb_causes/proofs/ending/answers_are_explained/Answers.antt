@@ -1,5 +1,0 @@
-use Rattle.sdb_causes.proofs.Whole.{explained}
-use Rattle.sdb_causes.proofs.ending.answers_are_explained.Goals as goal
-
-pub returns : goal.returns
-returns x = λ catalog events now states ex. explained catalog events now states ex

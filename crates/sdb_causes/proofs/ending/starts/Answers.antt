@@ -1,5 +1,0 @@
-use Rattle.sdb_causes.proofs.Whole.{starts_all}
-use Rattle.sdb_causes.proofs.ending.starts.Goals as goal
-
-pub returns : goal.returns
-returns x = λ catalog states fresh. starts_all catalog states fresh

@@ -1,0 +1,15 @@
+pub mod Lists
+pub mod Shelves
+pub mod Made
+pub mod GoesOn
+pub mod RunTables
+pub mod Empty
+pub mod DumpLists
+pub mod Refusals
+pub mod Coordinated
+pub mod Kept
+pub mod DumpTables
+pub mod Images
+pub mod OddRecords
+pub mod Closings
+pub mod Later

@@ -1,5 +1,0 @@
-pub mod Decided
-pub mod Dumped
-pub mod Held
-pub mod Odd
-pub mod Refused

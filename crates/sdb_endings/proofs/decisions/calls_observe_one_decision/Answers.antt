@@ -1,5 +1,0 @@
-use Rattle.sdb_endings.proofs.Agreeing.{decisions_agree}
-use Rattle.sdb_endings.proofs.decisions.calls_observe_one_decision.Goals as goal
-
-pub returns : goal.returns
-returns c = λ t x. decisions_agree t.places t.events t.opening t.closing t.moments t.trace x.rows_final

@@ -1,5 +1,0 @@
-use Rattle.sdb_endings.proofs.Finding.{answers_committed}
-use Rattle.sdb_endings.proofs.dirty_reads.answers_have_committed_rows.Goals as goal
-
-pub returns : goal.returns
-returns c = λ t apart standing. answers_committed t.catalog t.places t.events t.opening t.closing t.moments apart t.trace standing

@@ -1,6 +1,0 @@
-use Rattle.std.proofs.Common.{take}
-use Rattle.sdb_execution.specs.Execution.{IsReachedBy}
-use Rattle.sdb_executed.proofs.executed.is_execution.Given as goal
-
-abbrev pub invariant-loop-event : goal.invariant-loop-event
-invariant-loop-event l = IsReachedBy l.script (take l.event-index l.events) l.clients

@@ -1,5 +1,0 @@
-use Rattle.sdb_executions.proofs.Beginnings.{begins_execution}
-use Rattle.sdb_executions.proofs.laws.beginnings_are_executions.Goals as goal
-
-pub returns : goal.returns
-returns c = λ x n. begins_execution x.script x.events n x.execution

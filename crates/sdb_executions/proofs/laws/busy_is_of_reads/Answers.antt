@@ -1,5 +1,0 @@
-use Rattle.sdb_executions.proofs.Busy.{execution_busy}
-use Rattle.sdb_executions.proofs.laws.busy_is_of_reads.Goals as goal
-
-pub returns : goal.returns
-returns c = λ x. execution_busy x.script x.events x.playable x.execution

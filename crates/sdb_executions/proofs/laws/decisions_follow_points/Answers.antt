@@ -1,6 +1,0 @@
-use Rattle.sdb_causes.proofs.Faults.{answered_seen}
-use Rattle.sdb_executions.proofs.WroteRuns.{execution_points}
-use Rattle.sdb_executions.proofs.laws.decisions_follow_points.Goals as goal
-
-pub returns : goal.returns
-returns c = λ x follows. execution_points x.script x.events x.playable x.execution (answered_seen x.script x.events follows)

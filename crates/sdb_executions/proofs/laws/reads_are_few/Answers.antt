@@ -1,5 +1,0 @@
-use Rattle.sdb_executions.proofs.ReadsOnce.{execution_few}
-use Rattle.sdb_executions.proofs.laws.reads_are_few.Goals as goal
-
-pub returns : goal.returns
-returns c = λ x. execution_few x.script x.events x.playable x.execution

@@ -1,5 +1,0 @@
-use Rattle.sdb_executions.proofs.Swept.{execution_sweeps}
-use Rattle.sdb_executions.proofs.laws.vacuums_are_complete.Goals as goal
-
-pub returns : goal.returns
-returns c = λ x. execution_sweeps x.script x.events x.playable x.execution

@@ -1,5 +1,0 @@
-use Rattle.sdb_executions.proofs.Beginnings.{explained_at}
-use Rattle.sdb_executions.proofs.laws.writes_persist_at_every_moment.Goals as goal
-
-pub returns : goal.returns
-returns c = λ x t n. (explained_at x.script x.events t.opening t.closing t.moments n x.playable x.execution t.trace t.nothing).standing.writes_stand

@@ -1,6 +1,0 @@
-mod PlanLaws
-mod TakeLaws
-mod CallLaws
-mod KnownLaws
-mod RollLaws
-mod WholeLaw

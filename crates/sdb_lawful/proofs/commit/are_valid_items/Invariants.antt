@@ -1,7 +1,0 @@
-use Rattle.std.proofs.Common.{◌≡◌, drop}
-use Rattle.std.specs.List.{list_all}
-use Rattle.sdb_lawful.specs.Rules.{is_valid_item}
-use Rattle.sdb_lawful.proofs.commit.are_valid_items.Given as goal
-
-abbrev pub invariant-loop-item : goal.invariant-loop-item
-invariant-loop-item l = list_all (is_valid_item l.shown) (drop l.item-index l.read_set) ≡ list_all (is_valid_item l.shown) l.read_set

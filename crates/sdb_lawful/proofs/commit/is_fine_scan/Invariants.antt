@@ -1,7 +1,0 @@
-use Rattle.std.proofs.Common.{◌≡◌, drop}
-use Rattle.std.specs.List.{list_all}
-use Rattle.sdb_lawful.specs.Rules.{is_valid_found}
-use Rattle.sdb_lawful.proofs.commit.is_fine_scan.Given as goal
-
-abbrev pub invariant-loop-read : goal.invariant-loop-read
-invariant-loop-read l = list_all (is_valid_found l.shown l.scan) (drop l.read-index l.found) ≡ list_all (is_valid_found l.shown l.scan) l.found

@@ -1,5 +1,0 @@
-use Rattle.sdb_lawful.proofs.WholeLaw.{decided}
-use Rattle.sdb_lawful.proofs.lawful.is_lawful.Goals as goal
-
-pub returns : goal.returns
-returns c = decided c.args.plans.now c.args.past.now c.all_follow.result c.all_follow.ensures

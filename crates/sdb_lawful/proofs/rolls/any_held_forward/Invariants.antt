@@ -1,6 +1,0 @@
-use Rattle.std.proofs.Common.{◌≡◌, drop}
-use Rattle.sdb_lawful.specs.Rules.{any_prepared_forward}
-use Rattle.sdb_lawful.proofs.rolls.any_held_forward.Given as goal
-
-abbrev pub invariant-loop-rec : goal.invariant-loop-rec
-invariant-loop-rec l = any_prepared_forward (drop l.rec-index l.shown) l.moments l.id.0 l.key l.target ≡ any_prepared_forward l.shown l.moments l.id.0 l.key l.target

@@ -1,7 +1,0 @@
-use Rattle.std.proofs.Common.{◌≡◌, drop}
-use Rattle.std.specs.List.{list_all}
-use Rattle.sdb_lawful.specs.Rules.{agrees}
-use Rattle.sdb_lawful.proofs.rules.all_agree.Given as goal
-
-abbrev pub invariant-loop-item : goal.invariant-loop-item
-invariant-loop-item l = list_all (agrees l.writes) (drop l.item-index l.read_set) ≡ list_all (agrees l.writes) l.read_set

@@ -1,7 +1,0 @@
-use Rattle.std.proofs.Common.{◌≡◌, drop}
-use Rattle.std.specs.List.{list_all}
-use Rattle.sdb_said.specs.Started.{acknowledged_in}
-use Rattle.sdb_lawful.proofs.rules.all_told.Given as goal
-
-abbrev pub invariant-loop-write : goal.invariant-loop-write
-invariant-loop-write l = list_all (λ w. acknowledged_in l.past l.id.0 w.key) (drop l.write-index l.writes) ≡ list_all (λ w. acknowledged_in l.past l.id.0 w.key) l.writes

@@ -1,5 +1,0 @@
-use Rattle.sdb_laws.proofs.explained.aborted_is_removed.Goals as goal
-use Rattle.sdb_laws.proofs.Moments.{gone_at}
-
-pub returns : goal.returns
-returns c = λ r d n. gone_at r.plan r.places r.opening r.labelled r.moments d.catalog n r.run d.apart

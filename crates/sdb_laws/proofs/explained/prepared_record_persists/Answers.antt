@@ -1,5 +1,0 @@
-use Rattle.sdb_laws.proofs.explained.prepared_record_persists.Goals as goal
-use Rattle.sdb_laws.proofs.Moments.{stands_at}
-
-pub returns : goal.returns
-returns c = λ r d n. stands_at r.plan r.places r.opening r.labelled r.moments d.catalog n r.run d.apart

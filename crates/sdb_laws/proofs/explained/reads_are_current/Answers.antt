@@ -1,5 +1,0 @@
-use Rattle.sdb_laws.proofs.explained.reads_are_current.Goals as goal
-use Rattle.sdb_laws.proofs.Current.{current_at}
-
-pub returns : goal.returns
-returns c = λ r d. current_at r.plan r.places r.opening r.labelled r.moments d.catalog r.run d.apart

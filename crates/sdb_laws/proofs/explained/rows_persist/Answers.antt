@@ -1,5 +1,0 @@
-use Rattle.sdb_laws.proofs.explained.rows_persist.Goals as goal
-use Rattle.sdb_laws.proofs.Moments.{rows_at}
-
-pub returns : goal.returns
-returns c = λ r early late. rows_at r.plan r.places r.opening r.labelled r.moments early late r.run

@@ -1,5 +1,0 @@
-use Rattle.sdb_laws.proofs.explained.unchanged_is_resolved.Goals as goal
-use Rattle.sdb_laws.proofs.Current.{unchanged_at}
-
-pub returns : goal.returns
-returns c = λ r d. unchanged_at r.plan r.places r.opening r.labelled r.moments d.catalog r.run d.apart

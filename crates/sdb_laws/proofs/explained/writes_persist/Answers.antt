@@ -1,5 +1,0 @@
-use Rattle.sdb_laws.proofs.explained.writes_persist.Goals as goal
-use Rattle.sdb_laws.proofs.Current.{stand_at}
-
-pub returns : goal.returns
-returns c = λ r d. stand_at r.plan r.places r.opening r.labelled r.moments d.catalog r.run d.apart

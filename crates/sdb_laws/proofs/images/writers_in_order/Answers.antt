@@ -1,7 +1,0 @@
-use Rattle.sdb_laws.proofs.images.writers_in_order.Goals as goal
-use Rattle.sdb_laws.specs.Runs.{history_of}
-use Rattle.sdb_laws.proofs.Times.{whole_of}
-use Rattle.sdb_laws.proofs.Derived.{writers_in_order}
-
-pub returns : goal.returns
-returns c = λ r. writers_in_order r.plan (history_of r) (whole_of r.plan r.places r.opening r.past r.moments r.run).all

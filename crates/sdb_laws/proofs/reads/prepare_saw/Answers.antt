@@ -1,7 +1,0 @@
-use Rattle.sdb_laws.proofs.reads.prepare_saw.Goals as goal
-use Rattle.sdb_laws.specs.Runs.{history_of}
-use Rattle.sdb_laws.proofs.Times.{whole_of}
-use Rattle.sdb_laws.proofs.Derived.{prepare_saw}
-
-pub returns : goal.returns
-returns c = λ r. prepare_saw r.plan (history_of r) (whole_of r.plan r.places r.opening r.past r.moments r.run).all

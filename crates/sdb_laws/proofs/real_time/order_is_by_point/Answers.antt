@@ -1,6 +1,0 @@
-use Rattle.sdb_laws.proofs.real_time.order_is_by_point.Goals as goal
-use Rattle.sdb_laws.specs.Explained.{newest_first}
-use Rattle.sdb_laws.proofs.ModelTime.{ordered_of}
-
-pub returns : goal.returns
-returns c = λ r order faithful o fit. ordered_of r.plan r.places r.opening r.labelled (newest_first r.moments) order r.run faithful o fit

@@ -1,6 +1,0 @@
-use Rattle.sdb_laws.proofs.real_time.respects_real_time.Goals as goal
-use Rattle.sdb_laws.specs.Explained.{newest_first}
-use Rattle.sdb_laws.proofs.ModelTime.{keeps_real_time as law}
-
-pub returns : goal.returns
-returns c = λ r order faithful o. law r.plan r.places r.opening r.labelled (newest_first r.moments) order r.run faithful o

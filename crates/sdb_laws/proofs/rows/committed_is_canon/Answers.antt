@@ -1,7 +1,0 @@
-use Rattle.sdb_laws.proofs.rows.committed_is_canon.Goals as goal
-use Rattle.sdb_laws.specs.Runs.{history_of, contents_of_run}
-use Rattle.sdb_laws.proofs.Times.{whole_of}
-use Rattle.sdb_laws.proofs.Derived.{committed_is_canon}
-
-pub returns : goal.returns
-returns c = λ r. committed_is_canon r.plan r.places (history_of r) r.past (contents_of_run r) (whole_of r.plan r.places r.opening r.past r.moments r.run)

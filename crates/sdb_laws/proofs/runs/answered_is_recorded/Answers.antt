@@ -1,5 +1,0 @@
-use Rattle.sdb_laws.proofs.runs.answered_is_recorded.Goals as goal
-use Rattle.sdb_laws.proofs.Times.{told_recorded}
-
-pub returns : goal.returns
-returns c = λ r t told. told_recorded r.plan r.places r.opening r.past r.moments t r.run told

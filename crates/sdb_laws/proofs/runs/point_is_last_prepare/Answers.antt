@@ -1,6 +1,0 @@
-use Rattle.sdb_laws.proofs.runs.point_is_last_prepare.Goals as goal
-use Rattle.sdb_laws.specs.Explained.{newest_first}
-use Rattle.sdb_laws.proofs.Points.{point_is_last}
-
-pub returns : goal.returns
-returns c = λ r t is. point_is_last r.plan r.places r.opening r.labelled (newest_first r.moments) t r.run is.fits is.taken

@@ -1,5 +1,0 @@
-use Rattle.sdb_laws.proofs.runs.protocol_state_is_decidable.Goals as goal
-use Rattle.sdb_laws.proofs.Times.{whole_of}
-
-pub returns : goal.returns
-returns c = λ r. (whole_of r.plan r.places r.opening r.past r.moments r.run).knows.talks

@@ -1,7 +1,0 @@
-use Rattle.sdb_laws.proofs.serial.reads_are_serial.Goals as goal
-use Rattle.sdb_laws.specs.Runs.{history_of, contents_of_run}
-use Rattle.sdb_laws.proofs.Times.{whole_of}
-use Rattle.sdb_laws.proofs.Order.{reads_serial}
-
-pub returns : goal.returns
-returns c = λ r order o. reads_serial r.plan r.places (history_of r) r.past (contents_of_run r) order (whole_of r.plan r.places r.opening r.past r.moments r.run) o

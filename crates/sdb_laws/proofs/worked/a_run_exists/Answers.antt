@@ -1,8 +1,0 @@
-use Rattle.sdb_laws.proofs.worked.a_run_exists.Goals as goal
-use Rattle.sdb_laws.proofs.FirstTrace.{first_is_run, first_is_recorded}
-
-pub returns-clause-run : goal.returns-clause-run
-returns-clause-run c = first_is_run
-
-pub returns-clause-recorded : goal.returns-clause-recorded
-returns-clause-recorded c = first_is_recorded

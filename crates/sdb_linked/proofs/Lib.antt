@@ -1,9 +1,0 @@
-pub mod Goings
-pub mod Own
-pub mod Noting
-pub mod Mild
-pub mod Small
-pub mod Steps
-pub mod Calls
-pub mod Rests
-pub mod Ends

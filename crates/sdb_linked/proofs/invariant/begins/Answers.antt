@@ -1,5 +1,0 @@
-use Rattle.sdb_linked.proofs.Steps.{going_begins}
-use Rattle.sdb_linked.proofs.invariant.begins.Goals as goal
-
-pub returns : goal.returns
-returns c = λ p c text may. going_begins p.catalog p.fit p.events p.sys p.doing p.going c text may.rests may.begins may.none_sweeps

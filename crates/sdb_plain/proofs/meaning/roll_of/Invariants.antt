@@ -1,8 +1,0 @@
-use Rattle.std.proofs.Common.{◌≡◌, drop}
-use Rattle.std.specs.Prelude.{find}
-use Rattle.sdb_model.specs.ReadSet.{rolls}
-use Rattle.sdb_plain.specs.Values.{made_of}
-use Rattle.sdb_plain.proofs.meaning.roll_of.Given as goal
-
-abbrev pub invariant-loop-made : goal.invariant-loop-made
-invariant-loop-made l = find (λ m. rolls l.rec (made_of m)) (drop l.made-index l.calls) ≡ find (λ m. rolls l.rec (made_of m)) l.calls

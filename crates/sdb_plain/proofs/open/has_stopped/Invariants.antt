@@ -1,6 +1,0 @@
-use Rattle.std.proofs.Common.{◌≡◌, drop}
-use Rattle.sdb_model.specs.Follows.{has_stopped}
-use Rattle.sdb_plain.proofs.open.has_stopped.Given as goal
-
-abbrev pub invariant-loop-event : goal.invariant-loop-event
-invariant-loop-event l = has_stopped l.client (drop l.event-index l.past) ≡ has_stopped l.client l.past

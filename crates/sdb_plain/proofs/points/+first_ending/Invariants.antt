@@ -1,5 +1,0 @@
-use Rattle.std.proofs.Common.{length}
-use Rattle.sdb_plain.proofs.points.+first_ending.Given as goal
-
-abbrev pub decreases-first_ending : goal.decreases-first_ending
-decreases-first_ending l = length l.executed.now

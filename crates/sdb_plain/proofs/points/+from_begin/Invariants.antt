@@ -1,5 +1,0 @@
-use Rattle.std.proofs.Common.{length}
-use Rattle.sdb_plain.proofs.points.+from_begin.Given as goal
-
-abbrev pub decreases-from_begin : goal.decreases-from_begin
-decreases-from_begin l = length l.executed.now

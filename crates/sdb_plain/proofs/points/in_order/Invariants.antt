@@ -1,7 +1,0 @@
-use Rattle.std.proofs.Common.{◌≡◌, [], drop}
-use Rattle.std.specs.Prelude.{fold}
-use Rattle.sdb_plain.specs.Points.{inserted_point}
-use Rattle.sdb_plain.proofs.points.in_order.Given as goal
-
-abbrev pub invariant-loop-point : goal.invariant-loop-point
-invariant-loop-point l = fold inserted_point l.order (drop l.point-index l.points) ≡ fold inserted_point [] l.points

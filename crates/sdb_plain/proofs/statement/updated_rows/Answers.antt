@@ -1,8 +1,0 @@
-use Rattle.sdb_model.specs.Exec.{updated}
-use Rattle.sdb_plain.proofs.Shown.{map_step}
-use Rattle.sdb_plain.proofs.statement.updated_rows.Goals as goal
-
-pub loop-row-preserved : goal.loop-row-preserved
-loop-row-preserved c =
-    let next = map_step (updated c.args.table.now c.args.update.now) c.args.rows.now c.loop-row.row-index c.row-item.result c.in_ok-updated_row.field-0 c.loop-row.found c.loop-row-test.true c.row-item.is c.in_ok-updated_row.ensures c.loop-row.invariant in
-    cc (next, c.in_ok-push.ensures.ok)

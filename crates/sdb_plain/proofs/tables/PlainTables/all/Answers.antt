@@ -1,5 +1,0 @@
-use Rattle.sdb_plain.proofs.Shown.{all_of_view}
-use Rattle.sdb_plain.proofs.tables.PlainTables.all.Goals as goal
-
-pub returns : goal.returns
-returns c = all_of_view c.rows_of.result c.self.inside.rows.entries c.args.self.now c.self.view_is c.rows_of.ensures.rows c.rows_of.ensures.ordered

@@ -1,5 +1,0 @@
-use Rattle.std.proofs.Common.{length}
-use Rattle.sdb_plain.proofs.transaction.+count_inside.Given as goal
-
-abbrev pub decreases-count_inside : goal.decreases-count_inside
-decreases-count_inside l = length l.executed.now

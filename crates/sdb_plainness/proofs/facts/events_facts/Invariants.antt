@@ -1,6 +1,0 @@
-use Rattle.std.proofs.Common.{All, take}
-use Rattle.sdb_plainness.specs.Facts.{event_fits}
-use Rattle.sdb_plainness.proofs.facts.events_facts.Given as goal
-
-abbrev pub invariant-loop-event : goal.invariant-loop-event
-invariant-loop-event l = All event_fits (take l.event-index l.events)

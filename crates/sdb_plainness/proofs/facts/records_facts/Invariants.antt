@@ -1,6 +1,0 @@
-use Rattle.std.proofs.Common.{All, take}
-use Rattle.sdb_types.specs.Fits.{record_fits}
-use Rattle.sdb_plainness.proofs.facts.records_facts.Given as goal
-
-abbrev pub invariant-loop-rec : goal.invariant-loop-rec
-invariant-loop-rec l = All record_fits (take l.rec-index l.records)

@@ -1,5 +1,0 @@
-use Rattle.std.proofs.Common.{length}
-use Rattle.sdb_runs.proofs.all.+are_resolved.Given as goal
-
-abbrev pub decreases-are_resolved : goal.decreases-are_resolved
-decreases-are_resolved l = length l.executed.now

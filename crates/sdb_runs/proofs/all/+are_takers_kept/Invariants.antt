@@ -1,5 +1,0 @@
-use Rattle.std.proofs.Common.{length}
-use Rattle.sdb_runs.proofs.all.+are_takers_kept.Given as goal
-
-abbrev pub decreases-are_takers_kept : goal.decreases-are_takers_kept
-decreases-are_takers_kept l = length l.some.now

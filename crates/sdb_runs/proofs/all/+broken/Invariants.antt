@@ -1,5 +1,0 @@
-use Rattle.std.proofs.Common.{length}
-use Rattle.sdb_runs.proofs.all.+broken.Given as goal
-
-abbrev pub decreases-broken : goal.decreases-broken
-decreases-broken l = length l.events.now

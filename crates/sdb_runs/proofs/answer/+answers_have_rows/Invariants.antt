@@ -1,5 +1,0 @@
-use Rattle.std.proofs.Common.{length}
-use Rattle.sdb_runs.proofs.answer.+answers_have_rows.Given as goal
-
-abbrev pub decreases-answers_have_rows : goal.decreases-answers_have_rows
-decreases-answers_have_rows l = length l.some.now

@@ -1,5 +1,0 @@
-use Rattle.std.proofs.Common.{length}
-use Rattle.sdb_runs.proofs.counts.+removals.Given as goal
-
-abbrev pub decreases-removals : goal.decreases-removals
-decreases-removals l = length l.calls.now

@@ -1,5 +1,0 @@
-use Rattle.std.proofs.Common.{length}
-use Rattle.sdb_runs.proofs.rolls.+any_rolled.Given as goal
-
-abbrev pub decreases-any_rolled : goal.decreases-any_rolled
-decreases-any_rolled l = length l.looks.now

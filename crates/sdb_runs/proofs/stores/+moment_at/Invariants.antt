@@ -1,5 +1,0 @@
-use Rattle.std.proofs.Common.{length}
-use Rattle.sdb_runs.proofs.stores.+moment_at.Given as goal
-
-abbrev pub decreases-moment_at : goal.decreases-moment_at
-decreases-moment_at l = length l.moments.now

@@ -1,6 +1,0 @@
-pub mod Values
-pub mod Turns
-pub mod Rows
-pub mod All
-pub mod Counts
-pub mod OfClients

@@ -1,5 +1,0 @@
-pub mod Lists
-pub mod SaidLaws
-pub mod ShownLaws
-pub mod SettledLaws
-pub mod Requests

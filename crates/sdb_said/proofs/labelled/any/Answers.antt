@@ -1,8 +1,0 @@
-use Rattle.std.proofs.Common.{ap, ◌∙◌}
-use Rattle.std.specs.Option.{is_some}
-use Rattle.sdb_said.specs.Started.{has_sign as has_sign_lem}
-use Rattle.sdb_said.proofs.Lists.{found_any, found_entry}
-use Rattle.sdb_said.proofs.labelled.any.Goals as goal
-
-pub returns : goal.returns
-returns c = c.is_some.ensures ∙ found_entry c.last.result ∙ ap is_some c.last.ensures ∙ found_any (has_sign_lem c.args.sign) c.args.past.now

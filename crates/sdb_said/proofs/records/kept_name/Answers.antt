@@ -1,5 +1,0 @@
-use Rattle.sdb_record.proofs.NameLemmas.{stripped}
-use Rattle.sdb_said.proofs.records.kept_name.Goals as goal
-
-pub returns : goal.returns
-returns c = stripped c.args.name.now c.strip_prefix.result c.strip_prefix.ensures.cases

@@ -1,6 +1,0 @@
-use Rattle.std.proofs.Common.{◌≡◌, [], drop}
-use Rattle.sdb_said.specs.Observed.{gathered}
-use Rattle.sdb_said.proofs.records.observed.Given as goal
-
-abbrev pub invariant-loop-labelled : goal.invariant-loop-labelled
-invariant-loop-labelled l = gathered (drop l.labelled-index l.past) l.found ≡ gathered l.past []

@@ -1,5 +1,0 @@
-use Rattle.sdb_spread.proofs.Told.{run_moved}
-use Rattle.sdb_spread.proofs.laws.runs_on_many_stores.Goals as goal
-
-pub returns : goal.returns
-returns c = record { run = run_moved }

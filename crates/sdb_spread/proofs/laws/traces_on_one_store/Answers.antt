@@ -1,9 +1,0 @@
-use Rattle.sdb_spread.proofs.laws.traces_on_one_store.Goals as goal
-use Rattle.sdb_spread.proofs.Single.{single}
-
-pub returns : goal.returns
-returns c = record {
-  traced = λ catalog name places events opening moments closing m0 t about h.
-      let s = single catalog name places events opening moments closing m0 t about h in
-      (s.singles, s.last, s.traced, s.same);
-}

@@ -1,8 +1,0 @@
-use Rattle.sdb_steps.proofs.RowsFit.{is_fitting, answers_on}
-use Rattle.sdb_steps.proofs.fitting.plans_on_fitting_tables.Goals as goal
-
-pub returns : goal.returns
-returns c = record {
-  fitting = is_fitting;
-  answers = λ p. answers_on p.catalog p.plan p.seen p.answer p.changes p.is p.named p.asked p.taken p.literals p.finished;
-}

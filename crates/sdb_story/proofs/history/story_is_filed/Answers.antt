@@ -1,5 +1,0 @@
-use Rattle.sdb_story.proofs.Files.{story_files}
-use Rattle.sdb_story.proofs.history.story_is_filed.Goals as goal
-
-pub returns : goal.returns
-returns c = λ plan k ok. story_files plan k.events k.past k.sys k.client k.told ok k.story

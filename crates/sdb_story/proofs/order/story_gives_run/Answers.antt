@@ -1,5 +1,0 @@
-use Rattle.sdb_story.proofs.Run.{linked_run}
-use Rattle.sdb_story.proofs.order.story_gives_run.Goals as goal
-
-pub returns : goal.returns
-returns c = λ script e. linked_run script e.fit e.labelled e.opening e.closing e.moments e.order e.fitting e.linked e.follows e.traced e.empty e.ordered e.ids

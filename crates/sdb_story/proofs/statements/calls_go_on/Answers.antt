@@ -1,5 +1,0 @@
-use Rattle.sdb_story.proofs.Since.{since_now, since_more, calls_just, calls_stay}
-use Rattle.sdb_story.proofs.statements.calls_go_on.Goals as goal
-
-pub returns : goal.returns
-returns c = record { none = since_now; more = since_more; just = calls_just; stay = calls_stay }

@@ -1,7 +1,0 @@
-use Rattle.std.specs.Prelude.{pos}
-use Rattle.sdb_story.proofs.Noting.{read_notes}
-use Rattle.sdb_story.proofs.Notes.{read_adds}
-use Rattle.sdb_story.proofs.statements.read_is_recorded.Goals as goal
-
-pub returns : goal.returns
-returns c = record { calls = read_notes; adds = λ s a images n. read_adds (record { 0 = 0 }) (pos 0) s a images n }

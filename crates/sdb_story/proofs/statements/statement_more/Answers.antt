@@ -1,5 +1,0 @@
-use Rattle.sdb_story.proofs.Bodies.{body_step}
-use Rattle.sdb_story.proofs.statements.statement_more.Goals as goal
-
-pub returns : goal.returns
-returns c = λ b n. body_step b.past b.catalog b.fit b.statements b.answers b.seen n.statement n.a n.answer n.changes b.comes b.ok n.covered n.answers

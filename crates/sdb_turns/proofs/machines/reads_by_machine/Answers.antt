@@ -1,5 +1,0 @@
-use Rattle.sdb_turns.proofs.Machine.{machine_asks, machine_kinds, machine_steps}
-use Rattle.sdb_turns.proofs.machines.reads_by_machine.Goals as goal
-
-pub returns : goal.returns
-returns c = record { kinds = machine_kinds; pending = machine_asks; steps = machine_steps }

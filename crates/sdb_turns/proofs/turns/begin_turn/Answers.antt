@@ -1,5 +1,0 @@
-use Rattle.sdb_turns.proofs.Begin.{begin_turn}
-use Rattle.sdb_turns.proofs.turns.begin_turn.Goals as goal
-
-pub returns : goal.returns
-returns c = λ k c text may. begin_turn k.plan k.past k.sys c text (record { ok = k.ok; at = may.rests }) may.begins may.none_sweeps

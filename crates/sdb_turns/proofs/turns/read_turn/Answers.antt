@@ -1,8 +1,0 @@
-use Rattle.sdb_turns.proofs.Calls.{read_turn, read_ends_turn}
-use Rattle.sdb_turns.proofs.turns.read_turn.Goals as goal
-
-pub returns : goal.returns
-returns c = record {
-  goes_on = λ k kind r kinds. read_turn kind k.plan k.past k.sys r.call r.id r.seen r.asked r.stage r.answered kinds (record { ok = k.ok; at = r.reads }) r.replies r.other;
-  ends = λ k r. read_ends_turn k.plan k.past k.sys r.call r.id r.seen r.asked r.stage r.answered (record { ok = k.ok; at = r.reads }) r.replies r.other;
-}

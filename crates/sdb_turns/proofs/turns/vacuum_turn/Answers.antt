@@ -1,5 +1,0 @@
-use Rattle.sdb_turns.proofs.Calls.{vacuum_turn}
-use Rattle.sdb_turns.proofs.turns.vacuum_turn.Goals as goal
-
-pub returns : goal.returns
-returns c = λ k kind r kinds. vacuum_turn kind k.plan k.past k.sys r.call r.stage r.answered kinds (record { ok = k.ok; at = r.sweeps }) r.replies r.other

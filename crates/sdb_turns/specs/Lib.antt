@@ -1,9 +1,0 @@
-pub mod Owner
-pub mod Reader
-pub mod ReadAt
-pub mod Vacuum
-pub mod Reads
-pub mod System
-pub mod Worked
-pub mod Machine
-pub mod Knowledge
