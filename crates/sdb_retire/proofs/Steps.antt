@@ -16,7 +16,6 @@ use Rattle.sdb_types.specs.declared.record.Request.{Request}
 use Rattle.sdb_types.proofs.Basics.{all_last, below, none_some}
 use Rattle.sdb_stores.specs.Views.{Attached, StoreView, IsCallAt, index_at, index_in, names_of, place_of}
 use Rattle.sdb_catalog.specs.Calls.{with_states}
-use Rattle.sdb_catalog.proofs.Calling.{risen_more}
 use Rattle.sdb_retire.specs.declared.refused.RetireRefused.{RetireRefused}
 use Rattle.sdb_retire.specs.declared.refused.RetireRefused.TheVariants as refused
 use Rattle.sdb_retire.specs.declared.seen.Seen.{Seen}
@@ -24,7 +23,7 @@ use Rattle.sdb_retire.specs.Copying.{AreFree, IsBlocked, IsFirstBlocking, IsFree
 use Rattle.sdb_retire.specs.Read.{AreSeen, IsUnseen}
 use Rattle.sdb_retire.specs.Stopped.{IsBlockedIn, IsStopped, IsUnmet, IsUnwritten}
 use Rattle.sdb_retire.specs.Writes.{GoOn, Hold, HoldFirst, IsScanned, MayHold, Write, write_at, writes_at}
-use Rattle.sdb_retire.proofs.Calls.{first_one, hold_more, hold_none, same_index, shown_earlier}
+use Rattle.sdb_retire.proofs.Calls.{first_one, hold_more, hold_none, risen_more, same_index, shown_earlier}
 
 ---- writes
 

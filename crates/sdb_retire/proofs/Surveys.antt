@@ -7,7 +7,6 @@ use Rattle.sdb_types.specs.declared.record.Request.{Request}
 use Rattle.sdb_types.proofs.Basics.{all_each}
 use Rattle.sdb_stores.specs.Views.{Attached, StoreView, index_at}
 use Rattle.sdb_catalog.specs.declared.entry.Entry.{Entry}
-use Rattle.sdb_catalog.proofs.Calling.{risen_more}
 use Rattle.sdb_retire.specs.declared.refused.RetireRefused.{RetireRefused}
 use Rattle.sdb_retire.specs.declared.refused.RetireRefused.TheVariants as refused
 use Rattle.sdb_retire.specs.declared.seen.Seen.{Seen}
@@ -18,7 +17,7 @@ use Rattle.sdb_retire.specs.Read.{AreOpened, AreSeen, IsUnread, IsUnseen}
 use Rattle.sdb_retire.specs.Retired.{AreAllMoved, OthersArePreserved, IsHalted, IsLeft, IsSurvey, IsUnmoved, IsUnsurveyed, Sides, copies_of, writes_of}
 use Rattle.sdb_retire.specs.Stopped.{IsUnwritten}
 use Rattle.sdb_retire.specs.Writes.{GoOn, Hold, HoldFirst, Write, writes_at}
-use Rattle.sdb_retire.proofs.Calls.{first_back, first_front, goes_none, hold_more, hold_none, hold_same, same_index, shown_earlier}
+use Rattle.sdb_retire.proofs.Calls.{first_back, first_front, goes_none, hold_more, hold_none, hold_same, risen_more, same_index, shown_earlier}
 use Rattle.sdb_retire.proofs.Known.{others_first, others_held, tables_moved}
 use Rattle.sdb_retire.proofs.Renewing.{rows_renewed}
 use Rattle.sdb_retire.proofs.Making.{all_less, made_both}
