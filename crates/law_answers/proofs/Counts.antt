@@ -283,7 +283,7 @@ next_light : (ss : List Span) (n : ℕ) → rest_of (next_table ss n).0 ≤ leng
 next_light [] n = omega arith
 next_light (s ∷ ss) n = omega arith
 
-pub going_light : (ss : List Span) (n : ℕ) (f : First) → rest_of (next_of_row ss n f).0 ≤ first_rest f + length ss
+going_light : (ss : List Span) (n : ℕ) (f : First) → rest_of (next_of_row ss n f).0 ≤ first_rest f + length ss
 going_light ss n Nothing = let h = next_light ss n in omega arith
 going_light ss n (Tombstone b left) = omega arith
 going_light ss n (Unresolved r meta left) = omega arith

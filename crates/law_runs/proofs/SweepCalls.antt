@@ -21,9 +21,9 @@ use Rattle.sdb_phases.specs.declared.step.RecoverStep.{RecoverStep}
 use Rattle.sdb_phases.specs.declared.step.RecoverStep.TheVariants as steps
 use Rattle.sdb_phases.specs.Recover.{recover_next}
 use Rattle.sdb_read.specs.Read.{Bad, Firm, Kind, Open, kind_of}
-use Rattle.sdb_vacuum.specs.Vacuum.{First, Malformed, Nothing, Over, Removing, Resolving, Scanning, Tombstone, Unresolved, VacuumAt, VacuumStage, answered, first_of, first_one, next_of_row, with_call, pending_at, removal_answered, resolved, step_at, tombstone_or}
+use Rattle.sdb_vacuum.specs.Vacuum.{First, Malformed, Nothing, Over, Removing, Resolving, Scanning, Tombstone, Unresolved, VacuumAt, VacuumStage, answered, first_of, first_one, next_of_row, with_call, next_table, pending_at, removal_answered, resolved, step_at, tombstone_or}
 use Rattle.law_answers.specs.Counts.{opens, rest_at}
-use Rattle.law_answers.proofs.Counts.{IsNearer, calls_more, opens_first, opens_more, opens_one, recover_nearer, going_light}
+use Rattle.law_answers.proofs.Counts.{IsNearer, calls_more, opens_first, opens_more, opens_one, recover_nearer}
 use Rattle.law_answers.proofs.ReadSteps.{IsDataTable}
 use Rattle.law_answers.proofs.Settling.{data_read}
 use Rattle.law_runs.specs.Vacuums.{IsVacuumMost, is_committed_tombstone, span_asked, tombstones_found, tombstones_in}
@@ -93,6 +93,16 @@ first_light (r ∷ left) = by (kind_of r) refl (fewer (first_rest (first_of left
     by Firm e h = firm (is_tombstone r) e refl h
     by (Open meta) e h = opened (dead left) (dead (r ∷ left)) (opens left) (opens (r ∷ left)) (dead_first r left) (opens_one r meta left e)
     by Bad e h = omega arith
+
+next_light : (ss : List Span) (n : ℕ) → rest_of (next_table ss n).0 ≤ length ss
+next_light [] n = omega arith
+next_light (s ∷ ss) n = omega arith
+
+going_light : (ss : List Span) (n : ℕ) (f : First) → rest_of (next_of_row ss n f).0 ≤ first_rest f + length ss
+going_light ss n Nothing = let h = next_light ss n in omega arith
+going_light ss n (Tombstone b left) = omega arith
+going_light ss n (Unresolved r meta left) = omega arith
+going_light ss n (Malformed key) = omega arith
 
 on_light : (ss : List Span) (n : ℕ) (left : List Record) → rest_of (next_of_row ss n (first_of left)).0 ≤ left_calls left + length ss
 on_light ss n left = by (rest_of (next_of_row ss n (first_of left)).0) (first_rest (first_of left)) (left_calls left) (length ss) (going_light ss n (first_of left)) (first_light left)
