@@ -75,7 +75,7 @@ module _ (script : Script) (w v : WorldAt) (old mid : Attached) (same : w.script
 
   -- what was there at each moment is explained by its events
   pub explained_played : (events : List Event) → IsRunExplained v mid events → AreReady script old → IsExplained script events (contents_of_views old.views)
-  explained_played events out ready = subst (λ (s : Script). IsExplained s events (contents_of_views old.views)) vs (out (contents_of_views old.views) (played ready).played)
+  explained_played events out ready = subst (λ (s : Script). IsExplained s events (contents_of_views old.views)) vs (out (contents_of_views old.views) (played ready).ran)
 
   -- and there is one
   pub none_played : HasNotRun v mid → AreReady script old → ⊥
