@@ -21,13 +21,13 @@ text{fill:#1b1f24;paint-order:stroke;stroke:#fff;stroke-width:3px;stroke-linejoi
 .stripe{fill:#f4f6f8}
 .lane{stroke:#aab2bd;stroke-width:1.5;fill:none}
 .head{text-anchor:middle;font-weight:bold}
-.key,.number,.place,.letter,.verdict,.item,.came,.legend{font-size:12px}
+.key,.number,.place,.letter,.verdict,.note,.came,.legend{font-size:12px}
 .number{text-anchor:end;fill:#6a737d}
 .title{font-size:15px;font-weight:bold}
 .take{fill:#1b1f24}
 .answer{fill:#6f42c1}
 .answered{text-anchor:end;fill:#5a32a3;font-weight:bold}
-.item,.came{fill:#57606a}
+.note,.came{fill:#57606a}
 .rest{fill:none;stroke:#1b1f24;stroke-width:2.5}
 .call{fill:none;stroke-width:1.8}
 .call.seen{stroke:#0072b2}
