@@ -27,7 +27,7 @@ use Rattle.sdb_schema.specs.declared.table.Table.{Table}
 use Rattle.sdb_record.specs.declared.access.Image.{Image}
 use Rattle.sdb_record.specs.declared.coordinator.Decided.{Decided}
 use Rattle.sdb_record.specs.Coordinator.{coordinator_key_of, coordinator_table, decision_in, is_coordinator_table}
-use Rattle.sdb_record.specs.Meta.{id_in, id_in_value, is_in, is_transactional}
+use Rattle.sdb_record.specs.Meta.{id_in, is_in, is_transactional}
 use Rattle.sdb_record.specs.Rolls.{image_of, image_under, row_of_image}
 use Rattle.sdb_record.proofs.IdLemmas.{id_in_value-fits}
 use Rattle.sdb_record.proofs.ImageLaws.{image-open, image-settled}

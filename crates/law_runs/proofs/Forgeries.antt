@@ -24,6 +24,7 @@ use Rattle.sdb_model.specs.Transactions.{Executed, client_of}
 use Rattle.law_answers.proofs.Conflicts.{prepared_is}
 use Rattle.law_answers.proofs.Lists.{kept_in}
 use Rattle.law_answers.proofs.Rows.{asks_row}
+use Rattle.law_runs.specs.Complete.{ResolvedAreNotBusy}
 use Rattle.law_runs.specs.Forged.{busy_at_once, counted_at_once, decides_at_once, prepares_at, reads_and_is_done}
 use Rattle.law_runs.specs.Laws.{BusyIsOfReads, DecisionsAreDue, GivesUp, IsOwnDecision, PreparesAreOwn, ReadsAreFew, row_put}
 use Rattle.law_runs.specs.Vacuums.{VacuumsAreComplete, spans_asked, whole_tables}
@@ -47,6 +48,9 @@ one_has x = Contains-push [] x
 
 pub busy_refused : (text : List ℕ) (key : Key) (id : TxId) (at : ℤ) → reads_commit text ≡ true → BusyIsOfReads (busy_at_once text key id at) → ⊥
 busy_refused text key id at commit law = clash (sym commit ∙ (law 1 (said_once text (Some (answer.Busy key id at)) 1) key id at (one_has (said_once text (Some (answer.Busy key id at)) 1)) refl).0)
+
+pub idle_busy_refused : (text : List ℕ) (key : Key) (id : TxId) (at : ℤ) → ResolvedAreNotBusy (busy_at_once text key id at) → ⊥
+idle_busy_refused text key id at law = law 1 (said_once text (Some (answer.Busy key id at)) 1) key id at (one_has (said_once text (Some (answer.Busy key id at)) 1)) (λ m r has shown is. none_in m has) refl
 
 pub lazy_refused : (t : Table) (text : List ℕ) → reads_vacuum text ≡ true → VacuumsAreComplete (t ∷ []) (counted_at_once text) → ⊥
 lazy_refused t text sweeps law =

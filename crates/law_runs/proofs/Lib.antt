@@ -63,3 +63,6 @@ pub mod Commits
 pub mod Clients
 pub mod Paths
 pub mod PlainRuns
+pub mod Endings
+pub mod Completing
+pub mod ForgedEnds

@@ -48,6 +48,10 @@ busy_at_once text key id at = event.Take 1 text (Some (answer.Busy key id at)) �
 abbrev pub counted_at_once : List ℕ → List Event
 counted_at_once text = event.Take 1 text (Some (answer.Count 0)) ∷ []
 
+-- A COMMIT in a transaction is answered Faulted as it is taken.
+abbrev pub faults_at_once : List ℕ → List ℕ → List Event
+faults_at_once begin commit = event.Take 1 begin (Some answer.Done) ∷ event.Take 1 commit (Some answer.Faulted) ∷ []
+
 -- A statement reads a key, and is answered Done.
 abbrev pub reads_and_is_done : List ℕ → Key → List Event
 reads_and_is_done text key = event.Take 1 text None ∷ event.Call 1 [] (ask.Get key) Seen (reply.Found None) (Some answer.Done) ∷ []

@@ -15,3 +15,4 @@ pub mod Written
 pub mod Forged
 pub mod Facts
 pub mod Runs
+pub mod Complete

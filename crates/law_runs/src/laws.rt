@@ -14,7 +14,8 @@ ghost use Rattle.sdb_execution.specs.Execution.{IsExecution};
 ghost use Rattle.sdb_model.specs.Causes.{AreCaused};
 ghost use Rattle.sdb_model.specs.Counted.{AreCounted, AreResolved};
 ghost use Rattle.law_protocol.specs.Spread.{AreAbout};
-ghost use Rattle.law_runs.specs.Forged.{CommitText, FindsRow, FindsUnresolved, InsertOn, IsOfOther, IsOtherMoment, SelectOn, IsCommittedRow, UpdateOn, busy_at_once, counted_at_once, counts_over, counts_twice, counts_unread, decides_at_once, decides_early, decides_unapplied, decides_unprepared, duplicates_none, leaves_out, prepares_at, prepares_unwritten, reads_again, reads_and_is_done, answers_two, answers_unread, answers_unrolled};
+ghost use Rattle.law_runs.specs.Complete.{RecoveriesComplete, ResolvedAreNotBusy, SeenAreServed, StatementsComplete, UncontendedCommitsComplete};
+ghost use Rattle.law_runs.specs.Forged.{CommitText, FindsRow, FindsUnresolved, InsertOn, IsOfOther, IsOtherMoment, SelectOn, IsCommittedRow, UpdateOn, busy_at_once, counted_at_once, counts_over, counts_twice, counts_unread, decides_at_once, decides_early, decides_unapplied, decides_unprepared, duplicates_none, faults_at_once, leaves_out, prepares_at, prepares_unwritten, reads_again, reads_and_is_done, answers_two, answers_unread, answers_unrolled};
 ghost use Rattle.law_runs.specs.Found.{ReadsAreNew, RunsOnFound};
 ghost use Rattle.law_runs.specs.Laws.{BusyIsOfReads, CallsAreOfStatements, DecisionsAreDue, ExecutionOf, FollowsMoves, RulesHold, PreparesAreOwn, ReadsAreFew};
 ghost use Rattle.law_runs.specs.Moments.{IsSoundAfter, TraceOf, WritesPersistAfter};
@@ -109,6 +110,33 @@ pub fn decisions_follow_points()
     ensures { (x : ExecutionOf) → FollowsMoves x → DecisionsFollowPoints x.events }
 {}
 
+/// A COMMIT in a transaction whose calls the stores served, none of which found a row of the coordinator, or something else than its
+/// transaction had read, is answered Committed, and its put of COMMITTED was applied; or it was out of memory, and has made no such put.
+pub fn uncontended_commits_complete()
+    ensures { (x : ExecutionOf) → UncontendedCommitsComplete x.script.catalog x.events }
+{}
+
+/// A statement on a table that isn't rejected, whose calls the stores served and which observed no malformed record, is answered as one of its
+/// kind: SELECT with rows, the others with a count, INSERT also with Duplicate. Or else it is answered Conflict, where its scan differs from what
+/// its transaction had read; Busy, where a record that it read has not expired; BadRecord, where a row that it read doesn't fit its table; refused,
+/// where its transaction might write too many keys; or it was out of memory. Where it observed no unresolved record it isn't answered Busy.
+pub fn statements_complete()
+    ensures ends { (x : ExecutionOf) → StatementsComplete x.script.catalog x.events }
+    ensures resolved { (x : ExecutionOf) → ResolvedAreNotBusy x.events }
+{}
+
+/// Where the events follow the script's moves, each recovery of such a statement, or of a VACUUM, ends: the record is rolled, or found rolled,
+/// or a VACUUM passes over it before it has expired. Or else the statement is answered Busy, before a record that it read has expired; or
+/// BadRecord, where a row that it read doesn't fit its table; or it was out of memory.
+pub fn recoveries_complete()
+    ensures { (x : ExecutionOf) → FollowsMoves x → RecoveriesComplete x.script.catalog x.events }
+{}
+
+/// Where the events follow the script's moves, the stores served each call that was seen and wasn't out of memory.
+pub fn seen_calls_are_served()
+    ensures { (x : ExecutionOf) → FollowsMoves x → SeenAreServed x.events }
+{}
+
 /// Each beginning of an execution is an execution: what holds of every execution holds after any number of its events.
 pub fn beginnings_are_executions()
     ensures { (x : ExecutionOf) (n : ℕ) → IsExecution x.script (take n x.events) }
@@ -124,15 +152,18 @@ pub fn records_are_sound_at_every_moment()
     ensures { (x : ExecutionOf) (t : TraceOf x) (n : ℕ) → IsSoundAfter x t n }
 {}
 
-/// Events that no execution has, and the law that each of them breaks: a COMMIT that is answered Busy, a VACUUM of a table that counts without
-/// a scan, a BEGIN that reads, a prepare with another moment than the clock showed, and a decision on another's transaction by a first call;
-/// and statements of a transaction: a SELECT that shows a row without a read, leaves out the row that it found, shows a row of a record that it
-/// found and didn't roll, or shows two rows where its LIMIT is 1, an UPDATE that counts rows without a read, an INSERT that is counted over a
-/// row that it found or over its transaction's own row, a Duplicate where nothing was found, and an INSERT that reads its key again; and a
-/// COMMIT that prepares a key that its transaction only read, or puts its row COMMITTED without an applied prepare of what its transaction
-/// inserted: without any, after one that faulted, or before one.
+/// Events that no execution has, and the law that each of them breaks: a COMMIT that is answered Busy, a statement that is and has read
+/// nothing, a COMMIT that is answered Faulted and has made no call, a VACUUM of a table that counts without a scan, a BEGIN that reads, a
+/// prepare with another moment than the clock showed, and a decision on another's transaction by a first call; and statements of a transaction:
+/// a SELECT that shows a row without a read, leaves out the row that it found, shows a row of a record that it found and didn't roll, or shows
+/// two rows where its LIMIT is 1, an UPDATE that counts rows without a read, an INSERT that is counted over a row that it found or over its
+/// transaction's own row, a Duplicate where nothing was found, and an INSERT that reads its key again; and a COMMIT that prepares a key that
+/// its transaction only read, or puts its row COMMITTED without an applied prepare of what its transaction inserted: without any, after one
+/// that faulted, or before one.
 pub fn forged_events_are_refused()
     ensures busy { (text : List ℕ) (key : Key) (id : TxId) (at : ℤ) → reads_commit text ≡ true → BusyIsOfReads (busy_at_once text key id at) → ⊥ }
+    ensures idle_busy { (text : List ℕ) (key : Key) (id : TxId) (at : ℤ) → ResolvedAreNotBusy (busy_at_once text key id at) → ⊥ }
+    ensures faulted { (catalog : List Table) (begin commit : List ℕ) → reads_begin begin ≡ true → reads_commit commit ≡ true → UncontendedCommitsComplete catalog (faults_at_once begin commit) → ⊥ }
     ensures swept { (t : Table) (text : List ℕ) → reads_vacuum text ≡ true → VacuumsAreComplete (t ∷ []) (counted_at_once text) → ⊥ }
     ensures begun { (text : List ℕ) (key : Key) → reads_begin text ≡ true → ReadsAreFew (reads_and_is_done text key) → ⊥ }
     ensures prepared { (text : List ℕ) (w : Write) (id : TxId) (now : ℤ) → IsOtherMoment id now → PreparesAreOwn (prepares_at text w id now) → ⊥ }

@@ -1,11 +1,14 @@
 use Rattle.law_runs.proofs.ForgedCommits.{early_refused, unapplied_refused, unprepared_refused, unwritten_refused}
+use Rattle.law_runs.proofs.ForgedEnds.{faulted_refused}
 use Rattle.law_runs.proofs.ForgedFound.{again_refused, counted_over_refused, forgotten_refused, invented_refused, left_out_refused, miscounted_refused, no_duplicate_refused, unlimited_refused, unrolled_refused}
-use Rattle.law_runs.proofs.Forgeries.{begin_refused, busy_refused, decision_refused, lazy_refused, moment_refused}
+use Rattle.law_runs.proofs.Forgeries.{begin_refused, busy_refused, decision_refused, idle_busy_refused, lazy_refused, moment_refused}
 use Rattle.law_runs.proofs.laws.forged_events_are_refused.Goals as goal
 
 pub returns : goal.returns
 returns c = record {
   busy = busy_refused;
+  idle_busy = idle_busy_refused;
+  faulted = faulted_refused;
   swept = lazy_refused;
   begun = begin_refused;
   prepared = λ text w id now h. moment_refused text w id now h.0 h.1 h.2;
