@@ -3,6 +3,7 @@ pub mod Fronts
 pub mod Orders
 pub mod Places
 pub mod Scans
+pub mod SpanPlaces
 pub mod Opening
 pub mod Shown
 pub mod Differences

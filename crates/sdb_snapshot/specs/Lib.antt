@@ -4,3 +4,4 @@ pub mod Rows
 pub mod Sets
 pub mod Opened
 pub mod Seen
+pub mod Spans

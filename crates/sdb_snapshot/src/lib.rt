@@ -9,6 +9,7 @@ mod read_set;
 mod row;
 mod scan_list;
 mod snapshot;
+mod spans;
 mod write_set;
 
 pub use row::row_of;

@@ -4,19 +4,18 @@ ghost use Rattle.sdb_snapshot.specs.Sets.{is_scan_at as is_scan_at_lem};
 ghost use Rattle.sdb_snapshot.specs.Seen.{is_scanned};
 
 use crate::prefix::cut;
-use indexmap::IndexMap;
+use crate::spans::SpanPlaces;
 use sdb_record::{Scan, Scans};
-use sdb_types::{Duplicate, NoMemory, Span};
+use sdb_types::{NoMemory, Span};
 use std::alloc::Global;
 use std::marker::Model;
 
-/// The scans in their order, and for each span the place of its first scan, found by a hash of the span. The map may have
-/// places more, of scans that were cut off, or that memory ran out for: a place counts where the scan there is of its span.
-/// The hasher has a fixed seed, so whoever chooses spans can make them collide.
+/// The scans in their order, and for each span the place of its first scan, found by the span. There may be places more, of
+/// scans that were cut off, or that memory ran out for: a place counts where the scan there is of its span.
 pub struct ScanList {
     alloc: Global,
     scans: Scans,
-    places: IndexMap<Span, usize>,
+    places: SpanPlaces,
 }
 
 // By hand: each drop is then one call, where a derived one is written out at each exit, with a call for each field.
@@ -32,16 +31,15 @@ impl Drop for ScanList {
 
 impl Model for ScanList {
     ghost use Rattle.std.specs.Prelude.{List};
-    ghost use Rattle.indexmap.specs.IndexMap.{get};
     ghost use Rattle.sdb_record.specs.declared.access.Scan.{Scan as ScanValue};
     ghost use Rattle.sdb_snapshot.specs.Sets.{HaveFirstIndexes};
-    ghost use Rattle.sdb_snapshot.specs.Seen.{same_span};
+    ghost use Rattle.sdb_snapshot.specs.Spans.{place_in_tables};
 
     ghost Value = { List ScanValue };
 
     ghost view = { λ l. l.scans };
 
-    ghost invariant = { λ l. HaveFirstIndexes l.scans (get same_span l.places) };
+    ghost invariant = { λ l. HaveFirstIndexes l.scans (place_in_tables l.places.tables) };
 }
 
 // Whether the scan at a place is of a span.
@@ -62,7 +60,7 @@ impl ScanList {
         ScanList {
             alloc,
             scans: Scans::new(alloc),
-            places: IndexMap::new(alloc),
+            places: SpanPlaces::new(alloc),
         }
     }
 
@@ -80,12 +78,12 @@ impl ScanList {
         &self.scans
     }
 
-    /// Whether a span was scanned. Takes no memory, and constant time as far as the hashes of spans don't collide.
+    /// Whether a span was scanned. Takes no memory, and time as the logarithm of the number of scans.
     pub fn has(&self, span: &Span) -> bool
         ensures { result ≡ is_scanned self.now span.now }
     {
         match self.places.get(span) {
-            Some(i) => is_scan_at(&self.scans, *i, span),
+            Some(i) => is_scan_at(&self.scans, i, span),
             None => false,
         }
     }
@@ -96,7 +94,7 @@ impl ScanList {
         ensures ok { OnOk result (self.new ≡ self.old ++ scan ∷ []) }
         ensures err { OnErr result (self.new ≡ self.old) }
     {
-        self.places.insert(scan.span.copy()?, self.scans.len())?;
+        self.places.put(&scan.span, self.scans.len())?;
         self.scans.push(scan)
     }
 

@@ -45,9 +45,9 @@ impl From<NoMemory> for NoteRefused {
 
 /// What a transaction has read and written.
 ///
-/// Records of the read set are found in a tree of keys, and so are own writes; scans are found by a hash of the span. So
-/// `lookup` takes time as the logarithm of the number of keys, and `write` as much for each change; `scanned` takes constant time, as
-/// far as hashes don't collide. The keys read are in a tree of their own too, so that `overlay_span` looks at the keys of its span alone.
+/// Records of the read set are found in a tree of keys, own writes too, and scans in a tree of spans. So `lookup` takes time as
+/// the logarithm of the number of keys, `write` as much for each change, and `scanned` as the logarithm of the number of scans.
+/// The keys read are in a tree of their own too, so that `overlay_span` looks at the keys of its span alone.
 pub struct Snapshot {
     alloc: Global,
     read_set: ReadSet,
@@ -144,7 +144,7 @@ impl Snapshot {
         self.note_read(key, image, read)
     }
 
-    /// Whether a span was scanned. Takes no memory, and constant time as far as the hashes of spans don't collide.
+    /// Whether a span was scanned. Takes no memory, and time as the logarithm of the number of scans.
     pub fn scanned(&self, span: &Span) -> bool
         ensures { result ≡ is_scanned self.now.scans span.now }
     {
