@@ -1,38 +1,34 @@
 -- Places, found by their namespaces.
-use Rattle.std.proofs.Common.{◌≡◌, ℕ, ◌+◌, ◌<◌, true, false, List, [], ◌∷◌, ◌++◌, length, take, Option, is_some, option_to_list, slice_get, refl, sym, ap, ◌∙◌, arith}
-use Rattle.std.proofs.lemmas.Option.{slice_get-get_or}
-use Rattle.std.proofs.lemmas.List.{take_more}
+use Rattle.std.proofs.Common.{◌≡◌, ℕ, ◌+◌, ◌<◌, Bool, true, false, ◌||◌, cond, List, [], ◌∷◌, ◌++◌, length, take, Option, option_to_list, slice_get, refl, sym, ap, ◌∙◌, arith}
+use Rattle.std.specs.Bool.{one_answer}
+use Rattle.std.specs.Ordering.{eq_by_cmp}
 use Rattle.std.specs.Str.{bytes_eq}
-use Rattle.std.specs.Map.{lookup}
-use Rattle.indexmap.specs.IndexMap.{insert_entry}
+use Rattle.std.proofs.lemmas.List.Folds.{list_any-append}
+use Rattle.std.proofs.lemmas.List.{take_more}
+use Rattle.std.proofs.lemmas.Option.{slice_get-get_or}
+use Rattle.std.proofs.lemmas.Slice.Eq.{bytes_eq-Decides}
+use Rattle.sdb_types.specs.Exact.{order_decides}
+use Rattle.sdb_types.specs.Order.{name_cmp}
 use Rattle.sdb_types.specs.declared.place.Place.{Place}
+use Rattle.sdb_types.proofs.KeyOrder.{name_total, name_exact}
 use Rattle.sdb_script.specs.Begun.{is_placed}
-use Rattle.sdb_script.specs.Placings.{placing, placings}
-use Rattle.sdb_script.proofs.Pieces.{same_bytes, itself}
-use Rattle.sdb_types.proofs.Basics.{by_test}
+use Rattle.sdb_script.specs.Placings.{HasNamespaces}
 
-abbrev Entries : Type 0
-Entries = List (List ℕ × List ℕ)
+same_name : (a b : List ℕ) → bytes_eq a b ≡ eq_by_cmp name_cmp a b
+same_name a b = one_answer {P = a ≡ b} (bytes_eq a b) (eq_by_cmp name_cmp a b) (bytes_eq-Decides a b) (order_decides name_total name_exact a b)
 
-turned : (a b : List ℕ) → bytes_eq a b ≡ bytes_eq b a
-turned a b =
-    by_test (bytes_eq b a)
-    (λ t. let same : b ≡ a = same_bytes b a t in rw (t, same) (itself a))
-    (λ t. by_test (bytes_eq a b) (λ u. let same : a ≡ b = same_bytes a b u in let k : true ≡ false = sym (itself b) ∙ ap (bytes_eq b) (sym same) ∙ t in absurd cc) (λ u. u ∙ sym t))
+added : (s t : Bool) → cond t true s ≡ (s || (t || false))
+added false false = refl
+added false true = refl
+added true false = refl
+added true true = refl
 
-pub found : (es : Entries) (ns : List ℕ) → is_some (lookup (bytes_eq ns) es) ≡ is_placed (placings es) ns
-found [] ns = refl
-found (e ∷ es) ns =
-    by_test (bytes_eq ns e.0)
-    (λ t. let u : bytes_eq e.0 ns ≡ true = turned e.0 ns ∙ t in rw (t, u) refl)
-    (λ t. let u : bytes_eq e.0 ns ≡ false = turned e.0 ns ∙ t in rw (t, u) (found es ns))
-
-pub inserted : (es : Entries) (ns store : List ℕ) → is_placed (placings es) ns ≡ false → placings (insert_entry bytes_eq es ns store) ≡ placings es ++ record { ns = ns; store = store } ∷ []
-inserted [] ns store h = refl
-inserted (e ∷ es) ns store h =
-    by_test (bytes_eq ns e.0)
-    (λ t. let u : bytes_eq e.0 ns ≡ true = turned e.0 ns ∙ t in let k : true ≡ false = rw u at h in absurd cc)
-    (λ t. let u : bytes_eq e.0 ns ≡ false = turned e.0 ns ∙ t in rw t (ap (λ (ps : List Place). placing e ∷ ps) (inserted es ns store (rw u at h))))
+-- a place more
+pub one_more : (places : List Place) (p : Place) (own : List ℕ) (old new : List ℕ → Bool) → own ≡ p.ns → HasNamespaces places old
+    → ((q : List ℕ) → new q ≡ cond (eq_by_cmp name_cmp own q) true (old q)) → HasNamespaces (places ++ p ∷ []) new
+one_more places p own old new same has is q =
+    is q ∙ ap (λ k. cond (eq_by_cmp name_cmp k q) true (old q)) same ∙ ap (λ b. cond b true (old q)) (sym (same_name p.ns q))
+    ∙ ap (cond (bytes_eq p.ns q) true) (has q) ∙ added (is_placed places q) (bytes_eq p.ns q) ∙ sym (list_any-append (λ (r : Place). bytes_eq r.ns q) places (p ∷ []))
 
 pub next_taken : {X : Type 0} (xs : List X) (i : ℕ) → i < length xs → take i xs ++ option_to_list (slice_get xs i) ≡ take (i + 1) xs
 next_taken {X} [] i h = absurd (omega arith)

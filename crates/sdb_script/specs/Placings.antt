@@ -1,9 +1,8 @@
--- Places, as pairs of a namespace and its store.
-use Rattle.std.specs.Prelude.{ℕ, List, map}
+-- The namespaces of places.
+use Rattle.std.specs.Prelude.{◌≡◌, ℕ, Bool, List}
 use Rattle.sdb_types.specs.declared.place.Place.{Place}
+use Rattle.sdb_script.specs.Begun.{is_placed}
 
-abbrev pub placing : List ℕ × List ℕ → Place
-placing e = record { ns = e.0; store = e.1 }
-
-abbrev pub placings : List (List ℕ × List ℕ) → List Place
-placings es = map placing es
+-- these are the namespaces that are placed
+abbrev pub HasNamespaces : List Place → (List ℕ → Bool) → Type 0
+HasNamespaces places has = (ns : List ℕ) → has ns ≡ is_placed places ns

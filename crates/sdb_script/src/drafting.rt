@@ -277,7 +277,7 @@ impl Drafting {
     }
 
     /// The script that was read.
-    pub fn into_script(self, alloc: Global) -> Result<Script, NoMemory>
+    pub fn into_script(self) -> Result<Script, NoMemory>
         ensures { IfOk result (λ s. s ≡ spec.script_of self) }
     {
         let Drafting {
@@ -289,7 +289,7 @@ impl Drafting {
             moves,
         } = self;
         Ok(Script {
-            places: places.places(alloc)?,
+            places: places.into_places(),
             clients: clients.into_clients()?,
             catalog,
             moves: moves.into_moves(),

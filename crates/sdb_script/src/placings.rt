@@ -1,43 +1,52 @@
 //! The places of a script that is being read, found by their namespaces.
-ghost use Rattle.std.specs.Prelude.{◌≡◌, false, [], ◌∷◌, ◌++◌, slice_get, option_to_list, length, OnOk, IfOk};
-ghost use Rattle.std.specs.Option.{option_map};
-ghost use Rattle.std.specs.Map.Iter.{deref_pair};
+ghost use Rattle.std.specs.Prelude.{◌≡◌, false, [], ◌∷◌, ◌++◌, OnOk};
 ghost use Rattle.sdb_script.specs.Begun.{is_placed};
-ghost use Rattle.sdb_script.specs.Placings.{placings};
 
-use indexmap::IndexMap;
 use sdb_model::{Place, Places};
 use sdb_types::{Duplicate, Name, NoMemory};
 use std::alloc::Global;
+use std::collections::BTreeSet;
 use std::marker::Model;
 
-/// The stores of namespaces, in the order in which these were placed. A namespace is found by its hash, whose seed is fixed.
+/// The places in the order in which they were made, seen as a list. A tree has their namespaces: a search takes time as the
+/// logarithm of their number, whatever names are chosen.
 pub struct Placings {
-    stores: IndexMap<Name, Name>,
+    places: Places,
+    namespaces: BTreeSet<Name>,
 }
 
+// By hand: each drop is then one call, where a derived one is written out at each exit, with a call for each field.
 impl Drop for Placings {
     fn drop(self) {
-        let Placings { stores: _ } = self;
+        let Placings {
+            places: _,
+            namespaces: _,
+        } = self;
     }
 }
 
 impl Model for Placings {
     ghost use Rattle.std.specs.Prelude.{List};
+    ghost use Rattle.std.specs.BTreeSet.{contains};
+    ghost use Rattle.sdb_types.specs.Order.{name_cmp};
     ghost use Rattle.sdb_types.specs.declared.place.Place.{Place as OnePlace};
-    ghost use Rattle.sdb_script.specs.Placings.{placings};
+    ghost use Rattle.sdb_script.specs.Placings.{HasNamespaces};
 
     ghost Value = { List OnePlace };
 
-    ghost view = { λ p. placings p.stores.entries };
+    ghost view = { λ p. p.places };
+
+    ghost invariant = { λ p. HasNamespaces p.places (contains name_cmp p.namespaces) };
 }
 
 impl Placings {
+    /// No places.
     pub fn new(alloc: Global) -> Placings
         ensures { result ≡ [] }
     {
         Placings {
-            stores: IndexMap::new(alloc),
+            places: Places::new(alloc),
+            namespaces: BTreeSet::new(alloc),
         }
     }
 
@@ -45,7 +54,7 @@ impl Placings {
     pub fn has(&self, ns: &Name) -> bool
         ensures { result ≡ is_placed self.now ns.now }
     {
-        self.stores.contains_key(ns)
+        self.namespaces.contains(ns)
     }
 
     /// Places a namespace.
@@ -53,50 +62,26 @@ impl Placings {
         requires { is_placed self.old ns ≡ false }
         ensures { OnOk result (self.new ≡ self.old ++ record { ns = ns; store = store } ∷ []) }
     {
-        match self.stores.insert(ns, store) {
+        let own = ns.copy()?;
+        let last = self.places.len();
+        self.places.push(Place { ns, store })?;
+        match self.namespaces.insert(own) {
             Ok(_) => Ok(()),
-            Err(_) => Err(NoMemory),
+            Err(_) => {
+                self.places.remove(last);
+                Err(NoMemory)
+            }
         }
     }
 
-    // The place that was the i-th to be taken, from 0.
-    fn at(&self, i: usize) -> Result<Option<Place>, NoMemory>
-        ensures { IfOk result (λ place. place ≡ slice_get self.now i) }
+    /// The places as a list. Takes no memory.
+    pub fn into_places(self) -> Places
+        ensures { result ≡ self }
     {
-        match self.stores.get_index(i) {
-            Some((ns, store)) => Ok(Some(Place {
-                ns: ns.copy()?,
-                store: store.copy()?,
-            })),
-            None => Ok(None),
-        }
-    }
-
-    // Adds that place to others.
-    fn put_at(&self, i: usize, places: &mut Places) -> Result<(), NoMemory>
-        ensures { OnOk result (places.new ≡ places.old ++ option_to_list (slice_get self.now i)) }
-    {
-        match self.at(i)? {
-            Some(place) => places.push(place),
-            None => Ok(()),
-        }
-    }
-
-    fn len(&self) -> usize
-        ensures { result ≡ length self.now }
-    {
-        self.stores.len()
-    }
-
-    /// The places as a list.
-    #[tactic(auto, using(crate::proofs::PlaceLaws::next_taken))]
-    pub fn places(&self, alloc: Global) -> Result<Places, NoMemory>
-        ensures { IfOk result (λ places. places ≡ self.now) }
-    {
-        let mut places = Places::new(alloc);
-        for i in 0..self.len() {
-            self.put_at(i, &mut places)?;
-        }
-        Ok(places)
+        let Placings {
+            places,
+            namespaces: _,
+        } = self;
+        places
     }
 }

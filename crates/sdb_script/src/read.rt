@@ -68,14 +68,14 @@ pub fn last_line(bytes: &[u8]) -> u64
 }
 
 // The script of the lines that were read, where the last number is that of the line after them.
-fn script_of(alloc: Global, drafting: Drafting, number: u64) -> Result<Script, ScriptRefused>
+fn script_of(drafting: Drafting, number: u64) -> Result<Script, ScriptRefused>
     ensures ok { IfOk result (λ s. spec.ended number drafting ≡ Ok s) }
     ensures bad { IfErr result (spec.Agrees (spec.ended number drafting)) }
 {
     if !drafting.has_run() {
         return Err(ScriptRefused::BadLine(number, LineFault::Missing));
     }
-    Ok(drafting.into_script(alloc)?)
+    Ok(drafting.into_script()?)
 }
 
 fn script_in(alloc: Global, bytes: &[u8], stores: &Names) -> Result<Script, ScriptRefused>
@@ -86,7 +86,7 @@ fn script_in(alloc: Global, bytes: &[u8], stores: &Names) -> Result<Script, Scri
         return Err(ScriptRefused::Limit(last_line(bytes), Which::InputBytes));
     }
     match read_lines(alloc, bytes, stores) {
-        Ok((drafting, number)) => script_of(alloc, drafting, number),
+        Ok((drafting, number)) => script_of(drafting, number),
         Err(refused) => Err(refused),
     }
 }
@@ -96,8 +96,8 @@ fn script_in(alloc: Global, bytes: &[u8], stores: &Names) -> Result<Script, Scri
 /// The text has at most 67,108,864 bytes, in lines of UTF-8 of at most 65,536 bytes. They are any number of `place NS STORE`; at
 /// most one `schema JSON`; at most 64 blocks of `client NAME` and at most 20,000 statements, each after two spaces; `run`; and
 /// moves that count as at most 200,000. The first line that may not come is returned, with what is wrong with it.
-/// Takes memory linear in the text's length, and time linear in it, but for the schema, whose JSON `catalog_of` reads, and as far as the
-/// hashes of namespaces don't collide; each place is compared with the stores, and each client with those before it.
+/// Takes memory linear in the text's length, and time linear in it, but for the schema, whose JSON `catalog_of` reads; each place is
+/// compared with the stores and with as many namespaces as the logarithm of their number, and each client with those before it.
 pub fn read_script(alloc: Global, bytes: &[u8], stores: &Names) -> Result<Script, ScriptRefused>
     ensures ok { IfOk result (IsScript stores.now bytes.now) }
     ensures refused { IfErr result (λ r. (r ≡ ScriptRefused.NoMemory) ⊎ IsRefused stores.now bytes.now r) }
