@@ -22,9 +22,6 @@ pub record Story : Type 0 where
   pub whole : List Finished
   pub rest : Rest
 
--- before the first
-abbrev pub empty_story : Story
-empty_story = record { whole = []; rest = Closed [] }
 
 -- one statement more, with its answer
 abbrev pub settle : List Finished → Rest → Executed → Story
