@@ -16,7 +16,7 @@ use Rattle.sdb_types.specs.Order.{table_cmp, same_key}
 use Rattle.sdb_types.proofs.Bools.{and_first}
 use Rattle.sdb_types.proofs.KeyOrder.{table_exact}
 use Rattle.sdb_schema.specs.declared.table.Table.{Table}
-use Rattle.sdb_hashed.proofs.Spans.{same_rows}
+use Rattle.sdb_types.proofs.SpanRows.{same_rows}
 use Rattle.sdb_model.specs.declared.event.How.{How}
 use Rattle.sdb_model.specs.declared.event.How.TheVariants.{Seen}
 use Rattle.sdb_types.specs.declared.place.Place.{Place}

@@ -24,7 +24,8 @@ use Rattle.sdb_hashed.specs.Gathered.{contents_of_all, in_part, part_at, HasOwnK
 use Rattle.sdb_hashed.proofs.Gather.{held_get}
 use Rattle.sdb_hashed.proofs.Inside.{table_inside, partition_inside}
 use Rattle.sdb_hashed.proofs.Sorting.{in_order, unpaired}
-use Rattle.sdb_hashed.proofs.Spans.{find_span, no_rows, same_rows}
+use Rattle.sdb_hashed.proofs.Spans.{no_rows}
+use Rattle.sdb_types.proofs.SpanRows.{find_span, same_rows}
 
 ---- one part
 

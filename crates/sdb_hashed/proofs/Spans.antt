@@ -1,17 +1,16 @@
 -- Records of a span.
 use Rattle.std.proofs.Common.{◌≡◌, List, [], ◌∷◌, ◌++◌, Bool, true, false, cond, Option, Some, None, refl, sym, ap, subst, ◌∙◌, map}
 use Rattle.std.specs.Ordering.{eq_by_cmp}
-use Rattle.std.specs.declared.cmp.Ordering.TheVariants.{Equal}
 use Rattle.std.specs.List.{filter}
-use Rattle.std.specs.FinMap.{find, get, insert, entries, entries_sorted, get-entries, get-insert}
-use Rattle.std.specs.FinMap.Entries.{where_key, is_sorted-where_key, find-where_key, same_entries}
+use Rattle.std.specs.FinMap.{find, get, insert, entries, get-entries, get-insert}
+use Rattle.std.specs.FinMap.Entries.{where_key}
 use Rattle.sdb_types.specs.declared.key.Key.{Key}
 use Rattle.sdb_types.specs.declared.pair.Pair.{Pair}
 use Rattle.sdb_types.specs.declared.record.Record.{Record}
 use Rattle.sdb_types.specs.declared.record.Span.{Span}
 use Rattle.sdb_types.specs.Order.{key_cmp}
 use Rattle.sdb_types.specs.Contents.{Contents, record_of, in_span, rows_in}
-use Rattle.sdb_types.proofs.KeyOrder.{key_total, key_exact}
+use Rattle.sdb_types.proofs.KeyOrder.{key_total}
 use Rattle.sdb_hashed.specs.Put.{with_rows}
 use Rattle.std.specs.Prelude.{IfOk, Result}
 use Rattle.std.specs.Map.{lookup, keys_of}
@@ -24,23 +23,7 @@ use Rattle.sdb_hashed.specs.Gathered.{gathered, contents_of_all, in_part, HasOwn
 use Rattle.sdb_hashed.proofs.Gather.{find_append, held_get}
 use Rattle.std.proofs.lemmas.List.{append-nil as append_nil}
 use Rattle.sdb_types.proofs.Basics.{or_else}
-
-alike : (span : Span) (q x : Key) → key_cmp q x ≡ Equal → in_span span x ≡ in_span span q
-alike span q x e = ap (in_span span) (sym (key_exact q x e))
-
--- what the entries of a span have at a key
-pub find_span : (span : Span) (m : Contents) (q : Key) → find key_cmp q (where_key key_cmp (in_span span) (entries m)) ≡ cond (in_span span q) (get m q) None
-find_span span m q = find-where_key key_cmp (in_span span) q (alike span q) (entries m) ∙ ap (λ o. cond (in_span span q) o None) (sym (get-entries m q))
-
-agree : (b : Bool) (x y : Option (List Pair)) → (b ≡ true → x ≡ y) → cond b x None ≡ cond b y None
-agree true x y h = h refl
-agree false x y h = refl
-
--- contents that agree inside a span have the same rows there
-pub same_rows : (span : Span) (m n : Contents) → ((q : Key) → in_span span q ≡ true → get m q ≡ get n q) → rows_in span m ≡ rows_in span n
-same_rows span m n h =
-    let p = in_span span in
-    ap (map record_of) (same_entries key_cmp key_total key_exact (where_key key_cmp p (entries m)) (where_key key_cmp p (entries n)) (is_sorted-where_key key_cmp p (entries m) (entries_sorted m)) (is_sorted-where_key key_cmp p (entries n) (entries_sorted n)) (λ q. find_span span m q ∙ agree (in_span span q) (get m q) (get n q) (h q) ∙ sym (find_span span n q)))
+use Rattle.sdb_types.proofs.SpanRows.{find_span, same_rows}
 
 put_get : (es : List (Key × List Pair)) (m : Contents) (q : Key) → get (with_rows (map record_of es) m) q ≡ or_else (find key_cmp q es) (get m q)
 put_get [] m q = refl

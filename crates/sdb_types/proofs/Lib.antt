@@ -8,3 +8,4 @@ pub mod Pieces
 pub mod Replies
 pub mod ColumnMap
 pub mod Words
+pub mod SpanRows
