@@ -1,17 +1,15 @@
 -- Each test decides its cause.
-use Rattle.std.proofs.Common.{◌≡◌, ℕ, suc, ℤ, Bool, true, false, List, [], ◌∷◌, length, Option, refl, sym, ap, ◌∙◌}
-use Rattle.std.specs.Prelude.{◌↔◌, ◌&&◌, not, IfOk, IsTrue, Result, Ok, Err}
+use Rattle.std.proofs.Common.{◌≡◌, ℕ, suc, ℤ, Bool, true, false, List, [], ◌∷◌, length, Option, ◌⊎◌, inl, inr, refl, sym, ap, ◌∙◌}
+use Rattle.std.specs.Prelude.{◌↔◌, IfOk, IsTrue, Result, Ok, Err}
 use Rattle.std.specs.List.{list_any}
 use Rattle.sdb_types.specs.declared.txid.TxId.{TxId}
 use Rattle.sdb_types.specs.declared.key.Key.{Key}
 use Rattle.sdb_types.specs.declared.record.Record.{Record}
 use Rattle.sdb_types.specs.declared.record.Reply.{Reply}
-use Rattle.sdb_schema.specs.declared.table.Table.{Table}
 use Rattle.sdb_record.specs.Coordinator.{coordinator_key_of}
 use Rattle.sdb_model.specs.declared.event.Event.{Event}
 use Rattle.sdb_model.specs.Calls.{calls_of}
-use Rattle.sdb_model.specs.Causes.{HasReply, IsBadRecord, IsBusy, IsConflict, IsExpired, IsOfCommit, IsUnknown}
-use Rattle.sdb_model.specs.Sql.{reads_commit, reads_vacuum}
+use Rattle.sdb_model.specs.Causes.{FindsBad, HasReply, IsBusy, IsConflict, IsExpired, IsOfCommit, IsUnknown}
 use Rattle.sdb_model.specs.Transactions.{Executed, id_of, statements_by}
 use Rattle.sdb_order.specs.declared.executed.Executed.{Executed as Plain}
 use Rattle.sdb_order.specs.Commits.{all_executed}
@@ -22,8 +20,9 @@ use Rattle.check_answers.proofs.BusyLaws.{busy_is, is_busy_of}
 use Rattle.check_answers.proofs.CommitLaws.{of_commit_is, is_of_commit, expired_is, is_expired_of, unknown_is, is_unknown_of}
 use Rattle.check_answers.proofs.ConflictLaws.{conflict_is, is_conflict_of}
 use Rattle.check_answers.proofs.IdLaws.{commit_is, is_commit}
-use Rattle.check_answers.proofs.PlainLaws.{bad_record_is, is_bad_record, reply_is, is_reply}
+use Rattle.check_answers.proofs.PlainLaws.{finds_is, is_finds, reply_is, is_reply}
 use Rattle.sdb_types.proofs.Basics.{clash}
+use Rattle.check_protocol.proofs.Lists.{not_both}
 
 pub decide_by : {P : Type 0} (b t : Bool) → b ≡ t → (t ≡ true → P) → (P → t ≡ true) → IsTrue b ↔ P
 decide_by b t e f g = (λ h. f (sym e ∙ h), λ p. e ∙ g p)
@@ -38,6 +37,13 @@ count_said all ss e = counted all ∙ ap length e
     counted : (xs : List Plain) → length xs ≡ length (all_executed xs)
     counted [] = refl
     counted (x ∷ xs) = ap suc (counted xs)
+
+-- the first of two causes is found, or only the second is looked for
+pub first_found : {P Q : Type 0} (b : Bool) → b ≡ true → IsTrue b ↔ P → IsTrue true ↔ (P ⊎ Q)
+first_found b e h = (λ t. inl (h.0 e), λ x. refl)
+
+pub second_sought : {P Q : Type 0} (b c : Bool) → b ≡ false → IsTrue b ↔ P → IsTrue c ↔ Q → IsTrue c ↔ (P ⊎ Q)
+second_sought b c e h k = (λ t. inr (k.0 t), λ x. elim x [ inl p ↦ not_both b (h.1 p) e | inr q ↦ k.1 q ])
 
 pub never : {P : Type 0} → (P → false ≡ true) → IsTrue false ↔ P
 never g = (λ h. clash (sym h), g)
@@ -68,10 +74,8 @@ module _ (events : List Event) (client : ℕ) (s : Executed) where
   pub not_unknown : (c : Bool) (id : TxId) → c ≡ is_commit_of events client s id → c ≡ false → IsTrue false ↔ IsUnknown events client s id
   not_unknown c id k t = never (λ x. sym (sym (is_commit events client s id x.commit) ∙ sym k ∙ t))
 
-  pub bad_record : (catalog : List Table) (b : Bool) (ms : List Made) (commits vacuums : Bool) (key : Key) → all_made ms ≡ calls_of events client s → commits ≡ reads_commit s.text → vacuums ≡ reads_vacuum s.text → b ≡ list_any (observes_bad catalog ms (not commits && not vacuums) key) ms → IsTrue b ↔ IsBadRecord catalog events client s key
-  bad_record catalog b ms commits vacuums key e c v f =
-      decide_by b (list_any (observes_bad catalog ms (not (reads_commit s.text) && not (reads_vacuum s.text)) key) ms) (f ∙ ap (λ x. list_any (observes_bad catalog ms (not x && not vacuums) key) ms) c ∙ ap (λ x. list_any (observes_bad catalog ms (not (reads_commit s.text) && not x) key) ms) v)
-      (bad_record_is catalog events ms client s e key) (is_bad_record catalog events ms client s e key)
+  pub bad_found : (b : Bool) (ms : List Made) (key : Key) → all_made ms ≡ calls_of events client s → b ≡ list_any (observes_bad key) ms → IsTrue b ↔ FindsBad events client s key
+  bad_found b ms key e f = decide_by b (list_any (observes_bad key) ms) f (finds_is events ms client s e key) (is_finds events ms client s e key)
 
   pub replied : (b : Bool) (ms : List Made) (is : Reply → Bool) → all_made ms ≡ calls_of events client s → b ≡ list_any (λ (m : Made). is m.reply) ms → IsTrue b ↔ HasReply is (calls_of events client s)
   replied b ms is e f = decide_by b (list_any (λ (m : Made). is m.reply) ms) f (reply_is events ms client s e is) (is_reply events ms client s e is)

@@ -10,7 +10,7 @@ use Rattle.sdb_model.specs.declared.statement.Statement.{Statement}
 use Rattle.sdb_model.specs.declared.statement.Statement.TheVariants as statement
 use Rattle.sdb_model.specs.Calls as calls
 use Rattle.sdb_model.specs.Calls.{records_read}
-use Rattle.sdb_model.specs.ReadSet.{has_finished, reads_rows}
+use Rattle.sdb_model.specs.ReadSet.{has_read, reads_rows}
 use Rattle.sdb_model.specs.Causes.{MayPassMost, body_before, finished_before, may_pass, records_found, counted_by}
 use Rattle.sdb_model.specs.Transactions.{Executed, client_of, id_of, is_effective, ordinal_of, statements_by}
 use Rattle.check_protocol.proofs.Lists.{right}
@@ -79,11 +79,12 @@ module _ (events : List Event) (client : ℕ) (s : Executed) (o : Option Stateme
   abbrev here : TxId → Statement → Bool
   here id st = may_pass (sum_by counted_by (before id)) (sum_by (found_by events client) (finished id) + found_by events client s) st
 
-  same : (id : TxId) (st : Statement) → passes_left (written_left events id s.taken) (found_left events client id s) st ≡ here id st
-  same id st =
-      passes_is (total_before is_effective counted_by s.taken (inside id)) (total_before has_finished (found_by events client) s.taken (inside id)) (found_by events client s) st
-      ∙ ap (λ n. may_pass n (total_before has_finished (found_by events client) s.taken (inside id) + found_by events client s) st) (sym (sum_before is_effective counted_by s.taken (inside id)))
-      ∙ ap (λ n. may_pass (sum_by counted_by (before id)) (n + found_by events client s) st) (sym (sum_before has_finished (found_by events client) s.taken (inside id)))
+  same : (id : TxId) (st : Statement) → client_of id ≡ client → passes_left (written_left events id s.taken) (found_left events client id s) st ≡ here id st
+  same id st own =
+      passes_is (total_before is_effective counted_by s.taken (inside id)) (total_before (has_read events client) (found_by events client) s.taken (inside id)) (found_by events client s) st
+      ∙ ap (λ n. may_pass n (total_before (has_read events client) (found_by events client) s.taken (inside id) + found_by events client s) st) (sym (sum_before is_effective counted_by s.taken (inside id)))
+      ∙ ap (λ n. may_pass (sum_by counted_by (before id)) (n + found_by events client s) st) (sym (sum_before (has_read events client) (found_by events client) s.taken (inside id)))
+      ∙ ap (λ n. may_pass (sum_by counted_by (before id)) (sum_by (found_by events client) (filter (λ b. nat_lt b.taken s.taken) (filter (has_read events n) (inside id))) + found_by events client s) st) (sym own)
 
   abbrev passes : TxId → Statement → Bool
   passes id = passes_left (written_left events id s.taken) (found_left events client id s)
@@ -94,13 +95,14 @@ module _ (events : List Event) (client : ℕ) (s : Executed) (o : Option Stateme
       let a = is_in events client s r.0 in
       let b = option_map_or (passes r.0) o false in
       let p = passed s o reading (passes r.0) (right a b r.1) in
-      record { id = r.0; statement = p.0; within = in_is events client s r.0 (left a b r.1); read = p.1; past = sym (same r.0 p.0) ∙ p.2 }
+      let within = in_is events client s r.0 (left a b r.1) in
+      record { id = r.0; statement = p.0; within = within; read = p.1; past = sym (same r.0 p.0 within.0) ∙ p.2 }
 
   is_most : MayPassMost events client s → any_id events client (passes_most events client s o) ≡ true
   is_most x =
       in_found events client s (passes_most events client s o) x.id x.within
       (both (is_in events client s x.id) (option_map_or (passes x.id) o false) (is_in_of events client s x.id x.within)
-      (ap (λ y. option_map_or (passes x.id) y false) (read s o reading x.statement x.read) ∙ same x.id x.statement ∙ x.past))
+      (ap (λ y. option_map_or (passes x.id) y false) (read s o reading x.statement x.read) ∙ same x.id x.statement x.within.0 ∙ x.past))
 
   pub most : (b : Bool) (n : ℕ) → n ≡ length (statements_by client events) → b ≡ any_upto (λ k. passes_most events client s o (id_of client k)) n → IsTrue b ↔ MayPassMost events client s
   most b n l f = decide_by b (any_upto (λ k. passes_most events client s o (id_of client k)) (length (statements_by client events))) (f ∙ ap (any_upto (λ k. passes_most events client s o (id_of client k))) l) most_is is_most

@@ -15,12 +15,13 @@ use Rattle.sdb_model.specs.declared.event.Event.{Event}
 use Rattle.sdb_model.specs.declared.statement.Statement.{Statement}
 use Rattle.sdb_model.specs.DirtyReads.{CommittedBy, ReadsKey, StartsWith, row_left}
 use Rattle.sdb_model.specs.Serial.{AreRead}
-use Rattle.sdb_model.specs.ReadSet.{has_finished}
+use Rattle.sdb_model.specs.Calls.{calls_of}
+use Rattle.sdb_model.specs.ReadSet.{has_finished, has_read}
 use Rattle.sdb_model.specs.Transactions.{Executed, is_effective}
 use Rattle.sdb_snapshot.specs.Seen.{images_with}
 use Rattle.sdb_order.specs.Commits.{executed_of}
 use Rattle.check_protocol.proofs.Lists.{In, any_some, some_any}
-use Rattle.check_tables.specs.Values.{made_of}
+use Rattle.check_tables.specs.Values.{all_made, made_of}
 use Rattle.check_answers.specs.Tests.{same_executed}
 use Rattle.check_answers.proofs.Finds.{contained_made, made_contained}
 use Rattle.check_answers.proofs.SameLaws.{said_is, said_itself}
@@ -49,14 +50,17 @@ module _ (x : Stores) (events : List Event) (client : ℕ) where
   abbrev pub Was : Executed → Key → Option (List Pair) → Type 0
   Was = CommittedBy x.places events (all_contents x.opening) (all_moments x.moments) client
 
-  bases_is : (s : Executed) (t : Turn) (key : Key) (row : Option (List Pair)) → IsTurn events client s t → In (bases x key t) row → (has_finished s ≡ true) × Was s key row
-  bases_is s t key row h i = by (has_finished (executed_of t.executed)) (list_any (λ m. reads_key key m.request) t.calls) refl refl i
+  read_is : (s : Executed) (t : Turn) → IsTurn events client s t → has_finished (all_made t.calls) (executed_of t.executed) ≡ has_read events client s
+  read_is s t h = ap (λ cs. has_finished cs (executed_of t.executed)) h.calls ∙ ap (has_finished (calls_of events client s)) h.executed
+
+  bases_is : (s : Executed) (t : Turn) (key : Key) (row : Option (List Pair)) → IsTurn events client s t → In (bases x key t) row → (has_read events client s ≡ true) × Was s key row
+  bases_is s t key row h i = by (has_finished (all_made t.calls) (executed_of t.executed)) (list_any (λ m. reads_key key m.request) t.calls) refl refl i
     where
-      by : (f b : Bool) → has_finished (executed_of t.executed) ≡ f → list_any (λ m. reads_key key m.request) t.calls ≡ b → In (if f && b then rows_below (row_then x key) t.executed.taken t.end else []) row → (has_finished s ≡ true) × Was s key row
+      by : (f b : Bool) → has_finished (all_made t.calls) (executed_of t.executed) ≡ f → list_any (λ m. reads_key key m.request) t.calls ≡ b → In (if f && b then rows_below (row_then x key) t.executed.taken t.end else []) row → (has_read events client s ≡ true) × Was s key row
       by true true f e j =
           let m = any_some (λ m. reads_key key m.request) t.calls e in
           let r = below_in (row_then x key) t.executed.taken t.end row j in (
-            ap has_finished (sym h.executed) ∙ f,
+            sym (read_is s t h) ∙ f,
             record {
               call = made_of m.0;
               at = r.0;
@@ -68,11 +72,11 @@ module _ (x : Stores) (events : List Event) (client : ℕ) where
       by true false f e j = absurd j
       by false b f e j = absurd j
 
-  is_bases : (s : Executed) (t : Turn) (key : Key) (row : Option (List Pair)) → IsTurn events client s t → has_finished s ≡ true → Was s key row → In (bases x key t) row
+  is_bases : (s : Executed) (t : Turn) (key : Key) (row : Option (List Pair)) → IsTurn events client s t → has_read events client s ≡ true → Was s key row → In (bases x key t) row
   is_bases s t key row h f w =
       let m = contained_made t.calls w.call (subst (λ cs. Contains cs w.call) (sym h.calls) w.read.0) in
       let some : list_any (λ m. reads_key key m.request) t.calls ≡ true = some_any (λ m. reads_key key m.request) t.calls m.0 m.1 (is_reads key m.0.request (subst (λ c. ReadsKey key c.request) m.2 w.read.1)) in
-      subst (λ z. In (if z && list_any (λ m. reads_key key m.request) t.calls then rows_below (row_then x key) t.executed.taken t.end else []) row) (sym (ap has_finished h.executed ∙ f))
+      subst (λ z. In (if z && list_any (λ m. reads_key key m.request) t.calls then rows_below (row_then x key) t.executed.taken t.end else []) row) (sym (read_is s t h ∙ f))
       (subst (λ b. In (if b then rows_below (row_then x key) t.executed.taken t.end else []) row) (sym some)
       (in_below (row_then x key) t.executed.taken t.end w.at row (subst (λ n. n ≤ w.at) (sym (ap (λ (z : Executed). z.taken) h.executed)) w.within.0) (subst (λ n. w.at < n) (sym h.ends) w.within.1) w.image))
 
@@ -184,7 +188,7 @@ pub record IsHad (catalog : List Table) (x : Stores) (events : List Event) (clie
   pub base : Option (List Pair)
   pub parts : ss ≡ earlier ++ changing ++ s ∷ later
   pub begins : StartsWith first (changing ++ s ∷ [])
-  pub finished : has_finished first ≡ true
+  pub finished : has_read events client first ≡ true
   pub shown : Was x events client first key base
   pub read : AreRead (filter is_effective changing) sts
   pub made : Some columns ≡ fold (λ r st. row_left catalog st key r) base sts
@@ -243,13 +247,13 @@ module _ (catalog : List Table) (x : Stores) (events : List Event) (client : ℕ
         },
       )
 
-  from_first : (first u : Executed) (t : Turn) (ts : List Turn) (base : Option (List Pair)) (image : Image) → first ≡ u → IsTurn events client u t → has_finished first ≡ true → Was x events client first key base → In (rows_from catalog s key base (t ∷ ts)) image → In (had_at catalog x s key (t ∷ ts)) image
+  from_first : (first u : Executed) (t : Turn) (ts : List Turn) (base : Option (List Pair)) (image : Image) → first ≡ u → IsTurn events client u t → has_read events client first ≡ true → Was x events client first key base → In (rows_from catalog s key base (t ∷ ts)) image → In (had_at catalog x s key (t ∷ ts)) image
   from_first first u t ts base image same h f w i =
       in_left (flat_map (λ b. rows_from catalog s key b (t ∷ ts)) (bases x key t)) (had_at catalog x s key ts) image
-      (flat_in (λ b. rows_from catalog s key b (t ∷ ts)) (bases x key t) base image (is_bases x events client u t key base h (ap has_finished (sym same) ∙ f) (subst (λ z. Was x events client z key base) same w)) i)
+      (flat_in (λ b. rows_from catalog s key b (t ∷ ts)) (bases x key t) base image (is_bases x events client u t key base h (ap (has_read events client) (sym same) ∙ f) (subst (λ z. Was x events client z key base) same w)) i)
 
   found : (earlier changing later : List Executed) (first : Executed) (sts : List Statement) (base : Option (List Pair)) (ts : List Turn) (columns : List Pair) → AreTurns events client (earlier ++ changing ++ s ∷ later) ts → StartsWith first (changing ++ s ∷ [])
-      → has_finished first ≡ true → Was x events client first key base → AreRead (filter is_effective changing) sts → Some columns ≡ fold (λ r st. row_left catalog st key r) base sts → In (had_at catalog x s key ts) (record { key = key; columns = columns })
+      → has_read events client first ≡ true → Was x events client first key base → AreRead (filter is_effective changing) sts → Some columns ≡ fold (λ r st. row_left catalog st key r) base sts → In (had_at catalog x s key ts) (record { key = key; columns = columns })
   found [] [] later first sts base [] columns a b f w r m = absurd a
   found [] [] later first sts base (t ∷ ts) columns a b f w r m = from_first first s t ts base (record { key = key; columns = columns }) b a.0 f w (from_made catalog events client s key [] later sts (t ∷ ts) base columns r m a)
   found [] (c ∷ cs) later first sts base [] columns a b f w r m = absurd a

@@ -64,7 +64,7 @@ module _ (catalog : List Table) (events : List Event) where
   })
 
   pub resolved_of : HoldsOfClients law.Rolls catalog events events → AreResolved events
-  resolved_of all client s a m r k x y i t j u = (each_said events (IsExecutedResolved events) all client s k).records a m r x y i t j u
+  resolved_of all client s m r k y i t j u = (each_said events (IsExecutedResolved events) all client s k).records m r y i t j u
 
   pub of_resolved : AreResolved events → HoldsOfClients law.Rolls catalog events events
-  of_resolved f = said_each events (IsExecutedResolved events) (λ client s k. record { records = λ a m r x y i t j u. f client s a m r k x y i t j u })
+  of_resolved f = said_each events (IsExecutedResolved events) (λ client s k. record { records = λ m r y i t j u. f client s m r k y i t j u })

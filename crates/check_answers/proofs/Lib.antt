@@ -10,6 +10,7 @@ pub mod CausedLaws
 pub mod Decided
 pub mod ReadLaws
 pub mod FullLaws
+pub mod MisfitLaws
 pub mod StoreLaws
 pub mod TurnLaws
 pub mod Members

@@ -10,14 +10,13 @@ use Rattle.sdb_types.specs.declared.record.State.{State}
 use Rattle.sdb_types.specs.declared.txid.TxId.{TxId}
 use Rattle.sdb_record.specs.Coordinator.{coordinator_key_of}
 use Rattle.sdb_record.specs.Meta.{id_in, is_unresolved, state_in}
-use Rattle.sdb_model.specs.declared.answer.Answer.{Answer}
 use Rattle.sdb_model.specs.declared.event.Event.{Event}
 use Rattle.sdb_model.specs.declared.event.How.{How}
 use Rattle.sdb_model.specs.declared.event.How.TheVariants.{Seen, Lost, Discarded, Broken}
 use Rattle.sdb_model.specs.Calls as calls
 use Rattle.sdb_model.specs.Calls.{calls_after, calls_of, decision_observed, records_read}
 use Rattle.sdb_model.specs.Counted.{IsPassedOver, IsResolved, is_seen, roll_by}
-use Rattle.sdb_model.specs.ReadSet.{has_finished, read_finished, reads_rows}
+use Rattle.sdb_model.specs.ReadSet.{has_finished, has_read, reads_rows}
 use Rattle.sdb_model.specs.Sql.{reads_vacuum}
 use Rattle.sdb_model.specs.Transactions.{Executed}
 use Rattle.check_protocol.specs.Values.{same_request}
@@ -131,7 +130,7 @@ module _ (events : List Event) (client : ℕ) (s : Executed) (ms : List Made) (e
 
   are_well : list_all (is_well_read events (reads_vacuum s.text) ms) ms ≡ true → IsExecutedResolved events client s
   are_well h = record {
-    records = λ a m r x y k t i u.
+    records = λ m r x k t i u.
         let c = contains_in (all_made ms) m (subst (λ cs. Contains cs m) (sym e) k) in
         let w = in_made ms m c in
         let good = all_each (is_well_read events (reads_vacuum s.text) ms) ms h w.0 w.1 in
@@ -144,22 +143,21 @@ module _ (events : List Event) (client : ℕ) (s : Executed) (ms : List Made) (e
         subst (λ cs. IsWell cs m r) e (subst (λ z. IsWell (all_made ms) z r) (sym w.2) (left_is ms w.0 r events s one u));
   }
 
-  well_of : (a : Answer) → s.answer ≡ Some a → read_finished a ≡ true → IsExecutedResolved events client s → list_all (is_well_read events (reads_vacuum s.text) ms) ms ≡ true
-  well_of a x y all = each_all (is_well_read events (reads_vacuum s.text) ms) ms (λ m i. elim (decide (reads_rows (made_of m))) [
+  well_of : has_read events client s ≡ true → IsExecutedResolved events client s → list_all (is_well_read events (reads_vacuum s.text) ms) ms ≡ true
+  well_of x all = each_all (is_well_read events (reads_vacuum s.text) ms) ms (λ m i. elim (decide (reads_rows (made_of m))) [
     | inr n ↦ or_left (not (reads_rows (made_of m))) (are_well_left events (reads_vacuum s.text) ms m (records_read m.reply)) (true_not (reads_rows (made_of m)) n)
     | inl t ↦ or_right (not (reads_rows (made_of m))) (are_well_left events (reads_vacuum s.text) ms m (records_read m.reply))
         (each_all (is_well_left events (reads_vacuum s.text) ms m) (records_read m.reply) (λ r j. is_left_of ms m r events s (λ u.
-        subst (λ cs. IsWell cs (made_of m) r) (sym e) (all.records a (made_of m) r x y (subst (λ cs. Contains cs (made_of m)) e (in_contains (all_made ms) (made_of m) (made_in ms m i))) t (in_contains (records_read m.reply) r j) u))))
+        subst (λ cs. IsWell cs (made_of m) r) (sym e) (all.records (made_of m) r x (subst (λ cs. Contains cs (made_of m)) e (in_contains (all_made ms) (made_of m) (made_in ms m i))) t (in_contains (records_read m.reply) r j) u))))
   ])
 
-  from_rows : has_finished s ≡ true → (a : Answer) × (s.answer ≡ Some a) × (read_finished a ≡ true)
-  from_rows h = some_of read_finished s.answer h
+  read_is : has_finished (all_made ms) s ≡ has_read events client s
+  read_is = ap (λ cs. has_finished cs s) e
 
-  pub said_resolved : (b v : Bool) → has_finished s ≡ true → v ≡ reads_vacuum s.text → b ≡ list_all (is_well_read events v ms) ms → IsTrue b ↔ IsExecutedResolved events client s
+  pub said_resolved : (b v : Bool) → has_finished (all_made ms) s ≡ true → v ≡ reads_vacuum s.text → b ≡ list_all (is_well_read events v ms) ms → IsTrue b ↔ IsExecutedResolved events client s
   said_resolved b v f g h =
       let same : b ≡ list_all (is_well_read events (reads_vacuum s.text) ms) ms = h ∙ ap (λ x. list_all (is_well_read events x ms) ms) g in
-      let a = from_rows f in
-      (λ t. are_well (sym same ∙ t), λ all. same ∙ well_of a.0 a.1 a.2 all)
+      (λ t. are_well (sym same ∙ t), λ all. same ∙ well_of (sym read_is ∙ f) all)
 
-pub said_unfinished : (events : List Event) (client : ℕ) (s : Executed) → has_finished s ≡ false → IsTrue true ↔ IsExecutedResolved events client s
-said_unfinished events client s f = (λ t. record { records = λ a m r x y k. not_both (has_finished s) (of_some read_finished s.answer a x y) f }, λ all. refl)
+  pub said_unfinished : has_finished (all_made ms) s ≡ false → IsTrue true ↔ IsExecutedResolved events client s
+  said_unfinished f = (λ t. record { records = λ m r x. not_both (has_read events client s) x (sym read_is ∙ f) }, λ all. refl)

@@ -1,5 +1,5 @@
 -- Tests that hold exactly where the definitions of counts and of rolls do, over calls as the program has them.
-use Rattle.std.specs.Prelude.{◌≡◌, ◌⊎◌, ℕ, ◌+◌, ◌-◌, ◌*◌, Bool, true, false, not, ◌&&◌, ◌||◌, ◌==◌, nat_le, nat_lt, if◌then◌else◌, List, [], ◌∷◌, length, filter, count_by, Contains, Some}
+use Rattle.std.specs.Prelude.{◌≡◌, ◌⊎◌, ℕ, ◌+◌, ◌-◌, ◌*◌, Bool, true, false, not, ◌&&◌, ◌||◌, ◌==◌, nat_le, nat_lt, if◌then◌else◌, List, [], ◌∷◌, length, filter, count_by, Contains}
 use Rattle.std.specs.List.{list_all, list_any}
 use Rattle.std.specs.Option.{option_map_or}
 use Rattle.sdb_types.specs.declared.key.Key.{Key}
@@ -11,13 +11,12 @@ use Rattle.sdb_types.specs.declared.txid.TxId.{TxId}
 use Rattle.sdb_schema.specs.declared.table.Table.{Table}
 use Rattle.sdb_record.specs.Coordinator.{coordinator_key_of}
 use Rattle.sdb_record.specs.Meta.{id_in, is_unresolved, state_in}
-use Rattle.sdb_model.specs.declared.answer.Answer.{Answer}
 use Rattle.sdb_model.specs.declared.event.Event.{Event}
 use Rattle.sdb_model.specs.Calls.{calls_of, is_removal, records_read}
 use Rattle.sdb_model.specs.Calls as calls
 use Rattle.sdb_model.specs.Causes.{IsCommitOf}
 use Rattle.sdb_model.specs.Counted.{IsCommitCounted, IsPassedOver, IsReadCounted, IsResolved, IsVacuumCounted, is_seen, roll_by}
-use Rattle.sdb_model.specs.ReadSet.{KeyRead, ReadItem, SpanRead, read_set_of, read_finished, reads_rows}
+use Rattle.sdb_model.specs.ReadSet.{KeyRead, ReadItem, SpanRead, read_set_of, has_read, reads_rows}
 use Rattle.sdb_model.specs.Sql.{reads_commit, reads_vacuum}
 use Rattle.sdb_model.specs.Transactions.{Executed, prepares, is_committed_answer}
 use Rattle.check_protocol.specs.Values.{same_request}
@@ -111,4 +110,4 @@ is_well_read events vacuums ms m = not (reads_rows (made_of m)) || are_well_left
 
 -- each unresolved record that a statement was answered from was rolled, or passed over by VACUUM
 pub record IsExecutedResolved (events : List Event) (client : ℕ) (s : Executed) : Type 0 where
-  pub records : (a : Answer) (m : calls.StoreCall) (r : Record) → s.answer ≡ Some a → read_finished a ≡ true → Contains (calls_of events client s) m → reads_rows m ≡ true → Contains (records_read m.reply) r → is_unresolved r ≡ true → IsResolved (calls_of events client s) m r ⊎ IsPassedOver events s (calls_of events client s) m r
+  pub records : (m : calls.StoreCall) (r : Record) → has_read events client s ≡ true → Contains (calls_of events client s) m → reads_rows m ≡ true → Contains (records_read m.reply) r → is_unresolved r ≡ true → IsResolved (calls_of events client s) m r ⊎ IsPassedOver events s (calls_of events client s) m r

@@ -25,6 +25,7 @@ use Rattle.sdb_model.specs.ReadSet.{has_finished}
 use Rattle.sdb_model.specs.Transactions.{Executed, is_effective}
 use Rattle.sdb_snapshot.specs.Seen.{images_with}
 use Rattle.sdb_order.specs.Commits.{executed_of}
+use Rattle.check_tables.specs.Values.{all_made}
 use Rattle.check_answers.specs.Tests.{same_executed}
 use Rattle.check_answers.specs.declared.stores.StoreContents.{StoreContents}
 use Rattle.check_answers.specs.declared.stores.Stores.{Stores}
@@ -45,7 +46,7 @@ rows_below f taken zero = []
 rows_below f taken (suc n) = rows_below f taken n ++ (if nat_lt taken (suc n) then f n ∷ [] else [])
 
 abbrev pub bases : Stores → Key → Turn → List (Option (List Pair))
-bases x key t = if has_finished (executed_of t.executed) && list_any (λ m. reads_key key m.request) t.calls then rows_below (row_then x key) t.executed.taken t.end else []
+bases x key t = if has_finished (all_made t.calls) (executed_of t.executed) && list_any (λ m. reads_key key m.request) t.calls then rows_below (row_then x key) t.executed.taken t.end else []
 
 ---- what the statements made of it
 

@@ -30,12 +30,15 @@ use Rattle.sdb_model.specs.declared.statement.Insert.{Insert}
 use Rattle.sdb_model.specs.declared.statement.Statement.{Statement}
 use Rattle.sdb_model.specs.declared.statement.Statement.TheVariants as statement
 use Rattle.sdb_model.specs.Sql.{Reads, Refuses, reads_commit}
-use Rattle.sdb_model.specs.Exec.{find_table, key_of}
+use Rattle.sdb_model.specs.Exec.{find_table, key_of, named_table}
+use Rattle.sdb_model.specs.Access.{in_access}
+use Rattle.sdb_model.specs.Reads.{access_of}
 use Rattle.sdb_model.specs.Refused.{refusal_of}
 use Rattle.sdb_model.specs.Rows.{same_name}
 use Rattle.sdb_model.specs.Transactions.{Executed, client_of, commit_of, id_of, is_effective, ordinal_of, statements_by, statements_of}
+use Rattle.sdb_model.specs.Calls as calls
 use Rattle.sdb_model.specs.Calls.{clock_at, calls_of, decision_learned, is_read, put_by, records_read, records_observed}
-use Rattle.sdb_model.specs.ReadSet.{ReadItem, KeyRead, SpanRead, read_set_of, reads_rows, version_read, meaning_of, has_finished}
+use Rattle.sdb_model.specs.ReadSet.{ReadItem, KeyRead, SpanRead, read_set_of, reads_rows, version_read, meaning_of, has_read}
 use Rattle.sdb_model.specs.Causes.{IsCaused, IsCounted, IsRejected, before, is_misfit, is_open, is_select, prepares_key, records_found, refused, removes, counted_by}
 use Rattle.check_protocol.specs.Values.{same_record}
 use Rattle.check_tables.specs.declared.made.Made.{Made}
@@ -268,7 +271,7 @@ written_left events id taken = 4097 - total_before is_effective counted_by taken
 
 abbrev pub found_left : List Event → ℕ → TxId → Executed → ℕ
 found_left events client id s =
-    (written_left events id s.taken - total_before has_finished (found_by events client) s.taken (inside_among (statements_by (client_of id) events) (ordinal_of id))) - found_by events client s
+    (written_left events id s.taken - total_before (has_read events client) (found_by events client) s.taken (inside_among (statements_by (client_of id) events) (ordinal_of id))) - found_by events client s
 
 abbrev pub passes_most : List Event → ℕ → Executed → Option Statement → TxId → Bool
 passes_most events client s read id = is_in events client s id && option_map_or (passes_left (written_left events id s.taken) (found_left events client id s)) read false
@@ -278,13 +281,28 @@ passes_most events client s read id = is_in events client s id && option_map_or 
 abbrev pub is_bad : Record → Bool
 is_bad r = if is_coordinator_table r.key.table then is_none (result_ok (decision_in r)) else is_none (result_ok (checked r.columns))
 
--- a record isn't of the form of records, or it was read, and the row that it means doesn't fit its table
-abbrev pub is_refused_there : List Table → List Made → Bool → Record → Bool
-is_refused_there catalog ms reads r = is_bad r || (reads && is_misfit catalog (all_made ms) r)
+-- a call shows a record at the key that isn't of the form of records
+abbrev pub observes_bad : Key → Made → Bool
+observes_bad key m = list_any (λ x. same_key x.key key && is_bad x) (records_observed m.reply)
 
--- a call of a statement, which is one of those that read rows to answer from, or not, shows such a record at the key
-abbrev pub observes_bad : List Table → List Made → Bool → Key → Made → Bool
-observes_bad catalog ms reads key m = list_any (λ x. same_key x.key key && is_refused_there catalog ms (reads && reads_rows (made_of m)) x) (records_observed m.reply)
+-- a read of a statement with these calls found a record at the key that means a row which doesn't fit its table
+abbrev pub reads_misfit : List Table → List calls.StoreCall → Key → calls.StoreCall → Bool
+reads_misfit catalog cs key m = reads_rows m && list_any (λ x. same_key x.key key && is_misfit catalog cs x) (records_read m.reply)
+
+abbrev pub any_misfit : List Table → List calls.StoreCall → Key → Bool
+any_misfit catalog cs key = list_any (reads_misfit catalog cs key) cs
+
+-- a statement that was taken by then, and whose read has finished, found such a record
+abbrev pub has_read_misfit : List Table → List Event → ℕ → ℕ → Key → Executed → Bool
+has_read_misfit catalog events client taken key b = nat_le b.taken taken && (has_read events client b && any_misfit catalog (calls_of events client b) key)
+
+-- a statement on a table reads at a key
+abbrev pub reads_at : List Table → Key → Statement → Bool
+reads_at catalog key st = option_map_or (λ t. in_access (access_of t st) key) (named_table catalog st) false
+
+-- it is one of this transaction, of which a statement by then found such a record
+abbrev pub misfit_of : List Table → List Event → ℕ → Executed → Key → TxId → Bool
+misfit_of catalog events client s key id = is_in events client s id && list_any (has_read_misfit catalog events client s.taken key) (statements_of events id)
 
 ---- texts
 

@@ -3,7 +3,7 @@ ghost use Rattle.std.specs.Prelude.{◌≡◌, ◌-◌, ◌==◌, false, IfOk, I
 ghost use Rattle.std.specs.Option.{option_map_or};
 ghost use Rattle.sdb_model.specs.Calls.{records_read};
 ghost use Rattle.sdb_model.specs.Causes.{MayPassMost, rows_counted as rows_counted_lem, counted_by};
-ghost use Rattle.sdb_model.specs.ReadSet.{has_finished as has_finished_lem};
+ghost use Rattle.sdb_model.specs.ReadSet.{has_read};
 ghost use Rattle.sdb_model.specs.Transactions.{id_of as id_of_lem, is_effective as is_effective_lem};
 ghost use Rattle.sdb_order.specs.Commits.{executed_of, all_executed};
 ghost use Rattle.check_answers.specs.Tests.{any_upto, before_only, found_among, found_by, found_left as found_left_lem, is_before as is_before_lem, passes_left as passes_left_lem, passes_most as passes_most_lem, read_by as read_by_lem, total_before, written_left as written_left_lem};
@@ -31,12 +31,6 @@ fn is_before(executed: &Executed, taken: u64) -> bool
     ensures { result ≡ is_before_lem is_effective_lem taken (executed_of executed.now) }
 {
     is_effective(executed) && executed.taken < taken
-}
-
-fn has_finished_before(executed: &Executed, taken: u64) -> bool
-    ensures { result ≡ is_before_lem has_finished_lem taken (executed_of executed.now) }
-{
-    has_finished(executed) && executed.taken < taken
 }
 
 // What is left of a number without the rows that a statement counted, where it was taken before.
@@ -103,6 +97,7 @@ fn without_found_by(
     Ok(without_found(calls.as_slice(), left))
 }
 
+#[tactic(auto, using(crate::proofs::FullLaws::found_is))]
 fn without_found_before(
     alloc: Global,
     events: &[Event],
@@ -111,10 +106,14 @@ fn without_found_before(
     taken: u64,
     left: u64,
 ) -> Result<u64, NoMemory>
-    ensures { IfOk result (λ n. n ≡ left - before_only has_finished_lem (found_by events.now client) taken (executed_of executed.now)) }
+    ensures { IfOk result (λ n. n ≡ left - before_only (has_read events.now client) (found_by events.now client) taken (executed_of executed.now)) }
 {
-    if has_finished_before(executed, taken) {
-        without_found_by(alloc, events, client, executed, left)
+    if executed.taken >= taken {
+        return Ok(left);
+    }
+    let calls = calls_of(alloc, events, client, executed)?;
+    if has_finished(alloc, calls.as_slice(), executed) {
+        Ok(without_found(calls.as_slice(), left))
     } else {
         Ok(left)
     }
@@ -128,7 +127,7 @@ fn without_all_found(
     taken: u64,
     left: u64,
 ) -> Result<u64, NoMemory>
-    ensures { IfOk result (λ n. n ≡ left - total_before has_finished_lem (found_by events.now client) taken (all_executed inside.now)) }
+    ensures { IfOk result (λ n. n ≡ left - total_before (has_read events.now client) (found_by events.now client) taken (all_executed inside.now)) }
 {
     let Some((first, rest)) = inside.split_first() else {
         return Ok(left);

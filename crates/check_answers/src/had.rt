@@ -77,7 +77,8 @@ fn bases(alloc: Global, stores: &Stores, key: &Key, turn: &Turn) -> Result<Bases
     ensures { IfOk result (λ rows. rows ≡ bases_lem stores.now key.now turn.now) }
 {
     let mut rows = Bases::new(alloc);
-    if has_finished(&turn.executed) && any_reads(key, turn.calls.as_slice()) {
+    let calls = turn.calls.as_slice();
+    if has_finished(alloc, calls, &turn.executed) && any_reads(key, calls) {
         add_below(alloc, &mut rows, stores, key, turn.executed.taken, turn.end)?;
     }
     Ok(rows)

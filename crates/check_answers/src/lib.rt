@@ -16,6 +16,7 @@ mod executed;
 mod full;
 mod had;
 mod keys;
+mod misfit;
 mod plain;
 mod reading;
 mod replies;

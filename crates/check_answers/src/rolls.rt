@@ -271,11 +271,11 @@ pub fn is_executed_resolved(
 ) -> Result<bool, NoMemory>
     ensures { IfOk result (λ is. IsTrue is ↔ IsExecutedResolved events.now client (executed_of executed.now)) }
 {
-    if !has_finished(executed) {
+    let calls = calls_of(alloc, events, client, executed)?;
+    let all = calls.as_slice();
+    if !has_finished(alloc, all, executed) {
         return Ok(true);
     }
-    let calls = calls_of(alloc, events, client, executed)?;
     let vacuums = is_word(alloc, executed, Keyword::Vacuum)?;
-    let all = calls.as_slice();
     are_well_read(alloc, events, vacuums, all, all)
 }

@@ -12,7 +12,7 @@ use Rattle.sdb_record.specs.Coordinator.{coordinator_key_of}
 use Rattle.sdb_model.specs.declared.event.Event.{Event}
 use Rattle.sdb_model.specs.Calls as calls
 use Rattle.sdb_model.specs.Calls.{calls_of, decision_learned, put_by}
-use Rattle.sdb_model.specs.ReadSet.{ReadItem, read_item_of, read_items, reads_rows, rolls, has_finished}
+use Rattle.sdb_model.specs.ReadSet.{ReadItem, read_item_of, read_items, reads_rows, rolls, has_read}
 use Rattle.sdb_model.specs.Transactions.{Executed}
 use Rattle.sdb_order.specs.declared.executed.Executed as plain
 use Rattle.sdb_order.specs.Commits.{all_executed, executed_of}
@@ -76,14 +76,14 @@ notes_are all (m ∷ ms) = by (reads_rows m) (notes_are all ms)
     by true more = ap (λ xs. cons_option (read_item_of all m.request m.reply) [] ++ xs) more ∙ with_option (read_item_of all m.request m.reply) (filter_map (λ m. read_item_of all m.request m.reply) (filter reads_rows ms))
     by false more = more
 
-said_notes_are : (events : List Event) (client : ℕ) (ss : List Executed) → flat_map (items_of_statement events client) ss ≡ flat_map (λ s. read_items (calls_of events client s)) (filter has_finished ss)
+said_notes_are : (events : List Event) (client : ℕ) (ss : List Executed) → flat_map (items_of_statement events client) ss ≡ flat_map (λ s. read_items (calls_of events client s)) (filter (has_read events client) ss)
 said_notes_are events client [] = refl
-said_notes_are events client (s ∷ ss) = by (has_finished s) (said_notes_are events client ss)
+said_notes_are events client (s ∷ ss) = by (has_read events client s) (said_notes_are events client ss)
   where
     all : List Executed → List ReadItem
     all = flat_map (λ s. read_items (calls_of events client s))
 
-    by : (b : Bool) → flat_map (items_of_statement events client) ss ≡ all (filter has_finished ss) → (if b then read_items (calls_of events client s) else []) ++ flat_map (items_of_statement events client) ss ≡ all (if b then s ∷ filter has_finished ss else filter has_finished ss)
+    by : (b : Bool) → flat_map (items_of_statement events client) ss ≡ all (filter (has_read events client) ss) → (if b then read_items (calls_of events client s) else []) ++ flat_map (items_of_statement events client) ss ≡ all (if b then s ∷ filter (has_read events client) ss else filter (has_read events client) ss)
     by true more = ap (λ xs. read_items (calls_of events client s) ++ xs) more
     by false more = more
 
@@ -91,5 +91,5 @@ composed : (events : List Event) (client : ℕ) (ss : List plain.Executed) → f
 composed events client [] = refl
 composed events client (s ∷ ss) = ap (λ xs. items_of_statement events client (executed_of s) ++ xs) (composed events client ss)
 
-pub all_noted : (events : List Event) (client : ℕ) (ss : List plain.Executed) → flat_map (λ s. items_of_statement events client (executed_of s)) ss ≡ flat_map (λ s. read_items (calls_of events client s)) (filter has_finished (all_executed ss))
+pub all_noted : (events : List Event) (client : ℕ) (ss : List plain.Executed) → flat_map (λ s. items_of_statement events client (executed_of s)) ss ≡ flat_map (λ s. read_items (calls_of events client s)) (filter (has_read events client) (all_executed ss))
 all_noted events client ss = composed events client ss ∙ said_notes_are events client (all_executed ss)

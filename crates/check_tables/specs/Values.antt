@@ -10,7 +10,7 @@ use Rattle.sdb_record.specs.declared.coordinator.Decided.{Decided}
 use Rattle.sdb_model.specs.Calls as calls
 use Rattle.sdb_model.specs.Calls.{calls_of, key_asked, decision_in_reply, record_at_key}
 use Rattle.sdb_model.specs.ReadSet as as_read
-use Rattle.sdb_model.specs.ReadSet.{has_finished, read_items, reads_rows}
+use Rattle.sdb_model.specs.ReadSet.{has_read, read_items, reads_rows}
 use Rattle.sdb_model.specs.Transactions.{Executed, ends, from_begin, rest_of}
 use Rattle.sdb_record.specs.Coordinator.{decision_in}
 use Rattle.std.specs.Result.{result_ok}
@@ -89,4 +89,4 @@ items_by ms m = if reads_rows m then cons_option (as_read.read_item_of ms m.requ
 
 -- what one statement of a transaction adds to the read set, where its read has finished
 abbrev pub items_of_statement : List Event → ℕ → Executed → List as_read.ReadItem
-items_of_statement events client s = if has_finished s then read_items (calls_of events client s) else []
+items_of_statement events client s = if has_read events client s then read_items (calls_of events client s) else []

@@ -2,7 +2,9 @@
 //! functions that compute the definitions, for tests to compare.
 #![tactic(auto)]
 
+mod access;
 mod clock;
+mod finished;
 mod made;
 mod meaning;
 mod noted;
@@ -15,7 +17,9 @@ mod statement;
 mod tables;
 mod transaction;
 
+pub use access::reads_at;
 pub use clock::{clock_at, prefix};
+pub use finished::has_finished;
 pub use made::{Made, calls_of, end_of};
 pub use meaning::meaning_of;
 pub use noted::read_set_of;
@@ -28,6 +32,4 @@ pub use reply::{decision_at, decision_found_at, decision_learned_at, record_at_k
 pub use request::{asks_row, is_read, is_removal, key_asked, put_by, reads_rows};
 pub use statement::exec;
 pub use tables::PlainTables;
-pub use transaction::{
-    client_of, commit_of, has_finished, id_of, inside_of, is_effective, ordinal_of, rest_of,
-};
+pub use transaction::{client_of, commit_of, id_of, inside_of, is_effective, ordinal_of, rest_of};

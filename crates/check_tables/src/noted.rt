@@ -9,10 +9,11 @@ ghost use Rattle.sdb_order.specs.Commits.{executed_of};
 ghost use Rattle.check_protocol.specs.Values.{item_of as noted_of};
 ghost use Rattle.check_tables.specs.Values.{all_made, made_of, all_items, items_by, items_of_statement};
 
+use crate::finished::has_finished;
 use crate::made::{Made, calls_of};
 use crate::meaning::meaning_of;
 use crate::request::reads_rows;
-use crate::transaction::{client_of, has_finished, inside_of, ordinal_of};
+use crate::transaction::{client_of, inside_of, ordinal_of};
 use check_protocol::{ReadItem, writer};
 use sdb_model::Event;
 use sdb_order::{Executed, statements_by};
@@ -134,10 +135,10 @@ fn add_said(
 ) -> Result<(), NoMemory>
     ensures { OnOk result (all_items read_set.new ≡ all_items read_set.old ++ items_of_statement events.now client (executed_of executed.now)) }
 {
-    if !has_finished(executed) {
+    let calls = calls_of(alloc, events, client, executed)?;
+    if !has_finished(alloc, calls.as_slice(), executed) {
         return Ok(());
     }
-    let calls = calls_of(alloc, events, client, executed)?;
     add_notes(alloc, read_set, calls.as_slice())
 }
 

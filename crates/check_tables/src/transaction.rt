@@ -1,5 +1,4 @@
 //! Transactions among a client's statements.
-ghost use Rattle.sdb_model.specs.ReadSet.{has_finished as has_finished_lem};
 ghost use Rattle.std.specs.Prelude.{◌≡◌, ◌≤◌, IfOk, not, length, take_while};
 ghost use Rattle.std.specs.Option.{option_map};
 ghost use Rattle.sdb_model.specs.Transactions.{from_begin as from_begin_lem, client_of as client_of_lem, ordinal_of as ordinal_of_lem, id_of as id_of_lem, ends as ends_lem, rest_of as rest_of_lem, is_effective as is_effective_lem, changes_nothing as changes_nothing_lem};
@@ -115,14 +114,4 @@ pub fn is_effective(executed: &Executed) -> bool
         Some(answer) => !changes_nothing(answer),
         None => true,
     }
-}
-
-/// Whether a statement's read has finished: it was answered from rows, or refused.
-pub fn has_finished(executed: &Executed) -> bool
-    ensures { result ≡ has_finished_lem (executed_of executed.now) }
-{
-    matches!(
-        &executed.answer,
-        Some(Answer::Rows(_) | Answer::Count(_) | Answer::Duplicate(_) | Answer::Refused(_))
-    )
 }

@@ -15,6 +15,7 @@ use Rattle.sdb_model.specs.declared.event.How.{How}
 use Rattle.sdb_model.specs.Rows.{Name}
 use Rattle.sdb_model.specs.Calls.{StoreCall, calls_by, calls_of, clock_after, clock_at, end_of, made_by}
 use Rattle.sdb_model.specs.Causes.{before}
+use Rattle.sdb_model.specs.ReadSet.{has_finished, has_read}
 use Rattle.sdb_model.specs.Transactions.{Executed, numbered, statements_by, with_answer}
 use Rattle.law_clients.specs.History.{executed_with_answer, executed_of_take}
 use Rattle.law_clients.proofs.Tellings.{numbers_more, said_more}
@@ -169,6 +170,10 @@ calls_stay c events e s a is l =
         ∙ filter-append (within_said s) (calls_by events c) (m ∷ [])
         ∙ ap (λ b. filter (within_said s) (calls_by events c) ++ (if b then m ∷ [] else [])) (past s.taken m.at (length events) s.reached l (numbered_made c (1 + length events) e m k))
         ∙ append-nil (filter (within_said s) (calls_by events c))
+
+-- and whether its read has finished
+pub read_stays : (c : ℕ) (events : List Event) (e : Event) (s : Executed) (a : Answer) → s.answer ≡ Some a → s.reached ≤ length events → has_read (events ++ e ∷ []) c s ≡ has_read events c s
+read_stays c events e s a is l = ap (λ ms. has_finished ms s) (calls_stay c events e s a is l)
 
 -- each of them is within the events
 pub of_within : (c : ℕ) (events : List Event) (s : Executed) (m : StoreCall) → Contains (calls_of events c s) m → m.at ≤ length events

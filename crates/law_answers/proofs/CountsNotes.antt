@@ -22,7 +22,7 @@ use Rattle.sdb_model.specs.declared.event.Event.{Event}
 use Rattle.sdb_model.specs.Calls.{StoreCall, calls_of}
 use Rattle.sdb_model.specs.Causes.{is_open_after}
 use Rattle.sdb_model.specs.Counted.{is_scan}
-use Rattle.sdb_model.specs.ReadSet.{KeyRead, ReadItem, SpanRead, read_item_of, read_items, has_finished}
+use Rattle.sdb_model.specs.ReadSet.{KeyRead, ReadItem, SpanRead, read_item_of, read_items, has_read}
 use Rattle.sdb_model.specs.Sql.{reads_commit}
 use Rattle.sdb_model.specs.Transactions.{Executed, begins, ends, from_begin, id_of, rest_of}
 use Rattle.sdb_read.specs.Read.{request_of}
@@ -117,12 +117,12 @@ pub since_open : (events : List Event) (c n : ℕ) (told : List Executed) (s b :
 since_open events c n told s b body e = ap (λ r. read_items_of_body events c (rest_of r)) (since_more n told s b body e) ∙ notes_more events c body s ∙ ap (λ ns. ns ++ read_items_of_body events c (s ∷ [])) (sym (ap (λ r. read_items_of_body events c (rest_of r)) e))
 
 -- one whose read has not finished
-pub none_noted : (events : List Event) (c : ℕ) (s : Executed) → has_finished s ≡ false → read_items_of_body events c (s ∷ []) ≡ []
+pub none_noted : (events : List Event) (c : ℕ) (s : Executed) → has_read events c s ≡ false → read_items_of_body events c (s ∷ []) ≡ []
 none_noted events c s f = ap (λ b. flat_map (λ (x : Executed). read_items (calls_of events c x)) (if b then s ∷ [] else [])) f
 
 -- one that makes no call
 pub none_called : (events : List Event) (c : ℕ) (s : Executed) → calls_of events c s ≡ [] → read_items_of_body events c (s ∷ []) ≡ []
-none_called events c s none = by (has_finished s)
+none_called events c s none = by (has_read events c s)
   where
     by : (t : Bool) → flat_map (λ x. read_items (calls_of events c x)) (if t then s ∷ [] else []) ≡ []
     by true = append-nil (read_items (calls_of events c s)) ∙ ap read_items none

@@ -97,7 +97,7 @@ outcome_caused catalog events c s id outcome.Faulted commit e z = e
 outcome_caused catalog events c s id (outcome.Unknown u) commit e z =
     let b = subst (λ (i : TxId). HasFailed i (calls_of events c s)) (sym e.0) e.1 in
     record { commit = subst (IsCommitOf events c s) (sym e.0) commit; put = b.put; later = b.later; deciding = b.deciding; failed = b.failed }
-outcome_caused catalog events c s id (outcome.BadRecord key) commit e z = (e.1.call, e.1.found, e.1.among, e.1.shown, e.1.same, inl (bad_is_bad id e.1.found (e.1.same ∙ e.0) e.1.bad))
+outcome_caused catalog events c s id (outcome.BadRecord key) commit e z = inl (e.1.call, e.1.found, e.1.among, e.1.shown, e.1.same, bad_is_bad id e.1.found (e.1.same ∙ e.0) e.1.bad)
 outcome_caused catalog events c s id outcome.NoMemory commit e z = tt
 
 ---- the COMMIT of a transaction

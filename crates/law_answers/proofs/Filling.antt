@@ -5,7 +5,7 @@ use Rattle.std.specs.List.{AllByRecursion, cons_option, filter_map}
 use Rattle.std.specs.Option.{option_map_or}
 use Rattle.std.proofs.lemmas.List.{append-nil, length-map}
 use Rattle.std.proofs.lemmas.List.Elements.{filter-append}
-use Rattle.std.proofs.lemmas.List.Sums.{sum_by-append, sum_by-cons, sum_by-le-sum_by}
+use Rattle.std.proofs.lemmas.List.Sums.{sum_by-append, sum_by-cons}
 use Rattle.sdb_types.specs.declared.key.Key.{Key}
 use Rattle.sdb_types.specs.declared.record.Record.{Record}
 use Rattle.sdb_types.proofs.Basics.{clash}
@@ -24,8 +24,7 @@ use Rattle.sdb_model.specs.declared.statement.Statement.TheVariants as statement
 use Rattle.sdb_model.specs.Calls.{StoreCall, calls_of, records_read}
 use Rattle.sdb_model.specs.Causes.{may_pass, records_found, refused, rows_counted}
 use Rattle.sdb_model.specs.Exec.{key_of, passes, with_named, with_sets}
-use Rattle.sdb_model.specs.ReadSet.{reads_rows}
-use Rattle.sdb_model.specs.ReadSet.{has_finished, read_finished}
+use Rattle.sdb_model.specs.ReadSet.{has_read, reads_rows}
 use Rattle.sdb_model.specs.Transactions.{Executed, changes_nothing, from_begin, is_effective, rest_of}
 use Rattle.sdb_exec.specs.declared.plan.PlanStep.TheVariants.{Finished}
 use Rattle.sdb_exec.specs.Plans.{Planned, answer_on, changes_on, columns_at, finished, first_unfit, put_row, step_at, step_of}
@@ -37,14 +36,14 @@ use Rattle.sdb_txn.specs.declared.txn.Doing.{Doing}
 use Rattle.sdb_txn.specs.declared.txn.Doing.TheVariants as doing
 use Rattle.sdb_txn.specs.Txn.{TxnAt}
 use Rattle.sdb_client.specs.Client.{given_answer, given_left, left_by_answer, with_rows_read, too_many, written}
-use Rattle.law_clients.proofs.Mild.{rows_finish}
-use Rattle.law_clients.proofs.Asked.{from_rows}
 use Rattle.law_clients.proofs.InTables.{access_table}
 use Rattle.law_answers.specs.Filled.{IsFilled, IsFilledBy, IsFilledIn, rows_counted_by, records_found_by, records_read_in}
 use Rattle.law_answers.specs.Changes.{HasRead}
+use Rattle.law_answers.specs.Invariant.{IsAnswered}
+use Rattle.law_answers.proofs.Calls.{calls_stay, read_stays}
 use Rattle.law_answers.proofs.Filled.{IsKnown, known_few, length_all, rows_known}
 use Rattle.law_answers.proofs.Lists.{each_kept, since_more}
-use Rattle.law_answers.proofs.Passing.{found_grows, through, least, records_in, over_more}
+use Rattle.law_answers.proofs.Passing.{through, least, records_in, over_more}
 use Rattle.law_answers.proofs.ReadSteps.{IsDataTable}
 use Rattle.law_answers.proofs.Settling.{data_read}
 
@@ -70,37 +69,53 @@ filled_nothing a x = record { writes = zero_least a; read_set = zero_least x }
 
 ---- as events come
 
-found_stays : (events : List Event) (e : Event) (c : ℕ) (body : List Executed) → records_found_by events c body ≤ records_found_by (events ++ e ∷ []) c body
-found_stays events e c body = sum_by-le-sum_by (λ b. records_found (calls_of events c b)) (λ b. records_found (calls_of (events ++ e ∷ []) c b)) (filter has_finished body) (found_grows c events e)
+-- statements that were answered found as many records
+found_same : (catalog : List Table) (events : List Event) (e : Event) (c : ℕ) (body : List Executed) → AllByRecursion (IsAnswered catalog events c) body → records_found_by (events ++ e ∷ []) c body ≡ records_found_by events c body
+found_same catalog events e c [] all = refl
+found_same catalog events e c (s ∷ ss) all =
+    ap (λ b. sum_by (λ x. records_found (calls_of (events ++ e ∷ []) c x)) (if b then s ∷ filter (has_read (events ++ e ∷ []) c) ss else filter (has_read (events ++ e ∷ []) c) ss)) (read_stays c events e s all.0.given all.0.is all.0.answered)
+    ∙ by (has_read events c s) (found_same catalog events e c ss all.1)
+  where
+    by : (b : Bool) → records_found_by (events ++ e ∷ []) c ss ≡ records_found_by events c ss
+        → sum_by (λ x. records_found (calls_of (events ++ e ∷ []) c x)) (if b then s ∷ filter (has_read (events ++ e ∷ []) c) ss else filter (has_read (events ++ e ∷ []) c) ss) ≡ sum_by (λ x. records_found (calls_of events c x)) (if b then s ∷ filter (has_read events c) ss else filter (has_read events c) ss)
+    by true ih =
+        sum_by-cons (λ x. records_found (calls_of (events ++ e ∷ []) c x)) s (filter (has_read (events ++ e ∷ []) c) ss)
+        ∙ ap (λ ms. records_found ms + records_found_by (events ++ e ∷ []) c ss) (calls_stay c events e s all.0.given all.0.is all.0.answered)
+        ∙ ap (λ n. records_found (calls_of events c s) + n) ih
+        ∙ sym (sum_by-cons (λ x. records_found (calls_of events c x)) s (filter (has_read events c) ss))
+    by false ih = ih
 
-in_stays : (events : List Event) (e : Event) (c : ℕ) (body : List Executed) (s : Seen) (d : Doing) → IsFilledIn events c body s d → IsFilledIn (events ++ e ∷ []) c body s d
-in_stays events e c body s doing.Idle h = filled_up (rows_counted_by body) (rows_counted_by body) (records_found_by events c body) (records_found_by (events ++ e ∷ []) c body) s (least (rows_counted_by body)) (found_stays events e c body) h
-in_stays events e c body s (doing.Read a x) h = filled_up (rows_counted_by body) (rows_counted_by body) (records_found_by events c body) (records_found_by (events ++ e ∷ []) c body) s (least (rows_counted_by body)) (found_stays events e c body) h
-in_stays events e c body s (doing.Commit k) h = tt
-in_stays events e c body s doing.Over h = filled_up (rows_counted_by body) (rows_counted_by body) (records_found_by events c body) (records_found_by (events ++ e ∷ []) c body) s (least (rows_counted_by body)) (found_stays events e c body) h
+found_stays : (catalog : List Table) (events : List Event) (e : Event) (c : ℕ) (body : List Executed) → AllByRecursion (IsAnswered catalog events c) body → records_found_by events c body ≤ records_found_by (events ++ e ∷ []) c body
+found_stays catalog events e c body all = subst (λ n. records_found_by events c body ≤ n) (sym (found_same catalog events e c body all)) (least (records_found_by events c body))
 
-pub filled_stays : (events : List Event) (e : Event) (c : ℕ) (body : List Executed) (o : Option TxnAt) → IfSome o (IsFilled events c body) → IfSome o (IsFilled (events ++ e ∷ []) c body)
-filled_stays events e c body None h = tt
-filled_stays events e c body (Some t) h = in_stays events e c body t.seen t.doing h
+in_stays : (catalog : List Table) (events : List Event) (e : Event) (c : ℕ) (body : List Executed) (s : Seen) (d : Doing) → AllByRecursion (IsAnswered catalog events c) body → IsFilledIn events c body s d → IsFilledIn (events ++ e ∷ []) c body s d
+in_stays catalog events e c body s doing.Idle all h = subst (λ n. IsFilledBy (rows_counted_by body) n s) (sym (found_same catalog events e c body all)) h
+in_stays catalog events e c body s (doing.Read a x) all h = subst (λ n. IsFilledBy (rows_counted_by body) n s) (sym (found_same catalog events e c body all)) h
+in_stays catalog events e c body s (doing.Commit k) all h = tt
+in_stays catalog events e c body s doing.Over all h = subst (λ n. IsFilledBy (rows_counted_by body) n s) (sym (found_same catalog events e c body all)) h
+
+pub filled_stays : (catalog : List Table) (events : List Event) (e : Event) (c : ℕ) (body : List Executed) (o : Option TxnAt) → AllByRecursion (IsAnswered catalog events c) body → IfSome o (IsFilled events c body) → IfSome o (IsFilled (events ++ e ∷ []) c body)
+filled_stays catalog events e c body None all h = tt
+filled_stays catalog events e c body (Some t) all h = in_stays catalog events e c body t.seen t.doing all h
 
 -- with a statement more
 counted_more : (body : List Executed) (s : Executed) → rows_counted_by (body ++ s ∷ []) ≡ rows_counted_by body + rows_counted_by (s ∷ [])
 counted_more body s = ap (sum_by (λ (b : Executed). rows_counted b.answer)) (filter-append is_effective body (s ∷ [])) ∙ sum_by-append (λ (b : Executed). rows_counted b.answer) (filter is_effective body) (filter is_effective (s ∷ []))
 
 found_more : (events : List Event) (c : ℕ) (body : List Executed) (s : Executed) → records_found_by events c (body ++ s ∷ []) ≡ records_found_by events c body + records_found_by events c (s ∷ [])
-found_more events c body s = ap (sum_by (λ b. records_found (calls_of events c b))) (filter-append has_finished body (s ∷ [])) ∙ sum_by-append (λ b. records_found (calls_of events c b)) (filter has_finished body) (filter has_finished (s ∷ []))
+found_more events c body s = ap (sum_by (λ b. records_found (calls_of events c b))) (filter-append (has_read events c) body (s ∷ [])) ∙ sum_by-append (λ b. records_found (calls_of events c b)) (filter (has_read events c) body) (filter (has_read events c) (s ∷ []))
 
-pub filled_found : (events : List Event) (e : Event) (c : ℕ) (body : List Executed) (own most : ℕ) (s : Seen) → own ≤ most → IsFilledBy (rows_counted_by body) (records_found_by events c body + own) s → IsFilledBy (rows_counted_by body) (records_found_by (events ++ e ∷ []) c body + most) s
-filled_found events e c body own most s few = filled_up (rows_counted_by body) (rows_counted_by body) (records_found_by events c body + own) (records_found_by (events ++ e ∷ []) c body + most) s (least (rows_counted_by body)) (sums (records_found_by events c body) (records_found_by (events ++ e ∷ []) c body) own most (found_stays events e c body) few)
+pub filled_found : (catalog : List Table) (events : List Event) (e : Event) (c : ℕ) (body : List Executed) (own most : ℕ) (s : Seen) → AllByRecursion (IsAnswered catalog events c) body → own ≤ most → IsFilledBy (rows_counted_by body) (records_found_by events c body + own) s → IsFilledBy (rows_counted_by body) (records_found_by (events ++ e ∷ []) c body + most) s
+filled_found catalog events e c body own most s all few = filled_up (rows_counted_by body) (rows_counted_by body) (records_found_by events c body + own) (records_found_by (events ++ e ∷ []) c body + most) s (least (rows_counted_by body)) (sums (records_found_by events c body) (records_found_by (events ++ e ∷ []) c body) own most (found_stays catalog events e c body all) few)
   where
     sums : (a b x y : ℕ) → a ≤ b → x ≤ y → a + x ≤ b + y
     sums a b x y l m = omega arith
 
-pub filled_more : (events : List Event) (e : Event) (c : ℕ) (body : List Executed) (x : Executed) (s : Seen) → IsFilledBy (rows_counted_by body) (records_found_by events c body) s → IsFilledBy (rows_counted_by (body ++ x ∷ [])) (records_found_by (events ++ e ∷ []) c (body ++ x ∷ [])) s
-filled_more events e c body x s =
+pub filled_more : (catalog : List Table) (events : List Event) (e : Event) (c : ℕ) (body : List Executed) (x : Executed) (s : Seen) → AllByRecursion (IsAnswered catalog events c) body → IsFilledBy (rows_counted_by body) (records_found_by events c body) s → IsFilledBy (rows_counted_by (body ++ x ∷ [])) (records_found_by (events ++ e ∷ []) c (body ++ x ∷ [])) s
+filled_more catalog events e c body x s all =
     filled_up (rows_counted_by body) (rows_counted_by (body ++ x ∷ [])) (records_found_by events c body) (records_found_by (events ++ e ∷ []) c (body ++ x ∷ [])) s
     (subst (λ n. rows_counted_by body ≤ n) (sym (counted_more body x)) (further (rows_counted_by body) (rows_counted_by (x ∷ []))))
-    (subst (λ n. records_found_by events c body ≤ n) (sym (found_more (events ++ e ∷ []) c body x)) (through (records_found_by events c body) (records_found_by (events ++ e ∷ []) c body) (records_found_by (events ++ e ∷ []) c body + records_found_by (events ++ e ∷ []) c (x ∷ [])) (found_stays events e c body) (further (records_found_by (events ++ e ∷ []) c body) (records_found_by (events ++ e ∷ []) c (x ∷ [])))))
+    (subst (λ n. records_found_by events c body ≤ n) (sym (found_more (events ++ e ∷ []) c body x)) (through (records_found_by events c body) (records_found_by (events ++ e ∷ []) c body) (records_found_by (events ++ e ∷ []) c body + records_found_by (events ++ e ∷ []) c (x ∷ [])) (found_stays catalog events e c body all) (further (records_found_by (events ++ e ∷ []) c body) (records_found_by (events ++ e ∷ []) c (x ∷ [])))))
 
 -- of a transaction that does nothing
 pub filled_idle : (events : List Event) (c n : ℕ) (told : List Executed) (s begin : Executed) (body : List Executed) (t : TxnAt) → from_begin n told ≡ begin ∷ body → t.doing ≡ doing.Idle → IsFilledBy (rows_counted_by (body ++ s ∷ [])) (records_found_by events c (body ++ s ∷ [])) t.seen → IsFilled events c (rest_of (from_begin n (told ++ s ∷ []))) t
@@ -201,14 +216,11 @@ counted_changes t statement.Vacuum rows = zero_least (rows_counted (Some (answer
 abbrev unless : Bool → ℕ → ℕ
 unless b n = if b then 0 else n
 
--- what is left where the transaction read as `v`, and was `was` before
+-- what is left where the transaction read as `v`
 abbrev IsLeftBy : ℕ → ℕ → ℕ → Answer → Seen → Type 0
-IsLeftBy counted found own b s = IsFilledBy (counted + unless (changes_nothing b) (rows_counted (Some b))) (found + unless (not (read_finished b)) own) s
+IsLeftBy counted found own b s = IsFilledBy (counted + unless (changes_nothing b) (rows_counted (Some b))) (found + own) s
 
-module _ (counted found own : ℕ) (was v : TxnAt) (before : IsFilledBy counted found was.seen) (now : IsFilledBy counted (found + own) v.seen) where
-  as_before : IsFilledBy (counted + 0) (found + 0) was.seen
-  as_before = filled_up counted (counted + 0) found (found + 0) was.seen (further counted 0) (further found 0) before
-
+module _ (counted found own : ℕ) (v : TxnAt) (now : IsFilledBy counted (found + own) v.seen) where
   as_read : IsFilledBy (counted + 0) (found + own) v.seen
   as_read = filled_up counted (counted + 0) (found + own) (found + own) v.seen (further counted 0) (least (found + own)) now
 
@@ -218,28 +230,26 @@ module _ (counted found own : ℕ) (was v : TxnAt) (before : IsFilledBy counted 
       within : (a b x f y : ℕ) → a ≤ b + x → b ≤ f → x ≤ y → a ≤ f + y
       within a b x f y k l m = omega arith
 
-  finished_left : (b : Answer) (ks : List Keyed) → length ks ≤ rows_counted (Some b) → (changes_nothing b ≡ false → read_finished b ≡ true) → IsLeftBy counted found own (given_answer v (Finished b ks)) (given_left was v (Finished b ks)).seen
-  finished_left b ks few finishes = by (not (changes_nothing b) && too_many v ks)
+  finished_left : (b : Answer) (ks : List Keyed) → length ks ≤ rows_counted (Some b) → IsLeftBy counted found own (given_answer v (Finished b ks)) (given_left v (Finished b ks)).seen
+  finished_left b ks few = by (not (changes_nothing b) && too_many v ks)
     where
-      by_changes : (t f : Bool) → changes_nothing b ≡ t → read_finished b ≡ f → IsFilledBy (counted + unless t (rows_counted (Some b))) (found + unless (not f) own) (if t then (if f then v else was) else written v ks).seen
-      by_changes true true e f = as_read
-      by_changes true false e f = as_before
-      by_changes false true e f = with_changes b ks few
-      by_changes false false e f = clash (sym (finishes e) ∙ f)
+      by_changes : (t : Bool) → IsFilledBy (counted + unless t (rows_counted (Some b))) (found + own) (if t then v else written v ks).seen
+      by_changes true = as_read
+      by_changes false = with_changes b ks few
 
-      by : (z : Bool) → IsLeftBy counted found own (if z then refused 15 else b) (left_by_answer was v (if z then refused 15 else b) ks).seen
+      by : (z : Bool) → IsLeftBy counted found own (if z then refused 15 else b) (left_by_answer v (if z then refused 15 else b) ks).seen
       by true = as_read
-      by false = by_changes (changes_nothing b) (read_finished b) refl refl
+      by false = by_changes (changes_nothing b)
 
-  given_left_by : (p : Planned) (rows : List Image) → IsLeftBy counted found own (given_answer v (step_of p rows)) (given_left was v (step_of p rows)).seen
+  given_left_by : (p : Planned) (rows : List Image) → IsLeftBy counted found own (given_answer v (step_of p rows)) (given_left v (step_of p rows)).seen
   given_left_by p rows = by_asked p.asked
     where
-      by_unfit : (o : Option Key) → IsLeftBy counted found own (given_answer v (finished p.table p.statement rows o)) (given_left was v (finished p.table p.statement rows o)).seen
-      by_unfit None = finished_left (answer_on p.table p.statement rows) (changes_on p.table p.statement rows) (counted_changes p.table p.statement rows) (λ some. rows_finish (answer_on p.table p.statement rows) (from_rows p.table p.statement rows some))
-      by_unfit (Some key) = finished_left (answer.BadRecord key) [] (least 0) (λ some. clash some)
+      by_unfit : (o : Option Key) → IsLeftBy counted found own (given_answer v (finished p.table p.statement rows o)) (given_left v (finished p.table p.statement rows o)).seen
+      by_unfit None = finished_left (answer_on p.table p.statement rows) (changes_on p.table p.statement rows) (counted_changes p.table p.statement rows)
+      by_unfit (Some key) = finished_left (answer.BadRecord key) [] (least 0)
 
-      by_asked : (b : Bool) → IsLeftBy counted found own (given_answer v (step_at b p.table p.statement rows)) (given_left was v (step_at b p.table p.statement rows)).seen
-      by_asked false = as_before
+      by_asked : (b : Bool) → IsLeftBy counted found own (given_answer v (step_at b p.table p.statement rows)) (given_left v (step_at b p.table p.statement rows)).seen
+      by_asked false = as_read
       by_asked true = by_unfit (first_unfit p.table rows)
 
 -- what is said of a statement counts where a test takes it
@@ -256,21 +266,14 @@ one_taken t f s b n is few = subst (λ z. unless b n ≤ sum_by f (if z then s �
 effective_is : (s : Executed) (b : Answer) → s.answer ≡ Some b → is_effective s ≡ not (changes_nothing b)
 effective_is s b is = ap (λ (o : Option Answer). not (option_map_or changes_nothing o false)) is
 
-finished_is : (s : Executed) (b : Answer) → s.answer ≡ Some b → has_finished s ≡ not (not (read_finished b))
-finished_is s b is = ap (λ (o : Option Answer). option_map_or read_finished o false) is ∙ twice (read_finished b)
-  where
-    twice : (f : Bool) → f ≡ not (not f)
-    twice true = refl
-    twice false = refl
-
 -- what a statement's plan leaves, with the statement
-pub filled_given : (events : List Event) (e : Event) (c : ℕ) (body : List Executed) (s : Executed) (p : Planned) (rows : List Image) (was v : TxnAt) (own : ℕ) → s.answer ≡ Some (given_answer v (step_of p rows)) → own ≤ records_found (calls_of (events ++ e ∷ []) c s) → IsFilledBy (rows_counted_by body) (records_found_by events c body) was.seen
-    → IsFilledBy (rows_counted_by body) (records_found_by events c body + own) v.seen → IsFilledBy (rows_counted_by (body ++ s ∷ [])) (records_found_by (events ++ e ∷ []) c (body ++ s ∷ [])) (given_left was v (step_of p rows)).seen
-filled_given events e c body s p rows was v own is few before now =
-    filled_up (rows_counted_by body + unless (changes_nothing (given_answer v (step_of p rows))) (rows_counted (Some (given_answer v (step_of p rows))))) (rows_counted_by (body ++ s ∷ [])) (records_found_by events c body + unless (not (read_finished (given_answer v (step_of p rows)))) own) (records_found_by (events ++ e ∷ []) c (body ++ s ∷ [])) (given_left was v (step_of p rows)).seen
+pub filled_given : (catalog : List Table) (events : List Event) (e : Event) (c : ℕ) (body : List Executed) (s : Executed) (p : Planned) (rows : List Image) (v : TxnAt) (own : ℕ) → AllByRecursion (IsAnswered catalog events c) body → s.answer ≡ Some (given_answer v (step_of p rows)) → has_read (events ++ e ∷ []) c s ≡ true → own ≤ records_found (calls_of (events ++ e ∷ []) c s)
+    → IsFilledBy (rows_counted_by body) (records_found_by events c body + own) v.seen → IsFilledBy (rows_counted_by (body ++ s ∷ [])) (records_found_by (events ++ e ∷ []) c (body ++ s ∷ [])) (given_left v (step_of p rows)).seen
+filled_given catalog events e c body s p rows v own all is finished few now =
+    filled_up (rows_counted_by body + unless (changes_nothing (given_answer v (step_of p rows))) (rows_counted (Some (given_answer v (step_of p rows))))) (rows_counted_by (body ++ s ∷ [])) (records_found_by events c body + own) (records_found_by (events ++ e ∷ []) c (body ++ s ∷ [])) (given_left v (step_of p rows)).seen
     (subst (λ n. rows_counted_by body + unless (changes_nothing (given_answer v (step_of p rows))) (rows_counted (Some (given_answer v (step_of p rows)))) ≤ n) (sym (counted_more body s)) (sums (rows_counted_by body) (rows_counted_by body) (unless (changes_nothing (given_answer v (step_of p rows))) (rows_counted (Some (given_answer v (step_of p rows))))) (rows_counted_by (s ∷ [])) (least (rows_counted_by body)) (one_taken is_effective (λ x. rows_counted x.answer) s (changes_nothing (given_answer v (step_of p rows))) (rows_counted (Some (given_answer v (step_of p rows)))) (effective_is s (given_answer v (step_of p rows)) is) (subst (λ o. rows_counted (Some (given_answer v (step_of p rows))) ≤ rows_counted o) (sym is) (least (rows_counted (Some (given_answer v (step_of p rows)))))))))
-    (subst (λ n. records_found_by events c body + unless (not (read_finished (given_answer v (step_of p rows)))) own ≤ n) (sym (found_more (events ++ e ∷ []) c body s)) (sums (records_found_by events c body) (records_found_by (events ++ e ∷ []) c body) (unless (not (read_finished (given_answer v (step_of p rows)))) own) (records_found_by (events ++ e ∷ []) c (s ∷ [])) (found_stays events e c body) (one_taken has_finished (λ x. records_found (calls_of (events ++ e ∷ []) c x)) s (not (read_finished (given_answer v (step_of p rows)))) own (finished_is s (given_answer v (step_of p rows)) is) few)))
-    (given_left_by (rows_counted_by body) (records_found_by events c body) own was v before now p rows)
+    (subst (λ n. records_found_by events c body + own ≤ n) (sym (found_more (events ++ e ∷ []) c body s)) (sums (records_found_by events c body) (records_found_by (events ++ e ∷ []) c body) own (records_found_by (events ++ e ∷ []) c (s ∷ [])) (found_stays catalog events e c body all) (one_taken (has_read (events ++ e ∷ []) c) (λ x. records_found (calls_of (events ++ e ∷ []) c x)) s false own finished few)))
+    (given_left_by (rows_counted_by body) (records_found_by events c body) own v now p rows)
   where
     sums : (a b x y : ℕ) → a ≤ b → x ≤ y → a + x ≤ b + y
     sums a b x y l m = omega arith

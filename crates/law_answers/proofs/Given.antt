@@ -1,5 +1,5 @@
 -- Why a statement has the answer that its plan gives.
-use Rattle.std.proofs.Common.{◌≡◌, ℕ, Bool, true, false, not, List, [], ◌∷◌, Option, Some, None, refl, sym, ap, subst, ◌∙◌, ◌⊎◌, inl, inr}
+use Rattle.std.proofs.Common.{◌≡◌, ℕ, Bool, true, false, not, List, [], ◌∷◌, Option, Some, None, refl, sym, ap, subst, ◌∙◌, inr}
 use Rattle.std.specs.Prelude.{if◌then◌else◌, ◌&&◌, filter, find, is_some}
 use Rattle.std.specs.List.{AllByRecursion}
 use Rattle.std.specs.Option.{option_map}
@@ -26,15 +26,12 @@ use Rattle.sdb_model.specs.declared.statement.Statement.TheVariants as statement
 use Rattle.sdb_model.specs.Causes.{IsBadRecord, IsCaused, MayPassMost, before, is_open, refused}
 use Rattle.sdb_model.specs.Exec.{all_rows, key_of, named_table}
 use Rattle.sdb_model.specs.Sql.{Reads}
-use Rattle.sdb_model.specs.ReadSet.{read_finished}
-use Rattle.sdb_model.specs.Transactions.{Executed, changes_nothing, is_answered_from_rows, is_conflict, is_done}
-use Rattle.law_clients.proofs.Mild.{rows_finish}
+use Rattle.sdb_model.specs.Transactions.{Executed, changes_nothing, is_conflict, is_done}
 use Rattle.sdb_exec.specs.declared.plan.PlanStep.{PlanStep}
-use Rattle.sdb_exec.specs.declared.plan.PlanStep.TheVariants.{Finished, Read as Wants}
+use Rattle.sdb_exec.specs.declared.plan.PlanStep.TheVariants.{Finished}
 use Rattle.sdb_exec.specs.Plans.{Planned, answer_on, changes_on, columns_at, finished, first_unfit, is_unfit, step_at, step_of}
 use Rattle.sdb_txn.specs.Txn.{TxnAt}
-use Rattle.sdb_client.specs.Client.{given_answer, given_left, too_many, written}
-use Rattle.law_clients.proofs.Asked.{from_rows}
+use Rattle.sdb_client.specs.Client.{given_answer, too_many}
 use Rattle.sdb_types.proofs.Basics.{clash, none_some, some_is}
 
 -- what a statement is answered on rows has its cause
@@ -111,44 +108,6 @@ given_middle p rows t = by_asked p.asked
     by_asked : (b : Bool) → IsMiddle (given_answer t (step_at b p.table p.statement rows))
     by_asked false = record { undone = refl; agrees = refl }
     by_asked true = by_unfit (first_unfit p.table rows)
-
----- it is answered from rows, or leaves all as it was
-
-pub gives_rows : (p : Planned) (rows : List Image) (t : TxnAt) → changes_nothing (given_answer t (step_of p rows)) ≡ false → is_answered_from_rows (given_answer t (step_of p rows)) ≡ true
-gives_rows p rows t = by_asked p.asked
-  where
-    given : (b : Answer) (ks : List Keyed) → (changes_nothing b ≡ false → is_answered_from_rows b ≡ true) → changes_nothing (given_answer t (Finished b ks)) ≡ false → is_answered_from_rows (given_answer t (Finished b ks)) ≡ true
-    given b ks told = by (not (changes_nothing b) && too_many t ks)
-      where
-        by : (z : Bool) → changes_nothing (if z then refused 15 else b) ≡ false → is_answered_from_rows (if z then refused 15 else b) ≡ true
-        by true h = clash h
-        by false h = told h
-
-    by_unfit : (o : Option Key) → changes_nothing (given_answer t (finished p.table p.statement rows o)) ≡ false → is_answered_from_rows (given_answer t (finished p.table p.statement rows o)) ≡ true
-    by_unfit None = given (answer_on p.table p.statement rows) (changes_on p.table p.statement rows) (from_rows p.table p.statement rows)
-    by_unfit (Some key) = given (answer.BadRecord key) [] (λ h. clash h)
-
-    by_asked : (b : Bool) → changes_nothing (given_answer t (step_at b p.table p.statement rows)) ≡ false → is_answered_from_rows (given_answer t (step_at b p.table p.statement rows)) ≡ true
-    by_asked false h = clash h
-    by_asked true h = by_unfit (first_unfit p.table rows) h
-
--- what is left has read what was read before, where the read has not finished, or what was read now
-pub left_by : (was t : TxnAt) (x : PlanStep) → (changes_nothing (given_answer t x) ≡ false → read_finished (given_answer t x) ≡ true)
-    → ((read_finished (given_answer t x) ≡ false) × ((given_left was t x).seen ≡ was.seen)) ⊎ ((read_finished (given_answer t x) ≡ true) × ((given_left was t x).seen.reads ≡ t.seen.reads) × ((given_left was t x).seen.scans ≡ t.seen.scans))
-left_by was t (Finished a ks) finishes = by (changes_nothing (given_answer t (Finished a ks))) (read_finished (given_answer t (Finished a ks))) refl refl
-  where
-    by : (b f : Bool) → changes_nothing (given_answer t (Finished a ks)) ≡ b → read_finished (given_answer t (Finished a ks)) ≡ f
-        → ((read_finished (given_answer t (Finished a ks)) ≡ false) × ((if b then (if f then t else was) else written t ks).seen ≡ was.seen))
-        ⊎ ((read_finished (given_answer t (Finished a ks)) ≡ true) × ((if b then (if f then t else was) else written t ks).seen.reads ≡ t.seen.reads) × ((if b then (if f then t else was) else written t ks).seen.scans ≡ t.seen.scans))
-    by true true e f = inr (f, refl, refl)
-    by true false e f = inl (f, refl)
-    by false true e f = inr (f, refl, refl)
-    by false false e f = clash (sym (finishes e) ∙ f)
-left_by was t (Wants a) finishes = inl (refl, refl)
-
--- a plan's answer that changes something is one whose read has finished
-pub gives_finished : (p : Planned) (rows : List Image) (t : TxnAt) → changes_nothing (given_answer t (step_of p rows)) ≡ false → read_finished (given_answer t (step_of p rows)) ≡ true
-gives_finished p rows t some = rows_finish (given_answer t (step_of p rows)) (gives_rows p rows t some)
 
 ---- the rows of an access are of its table
 

@@ -24,7 +24,8 @@ use Rattle.law_answers.specs.Commits.{StageByCalls}
 use Rattle.law_answers.specs.Reads.{ReadsBy}
 use Rattle.law_answers.specs.Conflicts.{ChecksBy}
 use Rattle.law_answers.specs.Changes.{StageObserves, WorkBy, read_items_of_body}
-use Rattle.law_answers.proofs.Noting.{body_answered, moved_still, noted_still, notes_stay}
+use Rattle.law_answers.proofs.Misfits.{fits_stay}
+use Rattle.law_answers.proofs.Noting.{body_answered, moved_still, noted_still, notes_stay, rest_all}
 use Rattle.law_answers.specs.Vacuums.{VacuumBy}
 use Rattle.law_answers.specs.Unfit.{AreStoredReplies}
 use Rattle.law_answers.specs.Invariant.{IsAnswered, IsDoing, IsReadSetOf, IsOpenAs, IsInVacuum, IsWaiting, Knows, DoingByHistory, ClientByHistory, open_after}
@@ -175,8 +176,8 @@ knows_still catalog c events e h nothing none k = record {
   small = k.small;
   stands = stays_on catalog c events e h.begun k.told k.waiting h.plan h.txn h.vacuum k.answered (λ x is. calls_wait catalog c events e x none (unanswered k.waiting k.waits x is)) k.stands;
   counted = counts_stay catalog c events e k.told k.waiting h k.answered k.counted (λ x is. calls_wait catalog c events e x none (unanswered k.waiting k.waits x is));
-  filled = filled_stays events e c (rest_of (from_begin h.begun k.told)) h.txn k.filled;
-  fits = k.fits;
+  filled = filled_stays catalog events e c (rest_of (from_begin h.begun k.told)) h.txn (rest_all (IsAnswered catalog events c) h.begun k.told k.answered) k.filled;
+  fits = fits_stay catalog events e c h.begun k.told h.txn k.answered k.fits;
   stored = subst AreStoredReplies (sym (none_made c events e none)) k.stored;
   rolled = rolls_stay catalog c events e k.told k.waiting h k.answered k.rolled (λ x is. calls_wait catalog c events e x none (unanswered k.waiting k.waits x is));
   shows = shows_stay catalog c events e k.told k.answered h k.shows;

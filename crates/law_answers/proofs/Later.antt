@@ -17,13 +17,13 @@ use Rattle.sdb_model.specs.declared.event.Event.{Event}
 use Rattle.sdb_model.specs.declared.statement.Statement.{Statement}
 use Rattle.sdb_model.specs.declared.statement.Statement.TheVariants as statement
 use Rattle.sdb_model.specs.Calls.{StoreCall, calls_after, calls_before, calls_of, decision_learned, is_of_row, is_read, records_read, records_observed}
-use Rattle.sdb_model.specs.Causes.{HasReply, IsBad, IsBusy, IsCaused, IsCommitOf, IsCounted, IsDecided, IsRejected, MayPassMost, PutsRow, is_misfit, is_open, removes}
-use Rattle.sdb_model.specs.ReadSet.{reads_rows}
-use Rattle.sdb_model.specs.Sql.{reads_commit, reads_vacuum}
+use Rattle.sdb_model.specs.Causes.{HasReply, IsBad, IsBusy, IsCaused, IsCommitOf, IsCounted, IsDecided, IsRejected, MayPassMost, PutsRow, is_open, removes}
+use Rattle.sdb_model.specs.Sql.{reads_commit}
 use Rattle.sdb_model.specs.Transactions.{Executed, client_of, ends, from_begin, is_conflict, ordinal_of, rest_of, statements_by}
 use Rattle.sdb_types.proofs.Basics.{clash, none_some, some_is}
 use Rattle.law_answers.specs.Invariant.{IsAnswered, IsWaiting}
 use Rattle.law_answers.proofs.Lists.{ending_front, ending_stays, kept_in}
+use Rattle.law_answers.proofs.Misfits.{meets_stays}
 use Rattle.law_answers.proofs.Passing.{Grows, pass_stays}
 use Rattle.law_answers.proofs.Calls.{before_same, calls_stay, clock_same, of_within, within_more}
 use Rattle.sdb_types.specs.Replies.{is_fault}
@@ -70,6 +70,7 @@ record IsPast (c : ℕ) (events : List Event) (e : Event) (s : Executed) (a : An
   answered : s.reached ≤ length events
   commit : (id : TxId) → IsCommitOf events c s id → IsCommitOf (events ++ e ∷ []) c s id
   passes : MayPassMost events c s → MayPassMost (events ++ e ∷ []) c s
+  grows : Grows (statements_by c events) (statements_by c (events ++ e ∷ []))
 
 counted_stays : (c : ℕ) (events : List Event) (e : Event) (s : Executed) (st : Statement) (n : ℕ) → calls_of (events ++ e ∷ []) c s ≡ calls_of events c s → IsCounted events c s st n → IsCounted (events ++ e ∷ []) c s st n
 counted_stays c events e s (statement.Insert i) n same h = h
@@ -82,11 +83,9 @@ counted_stays c events e s statement.Commit n same h = h
 counted_stays c events e s statement.Rollback n same h = h
 counted_stays c events e s statement.Vacuum n same h = h ∙ ap (λ (ms : List StoreCall). count_by removes ms) (sym same)
 
--- a record of that key among these calls is bad, or doesn't fit
-abbrev BadIn : List Table → Executed → Key → List StoreCall → Type 0
-BadIn catalog s key calls =
-    (m : StoreCall) × (r : Record) × Contains calls m × Contains (records_observed m.reply) r × (r.key ≡ key)
-    × (IsBad r ⊎ ((reads_commit s.text ≡ false) × (reads_vacuum s.text ≡ false) × (reads_rows m ≡ true) × (is_misfit catalog calls r ≡ true)))
+-- a record of that key among these calls is bad
+abbrev BadIn : Key → List StoreCall → Type 0
+BadIn key calls = (m : StoreCall) × (r : Record) × Contains calls m × Contains (records_observed m.reply) r × (r.key ≡ key) × IsBad r
 
 caused_stays : (catalog : List Table) (c : ℕ) (events : List Event) (e : Event) (s : Executed) (a : Answer) → IsPast c events e s a → is_conflict (Some a) ≡ false → IsCaused catalog events c s a → IsCaused catalog (events ++ e ∷ []) c s a
 caused_stays catalog c events e s (answer.Rows rows) k t h = (h.0, h.1, h.2, ap (λ es. is_open es c) (before_same s events e k.taken) ∙ h.3)
@@ -130,7 +129,11 @@ caused_stays catalog c events e s (answer.Unknown id) k t h = record {
   deciding = subst (λ ms. Contains ms h.put × PutsRow id decision.Committed h.put × (h.put.reply ≡ reply.Fault)) (sym (calls_stay c events e s (answer.Unknown id) k.is k.answered)) h.deciding;
   failed = subst (λ ms. Contains (calls_after h.put.at ms) h.later × (is_of_row id h.later.request ≡ true) × ((h.later.reply ≡ reply.Fault) ⊎ (h.later.reply ≡ reply.NoMemory))) (sym (calls_stay c events e s (answer.Unknown id) k.is k.answered)) h.failed;
 }
-caused_stays catalog c events e s (answer.BadRecord key) k t h = subst (BadIn catalog s key) (sym (calls_stay c events e s (answer.BadRecord key) k.is k.answered)) h
+caused_stays catalog c events e s (answer.BadRecord key) k t h = by h
+  where
+    by : IsCaused catalog events c s (answer.BadRecord key) → IsCaused catalog (events ++ e ∷ []) c s (answer.BadRecord key)
+    by (inl x) = inl (subst (BadIn key) (sym (calls_stay c events e s (answer.BadRecord key) k.is k.answered)) x)
+    by (inr x) = inr (meets_stays catalog c events e s (answer.BadRecord key) key k.grows k.is x)
 caused_stays catalog c events e s (answer.Refused r) k t h = by h
   where
     by : IsCaused catalog events c s (answer.Refused r) → IsCaused catalog (events ++ e ∷ []) c s (answer.Refused r)
@@ -148,7 +151,7 @@ answered_one catalog c events e s grows k = record {
   is = k.is;
   taken = within_more s.taken events e k.taken;
   answered = within_more s.reached events e k.answered;
-  caused = λ t. caused_stays catalog c events e s k.given (record { is = k.is; taken = k.taken; answered = k.answered; commit = λ id h. commit_stays c events (events ++ e ∷ []) s k.given id grows k.is h; passes = pass_stays c events e s k.given grows k.is }) t (k.caused t);
+  caused = λ t. caused_stays catalog c events e s k.given (record { is = k.is; taken = k.taken; answered = k.answered; commit = λ id h. commit_stays c events (events ++ e ∷ []) s k.given id grows k.is h; passes = pass_stays c events e s k.given grows k.is; grows = grows }) t (k.caused t);
   rejected = λ a h. k.rejected a (subst (λ es. IsRejected catalog es c s.text a) (before_same s events e k.taken) h);
 }
 

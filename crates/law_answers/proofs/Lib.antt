@@ -22,7 +22,9 @@ pub mod CountsNotes
 pub mod Counting
 pub mod Filled
 pub mod Passing
+pub mod Misfits
 pub mod Filling
+pub mod Fitting
 pub mod Unfit
 pub mod RolledSteps
 pub mod Rolled

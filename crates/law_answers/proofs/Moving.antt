@@ -21,6 +21,9 @@ use Rattle.sdb_types.specs.Order.{key_cmp, same_key}
 use Rattle.sdb_types.proofs.Basics.{by_test, clash, less_of, all_each as each_any, itself, either}
 use Rattle.sdb_types.proofs.KeyOrder.{key_total}
 use Rattle.sdb_types.proofs.Keys.{same_key_self, same_key_exact, same_key_is, same_key_of}
+use Rattle.sdb_read.specs.Read.{request_of}
+use Rattle.sdb_record.specs.declared.access.Access.{Access}
+use Rattle.sdb_record.specs.declared.access.Access.TheVariants as access
 use Rattle.sdb_record.specs.declared.access.Read.{Read}
 use Rattle.sdb_record.specs.declared.access.Scan.{Scan}
 use Rattle.sdb_record.specs.Meta.{id_in}
@@ -37,8 +40,10 @@ use Rattle.sdb_record.specs.declared.write.Write.{Write}
 use Rattle.sdb_snapshot.specs.Sets.{IsSetInvariant}
 use Rattle.law_clients.proofs.Lists.{each_both}
 use Rattle.sdb_txn.specs.Txn.{TxnAt, work_of}
+use Rattle.sdb_client.specs.Client.{IsChangedAt}
 use Rattle.sdb_validate.specs.Rescan.{reads_rise}
-use Rattle.law_answers.specs.Changes.{HasRead, IsReadAt, IsRows, IsSettledAs, SeenBy, WorkBy}
+use Rattle.law_answers.specs.Changes.{ChangesAtScan, HasRead, IsReadAt, IsRows, IsSettledAs, SeenBy, WorkBy}
+use Rattle.law_answers.proofs.Ends.{first_in}
 use Rattle.law_answers.proofs.Settling.{settled_keys, settled_means}
 use Rattle.sdb_record.proofs.IdLemmas.{id_in_value-fits}
 use Rattle.sdb_record.specs.Among.{version_among}
@@ -178,6 +183,22 @@ differs_moved read_set s images k by_notes told e = by (record_read_at s.read_se
         let at = noted_at read_set s k by_notes told (ap is_some n) in
         let base : base_at s.read_set k ≡ as_read = ap (λ o. option_and_then (λ f. f) o) n in
         (at.item, version_of as_read, at.among, at.as_read ∙ ap (λ f. Some (version_of f)) base, has_moved_is as_read (record_among images k) t)
+
+-- and so has one that a scan of a statement finds otherwise
+pub changed_scan : (calls : List StoreCall) (read_set : List ReadItem) (t : TxnAt) (a : Access) (images : List Record) (key : Key) (found : Option Record) → HasRead (request_of a) calls images [] → IsTold t.seen → SeenBy read_set t.seen → IsChangedAt t a images key found → ChangesAtScan calls read_set key found
+changed_scan calls read_set t (access.Get k) images key found h ok in_set moved = absurd moved
+changed_scan calls read_set t (access.Scan span) images key found h ok in_set moved =
+    let shows = scan_shows calls span images key h in (
+      h.first,
+      span,
+      shows.0,
+      first_in h.first h.rest calls h.calls_are,
+      h.request,
+      shows.1,
+      moved.inside,
+      moved.stands ∙ sym shows.2,
+      subst (HasChanged read_set key) (sym moved.stands) (differs_moved read_set t.seen images key in_set ok moved.moved),
+    )
 
 ---- what a COMMIT takes
 

@@ -17,7 +17,7 @@ use Rattle.sdb_model.specs.declared.answer.Answer.{Answer}
 use Rattle.sdb_model.specs.declared.answer.Answer.TheVariants as answer
 use Rattle.sdb_model.specs.declared.event.Event.{Event}
 use Rattle.sdb_model.specs.Calls.{calls_of}
-use Rattle.sdb_model.specs.ReadSet.{KeyRead, ReadItem, SpanRead, read_set_of, read_items, has_finished}
+use Rattle.sdb_model.specs.ReadSet.{KeyRead, ReadItem, SpanRead, read_set_of, read_items, has_read}
 use Rattle.sdb_model.specs.Sql.{reads_commit}
 use Rattle.sdb_model.specs.Transactions.{Executed, begins, client_of, ends, from_begin, id_of, is_conflict, ordinal_of, rest_of, statements_by, statements_inside}
 use Rattle.sdb_snapshot.specs.Seen.{Seen}
@@ -26,7 +26,7 @@ use Rattle.law_clients.proofs.Lists.{each_more}
 use Rattle.sdb_types.proofs.Basics.{clash, all_each as each_any}
 use Rattle.law_answers.specs.Invariant.{IsAnswered, IsOpenAs}
 use Rattle.law_answers.specs.Changes.{AreChanged, IsChangedIn, ChangesBy, SeenBy, read_items_of_body}
-use Rattle.law_answers.proofs.Calls.{calls_stay}
+use Rattle.law_answers.proofs.Calls.{calls_stay, read_stays}
 use Rattle.law_answers.proofs.Lists.{since_more}
 
 ---- numbers
@@ -50,6 +50,14 @@ since_all P (suc k) (x ∷ xs) b rest all e = by (begins x) (k == 0) (λ h. sinc
     by true false i j h = i h
     by false z i j h = j h
 
+-- and of those after it
+pub rest_all : (P : Executed → Type 0) (n : ℕ) (ss : List Executed) → AllByRecursion P ss → AllByRecursion P (rest_of (from_begin n ss))
+rest_all P n ss all = by (from_begin n ss) refl
+  where
+    by : (r : List Executed) → from_begin n ss ≡ r → AllByRecursion P (rest_of (from_begin n ss))
+    by [] e = subst (λ x. AllByRecursion P (rest_of x)) (sym e) tt
+    by (b ∷ r) e = subst (λ x. AllByRecursion P (rest_of x)) (sym e) (since_all P n ss b r all e)
+
 -- up to what ends the transaction
 pub take_open : (ss more : List Executed) → AllByRecursion (λ s. ends s ≡ false) ss → take_while (λ s. not (ends s)) (ss ++ more) ≡ ss ++ take_while (λ s. not (ends s)) more
 take_open [] more all = refl
@@ -64,8 +72,8 @@ take_ends s more e = take_while-cons (λ x. not (ends x)) s more ∙ ap (λ b. c
 -- what a transaction noted, whose statements since its BEGIN these are
 pub noted_since : (events : List Event) (c n : ℕ) (b : Executed) (rest : List Executed) → n < 2 ^ 64 → from_begin n (statements_by c events) ≡ b ∷ rest → read_set_of events (id_of c n) ≡ read_items_of_body events c (take_while (λ s. not (ends s)) rest)
 noted_since events c n b rest small since =
-    ap (λ d. flat_map (λ s. read_items (calls_of events d s)) (filter has_finished (statements_inside events (id_of c n)))) (client_is c n small)
-    ∙ ap (λ ss. flat_map (λ s. read_items (calls_of events c s)) (filter has_finished (take_while (λ s. not (ends s)) (rest_of ss))))
+    ap (λ d. flat_map (λ s. read_items (calls_of events d s)) (filter (has_read events d) (statements_inside events (id_of c n)))) (client_is c n small)
+    ∙ ap (λ ss. flat_map (λ s. read_items (calls_of events c s)) (filter (has_read events c) (take_while (λ s. not (ends s)) (rest_of ss))))
     (ap (λ d. from_begin (ordinal_of (id_of c n)) (statements_by d events)) (client_is c n small) ∙ ap (λ k. from_begin k (statements_by c events)) (ordinal_is c n small) ∙ since)
 
 ---- as events come
@@ -73,9 +81,12 @@ noted_since events c n b rest small since =
 -- what was noted stays
 pub notes_stay : (catalog : List Table) (events : List Event) (e : Event) (c : ℕ) (ss : List Executed) → AllByRecursion (IsAnswered catalog events c) ss → read_items_of_body (events ++ e ∷ []) c ss ≡ read_items_of_body events c ss
 notes_stay catalog events e c [] all = refl
-notes_stay catalog events e c (s ∷ ss) all = by (has_finished s) (notes_stay catalog events e c ss all.1)
+notes_stay catalog events e c (s ∷ ss) all =
+    ap (λ b. flat_map (λ x. read_items (calls_of (events ++ e ∷ []) c x)) (if b then s ∷ filter (has_read (events ++ e ∷ []) c) ss else filter (has_read (events ++ e ∷ []) c) ss)) (read_stays c events e s all.0.given all.0.is all.0.answered)
+    ∙ by (has_read events c s) (notes_stay catalog events e c ss all.1)
   where
-    by : (b : Bool) → read_items_of_body (events ++ e ∷ []) c ss ≡ read_items_of_body events c ss → flat_map (λ x. read_items (calls_of (events ++ e ∷ []) c x)) (if b then s ∷ filter has_finished ss else filter has_finished ss) ≡ flat_map (λ x. read_items (calls_of events c x)) (if b then s ∷ filter has_finished ss else filter has_finished ss)
+    by : (b : Bool) → read_items_of_body (events ++ e ∷ []) c ss ≡ read_items_of_body events c ss
+        → flat_map (λ x. read_items (calls_of (events ++ e ∷ []) c x)) (if b then s ∷ filter (has_read (events ++ e ∷ []) c) ss else filter (has_read (events ++ e ∷ []) c) ss) ≡ flat_map (λ x. read_items (calls_of events c x)) (if b then s ∷ filter (has_read events c) ss else filter (has_read events c) ss)
     by true ih = ap (λ ms. read_items ms ++ read_items_of_body (events ++ e ∷ []) c ss) (calls_stay c events e s all.0.given all.0.is all.0.answered) ∙ ap (λ ns. read_items (calls_of events c s) ++ ns) ih
     by false ih = ih
 
@@ -87,10 +98,10 @@ each_last P (x ∷ ss) s all = each_last P ss s all.1
 
 -- what it noted is after what was noted
 pub notes_more : (events : List Event) (c : ℕ) (ss : List Executed) (s : Executed) → read_items_of_body events c (ss ++ s ∷ []) ≡ read_items_of_body events c ss ++ read_items_of_body events c (s ∷ [])
-notes_more events c ss s = ap (flat_map (λ x. read_items (calls_of events c x))) (filter-append has_finished ss (s ∷ [])) ∙ flat_map-append (λ x. read_items (calls_of events c x)) (filter has_finished ss) (filter has_finished (s ∷ []))
+notes_more events c ss s = ap (flat_map (λ x. read_items (calls_of events c x))) (filter-append (has_read events c) ss (s ∷ [])) ∙ flat_map-append (λ x. read_items (calls_of events c x)) (filter (has_read events c) ss) (filter (has_read events c) (s ∷ []))
 
 -- of one whose read has finished that is what its calls noted
-pub notes_one : (events : List Event) (c : ℕ) (s : Executed) → has_finished s ≡ true → read_items_of_body events c (s ∷ []) ≡ read_items (calls_of events c s)
+pub notes_one : (events : List Event) (c : ℕ) (s : Executed) → has_read events c s ≡ true → read_items_of_body events c (s ∷ []) ≡ read_items (calls_of events c s)
 notes_one events c s e = ap (λ b. flat_map (λ x. read_items (calls_of events c x)) (if b then s ∷ [] else [])) e ∙ append-nil (read_items (calls_of events c s))
 
 -- what was read and scanned is still noted

@@ -1,8 +1,8 @@
 -- What a statement makes of the row at one key, and rows that it is answered, which its transaction sees.
 use Rattle.std.proofs.Common.{◌≡◌, ℕ, ℤ, Bool, true, false, not, cond, List, [], ◌∷◌, ◌++◌, map, take, drop, length, Option, Some, None, refl, sym, ap, subst, ◌∙◌}
-use Rattle.std.specs.Prelude.{if◌then◌else◌, ◌||◌, filter, find, fold, is_some, take_while, unwrap_or}
+use Rattle.std.specs.Prelude.{if◌then◌else◌, filter, find, fold, is_some, take_while, unwrap_or}
 use Rattle.std.specs.List.{AllByRecursion}
-use Rattle.std.specs.Option.{option_map, option_map_or}
+use Rattle.std.specs.Option.{option_map}
 use Rattle.std.specs.Ordering.{is_eq, is_lt}
 use Rattle.std.specs.Cmp.{tied_itself}
 use Rattle.std.specs.FinMap.{entries, get, get-empty, get-entries, get-from_entries, get-insert, insert}
@@ -11,43 +11,35 @@ use Rattle.sdb_types.specs.declared.key.Key.{Key}
 use Rattle.sdb_types.specs.declared.pair.Pair.{Pair}
 use Rattle.sdb_types.specs.declared.value.Value.{Value}
 use Rattle.sdb_types.specs.Exact.{equal_of}
-use Rattle.sdb_types.specs.Order.{key_cmp, table_cmp}
-use Rattle.sdb_types.proofs.Basics.{append_all, clash}
-use Rattle.sdb_types.proofs.KeyOrder.{key_exact, key_total, table_exact}
+use Rattle.sdb_types.specs.Order.{key_cmp}
+use Rattle.sdb_types.proofs.Basics.{append_all, by_test, clash}
+use Rattle.sdb_types.proofs.KeyOrder.{key_exact, key_total}
 use Rattle.sdb_schema.specs.declared.table.Table.{Table}
 use Rattle.sdb_schema.specs.Catalog.{is_catalog}
 use Rattle.sdb_schema.specs.Order.{row_key_cmp}
-use Rattle.sdb_schema.specs.Rows.{fits_table}
 use Rattle.sdb_record.specs.declared.access.Access.{Access}
 use Rattle.sdb_record.specs.declared.access.Image.{Image}
 use Rattle.sdb_record.specs.declared.write.Keyed.{Keyed}
-use Rattle.sdb_model.specs.declared.answer.Answer.{Answer}
 use Rattle.sdb_model.specs.declared.answer.Answer.TheVariants as answer
 use Rattle.sdb_model.specs.declared.statement.Select.{Select}
 use Rattle.sdb_model.specs.declared.statement.Statement.{Statement}
 use Rattle.sdb_model.specs.declared.statement.Statement.TheVariants as statement
 use Rattle.sdb_model.specs.declared.statement.Update.{Update}
-use Rattle.sdb_model.specs.Access.{in_access, with_changes}
-use Rattle.sdb_model.specs.Exec.{Tables, all_rows, cut, entry_of_row, exec, exec_in, find_table, is_row_of, key_of, left_by, named_table, nat_of, passes, placed, projected, sorted, table_of, updated, with_named, with_sets}
+use Rattle.sdb_model.specs.Access.{in_access}
+use Rattle.sdb_model.specs.Exec.{Tables, all_rows, cut, entry_of_row, exec, exec_in, key_of, left_by, named_table, nat_of, passes, placed, projected, sorted, updated, with_named, with_sets}
 use Rattle.sdb_model.specs.DirtyReads.{one_row, row_left}
-use Rattle.sdb_exec.specs.Plans.{IsExec, all_well_typed, answer_on, changes_on, columns_at, first_unfit}
-use Rattle.sdb_exec.specs.Reads.{access_of}
+use Rattle.sdb_exec.specs.Plans.{answer_on, changes_on, columns_at, first_unfit}
+use Rattle.sdb_model.specs.Reads.{access_of}
 use Rattle.sdb_exec.proofs.Laid.{find-mapped, find-sieved, mapped_at, sieved_at}
 use Rattle.sdb_exec.proofs.Local.{ordered}
-use Rattle.sdb_exec.proofs.Places.{named_is_table}
-use Rattle.sdb_exec.proofs.Whole.{fitting_is_exec}
-use Rattle.sdb_snapshot.specs.Rows.{tables_of_reads}
 use Rattle.sdb_snapshot.specs.Seen.{Seen, overlay, row_seen, tables_seen}
 use Rattle.sdb_snapshot.specs.Written.{with_writes}
-use Rattle.sdb_snapshot.proofs.Shown.{get_seen, own_is}
-use Rattle.sdb_client.specs.Client.{plan_of}
-use Rattle.law_clients.specs.Fitting.{row_is_well_typed}
-use Rattle.law_clients.proofs.InTables.{own_table}
-use Rattle.law_clients.proofs.RowsFit.{found_itself}
-use Rattle.law_answers.specs.Unfit.{SeesWellTyped}
-use Rattle.law_answers.proofs.Given.{asked_gives, found_so}
+use Rattle.sdb_snapshot.proofs.Shown.{get_seen}
+use Rattle.law_answers.specs.Unfit.{fits_if_any, fitting_part}
+use Rattle.law_answers.proofs.Fitting.{RowFits, access_fits, exec_at, fitting_same, left_outside, rows_there}
+use Rattle.law_answers.proofs.Given.{found_so, passes_all}
 use Rattle.law_answers.proofs.Lists.{each_kept}
-use Rattle.law_answers.proofs.Unfit.{all_true, find_true, none_unfits, rows_there}
+use Rattle.law_answers.proofs.Unfit.{find_true, row_written}
 
 ---- what a statement leaves at a key
 
@@ -116,60 +108,55 @@ get_one key (Some c) = get-insert key_total (one_row key None) key c key ∙ ap 
 
 ---- on the rows that a transaction sees
 
-module _ (catalog : List Table) (table : Table) (st : Statement) (s : Seen) (is : is_catalog catalog ≡ true) (named : named_table catalog st ≡ Some table) (fits : SeesWellTyped catalog s) where
-  abbrev rows : List Image
-  rows = overlay (access_of table st) s
+-- a row fits, or there is none
+fits_any : (catalog : List Table) (key : Key) (o : Option (List Pair)) → RowFits catalog key o → fits_if_any catalog key o ≡ true
+fits_any catalog key None fits = refl
+fits_any catalog key (Some cs) fits = fits cs refl
 
+module _ (catalog : List Table) (table : Table) (st : Statement) (s : Seen) (is : is_catalog catalog ≡ true) (named : named_table catalog st ≡ Some table) (none : first_unfit table (overlay (access_of table st) s) ≡ None) (key : Key) where
   abbrev changes : List Keyed
-  changes = changes_on table st rows
+  changes = changes_on table st (overlay (access_of table st) s)
 
-  listed : find_table catalog table.name ≡ Some table
-  listed = found_itself catalog (table_of st) table named
+  abbrev row : Option (List Pair)
+  row = row_seen s.read_set s.writes key
 
-  -- each row of the table fits it
-  all_here : all_well_typed table (tables_seen s) ≡ true
-  all_here =
-      all_true (λ r. not (is_row_of table r) || fits_table table r.key r.columns) (all_rows (tables_seen s))
-      (rows_there (λ q cs. (not (is_eq (table_cmp q.table table.name)) || fits_table table q cs) ≡ true) (tables_seen s) (λ q cs found. here q cs (is_eq (table_cmp q.table table.name)) refl (fits q cs (sym (get_seen s.read_set s.writes q) ∙ found))))
+  abbrev row_after : Option (List Pair)
+  row_after = row_seen s.read_set (with_writes s.read_set s.writes changes) key
+
+  -- What the statement makes of a row that fits, or of none, at the key is the row that is seen there with its changes.
+  pub one_row_left : fits_if_any catalog key row ≡ true → row_left catalog st key row ≡ row_after
+  one_row_left fits =
+      exec_left catalog table st (one_row key row) key named
+      ∙ ap (left_at table st key) (get_one key row ∙ sym (get_seen s.read_set s.writes key) ∙ sym (fitting_same catalog (tables_seen s) key row_fits))
+      ∙ sym (exec_left catalog table st (fitting_part catalog (tables_seen s)) key named)
+      ∙ exec_at catalog table st s is named none key row_fits
+      ∙ sym (row_written s changes key)
     where
-      here : (q : Key) (cs : List Pair) (b : Bool) → is_eq (table_cmp q.table table.name) ≡ b → row_is_well_typed catalog q cs ≡ true → (not b || fits_table table q cs) ≡ true
-      here q cs false e f = refl
-      here q cs true e f = sym (ap (λ (o : Option Table). option_map_or (λ x. fits_table x q cs) o false) (ap (find_table catalog) (table_exact q.table table.name (equal_of (table_cmp q.table table.name) e)) ∙ listed)) ∙ f
+      row_fits : RowFits catalog key (get (tables_seen s) key)
+      row_fits cs e = sym (ap (fits_if_any catalog key) (sym (get_seen s.read_set s.writes key) ∙ e)) ∙ fits
 
-  none_here : first_unfit table rows ≡ None
-  none_here = by (first_unfit table rows) refl
-    where
-      by : (o : Option Key) → first_unfit table rows ≡ o → first_unfit table rows ≡ None
-      by None e = e
-      by (Some key) e = absurd (none_unfits catalog (plan_of table st) (access_of table st) listed (own_table table st) s key fits e)
-
-  -- the statement leaves the tables with its changes
-  whole : exec catalog st (tables_seen s) ≡ (answer_on table st rows, with_changes (tables_seen s) changes)
-  whole =
-      subst (IsExec catalog (plan_of table st) (tables_seen s)) (asked_gives (plan_of table st) rows None refl none_here)
-      (fitting_is_exec catalog (plan_of table st) (tables_seen s) (named_is_table catalog st table is named) named refl all_here)
-
-  written_row : (key : Key) → row_seen s.read_set (with_writes s.read_set s.writes changes) key ≡ get (exec catalog st (tables_seen s)).1 key
-  written_row key =
-      sym (get_seen s.read_set (with_writes s.read_set s.writes changes) key)
-      ∙ ap (λ (e : Tables). get e key) (own_is (tables_of_reads s.read_set) s.read_set s.writes changes)
-      ∙ ap (λ (x : Answer × Tables). get x.1 key) (sym whole)
-
-  -- what the statement makes of the row at a key is the row that is seen there with its changes
-  pub one_row_left : (key : Key) → row_left catalog st key (row_seen s.read_set s.writes key) ≡ row_seen s.read_set (with_writes s.read_set s.writes (changes_on table st (overlay (access_of table st) s))) key
-  one_row_left key =
-      exec_left catalog table st (one_row key (row_seen s.read_set s.writes key)) key named
-      ∙ ap (left_at table st key) (get_one key (row_seen s.read_set s.writes key) ∙ sym (get_seen s.read_set s.writes key))
-      ∙ sym (exec_left catalog table st (tables_seen s) key named)
-      ∙ sym (written_row key)
+  -- a row that doesn't fit stays as it is
+  pub fits_before : fits_if_any catalog key row_after ≡ true → fits_if_any catalog key row ≡ true
+  fits_before after =
+      by_test (in_access (access_of table st) key)
+      (λ inside. fits_any catalog key row (λ cs e. access_fits catalog table st s is named none key inside cs (get_seen s.read_set s.writes key ∙ e)))
+      (λ outside. ap (fits_if_any catalog key) (sym (row_written s changes key ∙ left_outside catalog table st s is named none (tables_seen s) key outside ∙ get_seen s.read_set s.writes key)) ∙ after)
 
 ---- rows that are answered
 
-abbrev IsSeen : Seen → Image → Type 0
-IsSeen s r = row_seen s.read_set s.writes r.key ≡ Some r.columns
+-- a row is seen at a key of an access
+abbrev pub IsSeen : Access → Seen → Image → Type 0
+IsSeen a s r = (row_seen s.read_set s.writes r.key ≡ Some r.columns) × (in_access a r.key ≡ true)
 
-all_seen : (a : Access) (s : Seen) → AllByRecursion (IsSeen s) (overlay a s)
-all_seen a s = each_kept (IsSeen s) (λ r. in_access a r.key) (all_rows (tables_seen s)) (rows_there (λ q cs. row_seen s.read_set s.writes q ≡ Some cs) (tables_seen s) (λ q cs found. sym (get_seen s.read_set s.writes q) ∙ found))
+both_so : (P Q : Image → Type 0) (rs : List Image) → AllByRecursion P rs → AllByRecursion Q rs → AllByRecursion (λ (r : Image). P r × Q r) rs
+both_so P Q [] ps qs = tt
+both_so P Q (r ∷ rs) ps qs = ((ps.0, qs.0), both_so P Q rs ps.1 qs.1)
+
+all_seen : (a : Access) (s : Seen) → AllByRecursion (IsSeen a s) (overlay a s)
+all_seen a s =
+    both_so (λ (r : Image). row_seen s.read_set s.writes r.key ≡ Some r.columns) (λ (r : Image). in_access a r.key ≡ true) (overlay a s)
+    (each_kept (λ (r : Image). row_seen s.read_set s.writes r.key ≡ Some r.columns) (λ r. in_access a r.key) (all_rows (tables_seen s)) (rows_there (λ q cs. row_seen s.read_set s.writes q ≡ Some cs) (tables_seen s) (λ q cs found. sym (get_seen s.read_set s.writes q) ∙ found)))
+    (passes_all (λ (r : Image). in_access a r.key) (all_rows (tables_seen s)))
 
 all_taken : (P : Image → Type 0) (n : ℕ) (rs : List Image) → AllByRecursion P rs → AllByRecursion P (take n rs)
 all_taken P n rs all = recursion_from_All P (take n rs) (All-take P n rs (All-from_recursion P rs all))
@@ -194,7 +181,7 @@ no_rows false k n rows e = absurd (cc)
 
 -- rows that a SELECT is answered are rows that are seen
 pub rows_told : (table : Table) (st : Statement) (a : Access) (s : Seen) (rows : List (List Value)) → answer_on table st (overlay a s) ≡ answer.Rows rows
-    → (select : Select) × (images : List Image) × (st ≡ statement.Select select) × (rows ≡ map (projected table select.columns) images) × AllByRecursion (λ (r : Image). row_seen s.read_set s.writes r.key ≡ Some r.columns) images
+    → (select : Select) × (images : List Image) × (st ≡ statement.Select select) × (rows ≡ map (projected table select.columns) images) × AllByRecursion (IsSeen a s) images
 rows_told t (statement.Insert i) a s rows e = absurd (no_rows (is_some (columns_at (key_of t i) (overlay a s))) (key_of t i) 1 rows e)
 rows_told t (statement.Upsert i) a s rows e = absurd (cc)
 rows_told t (statement.Update u) a s rows e = absurd (cc)
@@ -205,29 +192,35 @@ rows_told t (statement.Select x) a s rows e =
       cut x.limit (sorted t (filter (passes t x.tests) (overlay a s))),
       refl,
       sym are,
-      all_cut (IsSeen s) x.limit (sorted t (filter (passes t x.tests) (overlay a s))) (all_sorted (IsSeen s) t (filter (passes t x.tests) (overlay a s)) [] tt (each_kept (IsSeen s) (passes t x.tests) (overlay a s) (all_seen a s))),
+      all_cut (IsSeen a s) x.limit (sorted t (filter (passes t x.tests) (overlay a s))) (all_sorted (IsSeen a s) t (filter (passes t x.tests) (overlay a s)) [] tt (each_kept (IsSeen a s) (passes t x.tests) (overlay a s) (all_seen a s))),
     )
 rows_told t statement.Begin a s rows e = absurd (cc)
 rows_told t statement.Commit a s rows e = absurd (cc)
 rows_told t statement.Rollback a s rows e = absurd (cc)
 rows_told t statement.Vacuum a s rows e = absurd (cc)
 
--- a row is seen at a key where one is found there
-seen_at : (a : Access) (s : Seen) (k : Key) → is_some (columns_at k (overlay a s)) ≡ true → (columns : List Pair) × (row_seen s.read_set s.writes k ≡ Some columns)
+-- a row is seen at a key of an access where one is found there
+abbrev SeenAt : Access → Seen → Key → Type 0
+SeenAt a s k = (columns : List Pair) × (row_seen s.read_set s.writes k ≡ Some columns) × (in_access a k ≡ true)
+
+seen_at : (a : Access) (s : Seen) (k : Key) → is_some (columns_at k (overlay a s)) ≡ true → SeenAt a s k
 seen_at a s k some = by (find (λ r. is_eq (key_cmp k r.key)) (overlay a s)) refl some
   where
-    by : (o : Option Image) → find (λ r. is_eq (key_cmp k r.key)) (overlay a s) ≡ o → is_some (option_map (λ (r : Image). r.columns) o) ≡ true → (columns : List Pair) × (row_seen s.read_set s.writes k ≡ Some columns)
+    here : (r : Image) → find (λ x. is_eq (key_cmp k x.key)) (overlay a s) ≡ Some r → k ≡ r.key → IsSeen a s r → SeenAt a s k
+    here r e same seen = (r.columns, ap (row_seen s.read_set s.writes) same ∙ seen.0, ap (in_access a) same ∙ seen.1)
+
+    by : (o : Option Image) → find (λ r. is_eq (key_cmp k r.key)) (overlay a s) ≡ o → is_some (option_map (λ (r : Image). r.columns) o) ≡ true → SeenAt a s k
     by None e h = clash (sym h)
-    by (Some r) e h = (r.columns, ap (row_seen s.read_set s.writes) (tied k r.key (find_true (λ x. is_eq (key_cmp k x.key)) (overlay a s) r e)) ∙ found_so (IsSeen s) (λ x. is_eq (key_cmp k x.key)) (overlay a s) r (all_seen a s) e)
+    by (Some r) e h = here r e (tied k r.key (find_true (λ x. is_eq (key_cmp k x.key)) (overlay a s) r e)) (found_so (IsSeen a s) (λ x. is_eq (key_cmp k x.key)) (overlay a s) r (all_seen a s) e)
 
 -- and so is one at the key of a Duplicate
-pub key_told : (table : Table) (st : Statement) (a : Access) (s : Seen) (key : Key) → answer_on table st (overlay a s) ≡ answer.Duplicate key → (columns : List Pair) × (row_seen s.read_set s.writes key ≡ Some columns)
+pub key_told : (table : Table) (st : Statement) (a : Access) (s : Seen) (key : Key) → answer_on table st (overlay a s) ≡ answer.Duplicate key → (columns : List Pair) × (row_seen s.read_set s.writes key ≡ Some columns) × (in_access a key ≡ true)
 key_told t (statement.Insert i) a s key e = by (is_some (columns_at (key_of t i) (overlay a s))) refl e
   where
-    by : (b : Bool) → is_some (columns_at (key_of t i) (overlay a s)) ≡ b → (if b then answer.Duplicate (key_of t i) else answer.Count 1) ≡ answer.Duplicate key → (columns : List Pair) × (row_seen s.read_set s.writes key ≡ Some columns)
+    by : (b : Bool) → is_some (columns_at (key_of t i) (overlay a s)) ≡ b → (if b then answer.Duplicate (key_of t i) else answer.Count 1) ≡ answer.Duplicate key → SeenAt a s key
     by true some h =
         let same : key_of t i ≡ key = cc in
-        subst (λ (k : Key). (columns : List Pair) × (row_seen s.read_set s.writes k ≡ Some columns)) same (seen_at a s (key_of t i) some)
+        subst (SeenAt a s) same (seen_at a s (key_of t i) some)
     by false some h = absurd (cc)
 key_told t (statement.Upsert i) a s key e = absurd (cc)
 key_told t (statement.Update u) a s key e = absurd (cc)

@@ -1,7 +1,8 @@
 -- A statement that passed the most keys that a transaction may write did so by what was counted and found before it, and this stays so.
-use Rattle.std.proofs.Common.{◌≡◌, ◌≤◌, ◌<◌, ◌^◌, ◌+◌, ◌==◌, ◌⊎◌, inl, inr, ℕ, Bool, true, false, not, List, [], ◌∷◌, ◌++◌, length, Option, Some, None, refl, sym, ap, subst, ◌∙◌, arith}
+use Rattle.std.proofs.Common.{◌≡◌, ◌≤◌, ◌<◌, ◌^◌, ◌+◌, ◌==◌, ◌⊎◌, inl, inr, ℕ, suc, Bool, true, false, not, List, [], ◌∷◌, ◌++◌, length, Option, Some, None, refl, sym, ap, subst, ◌∙◌, arith}
 use Rattle.std.specs.Prelude.{if◌then◌else◌, ◌&&◌, filter, fold, nat_le, nat_lt, sum_by, take_while, Contains}
 use Rattle.std.specs.List.{AllByRecursion, cons_option, enumerate_from}
+use Rattle.std.specs.Option.{option_map_or}
 use Rattle.std.proofs.lemmas.Bool.Decides.{nat_tests}
 use Rattle.std.proofs.lemmas.List.{append-nil}
 use Rattle.std.proofs.lemmas.List.Elements.{Contains-append_left, Contains-append_right, Contains-push, Contains-push_cases, filter-append}
@@ -13,16 +14,15 @@ use Rattle.sdb_model.specs.declared.event.Event.TheVariants as event
 use Rattle.sdb_model.specs.declared.statement.Statement.{Statement}
 use Rattle.sdb_model.specs.declared.statement.Statement.TheVariants as statement
 use Rattle.sdb_model.specs.Calls.{StoreCall, calls_by, calls_of, made_by, records_read}
-use Rattle.sdb_model.specs.Causes.{MayPassMost, body_before, finished_before, may_pass, records_found, rows_counted, counted_by}
-use Rattle.sdb_model.specs.ReadSet.{reads_rows}
+use Rattle.sdb_model.specs.Causes.{IsIn, MayPassMost, body_before, finished_before, may_pass, records_found, rows_counted, counted_by}
+use Rattle.sdb_model.specs.ReadSet.{has_read, read_finished, reads_rows}
 use Rattle.sdb_model.specs.Sql.{Reads}
-use Rattle.sdb_model.specs.ReadSet.{has_finished}
-use Rattle.sdb_model.specs.Transactions.{Executed, client_of, ends, from_begin, id_of, is_effective, ordinal_of, rest_of, statements_by, statements_after, through_end, with_answer}
-use Rattle.sdb_types.proofs.Basics.{none_some}
+use Rattle.sdb_model.specs.Transactions.{Executed, client_of, ends, from_begin, id_of, is_effective, ordinal_of, rest_of, statements_by, statements_after, statements_inside, through_end, with_answer}
+use Rattle.sdb_types.proofs.Basics.{all_each as each_any, none_some}
 use Rattle.law_answers.specs.Filled.{rows_counted_by, records_found_by}
-use Rattle.law_answers.proofs.Calls.{calls_open, end_answered, end_waiting, made_more}
-use Rattle.law_answers.proofs.Lists.{each_in, since_more, since_none}
-use Rattle.law_answers.proofs.Noting.{client_is, each_last, ordinal_is, since_all, take_open}
+use Rattle.law_answers.proofs.Calls.{calls_open, end_answered, end_waiting, made_more, read_stays}
+use Rattle.law_answers.proofs.Lists.{each_in, filter_same, since_more, since_none}
+use Rattle.law_answers.proofs.Noting.{client_is, each_last, ordinal_is, rest_all, since_all, take_open}
 use Rattle.law_clients.proofs.Lists.{each_more}
 
 ---- statements are taken one after the other
@@ -90,6 +90,75 @@ taken_before c events told s e = by told (subst Rises e (rises_all c 1 events []
     by : (ss : List Executed) → Rises (ss ++ s ∷ []) → AllByRecursion (λ b. b.taken < s.taken) ss
     by [] r = tt
     by (x ∷ ss) r = (each_last (λ t. x.taken < t.taken) ss s r.0, by ss r.1)
+
+---- statements reach an event that came
+
+abbrev ReachBelow : ℕ → List Executed → Type 0
+ReachBelow n ss = AllByRecursion (λ s. s.reached < n) ss
+
+reached_more : (n : ℕ) (ss : List Executed) → ReachBelow n ss → ReachBelow (n + 1) ss
+reached_more n [] all = tt
+reached_more n (s ∷ ss) all = (up s.reached all.0, reached_more n ss all.1)
+  where
+    up : (k : ℕ) → k < n → k < n + 1
+    up k l = omega arith
+
+reached_answered : (n : ℕ) (ss : List Executed) (a : Answer) → ReachBelow n ss → ReachBelow (n + 1) (with_answer ss n a)
+reached_answered n [] a all = tt
+reached_answered n (s ∷ []) a all = (last n, tt)
+  where
+    last : (k : ℕ) → k < k + 1
+    last k = omega arith
+reached_answered n (s ∷ t ∷ ss) a all = (up s.reached all.0, reached_answered n (t ∷ ss) a all.1)
+  where
+    up : (k : ℕ) → k < n → k < n + 1
+    up k l = omega arith
+
+reached_one : (c n : ℕ) (ss : List Executed) (e : Event) → ReachBelow n ss → ReachBelow (n + 1) (statements_after c ss (n, e))
+reached_one c n ss (event.Take d text a) all = by (d == c)
+  where
+    last : n < n + 1
+    last = omega arith
+
+    by : (b : Bool) → ReachBelow (n + 1) (if b then ss ++ said_at n text a ∷ [] else ss)
+    by true = each_more (λ (s : Executed). s.reached < n + 1) ss (said_at n text a) (reached_more n ss all) last
+    by false = reached_more n ss all
+reached_one c n ss (event.Call d store q how reply None) all = reached_more n ss all
+reached_one c n ss (event.Call d store q how reply (Some a)) all = by (d == c)
+  where
+    by : (b : Bool) → ReachBelow (n + 1) (if b then with_answer ss n a else ss)
+    by true = reached_answered n ss a all
+    by false = reached_more n ss all
+reached_one c n ss (event.Stop d) all = reached_more n ss all
+reached_one c n ss (event.Clock moment) all = reached_more n ss all
+reached_one c n ss (event.Idle d) all = reached_more n ss all
+
+reached_all : (c n : ℕ) (es : List Event) (ss : List Executed) → ReachBelow n ss → ReachBelow (n + length es) (fold (statements_after c) ss (enumerate_from n es))
+reached_all c n [] ss all = subst (λ k. ReachBelow k ss) (none n) all
+  where
+    none : (k : ℕ) → k ≡ k + 0
+    none k = omega arith
+reached_all c n (e ∷ es) ss all = subst (λ k. ReachBelow k (fold (statements_after c) (statements_after c ss (n, e)) (enumerate_from (n + 1) es))) (one n (length es)) (reached_all c (n + 1) es (statements_after c ss (n, e)) (reached_one c n ss e all))
+  where
+    one : (k m : ℕ) → k + 1 + m ≡ k + suc m
+    one k m = omega arith
+
+-- each is reached by an event
+pub all_reached : (c : ℕ) (events : List Event) → AllByRecursion (λ s. s.reached < 1 + length events) (statements_by c events)
+all_reached c events = reached_all c 1 events [] tt
+
+-- Whether the read of a statement has finished stays.
+pub read_still : (c : ℕ) (events : List Event) (e : Event) (s : Executed) → s.reached < 1 + length events → has_read (events ++ e ∷ []) c s ≡ has_read events c s
+read_still c events e s low = by s.answer refl
+  where
+    within : (k n : ℕ) → k < 1 + n → k ≤ n
+    within k n l = omega arith
+
+    by : (o : Option Answer) → s.answer ≡ o → has_read (events ++ e ∷ []) c s ≡ has_read events c s
+    by (Some a) is = read_stays c events e s a is (within s.reached (length events) low)
+    by None is =
+        ap (λ (o : Option Answer). option_map_or (read_finished (calls_of (events ++ e ∷ []) c s)) o false) is
+        ∙ sym (ap (λ (o : Option Answer). option_map_or (read_finished (calls_of events c s)) o false) is)
 
 ---- more events
 
@@ -225,14 +294,14 @@ through_all P (s ∷ ss) all = by (ends s) (through_all P ss all.1)
     by false ih = (all.0, ih)
 
 -- what is so of all that a client said is so of a transaction's statements
-part_all : (P : Executed → Type 0) (n : ℕ) (ss : List Executed) → AllByRecursion P ss → AllByRecursion P (through_end (rest_of (from_begin n ss)))
+pub part_all : (P : Executed → Type 0) (n : ℕ) (ss : List Executed) → AllByRecursion P ss → AllByRecursion P (through_end (rest_of (from_begin n ss)))
 part_all P n ss all = by (from_begin n ss) refl
   where
     by : (r : List Executed) → from_begin n ss ≡ r → AllByRecursion P (through_end (rest_of r))
     by [] e = tt
     by (b ∷ body) e = through_all P body (since_all P n ss b body all e)
 
-in_grows : (n : ℕ) (ss ts : List Executed) (s : Executed) (a : Answer) → s.answer ≡ Some a → Grows ss ts → Contains (through_end (rest_of (from_begin n ss))) s → Contains (through_end (rest_of (from_begin n ts))) s
+pub in_grows : (n : ℕ) (ss ts : List Executed) (s : Executed) (a : Answer) → s.answer ≡ Some a → Grows ss ts → Contains (through_end (rest_of (from_begin n ss))) s → Contains (through_end (rest_of (from_begin n ts))) s
 in_grows n ss ts s a is (inl e) has = subst (λ xs. Contains (through_end (rest_of (from_begin n xs))) s) (sym e) has
 in_grows n ss ts s a is (inr (inl (x, e))) has = subst (λ xs. Contains (through_end (rest_of (from_begin n xs))) s) (sym e) (in_more n ss x s has)
 in_grows n ss ts s a is (inr (inr (front, w, x, e, none, g))) has =
@@ -295,6 +364,14 @@ passes_more a b x y statement.Vacuum l m h = absurd (cc)
 abbrev found_at : List Event → ℕ → TxId → Executed → ℕ
 found_at es c id s = sum_by (λ b. records_found (calls_of es c b)) (finished_before es id s)
 
+while_all : (P : Executed → Type 0) (p : Executed → Bool) (ss : List Executed) → AllByRecursion P ss → AllByRecursion P (take_while p ss)
+while_all P p [] all = tt
+while_all P p (s ∷ ss) all = subst (AllByRecursion P) (sym (take_while-cons p s ss)) (by (p s) (while_all P p ss all.1))
+  where
+    by : (b : Bool) → AllByRecursion P (take_while p ss) → AllByRecursion P (if b then s ∷ take_while p ss else [])
+    by true rest = (all.0, rest)
+    by false rest = tt
+
 -- A statement that was answered, and may pass the most, still may.
 pub pass_stays : (c : ℕ) (events : List Event) (e : Event) (s : Executed) (a : Answer) → Grows (statements_by c events) (statements_by c (events ++ e ∷ [])) → s.answer ≡ Some a → MayPassMost events c s → MayPassMost (events ++ e ∷ []) c s
 pass_stays c events e s a grows is h = record {
@@ -322,13 +399,43 @@ pass_stays c events e s a grows is h = record {
     grown : (t : Executed → Bool) (f : Executed → ℕ) → sum_by f (before_in t (ordinal_of h.id) s (statements_by (client_of h.id) events)) ≤ sum_by f (before_in t (ordinal_of h.id) s (statements_by (client_of h.id) (events ++ e ∷ [])))
     grown t f = before_grows t f (ordinal_of h.id) s (statements_by (client_of h.id) events) (statements_by (client_of h.id) (events ++ e ∷ [])) waits_later grows_id
 
+    -- whose reads have finished stays
+    same_before : finished_before events h.id s ≡ before_in (has_read (events ++ e ∷ []) (client_of h.id)) (ordinal_of h.id) s (statements_by (client_of h.id) events)
+    same_before =
+        ap (filter (λ b. nat_lt b.taken s.taken))
+        (filter_same (has_read events (client_of h.id)) (has_read (events ++ e ∷ []) (client_of h.id)) (statements_inside events h.id)
+        (while_all (λ b. has_read events (client_of h.id) b ≡ has_read (events ++ e ∷ []) (client_of h.id) b) (λ x. not (ends x)) (rest_of (from_begin (ordinal_of h.id) (statements_by (client_of h.id) events)))
+        (rest_all (λ b. has_read events (client_of h.id) b ≡ has_read (events ++ e ∷ []) (client_of h.id) b) (ordinal_of h.id) (statements_by (client_of h.id) events)
+        (each_any (λ (b : Executed). b.reached < 1 + length events) (λ (b : Executed). has_read events (client_of h.id) b ≡ has_read (events ++ e ∷ []) (client_of h.id) b) (statements_by (client_of h.id) events) (λ b low. sym (read_still (client_of h.id) events e b low)) (all_reached (client_of h.id) events)))))
+
     counted : sum_by counted_by (body_before events h.id s) ≤ sum_by counted_by (body_before (events ++ e ∷ []) h.id s)
     counted = grown is_effective counted_by
 
     found : found_at events c h.id s ≤ found_at (events ++ e ∷ []) c h.id s
-    found = through (found_at events c h.id s) (sum_by (λ b. records_found (calls_of (events ++ e ∷ []) c b)) (finished_before events h.id s)) (found_at (events ++ e ∷ []) c h.id s) (sum_by-le-sum_by (λ b. records_found (calls_of events c b)) (λ b. records_found (calls_of (events ++ e ∷ []) c b)) (finished_before events h.id s) (found_grows c events e)) (grown has_finished (λ b. records_found (calls_of (events ++ e ∷ []) c b)))
+    found =
+        through (found_at events c h.id s) (sum_by (λ b. records_found (calls_of (events ++ e ∷ []) c b)) (finished_before events h.id s)) (found_at (events ++ e ∷ []) c h.id s)
+        (sum_by-le-sum_by (λ b. records_found (calls_of events c b)) (λ b. records_found (calls_of (events ++ e ∷ []) c b)) (finished_before events h.id s) (found_grows c events e))
+        (subst (λ ss. sum_by (λ b. records_found (calls_of (events ++ e ∷ []) c b)) ss ≤ found_at (events ++ e ∷ []) c h.id s) (sym same_before) (grown (has_read (events ++ e ∷ []) (client_of h.id)) (λ b. records_found (calls_of (events ++ e ∷ []) c b))))
 
 ---- the last statement
+
+-- none of these ends it, and so they go on through the last
+through_last : (s : Executed) (xs : List Executed) → AllByRecursion (λ x. ends x ≡ false) xs → through_end (xs ++ s ∷ []) ≡ xs ++ s ∷ []
+through_last s [] all = by (ends s)
+  where
+    by : (b : Bool) → (if b then s ∷ [] else s ∷ []) ≡ s ∷ []
+    by true = refl
+    by false = refl
+through_last s (x ∷ xs) all = ap (λ b. if b then x ∷ [] else x ∷ through_end (xs ++ s ∷ [])) all.0 ∙ ap (λ r. x ∷ r) (through_last s xs all.1)
+
+since_last : (c n : ℕ) (events : List Event) (told : List Executed) (begin s : Executed) (body : List Executed) → n < 2 ^ 64 → statements_by c events ≡ told ++ s ∷ [] → from_begin n told ≡ begin ∷ body → from_begin (ordinal_of (id_of c n)) (statements_by (client_of (id_of c n)) events) ≡ begin ∷ (body ++ s ∷ [])
+since_last c n events told begin s body small same since =
+    ap (λ d. from_begin (ordinal_of (id_of c n)) (statements_by d events)) (client_is c n small) ∙ ap (λ k. from_begin k (statements_by c events)) (ordinal_is c n small) ∙ ap (from_begin n) same ∙ since_more n told s begin body since
+
+-- the last statement of a client, and each before it, is one of its open transaction
+pub in_last : (c n : ℕ) (events : List Event) (told : List Executed) (begin s : Executed) (body : List Executed) → n < 2 ^ 64 → statements_by c events ≡ told ++ s ∷ [] → from_begin n told ≡ begin ∷ body → AllByRecursion (λ x. ends x ≡ false) body → (x : Executed) → Contains (body ++ s ∷ []) x → IsIn events c x (id_of c n)
+in_last c n events told begin s body small same since goes_on x has =
+    (client_is c n small, subst (λ ss. Contains (through_end (rest_of ss)) x) (sym (since_last c n events told begin s body small same since)) (subst (λ ss. Contains ss x) (sym (through_last s body goes_on)) has))
 
 -- One that its client said last, in a transaction whose statements before it are these, may pass the most where these counted and found so.
 pub pass_now : (c n : ℕ) (events : List Event) (told : List Executed) (begin s : Executed) (body : List Executed) (st : Statement) → n < 2 ^ 64 → statements_by c events ≡ told ++ s ∷ [] → from_begin n told ≡ begin ∷ body → AllByRecursion (λ x. ends x ≡ false) body → Reads s.text st
@@ -336,24 +443,13 @@ pub pass_now : (c n : ℕ) (events : List Event) (told : List Executed) (begin s
 pass_now c n events told begin s body st small same since goes_on reads past = record {
   id = id_of c n;
   statement = st;
-  within = (client_is c n small, subst (λ ss. Contains (through_end (rest_of ss)) s) (sym said_is) (subst (λ ss. Contains ss s) (sym (through_last body goes_on)) (Contains-append_right body (s ∷ []) s (Contains-push [] s))));
+  within = in_last c n events told begin s body small same since goes_on s (Contains-append_right body (s ∷ []) s (Contains-push [] s));
   read = reads;
-  past = passes_more (rows_counted_by body) (sum_by (λ b. rows_counted b.answer) (body_before events (id_of c n) s)) (records_found_by events c body + records_found (calls_of events c s)) (sum_by (λ b. records_found (calls_of events c b)) (finished_before events (id_of c n) s) + records_found (calls_of events c s)) st (grown is_effective (λ b. rows_counted b.answer)) (plus (records_found_by events c body) (sum_by (λ b. records_found (calls_of events c b)) (finished_before events (id_of c n) s)) (records_found (calls_of events c s)) (grown has_finished (λ b. records_found (calls_of events c b)))) past;
+  past = passes_more (rows_counted_by body) (sum_by (λ b. rows_counted b.answer) (body_before events (id_of c n) s)) (records_found_by events c body + records_found (calls_of events c s)) (sum_by (λ b. records_found (calls_of events c b)) (finished_before events (id_of c n) s) + records_found (calls_of events c s)) st (grown is_effective (λ b. rows_counted b.answer)) (plus (records_found_by events c body) (sum_by (λ b. records_found (calls_of events c b)) (finished_before events (id_of c n) s)) (records_found (calls_of events c s)) (subst (λ d. records_found_by events c body ≤ sum_by (λ b. records_found (calls_of events c b)) (before_in (has_read events d) (ordinal_of (id_of c n)) s (statements_by (client_of (id_of c n)) events))) (sym (client_is c n small)) (grown (has_read events c) (λ b. records_found (calls_of events c b))))) past;
 }
   where
     plus : (a b x : ℕ) → a ≤ b → a + x ≤ b + x
     plus a b x l = omega arith
-
-    said_is : from_begin (ordinal_of (id_of c n)) (statements_by (client_of (id_of c n)) events) ≡ begin ∷ (body ++ s ∷ [])
-    said_is = ap (λ d. from_begin (ordinal_of (id_of c n)) (statements_by d events)) (client_is c n small) ∙ ap (λ k. from_begin k (statements_by c events)) (ordinal_is c n small) ∙ ap (from_begin n) same ∙ since_more n told s begin body since
-
-    through_last : (xs : List Executed) → AllByRecursion (λ x. ends x ≡ false) xs → through_end (xs ++ s ∷ []) ≡ xs ++ s ∷ []
-    through_last [] all = by (ends s)
-      where
-        by : (b : Bool) → (if b then s ∷ [] else s ∷ []) ≡ s ∷ []
-        by true = refl
-        by false = refl
-    through_last (x ∷ xs) all = ap (λ b. if b then x ∷ [] else x ∷ through_end (xs ++ s ∷ [])) all.0 ∙ ap (λ r. x ∷ r) (through_last xs all.1)
 
     -- all of the body was taken before it
     none_dropped : (t : Executed → Bool) (xs : List Executed) → AllByRecursion (λ b. b.taken < s.taken) xs → kept t s xs ≡ filter t xs
@@ -369,7 +465,7 @@ pass_now c n events told begin s body st small same since goes_on reads past = r
 
     before_is : (t : Executed → Bool) → before_in t (ordinal_of (id_of c n)) s (statements_by (client_of (id_of c n)) events) ≡ filter t body ++ kept t s (take_while (λ x. not (ends x)) (s ∷ []))
     before_is t =
-        ap (λ ss. kept t s (take_while (λ x. not (ends x)) (rest_of ss))) said_is
+        ap (λ ss. kept t s (take_while (λ x. not (ends x)) (rest_of ss))) (since_last c n events told begin s body small same since)
         ∙ ap (kept t s) (take_open body (s ∷ []) goes_on)
         ∙ kept_append t s body (take_while (λ x. not (ends x)) (s ∷ []))
         ∙ ap (λ r. r ++ kept t s (take_while (λ x. not (ends x)) (s ∷ []))) (none_dropped t body (since_all (λ b. b.taken < s.taken) n told begin body (taken_before c events told s same) since))

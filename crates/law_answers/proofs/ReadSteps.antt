@@ -1,5 +1,5 @@
 -- Each call of a read keeps what the calls say of where it is.
-use Rattle.std.proofs.Common.{◌≡◌, ◌<◌, ℕ, ℤ, Bool, true, false, not, cond, List, [], ◌∷◌, ◌++◌, Some, None, Result, Ok, Err, refl, sym, ap, subst, ◌∙◌, arith}
+use Rattle.std.proofs.Common.{◌≡◌, ◌<◌, ℕ, ℤ, Bool, true, false, not, cond, List, [], ◌∷◌, ◌++◌, Some, None, Result, Ok, Err, inr, refl, sym, ap, subst, ◌∙◌, arith}
 use Rattle.std.specs.Prelude.{if◌then◌else◌, ◌&&◌, MatchBool, is_ok, codes, find, Contains}
 use Rattle.std.specs.List.{AllByRecursion, list_all, list_any}
 use Rattle.std.specs.Ordering.{is_eq}
@@ -33,6 +33,8 @@ use Rattle.sdb_record.proofs.ImageLaws.{row-key}
 use Rattle.sdb_model.specs.declared.event.Event.{Event}
 use Rattle.sdb_model.specs.Calls.{StoreCall, calls_of, clock_at, is_read, records_read, records_observed}
 use Rattle.sdb_model.specs.Causes.{HasReply, IsBusy}
+use Rattle.sdb_model.specs.Events.{table_asked}
+use Rattle.sdb_model.specs.ReadSet.{reads_rows}
 use Rattle.sdb_model.specs.Transactions.{Executed}
 use Rattle.sdb_phases.specs.declared.step.RecoverPhase.{RecoverPhase}
 use Rattle.sdb_phases.specs.declared.step.RecoverPhase.TheVariants as phase
@@ -120,6 +122,19 @@ read_asked : (a : Access) → is_read (request_of a) ≡ true
 read_asked (access.Get key) = refl
 read_asked (access.Scan span) = refl
 
+-- what is no table of records is not
+not_is : (b : Bool) → not b ≡ true → b ≡ false
+not_is true h = clash (sym h)
+not_is false h = refl
+
+data_asked : (a : Access) → IsDataTable (access_table a) → is_coordinator_table (table_asked (request_of a)) ≡ false
+data_asked (access.Get key) k = not_is (is_coordinator_table key.table) k
+data_asked (access.Scan span) k = not_is (is_coordinator_table span.table) k
+
+-- a read of a table reads rows
+pub rows_read : (m : StoreCall) → is_read m.request ≡ true → is_coordinator_table (table_asked m.request) ≡ false → reads_rows m ≡ true
+rows_read m reads own = ap (λ b. if b then false else is_read m.request) own ∙ reads
+
 ---- one call more
 
 module _ (events : List Event) (calls : List StoreCall) (m : StoreCall) (older : AllByRecursion (λ x. x.at < m.at) calls) (now : ℤ) (clock : clock_at events m.at ≡ now) where
@@ -129,7 +144,7 @@ module _ (events : List Event) (calls : List StoreCall) (m : StoreCall) (older :
   -- rows that were found are settled
   settled_is : (images left : List Record) → IsFoundBy more left → AllByRecursion (λ r. IsDataTable r.key.table) left → LedBy events more (settle images left)
   settled_is images [] f k = tt
-  settled_is images (r ∷ left) f k = by (kind_of r) refl (settled_is (images ++ r ∷ []) left (record { read = f.read; among = f.among; reads = f.reads; found = f.found.1 }) k.1)
+  settled_is images (r ∷ left) f k = by (kind_of r) refl (settled_is (images ++ r ∷ []) left (record { read = f.read; among = f.among; reads = f.reads; of_data = f.of_data; found = f.found.1 }) k.1)
     where
       bad : is_transactional r ≡ false → IsBadRow r
       bad e = by_table (is_coordinator_table r.key.table) k.0
@@ -141,28 +156,29 @@ module _ (events : List Event) (calls : List StoreCall) (m : StoreCall) (older :
       by : (x : Kind) → kind_of r ≡ x → LedBy events more (settle (images ++ r ∷ []) left) → LedBy events more (settle_one x images r left (settle (images ++ r ∷ []) left))
       by Firm e rest = rest
       by (Open meta) e rest = record { found = f; is_open = e; phase = tt }
-      by Bad e rest = record { call = f.read; found = r; among = f.among; shown = shown_read f.read.reply r f.found.0; same = refl; bad = bad (bad_is r e) }
+      by Bad e rest = record { call = f.read; found = r; among = f.among; shown = shown_read f.read.reply r f.found.0; same = refl; bad = bad (bad_is r e); place = inr (rows_read f.read f.reads f.of_data, f.found.0) }
 
   ---- the rows
 
-  pub found_rows : (a : Access) (r : Reply) → m.request ≡ request_of a → m.reply ≡ r → IsFoundBy more (records_read r)
-  found_rows a r e f = record {
+  pub found_rows : (a : Access) (r : Reply) → IsDataTable (access_table a) → m.request ≡ request_of a → m.reply ≡ r → IsFoundBy more (records_read r)
+  found_rows a r k e f = record {
     read = m;
     among = Contains-push calls m;
     reads = ap is_read e ∙ read_asked a;
+    of_data = ap (λ q. is_coordinator_table (table_asked q)) e ∙ data_asked a k;
     found = subst (λ x. AllByRecursion (Contains (records_read x)) (records_read r)) (sym f) (recursion_from_All (Contains (records_read r)) (records_read r) (All-contains_itself (records_read r)));
   }
 
   answered_is : (a : Access) (r : Reply) → IsDataTable (access_table a) → m.request ≡ request_of a → m.reply ≡ r → CanAnswer (request_of a) r → LedBy events more (answered r)
   answered_is (access.Get key) (reply.Found None) k e f can = tt
-  answered_is (access.Get key) (reply.Found (Some row)) k e f can = settled_is [] (row ∷ []) (found_rows (access.Get key) (reply.Found (Some row)) e f) (subst (λ (x : Key). IsDataTable x.table) (sym can) k, tt)
+  answered_is (access.Get key) (reply.Found (Some row)) k e f can = settled_is [] (row ∷ []) (found_rows (access.Get key) (reply.Found (Some row)) k e f) (subst (λ (x : Key). IsDataTable x.table) (sym can) k, tt)
   answered_is (access.Get key) (reply.Rows rows) k e f can = absurd can
   answered_is (access.Get key) reply.Applied k e f can = absurd can
   answered_is (access.Get key) (reply.NotMet found) k e f can = absurd can
   answered_is (access.Get key) reply.Fault k e f can = reply_now is_fault calls m reply.Fault f refl
   answered_is (access.Get key) reply.NoMemory k e f can = tt
   answered_is (access.Scan span) (reply.Found found) k e f can = absurd can
-  answered_is (access.Scan span) (reply.Rows rows) k e f can = settled_is [] rows (found_rows (access.Scan span) (reply.Rows rows) e f) (rows_data span rows k can)
+  answered_is (access.Scan span) (reply.Rows rows) k e f can = settled_is [] rows (found_rows (access.Scan span) (reply.Rows rows) k e f) (rows_data span rows k can)
   answered_is (access.Scan span) reply.Applied k e f can = absurd can
   answered_is (access.Scan span) (reply.NotMet found) k e f can = absurd can
   answered_is (access.Scan span) reply.Fault k e f can = reply_now is_fault calls m reply.Fault f refl
@@ -172,7 +188,7 @@ module _ (events : List Event) (calls : List StoreCall) (m : StoreCall) (older :
 
   module _ (rec : Record) (meta : Meta) (left : List Record) (p : RecoverPhase) (before : ResolvesBy calls rec meta p left) where
     pub found_more : IsFoundBy more (rec ∷ left)
-    found_more = record { read = before.found.read; among = Contains-append_left calls (m ∷ []) before.found.read before.found.among; reads = before.found.reads; found = before.found.found }
+    found_more = record { read = before.found.read; among = Contains-append_left calls (m ∷ []) before.found.read before.found.among; reads = before.found.reads; of_data = before.found.of_data; found = before.found.found }
 
     -- what a recovery comes to
     abbrev pub ComesTo : RecoverPhase × RecoverStep → Type 0
@@ -267,8 +283,8 @@ module _ (events : List Event) (calls : List StoreCall) (m : StoreCall) (older :
 
   resolved_is : (images : List Record) (rec : Record) (meta : Meta) (left : List Record) (p : RecoverPhase) (before : ResolvesBy calls rec meta p left) (n : RecoverPhase × RecoverStep) → AllByRecursion (λ r. IsDataTable r.key.table) left → ComesTo rec meta left p before n → LedBy events more (resolved images rec meta left n)
   resolved_is images rec meta left p before (q, steps.More) k h = record { found = found_more rec meta left p before; is_open = before.is_open; phase = h }
-  resolved_is images rec meta left p before (q, steps.Image None) k h = let f = found_more rec meta left p before in settled_is images left (record { read = f.read; among = f.among; reads = f.reads; found = f.found.1 }) k
-  resolved_is images rec meta left p before (q, steps.Image (Some b)) k h = let f = found_more rec meta left p before in settled_is (images ++ b ∷ []) left (record { read = f.read; among = f.among; reads = f.reads; found = f.found.1 }) k
+  resolved_is images rec meta left p before (q, steps.Image None) k h = let f = found_more rec meta left p before in settled_is images left (record { read = f.read; among = f.among; reads = f.reads; of_data = f.of_data; found = f.found.1 }) k
+  resolved_is images rec meta left p before (q, steps.Image (Some b)) k h = let f = found_more rec meta left p before in settled_is (images ++ b ∷ []) left (record { read = f.read; among = f.among; reads = f.reads; of_data = f.of_data; found = f.found.1 }) k
   resolved_is images rec meta left p before (q, steps.Busy id at) k h = h
   resolved_is images rec meta left p before (q, steps.Faulted) k h = h
   resolved_is images rec meta left p before (q, steps.BadRecord key) k h = h

@@ -1,17 +1,15 @@
 -- A client that gets the reply to its call keeps what ties the events to it.
-use Rattle.std.proofs.Common.{◌≡◌, ◌≤◌, ◌<◌, ◌^◌, ◌+◌, ◌⊎◌, inl, inr, ℕ, true, false, not, List, [], ◌∷◌, ◌++◌, length, Option, Some, None, refl, sym, ap, subst, ◌∙◌, arith}
-use Rattle.std.specs.Prelude.{◌&&◌, ◌||◌, is_some, IfSome, nat_le, nat_lt, Contains}
+use Rattle.std.proofs.Common.{◌≡◌, ◌≤◌, ◌<◌, ◌^◌, ◌+◌, inl, inr, ℕ, true, false, not, List, [], ◌∷◌, ◌++◌, length, Option, Some, None, refl, sym, ap, subst, ◌∙◌, arith}
+use Rattle.std.specs.Prelude.{◌&&◌, ◌||◌, is_some, IfSome, nat_le, nat_lt}
 use Rattle.std.specs.List.{AllByRecursion, count_by}
 use Rattle.std.proofs.lemmas.List.{append-nil}
 use Rattle.sdb_types.specs.declared.key.Key.{Key}
 use Rattle.sdb_types.specs.declared.key.TableName.{TableName}
 use Rattle.sdb_types.specs.declared.record.Record.{Record}
 use Rattle.sdb_types.specs.declared.record.Request.{Request}
-use Rattle.sdb_types.specs.declared.record.Request.TheVariants as ask
 use Rattle.sdb_types.specs.declared.txid.TxId.{TxId}
 use Rattle.sdb_types.proofs.Basics.{clash, some_is, all_each as each_any, length_more, id_fits}
 use Rattle.sdb_record.specs.declared.access.Access.{Access}
-use Rattle.sdb_record.specs.declared.access.Access.TheVariants as access
 use Rattle.sdb_record.specs.declared.access.Read.{Read}
 use Rattle.sdb_record.specs.declared.write.Write.{Write}
 use Rattle.sdb_record.specs.Meta.{is_moment}
@@ -21,7 +19,9 @@ use Rattle.sdb_model.specs.declared.answer.Answer.{Answer}
 use Rattle.sdb_model.specs.declared.answer.Answer.TheVariants as answer
 use Rattle.sdb_model.specs.declared.event.Event.{Event}
 use Rattle.sdb_model.specs.Calls.{StoreCall, calls_of, clock_at, calls_by, end_of, is_stored_reply}
-use Rattle.sdb_model.specs.Causes.{ConflictsAtCommit, HasChanged, HasReply, IsBadRecord, IsCaused, IsCommitOf, IsRejected, MayPassMost, before, is_open, is_open_after, records_found, removes, is_misfit}
+use Rattle.law_clients.proofs.Finishing.{given_finishes}
+use Rattle.sdb_model.specs.Access.{in_access}
+use Rattle.sdb_model.specs.Causes.{ConflictsAtCommit, HasReply, IsBadRecord, IsCaused, IsCommitOf, IsRejected, MayPassMost, before, is_open, is_open_after, records_found, removes}
 use Rattle.sdb_model.specs.declared.statement.Statement.TheVariants as statement
 use Rattle.sdb_model.specs.Exec.{find_table, table_of}
 use Rattle.sdb_sqltext.proofs.OneWord.{vacuum_read}
@@ -35,9 +35,9 @@ use Rattle.sdb_phases.specs.Commit.{Stage, Over, pending as commit_pending, step
 use Rattle.sdb_phases.specs.Work.{Work}
 use Rattle.sdb_read.specs.declared.read.ReadStep.TheVariants as step
 use Rattle.sdb_read.specs.Read.{Asking, Ended, ReadAt, ReadStage, Resolving, read_pending_at, read_result, read_step, request_of}
-use Rattle.sdb_model.specs.ReadSet.{ReadItem, read_items, read_finished}
+use Rattle.sdb_model.specs.ReadSet.{ReadItem, has_read, read_items, read_finished}
 use Rattle.sdb_snapshot.specs.Sets.{WereRead}
-use Rattle.sdb_snapshot.specs.Seen.{Seen, overlay}
+use Rattle.sdb_snapshot.specs.Seen.{overlay}
 use Rattle.sdb_txn.specs.declared.progress.Progress.TheVariants as progress
 use Rattle.sdb_txn.specs.declared.txn.Doing.{Doing}
 use Rattle.sdb_txn.specs.declared.txn.Doing.TheVariants as doing
@@ -46,10 +46,9 @@ use Rattle.sdb_client.specs.declared.next.Next.{Next}
 use Rattle.sdb_client.specs.declared.next.Next.TheVariants as next
 use Rattle.sdb_vacuum.specs.declared.work.VacuumStep.{VacuumStep}
 use Rattle.sdb_vacuum.specs.declared.work.VacuumStep.TheVariants as vacuuming
-use Rattle.sdb_vacuum.specs.Vacuum as Sweeping
-use Rattle.sdb_vacuum.specs.Vacuum.{Gives, Removing, Scanning, VacuumAt, VacuumStage, vacuum_step}
+use Rattle.sdb_vacuum.specs.Vacuum.{Gives, VacuumAt, vacuum_step}
 use Rattle.sdb_client.specs.Client.{CallPost, ClientAt as Client, CommitNext, RowsReadPost, IsChangedAt, NextPost, OpenTxnPost, ReplyPost, StagePost, VacuumPost, after, answer_in, answer_of, given_answer, given_left, gives, holding, next_of, with_rows_read, pending_by, pending_of, resting, too_many, vacuum_left}
-use Rattle.law_clients.specs.About.{IsDoingIn, IsIn, IsOfTables, IsReadIn, IsRecordIn, IsStageIn, IsVacuumStageIn, IsVacuumIn, IsWorkIn}
+use Rattle.law_clients.specs.About.{IsDoingIn, IsIn, IsOfTables, IsReadIn, IsRecordIn, IsStageIn, IsVacuumIn, IsWorkIn}
 use Rattle.law_clients.specs.States.{ClientState, IsAskedBy, IsCalled, IsFittedBy, IsUsing, IsUsingTxn}
 use Rattle.law_clients.proofs.Fitted.{by_next}
 use Rattle.law_clients.proofs.InTables.{access_table, own_table}
@@ -59,7 +58,7 @@ use Rattle.law_clients.proofs.Lists.{each_more}
 use Rattle.law_clients.specs.System.{ClientCall, answer_of_outcome, call_event}
 use Rattle.law_answers.specs.Commits.{EndsBy, ObservesBad, StageByCalls}
 use Rattle.law_answers.specs.Invariant.{IsAnswered, IsCommitting, IsDoing, CauseInvariant, IsReadSetOf, IsReading, IsInVacuum, IsWaiting, Knows, DoingByHistory, ClientByHistory, begun_in, open_after}
-use Rattle.law_answers.specs.Unfit.{IsWellTypedTxn, SeesWellTyped, SeesWellTypedIn, AreStoredReplies}
+use Rattle.law_answers.specs.Unfit.{IsFitOrReadTxn, SeesFitOrRead, SeesFitOrReadIn, AreStoredReplies}
 use Rattle.law_answers.specs.Conflicts.{ChecksBy, ConflictBy}
 use Rattle.law_answers.specs.Counts.{CommitCounted, CommitIsCounted, DoingCounted, IsCountedBy, ReadByTxn, ReadByDoing, ReadItemsAre, OpenCounted, ReadCounted, VacuumIsCounted, WaitCounted, read_items_since}
 use Rattle.law_answers.proofs.CountsCommit.{commit_more, commit_over, commit_starved}
@@ -72,21 +71,23 @@ use Rattle.law_answers.specs.Changes.{HasRead, IsChangedIn, ChangesAtScan, Chang
 use Rattle.law_answers.proofs.Conflicts.{checks_on, starved_checks}
 use Rattle.law_answers.specs.Reads.{IsBusyBy, LedBy, ReadsBy}
 use Rattle.law_answers.specs.Vacuums.{VacuumEndBy, VacuumBy}
-use Rattle.law_answers.proofs.SweepSteps.{IfMore, SweepLed, SweepsData, step_led}
-use Rattle.law_answers.proofs.Moving.{IsTold, differs_moved, scan_shows}
-use Rattle.law_answers.proofs.Noting.{moved_all, moved_still, noted_more, noted_still, notes_more, notes_one, notes_stay, seen_same, since_all, unmoved}
-use Rattle.law_answers.proofs.Settling.{read_noted, data_read}
+use Rattle.law_answers.proofs.SweepSteps.{IfMore, SweepLed, SweepsData, step_led, sweeps_of}
+use Rattle.law_answers.proofs.Moving.{IsTold, changed_scan}
+use Rattle.law_answers.proofs.Noting.{moved_all, moved_still, noted_more, noted_still, notes_more, notes_one, notes_stay, rest_all, seen_same, since_all, unmoved}
+use Rattle.law_answers.proofs.Rows.{bad_unfinished}
+use Rattle.law_answers.proofs.Settling.{read_checks, read_noted}
 use Rattle.law_answers.proofs.Showing.{IsOpenAt, shows_on}
-use Rattle.law_answers.proofs.Ends.{next_by, ended_is, told_end, conflict_of, commit_is, first_in, outcome_caused, outcome_tells}
+use Rattle.law_answers.proofs.Ends.{next_by, ended_is, told_end, conflict_of, commit_is, outcome_caused, outcome_tells}
 use Rattle.law_answers.proofs.Calls.{before_same, call_said, calls_open, clock_more, end_answered, end_waiting, later_calls, later_more, later_within, made_at, own_made, silent_said, within_more, one_made}
 use Rattle.law_answers.proofs.Filling.{filled_few, filled_found, filled_given, filled_idle, filled_more, filled_noting, filled_stays, images_few, passes_given}
 use Rattle.law_answers.proofs.Passing.{pass_now, least}
-use Rattle.law_answers.proofs.Unfit.{fits_now, given_fits, misfit_read, shown_bad}
-use Rattle.law_answers.proofs.Given.{IsMiddle, given_caused, given_middle, left_by, gives_finished}
+use Rattle.law_answers.proofs.Misfits.{fits_idle, fits_more, fits_stay, meets_now}
+use Rattle.law_answers.proofs.Unfit.{given_fits, sees_read, shown_bad, was_misfit}
+use Rattle.law_answers.proofs.Given.{IsMiddle, given_caused, given_middle, unfit_data}
 use Rattle.law_answers.proofs.Knowing.{after_end, after_more, after_plain, open_more}
 use Rattle.law_answers.proofs.Later.{answered_stay, waiting_stays}
 use Rattle.law_answers.proofs.Lists.{begun_same, since_more, each_kept}
-use Rattle.law_answers.proofs.ReadSteps.{IsDataTable, LeavesData, busy_caused, reads_on, shown_read}
+use Rattle.law_answers.proofs.ReadSteps.{IsDataTable, LeavesData, busy_caused, reads_on}
 use Rattle.law_answers.proofs.Stages.{IsOfData, stands_on, starved_stands}
 use Rattle.law_answers.specs.Rolled.{DoingRolls, ReadRolls, RolledBut, VacuumRolls, WaitRolls}
 use Rattle.law_answers.proofs.Rolled.{outcome_rows, reads_so_far, rolls_end, rolls_on, sweeps_so_far}
@@ -94,7 +95,7 @@ use Rattle.law_answers.proofs.RolledSteps.{SweepsTo, read_rolls, sweep_rolls}
 use Rattle.law_answers.specs.Views.{IsViewOf, SeesOwn, SeesOwnIn, ViewBy}
 use Rattle.law_answers.proofs.ShowsTold.{ShowsNext, next_same, showing_stays, shows_end, shows_further}
 use Rattle.law_answers.proofs.ShowsTurn.{read_next}
-use Rattle.law_answers.proofs.Takings.{left_id, left_idle, middle_ends}
+use Rattle.law_answers.proofs.Takings.{left_id, left_idle, left_reads, middle_ends}
 use Rattle.sdb_types.specs.Replies.{is_fault}
 use Rattle.sdb_client.proofs.Calls.{noting_idle, noting_id}
 use Rattle.sdb_model.specs.Tables.{is_data}
@@ -197,14 +198,14 @@ module _ (catalog : List Table) (events : List Event) (states : ℕ → ClientSt
     rolls_now = subst (λ (o : Option Executed). IfSome o (λ x. WaitRolls events (reads_vacuum x.text) (calls_of events c x) h.vacuum h.txn)) waiting k.rolled.waits
 
     abbrev RollsThen : Answer → Type 0
-    RollsThen b = read_finished b ≡ true → RolledBut (E (Some b)) (reads_vacuum w.text) (ms ++ made ∷ []) []
+    RollsThen b = read_finished (ms ++ made ∷ []) b ≡ true → RolledBut (E (Some b)) (reads_vacuum w.text) (ms ++ made ∷ []) []
 
     -- what its calls come to where it is answered, and what its transaction has then noted
     abbrev CountsThen : Answer → Client → Type 0
     CountsThen b d = (reads_commit w.text ≡ true → CommitIsCounted so_noted so_id (Some b) (ms ++ made ∷ [])) × ReadByTxn (read_items_since (E (Some b)) c d.begun (k.told ++ done b ∷ [])) d.txn
 
     -- it is answered
-    answers : (b : Answer) (d : Client) → (is_conflict (Some b) ≡ false → IsCaused catalog (E (Some b)) c (done b) b) → ((key : Key) (found : Option Record) → Some b ≡ Some (answer.Conflict key found) → IsChangedIn (E (Some b)) c (k.told ++ done b ∷ []) (done b) key found) → d.number ≡ h.number → d.begun ≡ h.begun → ClientByHistory (E (Some b)) c d.begun (k.told ++ done b ∷ []) None d.plan d.txn d.vacuum → CountsThen b d → IfSome d.txn (IsFilled (E (Some b)) c (rest_of (from_begin d.begun (k.told ++ done b ∷ [])))) → IfSome d.txn (IsWellTypedTxn catalog) → RollsThen b → ShowsNext catalog (E (Some b)) c k.told (done b) b d → So (Some b) d
+    answers : (b : Answer) (d : Client) → (is_conflict (Some b) ≡ false → IsCaused catalog (E (Some b)) c (done b) b) → ((key : Key) (found : Option Record) → Some b ≡ Some (answer.Conflict key found) → IsChangedIn (E (Some b)) c (k.told ++ done b ∷ []) (done b) key found) → d.number ≡ h.number → d.begun ≡ h.begun → ClientByHistory (E (Some b)) c d.begun (k.told ++ done b ∷ []) None d.plan d.txn d.vacuum → CountsThen b d → IfSome d.txn (IsFilled (E (Some b)) c (rest_of (from_begin d.begun (k.told ++ done b ∷ [])))) → IfSome d.txn (IsFitOrReadTxn catalog (E (Some b)) c (rest_of (from_begin d.begun (k.told ++ done b ∷ [])))) → RollsThen b → ShowsNext catalog (E (Some b)) c k.told (done b) b d → So (Some b) d
     answers b d caused moves number begun stands counts filled fits rolls shows = record {
       told = k.told ++ done b ∷ [];
       waiting = None;
@@ -227,7 +228,7 @@ module _ (catalog : List Table) (events : List Event) (states : ℕ → ClientSt
       filled = filled;
       fits = fits;
       stored = all_stored (Some b);
-      rolled = rolls_end catalog c events (call_event y (Some b)) k.told k.waiting h k.answered k.rolled (done b) d (ms ++ made ∷ []) (calls_done b) (λ a e rows. rolls (ap read_finished (some_is b a e) ∙ rows));
+      rolled = rolls_end catalog c events (call_event y (Some b)) k.told k.waiting h k.answered k.rolled (done b) d (ms ++ made ∷ []) (calls_done b) (λ read. rolls read);
       shows = shows_end catalog c events (call_event y (Some b)) k.told k.answered h k.shows k.counted.paired (done b) b d refl shows;
     }
       where
@@ -235,7 +236,7 @@ module _ (catalog : List Table) (events : List Event) (states : ℕ → ClientSt
         last e = omega arith
 
     -- it goes on
-    goes_on : (d : Client) → d.number ≡ h.number → d.begun ≡ h.begun → is_some d.vacuum ≡ is_some h.vacuum → ClientByHistory (E None) c d.begun k.told (Some w) d.plan d.txn d.vacuum → ReadByTxn so_noted d.txn × WaitCounted catalog w.text so_id so_noted (ms ++ made ∷ []) d.vacuum d.txn → IfSome d.txn (IsFilled (E None) c (rest_of (from_begin d.begun k.told))) → IfSome d.txn (IsWellTypedTxn catalog) → WaitRolls (E None) (reads_vacuum w.text) (ms ++ made ∷ []) d.vacuum d.txn → (ViewBy catalog events c k.told h → IfSome d.txn (IsViewOf catalog (E None) c (rest_of (from_begin d.begun k.told)))) → So None d
+    goes_on : (d : Client) → d.number ≡ h.number → d.begun ≡ h.begun → is_some d.vacuum ≡ is_some h.vacuum → ClientByHistory (E None) c d.begun k.told (Some w) d.plan d.txn d.vacuum → ReadByTxn so_noted d.txn × WaitCounted catalog w.text so_id so_noted (ms ++ made ∷ []) d.vacuum d.txn → IfSome d.txn (IsFilled (E None) c (rest_of (from_begin d.begun k.told))) → IfSome d.txn (IsFitOrReadTxn catalog (E None) c (rest_of (from_begin d.begun k.told))) → WaitRolls (E None) (reads_vacuum w.text) (ms ++ made ∷ []) d.vacuum d.txn → (ViewBy catalog events c k.told h → IfSome d.txn (IsViewOf catalog (E None) c (rest_of (from_begin d.begun k.told)))) → So None d
     goes_on d number begun sweeps stands counts filled fits rolls sees = record {
       told = k.told;
       waiting = Some w;
@@ -262,7 +263,7 @@ module _ (catalog : List Table) (events : List Event) (states : ℕ → ClientSt
     bad_caused : (key : Key) → ObservesBad (ms ++ made ∷ []) key → IsBadRecord catalog (E (Some (answer.BadRecord key))) c (done (answer.BadRecord key)) key
     bad_caused key b =
         let g : ObservesBad (calls_of (E (Some (answer.BadRecord key))) c (done (answer.BadRecord key))) key = subst (λ cs. ObservesBad cs key) (sym (calls_done (answer.BadRecord key))) b in
-        (g.call, g.found, g.among, g.shown, g.same, inl (shown_bad (calls_of (E (Some (answer.BadRecord key))) c (done (answer.BadRecord key))) key (calls_stored (answer.BadRecord key)) g))
+        inl (g.call, g.found, g.among, g.shown, g.same, shown_bad (calls_of (E (Some (answer.BadRecord key))) c (done (answer.BadRecord key))) key (calls_stored (answer.BadRecord key)) g)
 
     ---- where it is then
 
@@ -287,8 +288,8 @@ module _ (catalog : List Table) (events : List Event) (states : ℕ → ClientSt
       open_noted = subst (ReadByTxn so_noted) some k.counted.as_read
 
       -- one that notes nothing
-      notes_as_before : (b : Answer) → read_finished b ≡ false → read_items_since (E (Some b)) c h.begun (k.told ++ done b ∷ []) ≡ so_noted
-      notes_as_before b unfinished = since_same (E (Some b)) c h.begun k.told (done b) (none_noted (E (Some b)) c (done b) unfinished) ∙ since_stay catalog events (call_event y (Some b)) c h.begun k.told k.answered
+      notes_as_before : (b : Answer) → read_finished (ms ++ made ∷ []) b ≡ false → read_items_since (E (Some b)) c h.begun (k.told ++ done b ∷ []) ≡ so_noted
+      notes_as_before b unfinished = since_same (E (Some b)) c h.begun k.told (done b) (none_noted (E (Some b)) c (done b) (ap (λ cs. read_finished cs b) (calls_done b) ∙ unfinished)) ∙ since_stay catalog events (call_event y (Some b)) c h.begun k.told k.answered
 
       -- an answer that is no Conflict
       stays : (b : Answer) → is_conflict (Some b) ≡ false → (key : Key) (found : Option Record) → Some b ≡ Some (answer.Conflict key found) → IsChangedIn (E (Some b)) c (k.told ++ done b ∷ []) (done b) key found
@@ -348,9 +349,17 @@ module _ (catalog : List Table) (events : List Event) (states : ℕ → ClientSt
         filled_now : IsFilledBy (rows_counted_by stands_open.1.body) (records_found_by events c stands_open.1.body) t.seen
         filled_now = subst (λ r. IsFilledBy (rows_counted_by (rest_of r)) (records_found_by events c (rest_of r)) t.seen) stands_open.1.since filled_reading
 
-        -- what it sees fits
-        fit_now : SeesWellTyped catalog t.seen
-        fit_now = subst (SeesWellTypedIn catalog t.seen) reads (subst (λ (o : Option TxnAt). IfSome o (IsWellTypedTxn catalog)) some k.fits)
+        body_answered : AllByRecursion (IsAnswered catalog events c) stands_open.1.body
+        body_answered = since_all (IsAnswered catalog events c) h.begun k.told stands_open.1.begin stands_open.1.body k.answered stands_open.1.since
+
+        -- what it sees fits, or a statement before read it
+        fit_reading : (result : Option Answer) → SeesFitOrRead catalog (E result) c (rest_of (from_begin h.begun k.told)) t.seen
+        fit_reading result =
+            subst (SeesFitOrReadIn catalog (E result) c (rest_of (from_begin h.begun k.told)) t.seen) reads
+            (subst (λ (o : Option TxnAt). IfSome o (IsFitOrReadTxn catalog (E result) c (rest_of (from_begin h.begun k.told)))) some (fits_stay catalog events (call_event y result) c h.begun k.told h.txn k.answered k.fits))
+
+        fit_now : (result : Option Answer) → SeesFitOrRead catalog (E result) c stands_open.1.body t.seen
+        fit_now result = subst (λ r. SeesFitOrRead catalog (E result) c (rest_of r) t.seen) stands_open.1.since (fit_reading result)
 
         -- what it sees it has
         sees_reading : (result : Option Answer) → ViewBy catalog events c k.told h → SeesOwn catalog (E result) c (rest_of (from_begin h.begun k.told)) t.seen
@@ -399,12 +408,13 @@ module _ (catalog : List Table) (events : List Event) (states : ℕ → ClientSt
         as_left n m u v e f s = subst (λ (z : Next). Left z u) (sym e) (subst (λ (z : TxnAt). Left m z) (sym f) s)
 
         -- the statement is answered, and nothing is noted
-        fails : (b : Answer) → changes_nothing b ≡ true → read_finished b ≡ false → IsMiddle b → (is_conflict (Some b) ≡ false → IsCaused catalog (E (Some b)) c (done b) b) → Left (next.Answer b) (idle t)
+        fails : (b : Answer) → changes_nothing b ≡ true → read_finished (ms ++ made ∷ []) b ≡ false → IsMiddle b → (is_conflict (Some b) ≡ false → IsCaused catalog (E (Some b)) c (done b) b) → Left (next.Answer b) (idle t)
         fails b nothing unfinished m caused =
             answers b (holding h (idle t)) caused (stays b m.agrees) refl refl
             (held b (idle t) m is.inner.commit refl refl (noted_more catalog events (call_event y (Some b)) c h.begun k.told t stands_open.1 k.answered (done b) t.seen t.seen refl refl noting_now))
             (no_fit b, subst (λ ns. ReadItemsAre ns t.seen.reads t.seen.scans) (sym (notes_as_before b unfinished)) read_so)
-            (filled_idle (E (Some b)) c h.begun k.told (done b) stands_open.1.begin stands_open.1.body (idle t) stands_open.1.since refl (filled_more events (call_event y (Some b)) c stands_open.1.body (done b) t.seen filled_now)) fit_now (λ z. clash (sym z ∙ unfinished))
+            (filled_idle (E (Some b)) c h.begun k.told (done b) stands_open.1.begin stands_open.1.body (idle t) stands_open.1.since refl (filled_more catalog events (call_event y (Some b)) c stands_open.1.body (done b) t.seen body_answered filled_now))
+            (fits_idle catalog (E (Some b)) c h.begun k.told (done b) stands_open.1.begin stands_open.1.body (idle t) stands_open.1.since refl (fits_more catalog (E (Some b)) c stands_open.1.body (done b) t.seen (fit_now (Some b)))) (λ z. clash (sym z ∙ unfinished))
             (next_same catalog c events (call_event y (Some b)) k.told k.answered h.begun stands_open.1.begin stands_open.1.body stands_open.1.since t.seen sees_now (done b) b (idle t) refl nothing refl refl)
 
         reads_further : (s : ReadStage) → ReadsBy (ms ++ made ∷ []) s → StageObserves x.request (ms ++ made ∷ []) s → ReadCounted (ms ++ made ∷ []) s → ReadRolls (E None) (reads_vacuum w.text) (ms ++ made ∷ []) s → Left next.Call (record t { doing = doing.Read a (record x { stage = s }) })
@@ -415,39 +425,58 @@ module _ (catalog : List Table) (events : List Event) (states : ℕ → ClientSt
             (record { text = is.text; inner = is.inner; stage = subst (λ cs. ReadsBy cs s) (sym calls_on) i; shows = subst (λ cs. StageObserves x.request cs s) (sym calls_on) j }))
             (noted_still catalog events (call_event y None) c h.begun k.told t stands_open.1 k.answered t.seen noting_now))
             (read_so, waits_open (ms ++ made ∷ []) (Some (record t { doing = doing.Read a (record x { stage = s }) })) (is.inner.commit, n))
-            (filled_stays events (call_event y None) c (rest_of (from_begin h.begun k.told)) (Some (record t { doing = doing.Read a (record x { stage = s }) })) filled_reading)
-            fit_now (rolls_open (Some (record t { doing = doing.Read a (record x { stage = s }) })) r) (sees_reading None)
+            (filled_stays catalog events (call_event y None) c (rest_of (from_begin h.begun k.told)) (Some (record t { doing = doing.Read a (record x { stage = s }) })) (rest_all (IsAnswered catalog events c) h.begun k.told k.answered) filled_reading)
+            (fit_reading None) (rolls_open (Some (record t { doing = doing.Read a (record x { stage = s }) })) r) (sees_reading None)
 
         -- the read, where it is done
-        has_read : (images : List Record) → read_step x.stage y.now y.reply ≡ Ended (step.Images images) → HasRead (request_of a) (ms ++ made ∷ []) images []
-        has_read images e = subst (λ (q : Request). HasRead q (ms ++ made ∷ []) images []) asked.request (subst (StageObserves x.request (ms ++ made ∷ [])) e shown)
+        was_read : (images : List Record) → read_step x.stage y.now y.reply ≡ Ended (step.Images images) → HasRead (request_of a) (ms ++ made ∷ []) images []
+        was_read images e = subst (λ (q : Request). HasRead q (ms ++ made ∷ []) images []) asked.request (subst (StageObserves x.request (ms ++ made ∷ [])) e shown)
 
-        -- what the transaction has then noted
-        noted_then : (images : List Record) (z : Answer) (u : TxnAt) → read_step x.stage y.now y.reply ≡ Ended (step.Images images)
-            → ((read_finished z ≡ false) × (u.seen ≡ t.seen)) ⊎ ((read_finished z ≡ true) × (u.seen.reads ≡ (with_rows_read t a images).seen.reads) × (u.seen.scans ≡ (with_rows_read t a images).seen.scans))
-            → SeenBy (read_items_of_body (E (Some z)) c (stands_open.1.body ++ done z ∷ [])) u.seen
-        noted_then images z u e (inl s) = noted_more catalog events (call_event y (Some z)) c h.begun k.told t stands_open.1 k.answered (done z) t.seen u.seen (ap (λ (v : Seen). v.reads) s.1) (ap (λ (v : Seen). v.scans) s.1) noting_now
-        noted_then images z u e (inr s) =
+        -- the answer that its plan then gives, by which the read has finished
+        abbrev seen_then : List Record → TxnAt
+        seen_then images = with_rows_read t a images
+
+        abbrev given_then : List Record → Answer
+        given_then images = given_answer (seen_then images) (gives p a (seen_then images))
+
+        abbrev left_then : List Record → TxnAt
+        left_then images = given_left (seen_then images) (gives p a (seen_then images))
+
+        left_rests : (images : List Record) → (left_then images).doing ≡ doing.Idle
+        left_rests images = left_idle (seen_then images) (gives p a (seen_then images)) (noting_idle t a images)
+
+        finished : (images : List Record) → read_step x.stage y.now y.reply ≡ Ended (step.Images images) → has_read (E (Some (given_then images))) c (done (given_then images)) ≡ true
+        finished images e =
+            ap (λ cs. read_finished cs (given_then images)) (calls_done (given_then images))
+            ∙ given_finishes (ms ++ made ∷ []) p (overlay a (seen_then images).seen) (seen_then images) asked.asked (λ key f. unfit_data a (seen_then images).seen p.table key own f) (read_checks a (ms ++ made ∷ []) images (was_read images e) own)
+
+        -- what the transaction has then read
+        items_last : (images : List Record) → read_step x.stage y.now y.reply ≡ Ended (step.Images images) → read_items_of_body (E (Some (given_then images))) c (done (given_then images) ∷ []) ≡ read_items (ms ++ made ∷ [])
+        items_last images e = notes_one (E (Some (given_then images))) c (done (given_then images)) (finished images e) ∙ ap read_items (calls_done (given_then images))
+
+        noted_then : (images : List Record) → read_step x.stage y.now y.reply ≡ Ended (step.Images images) → SeenBy (read_items_of_body (E (Some (given_then images))) c (stands_open.1.body ++ done (given_then images) ∷ [])) (left_then images).seen
+        noted_then images e =
+            let z : Answer = given_then images in
+            let same = left_reads (seen_then images) (gives p a (seen_then images)) in
             let front : SeenBy (read_items_of_body (E (Some z)) c stands_open.1.body) t.seen = noted_still catalog events (call_event y (Some z)) c h.begun k.told t stands_open.1 k.answered t.seen noting_now in
-            let now_seen : SeenBy (read_items_of_body (E (Some z)) c stands_open.1.body ++ read_items (ms ++ made ∷ [])) (with_rows_read t a images).seen = read_noted a (ms ++ made ∷ []) images (read_items_of_body (E (Some z)) c stands_open.1.body) t (has_read images e) own front in
-            let last : read_items_of_body (E (Some z)) c (done z ∷ []) ≡ read_items (ms ++ made ∷ []) = notes_one (E (Some z)) c (done z) s.0 ∙ ap read_items (calls_done z) in
-            let whole : read_items_of_body (E (Some z)) c (stands_open.1.body ++ done z ∷ []) ≡ read_items_of_body (E (Some z)) c stands_open.1.body ++ read_items (ms ++ made ∷ []) = notes_more (E (Some z)) c stands_open.1.body (done z) ∙ ap (λ ns. read_items_of_body (E (Some z)) c stands_open.1.body ++ ns) last in
-            subst (λ ns. SeenBy ns u.seen) (sym whole) (seen_same (read_items_of_body (E (Some z)) c stands_open.1.body ++ read_items (ms ++ made ∷ [])) (with_rows_read t a images).seen u.seen s.1 s.2 now_seen)
+            let now_seen : SeenBy (read_items_of_body (E (Some z)) c stands_open.1.body ++ read_items (ms ++ made ∷ [])) (seen_then images).seen = read_noted a (ms ++ made ∷ []) images (read_items_of_body (E (Some z)) c stands_open.1.body) t (was_read images e) own front in
+            let whole : read_items_of_body (E (Some z)) c (stands_open.1.body ++ done z ∷ []) ≡ read_items_of_body (E (Some z)) c stands_open.1.body ++ read_items (ms ++ made ∷ []) = notes_more (E (Some z)) c stands_open.1.body (done z) ∙ ap (λ ns. read_items_of_body (E (Some z)) c stands_open.1.body ++ ns) (items_last images e) in
+            subst (λ ns. SeenBy ns (left_then images).seen) (sym whole) (seen_same (read_items_of_body (E (Some z)) c stands_open.1.body ++ read_items (ms ++ made ∷ [])) (seen_then images).seen (left_then images).seen same.0 same.1 now_seen)
 
         -- and as what that is counted
-        told_noted : (images : List Record) (z : Answer) (u : TxnAt) → read_step x.stage y.now y.reply ≡ Ended (step.Images images) → ((read_finished z ≡ false) × (u.seen ≡ t.seen)) ⊎ ((read_finished z ≡ true) × (u.seen.reads ≡ (with_rows_read t a images).seen.reads) × (u.seen.scans ≡ (with_rows_read t a images).seen.scans))
-            → u.doing ≡ doing.Idle → ReadByDoing (read_items_since (E (Some z)) c h.begun (k.told ++ done z ∷ [])) u.seen u.doing
-        told_noted images z u e (inl s) idles = subst (λ ns. ReadByDoing ns u.seen u.doing) (sym (notes_as_before z s.0)) (notes_idle so_noted u.seen u.doing idles (subst (λ (v : Seen). ReadItemsAre so_noted v.reads v.scans) (sym s.1) read_so))
-        told_noted images z u e (inr s) idles =
-            let now_so : ReadItemsAre (so_noted ++ read_items (ms ++ made ∷ [])) (with_rows_read t a images).seen.reads (with_rows_read t a images).seen.scans = noted_read a (ms ++ made ∷ []) images so_noted t (has_read images e) own read_so in
-            let last : read_items_of_body (E (Some z)) c (done z ∷ []) ≡ read_items (ms ++ made ∷ []) = notes_one (E (Some z)) c (done z) s.0 ∙ ap read_items (calls_done z) in
+        told_noted : (images : List Record) → read_step x.stage y.now y.reply ≡ Ended (step.Images images) → ReadByDoing (read_items_since (E (Some (given_then images))) c h.begun (k.told ++ done (given_then images) ∷ [])) (left_then images).seen (left_then images).doing
+        told_noted images e =
+            let z : Answer = given_then images in
+            let u : TxnAt = left_then images in
+            let same = left_reads (seen_then images) (gives p a (seen_then images)) in
+            let now_so : ReadItemsAre (so_noted ++ read_items (ms ++ made ∷ [])) (seen_then images).seen.reads (seen_then images).seen.scans = noted_read a (ms ++ made ∷ []) images so_noted t (was_read images e) own read_so in
             let whole : read_items_since (E (Some z)) c h.begun (k.told ++ done z ∷ []) ≡ so_noted ++ read_items (ms ++ made ∷ []) =
-            since_open (E (Some z)) c h.begun k.told (done z) stands_open.1.begin stands_open.1.body stands_open.1.since ∙ ap (λ ns. ns ++ read_items_of_body (E (Some z)) c (done z ∷ [])) (since_stay catalog events (call_event y (Some z)) c h.begun k.told k.answered) ∙ ap (λ ns. so_noted ++ ns) last in
-            subst (λ ns. ReadByDoing ns u.seen u.doing) (sym whole) (notes_idle (so_noted ++ read_items (ms ++ made ∷ [])) u.seen u.doing idles (subst (λ rs. ReadItemsAre (so_noted ++ read_items (ms ++ made ∷ [])) rs u.seen.scans) (sym s.1) (subst (ReadItemsAre (so_noted ++ read_items (ms ++ made ∷ [])) (with_rows_read t a images).seen.reads) (sym s.2) now_so)))
+            since_open (E (Some z)) c h.begun k.told (done z) stands_open.1.begin stands_open.1.body stands_open.1.since ∙ ap (λ ns. ns ++ read_items_of_body (E (Some z)) c (done z ∷ [])) (since_stay catalog events (call_event y (Some z)) c h.begun k.told k.answered) ∙ ap (λ ns. so_noted ++ ns) (items_last images e) in
+            subst (λ ns. ReadByDoing ns u.seen u.doing) (sym whole) (notes_idle (so_noted ++ read_items (ms ++ made ∷ [])) u.seen u.doing (left_rests images) (subst (λ rs. ReadItemsAre (so_noted ++ read_items (ms ++ made ∷ [])) rs u.seen.scans) (sym same.0) (subst (ReadItemsAre (so_noted ++ read_items (ms ++ made ∷ [])) (seen_then images).seen.reads) (sym same.1) now_so)))
 
         -- with the images no more is noted than found
         filled_with : (images : List Record) → read_step x.stage y.now y.reply ≡ Ended (step.Images images) → IsFilledBy (rows_counted_by stands_open.1.body) (records_found_by events c stands_open.1.body + records_found (ms ++ made ∷ [])) (with_rows_read t a images).seen
-        filled_with images e = filled_few (rows_counted_by stands_open.1.body) (records_found_by events c stands_open.1.body) (length images) (records_found (ms ++ made ∷ [])) (with_rows_read t a images).seen (images_few a (ms ++ made ∷ []) images (has_read images e) own) (filled_noting (rows_counted_by stands_open.1.body) (records_found_by events c stands_open.1.body) t a images filled_now)
+        filled_with images e = filled_few (rows_counted_by stands_open.1.body) (records_found_by events c stands_open.1.body) (length images) (records_found (ms ++ made ∷ [])) (with_rows_read t a images).seen (images_few a (ms ++ made ∷ []) images (was_read images e) own) (filled_noting (rows_counted_by stands_open.1.body) (records_found_by events c stands_open.1.body) t a images filled_now)
 
         found_done : (b : Answer) → records_found (ms ++ made ∷ []) ≤ records_found (calls_of (E (Some b)) c (done b))
         found_done b = subst (λ cs. records_found (ms ++ made ∷ []) ≤ records_found cs) (sym (calls_done b)) (least (records_found (ms ++ made ∷ [])))
@@ -457,69 +486,48 @@ module _ (catalog : List Table) (events : List Event) (states : ℕ → ClientSt
         passes_then images e b many =
             pass_now c h.begun (E (Some b)) k.told stands_open.1.begin (done b) stands_open.1.body p.statement k.small (said_done b) stands_open.1.since stands_open.1.goes_on is.text
             (passes_given (rows_counted_by stands_open.1.body) (records_found_by (E (Some b)) c stands_open.1.body + records_found (calls_of (E (Some b)) c (done b))) (with_rows_read t a images) a p.table p.statement
-            (filled_found events (call_event y (Some b)) c stands_open.1.body (records_found (ms ++ made ∷ [])) (records_found (calls_of (E (Some b)) c (done b))) (with_rows_read t a images).seen (found_done b) (filled_with images e)) many)
+            (filled_found catalog events (call_event y (Some b)) c stands_open.1.body (records_found (ms ++ made ∷ [])) (records_found (calls_of (E (Some b)) c (done b))) (with_rows_read t a images).seen body_answered (found_done b) (filled_with images e)) many)
 
-        -- a row that doesn't fit its table was read
-        misfit_caused : (images : List Record) → read_step x.stage y.now y.reply ≡ Ended (step.Images images) → (b : Answer) (key : Key) → first_unfit p.table (overlay a (with_rows_read t a images).seen) ≡ Some key → IsBadRecord catalog (E (Some b)) c (done b) key
-        misfit_caused images e b key f =
-            let no_vacuum : reads_vacuum w.text ≡ false = waits.vacuum ∙ ap is_some free in
-            let h = has_read images e in
-            let r = misfit_read catalog p a listed of_table (ms ++ made ∷ []) t images h fit_now key own f in (
-              h.first,
-              r.0,
-              subst (λ cs. Contains cs h.first) (sym (calls_done b)) (first_in h.first h.rest (ms ++ made ∷ []) h.calls_are),
-              shown_read h.first.reply r.0 r.1,
-              r.2,
-              inr (is.inner.commit, no_vacuum, data_read a own h.first h.request, subst (λ cs. is_misfit catalog cs r.0 ≡ true) (sym (calls_done b)) r.3),
-            )
+        -- what it sees then fits, or a statement read it
+        fit_then : (images : List Record) → read_step x.stage y.now y.reply ≡ Ended (step.Images images) → SeesFitOrRead catalog (E (Some (given_then images))) c (stands_open.1.body ++ done (given_then images) ∷ []) (seen_then images).seen
+        fit_then images e =
+            sees_read catalog p a listed of_table (ms ++ made ∷ []) t images (was_read images e) own (E (Some (given_then images))) c stands_open.1.body (done (given_then images)) (calls_done (given_then images)) (finished images e)
+            (fit_now (Some (given_then images)))
+
+        -- a row that doesn't fit its table was read by it or before
+        misfit_caused : (images : List Record) → read_step x.stage y.now y.reply ≡ Ended (step.Images images) → (key : Key) → first_unfit p.table (overlay a (seen_then images).seen) ≡ Some key → IsBadRecord catalog (E (Some (given_then images))) c (done (given_then images)) key
+        misfit_caused images e key f =
+            let m = was_misfit catalog p a listed of_table (E (Some (given_then images))) c (stands_open.1.body ++ done (given_then images) ∷ []) (seen_then images).seen key (fit_then images e) f in
+            inr (meets_now catalog c h.begun (E (Some (given_then images))) k.told stands_open.1.begin (done (given_then images)) stands_open.1.body p.statement p.table key k.small (said_done (given_then images)) stands_open.1.since stands_open.1.goes_on is.text asked.named
+            (subst (λ (z : Access). in_access z key ≡ true) asked.access m.0) m.1)
 
         -- what it shows, and what its transaction then sees
-        shows_then : (images : List Record) → read_step x.stage y.now y.reply ≡ Ended (step.Images images) → ShowsNext catalog (E (Some (given_answer (with_rows_read t a images) (gives p a (with_rows_read t a images))))) c k.told (done (given_answer (with_rows_read t a images) (gives p a (with_rows_read t a images)))) (given_answer (with_rows_read t a images) (gives p a (with_rows_read t a images))) (holding h (given_left (idle t) (with_rows_read t a images) (gives p a (with_rows_read t a images))))
+        shows_then : (images : List Record) → read_step x.stage y.now y.reply ≡ Ended (step.Images images) → ShowsNext catalog (E (Some (given_then images))) c k.told (done (given_then images)) (given_then images) (holding h (left_then images))
         shows_then images e =
-            let b : Answer = given_answer (with_rows_read t a images) (gives p a (with_rows_read t a images)) in
-            read_next catalog c events (call_event y (Some b)) k.told k.answered h.begun stands_open.1.begin stands_open.1.body stands_open.1.since k.begun t sees_now (sound free t a x some reads).1 (done b) p a (ms ++ made ∷ []) images (calls_done b) (has_read images e) is_fine is.text (waits.vacuum ∙ ap is_some free) asked.named asked.asked asked.access refl
-            (fits_now catalog p a listed of_table (ms ++ made ∷ []) t images (has_read images e) fit_now)
+            read_next catalog c events (call_event y (Some (given_then images))) k.told k.answered h.begun stands_open.1.begin stands_open.1.body stands_open.1.since k.begun t sees_now (sound free t a x some reads).1 (done (given_then images)) p a (ms ++ made ∷ []) images (calls_done (given_then images)) (was_read images e) is_fine is.text (waits.vacuum ∙ ap is_some free) asked.named asked.asked asked.access refl
+            (finished images e)
 
-        tells : (images : List Record) → read_step x.stage y.now y.reply ≡ Ended (step.Images images) → Left (next.Answer (given_answer (with_rows_read t a images) (gives p a (with_rows_read t a images)))) (given_left (idle t) (with_rows_read t a images) (gives p a (with_rows_read t a images)))
+        tells : (images : List Record) → read_step x.stage y.now y.reply ≡ Ended (step.Images images) → Left (next.Answer (given_then images)) (left_then images)
         tells images e =
-            let v = with_rows_read t a images in
+            let v : TxnAt = seen_then images in
+            let b : Answer = given_then images in
             let m = given_middle p (overlay a v.seen) v in
-            answers (given_answer v (gives p a v)) (holding h (given_left (idle t) v (gives p a v)))
-            (given_caused catalog (E (Some (given_answer v (gives p a v)))) c (done (given_answer v (gives p a v))) p (overlay a v.seen) v is.text asked.named asked.asked (open_before (given_answer v (gives p a v))) (misfit_caused images e (given_answer v (gives p a v))) (passes_then images e (given_answer v (gives p a v)))) (stays (given_answer v (gives p a v)) m.agrees) refl refl
-            (held (given_answer v (gives p a v)) (given_left (idle t) v (gives p a v)) m is.inner.commit (left_id (idle t) v (gives p a v) (sym (noting_id t a images)) ∙ noting_id t a images) (left_idle (idle t) v (gives p a v) refl (noting_idle t a images))
-            (noted_then images (given_answer v (gives p a v)) (given_left (idle t) v (gives p a v)) e (left_by (idle t) v (gives p a v) (gives_finished p (overlay a v.seen) v))))
-            (no_fit (given_answer v (gives p a v)), told_noted images (given_answer v (gives p a v)) (given_left (idle t) v (gives p a v)) e (left_by (idle t) v (gives p a v) (gives_finished p (overlay a v.seen) v)) (left_idle (idle t) v (gives p a v) refl (noting_idle t a images)))
-            (filled_idle (E (Some (given_answer v (gives p a v)))) c h.begun k.told (done (given_answer v (gives p a v))) stands_open.1.begin stands_open.1.body (given_left (idle t) v (gives p a v)) stands_open.1.since (left_idle (idle t) v (gives p a v) refl (noting_idle t a images))
-            (filled_given events (call_event y (Some (given_answer v (gives p a v)))) c stands_open.1.body (done (given_answer v (gives p a v))) p (overlay a v.seen) (idle t) v (records_found (ms ++ made ∷ [])) refl (found_done (given_answer v (gives p a v))) filled_now (filled_with images e)))
-            (subst (SeesWellTypedIn catalog (given_left (idle t) v (gives p a v)).seen) (sym (left_idle (idle t) v (gives p a v) refl (noting_idle t a images)))
-            (given_fits catalog p a listed of_table is_fine asked.named asked.asked asked.taken asked.literals asked.access (idle t) v fit_now (fits_now catalog p a listed of_table (ms ++ made ∷ []) t images (has_read images e) fit_now)))
-            (λ z. subst (ReadRolls (E (Some (given_answer v (gives p a v)))) (reads_vacuum w.text) (ms ++ made ∷ [])) e (rolled_read (Some (given_answer v (gives p a v))))) (shows_then images e)
+            answers b (holding h (left_then images)) (given_caused catalog (E (Some b)) c (done b) p (overlay a v.seen) v is.text asked.named asked.asked (open_before b) (misfit_caused images e) (passes_then images e b)) (stays b m.agrees) refl refl
+            (held b (left_then images) m is.inner.commit (left_id v (gives p a v) ∙ noting_id t a images) (left_rests images) (noted_then images e))
+            (no_fit b, told_noted images e)
+            (filled_idle (E (Some b)) c h.begun k.told (done b) stands_open.1.begin stands_open.1.body (left_then images) stands_open.1.since (left_rests images)
+            (filled_given catalog events (call_event y (Some b)) c stands_open.1.body (done b) p (overlay a v.seen) v (records_found (ms ++ made ∷ [])) body_answered refl (finished images e) (found_done b) (filled_with images e)))
+            (fits_idle catalog (E (Some b)) c h.begun k.told (done b) stands_open.1.begin stands_open.1.body (left_then images) stands_open.1.since (left_rests images)
+            (given_fits catalog p a listed of_table is_fine asked.named asked.asked asked.taken asked.literals asked.access (E (Some b)) c (stands_open.1.body ++ done b ∷ []) v (fit_then images e)))
+            (λ z. subst (ReadRolls (E (Some b)) (reads_vacuum w.text) (ms ++ made ∷ [])) e (rolled_read (Some b))) (shows_then images e)
 
         -- a key that was read differs
-        moves_now : (images : List Record) (key : Key) (found : Option Record) → read_step x.stage y.now y.reply ≡ Ended (step.Images images) → (z : Access) → a ≡ z → IsChangedAt t z images key found → SeenBy (read_items_of_body events c stands_open.1.body) t.seen
-            → ChangesAtScan (ms ++ made ∷ []) (read_items_of_body events c stands_open.1.body) key found
-        moves_now images key found e (access.Get k) is_it moved by_notes = absurd moved
-        moves_now images key found e (access.Scan span) is_it moved by_notes =
-            let r : HasRead (request_of a) (ms ++ made ∷ []) images [] = has_read images e in
-            let s : HasRead (ask.Scan span) (ms ++ made ∷ []) images [] = subst (λ (v : Access). HasRead (request_of v) (ms ++ made ∷ []) images []) is_it r in
-            let shows = scan_shows (ms ++ made ∷ []) span images key s in (
-              s.first,
-              span,
-              shows.0,
-              first_in s.first s.rest (ms ++ made ∷ []) s.calls_are,
-              s.request,
-              shows.1,
-              moved.inside,
-              moved.stands ∙ sym shows.2,
-              subst (HasChanged (read_items_of_body events c stands_open.1.body) key) (sym moved.stands) (differs_moved (read_items_of_body events c stands_open.1.body) t.seen images key by_notes (sound free t a x some reads).0 moved.moved),
-            )
-
         moved_now : (images : List Record) (key : Key) (found : Option Record) → read_step x.stage y.now y.reply ≡ Ended (step.Images images) → IsChangedAt t a images key found → ends (done (answer.Conflict key found)) ≡ true
             → (other : Key) (others : Option Record) → Some (answer.Conflict key found) ≡ Some (answer.Conflict other others)
             → IsChangedIn (E (Some (answer.Conflict key found))) c (k.told ++ done (answer.Conflict key found) ∷ []) (done (answer.Conflict key found)) other others
         moved_now images key found e moved over other others same =
             let b : Answer = answer.Conflict key found in
-            let here : ChangesAtScan (ms ++ made ∷ []) (read_items_of_body events c stands_open.1.body) key found = moves_now images key found e a refl moved noting_now in
+            let here : ChangesAtScan (ms ++ made ∷ []) (read_items_of_body events c stands_open.1.body) key found = changed_scan (ms ++ made ∷ []) (read_items_of_body events c stands_open.1.body) t a images key found (was_read images e) (sound free t a x some reads).0 noting_now moved in
             let keys : key ≡ other = cc in
             let founds : found ≡ others = cc in
             record {
@@ -537,7 +545,7 @@ module _ (catalog : List Table) (events : List Event) (states : ℕ → ClientSt
             }
 
         images_case : (images : List Record) → read_step x.stage y.now y.reply ≡ Ended (step.Images images) → (n : Next) (u : TxnAt) → RowsReadPost t p a images n u → Left n u
-        images_case images ends_at (next.Answer z) u e = as_left (next.Answer z) (next.Answer (given_answer (with_rows_read t a images) (gives p a (with_rows_read t a images)))) u _ (ap next.Answer e.1) e.2 (tells images ends_at)
+        images_case images ends_at (next.Answer z) u e = as_left (next.Answer z) (next.Answer (given_then images)) u _ (ap next.Answer e.1) e.2 (tells images ends_at)
         images_case images ends_at (next.End (answer.Conflict key found)) u e =
             let over : ends (done (answer.Conflict key found)) ≡ true = ap (λ b. b || true || (reads_rollback w.text && false)) is.inner.commit in
             answers (answer.Conflict key found) (resting h) (λ z. clash z) (moved_now images key found ends_at e over) refl refl (ended (answer.Conflict key found) over) (no_fit (answer.Conflict key found), tt) tt tt (λ z. clash (sym z)) ((λ was. tt), tt)
@@ -554,7 +562,9 @@ module _ (catalog : List Table) (events : List Event) (states : ℕ → ClientSt
         stage_case (Ended step.Faulted) e n u z =
             as_left n (next.Answer answer.Faulted) u (idle t) z.0 z.1
             (fails answer.Faulted refl refl (record { undone = refl; agrees = refl }) (λ g. subst (HasReply is_fault) (sym (calls_done answer.Faulted)) (subst (LedBy (E (Some answer.Faulted)) (ms ++ made ∷ [])) e (leads (Some answer.Faulted)))))
-        stage_case (Ended (step.BadRecord key)) e n u z = as_left n (next.Answer (answer.BadRecord key)) u (idle t) z.0 z.1 (fails (answer.BadRecord key) refl refl (record { undone = refl; agrees = refl }) (λ g. bad_caused key (subst (LedBy (E (Some (answer.BadRecord key))) (ms ++ made ∷ [])) e (leads (Some (answer.BadRecord key))))))
+        stage_case (Ended (step.BadRecord key)) e n u z =
+            let bad : ObservesBad (ms ++ made ∷ []) key = subst (LedBy (E (Some (answer.BadRecord key))) (ms ++ made ∷ [])) e (leads (Some (answer.BadRecord key))) in
+            as_left n (next.Answer (answer.BadRecord key)) u (idle t) z.0 z.1 (fails (answer.BadRecord key) refl (bad_unfinished (ms ++ made ∷ []) key bad) (record { undone = refl; agrees = refl }) (λ g. bad_caused key bad))
         stage_case (Ended step.NoMemory) e n u z = absurd z
 
         read_case : (n : Next) (u : TxnAt) → CallPost t p a x y.reply y.now n u → Left n u
@@ -645,7 +655,7 @@ module _ (catalog : List Table) (events : List Event) (states : ℕ → ClientSt
         is_over : (a : Outcome) → then_at ≡ Over a → So (Some (answer_of_outcome a)) (resting h)
         is_over a e =
             answers (answer_of_outcome a) (resting h) (end_caused a (subst (StageByCalls j.work (ms ++ made ∷ [])) e then_stands)) (ends_moved a e) refl refl (ended (answer_of_outcome a) (over_done (answer_of_outcome a)))
-            (λ z. subst (λ (i : TxId). CommitIsCounted so_noted i (Some (answer_of_outcome a)) (ms ++ made ∷ [])) commit_so.1 (commit_over so_noted j.work (ms ++ made ∷ []) a (subst (CommitCounted so_noted j.work (ms ++ made ∷ [])) e counted_commit) (subst (StageByCalls j.work (ms ++ made ∷ [])) e then_stands)), tt) tt tt (λ z. clash (sym z ∙ outcome_rows a))
+            (λ z. subst (λ (i : TxId). CommitIsCounted so_noted i (Some (answer_of_outcome a)) (ms ++ made ∷ [])) commit_so.1 (commit_over so_noted j.work (ms ++ made ∷ []) a (subst (CommitCounted so_noted j.work (ms ++ made ∷ [])) e counted_commit) (subst (StageByCalls j.work (ms ++ made ∷ [])) e then_stands)), tt) tt tt (λ z. clash (sym z ∙ outcome_rows j.work.id (ms ++ made ∷ []) a (subst (StageByCalls j.work (ms ++ made ∷ [])) e then_stands)))
             ((λ was. outcome_tells catalog (E (Some (answer_of_outcome a))) c (rest_of (from_begin (begun_in k.told) k.told)) (done (answer_of_outcome a)) a), tt)
 
         commits_on : (u : TxnAt) (m : CommitAt) → u.id ≡ t.id → u.doing ≡ doing.Commit m → m.work ≡ j.work → StageByCalls j.work (ms ++ made ∷ []) m.stage → ((ns : List ReadItem) → ChecksBy ns j.work (ms ++ made ∷ []) then_at → ChecksBy ns j.work (ms ++ made ∷ []) m.stage) → CommitCounted so_noted j.work (ms ++ made ∷ []) m.stage → So None (record h { txn = Some u })
@@ -669,7 +679,7 @@ module _ (catalog : List Table) (events : List Event) (states : ℕ → ClientSt
               waits_open (ms ++ made ∷ []) (Some u) (subst (DoingCounted w.text so_id so_noted (ms ++ made ∷ [])) (sym does)
                   (is.text, ap (λ (z : Work). z.id) work ∙ commit_so.1, subst (λ (z : Work). AllByRecursion IsWrite z.writes) (sym work) commit_so.2, subst (λ (z : Work). CommitCounted so_noted z (ms ++ made ∷ []) m.stage) (sym work) counts)),
             )
-            (subst (IsFilledIn (E None) c (rest_of (from_begin h.begun k.told)) u.seen) (sym does) tt) (subst (SeesWellTypedIn catalog u.seen) (sym does) tt) (rolls_open (Some u) (subst (DoingRolls (E None) (reads_vacuum w.text) (ms ++ made ∷ [])) (sym does) tt)) (λ z. subst (SeesOwnIn catalog (E None) c (rest_of (from_begin h.begun k.told)) u.seen) (sym does) tt)
+            (subst (IsFilledIn (E None) c (rest_of (from_begin h.begun k.told)) u.seen) (sym does) tt) (subst (SeesFitOrReadIn catalog (E None) c (rest_of (from_begin h.begun k.told)) u.seen) (sym does) tt) (rolls_open (Some u) (subst (DoingRolls (E None) (reads_vacuum w.text) (ms ++ made ∷ [])) (sym does) tt)) (λ z. subst (SeesOwnIn catalog (E None) c (rest_of (from_begin h.begun k.told)) u.seen) (sym does) tt)
 
         by_stage : (m : Stage) → IsNext j.work j.stage y.reply m → StageByCalls j.work (ms ++ made ∷ []) m
         by_stage m z = next_by (StageByCalls j.work (ms ++ made ∷ [])) j.work j.stage y.reply m z then_stands (starved_stands j.work (ms ++ made ∷ []) then_at then_stands)
@@ -705,16 +715,7 @@ module _ (catalog : List Table) (events : List Event) (states : ℕ → ClientSt
       no_commit = other_no_commit w.text statement.Vacuum reads_it (λ e. cc)
 
       sweeps_data : SweepsData v.stage
-      sweeps_data = by v.stage (subst (λ (o : Option VacuumAt). IfSome o (IsVacuumIn catalog)) runs about.vacuum).0
-        where
-          rows : (left : List Record) → AllByRecursion (λ (r : Record). IsIn catalog r.key) left → AllByRecursion (λ (r : Record). IsDataTable r.key.table) left
-          rows left h = each_any (λ (r : Record). IsIn catalog r.key) (λ (r : Record). IsDataTable r.key.table) left (λ r z. apart r.key z) h
-
-          by : (s : VacuumStage) → IsVacuumStageIn catalog s → SweepsData s
-          by (Scanning span) i = data_table span.table i
-          by (Sweeping.Resolving rec meta p left) i = rows left i.1
-          by (Removing b left) i = rows left i.1
-          by Sweeping.Over i = tt
+      sweeps_data = sweeps_of catalog apart v.stage (subst (λ (o : Option VacuumAt). IfSome o (IsVacuumIn catalog)) runs about.vacuum).0
 
       led : SweepLed (E None) ms made older y.now (clock_now None) (vacuum_step v y.now y.reply)
       led = step_led (E None) ms made older y.now (clock_now None) v.spans v.removed v.stage sweeps_data is.2.0 is.2.1 (subst (λ (o : Option VacuumAt). pending_by o h.txn ≡ Some y.request) runs called.waiting.pending) called.can
@@ -730,7 +731,7 @@ module _ (catalog : List Table) (events : List Event) (states : ℕ → ClientSt
 
       -- another call is pending
       sweeps_on : (left : VacuumAt) → VacuumBy (ms ++ made ∷ []) left → VacuumIsCounted catalog (ms ++ made ∷ []) left → VacuumRolls (E None) (reads_vacuum w.text) (ms ++ made ∷ []) left.stage → So None (record h { vacuum = Some left })
-      sweeps_on left by counts rolls = goes_on (record h { vacuum = Some left }) refl refl (sym (ap is_some runs)) (is.0, is.1, subst (λ cs. VacuumBy cs left) (sym calls_on) by) (k.counted.as_read, counts) (subst (λ (o : Option TxnAt). IfSome o (IsFilled (E None) c (rest_of (from_begin h.begun k.told)))) (sym is.0) tt) (subst (λ (o : Option TxnAt). IfSome o (IsWellTypedTxn catalog)) (sym is.0) tt) rolls (λ z. subst (λ (o : Option TxnAt). IfSome o (IsViewOf catalog (E None) c (rest_of (from_begin h.begun k.told)))) (sym is.0) tt)
+      sweeps_on left by counts rolls = goes_on (record h { vacuum = Some left }) refl refl (sym (ap is_some runs)) (is.0, is.1, subst (λ cs. VacuumBy cs left) (sym calls_on) by) (k.counted.as_read, counts) (subst (λ (o : Option TxnAt). IfSome o (IsFilled (E None) c (rest_of (from_begin h.begun k.told)))) (sym is.0) tt) (subst (λ (o : Option TxnAt). IfSome o (IsFitOrReadTxn catalog (E None) c (rest_of (from_begin h.begun k.told)))) (sym is.0) tt) rolls (λ z. subst (λ (o : Option TxnAt). IfSome o (IsViewOf catalog (E None) c (rest_of (from_begin h.begun k.told)))) (sym is.0) tt)
 
       -- it is answered
       sweep_ends : (b : Answer) → IsMiddle b → (is_conflict (Some b) ≡ false → IsCaused catalog (E (Some b)) c (done b) b) → RollsThen b → So (Some b) (record h { vacuum = None })
@@ -738,7 +739,7 @@ module _ (catalog : List Table) (events : List Event) (states : ℕ → ClientSt
           answers b (record h { vacuum = None }) caused (unmoved (E (Some b)) c (k.told ++ done b ∷ []) (done b) b refl m.agrees) refl refl
           (subst (DoingByHistory (E (Some b)) c h.begun (k.told ++ done b ∷ []) None h.plan) (sym is.0) (refl, after_more k.told (done b) ∙ ap (λ x. is_open_after x (done b)) is.1 ∙ after_plain false (done b) (begins_none b) (λ e. clash (sym e))))
           (λ e. clash (sym e ∙ no_commit), subst (ReadByTxn (read_items_since (E (Some b)) c h.begun (k.told ++ done b ∷ []))) (sym is.0) tt)
-          (subst (λ (o : Option TxnAt). IfSome o (IsFilled (E (Some b)) c (rest_of (from_begin h.begun (k.told ++ done b ∷ []))))) (sym is.0) tt) (subst (λ (o : Option TxnAt). IfSome o (IsWellTypedTxn catalog)) (sym is.0) tt) rolls ((λ was. clash (sym was ∙ is.1)), subst (λ (o : Option TxnAt). IfSome o (IsViewOf catalog (E (Some b)) c (rest_of (from_begin h.begun (k.told ++ done b ∷ []))))) (sym is.0) tt)
+          (subst (λ (o : Option TxnAt). IfSome o (IsFilled (E (Some b)) c (rest_of (from_begin h.begun (k.told ++ done b ∷ []))))) (sym is.0) tt) (subst (λ (o : Option TxnAt). IfSome o (IsFitOrReadTxn catalog (E (Some b)) c (rest_of (from_begin h.begun (k.told ++ done b ∷ []))))) (sym is.0) tt) rolls ((λ was. clash (sym was ∙ is.1)), subst (λ (o : Option TxnAt). IfSome o (IsViewOf catalog (E (Some b)) c (rest_of (from_begin h.begun (k.told ++ done b ∷ []))))) (sym is.0) tt)
 
       as_swept : (r result : Option Answer) (x o : Option VacuumAt) → result ≡ r → o ≡ x → So r (record h { vacuum = x }) → So result (record h { vacuum = o })
       as_swept r result x o e f g = subst (λ (z : Option Answer). So z (record h { vacuum = o })) (sym e) (subst (λ (z : Option VacuumAt). So r (record h { vacuum = z })) (sym f) g)
@@ -754,7 +755,8 @@ module _ (catalog : List Table) (events : List Event) (states : ℕ → ClientSt
           (sweep_ends answer.Faulted (record { undone = refl; agrees = refl }) (λ t. subst (HasReply is_fault) (sym (calls_done answer.Faulted)) (subst (VacuumEndBy (ms ++ made ∷ [])) (sym g.1) led.1)) (λ z. clash (sym z)))
       sweeps_told (vacuuming.BadRecord key) left result o g a e =
           as_swept (Some (answer.BadRecord key)) result None o a e
-          (sweep_ends (answer.BadRecord key) (record { undone = refl; agrees = refl }) (λ t. bad_caused key (subst (VacuumEndBy (ms ++ made ∷ [])) (sym g.1) led.1)) (λ z. clash (sym z)))
+          (sweep_ends (answer.BadRecord key) (record { undone = refl; agrees = refl }) (λ t. bad_caused key (subst (VacuumEndBy (ms ++ made ∷ [])) (sym g.1) led.1))
+          (λ z. clash (sym z ∙ bad_unfinished (ms ++ made ∷ []) key (subst (VacuumEndBy (ms ++ made ∷ [])) (sym g.1) led.1))))
       sweeps_told vacuuming.NoMemory left result o g a e = as_swept (Some answer.NoMemory) result None o a e (sweep_ends answer.NoMemory (record { undone = refl; agrees = refl }) (λ t. tt) (λ z. clash (sym z)))
 
       sweeps_case : (result : Option Answer) (o : Option VacuumAt) → VacuumPost v y.reply y.now result o → So result (record h { vacuum = o })

@@ -1,13 +1,15 @@
 -- The unresolved records that a client's statements found are dealt with, as events come, and what follows of them.
-use Rattle.std.proofs.Common.{◌≡◌, ◌≤◌, ◌+◌, ◌⊎◌, inl, inr, ℕ, ℤ, Bool, true, false, List, [], ◌∷◌, ◌++◌, length, Option, Some, None, refl, sym, ap, subst, ◌∙◌, arith}
+use Rattle.std.proofs.Common.{◌≡◌, ◌≤◌, ◌⊎◌, inl, inr, ℕ, ℤ, Bool, true, false, List, [], ◌∷◌, ◌++◌, length, Option, Some, None, refl, sym, ap, subst, ◌∙◌, arith}
 use Rattle.std.specs.Prelude.{nat_lt, is_some, IfSome, Contains}
 use Rattle.std.specs.List.{AllByRecursion}
+use Rattle.std.specs.Option.{option_map_or}
 use Rattle.std.proofs.lemmas.List.Elements.{Contains-append_cases, Contains-push_cases}
 use Rattle.sdb_types.specs.declared.record.Record.{Record}
-use Rattle.sdb_types.proofs.Basics.{none_some}
+use Rattle.sdb_types.proofs.Basics.{clash}
 use Rattle.sdb_record.specs.Coordinator.{is_expired}
 use Rattle.sdb_schema.specs.declared.table.Table.{Table}
-use Rattle.sdb_model.specs.ReadSet.{read_finished}
+use Rattle.sdb_types.specs.declared.txid.TxId.{TxId}
+use Rattle.sdb_model.specs.ReadSet.{has_finished, read_finished}
 use Rattle.sdb_model.specs.declared.answer.Answer.{Answer}
 use Rattle.sdb_model.specs.declared.event.Event.{Event}
 use Rattle.sdb_model.specs.Calls.{StoreCall, calls_after, calls_of}
@@ -28,10 +30,12 @@ use Rattle.sdb_txn.specs.Txn.{TxnAt}
 use Rattle.sdb_vacuum.specs.Vacuum as vacuum
 use Rattle.sdb_vacuum.specs.Vacuum.{VacuumAt, VacuumStage}
 use Rattle.sdb_client.specs.Client.{ClientAt}
+use Rattle.law_answers.specs.Commits.{EndsBy}
 use Rattle.law_answers.specs.Rolled.{AnsweredWereSeen, DoingRolls, IsDealtWith, IsRolledBy, IsRolledIn, ReadRolls, RecordsAreRolled, RolledBut, RollsBy, VacuumRolls, WaitRolls}
 use Rattle.law_answers.specs.Invariant.{CauseInvariant, IsAnswered, IsWaiting, Knows}
-use Rattle.law_answers.proofs.Calls.{calls_stay, clock_same, of_within}
+use Rattle.law_answers.proofs.Calls.{calls_stay, clock_same, of_within, read_stays}
 use Rattle.law_answers.proofs.Lists.{each_in, kept_in}
+use Rattle.law_answers.proofs.Rows.{bad_unfinished}
 
 after_in : (n : ℕ) (ms : List StoreCall) (m : StoreCall) → Contains (calls_after n ms) m → Contains ms m
 after_in n ms m has = kept_in (λ (x : StoreCall). nat_lt n x.at) ms m has
@@ -88,7 +92,7 @@ module _ (catalog : List Table) (c : ℕ) (events : List Event) (e : Event) wher
 
   still_rolled : (ss : List Executed) → AllByRecursion (IsAnswered catalog events c) ss → AllByRecursion (IsRolledIn events c) ss → AllByRecursion (IsRolledIn now_events c) ss
   still_rolled [] all h = tt
-  still_rolled (s ∷ ss) all h = (λ a is rows. subst (λ ms. RolledBut now_events (reads_vacuum s.text) ms []) (sym (calls_stay c events e s all.0.given all.0.is all.0.answered)) (but_still events e (reads_vacuum s.text) (calls_of events c s) (of_within c events s) [] (h.0 a is rows)), still_rolled ss all.1 h.1)
+  still_rolled (s ∷ ss) all h = (λ read. subst (λ ms. RolledBut now_events (reads_vacuum s.text) ms []) (sym (calls_stay c events e s all.0.given all.0.is all.0.answered)) (but_still events e (reads_vacuum s.text) (calls_of events c s) (of_within c events s) [] (h.0 (sym (read_stays c events e s all.0.given all.0.is all.0.answered) ∙ read))), still_rolled ss all.1 h.1)
 
   module _ (told : List Executed) (o : Option Executed) (h : ClientAt) (all : AllByRecursion (IsAnswered catalog events c) told) (k : RollsBy events c told o h) where
     -- where the calls of the one that waits stay
@@ -104,9 +108,9 @@ module _ (catalog : List Table) (c : ℕ) (events : List Event) (e : Event) wher
     rolls_on w d calls are waits = record { answered = still_rolled told all k.answered; waits = subst (λ ms. WaitRolls now_events (reads_vacuum w.text) ms d.vacuum d.txn) (sym are) waits }
 
     -- where one is answered, with these calls
-    pub rolls_end : (w : Executed) (d : ClientAt) (calls : List StoreCall) → calls_of now_events c w ≡ calls → ((a : Answer) → w.answer ≡ Some a → read_finished a ≡ true → RolledBut now_events (reads_vacuum w.text) calls []) → RollsBy now_events c (told ++ w ∷ []) None d
+    pub rolls_end : (w : Executed) (d : ClientAt) (calls : List StoreCall) → calls_of now_events c w ≡ calls → (has_finished calls w ≡ true → RolledBut now_events (reads_vacuum w.text) calls []) → RollsBy now_events c (told ++ w ∷ []) None d
     rolls_end w d calls are rolled = record {
-      answered = each_more (IsRolledIn now_events c) told w (still_rolled told all k.answered) (λ a is rows. subst (λ ms. RolledBut now_events (reads_vacuum w.text) ms []) (sym are) (rolled a is rows));
+      answered = each_more (IsRolledIn now_events c) told w (still_rolled told all k.answered) (λ read. subst (λ ms. RolledBut now_events (reads_vacuum w.text) ms []) (sym are) (rolled (sym (ap (λ ms. has_finished ms w) are) ∙ read)));
       waits = tt;
     }
 
@@ -121,14 +125,14 @@ module _ (c : ℕ) (events : List Event) (e : Event) (w : Executed) where
   sweeps_so_far = sweep_still events e (reads_vacuum w.text) (calls_of events c w) (of_within c events w)
 
 -- no outcome of a COMMIT says what rows were seen
-pub outcome_rows : (a : Outcome) → read_finished (answer_of_outcome a) ≡ false
-outcome_rows outcome.Committed = refl
-outcome_rows (outcome.Conflict key found) = refl
-outcome_rows (outcome.Expired id) = refl
-outcome_rows outcome.Faulted = refl
-outcome_rows (outcome.Unknown id) = refl
-outcome_rows (outcome.BadRecord key) = refl
-outcome_rows outcome.NoMemory = refl
+pub outcome_rows : (id : TxId) (calls : List StoreCall) (a : Outcome) → EndsBy id calls a → read_finished calls (answer_of_outcome a) ≡ false
+outcome_rows id calls outcome.Committed ends = refl
+outcome_rows id calls (outcome.Conflict key found) ends = refl
+outcome_rows id calls (outcome.Expired u) ends = refl
+outcome_rows id calls outcome.Faulted ends = refl
+outcome_rows id calls (outcome.Unknown u) ends = refl
+outcome_rows id calls (outcome.BadRecord key) ends = bad_unfinished calls key ends.1
+outcome_rows id calls outcome.NoMemory ends = refl
 
 ---- what follows
 
@@ -142,14 +146,14 @@ module _ (catalog : List Table) (events : List Event) (c : ℕ) (h : ClientAt) (
         where
           only : Contains [] s ⊎ (w ≡ s) → IsRolledIn events c s
           only (inl y) = absurd (omega (arith, y.1))
-          only (inr same) = λ a is rows. none_some a (sym waits.unanswered ∙ ap (λ (z : Executed). z.answer) same ∙ is)
+          only (inr same) = λ read. clash (sym read ∙ ap (λ (o : Option Answer). option_map_or (read_finished (calls_of events c s)) o false) (sym (ap (λ (z : Executed). z.answer) same) ∙ waits.unanswered))
 
       either : Contains k.told s ⊎ Contains (waiting_of k.waiting) s → IsRolledIn events c s
       either (inl x) = each_in (IsRolledIn events c) k.told s k.rolled.answered x
       either (inr x) = last k.waiting k.waits x
 
 pub records_rolled : (catalog : List Table) (events : List Event) (now : ℤ) (states : ℕ → ClientState) → CauseInvariant catalog events now states → RecordsAreRolled events
-records_rolled catalog events now states ex c s a m r has is rows among reads found open_still = by (said_rolled catalog events c (states c).client (ex.each c) s has a is rows m r among reads found open_still)
+records_rolled catalog events now states ex c s m r has read among reads found open_still = by (said_rolled catalog events c (states c).client (ex.each c) s has read m r among reads found open_still)
   where
     by : Contains [] r ⊎ IsDealtWith events (reads_vacuum s.text) (calls_of events c s) m r → IsRolledBy (calls_of events c s) m r ⊎ IsPassedOver events s (calls_of events c s) m r
     by (inl k) = absurd (omega (arith, k.1))
@@ -157,7 +161,7 @@ records_rolled catalog events now states ex c s a m r has is rows among reads fo
 
 -- where each call that was answered was seen, the rolls were
 pub all_resolved : (events : List Event) → RecordsAreRolled events → AnsweredWereSeen events → AreResolved events
-all_resolved events rolled seen c s a m r has is rows among reads found open_still = by (rolled c s a m r has is rows among reads found open_still)
+all_resolved events rolled seen c s m r has read among reads found open_still = by (rolled c s m r has read among reads found open_still)
   where
     by : IsRolledBy (calls_of events c s) m r ⊎ IsPassedOver events s (calls_of events c s) m r → IsResolved (calls_of events c s) m r ⊎ IsPassedOver events s (calls_of events c s) m r
     by (inl h) = inl (record {

@@ -20,7 +20,7 @@ use Rattle.sdb_record.specs.declared.coordinator.Decision.{Decision}
 use Rattle.sdb_record.specs.declared.coordinator.Decision.TheVariants as decision
 use Rattle.sdb_record.specs.declared.meta.Meta.{Meta}
 use Rattle.sdb_record.specs.Coordinator.{coordinator_key_of, coordinator_row_of, decision_in, is_expired}
-use Rattle.sdb_record.specs.Meta.{checked, id_in, is_committed, is_moment, is_unresolved}
+use Rattle.sdb_record.specs.Meta.{checked, id_in, is_moment, is_unresolved}
 use Rattle.sdb_record.specs.Parts.{before_record}
 use Rattle.sdb_record.specs.Rolls.{back_to, forward_record, is_tombstone, undo}
 use Rattle.sdb_record.proofs.ImageLaws.{row-decision, row-key}

@@ -1,11 +1,12 @@
 -- Calls for the row of a transaction, and what they show of its decision, as calls come.
-use Rattle.std.proofs.Common.{◌≡◌, ◌≤◌, ◌<◌, ℕ, Bool, true, false, not, List, [], ◌∷◌, ◌++◌, Option, Some, None, Ok, Err, refl, sym, ap, subst, ◌∙◌, arith}
-use Rattle.std.specs.Prelude.{if◌then◌else◌, filter, nat_lt, is_some, All, Contains, MatchBool}
-use Rattle.std.specs.List.{AllByRecursion}
+use Rattle.std.proofs.Common.{◌≡◌, ◌≤◌, ◌<◌, ℕ, Bool, true, false, not, List, [], ◌∷◌, ◌++◌, Option, Some, None, Ok, Err, inl, inr, ◌⊎◌, refl, sym, ap, subst, ◌∙◌, arith}
+use Rattle.std.specs.Prelude.{if◌then◌else◌, ◌&&◌, filter, nat_lt, is_some, All, Contains, MatchBool}
+use Rattle.std.specs.List.{AllByRecursion, list_all}
 use Rattle.std.specs.Option.{option_and_then, option_map_or}
 use Rattle.std.specs.Ordering.{is_eq}
 use Rattle.std.specs.Cmp.{tied_itself}
 use Rattle.std.specs.Result.{result_ok}
+use Rattle.std.proofs.lemmas.Bool.{and_parts}
 use Rattle.std.proofs.lemmas.Bool.Decides.{nat_tests}
 use Rattle.std.proofs.lemmas.List.{append-nil}
 use Rattle.std.proofs.lemmas.List.Elements.{All-from_recursion, Contains-append_left, Contains-push, filter-append}
@@ -23,7 +24,9 @@ use Rattle.sdb_record.specs.declared.coordinator.Decision.{Decision}
 use Rattle.sdb_record.specs.declared.coordinator.Decision.TheVariants as decision
 use Rattle.sdb_record.specs.Coordinator.{coordinator_key_of, decision_in, is_coordinator_table}
 use Rattle.sdb_record.specs.Meta.{checked, is_transactional}
-use Rattle.sdb_model.specs.Calls.{StoreCall, calls_after, calls_before, decision_found, decision_learned, decision_in_reply, decision_observed, is_of_row, key_asked, records_observed, record_at_key}
+use Rattle.sdb_model.specs.Calls.{StoreCall, calls_after, calls_before, decision_found, decision_learned, decision_in_reply, decision_observed, is_of_row, key_asked, records_observed, records_read, record_at_key}
+use Rattle.sdb_model.specs.declared.answer.Answer.TheVariants as answer
+use Rattle.sdb_model.specs.ReadSet.{finds_transactional, read_finished, reads_rows}
 use Rattle.sdb_model.specs.Causes.{HasReply, IsBad, IsDecided, PutsRow}
 use Rattle.law_answers.specs.Commits.{IsBadRow, IsGivenUp, NoneOfRow, ObservesBad}
 use Rattle.law_answers.proofs.Lists.{each_in, each_kept}
@@ -163,10 +166,50 @@ pub bad_is_bad : (id : TxId) (row : Record) → row.key ≡ coordinator_key_of i
 bad_is_bad id row same h = bad_of_row row (ap (λ (k : Key). is_coordinator_table k.table) same ∙ coordinators id) h
 
 pub shows_bad_row : (id : TxId) (calls : List StoreCall) (m : StoreCall) (row : Record) (name : List ℕ) → records_observed m.reply ≡ row ∷ [] → row.key ≡ coordinator_key_of id → decision_in row ≡ Err name → ObservesBad (calls ++ m ∷ []) (coordinator_key_of id)
-shows_bad_row id calls m row name shown same e = record { call = m; found = row; among = Contains-push calls m; shown = subst (λ rs. Contains rs row) (sym shown) (Contains-push [] row); same = same; bad = bad_row id row name same e }
+shows_bad_row id calls m row name shown same e = record { call = m; found = row; among = Contains-push calls m; shown = subst (λ rs. Contains rs row) (sym shown) (Contains-push [] row); same = same; bad = bad_row id row name same e; place = inl (ap (λ (k : Key). is_coordinator_table k.table) same ∙ coordinators id) }
 
 pub bad_stays : (calls : List StoreCall) (m : StoreCall) (key : Key) → ObservesBad calls key → ObservesBad (calls ++ m ∷ []) key
-bad_stays calls m key h = record { call = h.call; found = h.found; among = Contains-append_left calls (m ∷ []) h.call h.among; shown = h.shown; same = h.same; bad = h.bad }
+bad_stays calls m key h = record { call = h.call; found = h.found; among = Contains-append_left calls (m ∷ []) h.call h.among; shown = h.shown; same = h.same; bad = h.bad; place = h.place }
+
+-- what all that a filter keeps pass, each that passes the filter does
+each_filtered : (p q : StoreCall → Bool) (ms : List StoreCall) → list_all q (filter p ms) ≡ true → AllByRecursion (λ (m : StoreCall). p m ≡ true → q m ≡ true) ms
+each_filtered p q [] h = tt
+each_filtered p q (m ∷ ms) h = by (p m) refl (λ k. each_filtered p q ms k) h
+  where
+    by : (b : Bool) → p m ≡ b → (list_all q (filter p ms) ≡ true → AllByRecursion (λ (x : StoreCall). p x ≡ true → q x ≡ true) ms) → list_all q (if b then m ∷ filter p ms else filter p ms) ≡ true → (p m ≡ true → q m ≡ true) × AllByRecursion (λ (x : StoreCall). p x ≡ true → q x ≡ true) ms
+    by true e ih k = let parts = and_parts (q m) (list_all q (filter p ms)) k in ((λ z. parts.0), ih parts.1)
+    by false e ih k = ((λ z. clash (sym z ∙ e)), ih k)
+
+each_checked : (rs : List Record) → list_all is_transactional rs ≡ true → AllByRecursion (λ (r : Record). is_transactional r ≡ true) rs
+each_checked [] h = tt
+each_checked (r ∷ rs) h = let parts = and_parts (is_transactional r) (list_all is_transactional rs) h in (parts.0, each_checked rs parts.1)
+
+abbrev finds_checked : StoreCall → Bool
+finds_checked m = list_all is_transactional (records_read m.reply)
+
+-- a read whose calls showed such a record of the key has not finished by the answer that says so
+pub bad_unfinished : (calls : List StoreCall) (key : Key) → ObservesBad calls key → read_finished calls (answer.BadRecord key) ≡ false
+bad_unfinished calls key b = by (is_coordinator_table key.table) refl b.place
+  where
+    neither : (x : Bool) → (x && false) ≡ false
+    neither true = refl
+    neither false = refl
+
+    unchecked : is_coordinator_table key.table ≡ false → is_transactional b.found ≡ false
+    unchecked e = subst (λ t. MatchBool t ((name : List ℕ) × (decision_in b.found ≡ Err name)) (is_transactional b.found ≡ false)) (ap (λ (k : Key). is_coordinator_table k.table) b.same ∙ e) b.bad
+
+    checked_all : finds_transactional calls ≡ true → reads_rows b.call ≡ true → Contains (records_read b.call.reply) b.found → is_transactional b.found ≡ true
+    checked_all all reads has =
+        each_in (λ (r : Record). is_transactional r ≡ true) (records_read b.call.reply) b.found
+        (each_checked (records_read b.call.reply) (each_in (λ (m : StoreCall). reads_rows m ≡ true → finds_checked m ≡ true) calls b.call (each_filtered reads_rows finds_checked calls all) b.among reads)) has
+
+    by : (t : Bool) → is_coordinator_table key.table ≡ t → (is_coordinator_table b.found.key.table ≡ true) ⊎ ((reads_rows b.call ≡ true) × Contains (records_read b.call.reply) b.found) → (not (is_coordinator_table key.table) && finds_transactional calls) ≡ false
+    by true e p = ap (λ x. not x && finds_transactional calls) e
+    by false e (inl own) = clash (sym own ∙ ap (λ (k : Key). is_coordinator_table k.table) b.same ∙ e)
+    by false e (inr read) =
+        by_test (finds_transactional calls)
+        (λ all. clash (sym (checked_all all read.0 read.1) ∙ unchecked e))
+        (λ none. ap (λ x. not (is_coordinator_table key.table) && x) none ∙ neither (not (is_coordinator_table key.table)))
 
 pub reply_stays : (is : Reply → Bool) (calls : List StoreCall) (m : StoreCall) → HasReply is calls → HasReply is (calls ++ m ∷ [])
 reply_stays is calls m h = (h.0, Contains-append_left calls (m ∷ []) h.0 h.1, h.2)

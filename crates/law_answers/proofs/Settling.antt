@@ -21,11 +21,11 @@ use Rattle.sdb_record.specs.declared.access.Access.TheVariants as access
 use Rattle.sdb_record.specs.declared.access.Read.{Read}
 use Rattle.sdb_record.specs.declared.access.Scan.{Scan}
 use Rattle.sdb_record.specs.Coordinator.{is_coordinator_table}
-use Rattle.sdb_record.specs.Meta.{is_in}
+use Rattle.sdb_record.specs.Meta.{is_in, is_transactional}
 use Rattle.sdb_record.specs.Moved.{version_of}
 use Rattle.sdb_model.specs.Calls.{StoreCall, is_read, records_read}
 use Rattle.sdb_model.specs.Events.{table_asked}
-use Rattle.sdb_model.specs.ReadSet.{KeyRead, ReadItem, SpanRead, meaning_of, read_item_of, read_items, read_of, reads_of, reads_rows}
+use Rattle.sdb_model.specs.ReadSet.{KeyRead, ReadItem, SpanRead, finds_transactional, meaning_of, read_item_of, read_items, read_of, reads_of, reads_rows}
 use Rattle.sdb_model.specs.DirtyReads.{IsMeantBy}
 use Rattle.law_clients.proofs.Meanings.{meaning_rolled, meaning_settled}
 use Rattle.sdb_read.specs.Read.{request_of}
@@ -85,6 +85,22 @@ data_read (access.Scan span) is m e = ap (λ (q : Request). if is_coordinator_ta
     pick : (b : Bool) → not b ≡ true → (if b then false else true) ≡ true
     pick true n = absurd (clash (sym n))
     pick false n = refl
+
+abbrev pass : StoreCall → Bool
+pass m = list_all is_transactional (records_read m.reply)
+
+-- each record that a read found passes the checks
+pub read_checks : (a : Access) (calls : List StoreCall) (images : List Record) (h : HasRead (request_of a) calls images []) → IsDataTable (access_table a) → finds_transactional calls ≡ true
+read_checks a calls images h is =
+    ap (λ ms. list_all pass (filter reads_rows ms)) h.calls_are
+    ∙ ap (λ b. list_all pass (if b then h.first ∷ filter reads_rows h.rest else filter reads_rows h.rest)) (data_read a is h.first h.request)
+    ∙ ap (λ ms. list_all pass (h.first ∷ ms)) (none_of calls h.rest h.others)
+    ∙ ap (λ rs. list_all is_transactional rs && true) (h.rows ∙ append-nil (map (λ (e : Record × Option Record). e.0) h.steps))
+    ∙ ap (λ b. b && true) (each h.steps h.transactional)
+  where
+    each : (es : List (Record × Option Record)) → AllByRecursion (λ (e : Record × Option Record). is_transactional e.0 ≡ true) es → list_all is_transactional (map (λ (e : Record × Option Record). e.0) es) ≡ true
+    each [] all = refl
+    each (e ∷ es) all = ap (λ b. b && list_all is_transactional (map (λ (x : Record × Option Record). x.0) es)) all.0 ∙ each es all.1
 
 -- what a statement that read notes
 pub read_notes : (a : Access) (calls : List StoreCall) (images left : List Record) (h : HasRead (request_of a) calls images left) → IsDataTable (access_table a) → read_items calls ≡ cons_option (read_item_of calls (request_of a) h.first.reply) []

@@ -1,5 +1,5 @@
 -- Each call of a read keeps what its calls showed of the records that it found.
-use Rattle.std.proofs.Common.{◌≡◌, ◌⊎◌, inl, inr, ℕ, ℤ, Bool, true, false, cond, List, [], ◌∷◌, ◌++◌, map, Option, Some, None, Result, Ok, Err, refl, sym, ap, subst, ◌∙◌}
+use Rattle.std.proofs.Common.{◌≡◌, ◌⊎◌, inl, inr, ℕ, ℤ, Bool, true, false, cond, not, List, [], ◌∷◌, ◌++◌, map, Option, Some, None, Result, Ok, Err, refl, sym, ap, subst, ◌∙◌}
 use Rattle.std.specs.Prelude.{if◌then◌else◌}
 use Rattle.std.specs.List.{AllByRecursion, filter_map}
 use Rattle.std.specs.Result.{result_ok}
@@ -56,6 +56,13 @@ firm_is r e = by (is_transactional r) (is_in state.Committed r.columns) (checked
     by true false (Err name) a h = absurd (cc)
     by true false (Ok m) a h = absurd (cc)
 
+pub firm_checked : (r : Record) → kind_of r ≡ Firm → is_transactional r ≡ true
+firm_checked r e = by (is_transactional r) refl e
+  where
+    by : (t : Bool) → is_transactional r ≡ t → (if t then (if is_in state.Committed r.columns then Firm else opened (checked r.columns)) else Bad) ≡ Firm → is_transactional r ≡ true
+    by true a h = a
+    by false a h = absurd (cc)
+
 -- a call that is no read reads no rows
 pub unread_rows : (m : StoreCall) → is_read m.request ≡ false → reads_rows m ≡ false
 unread_rows m f = by (is_coordinator_table (table_asked m.request))
@@ -87,8 +94,8 @@ map_more (x ∷ es) e left = ap (λ rs. x.0 ∷ rs) (map_more es e left)
 
 module _ (q : Request) (calls : List StoreCall) where
   -- one record more is settled
-  settles_more : (images : List Record) (r : Record) (left : List Record) (o : Option Record) (h : HasRead q calls images (r ∷ left)) → IsSettledAs calls (r, o) → (more : List Record) → more ≡ images ++ filter_map (λ (e : Record × Option Record). e.1) ((r, o) ∷ []) → HasRead q calls more left
-  settles_more images r left o h s more e = record {
+  settles_more : (images : List Record) (r : Record) (left : List Record) (o : Option Record) (h : HasRead q calls images (r ∷ left)) → IsSettledAs calls (r, o) → is_transactional r ≡ true → (more : List Record) → more ≡ images ++ filter_map (λ (e : Record × Option Record). e.1) ((r, o) ∷ []) → HasRead q calls more left
+  settles_more images r left o h s checks more e = record {
     first = h.first;
     rest = h.rest;
     calls_are = h.calls_are;
@@ -98,6 +105,7 @@ module _ (q : Request) (calls : List StoreCall) where
     others = h.others;
     steps = h.steps ++ (r, o) ∷ [];
     settled = each_more (IsSettledAs calls) h.steps (r, o) h.settled s;
+    transactional = each_more (λ (x : Record × Option Record). is_transactional x.0 ≡ true) h.steps (r, o) h.transactional checks;
     rows = h.rows ∙ sym (map_more h.steps (r, o) left);
     images_are = e ∙ ap (λ is. is ++ filter_map (λ (e : Record × Option Record). e.1) ((r, o) ∷ [])) h.images_are ∙ sym (filter_map-append (λ (e : Record × Option Record). e.1) h.steps ((r, o) ∷ []));
     unrolled = h.unrolled.1;
@@ -106,7 +114,7 @@ module _ (q : Request) (calls : List StoreCall) where
 
   settled_shows : (images left : List Record) → HasRead q calls images left → StageObserves q calls (settle images left)
   settled_shows images [] h = h
-  settled_shows images (r ∷ left) h = by (kind_of r) refl (λ k. settled_shows (images ++ r ∷ []) left (settles_more images r left (Some r) h (record { key = refl; by = inl (firm_is r k, refl) }) (images ++ r ∷ []) refl))
+  settled_shows images (r ∷ left) h = by (kind_of r) refl (λ k. settled_shows (images ++ r ∷ []) left (settles_more images r left (Some r) h (record { key = refl; by = inl (firm_is r k, refl) }) (firm_checked r k) (images ++ r ∷ []) refl))
     where
       by : (x : Kind) → kind_of r ≡ x → (kind_of r ≡ Firm → StageObserves q calls (settle (images ++ r ∷ []) left)) → StageObserves q calls (settle_one x images r left (settle (images ++ r ∷ []) left))
       by Firm e rest = rest e
@@ -134,6 +142,7 @@ module _ (q : Request) (calls : List StoreCall) (m : StoreCall) (now : ℤ) (mom
     others = tt;
     steps = [];
     settled = tt;
+    transactional = tt;
     rows = shown;
     images_are = refl;
     unrolled = subst (λ ms. AllByRecursion (IsUnrolled (ms ++ m ∷ [])) rows) (sym none) (read_unrolled m rows (plainly a (e ∙ is)));
@@ -171,6 +180,7 @@ module _ (q : Request) (calls : List StoreCall) (m : StoreCall) (now : ℤ) (mom
     others = each_more (λ (x : StoreCall). reads_rows x ≡ false) h.rest m h.others f;
     steps = h.steps;
     settled = settled_stay calls m h.steps h.settled;
+    transactional = h.transactional;
     rows = h.rows;
     images_are = h.images_are;
     unrolled = unrolled_more calls m left h.unrolled none;
@@ -214,6 +224,7 @@ module _ (q : Request) (calls : List StoreCall) (m : StoreCall) (now : ℤ) (mom
       others = each_more (λ (x : StoreCall). reads_rows x ≡ false) h.rest m h.others f;
       steps = h.steps ++ (rec, o) ∷ [];
       settled = each_more (IsSettledAs more) h.steps (rec, o) (settled_stay calls m h.steps h.settled) s;
+      transactional = each_more (λ (x : Record × Option Record). is_transactional x.0 ≡ true) h.steps (rec, o) h.transactional (and_parts (is_transactional rec) (not (is_in state.Committed rec.columns)) unresolved).0;
       rows = h.rows ∙ sym (map_more h.steps (rec, o) left);
       images_are = e ∙ ap (λ is. is ++ filter_map (λ (e : Record × Option Record). e.1) ((rec, o) ∷ [])) h.images_are ∙ sym (filter_map-append (λ (e : Record × Option Record). e.1) h.steps ((rec, o) ∷ []));
       unrolled = unrolled_more calls m left h.unrolled.1 (rolls_none_after m rec o left roll h.rises);

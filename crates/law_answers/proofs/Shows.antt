@@ -17,6 +17,7 @@ use Rattle.sdb_model.specs.declared.answer.Answer.TheVariants as answer
 use Rattle.sdb_model.specs.declared.event.Event.{Event}
 use Rattle.sdb_model.specs.declared.statement.Statement.{Statement}
 use Rattle.sdb_model.specs.Calls.{StoreCall, calls_of}
+use Rattle.sdb_model.specs.ReadSet.{has_finished}
 use Rattle.sdb_model.specs.DirtyReads.{StartsWith, WasFound, row_left}
 use Rattle.sdb_model.specs.Sql.{Reads}
 use Rattle.sdb_model.specs.Serial.{AreRead}
@@ -104,7 +105,7 @@ module _ (catalog : List Table) (events : List Event) (c : ℕ) where
   }
 
   pub sees_same : (body : List Executed) (s : Executed) (v : Seen) → is_effective s ≡ false → SeesOwn catalog events c body v → SeesOwn catalog events c (body ++ s ∷ []) v
-  sees_same body s v e sees key as_read = has_same body s key _ e (sees key as_read)
+  sees_same body s v e sees key as_read fits = has_same body s key _ e (sees key as_read fits)
 
   -- an answer that says that nothing was changed shows no row
   pub tells_none : (body : List Executed) (s : Executed) (a : Answer) → changes_nothing a ≡ true → GivesOwn catalog events c body s a
@@ -145,7 +146,7 @@ module _ (catalog : List Table) (events : List Event) (e : Event) (c : ℕ) wher
   stay_changing body earlier changing all parts = each_changing Stays body earlier changing parts (stay_all body all)
 
   found_still : (s : Executed) (key : Key) (row : Option (List Pair)) → Stays s → FoundFor catalog events c s key row → FoundFor catalog E c s key row
-  found_still s key row same f = record { told = f.told; no_vacuum = f.no_vacuum; table = f.table; found = subst (λ (ms : List StoreCall). WasFound ms key row) (sym same) f.found }
+  found_still s key row same f = record { told = ap (λ ms. has_finished ms s) same ∙ f.told; no_vacuum = f.no_vacuum; table = f.table; found = subst (λ (ms : List StoreCall). WasFound ms key row) (sym same) f.found }
 
   before_still : (body : List Executed) (s : Executed) (key : Key) (row : Option (List Pair)) → AllByRecursion (IsAnswered catalog events c) body → Stays s → HasBefore catalog events c body s key row → HasBefore catalog E c body s key row
   before_still body s key row all same h = record { first = h.first; earlier = h.earlier; changing = h.changing; sts = h.sts; base = h.base; parts = h.parts; begins = h.begins; shown = found_still h.first key h.base (first_so Stays h.changing s h.first h.begins (stay_changing body h.earlier h.changing all h.parts) same) h.shown; read = h.read; made = h.made }
@@ -154,7 +155,7 @@ module _ (catalog : List Table) (events : List Event) (e : Event) (c : ℕ) wher
   after_still body key row all h = record { first = h.first; earlier = h.earlier; changing = h.changing; sts = h.sts; base = h.base; parts = h.parts; begins = h.begins; shown = found_still h.first key h.base (first_front Stays h.changing h.first h.begins (stay_changing body h.earlier h.changing all h.parts)) h.shown; read = h.read; made = h.made }
 
   pub sees_still : (body : List Executed) (v : Seen) → AllByRecursion (IsAnswered catalog events c) body → SeesOwn catalog events c body v → SeesOwn catalog E c body v
-  sees_still body v all sees key as_read = after_still body key _ all (sees key as_read)
+  sees_still body v all sees key as_read fits = after_still body key _ all (sees key as_read fits)
 
   rows_still : (body : List Executed) (s : Executed) (rows : List (List Value)) → AllByRecursion (IsAnswered catalog events c) body → Stays s → GivesRows catalog events c body s rows → GivesRows catalog E c body s rows
   rows_still body s rows all same (t, select, images, reads, found, shown, own) = (t, select, images, reads, found, shown, each_any (λ (r : Image). HasBefore catalog events c body s r.key (Some r.columns)) (λ (r : Image). HasBefore catalog E c body s r.key (Some r.columns)) images (λ r h. before_still body s r.key (Some r.columns) all same h) own)

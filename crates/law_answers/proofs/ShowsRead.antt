@@ -28,7 +28,7 @@ use Rattle.sdb_model.specs.declared.event.Event.{Event}
 use Rattle.sdb_model.specs.Access.{in_access}
 use Rattle.sdb_model.specs.Calls.{StoreCall, calls_of, records_read}
 use Rattle.sdb_model.specs.Explained.{IsTableKey, Observes}
-use Rattle.sdb_model.specs.ReadSet.{has_finished}
+use Rattle.sdb_model.specs.ReadSet.{has_read}
 use Rattle.sdb_model.specs.DirtyReads.{WasFound}
 use Rattle.sdb_model.specs.Sql.{reads_vacuum}
 use Rattle.sdb_model.specs.Transactions.{Executed}
@@ -41,6 +41,7 @@ use Rattle.law_clients.proofs.Meanings.{among_found}
 use Rattle.sdb_txn.specs.Txn.{TxnAt}
 use Rattle.sdb_client.specs.Client.{with_rows_read}
 use Rattle.law_answers.specs.Changes.{HasRead, IsRows}
+use Rattle.law_answers.specs.Unfit.{fits_if_any}
 use Rattle.law_answers.specs.Views.{HasBefore, SeesOwn}
 use Rattle.law_answers.proofs.Ends.{first_in}
 use Rattle.law_answers.proofs.Moving.{scan_shows}
@@ -135,18 +136,20 @@ kept_now t a images kept q written = some (value_at t.seen.read_set q) (kept q (
     some (Some x) h e = ap is_some e
 
 module _ (catalog : List Table) (events : List Event) (c : ℕ) (body : List Executed) (s : Executed) (a : Access) (t : TxnAt) (images : List Record) (h : HasRead (request_of a) (calls_of events c s) images []) (kept : WereRead t.seen.read_set t.seen.writes) (sees : SeesOwn catalog events c body t.seen)
-    (no_vacuum : reads_vacuum s.text ≡ false) (tables : (q : Key) → in_access a q ≡ true → IsTableKey catalog q) (told : has_finished s ≡ true) (key : Key) where
+    (no_vacuum : reads_vacuum s.text ≡ false) (tables : (q : Key) → in_access a q ≡ true → IsTableKey catalog q) (told : has_read events c s ≡ true) (key : Key) where
   abbrev Has : Option (List Pair) → Type 0
   Has row = HasBefore catalog events c body s key row
 
-  -- At each key that was read by then, now too, the transaction sees a row that it has before the statement whose calls these are.
-  pub now_has : is_key_read (with_rows_read t a images).seen.read_set key ≡ true → Has (row_seen (with_rows_read t a images).seen.read_set (with_rows_read t a images).seen.writes key)
-  now_has as_read = by (value_at t.seen.read_set key) (found_new a images key) refl refl
+  -- At each key that was read by then, now too, the transaction sees a row that it has before the statement whose calls these are, unless
+  -- that doesn't fit its table.
+  pub now_has : is_key_read (with_rows_read t a images).seen.read_set key ≡ true → fits_if_any catalog key (row_seen (with_rows_read t a images).seen.read_set (with_rows_read t a images).seen.writes key) ≡ true → Has (row_seen (with_rows_read t a images).seen.read_set (with_rows_read t a images).seen.writes key)
+  now_has as_read fits = by (value_at t.seen.read_set key) (found_new a images key) refl refl
     where
       by : (x y : Option (Option Record)) → value_at t.seen.read_set key ≡ x → found_new a images key ≡ y → Has (row_seen (with_rows_read t a images).seen.read_set (with_rows_read t a images).seen.writes key)
       by (Some x) y e f =
-          subst Has (sym (row_now t a images key ∙ ap (λ z. row_with (write_among t.seen.writes key) (at_note (or_else z (found_new a images key)))) e ∙ ap (λ z. row_with (write_among t.seen.writes key) (at_note z)) (sym e)))
-          (has_before catalog events c body s key (row_seen t.seen.read_set t.seen.writes key) (sees key (ap is_some e)))
+          let same : row_seen (with_rows_read t a images).seen.read_set (with_rows_read t a images).seen.writes key ≡ row_seen t.seen.read_set t.seen.writes key =
+          row_now t a images key ∙ ap (λ z. row_with (write_among t.seen.writes key) (at_note (or_else z (found_new a images key)))) e ∙ ap (λ z. row_with (write_among t.seen.writes key) (at_note z)) (sym e) in
+          subst Has (sym same) (has_before catalog events c body s key (row_seen t.seen.read_set t.seen.writes key) (sees key (ap is_some e) (ap (fits_if_any catalog key) (sym same) ∙ fits)))
       by None (Some o) e f =
           subst Has (sym (row_now t a images key ∙ ap (λ z. row_with (write_among t.seen.writes key) (at_note (or_else z (found_new a images key)))) e ∙ ap (λ z. row_with (write_among t.seen.writes key) (at_note z)) f ∙ ap (λ w. row_with w o) (unwritten t.seen key kept (ap is_some e))))
           (has_shown catalog events c body s key (row_found o) (record { told = told; no_vacuum = no_vacuum; table = tables key (new_inside (calls_of events c s) a images h key o f); found = found_by (calls_of events c s) a images h key o f }))

@@ -18,7 +18,7 @@ use Rattle.law_answers.specs.Invariant.{IsAnswered, begun_in, open_after}
 use Rattle.law_answers.proofs.Calls.{calls_stay}
 use Rattle.law_answers.proofs.CountsNotes.{last_or, open_only}
 use Rattle.law_answers.proofs.Lists.{since_more, since_none}
-use Rattle.law_answers.proofs.Noting.{each_left, each_middle, since_all}
+use Rattle.law_answers.proofs.Noting.{each_left, each_middle, rest_all, since_all}
 use Rattle.law_answers.proofs.Shows.{effective_by, sees_same, sees_still, tells_none, tells_still}
 
 ---- statements that were answered
@@ -68,14 +68,6 @@ in_still catalog events e c body v doing.Idle all h = sees_still catalog events 
 in_still catalog events e c body v (doing.Read a x) all h = sees_still catalog events e c body v all h
 in_still catalog events e c body v (doing.Commit k) all h = tt
 in_still catalog events e c body v doing.Over all h = sees_still catalog events e c body v all h
-
--- what is so of all statements is so of those after a BEGIN
-rest_all : (P : Executed → Type 0) (n : ℕ) (ss : List Executed) → AllByRecursion P ss → AllByRecursion P (rest_of (from_begin n ss))
-rest_all P n ss all = by (from_begin n ss) refl
-  where
-    by : (r : List Executed) → from_begin n ss ≡ r → AllByRecursion P (rest_of (from_begin n ss))
-    by [] e = subst (λ x. AllByRecursion P (rest_of x)) (sym e) tt
-    by (b ∷ r) e = subst (λ x. AllByRecursion P (rest_of x)) (sym e) (since_all P n ss b r all e)
 
 pub showing_stays : (catalog : List Table) (events : List Event) (e : Event) (c n : ℕ) (told : List Executed) (o : Option TxnAt) → AllByRecursion (IsAnswered catalog events c) told → IfSome o (IsViewOf catalog events c (rest_of (from_begin n told))) → IfSome o (IsViewOf catalog (events ++ e ∷ []) c (rest_of (from_begin n told)))
 showing_stays catalog events e c n told None all h = tt

@@ -1,5 +1,5 @@
 -- A statement that has read shows rows that its transaction has, and its transaction goes on with such.
-use Rattle.std.proofs.Common.{◌≡◌, ℕ, true, false, List, [], ◌∷◌, ◌++◌, Some, None, refl, sym, ap, subst, ◌∙◌}
+use Rattle.std.proofs.Common.{◌≡◌, ℕ, true, false, List, [], ◌∷◌, ◌++◌, Some, sym, ap, subst, ◌∙◌}
 use Rattle.std.specs.Prelude.{is_some}
 use Rattle.std.specs.List.{AllByRecursion}
 use Rattle.sdb_types.specs.declared.record.Record.{Record}
@@ -9,21 +9,20 @@ use Rattle.sdb_schema.specs.Catalog.{is_catalog}
 use Rattle.sdb_model.specs.declared.event.Event.{Event}
 use Rattle.sdb_model.specs.Calls.{StoreCall, calls_of}
 use Rattle.sdb_model.specs.Exec.{named_table, table_of}
+use Rattle.sdb_model.specs.ReadSet.{has_read}
 use Rattle.sdb_model.specs.Sql.{Reads, reads_vacuum}
 use Rattle.sdb_model.specs.Transactions.{Executed, from_begin, rest_of}
-use Rattle.sdb_exec.specs.Plans.{Planned, first_unfit}
-use Rattle.sdb_exec.specs.Reads.{access_of}
+use Rattle.sdb_exec.specs.Plans.{Planned}
+use Rattle.sdb_model.specs.Reads.{access_of}
 use Rattle.sdb_read.specs.Read.{request_of}
 use Rattle.sdb_snapshot.specs.Sets.{WereRead}
-use Rattle.sdb_snapshot.specs.Seen.{overlay}
 use Rattle.law_clients.proofs.InTables.{access_table, own_table}
 use Rattle.law_clients.proofs.RowsFit.{found_itself}
-use Rattle.sdb_txn.specs.Txn.{TxnAt, idle}
+use Rattle.sdb_txn.specs.Txn.{TxnAt}
 use Rattle.sdb_client.specs.Client.{given_answer, given_left, gives, with_rows_read}
 use Rattle.law_answers.specs.Changes.{HasRead}
 use Rattle.law_answers.specs.Views.{IsViewOf, SeesOwn, GivesOwn}
 use Rattle.law_answers.specs.Invariant.{IsAnswered, begun_in, open_after}
-use Rattle.law_answers.specs.Unfit.{SeesWellTyped}
 use Rattle.law_answers.proofs.ShowsGiven.{next_given}
 use Rattle.law_answers.proofs.ShowsRead.{kept_now, now_has}
 use Rattle.law_answers.proofs.ShowsTold.{sees_then}
@@ -39,10 +38,10 @@ module _ (catalog : List Table) (c : ℕ) (events : List Event) (e : Event) (tol
   abbrev v : TxnAt
   v = with_rows_read t a images
 
-  pub read_next : is_catalog catalog ≡ true → Reads z.text p.statement → reads_vacuum z.text ≡ false → named_table catalog p.statement ≡ Some p.table → p.asked ≡ true → a ≡ access_of p.table p.statement → z.answer ≡ Some (given_answer v (gives p a v)) → (first_unfit p.table (overlay a v.seen) ≡ None → SeesWellTyped catalog v.seen)
-      → (open_after told ≡ true → GivesOwn catalog E c (rest_of (from_begin (begun_in told) told)) z (given_answer v (gives p a v))) × IsViewOf catalog E c (rest_of (from_begin n (told ++ z ∷ []))) (given_left (idle t) v (gives p a v))
-  read_next is reads no_vacuum named asked access_is answered fits =
+  pub read_next : is_catalog catalog ≡ true → Reads z.text p.statement → reads_vacuum z.text ≡ false → named_table catalog p.statement ≡ Some p.table → p.asked ≡ true → a ≡ access_of p.table p.statement → z.answer ≡ Some (given_answer v (gives p a v)) → has_read E c z ≡ true
+      → (open_after told ≡ true → GivesOwn catalog E c (rest_of (from_begin (begun_in told) told)) z (given_answer v (gives p a v))) × IsViewOf catalog E c (rest_of (from_begin n (told ++ z ∷ []))) (given_left v (gives p a v))
+  read_next is reads no_vacuum named asked access_is answered finished =
       let before : SeesOwn catalog E c body t.seen = sees_then catalog c events e told all n begin body since t.seen sees z in
-      next_given catalog E c n told z begin body p a (idle t) v since number is reads named asked access_is answered (left_idle (idle t) v (gives p a v) refl (noting_idle t a images)) (kept_now t a images kept) fits before
+      next_given catalog E c n told z begin body p a v since number is reads named asked access_is answered (left_idle v (gives p a v) (noting_idle t a images)) (kept_now t a images kept)
       (now_has catalog E c body z a t images (subst (λ cs. HasRead (request_of a) cs images []) (sym are) h) kept before no_vacuum
-      (λ q inside. ap is_some (table_at catalog p a (found_itself catalog (table_of p.statement) p.table named) (ap access_table access_is ∙ own_table p.table p.statement) q inside)))
+      (λ q inside. ap is_some (table_at catalog p a (found_itself catalog (table_of p.statement) p.table named) (ap access_table access_is ∙ own_table p.table p.statement) q inside)) finished)

@@ -14,6 +14,7 @@ use Rattle.sdb_model.specs.declared.answer.Answer.{Answer}
 use Rattle.sdb_model.specs.declared.answer.Answer.TheVariants as answer
 use Rattle.sdb_model.specs.declared.event.Event.{Event}
 use Rattle.sdb_model.specs.DirtyReads.{AnswersHaveRows, HasRow, AnswersAreOf}
+use Rattle.sdb_model.specs.ReadSet.{has_read}
 use Rattle.sdb_model.specs.Transactions.{Executed, client_of, ends, from_begin, ordinal_of, rest_of, statements_by, statements_of, through_end}
 use Rattle.law_clients.specs.States.{ClientState}
 use Rattle.law_clients.specs.History.{waiting_of}
@@ -58,7 +59,7 @@ parted (x ∷ xs) s has = by (ends x) refl (λ h. parted xs s h) has
 
 ---- its rows
 
-module _ (catalog : List Table) (events : List Event) (c : ℕ) (id : TxId) (s : Executed) (body post : List Executed) (statements : statements_of events id ≡ body ++ s ∷ post)
+module _ (catalog : List Table) (events : List Event) (c : ℕ) (id : TxId) (client : client_of id ≡ c) (s : Executed) (body post : List Executed) (statements : statements_of events id ≡ body ++ s ∷ post)
     (among : AllByRecursion (Contains (statements_by c events)) body) (last : Contains (statements_by c events) s) where
   row_own : (key : Key) (row : Option (List Pair)) → HasBefore catalog events c body s key row → HasRow catalog (WasRead catalog events c) events id s key row
   row_own key row h = record {
@@ -70,7 +71,7 @@ module _ (catalog : List Table) (events : List Event) (c : ℕ) (id : TxId) (s :
     base = h.base;
     parts = statements ∙ ap (λ xs. xs ++ s ∷ post) h.parts;
     begins = h.begins;
-    finished = h.shown.told;
+    finished = subst (λ d. has_read events d h.first ≡ true) (sym client) h.shown.told;
     shown = (first_so (Contains (statements_by c events)) h.changing s h.first h.begins (each_changing (Contains (statements_by c events)) body h.earlier h.changing h.parts among) last, h.shown);
     read = h.read;
     made = h.made;
@@ -114,7 +115,7 @@ module _ (catalog : List Table) (events : List Event) (now : ℤ) (states : ℕ 
       at : (b : Executed) (rest : List Executed) → from_begin (ordinal_of id) (statements_by c events) ≡ b ∷ rest → statements_of events id ≡ through_end rest → IsPart rest (through_end rest) s → AnswersAreOf catalog (WasRead catalog events c) events id s a
       at b rest e whole p =
           let all : AllByRecursion (Contains (statements_by c events)) (p.body ++ s ∷ p.tail) = subst (AllByRecursion (Contains (statements_by c events))) p.all_is (since_all (Contains (statements_by c events)) (ordinal_of id) (statements_by c events) b rest all_said e) in
-          shows_own catalog events c id s p.body p.post (whole ∙ p.through_is) (each_left (Contains (statements_by c events)) p.body (s ∷ p.tail) all) (each_middle (Contains (statements_by c events)) p.body p.tail s all) a answered (all_own (ordinal_of id) b p.body s p.tail a (e ∙ ap (λ r. b ∷ r) p.all_is) p.goes_on answered)
+          shows_own catalog events c id is s p.body p.post (whole ∙ p.through_is) (each_left (Contains (statements_by c events)) p.body (s ∷ p.tail) all) (each_middle (Contains (statements_by c events)) p.body p.tail s all) a answered (all_own (ordinal_of id) b p.body s p.tail a (e ∙ ap (λ r. b ∷ r) p.all_is) p.goes_on answered)
 
       by : (r : List Executed) → from_begin (ordinal_of id) (statements_by c events) ≡ r → AnswersAreOf catalog (WasRead catalog events c) events id s a
       by [] e = absurd (none (subst (λ ss. Contains ss s) (statements ∙ ap (λ r. through_end (rest_of r)) e) has))

@@ -1,11 +1,12 @@
 -- Each call of a VACUUM keeps what the calls say of where it is.
-use Rattle.std.proofs.Common.{◌≡◌, ◌<◌, ◌+◌, ℕ, ℤ, Bool, true, false, cond, not, List, [], ◌∷◌, ◌++◌, Option, Some, None, Err, refl, sym, ap, subst, ◌∙◌, arith}
-use Rattle.std.specs.Prelude.{if◌then◌else◌, ◌&&◌, MatchBool}
+use Rattle.std.proofs.Common.{◌≡◌, ◌<◌, ◌+◌, ℕ, ℤ, Bool, true, false, cond, not, List, [], ◌∷◌, ◌++◌, Option, Some, None, Err, inr, refl, sym, ap, subst, ◌∙◌, arith}
+use Rattle.std.specs.Prelude.{if◌then◌else◌, ◌&&◌, MatchBool, is_some}
 use Rattle.std.specs.List.{AllByRecursion, count_by}
 use Rattle.std.specs.Option.{option_map}
 use Rattle.std.proofs.lemmas.List.Elements.{Contains-append_left}
 use Rattle.std.proofs.lemmas.List.Sums.{fold-append}
 use Rattle.sdb_types.specs.declared.txid.TxId.{TxId}
+use Rattle.sdb_types.specs.declared.key.Key.{Key}
 use Rattle.sdb_types.specs.declared.record.Record.{Record}
 use Rattle.sdb_types.specs.declared.record.Reply.{Reply}
 use Rattle.sdb_types.specs.declared.record.Reply.TheVariants as reply
@@ -16,14 +17,18 @@ use Rattle.sdb_types.specs.declared.record.Condition.TheVariants as condition
 use Rattle.sdb_types.specs.declared.record.State.{State}
 use Rattle.sdb_types.specs.declared.record.State.TheVariants as state
 use Rattle.sdb_types.specs.Contents.{CanAnswer}
-use Rattle.sdb_types.proofs.Basics.{clash, none_some, some_is}
+use Rattle.sdb_types.proofs.Basics.{all_each as each_any, clash, none_some, some_is}
 use Rattle.sdb_record.specs.declared.access.Access.TheVariants as access
 use Rattle.sdb_record.specs.declared.meta.Meta.{Meta}
 use Rattle.sdb_record.specs.Coordinator.{decision_in, is_coordinator_table}
 use Rattle.sdb_record.specs.Meta.{id_in, is_committed, is_transactional}
 use Rattle.sdb_record.specs.Parts.{before_record}
 use Rattle.sdb_record.specs.Rolls.{is_tombstone, undo}
+use Rattle.sdb_schema.specs.declared.table.Table.{Table}
 use Rattle.sdb_model.specs.declared.event.Event.{Event}
+use Rattle.sdb_model.specs.Exec.{find_table}
+use Rattle.sdb_model.specs.Tables.{is_data}
+use Rattle.law_clients.specs.About.{IsIn, IsVacuumStageIn}
 use Rattle.sdb_model.specs.Calls.{StoreCall, clock_at, is_removal}
 use Rattle.sdb_model.specs.Causes.{HasReply, removes}
 use Rattle.sdb_phases.specs.declared.step.RecoverPhase.{RecoverPhase}
@@ -38,7 +43,7 @@ use Rattle.sdb_vacuum.specs.Vacuum.{First, Malformed, Nothing, Over, Removing, R
 use Rattle.law_answers.specs.Commits.{IsBadRow, ObservesBad}
 use Rattle.law_answers.specs.Reads.{IsFoundBy, ResolvesBy}
 use Rattle.law_answers.specs.Vacuums.{VacuumStageBy, VacuumEndBy, VacuumBy}
-use Rattle.law_answers.proofs.ReadSteps.{ComesTo, IsDataTable, bad_is, found_more, found_rows, open_is, recovered_is, rows_data, shown_read}
+use Rattle.law_answers.proofs.ReadSteps.{ComesTo, IsDataTable, bad_is, found_more, found_rows, open_is, recovered_is, rows_data, rows_read, shown_read}
 use Rattle.law_answers.proofs.Rows.{reply_now}
 use Rattle.sdb_types.specs.Replies.{is_applied, is_fault}
 use Rattle.sdb_vacuum.proofs.Counts.{open_state}
@@ -114,6 +119,13 @@ SweepsData (Resolving rec meta p left) = AllByRecursion (λ r. IsDataTable r.key
 SweepsData (Removing b left) = AllByRecursion (λ r. IsDataTable r.key.table) left
 SweepsData Over = Unit {0}
 
+-- so they are where a client is on tables of the catalog
+pub sweeps_of : (catalog : List Table) → ((k : Key) → is_some (find_table catalog k.table) ≡ true → is_data k ≡ true) → (s : VacuumStage) → IsVacuumStageIn catalog s → SweepsData s
+sweeps_of catalog apart (Scanning span) i = apart (record { table = span.table; partition = []; clustering = [] }) i
+sweeps_of catalog apart (Resolving rec meta p left) i = each_any (λ (r : Record). IsIn catalog r.key) (λ (r : Record). IsDataTable r.key.table) left (λ r z. apart r.key z) i.1
+sweeps_of catalog apart (Removing b left) i = each_any (λ (r : Record). IsIn catalog r.key) (λ (r : Record). IsDataTable r.key.table) left (λ r z. apart r.key z) i.1
+sweeps_of catalog apart Over i = tt
+
 module _ (events : List Event) (calls : List StoreCall) (m : StoreCall) (older : AllByRecursion (λ x. x.at < m.at) calls) (now : ℤ) (clock : clock_at events m.at ≡ now) where
   abbrev now_calls : List StoreCall
   now_calls = calls ++ m ∷ []
@@ -122,7 +134,7 @@ module _ (events : List Event) (calls : List StoreCall) (m : StoreCall) (older :
   SweepLed x = IfMore x.1 (VacuumBy (calls ++ m ∷ []) x.0) × VacuumEndBy (calls ++ m ∷ []) x.1
 
   without : (r : Record) (left : List Record) → IsFoundBy now_calls (r ∷ left) → IsFoundBy now_calls left
-  without r left f = record { read = f.read; among = f.among; reads = f.reads; found = f.found.1 }
+  without r left f = record { read = f.read; among = f.among; reads = f.reads; of_data = f.of_data; found = f.found.1 }
 
   first_led : (left : List Record) → IsFoundBy now_calls left → AllByRecursion (λ r. IsDataTable r.key.table) left → FirstBy now_calls (first_of left)
   first_led [] f k = tt
@@ -142,7 +154,7 @@ module _ (events : List Event) (calls : List StoreCall) (m : StoreCall) (older :
       by : (x : Kind) → kind_of r ≡ x → FirstBy now_calls (first_of left) → FirstBy now_calls (first_one x r left (first_of left))
       by Firm e h = here (is_tombstone r) h
       by (Open meta) e h = record { found = f; is_open = e; phase = tt }
-      by Bad e h = record { call = f.read; found = r; among = f.among; shown = shown_read f.read.reply r f.found.0; same = refl; bad = bad (bad_is r e) }
+      by Bad e h = record { call = f.read; found = r; among = f.among; shown = shown_read f.read.reply r f.found.0; same = refl; bad = bad (bad_is r e); place = inr (rows_read f.read f.reads f.of_data, f.found.0) }
 
   next_led : (ss : List Span) (n : ℕ) → n ≡ count_by removes now_calls → SweepLed (next_table ss n)
   next_led [] n e = (tt, e)
@@ -162,7 +174,7 @@ module _ (events : List Event) (calls : List StoreCall) (m : StoreCall) (older :
 
   answered_led : (ss : List Span) (n : ℕ) (span : Span) (r : Reply) → n ≡ count_by removes calls → IsDataTable span.table → m.request ≡ ask.Scan span → m.reply ≡ r → CanAnswer (ask.Scan span) r → SweepLed (answered ss n r)
   answered_led ss n span (reply.Rows rows) e k q f can =
-      on_led ss n rows (e ∙ count_none calls m (not_removal m (ap is_removal q))) (found_rows events calls m older now clock (access.Scan span) (reply.Rows rows) q f) (rows_data span rows k can)
+      on_led ss n rows (e ∙ count_none calls m (not_removal m (ap is_removal q))) (found_rows events calls m older now clock (access.Scan span) (reply.Rows rows) k q f) (rows_data span rows k can)
   answered_led ss n span (reply.Found found) e k q f can = (tt, tt)
   answered_led ss n span reply.Applied e k q f can = (tt, tt)
   answered_led ss n span (reply.NotMet found) e k q f can = (tt, tt)
@@ -187,7 +199,7 @@ module _ (events : List Event) (calls : List StoreCall) (m : StoreCall) (older :
   resolved_led ss n rec meta left p before (q, steps.NoMemory) e k h = (tt, tt)
 
   found_still : (left : List Record) → IsFoundBy calls left → IsFoundBy now_calls left
-  found_still left f = record { read = f.read; among = Contains-append_left calls (m ∷ []) f.read f.among; reads = f.reads; found = f.found }
+  found_still left f = record { read = f.read; among = Contains-append_left calls (m ∷ []) f.read f.among; reads = f.reads; of_data = f.of_data; found = f.found }
 
   removal_led : (ss : List Span) (n : ℕ) (b : Record) (left : List Record) (r : Reply) → n ≡ count_by removes calls → IsFoundBy calls left → AllByRecursion (λ x. IsDataTable x.key.table) left → is_removal m.request ≡ true → m.reply ≡ r → SweepLed (removal_answered ss n left r)
   removal_led ss n b left reply.Applied e f k q a = on_led ss (n + 1) left (ap (λ x. x + 1) e ∙ count_one calls m (ap (λ x. x && is_applied m.reply) q ∙ ap is_applied a)) (found_still left f) k

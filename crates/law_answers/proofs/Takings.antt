@@ -5,6 +5,7 @@ use Rattle.std.specs.List.{AllByRecursion, count_by}
 use Rattle.std.proofs.lemmas.Bool.{eqb-false, eqb-true}
 use Rattle.std.proofs.lemmas.Bool.Decides.{nat_tests}
 use Rattle.std.proofs.lemmas.List.{append-nil}
+use Rattle.sdb_record.specs.Coordinator.{is_coordinator_table}
 use Rattle.sdb_record.specs.Meta.{is_moment}
 use Rattle.sdb_schema.specs.declared.table.Table.{Table}
 use Rattle.sdb_schema.specs.Catalog.{is_catalog}
@@ -16,7 +17,7 @@ use Rattle.sdb_model.specs.declared.event.Event.TheVariants as event
 use Rattle.sdb_model.specs.declared.statement.Statement.{Statement}
 use Rattle.sdb_model.specs.declared.statement.Statement.TheVariants as statement
 use Rattle.sdb_model.specs.Calls.{StoreCall, calls_by, calls_of, end_of}
-use Rattle.sdb_model.specs.Causes.{IsCaused, IsRejected, MayPassMost, NeedsTransaction, SomeClient, before, is_open, is_open_after, records_found, refused, removes, runs_vacuum}
+use Rattle.sdb_model.specs.Causes.{IsBadRecord, IsCaused, IsRejected, MayPassMost, NeedsTransaction, SomeClient, before, is_open, is_open_after, records_found, refused, removes, runs_vacuum}
 use Rattle.sdb_model.specs.Exec.{find_table, named_table, table_of}
 use Rattle.sdb_model.specs.Follows.{has_stopped}
 use Rattle.sdb_model.specs.Refused.{refusal_by, refusal_of}
@@ -26,8 +27,8 @@ use Rattle.sdb_sqltext.proofs.Clauses.{not_both, one_refusal, one_statement}
 use Rattle.sdb_sqltext.proofs.OneWord.{begin_read, commit_read, rollback_read, vacuum_read}
 use Rattle.sdb_exec.specs.declared.plan.PlanStep.{PlanStep}
 use Rattle.sdb_exec.specs.declared.plan.PlanStep.TheVariants.{Finished, Read as Wants}
-use Rattle.sdb_exec.specs.Plans.{Planned, changes_on}
-use Rattle.sdb_exec.specs.Reads.{access_of}
+use Rattle.sdb_exec.specs.Plans.{Planned, changes_on, first_unfit}
+use Rattle.sdb_model.specs.Reads.{access_of}
 use Rattle.sdb_phases.specs.Commit.{preparing}
 use Rattle.sdb_txn.specs.declared.txn.Doing.{Doing}
 use Rattle.sdb_txn.specs.declared.txn.Doing.TheVariants as doing
@@ -38,7 +39,8 @@ use Rattle.law_clients.specs.Invariant.{IsInner}
 use Rattle.sdb_snapshot.specs.Seen.{overlay, row_seen}
 use Rattle.law_clients.specs.States.{ClientState, IsReady}
 use Rattle.law_clients.proofs.Taken.{other_no_begin, other_no_commit, refused_no_commit}
-use Rattle.law_clients.proofs.InTables.{own_table}
+use Rattle.law_clients.proofs.Finishing.{given_finishes}
+use Rattle.law_clients.proofs.InTables.{access_table, own_table}
 use Rattle.law_clients.proofs.RowsFit.{found_itself}
 use Rattle.law_clients.proofs.Whole.{by_memory, literals_read, other_no_rollback}
 use Rattle.sdb_types.specs.declared.key.Key.{Key}
@@ -51,14 +53,15 @@ use Rattle.law_answers.specs.Filled.{IsFilled, IsFilledBy, IsFilledIn, rows_coun
 use Rattle.law_answers.specs.Changes.{SeenBy, read_items_of_body}
 use Rattle.law_answers.proofs.Conflicts.{begins_checked}
 use Rattle.law_answers.proofs.Moving.{IsTaken, work_by}
-use Rattle.law_answers.proofs.Noting.{moved_all, moved_still, noted_more, noted_still, unmoved}
+use Rattle.law_answers.proofs.Noting.{moved_all, moved_still, noted_more, noted_still, rest_all, since_all, unmoved}
 use Rattle.law_answers.specs.Invariant.{IsAnswered, IsDoing, CauseInvariant, IsGate, IsReadSetOf, IsOpenAs, Knows, SomeInVacuum, DoingByHistory, ClientByHistory, begun_in, open_after}
-use Rattle.law_answers.specs.Unfit.{IsWellTypedTxn, SeesWellTyped, SeesWellTypedIn, AreStoredReplies}
+use Rattle.law_answers.specs.Unfit.{IsFitOrReadTxn, SeesFitOrRead, SeesFitOrReadIn, AreStoredReplies}
 use Rattle.law_answers.proofs.Calls.{before_taken, calls_open, calls_within, end_answered, end_waiting, later_same, none_made}
 use Rattle.law_answers.proofs.Filling.{filled_found, filled_given, filled_idle, filled_more, filled_nothing, filled_stays, filled_up, further, passes_given, zero_least}
 use Rattle.law_answers.proofs.Passing.{pass_now, least}
-use Rattle.law_answers.proofs.Unfit.{fit_nothing, given_fits, none_unfits}
-use Rattle.law_answers.proofs.Given.{IsMiddle, given_caused, given_middle}
+use Rattle.law_answers.proofs.Misfits.{fit_nothing, fits_idle, fits_more, fits_stay, meets_now}
+use Rattle.law_answers.proofs.Unfit.{given_fits, was_misfit}
+use Rattle.law_answers.proofs.Given.{IsMiddle, given_caused, given_middle, unfit_data}
 use Rattle.law_answers.proofs.Knowing.{after_begin, after_end, after_more, after_plain, open_more, open_now, sweeps_now}
 use Rattle.law_answers.proofs.Later.{answered_stay}
 use Rattle.law_answers.proofs.Lists.{begun_more, begun_same, since_new}
@@ -76,7 +79,7 @@ use Rattle.law_answers.proofs.ShowsGiven.{next_given}
 use Rattle.law_answers.proofs.ShowsTold.{ShowsNext, next_same, sees_then, showing_stays, shows_end, shows_further}
 use Rattle.sdb_model.specs.Calls.{decision_learned}
 use Rattle.sdb_model.specs.Causes.{IsDecided}
-use Rattle.sdb_model.specs.ReadSet.{ReadItem, read_finished}
+use Rattle.sdb_model.specs.ReadSet.{ReadItem, has_read, read_finished}
 use Rattle.sdb_model.specs.Transactions.{rest_of}
 use Rattle.sdb_record.specs.declared.coordinator.Decision.TheVariants as decision
 use Rattle.sdb_types.specs.declared.txid.TxId.{TxId}
@@ -106,34 +109,31 @@ middle_ends s a e m c = ap (λ o. reads_commit s.text || is_conflict o || (reads
     none false = refl
 
 -- what a plan leaves does nothing
-pub left_idle : (was t : TxnAt) (s : PlanStep) → was.doing ≡ doing.Idle → t.doing ≡ doing.Idle → (given_left was t s).doing ≡ doing.Idle
-left_idle was t (Finished a ks) h k = by (changes_nothing (given_answer t (Finished a ks))) (read_finished (given_answer t (Finished a ks)))
+pub left_idle : (t : TxnAt) (s : PlanStep) → t.doing ≡ doing.Idle → (given_left t s).doing ≡ doing.Idle
+left_idle t (Finished a ks) h = by (changes_nothing (given_answer t (Finished a ks)))
   where
-    by : (b f : Bool) → (if b then (if f then t else was) else written t ks).doing ≡ doing.Idle
-    by true true = k
-    by true false = h
-    by false f = k
-left_idle was t (Wants a) h k = h
+    by : (b : Bool) → (if b then t else written t ks).doing ≡ doing.Idle
+    by true = h
+    by false = h
+left_idle t (Wants a) h = h
 
 -- and is the same transaction
-pub left_id : (was t : TxnAt) (s : PlanStep) → was.id ≡ t.id → (given_left was t s).id ≡ t.id
-left_id was t (Finished a ks) h = by (changes_nothing (given_answer t (Finished a ks))) (read_finished (given_answer t (Finished a ks)))
+pub left_id : (t : TxnAt) (s : PlanStep) → (given_left t s).id ≡ t.id
+left_id t (Finished a ks) = by (changes_nothing (given_answer t (Finished a ks)))
   where
-    by : (b f : Bool) → (if b then (if f then t else was) else written t ks).id ≡ t.id
-    by true true = refl
-    by true false = h
-    by false f = refl
-left_id was t (Wants a) h = h
+    by : (b : Bool) → (if b then t else written t ks).id ≡ t.id
+    by true = refl
+    by false = refl
+left_id t (Wants a) = refl
 
 -- and has read what it had
-pub left_reads : (was t : TxnAt) (s : PlanStep) → was.seen.reads ≡ t.seen.reads → was.seen.scans ≡ t.seen.scans → ((given_left was t s).seen.reads ≡ t.seen.reads) × ((given_left was t s).seen.scans ≡ t.seen.scans)
-left_reads was t (Finished a ks) r x = by (changes_nothing (given_answer t (Finished a ks))) (read_finished (given_answer t (Finished a ks)))
+pub left_reads : (t : TxnAt) (s : PlanStep) → ((given_left t s).seen.reads ≡ t.seen.reads) × ((given_left t s).seen.scans ≡ t.seen.scans)
+left_reads t (Finished a ks) = by (changes_nothing (given_answer t (Finished a ks)))
   where
-    by : (b f : Bool) → ((if b then (if f then t else was) else written t ks).seen.reads ≡ t.seen.reads) × ((if b then (if f then t else was) else written t ks).seen.scans ≡ t.seen.scans)
-    by true true = (refl, refl)
-    by true false = (r, x)
-    by false f = (refl, refl)
-left_reads was t (Wants a) r x = (r, x)
+    by : (b : Bool) → ((if b then t else written t ks).seen.reads ≡ t.seen.reads) × ((if b then t else written t ks).seen.scans ≡ t.seen.scans)
+    by true = (refl, refl)
+    by false = (refl, refl)
+left_reads t (Wants a) = (refl, refl)
 
 none_kept : {X : Type 0} (p : X → Bool) (xs : List X) → AllByRecursion (λ x. p x ≡ false) xs → filter p xs ≡ []
 none_kept p [] all = refl
@@ -357,7 +357,7 @@ module _ (q : Taking) (events : List Event) (states : ℕ → ClientState) (ex :
 
   -- it is answered at once
   at_once : (b : Answer) (d : Client) → is_conflict (Some b) ≡ false → Caused b → Turned (Some b) → d.number ≡ h.number → d.begun ≡ begun_in (k.told ++ one (Some b) ∷ []) → d.begun < 2 ^ 64
-      → ClientByHistory (E (Some b)) c d.begun (k.told ++ one (Some b) ∷ []) None d.plan d.txn d.vacuum → NotedThen (Some b) d → IfSome d.txn (IsFilled (E (Some b)) c (rest_of (from_begin d.begun (k.told ++ one (Some b) ∷ [])))) → IfSome d.txn (IsWellTypedTxn q.catalog) → ShowsNext q.catalog (E (Some b)) c k.told (one (Some b)) b d → So (Some b) d
+      → ClientByHistory (E (Some b)) c d.begun (k.told ++ one (Some b) ∷ []) None d.plan d.txn d.vacuum → NotedThen (Some b) d → IfSome d.txn (IsFilled (E (Some b)) c (rest_of (from_begin d.begun (k.told ++ one (Some b) ∷ [])))) → IfSome d.txn (IsFitOrReadTxn q.catalog (E (Some b)) c (rest_of (from_begin d.begun (k.told ++ one (Some b) ∷ [])))) → ShowsNext q.catalog (E (Some b)) c k.told (one (Some b)) b d → So (Some b) d
   at_once b d agrees caused turned number begun small stands as_read filled fits shows = record {
     told = k.told ++ one (Some b) ∷ [];
     waiting = None;
@@ -380,7 +380,7 @@ module _ (q : Taking) (events : List Event) (states : ℕ → ClientState) (ex :
     filled = filled;
     fits = fits;
     stored = still_stored (Some b);
-    rolled = rolls_end q.catalog c events (event.Take c text (Some b)) k.told k.waiting h k.answered k.rolled (one (Some b)) d [] (none_yet c events text (Some b)) (λ a e rows. none_found (E (Some b)) (reads_vacuum text));
+    rolled = rolls_end q.catalog c events (event.Take c text (Some b)) k.told k.waiting h k.answered k.rolled (one (Some b)) d [] (none_yet c events text (Some b)) (λ read. none_found (E (Some b)) (reads_vacuum text));
     shows = shows_end q.catalog c events (event.Take c text (Some b)) k.told k.answered h k.shows k.counted.paired (one (Some b)) b d refl shows;
   }
     where
@@ -403,7 +403,7 @@ module _ (q : Taking) (events : List Event) (states : ℕ → ClientState) (ex :
 
   -- it waits
   waits : (d : Client) → Turned None → reads_begin text ≡ false → reads_vacuum text ≡ is_some d.vacuum → is_some h.txn ≡ not (is_some d.vacuum) → d.number ≡ h.number → d.begun ≡ h.begun
-      → ClientByHistory (E None) c d.begun k.told (Some (one None)) d.plan d.txn d.vacuum → ReadByTxn so_noted d.txn × WaitCounted q.catalog text so_id so_noted [] d.vacuum d.txn → IfSome d.txn (IsFilled (E None) c (rest_of (from_begin d.begun k.told))) → IfSome d.txn (IsWellTypedTxn q.catalog) → WaitRolls (E None) (reads_vacuum text) [] d.vacuum d.txn → SeesThen d → So None d
+      → ClientByHistory (E None) c d.begun k.told (Some (one None)) d.plan d.txn d.vacuum → ReadByTxn so_noted d.txn × WaitCounted q.catalog text so_id so_noted [] d.vacuum d.txn → IfSome d.txn (IsFilled (E None) c (rest_of (from_begin d.begun k.told))) → IfSome d.txn (IsFitOrReadTxn q.catalog (E None) c (rest_of (from_begin d.begun k.told))) → WaitRolls (E None) (reads_vacuum text) [] d.vacuum d.txn → SeesThen d → So None d
   waits d turned no_begin sweeps open_txn number begun stands begins_counted filled fits rolls sees = record {
     told = k.told;
     waiting = Some (one None);
@@ -436,7 +436,7 @@ module _ (q : Taking) (events : List Event) (states : ℕ → ClientState) (ex :
 
   -- and its transaction is open
   waits_open : (d : Client) → Turned None → reads_begin text ≡ false → reads_vacuum text ≡ false → is_some h.txn ≡ true → d.number ≡ h.number → d.begun ≡ h.begun → d.vacuum ≡ h.vacuum
-      → DoingByHistory (E None) c d.begun k.told (Some (one None)) d.plan d.txn → ReadByTxn so_noted d.txn × OpenCounted text so_id so_noted [] d.txn → IfSome d.txn (IsFilled (E None) c (rest_of (from_begin d.begun k.told))) → IfSome d.txn (IsWellTypedTxn q.catalog) → WaitRolls (E None) (reads_vacuum text) [] None d.txn → SeesThen d → So None d
+      → DoingByHistory (E None) c d.begun k.told (Some (one None)) d.plan d.txn → ReadByTxn so_noted d.txn × OpenCounted text so_id so_noted [] d.txn → IfSome d.txn (IsFilled (E None) c (rest_of (from_begin d.begun k.told))) → IfSome d.txn (IsFitOrReadTxn q.catalog (E None) c (rest_of (from_begin d.begun k.told))) → WaitRolls (E None) (reads_vacuum text) [] None d.txn → SeesThen d → So None d
   waits_open d turned no_begin no_vacuum open_txn number begun same stands begins_counted filled fits rolls sees =
       let free : d.vacuum ≡ None = same ∙ ready.idle.free in
       waits d turned no_begin (no_vacuum ∙ sym (ap is_some free)) (open_txn ∙ sym (ap (λ o. not (is_some o)) free)) number begun (subst (ClientByHistory (E None) c d.begun k.told (Some (one None)) d.plan d.txn) (sym free) stands) (begins_counted.0, subst (λ v. WaitCounted q.catalog text so_id so_noted [] v d.txn) (sym free) begins_counted.1) filled fits (subst (λ v. WaitRolls (E None) (reads_vacuum text) [] v d.txn) (sym free) rolls) sees
@@ -482,11 +482,24 @@ module _ (q : Taking) (events : List Event) (states : ℕ → ClientState) (ex :
       subst (λ r. IsFilledIn events c (rest_of r) t.seen doing.Idle) (stands_open t e).1.since (subst (IsFilledIn events c (rest_of (from_begin h.begun k.told)) t.seen) (idle_of t e) s)
 
   filled_reading : (t : TxnAt) → h.txn ≡ Some t → IsFilledBy (rows_counted_by (rest_of (from_begin h.begun k.told))) (records_found_by (E None) c (rest_of (from_begin h.begun k.told))) t.seen
-  filled_reading t e = subst (IsFilledIn (E None) c (rest_of (from_begin h.begun k.told)) t.seen) (idle_of t e) (filled_stays events (event.Take c text None) c (rest_of (from_begin h.begun k.told)) (Some t) (subst (λ (o : Option TxnAt). IfSome o (IsFilled events c (rest_of (from_begin h.begun k.told)))) e k.filled))
+  filled_reading t e = subst (IsFilledIn (E None) c (rest_of (from_begin h.begun k.told)) t.seen) (idle_of t e) (filled_stays q.catalog events (event.Take c text None) c (rest_of (from_begin h.begun k.told)) (Some t) (rest_all (IsAnswered q.catalog events c) h.begun k.told k.answered) (subst (λ (o : Option TxnAt). IfSome o (IsFilled events c (rest_of (from_begin h.begun k.told)))) e k.filled))
 
-  -- what it sees fits
-  fit_open : (t : TxnAt) → h.txn ≡ Some t → SeesWellTyped q.catalog t.seen
-  fit_open t e = subst (SeesWellTypedIn q.catalog t.seen) (idle_of t e) (subst (λ (o : Option TxnAt). IfSome o (IsWellTypedTxn q.catalog)) e k.fits)
+  -- its statements were answered
+  body_open : (t : TxnAt) (e : h.txn ≡ Some t) → AllByRecursion (IsAnswered q.catalog events c) (stands_open t e).1.body
+  body_open t e = let o = (stands_open t e).1 in since_all (IsAnswered q.catalog events c) h.begun k.told o.begin o.body k.answered o.since
+
+  -- what it sees fits, or one of them read it
+  fit_stays : (result : Option Answer) → IfSome h.txn (IsFitOrReadTxn q.catalog (E result) c (rest_of (from_begin h.begun k.told)))
+  fit_stays result = fits_stay q.catalog events (event.Take c text result) c h.begun k.told h.txn k.answered k.fits
+
+  fit_reading : (t : TxnAt) → h.txn ≡ Some t → SeesFitOrRead q.catalog (E None) c (rest_of (from_begin h.begun k.told)) t.seen
+  fit_reading t e = subst (SeesFitOrReadIn q.catalog (E None) c (rest_of (from_begin h.begun k.told)) t.seen) (idle_of t e) (subst (λ (o : Option TxnAt). IfSome o (IsFitOrReadTxn q.catalog (E None) c (rest_of (from_begin h.begun k.told)))) e (fit_stays None))
+
+  fit_more : (b : Answer) (t : TxnAt) (e : h.txn ≡ Some t) → SeesFitOrRead q.catalog (E (Some b)) c ((stands_open t e).1.body ++ one (Some b) ∷ []) t.seen
+  fit_more b t e =
+      let s : SeesFitOrReadIn q.catalog (E (Some b)) c (rest_of (from_begin h.begun k.told)) t.seen t.doing = subst (λ (o : Option TxnAt). IfSome o (IsFitOrReadTxn q.catalog (E (Some b)) c (rest_of (from_begin h.begun k.told)))) e (fit_stays (Some b)) in
+      fits_more q.catalog (E (Some b)) c (stands_open t e).1.body (one (Some b)) t.seen
+      (subst (λ r. SeesFitOrReadIn q.catalog (E (Some b)) c (rest_of r) t.seen doing.Idle) (stands_open t e).1.since (subst (SeesFitOrReadIn q.catalog (E (Some b)) c (rest_of (from_begin h.begun k.told)) t.seen) (idle_of t e) s))
 
   -- what it sees it has
   sees_open : (t : TxnAt) (e : h.txn ≡ Some t) → SeesOwn q.catalog events c (stands_open t e).1.body t.seen
@@ -506,7 +519,7 @@ module _ (q : Taking) (events : List Event) (states : ℕ → ClientState) (ex :
 
   -- as it was
   same : (b : Answer) → IsMiddle b → (is_some h.txn ≡ true → reads_commit text ≡ false) → (is_some h.txn ≡ true → changes_nothing b ≡ true) → Caused b → Turned (Some b) → So (Some b) h
-  same b m no_commit idles caused turned = at_once b h m.agrees caused turned refl (begun_plain b m.undone) k.small (on_free (Some b) h.begun (k.told ++ one (Some b) ∷ []) None h.plan h.txn (by h.txn refl)) (subst (λ ns. ReadByTxn ns h.txn) (sym (noted_at_once (Some b))) k.counted.as_read) (filled_by h.txn refl) k.fits (shows_by h.txn refl)
+  same b m no_commit idles caused turned = at_once b h m.agrees caused turned refl (begun_plain b m.undone) k.small (on_free (Some b) h.begun (k.told ++ one (Some b) ∷ []) None h.plan h.txn (by h.txn refl)) (subst (λ ns. ReadByTxn ns h.txn) (sym (noted_at_once (Some b))) k.counted.as_read) (filled_by h.txn refl) (fits_by h.txn refl) (shows_by h.txn refl)
     where
       by : (o : Option TxnAt) → h.txn ≡ o → DoingByHistory (E (Some b)) c h.begun (k.told ++ one (Some b) ∷ []) None h.plan o
       by None e = stands_none b h.plan m.undone (stands_closed e)
@@ -516,7 +529,11 @@ module _ (q : Taking) (events : List Event) (states : ℕ → ClientState) (ex :
       filled_by None e = tt
       filled_by (Some t) e =
           let o = (stands_open t e).1 in
-          filled_idle (E (Some b)) c h.begun k.told (one (Some b)) o.begin o.body t o.since (idle_of t e) (filled_more events (event.Take c text (Some b)) c o.body (one (Some b)) t.seen (filled_open t e))
+          filled_idle (E (Some b)) c h.begun k.told (one (Some b)) o.begin o.body t o.since (idle_of t e) (filled_more q.catalog events (event.Take c text (Some b)) c o.body (one (Some b)) t.seen (body_open t e) (filled_open t e))
+
+      fits_by : (o : Option TxnAt) → h.txn ≡ o → IfSome o (IsFitOrReadTxn q.catalog (E (Some b)) c (rest_of (from_begin h.begun (k.told ++ one (Some b) ∷ []))))
+      fits_by None e = tt
+      fits_by (Some t) e = let o = (stands_open t e).1 in fits_idle q.catalog (E (Some b)) c h.begun k.told (one (Some b)) o.begin o.body t o.since (idle_of t e) (fit_more b t e)
 
       shows_by : (o : Option TxnAt) → h.txn ≡ o → (open_after k.told ≡ true → GivesOwn q.catalog (E (Some b)) c (rest_of (from_begin (begun_in k.told) k.told)) (one (Some b)) b) × IfSome o (IsViewOf q.catalog (E (Some b)) c (rest_of (from_begin h.begun (k.told ++ one (Some b) ∷ []))))
       shows_by None e = ((λ opens. clash (sym opens ∙ stands_closed e)), tt)
@@ -572,7 +589,7 @@ module _ (q : Taking) (events : List Event) (states : ℕ → ClientState) (ex :
           as_so (Some answer.Done) result (with_begun h (next_id h)) d y.0 (y.1 ∙ ap (with_begun h) numbered)
           (at_once answer.Done (with_begun h (next_id h)) refl (λ z. inl reads) (subst Turned y.0 turned) refl (ap (λ n. n + 1) k.begun ∙ sym (begun_more k.told (one (Some answer.Done)) begun_now)) (subst (λ (x : Client). x.begun < 2 ^ 64) (y.1 ∙ ap (with_begun h) numbered) few)
           (after_more k.told (one (Some answer.Done)) ∙ after_begin (open_after k.told) (one (Some answer.Done)) begun_now, opens, refl, record { reads = tt; scans = tt }) (subst (λ ss. ReadItemsAre (read_items_of_body (E (Some answer.Done)) c (rest_of ss)) [] []) (sym opens.since) (record { reads = refl; scans = refl }))
-          (filled_nothing (rows_counted_by (rest_of (from_begin (h.begun + 1) (k.told ++ one (Some answer.Done) ∷ [])))) (records_found_by (E (Some answer.Done)) c (rest_of (from_begin (h.begun + 1) (k.told ++ one (Some answer.Done) ∷ []))))) (fit_nothing q.catalog) ((λ was. tt), (λ key as_read. clash (sym as_read))))
+          (filled_nothing (rows_counted_by (rest_of (from_begin (h.begun + 1) (k.told ++ one (Some answer.Done) ∷ [])))) (records_found_by (E (Some answer.Done)) c (rest_of (from_begin (h.begun + 1) (k.told ++ one (Some answer.Done) ∷ []))))) (fit_nothing q.catalog (E (Some answer.Done)) c (rest_of (from_begin (h.begun + 1) (k.told ++ one (Some answer.Done) ∷ [])))) ((λ was. tt), (λ key as_read fits. clash (sym as_read))))
 
   commit_case : (o : Option TxnAt) (result : Option Answer) (d : Client) → h.txn ≡ o → Reads text statement.Commit → Turned result → CommitStartPost q.now h o result d → So result d
   commit_case None result d e reads turned x = as_refused (record { kind = 5; place = 0 }) result d (λ z. clash (sym z ∙ ap is_some e)) x (outside statement.Commit reads ((λ y. cc), (λ y. cc)) e) turned
@@ -623,7 +640,7 @@ module _ (q : Taking) (events : List Event) (states : ℕ → ClientState) (ex :
         shut,
         stands_closed shut,
         (sym (ap (count_by removes) (none_yet c events text None)), tt),
-      ) (k.counted.as_read, subst (λ (catalog : List Table). VacuumIsCounted catalog [] (begins_sweep (t ∷ ts))) of_it (sweep_begins t ts)) (subst (λ (o : Option TxnAt). IfSome o (IsFilled (E None) c (rest_of (from_begin h.begun k.told)))) (sym shut) tt) (subst (λ (o : Option TxnAt). IfSome o (IsWellTypedTxn q.catalog)) (sym shut) tt) (none_found (E None) (reads_vacuum text)) (λ z. subst (λ (o : Option TxnAt). IfSome o (IsViewOf q.catalog (E None) c (rest_of (from_begin h.begun k.told)))) (sym shut) tt))
+      ) (k.counted.as_read, subst (λ (catalog : List Table). VacuumIsCounted catalog [] (begins_sweep (t ∷ ts))) of_it (sweep_begins t ts)) (subst (λ (o : Option TxnAt). IfSome o (IsFilled (E None) c (rest_of (from_begin h.begun k.told)))) (sym shut) tt) (subst (λ (o : Option TxnAt). IfSome o (IsFitOrReadTxn q.catalog (E None) c (rest_of (from_begin h.begun k.told)))) (sym shut) tt) (none_found (E None) (reads_vacuum text)) (λ z. subst (λ (o : Option TxnAt). IfSome o (IsViewOf q.catalog (E None) c (rest_of (from_begin h.begun k.told)))) (sym shut) tt))
 
   abbrev given_now : Table → Statement → TxnAt → Answer
   given_now table st t = given_answer t (gives (plan_of table st) (access_of table st) t)
@@ -632,7 +649,7 @@ module _ (q : Taking) (events : List Event) (states : ℕ → ClientState) (ex :
       → RowsPost (plan_of table st) (access_of table st) h t result d → So result d
   rows_case st t result d table e reads inner no_sweep taken named turned x =
       by_test (is_covered t.seen (access_of table st))
-      (λ b. let r = x.known b in as_so (Some (given_answer t (gives (plan_of table st) (access_of table st) t))) result (holding h (given_left t t (gives (plan_of table st) (access_of table st) t))) d r.0 r.1 (known (subst Turned r.0 turned)))
+      (λ b. let r = x.known b in as_so (Some (given_answer t (gives (plan_of table st) (access_of table st) t))) result (holding h (given_left t (gives (plan_of table st) (access_of table st) t))) d r.0 r.1 (known (subst Turned r.0 turned)))
       (λ b. let r = x.unknown b in as_so None result (record h { txn = Some (reading t (access_of table st)); plan = Some (plan_of table st) }) d r.0 r.1 (unknown (subst Turned r.0 turned)))
     where
       s : (open_after k.told ≡ true) × (o : IsOpenAs c h.begun k.told t) × SeenBy (read_items_of_body events c o.body) t.seen
@@ -655,34 +672,49 @@ module _ (q : Taking) (events : List Event) (states : ℕ → ClientState) (ex :
       filled_now : IsFilledBy (rows_counted_by s.1.body) (records_found_by events c s.1.body + 0) t.seen
       filled_now = filled_up (rows_counted_by s.1.body) (rows_counted_by s.1.body) (records_found_by events c s.1.body) (records_found_by events c s.1.body + 0) t.seen (least (rows_counted_by s.1.body)) (further (records_found_by events c s.1.body) 0) (filled_open t e)
 
+      -- its read has finished
+      own_data : not (is_coordinator_table (access_table (access_of table st))) ≡ true
+      own_data = subst (λ x. not (is_coordinator_table x) ≡ true) (sym (own_table table st)) (apart (record { table = table.name; partition = []; clustering = [] }) (ap is_some listed))
+
+      finished : has_read (E (Some (given_now table st t))) c (one (Some (given_now table st t))) ≡ true
+      finished =
+          ap (λ ms. read_finished ms (given_now table st t)) (none_yet c events text (Some (given_now table st t)))
+          ∙ given_finishes [] (plan_of table st) (overlay (access_of table st) t.seen) t refl (λ key f. unfit_data (access_of table st) t.seen table key own_data f) refl
+
       -- the changes may be too many
       passes : too_many t (changes_on table st (overlay (access_of table st) t.seen)) ≡ true → MayPassMost (E (Some (given_now table st t))) c (one (Some (given_now table st t)))
       passes many =
           pass_now c h.begun (E (Some (given_now table st t))) k.told s.1.begin (one (Some (given_now table st t))) s.1.body st k.small (said_then (given_now table st t)) s.1.since s.1.goes_on reads
-          (passes_given (rows_counted_by s.1.body) (records_found_by (E (Some (given_now table st t))) c s.1.body + records_found (calls_of (E (Some (given_now table st t))) c (one (Some (given_now table st t))))) t (access_of table st) table st (filled_found events (event.Take c text (Some (given_now table st t))) c s.1.body 0 (records_found (calls_of (E (Some (given_now table st t))) c (one (Some (given_now table st t))))) t.seen (zero_least (records_found (calls_of (E (Some (given_now table st t))) c (one (Some (given_now table st t)))))) filled_now) many)
+          (passes_given (rows_counted_by s.1.body) (records_found_by (E (Some (given_now table st t))) c s.1.body + records_found (calls_of (E (Some (given_now table st t))) c (one (Some (given_now table st t))))) t (access_of table st) table st (filled_found q.catalog events (event.Take c text (Some (given_now table st t))) c s.1.body 0 (records_found (calls_of (E (Some (given_now table st t))) c (one (Some (given_now table st t))))) t.seen (body_open t e) (zero_least (records_found (calls_of (E (Some (given_now table st t))) c (one (Some (given_now table st t)))))) filled_now) many)
 
-      left_filled : IsFilled (E (Some (given_now table st t))) c (rest_of (from_begin h.begun (k.told ++ one (Some (given_now table st t)) ∷ []))) (given_left t t (gives (plan_of table st) (access_of table st) t))
+      left_filled : IsFilled (E (Some (given_now table st t))) c (rest_of (from_begin h.begun (k.told ++ one (Some (given_now table st t)) ∷ []))) (given_left t (gives (plan_of table st) (access_of table st) t))
       left_filled =
-          filled_idle (E (Some (given_now table st t))) c h.begun k.told (one (Some (given_now table st t))) s.1.begin s.1.body (given_left t t (gives (plan_of table st) (access_of table st) t)) s.1.since (left_idle t t (gives (plan_of table st) (access_of table st) t) idle idle)
-          (filled_given events (event.Take c text (Some (given_now table st t))) c s.1.body (one (Some (given_now table st t))) (plan_of table st) (overlay (access_of table st) t.seen) t t 0 refl (zero_least (records_found (calls_of (E (Some (given_now table st t))) c (one (Some (given_now table st t)))))) (filled_open t e) filled_now)
+          filled_idle (E (Some (given_now table st t))) c h.begun k.told (one (Some (given_now table st t))) s.1.begin s.1.body (given_left t (gives (plan_of table st) (access_of table st) t)) s.1.since (left_idle t (gives (plan_of table st) (access_of table st) t) idle)
+          (filled_given q.catalog events (event.Take c text (Some (given_now table st t))) c s.1.body (one (Some (given_now table st t))) (plan_of table st) (overlay (access_of table st) t.seen) t 0 (body_open t e) refl finished (zero_least (records_found (calls_of (E (Some (given_now table st t))) c (one (Some (given_now table st t)))))) filled_now)
 
-      left_fits : SeesWellTypedIn q.catalog (given_left t t (gives (plan_of table st) (access_of table st) t)).seen (given_left t t (gives (plan_of table st) (access_of table st) t)).doing
+      left_fits : IsFitOrReadTxn q.catalog (E (Some (given_now table st t))) c (rest_of (from_begin h.begun (k.told ++ one (Some (given_now table st t)) ∷ []))) (given_left t (gives (plan_of table st) (access_of table st) t))
       left_fits =
-          subst (SeesWellTypedIn q.catalog (given_left t t (gives (plan_of table st) (access_of table st) t)).seen) (sym (left_idle t t (gives (plan_of table st) (access_of table st) t) idle idle))
-          (given_fits q.catalog (plan_of table st) (access_of table st) listed (own_table table st) is named refl taken (literals_read text st reads) refl t t (fit_open t e) (λ n. fit_open t e))
+          fits_idle q.catalog (E (Some (given_now table st t))) c h.begun k.told (one (Some (given_now table st t))) s.1.begin s.1.body (given_left t (gives (plan_of table st) (access_of table st) t)) s.1.since (left_idle t (gives (plan_of table st) (access_of table st) t) idle)
+          (given_fits q.catalog (plan_of table st) (access_of table st) listed (own_table table st) is named refl taken (literals_read text st reads) refl (E (Some (given_now table st t))) c (s.1.body ++ one (Some (given_now table st t)) ∷ []) t (fit_more (given_now table st t) t e))
 
-      shows_known : ShowsNext q.catalog (E (Some (given_now table st t))) c k.told (one (Some (given_now table st t))) (given_now table st t) (holding h (given_left t t (gives (plan_of table st) (access_of table st) t)))
+      -- a row that doesn't fit was read by a statement before
+      misfit_caused : (key : Key) → first_unfit table (overlay (access_of table st) t.seen) ≡ Some key → IsBadRecord q.catalog (E (Some (given_now table st t))) c (one (Some (given_now table st t))) key
+      misfit_caused key f =
+          let m = was_misfit q.catalog (plan_of table st) (access_of table st) listed (own_table table st) (E (Some (given_now table st t))) c (s.1.body ++ one (Some (given_now table st t)) ∷ []) t.seen key (fit_more (given_now table st t) t e) f in
+          inr (meets_now q.catalog c h.begun (E (Some (given_now table st t))) k.told s.1.begin (one (Some (given_now table st t))) s.1.body st table key k.small (said_then (given_now table st t)) s.1.since s.1.goes_on reads named m.0 m.1)
+
+      shows_known : ShowsNext q.catalog (E (Some (given_now table st t))) c k.told (one (Some (given_now table st t))) (given_now table st t) (holding h (given_left t (gives (plan_of table st) (access_of table st) t)))
       shows_known =
           let before : SeesOwn q.catalog (E (Some (given_now table st t))) c s.1.body t.seen = sees_then q.catalog c events (event.Take c text (Some (given_now table st t))) k.told k.answered h.begun s.1.begin s.1.body s.1.since t.seen (sees_open t e) (one (Some (given_now table st t))) in
-          next_given q.catalog (E (Some (given_now table st t))) c h.begun k.told (one (Some (given_now table st t))) s.1.begin s.1.body (plan_of table st) (access_of table st) t t s.1.since k.begun is reads named refl refl refl (left_idle t t (gives (plan_of table st) (access_of table st) t) idle idle) (sound t e).kept.read (λ n. fit_open t e) before
-          (λ told key as_read. has_before q.catalog (E (Some (given_now table st t))) c s.1.body (one (Some (given_now table st t))) key (row_seen t.seen.read_set t.seen.writes key) (before key as_read))
+          next_given q.catalog (E (Some (given_now table st t))) c h.begun k.told (one (Some (given_now table st t))) s.1.begin s.1.body (plan_of table st) (access_of table st) t s.1.since k.begun is reads named refl refl refl (left_idle t (gives (plan_of table st) (access_of table st) t) idle) (sound t e).kept.read
+          (λ key as_read fits. has_before q.catalog (E (Some (given_now table st t))) c s.1.body (one (Some (given_now table st t))) key (row_seen t.seen.read_set t.seen.writes key) (before key as_read fits))
 
-      known : Turned (Some (given_answer t (gives (plan_of table st) (access_of table st) t))) → So (Some (given_answer t (gives (plan_of table st) (access_of table st) t))) (holding h (given_left t t (gives (plan_of table st) (access_of table st) t)))
+      known : Turned (Some (given_answer t (gives (plan_of table st) (access_of table st) t))) → So (Some (given_answer t (gives (plan_of table st) (access_of table st) t))) (holding h (given_left t (gives (plan_of table st) (access_of table st) t)))
       known turned =
           let m = given_middle (plan_of table st) (overlay (access_of table st) t.seen) t in
-          at_once (given_answer t (gives (plan_of table st) (access_of table st) t)) (holding h (given_left t t (gives (plan_of table st) (access_of table st) t))) m.agrees (given_caused q.catalog (E (Some (given_answer t (gives (plan_of table st) (access_of table st) t)))) c (one (Some (given_answer t (gives (plan_of table st) (access_of table st) t)))) (plan_of table st) (overlay (access_of table st) t.seen) t reads named refl open_before (λ key f. absurd (none_unfits q.catalog (plan_of table st) (access_of table st) listed (own_table table st) t.seen key (fit_open t e) f)) passes) turned refl (begun_plain (given_answer t (gives (plan_of table st) (access_of table st) t)) m.undone) k.small
-          (on_free (Some (given_answer t (gives (plan_of table st) (access_of table st) t))) h.begun (k.told ++ one (Some (given_answer t (gives (plan_of table st) (access_of table st) t))) ∷ []) None None (Some (given_left t t (gives (plan_of table st) (access_of table st) t))) (stands_held (given_answer t (gives (plan_of table st) (access_of table st) t)) None t (given_left t t (gives (plan_of table st) (access_of table st) t)) m inner.commit (left_id t t (gives (plan_of table st) (access_of table st) t) refl) (left_idle t t (gives (plan_of table st) (access_of table st) t) idle idle) s.0 s.1 s.2 (left_reads t t (gives (plan_of table st) (access_of table st) t) refl refl).0 (left_reads t t (gives (plan_of table st) (access_of table st) t) refl refl).1))
-          (known_noted (given_left t t (gives (plan_of table st) (access_of table st) t)) (left_reads t t (gives (plan_of table st) (access_of table st) t) refl refl) (left_idle t t (gives (plan_of table st) (access_of table st) t) idle idle)) left_filled left_fits shows_known
+          at_once (given_answer t (gives (plan_of table st) (access_of table st) t)) (holding h (given_left t (gives (plan_of table st) (access_of table st) t))) m.agrees (given_caused q.catalog (E (Some (given_answer t (gives (plan_of table st) (access_of table st) t)))) c (one (Some (given_answer t (gives (plan_of table st) (access_of table st) t)))) (plan_of table st) (overlay (access_of table st) t.seen) t reads named refl open_before misfit_caused passes) turned refl (begun_plain (given_answer t (gives (plan_of table st) (access_of table st) t)) m.undone) k.small
+          (on_free (Some (given_answer t (gives (plan_of table st) (access_of table st) t))) h.begun (k.told ++ one (Some (given_answer t (gives (plan_of table st) (access_of table st) t))) ∷ []) None None (Some (given_left t (gives (plan_of table st) (access_of table st) t))) (stands_held (given_answer t (gives (plan_of table st) (access_of table st) t)) None t (given_left t (gives (plan_of table st) (access_of table st) t)) m inner.commit (left_id t (gives (plan_of table st) (access_of table st) t)) (left_idle t (gives (plan_of table st) (access_of table st) t) idle) s.0 s.1 s.2 (left_reads t (gives (plan_of table st) (access_of table st) t)).0 (left_reads t (gives (plan_of table st) (access_of table st) t)).1))
+          (known_noted (given_left t (gives (plan_of table st) (access_of table st) t)) (left_reads t (gives (plan_of table st) (access_of table st) t)) (left_idle t (gives (plan_of table st) (access_of table st) t) idle)) left_filled left_fits shows_known
 
       unknown : Turned None → So None (record h { txn = Some (reading t (access_of table st)); plan = Some (plan_of table st) })
       unknown turned =
@@ -691,7 +723,7 @@ module _ (q : Taking) (events : List Event) (states : ℕ → ClientState) (ex :
             record { begin = s.1.begin; body = s.1.body; since = s.1.since; goes_on = s.1.goes_on; id = s.1.id; client = s.1.client },
             record { text = reads; inner = inner; stage = tt; shows = none_yet c events text None },
             noted_still q.catalog events (event.Take c text None) c h.begun k.told t s.1 k.answered t.seen s.2,
-          ) (noted_open t e, (inner.commit, refl)) (filled_reading t e) (fit_open t e) (none_found (E None) (reads_vacuum text)) (sees_reading t e)
+          ) (noted_open t e, (inner.commit, refl)) (filled_reading t e) (fit_reading t e) (none_found (E None) (reads_vacuum text)) (sees_reading t e)
 
   table_case : (st : Statement) (t : TxnAt) (result : Option Answer) (d : Client) → h.txn ≡ Some t → Reads text st → IsInner text → reads_vacuum text ≡ false → is_some (table_of st) ≡ true → Turned result → TablePost q.catalog st h t result d → So result d
   table_case st t result d e reads inner no_sweep on turned x = by_refusal (refusal_of q.catalog st) refl

@@ -1,12 +1,12 @@
--- A row that doesn't fit its table was read by the statement that answers so; and a record that is none of a transaction is of no form of
--- records.
-use Rattle.std.proofs.Common.{◌≡◌, ◌⊎◌, inl, inr, ℕ, Bool, true, false, not, cond, List, [], ◌∷◌, map, Option, Some, None, Result, Ok, Err, refl, sym, ap, subst, ◌∙◌}
-use Rattle.std.specs.Prelude.{if◌then◌else◌, ◌&&◌, filter, find, is_ok, slice_get, Contains, MatchBool}
+-- Each row that an open transaction sees fits its table, or was read by a statement of it; and a record that is none of a transaction is of
+-- no form of records.
+use Rattle.std.proofs.Common.{◌≡◌, ◌⊎◌, inl, inr, ℕ, Bool, true, false, not, cond, List, [], ◌∷◌, ◌++◌, map, Option, Some, None, Result, Ok, Err, refl, sym, ap, subst, ◌∙◌}
+use Rattle.std.specs.Prelude.{if◌then◌else◌, ◌&&◌, find, is_ok, is_some, slice_get, Contains, MatchBool}
 use Rattle.std.specs.List.{AllByRecursion, cons_option, filter_map, list_all}
 use Rattle.std.specs.Option.{option_and_then, option_map, option_map_or}
 use Rattle.std.specs.Ordering.{is_eq}
 use Rattle.std.specs.Cmp.{tied_itself}
-use Rattle.std.specs.FinMap.{entries, entries_sorted, find as find_key, get, get-entries}
+use Rattle.std.specs.FinMap.{get}
 use Rattle.std.proofs.lemmas.Bool.{and_parts}
 use Rattle.std.proofs.lemmas.List.{append-nil}
 use Rattle.std.proofs.lemmas.List.Elements.{Contains-append_left, Contains-append_right, Contains-push}
@@ -18,7 +18,7 @@ use Rattle.sdb_types.specs.declared.record.Reply.TheVariants as reply
 use Rattle.sdb_types.specs.Contents.{CanAnswer, in_span, rise, record_among}
 use Rattle.sdb_types.specs.Exact.{equal_of}
 use Rattle.sdb_types.specs.Order.{key_cmp, same_key}
-use Rattle.sdb_types.proofs.Basics.{clash, none_some, some_is, truth, or_else}
+use Rattle.sdb_types.proofs.Basics.{by_test, clash, none_some, some_is, or_else}
 use Rattle.sdb_types.proofs.KeyOrder.{key_exact, key_total}
 use Rattle.sdb_types.proofs.Keys.{same_key_exact}
 use Rattle.sdb_keyed.specs.Entries.{value_at}
@@ -36,38 +36,39 @@ use Rattle.sdb_record.specs.Among.{write_among}
 use Rattle.sdb_schema.specs.declared.table.Table.{Table}
 use Rattle.sdb_schema.specs.Catalog.{is_catalog}
 use Rattle.sdb_schema.specs.Rows.{fits_table}
-use Rattle.sdb_model.specs.declared.answer.Answer.{Answer}
-use Rattle.sdb_model.specs.Access.{in_access}
-use Rattle.sdb_model.specs.Calls.{StoreCall, records_read, records_observed, is_stored_reply}
+use Rattle.sdb_model.specs.declared.event.Event.{Event}
+use Rattle.sdb_model.specs.Access.{in_access, with_changes}
+use Rattle.sdb_model.specs.Calls.{StoreCall, calls_of, records_read, records_observed, is_stored_reply}
 use Rattle.sdb_model.specs.Causes.{IsBad, is_well_typed, is_misfit}
-use Rattle.sdb_model.specs.Exec.{Tables, all_rows, find_table, named_table, row_of_entry}
-use Rattle.sdb_model.specs.ReadSet.{meaning_of, read_finished}
+use Rattle.sdb_model.specs.Exec.{Tables, all_rows, find_table, named_table}
+use Rattle.sdb_model.specs.ReadSet.{has_read, meaning_of}
 use Rattle.sdb_model.specs.Refused.{refusal_of}
-use Rattle.sdb_model.specs.Transactions.{changes_nothing}
+use Rattle.sdb_model.specs.Transactions.{Executed, changes_nothing}
 use Rattle.sdb_exec.specs.declared.plan.PlanStep.TheVariants.{Finished}
 use Rattle.sdb_exec.specs.Plans.{Planned, answer_on, changes_on, first_unfit, has_all_literals, is_unfit, step_of}
-use Rattle.sdb_exec.specs.Reads.{access_of}
-use Rattle.sdb_exec.proofs.Laid.{by_key}
+use Rattle.sdb_model.specs.Reads.{access_of}
 use Rattle.sdb_read.specs.Read.{request_of}
 use Rattle.sdb_snapshot.specs.Reads.{base_at}
 use Rattle.sdb_snapshot.specs.Rows.{tables_of_reads}
-use Rattle.sdb_snapshot.specs.Seen.{Seen, nothing, overlay, row_seen, row_with, tables_seen, with_written}
+use Rattle.sdb_snapshot.specs.Seen.{Seen, overlay, row_seen, row_with, tables_seen}
+use Rattle.sdb_snapshot.specs.Written.{with_writes}
 use Rattle.sdb_snapshot.proofs.Differences.{noted_images}
 use Rattle.sdb_snapshot.proofs.Keys.{value_last}
 use Rattle.sdb_snapshot.proofs.Shown.{get_seen, own_is}
 use Rattle.sdb_txn.specs.Txn.{TxnAt}
 use Rattle.sdb_client.specs.Client.{given_answer, given_left, gives, with_rows_read, written}
-use Rattle.law_clients.specs.Fitting.{row_is_well_typed, tables_are_well_typed}
+use Rattle.law_clients.specs.Fitting.{row_is_well_typed}
 use Rattle.law_clients.proofs.InTables.{access_table}
-use Rattle.law_clients.proofs.RowsFit.{answers_on}
 use Rattle.law_answers.specs.Commits.{IsBadRow, ObservesBad}
 use Rattle.law_answers.specs.Changes.{HasRead, IsRows, IsSettledAs}
-use Rattle.law_answers.specs.Unfit.{SeesWellTyped, AreStoredReplies}
-use Rattle.law_answers.proofs.Filled.{found_all}
+use Rattle.law_answers.specs.Unfit.{SeesFitOrRead, WasMisfit, AreStoredReplies}
+use Rattle.law_answers.proofs.Ends.{first_in}
+use Rattle.law_answers.proofs.Fitting.{found_fits, left_at_key, rows_there}
 use Rattle.law_answers.proofs.Given.{asked_gives, found_so, inside_access, passes_all}
 use Rattle.law_answers.proofs.Lists.{each_in, each_kept}
+use Rattle.law_answers.proofs.Misfits.{fits_more}
 use Rattle.law_answers.proofs.ReadSteps.{IsDataTable}
-use Rattle.law_answers.proofs.Settling.{settled_means}
+use Rattle.law_answers.proofs.Settling.{data_read, settled_means}
 
 ---- records of no form
 
@@ -94,38 +95,9 @@ stored_one (r ∷ rs) h = let parts = and_parts (are_stored r.columns) (list_all
 pub shown_bad : (calls : List StoreCall) (key : Key) → AreStoredReplies calls → (b : ObservesBad calls key) → IsBad b.found
 shown_bad calls key stored b = bad_stored b.found (each_in (λ (r : Record). are_stored r.columns ≡ true) (records_observed b.call.reply) b.found (stored_one (records_observed b.call.reply) (each_in (λ (m : StoreCall). is_stored_reply m.reply ≡ true) calls b.call stored b.among)) b.shown) b.bad
 
----- rows by their keys
-
--- what is so of each entry is so of one that is found
-at_entry : (P : Key → List Pair → Type 0) (es : List (Key × List Pair)) (q : Key) (cs : List Pair) → AllByRecursion (λ (r : Image). P r.key r.columns) (map row_of_entry es) → find_key key_cmp q es ≡ Some cs → P q cs
-at_entry P [] q cs all e = none_some cs e
-at_entry P (e ∷ es) q cs all found =
-    by_key q e (λ b. cond b (Some e.1) (find_key key_cmp q es) ≡ Some cs → P q cs)
-    (λ t i k. subst (λ (z : Key). P z cs) (sym i) (subst (P e.0) (some_is e.1 cs k) all.0))
-    (λ t k. at_entry P es q cs all.1 k)
-    found
-
-pub all_true : (p : Image → Bool) (rs : List Image) → AllByRecursion (λ r. p r ≡ true) rs → list_all p rs ≡ true
-all_true p [] all = refl
-all_true p (r ∷ rs) all = ap (λ b. b && list_all p rs) all.0 ∙ all_true p rs all.1
-
-true_all : (p : Image → Bool) (rs : List Image) → list_all p rs ≡ true → AllByRecursion (λ r. p r ≡ true) rs
-true_all p [] h = tt
-true_all p (r ∷ rs) h = let parts = and_parts (p r) (list_all p rs) h in (parts.0, true_all p rs parts.1)
-
--- each row of tables is one that they have at its key
-pub rows_there : (P : Key → List Pair → Type 0) (d : Tables) → ((q : Key) (cs : List Pair) → get d q ≡ Some cs → P q cs) → AllByRecursion (λ (r : Image). P r.key r.columns) (all_rows d)
-rows_there P d each = found_all P (entries d) (truth _ (entries_sorted d)) (λ q cs found. each q cs (get-entries d q ∙ found))
-
--- what a transaction sees fits where its tables do
-pub fit_tables : (catalog : List Table) (s : Seen) → SeesWellTyped catalog s → tables_are_well_typed catalog (tables_seen s) ≡ true
-fit_tables catalog s fits = all_true (λ r. row_is_well_typed catalog r.key r.columns) (all_rows (tables_seen s)) (rows_there (λ q cs. row_is_well_typed catalog q cs ≡ true) (tables_seen s) (λ q cs found. fits q cs (sym (get_seen s.read_set s.writes q) ∙ found)))
-
-tables_sees : (catalog : List Table) (s : Seen) → tables_are_well_typed catalog (tables_seen s) ≡ true → SeesWellTyped catalog s
-tables_sees catalog s fit q cs found = at_entry (λ k c. row_is_well_typed catalog k c ≡ true) (entries (tables_seen s)) q cs (true_all (λ r. row_is_well_typed catalog r.key r.columns) (all_rows (tables_seen s)) fit) (sym (get-entries (tables_seen s) q) ∙ get_seen s.read_set s.writes q ∙ found)
-
-pub fit_nothing : (catalog : List Table) → SeesWellTyped catalog nothing
-fit_nothing catalog q cs e = none_some cs e
+-- the row of a key with changes written is what they leave of the rows that were seen
+pub row_written : (s : Seen) (ks : List Keyed) (q : Key) → row_seen s.read_set (with_writes s.read_set s.writes ks) q ≡ get (with_changes (tables_seen s) ks) q
+row_written s ks q = sym (get_seen s.read_set (with_writes s.read_set s.writes ks) q) ∙ ap (λ (e : Tables). get e q) (own_is (tables_of_reads s.read_set) s.read_set s.writes ks)
 
 ---- what a read adds
 
@@ -263,21 +235,6 @@ new_read calls (access.Scan span) images h q b e = by (record_among images q) re
 
 ---- rows that fit
 
--- the rows of an access, where none is unfit
-none_unfit : (t : Table) (p : Image → Bool) (rs : List Image) → option_map (λ (r : Image). r.key) (find (is_unfit t) (filter p rs)) ≡ None → AllByRecursion (λ (r : Image). p r ≡ true → fits_table t r.key r.columns ≡ true) rs
-none_unfit t p [] h = tt
-none_unfit t p (r ∷ rs) h = by (p r) refl (λ k. none_unfit t p rs k) h
-  where
-    here : (u : Bool) → fits_table t r.key r.columns ≡ u → (option_map (λ (r : Image). r.key) (find (is_unfit t) (filter p rs)) ≡ None → AllByRecursion (λ (r : Image). p r ≡ true → fits_table t r.key r.columns ≡ true) rs)
-        → option_map (λ (r : Image). r.key) (if not u then Some r else find (is_unfit t) (filter p rs)) ≡ None → (p r ≡ true → fits_table t r.key r.columns ≡ true) × AllByRecursion (λ (r : Image). p r ≡ true → fits_table t r.key r.columns ≡ true) rs
-    here true e ih k = ((λ z. e), ih k)
-    here false e ih k = none_some r.key (sym k)
-
-    by : (b : Bool) → p r ≡ b → (option_map (λ (r : Image). r.key) (find (is_unfit t) (filter p rs)) ≡ None → AllByRecursion (λ (r : Image). p r ≡ true → fits_table t r.key r.columns ≡ true) rs)
-        → option_map (λ (r : Image). r.key) (find (is_unfit t) (if b then r ∷ filter p rs else filter p rs)) ≡ None → (p r ≡ true → fits_table t r.key r.columns ≡ true) × AllByRecursion (λ (r : Image). p r ≡ true → fits_table t r.key r.columns ≡ true) rs
-    by true e ih k = here (fits_table t r.key r.columns) refl ih k
-    by false e ih k = ((λ z. clash (sym z ∙ e)), ih k)
-
 pub find_true : (p : Image → Bool) (xs : List Image) (x : Image) → find p xs ≡ Some x → p x ≡ true
 find_true p [] x e = none_some x e
 find_true p (y ∷ xs) x e = by (p y) refl (λ k. find_true p xs x k) e
@@ -321,66 +278,85 @@ module _ (catalog : List Table) (p : Planned) (a : Access) (listed : find_table 
   row_at : (q : Key) (cs : List Pair) → in_access a q ≡ true → row_is_well_typed catalog q cs ≡ fits_table p.table q cs
   row_at q cs inside = ap (λ (o : Option Table). option_map_or (λ t. fits_table t q cs) o false) (table_at q inside)
 
-  -- a transaction whose rows fit sees none that doesn't
-  pub none_unfits : (s : Seen) (key : Key) → SeesWellTyped catalog s → first_unfit p.table (overlay a s) ≡ Some key → ⊥
-  none_unfits s key fits e = let r = unfit_row p.table a s key e in clash (sym (fits key r.columns r.seen) ∙ row_at key r.columns r.inside ∙ r.unfit)
+  -- a row that is seen at the access fits where none there is unfit
+  pub inside_fits : (s : Seen) → first_unfit p.table (overlay a s) ≡ None → (q : Key) (cs : List Pair) → in_access a q ≡ true → row_seen s.read_set s.writes q ≡ Some cs → row_is_well_typed catalog q cs ≡ true
+  inside_fits s none q cs inside found = row_at q cs inside ∙ found_fits p.table a (tables_seen s) q cs none inside (get_seen s.read_set s.writes q ∙ found)
 
-  module _ (calls : List StoreCall) (t : TxnAt) (images : List Record) (h : HasRead (request_of a) calls images []) (fits : SeesWellTyped catalog t.seen) where
-    -- where it sees none that doesn't fit with what was read, all fits then
-    pub fits_now : first_unfit p.table (overlay a (with_rows_read t a images).seen) ≡ None → SeesWellTyped catalog (with_rows_read t a images).seen
-    fits_now none q cs found = by (row_new t a images q cs found)
+  -- one that is unfit was read by a statement
+  pub was_misfit : (events : List Event) (c : ℕ) (body : List Executed) (s : Seen) (key : Key) → SeesFitOrRead catalog events c body s → first_unfit p.table (overlay a s) ≡ Some key → (in_access a key ≡ true) × WasMisfit catalog events c body key
+  was_misfit events c body s key sees e = let r = unfit_row p.table a s key e in (r.inside, by r (sees key r.columns r.seen))
+    where
+      by : (r : IsUnfitRow p.table a s key) → (row_is_well_typed catalog key r.columns ≡ true) ⊎ ((is_some (find_table catalog key.table) ≡ true) × WasMisfit catalog events c body key) → WasMisfit catalog events c body key
+      by r (inl fits) = clash (sym fits ∙ row_at key r.columns r.inside ∙ r.unfit)
+      by r (inr m) = m.1
+
+  module _ (calls : List StoreCall) (t : TxnAt) (images : List Record) (h : HasRead (request_of a) calls images []) (of_data : IsDataTable (access_table a)) where
+    -- a row that was read and doesn't fit is that of a record that was found
+    misfit_new : (q : Key) (cs : List Pair) (b : Record) → found_new a images q ≡ Some (Some b) → row_of_image b ≡ Some cs → row_is_well_typed catalog q cs ≡ false → (r : Record) × Contains (records_read h.first.reply) r × (r.key ≡ q) × (is_misfit catalog calls r ≡ true)
+    misfit_new q cs b f g unfit =
+        let r : IsReadAt calls h.first a q b = new_read calls a images h q b f in (
+          r.found,
+          r.shown,
+          r.key,
+          ap (λ (k : Key). not (is_coordinator_table k.table) && option_map_or (λ columns. not (is_well_typed catalog k columns)) (option_and_then row_of_image (meaning_of calls r.found)) false) r.key
+              ∙ ap (λ x. not (is_coordinator_table x) && option_map_or (λ columns. not (is_well_typed catalog q columns)) (option_and_then row_of_image (meaning_of calls r.found)) false) (inside_access a q r.inside)
+              ∙ ap (λ x. x && option_map_or (λ columns. not (is_well_typed catalog q columns)) (option_and_then row_of_image (meaning_of calls r.found)) false) of_data
+              ∙ ap (λ o. option_map_or (λ columns. not (is_well_typed catalog q columns)) (option_and_then row_of_image o) false) (settled_means calls (r.found, Some b) r.settled)
+              ∙ ap (λ o. option_map_or (λ columns. not (is_well_typed catalog q columns)) o false) g
+              ∙ ap (λ (o : Option Table). not (option_map_or (λ x. fits_table x q cs) o true)) (table_at q r.inside)
+              ∙ ap not (sym (row_at q cs r.inside) ∙ unfit),
+        )
+
+    -- A statement that has read leaves each row that is seen then one that fits, or that it or one before it read.
+    pub sees_read : (events : List Event) (c : ℕ) (body : List Executed) (z : Executed) → calls_of events c z ≡ calls → has_read events c z ≡ true → SeesFitOrRead catalog events c body t.seen → SeesFitOrRead catalog events c (body ++ z ∷ []) (with_rows_read t a images).seen
+    sees_read events c body z are finished before q cs found = by (row_new t a images q cs found)
       where
-        by : (row_seen t.seen.read_set t.seen.writes q ≡ Some cs) ⊎ ((b : Record) × (found_new a images q ≡ Some (Some b)) × (row_of_image b ≡ Some cs)) → row_is_well_typed catalog q cs ≡ true
-        by (inl e) = fits q cs e
+        read : (b : Record) → found_new a images q ≡ Some (Some b) → row_of_image b ≡ Some cs → row_is_well_typed catalog q cs ≡ false → WasMisfit catalog events c (body ++ z ∷ []) q
+        read b e f unfit =
+            let r = misfit_new q cs b e f unfit in
+            record {
+              reader = z;
+              call = h.first;
+              found = r.0;
+              among = Contains-append_right body (z ∷ []) z (Contains-push [] z);
+              finished = finished;
+              reads = (subst (λ ms. Contains ms h.first) (sym are) (first_in h.first h.rest calls h.calls_are), data_read a of_data h.first h.request, r.1, r.2);
+              misfit = ap (λ ms. is_misfit catalog ms r.0) are ∙ r.3;
+            }
+
+        by : (row_seen t.seen.read_set t.seen.writes q ≡ Some cs) ⊎ ((b : Record) × (found_new a images q ≡ Some (Some b)) × (row_of_image b ≡ Some cs)) → (row_is_well_typed catalog q cs ≡ true) ⊎ ((is_some (find_table catalog q.table) ≡ true) × WasMisfit catalog events c (body ++ z ∷ []) q)
+        by (inl e) = fits_more catalog events c body z t.seen before q cs e
         by (inr (b, e, f)) =
             let r : IsReadAt calls h.first a q b = new_read calls a images h q b e in
-            row_at q cs r.inside
-            ∙ at_entry (λ k c. in_access a k ≡ true → fits_table p.table k c ≡ true) (entries (tables_seen (with_rows_read t a images).seen)) q cs (none_unfit p.table (λ (x : Image). in_access a x.key) (all_rows (tables_seen (with_rows_read t a images).seen)) none)
-            (sym (get-entries (tables_seen (with_rows_read t a images).seen) q) ∙ get_seen (with_rows_read t a images).seen.read_set (with_rows_read t a images).seen.writes q ∙ found) r.inside
+            by_test (row_is_well_typed catalog q cs) (λ y. inl y) (λ n. inr (ap is_some (table_at q r.inside), read b e f n))
 
-    -- and one that doesn't is that of a record that was read
-    pub misfit_read : (key : Key) → IsDataTable (access_table a) → first_unfit p.table (overlay a (with_rows_read t a images).seen) ≡ Some key → (r : Record) × Contains (records_read h.first.reply) r × (r.key ≡ key) × (is_misfit catalog calls r ≡ true)
-    misfit_read key is e = by (row_new t a images key row.columns row.seen)
+  -- and so does what it writes
+  module _ (is : is_catalog catalog ≡ true) (named : named_table catalog p.statement ≡ Some p.table) (asked : p.asked ≡ true) (taken : refusal_of catalog p.statement ≡ None) (literals : has_all_literals p.statement ≡ true) (access_is : a ≡ access_of p.table p.statement) (events : List Event) (c : ℕ) (body : List Executed) (v : TxnAt) (sees : SeesFitOrRead catalog events c body v.seen) where
+    abbrev rows : List Image
+    rows = overlay (access_of p.table p.statement) v.seen
+
+    abbrev Sees : TxnAt → Type 0
+    Sees u = SeesFitOrRead catalog events c body u.seen
+
+    written_fits : first_unfit p.table rows ≡ None → Sees (written v (changes_on p.table p.statement rows))
+    written_fits none q cs found = by (left_at_key catalog p.table p.statement v.seen is named none taken literals q cs (sym (row_written v.seen (changes_on p.table p.statement rows) q) ∙ found))
       where
-        row : IsUnfitRow p.table a (with_rows_read t a images).seen key
-        row = unfit_row p.table a (with_rows_read t a images).seen key e
+        by : (row_is_well_typed catalog q cs ≡ true) ⊎ (get (tables_seen v.seen) q ≡ Some cs) → (row_is_well_typed catalog q cs ≡ true) ⊎ ((is_some (find_table catalog q.table) ≡ true) × WasMisfit catalog events c body q)
+        by (inl fits) = inl fits
+        by (inr was) = sees q cs (sym (get_seen v.seen.read_set v.seen.writes q) ∙ was)
 
-        by : (row_seen t.seen.read_set t.seen.writes key ≡ Some row.columns) ⊎ ((b : Record) × (found_new a images key ≡ Some (Some b)) × (row_of_image b ≡ Some row.columns)) → (r : Record) × Contains (records_read h.first.reply) r × (r.key ≡ key) × (is_misfit catalog calls r ≡ true)
-        by (inl f) = clash (sym (fits key row.columns f) ∙ row_at key row.columns row.inside ∙ row.unfit)
-        by (inr (b, f, g)) =
-            let r : IsReadAt calls h.first a key b = new_read calls a images h key b f in (
-              r.found,
-              r.shown,
-              r.key,
-              ap (λ (k : Key). not (is_coordinator_table k.table) && option_map_or (λ columns. not (is_well_typed catalog k columns)) (option_and_then row_of_image (meaning_of calls r.found)) false) r.key
-                  ∙ ap (λ x. not (is_coordinator_table x) && option_map_or (λ columns. not (is_well_typed catalog key columns)) (option_and_then row_of_image (meaning_of calls r.found)) false) (inside_access a key row.inside)
-                  ∙ ap (λ x. x && option_map_or (λ columns. not (is_well_typed catalog key columns)) (option_and_then row_of_image (meaning_of calls r.found)) false) is
-                  ∙ ap (λ o. option_map_or (λ columns. not (is_well_typed catalog key columns)) (option_and_then row_of_image o) false) (settled_means calls (r.found, Some b) r.settled)
-                  ∙ ap (λ o. option_map_or (λ columns. not (is_well_typed catalog key columns)) o false) g
-                  ∙ ap (λ (o : Option Table). not (option_map_or (λ x. fits_table x key row.columns) o true)) (table_at key row.inside)
-                  ∙ ap not row.unfit,
-            )
-
-  -- what it leaves fits
-  module _ (is : is_catalog catalog ≡ true) (named : named_table catalog p.statement ≡ Some p.table) (asked : p.asked ≡ true) (taken : refusal_of catalog p.statement ≡ None) (literals : has_all_literals p.statement ≡ true) (access_is : a ≡ access_of p.table p.statement) where
-    written_fits : (s : Seen) (b : Answer) (ks : List Keyed) → step_of p (overlay a s) ≡ Finished b ks → SeesWellTyped catalog s → SeesWellTyped catalog (with_written s ks)
-    written_fits s b ks step fits =
-        tables_sees catalog (with_written s ks)
-        (subst (λ (d : Tables). tables_are_well_typed catalog d ≡ true) (sym (own_is (tables_of_reads s.read_set) s.read_set s.writes ks))
-        (answers_on catalog p s b ks is named asked taken literals (subst (λ (z : Access). step_of p (overlay z s) ≡ Finished b ks) access_is step) (tables_seen s) (fit_tables catalog s fits) refl).1)
-
-    pub given_fits : (was v : TxnAt) → SeesWellTyped catalog was.seen → (first_unfit p.table (overlay a v.seen) ≡ None → SeesWellTyped catalog v.seen) → SeesWellTyped catalog (given_left was v (gives p a v)).seen
-    given_fits was v before now = by (first_unfit p.table (overlay a v.seen)) refl
+    left_fits : Sees (given_left v (step_of p rows))
+    left_fits = by (first_unfit p.table rows) refl
       where
-        left : (ks : List Keyed) (t f : Bool) → SeesWellTyped catalog v.seen → SeesWellTyped catalog (with_written v.seen ks) → SeesWellTyped catalog (if t then (if f then v else was) else written v ks).seen
-        left ks true true seen fits = seen
-        left ks true false seen fits = before
-        left ks false f seen fits = fits
+        left : (t : Bool) → Sees (written v (changes_on p.table p.statement rows)) → Sees (if t then v else written v (changes_on p.table p.statement rows))
+        left true new = sees
+        left false new = new
 
-        by : (o : Option Key) → first_unfit p.table (overlay a v.seen) ≡ o → SeesWellTyped catalog (given_left was v (gives p a v)).seen
+        by : (o : Option Key) → first_unfit p.table rows ≡ o → Sees (given_left v (step_of p rows))
         by None e =
-            let step : step_of p (overlay a v.seen) ≡ Finished (answer_on p.table p.statement (overlay a v.seen)) (changes_on p.table p.statement (overlay a v.seen)) = asked_gives p (overlay a v.seen) None asked e in
-            subst (λ y. SeesWellTyped catalog (given_left was v y).seen) (sym step)
-            (left (changes_on p.table p.statement (overlay a v.seen)) (changes_nothing (given_answer v (Finished (answer_on p.table p.statement (overlay a v.seen)) (changes_on p.table p.statement (overlay a v.seen)))))
-            (read_finished (given_answer v (Finished (answer_on p.table p.statement (overlay a v.seen)) (changes_on p.table p.statement (overlay a v.seen))))) (now e) (written_fits v.seen (answer_on p.table p.statement (overlay a v.seen)) (changes_on p.table p.statement (overlay a v.seen)) step (now e)))
-        by (Some key) e = subst (λ y. SeesWellTyped catalog (given_left was v y).seen) (sym (asked_gives p (overlay a v.seen) (Some key) asked e)) before
+            subst (λ y. Sees (given_left v y)) (sym (asked_gives p rows None asked e))
+            (left (changes_nothing (given_answer v (Finished (answer_on p.table p.statement rows) (changes_on p.table p.statement rows)))) (written_fits e))
+        by (Some key) e = subst (λ y. Sees (given_left v y)) (sym (asked_gives p rows (Some key) asked e)) sees
+
+    pub given_fits : Sees (given_left v (gives p a v))
+    given_fits = subst (λ (z : Access). Sees (given_left v (step_of p (overlay z v.seen)))) (sym access_is) left_fits

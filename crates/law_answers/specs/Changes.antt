@@ -15,12 +15,12 @@ use Rattle.sdb_types.specs.Contents.{CanAnswer, in_span, record_among, rise}
 use Rattle.sdb_record.specs.declared.coordinator.Decided.{Decided}
 use Rattle.sdb_record.specs.declared.coordinator.Decision.{Decision}
 use Rattle.sdb_record.specs.declared.coordinator.Decision.TheVariants as decision
-use Rattle.sdb_record.specs.Meta.{id_in, is_in, is_moment}
+use Rattle.sdb_record.specs.Meta.{id_in, is_in, is_moment, is_transactional}
 use Rattle.sdb_record.specs.Moved.{version_of}
 use Rattle.sdb_record.specs.Rolls.{IsWrite, image_under}
 use Rattle.sdb_model.specs.declared.event.Event.{Event}
 use Rattle.sdb_model.specs.Calls.{StoreCall, calls_of, decision_observed, put_by, records_read}
-use Rattle.sdb_model.specs.ReadSet.{KeyRead, ReadItem, SpanRead, meaning_of, read_items, reads_rows, rolls, version_read, has_finished}
+use Rattle.sdb_model.specs.ReadSet.{KeyRead, ReadItem, SpanRead, meaning_of, read_items, reads_rows, rolls, version_read, has_read}
 use Rattle.sdb_model.specs.Transactions.{Executed, ends, from_begin, id_of}
 use Rattle.sdb_model.specs.declared.answer.Answer.TheVariants as answer
 use Rattle.sdb_model.specs.Causes.{ConflictsAtCommit, HasChanged}
@@ -75,8 +75,8 @@ IsRows (reply.Found found) = Unit {0}
 IsRows (reply.Rows rows) = Unit {0}
 IsRows r = ⊥
 
--- The first call asked for the rows, and no other reads rows of tables; the rows up to these that are left were settled, and these are
--- the images; no call rolled one that is left.
+-- The first call asked for the rows, and no other reads rows of tables; the rows up to these that are left pass the checks and were
+-- settled, and these are the images; no call rolled one that is left.
 pub record HasRead (q : Request) (calls : List StoreCall) (images left : List Record) : Type 0 where
   pub first : StoreCall
   pub rest : List StoreCall
@@ -87,6 +87,7 @@ pub record HasRead (q : Request) (calls : List StoreCall) (images left : List Re
   pub others : AllByRecursion (λ m. reads_rows m ≡ false) rest
   pub steps : List (Record × Option Record)
   pub settled : AllByRecursion (IsSettledAs calls) steps
+  pub transactional : AllByRecursion (λ e. is_transactional e.0 ≡ true) steps
   pub rows : records_read first.reply ≡ map (λ e. e.0) steps ++ left
   pub images_are : images ≡ filter_map (λ e. e.1) steps
   pub unrolled : AllByRecursion (IsUnrolled calls) left
@@ -126,7 +127,7 @@ pub record WorkBy (read_set : List ReadItem) (p : Work) : Type 0 where
 
 -- the read set of these statements of a transaction
 abbrev pub read_items_of_body : List Event → ℕ → List Executed → List ReadItem
-read_items_of_body events c body = flat_map (λ s. read_items (calls_of events c s)) (filter has_finished body)
+read_items_of_body events c body = flat_map (λ s. read_items (calls_of events c s)) (filter (has_read events c) body)
 
 -- What a scan of a statement found at a key, by what its rows mean, is something else than the read set has there.
 abbrev pub ChangesAtScan : List StoreCall → List ReadItem → Key → Option Record → Type 0

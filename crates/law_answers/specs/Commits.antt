@@ -8,8 +8,9 @@ use Rattle.sdb_types.specs.declared.record.Reply.TheVariants as reply
 use Rattle.sdb_record.specs.declared.coordinator.Decision.TheVariants as decision
 use Rattle.sdb_record.specs.Coordinator.{coordinator_key_of, decision_in, is_coordinator_table}
 use Rattle.sdb_record.specs.Meta.{is_transactional}
-use Rattle.sdb_model.specs.Calls.{StoreCall, calls_after, calls_before, decision_found, decision_learned, is_of_row, records_observed}
+use Rattle.sdb_model.specs.Calls.{StoreCall, calls_after, calls_before, decision_found, decision_learned, is_of_row, records_observed, records_read}
 use Rattle.sdb_model.specs.Causes.{HasReply, IsDecided, PutsRow}
+use Rattle.sdb_model.specs.ReadSet.{reads_rows}
 use Rattle.sdb_phases.specs.declared.step.DecidePhase.TheVariants as phase
 use Rattle.sdb_phases.specs.declared.step.Outcome.{Outcome}
 use Rattle.sdb_phases.specs.declared.step.Outcome.TheVariants as outcome
@@ -55,7 +56,7 @@ pub record IsGivenUp (id : TxId) (calls : List StoreCall) : Type 0 where
 abbrev pub IsBadRow : Record → Type 0
 IsBadRow r = MatchBool (is_coordinator_table r.key.table) ((name : List ℕ) × (decision_in r ≡ Err name)) (is_transactional r ≡ false)
 
--- a call showed such a record of a key
+-- A call showed such a record of a key: a row of the coordinator, or one that a read of rows found.
 pub record ObservesBad (calls : List StoreCall) (key : Key) : Type 0 where
   pub call : StoreCall
   pub found : Record
@@ -63,6 +64,7 @@ pub record ObservesBad (calls : List StoreCall) (key : Key) : Type 0 where
   pub shown : Contains (records_observed call.reply) found
   pub same : found.key ≡ key
   pub bad : IsBadRow found
+  pub place : (is_coordinator_table found.key.table ≡ true) ⊎ ((reads_rows call ≡ true) × Contains (records_read call.reply) found)
 
 -- no call put the row COMMITTED
 abbrev pub NoneDecides : TxId → List StoreCall → Type 0

@@ -4,7 +4,7 @@ use Rattle.std.specs.List.{count_by}
 use Rattle.sdb_model.specs.declared.event.Event.{Event}
 use Rattle.sdb_model.specs.Calls.{calls_of}
 use Rattle.sdb_model.specs.Causes.{records_found, rows_counted}
-use Rattle.sdb_model.specs.ReadSet.{has_finished}
+use Rattle.sdb_model.specs.ReadSet.{has_read}
 use Rattle.sdb_model.specs.Transactions.{Executed, is_effective}
 use Rattle.sdb_snapshot.specs.Reads.{ReadRecord}
 use Rattle.sdb_snapshot.specs.Seen.{Seen}
@@ -18,7 +18,7 @@ rows_counted_by body = sum_by (λ b. rows_counted b.answer) (filter is_effective
 
 -- how many records the calls of those whose reads have finished found
 abbrev pub records_found_by : List Event → ℕ → List Executed → ℕ
-records_found_by events c body = sum_by (λ b. records_found (calls_of events c b)) (filter has_finished body)
+records_found_by events c body = sum_by (λ b. records_found (calls_of events c b)) (filter (has_read events c) body)
 
 -- at how many of the keys that were read there was a record
 abbrev pub records_read_in : List ReadRecord → ℕ

@@ -34,7 +34,7 @@ use Rattle.law_answers.specs.Reads.{ReadsBy}
 use Rattle.law_answers.specs.Rolled.{RecordsAreRolled, RollsBy}
 use Rattle.law_answers.specs.Views.{RowsAreOwn, ViewBy}
 use Rattle.law_answers.specs.Vacuums.{VacuumBy}
-use Rattle.law_answers.specs.Unfit.{IsWellTypedTxn, AreStoredReplies}
+use Rattle.law_answers.specs.Unfit.{IsFitOrReadTxn, AreStoredReplies}
 
 ---- one client
 
@@ -133,7 +133,7 @@ pub record Knows (catalog : List Table) (events : List Event) (c : ℕ) (h : Cli
   pub stands : ClientByHistory events c h.begun told waiting h.plan h.txn h.vacuum
   pub counted : CountsBy catalog events c told waiting h
   pub filled : IfSome h.txn (IsFilled events c (rest_of (from_begin h.begun told)))
-  pub fits : IfSome h.txn (IsWellTypedTxn catalog)
+  pub fits : IfSome h.txn (IsFitOrReadTxn catalog events c (rest_of (from_begin h.begun told)))
   pub stored : AreStoredReplies (calls_by events c)
   pub rolled : RollsBy events c told waiting h
   pub shows : ViewBy catalog events c told h

@@ -1,13 +1,15 @@
 -- The stage of a read by the calls of its statement, and why it ends so.
-use Rattle.std.specs.Prelude.{◌≡◌, ℤ, true, List, ◌∷◌, Contains}
+use Rattle.std.specs.Prelude.{◌≡◌, ℤ, true, false, List, ◌∷◌, Contains}
 use Rattle.std.specs.List.{AllByRecursion}
 use Rattle.sdb_types.specs.declared.txid.TxId.{TxId}
 use Rattle.sdb_types.specs.declared.key.Key.{Key}
 use Rattle.sdb_types.specs.declared.record.Record.{Record}
 use Rattle.sdb_record.specs.declared.meta.Meta.{Meta}
+use Rattle.sdb_record.specs.Coordinator.{is_coordinator_table}
 use Rattle.sdb_model.specs.declared.event.Event.{Event}
 use Rattle.sdb_model.specs.Calls.{StoreCall, is_read, records_read}
 use Rattle.sdb_model.specs.Causes.{HasReply, IsEarly}
+use Rattle.sdb_model.specs.Events.{table_asked}
 use Rattle.sdb_phases.specs.declared.step.RecoverPhase.{RecoverPhase}
 use Rattle.sdb_phases.specs.declared.step.RecoverPhase.TheVariants as phase
 use Rattle.sdb_read.specs.declared.read.ReadStep.{ReadStep}
@@ -16,11 +18,12 @@ use Rattle.sdb_read.specs.Read.{Asking, Ended, Open, ReadStage, Resolving, kind_
 use Rattle.law_answers.specs.Commits.{ObservesBad}
 use Rattle.sdb_types.specs.Replies.{is_fault}
 
--- a read among the calls found these records
+-- a read of a table among the calls found these records
 pub record IsFoundBy (calls : List StoreCall) (rows : List Record) : Type 0 where
   pub read : StoreCall
   pub among : Contains calls read
   pub reads : is_read read.request ≡ true
+  pub of_data : is_coordinator_table (table_asked read.request) ≡ false
   pub found : AllByRecursion (Contains (records_read read.reply)) rows
 
 -- where the row is asked for again a call has faulted

@@ -8,13 +8,12 @@ use Rattle.sdb_types.specs.declared.record.State.{State}
 use Rattle.sdb_record.specs.declared.coordinator.Decided.{Decided}
 use Rattle.sdb_record.specs.declared.coordinator.Decision.TheVariants as decision
 use Rattle.sdb_record.specs.Meta.{id_in, is_moment, is_unresolved, state_in}
-use Rattle.sdb_model.specs.declared.answer.Answer.{Answer}
 use Rattle.sdb_model.specs.declared.event.Event.{Event}
 use Rattle.sdb_model.specs.declared.event.How.TheVariants.{Seen}
 use Rattle.sdb_model.specs.Calls.{StoreCall, calls_after, calls_of, decision_observed, records_read}
 use Rattle.sdb_model.specs.Causes.{IsEarly}
 use Rattle.sdb_model.specs.Counted.{IsPassedOver, roll_by}
-use Rattle.sdb_model.specs.ReadSet.{read_finished, reads_rows}
+use Rattle.sdb_model.specs.ReadSet.{has_read, reads_rows}
 use Rattle.sdb_model.specs.Sql.{reads_vacuum}
 use Rattle.sdb_model.specs.Transactions.{Executed, statements_by}
 use Rattle.sdb_phases.specs.declared.step.RecoverPhase.{RecoverPhase}
@@ -47,7 +46,7 @@ pub record IsRolledBy (calls : List StoreCall) (read : StoreCall) (r : Record) :
 
 -- Each statement whose read finished had each unresolved record that was found rolled first, but for those that a VACUUM passed over.
 abbrev pub RecordsAreRolled : List Event → Type 0
-RecordsAreRolled events = (c : ℕ) (s : Executed) (a : Answer) (m : StoreCall) (r : Record) → Contains (statements_by c events) s → s.answer ≡ Some a → read_finished a ≡ true
+RecordsAreRolled events = (c : ℕ) (s : Executed) (m : StoreCall) (r : Record) → Contains (statements_by c events) s → has_read events c s ≡ true
     → Contains (calls_of events c s) m → reads_rows m ≡ true → Contains (records_read m.reply) r → is_unresolved r ≡ true → IsRolledBy (calls_of events c s) m r ⊎ IsPassedOver events s (calls_of events c s) m r
 
 -- each call that was answered Applied or NotMet was seen
@@ -107,7 +106,7 @@ WaitRolls events sweeps calls (Some v) o = VacuumRolls events sweeps calls v.sta
 
 -- of one whose read finished
 abbrev pub IsRolledIn : List Event → ℕ → Executed → Type 0
-IsRolledIn events c s = (a : Answer) → s.answer ≡ Some a → read_finished a ≡ true → RolledBut events (reads_vacuum s.text) (calls_of events c s) []
+IsRolledIn events c s = has_read events c s ≡ true → RolledBut events (reads_vacuum s.text) (calls_of events c s) []
 
 -- The records that the statements of a client found, those that were answered and the one that waits.
 pub record RollsBy (events : List Event) (c : ℕ) (told : List Executed) (waiting : Option Executed) (h : ClientAt) : Type 0 where

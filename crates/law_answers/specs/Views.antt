@@ -15,7 +15,7 @@ use Rattle.sdb_model.specs.declared.statement.Statement.{Statement}
 use Rattle.sdb_model.specs.declared.statement.Statement.TheVariants as statement
 use Rattle.sdb_model.specs.Exec.{find_table, projected}
 use Rattle.sdb_model.specs.Explained.{IsTableKey}
-use Rattle.sdb_model.specs.ReadSet.{has_finished}
+use Rattle.sdb_model.specs.ReadSet.{has_read}
 use Rattle.sdb_model.specs.DirtyReads.{FoundBy, AnswersAreOf, StartsWith, row_left}
 use Rattle.sdb_model.specs.Sql.{Reads, reads_vacuum}
 use Rattle.sdb_model.specs.Serial.{AreRead}
@@ -26,12 +26,13 @@ use Rattle.sdb_txn.specs.declared.txn.Doing.{Doing}
 use Rattle.sdb_txn.specs.declared.txn.Doing.TheVariants as doing
 use Rattle.sdb_txn.specs.Txn.{TxnAt}
 use Rattle.sdb_client.specs.Client.{ClientAt}
+use Rattle.law_answers.specs.Unfit.{fits_if_any}
 
 ---- the row of a key
 
 -- A statement that is no VACUUM has finished its read, and its calls showed a row at a key of a table of the catalog.
 pub record FoundFor (catalog : List Table) (events : List Event) (c : ℕ) (s : Executed) (key : Key) (row : Option (List Pair)) : Type 0 where
-  pub told : has_finished s ≡ true
+  pub told : has_read events c s ≡ true
   pub no_vacuum : reads_vacuum s.text ≡ false
   pub table : IsTableKey catalog key
   pub found : FoundBy events c s key row
@@ -90,9 +91,9 @@ AllGiveOwn catalog events c told = (n : ℕ) (begin : Executed) (body : List Exe
 
 ---- an open transaction
 
--- At each key that was read a transaction sees the row that it has.
+-- At each key that was read a transaction sees the row that it has, unless that doesn't fit its table.
 abbrev pub SeesOwn : List Table → List Event → ℕ → List Executed → Seen → Type 0
-SeesOwn catalog events c body s = (key : Key) → is_key_read s.read_set key ≡ true → HasAfter catalog events c body key (row_seen s.read_set s.writes key)
+SeesOwn catalog events c body s = (key : Key) → is_key_read s.read_set key ≡ true → fits_if_any catalog key (row_seen s.read_set s.writes key) ≡ true → HasAfter catalog events c body key (row_seen s.read_set s.writes key)
 
 -- This holds of a transaction whose COMMIT is not taken yet.
 abbrev pub SeesOwnIn : List Table → List Event → ℕ → List Executed → Seen → Doing → Type 0

@@ -18,12 +18,11 @@ use Rattle.sdb_model.specs.Causes.{refused}
 use Rattle.sdb_model.specs.Exec.{key_of, named_table}
 use Rattle.sdb_model.specs.Refused.{refusal_by, refusal_of}
 use Rattle.sdb_model.specs.Sql.{Reads, reads_commit}
-use Rattle.sdb_model.specs.ReadSet.{read_finished}
 use Rattle.sdb_model.specs.Transactions.{changes_nothing, is_answered_from_rows}
 use Rattle.sdb_exec.specs.declared.plan.PlanStep.{PlanStep}
 use Rattle.sdb_exec.specs.declared.plan.PlanStep.TheVariants.{Finished}
 use Rattle.sdb_exec.specs.Plans.{Planned, answer_on, changes_on, columns_at, first_unfit, has_all_literals, step_of}
-use Rattle.sdb_exec.specs.Reads.{access_of}
+use Rattle.sdb_model.specs.Reads.{access_of}
 use Rattle.sdb_exec.proofs.Places.{named_is_table}
 use Rattle.law_protocol.specs.History.{at}
 use Rattle.sdb_snapshot.specs.Sets.{IsSetInvariant}
@@ -117,16 +116,16 @@ module _ (catalog : List Table) (events : List Event) (states : ℕ → ClientSt
       by_doing = rw idle refl
 
   abbrev Told : PlanStep → Type 0
-  Told s = IsSo catalog (tables_are_well_typed catalog) states c (holding now (given_left t t s)) (taken_so (Some (given_answer t s)))
+  Told s = IsSo catalog (tables_are_well_typed catalog) states c (holding now (given_left t s)) (taken_so (Some (given_answer t s)))
 
   -- What it is answered at once is what its plan gives.
-  pub told_known : is_covered t.seen a ≡ true → IsSo catalog (tables_are_well_typed catalog) states c (holding now (given_left t t (gives p a t))) (taken_so (Some (given_answer t (gives p a t))))
+  pub told_known : is_covered t.seen a ≡ true → IsSo catalog (tables_are_well_typed catalog) states c (holding now (given_left t (gives p a t))) (taken_so (Some (given_answer t (gives p a t))))
   told_known covered = by_unfit (first_unfit table (overlay a t.seen)) refl
     where
       finished_so : (b : Answer) (ks : List Keyed) → gives p a t ≡ Finished b ks → (changes_nothing b ≡ false → is_answered_from_rows b ≡ true) → Told (Finished b ks)
       finished_so b ks step rows =
           by_test (changes_nothing b)
-          (λ q. by_test (read_finished b) (λ f. rw q (rw (q, f) (as_it_was b q))) (λ f. rw q (rw (q, f) (as_it_was b q))))
+          (λ q. rw q (rw q (as_it_was b q)))
           (λ q. by_test (too_many t ks) (λ m. rw (q, m) (as_it_was (refused 15) refl)) (λ m. rw (q, m) (rw q (from_before b ks covered step (rows q)))))
 
       by_unfit : (o : Option Key) → first_unfit table (overlay a t.seen) ≡ o → Told (gives p a t)

@@ -8,7 +8,7 @@ use Rattle.sdb_types.specs.declared.record.Record.{Record}
 use Rattle.sdb_record.specs.declared.access.Access.{Access}
 use Rattle.sdb_model.specs.declared.event.Event.{Event}
 use Rattle.sdb_model.specs.Calls.{calls_of}
-use Rattle.sdb_model.specs.ReadSet.{ReadItem, KeyRead, SpanRead, has_finished, read_set_of, read_items}
+use Rattle.sdb_model.specs.ReadSet.{ReadItem, KeyRead, SpanRead, has_finished, has_read, read_set_of, read_items}
 use Rattle.sdb_model.specs.Transactions.{Executed, client_of, statements_inside}
 use Rattle.law_protocol.specs.Plan.{Plan}
 use Rattle.law_protocol.specs.Lawful.{id}
@@ -23,13 +23,13 @@ use Rattle.std.proofs.lemmas.List.{append-nil as no_more}
 
 -- what one statement noted
 abbrev one_noted : List Event → ℕ → Executed → List ReadItem
-one_noted events c s = if has_finished s then read_items (calls_of events c s) else []
+one_noted events c s = if has_read events c s then read_items (calls_of events c s) else []
 
 noted_more : (events : List Event) (c : ℕ) (ss : List Executed) (s : Executed) → read_items_by events c (ss ++ s ∷ []) ≡ read_items_by events c ss ++ one_noted events c s
 noted_more events c ss s =
-    ap (flat_map (λ x. read_items (calls_of events c x))) (filter-append has_finished ss (s ∷ []))
-    ∙ flat_map-append (λ x. read_items (calls_of events c x)) (filter has_finished ss) (filter has_finished (s ∷ []))
-    ∙ ap (λ ns. read_items_by events c ss ++ ns) (by (has_finished s))
+    ap (flat_map (λ x. read_items (calls_of events c x))) (filter-append (has_read events c) ss (s ∷ []))
+    ∙ flat_map-append (λ x. read_items (calls_of events c x)) (filter (has_read events c) ss) (filter (has_read events c) (s ∷ []))
+    ∙ ap (λ ns. read_items_by events c ss ++ ns) (by (has_read events c s))
   where
     by : (b : Bool) → flat_map (λ x. read_items (calls_of events c x)) (if b then s ∷ [] else []) ≡ (if b then read_items (calls_of events c s) else [])
     by true = no_more (read_items (calls_of events c s))
@@ -37,9 +37,13 @@ noted_more events c ss s =
 
 noted_stay : (events : List Event) (c : ℕ) (ss : List Executed) (e : Event) → AllByRecursion (WasAnswered events) ss → read_items_by (events ++ e ∷ []) c ss ≡ read_items_by events c ss
 noted_stay events c [] e was = refl
-noted_stay events c (x ∷ ss) e was = by (has_finished x) (noted_stay events c ss e was.1)
+noted_stay events c (x ∷ ss) e was = ap (λ b. flat_map (λ s. read_items (calls_of (events ++ e ∷ []) c s)) (if b then x ∷ filter (has_read (events ++ e ∷ []) c) ss else filter (has_read (events ++ e ∷ []) c) ss)) finished ∙ by (has_read events c x) (noted_stay events c ss e was.1)
   where
-    by : (b : Bool) → read_items_by (events ++ e ∷ []) c ss ≡ read_items_by events c ss → flat_map (λ s. read_items (calls_of (events ++ e ∷ []) c s)) (if b then x ∷ filter has_finished ss else filter has_finished ss) ≡ flat_map (λ s. read_items (calls_of events c s)) (if b then x ∷ filter has_finished ss else filter has_finished ss)
+    finished : has_read (events ++ e ∷ []) c x ≡ has_read events c x
+    finished = ap (λ ms. has_finished ms x) (calls_stay events c x e was.0)
+
+    by : (b : Bool) → read_items_by (events ++ e ∷ []) c ss ≡ read_items_by events c ss
+        → flat_map (λ s. read_items (calls_of (events ++ e ∷ []) c s)) (if b then x ∷ filter (has_read (events ++ e ∷ []) c) ss else filter (has_read (events ++ e ∷ []) c) ss) ≡ flat_map (λ s. read_items (calls_of events c s)) (if b then x ∷ filter (has_read events c) ss else filter (has_read events c) ss)
     by true ih = ap (λ ms. read_items ms ++ read_items_by (events ++ e ∷ []) c ss) (calls_stay events c x e was.0) ∙ ap (λ r. read_items (calls_of events c x) ++ r) ih
     by false ih = ih
 
@@ -58,7 +62,7 @@ noted_nothing events c ss seen s none ok = subst (λ xs. (n : ReadItem) → Cont
   where
     empty : ReadsNothing events c s → one_noted events c s ≡ []
     empty (inl e) = ap (λ b. if b then read_items (calls_of events c s) else []) e
-    empty (inr e) = ap (λ ns. if has_finished s then ns else []) e ∙ unread (has_finished s)
+    empty (inr e) = ap (λ ns. if has_read events c s then ns else []) e ∙ unread (has_read events c s)
 
 pub noted_read : (events : List Event) (c : ℕ) (ss : List Executed) (seen : Seen) (s : Executed) (a : Access) (images : List Record) → RecordsRead events c s a images → IsReadSetIn events c ss seen → IsReadSetIn events c (ss ++ s ∷ []) (with_read seen a images)
 noted_read events c ss seen s a images reads ok n = by (read_adds (record { 0 = 0 }) (Rattle.std.specs.Prelude.pos 0) seen a images n)
@@ -82,4 +86,4 @@ pub noted_whole : (plan : ℕ → Plan) (events : List Event) (c t : ℕ) (now :
 noted_whole plan events c t now ss seen client is planned ok = record { planned = planned; as_read = λ n. (λ h. subst (λ xs. Contains xs n) (sym same) ((ok n).0 h), λ h. (ok n).1 (subst (λ xs. Contains xs n) same h)) }
   where
     same : read_set_of events (id t) ≡ read_items_by events c ss
-    same = ap (λ d. flat_map (λ s. read_items (calls_of events d s)) (filter has_finished (statements_inside events (id t)))) client ∙ ap (read_items_by events c) is
+    same = ap (λ d. flat_map (λ s. read_items (calls_of events d s)) (filter (has_read events d) (statements_inside events (id t)))) client ∙ ap (read_items_by events c) is

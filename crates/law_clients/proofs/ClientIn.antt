@@ -16,12 +16,11 @@ use Rattle.sdb_model.specs.declared.statement.Statement.TheVariants as statement
 use Rattle.sdb_model.specs.Exec.{find_table, named_table, table_of}
 use Rattle.sdb_model.specs.Refused.{refusal_by, refusal_of}
 use Rattle.sdb_model.specs.Sql.{reads_commit}
-use Rattle.sdb_model.specs.ReadSet.{read_finished}
 use Rattle.sdb_model.specs.Transactions.{changes_nothing}
 use Rattle.sdb_exec.specs.declared.plan.PlanStep.{PlanStep}
 use Rattle.sdb_exec.specs.declared.plan.PlanStep.TheVariants.{Finished, Read as Wants}
 use Rattle.sdb_exec.specs.Plans.{Planned}
-use Rattle.sdb_exec.specs.Reads.{access_of}
+use Rattle.sdb_model.specs.Reads.{access_of}
 use Rattle.sdb_commit.specs.Phases.{CommitAt, IsNext}
 use Rattle.sdb_read.specs.declared.read.ReadStep.TheVariants as step
 use Rattle.sdb_read.specs.Read.{Asking, Ended, ReadAt, ReadStage, Resolving, read_pending_at, read_result, read_step, request_of}
@@ -69,15 +68,13 @@ module _ (catalog : List Table) where
   rests_in : (c : Client) → Sweeps c → Of (resting c)
   rests_in c v = record { txn = tt; vacuum = v }
 
-  left_in : (was t : TxnAt) (s : PlanStep) → IsIdleIn was → IsIdleIn t → GivesIn catalog s → IsIdleIn (given_left was t s)
-  left_in was t (Wants a) w h g = w
-  left_in was t (Finished a ks) w h g =
-      by (changes_nothing (given_answer t (Finished a ks))) (read_finished (given_answer t (Finished a ks)))
+  left_in : (t : TxnAt) (s : PlanStep) → IsIdleIn t → GivesIn catalog s → IsIdleIn (given_left t s)
+  left_in t (Wants a) h g = h
+  left_in t (Finished a ks) h g = by (changes_nothing (given_answer t (Finished a ks)))
     where
-      by : (b f : Bool) → IsIdleIn (cond b (cond f t was) (written t ks))
-      by true true = h
-      by true false = w
-      by false f = (h.0, written_in catalog t.seen ks g h.1)
+      by : (b : Bool) → IsIdleIn (cond b t (written t ks))
+      by true = h
+      by false = (h.0, written_in catalog t.seen ks g h.1)
 
   ---- a text that is taken
 
@@ -112,7 +109,7 @@ module _ (catalog : List Table) where
         let p : Planned = plan_of table st in
         let a : Access = access_of table st in
         by_test (is_covered t.seen a)
-        (λ b. subst Of (sym (k.known b).1) (held_in c (given_left t t (gives p a t)) h.vacuum (left_in t t (gives p a t) i i (gives_in catalog p a t.seen listed refl))))
+        (λ b. subst Of (sym (k.known b).1) (held_in c (given_left t (gives p a t)) h.vacuum (left_in t (gives p a t) i (gives_in catalog p a t.seen listed refl))))
         (λ b. subst Of (sym (k.unknown b).1) (record { txn = (i.1, record { table = listed; access = refl; asked = refl; stage = tt }); vacuum = h.vacuum }))
 
     table_in : (st : Statement) (t : TxnAt) → c.txn ≡ Some t → TablePost q.catalog st c t result d → Of d
@@ -186,7 +183,7 @@ module _ (catalog : List Table) where
     images_so images (next.Answer z) i h =
         let v : TxnAt = with_rows_read t a images in
         let as_read : IsIdleIn v = noting_in t a images on_table i g in
-        subst IsIdleIn (sym h.2) (left_in (idle t) v (gives p a v) (refl, g) as_read (gives_in catalog p a v.seen k.table k.access))
+        subst IsIdleIn (sym h.2) (left_in v (gives p a v) as_read (gives_in catalog p a v.seen k.table k.access))
 
     stage_so : (n : Next) (s : ReadStage) → IsStageIn catalog s → StagePost t p a x s (read_result s) n u → IsAfterIn n u (Some p)
     stage_so n Asking i h = more_so n Asking i h

@@ -17,7 +17,7 @@ use Rattle.sdb_model.specs.Exec.{named_table}
 use Rattle.sdb_model.specs.Refused.{refusal_by, refusal_of}
 use Rattle.sdb_model.specs.Sql.{Reads, reads_commit}
 use Rattle.sdb_exec.specs.Plans.{Planned}
-use Rattle.sdb_exec.specs.Reads.{access_of}
+use Rattle.sdb_model.specs.Reads.{access_of}
 use Rattle.sdb_phases.specs.Commit.{preparing}
 use Rattle.sdb_read.specs.declared.read.ReadStep.{ReadStep}
 use Rattle.sdb_read.specs.declared.read.ReadStep.TheVariants as step
@@ -143,7 +143,7 @@ module _ (q : Taking) (text : List ℕ) (c : Client) (is_idle : IsIdle c) (fitte
   rows_case : (st : Statement) (t : TxnAt) (result : Option Answer) (d : Client) (table : Table) → c.txn ≡ Some t → Reads text st → refusal_of q.catalog st ≡ None → named_table q.catalog st ≡ Some table → RowsPost (plan_of table st) (access_of table st) c t result d → After result d
   rows_case st t result d table e reads taken named h =
       by_test (is_covered t.seen (access_of table st))
-      (λ b. let r = h.known b in as_so q.catalog c _ result _ d r.0 r.1 (so_left q.catalog c _ _ is_idle.free (left_idle t t (gives (plan_of table st) (access_of table st) t) idle idle)))
+      (λ b. let r = h.known b in as_so q.catalog c _ result _ d r.0 r.1 (so_left q.catalog c _ _ is_idle.free (left_idle t (gives (plan_of table st) (access_of table st) t) idle)))
       (λ b. let r = h.unknown b in as_so q.catalog c None result _ d r.0 r.1
       (so_reads q.catalog c t (plan_of table st) (access_of table st) _ (Some (plan_of table st)) is_idle.free refl (record { named = named; asked = refl; taken = taken; literals = literals_read text st reads; access = refl; request = refl })))
     where
@@ -210,7 +210,7 @@ module _ (catalog : List Table) (c : Client) (free : c.vacuum ≡ None) where
   -- a read
   module _ (t : TxnAt) (p : Planned) (a : Access) (x : ReadAt) (plan : c.plan ≡ Some p) (asked : IsAskedBy catalog p a x) where
     images_case : (images : List Record) (n : Next) (u : TxnAt) → RowsReadPost t p a images n u → Left n u
-    images_case images (next.Answer z) u h = so_left catalog c z u free (ap (λ (v : TxnAt). v.doing) h.2 ∙ left_idle (idle_of t) (with_rows_read t a images) (gives p a (with_rows_read t a images)) refl (noting_idle a))
+    images_case images (next.Answer z) u h = so_left catalog c z u free (ap (λ (v : TxnAt). v.doing) h.2 ∙ left_idle (with_rows_read t a images) (gives p a (with_rows_read t a images)) (noting_idle a))
       where
         noting_idle : (a : Access) → (with_rows_read t a images).doing ≡ doing.Idle
         noting_idle (access.Get key) = refl

@@ -54,7 +54,7 @@ use Rattle.sdb_model.specs.Rows.{order_names}
 use Rattle.sdb_exec.specs.declared.plan.PlanStep.{PlanStep}
 use Rattle.sdb_exec.specs.declared.plan.PlanStep.TheVariants.{Finished, Read as Wants}
 use Rattle.sdb_exec.specs.Plans.{Planned, changes_on, columns_at, finished, first_unfit, put_row, step_at, step_of}
-use Rattle.sdb_exec.specs.Reads.{access_by, access_for, access_of, all_fixed}
+use Rattle.sdb_model.specs.Reads.{access_by, access_for, access_of, all_fixed}
 use Rattle.sdb_phases.specs.declared.check.Check.{Check}
 use Rattle.sdb_phases.specs.declared.step.DecidePhase.TheVariants as decides
 use Rattle.sdb_phases.specs.declared.step.RecoverStep.{RecoverStep}

@@ -36,8 +36,9 @@ use Rattle.law_clients.proofs.Calls.{read_turn, read_ends_turn, vacuum_turn}
 use Rattle.law_clients.proofs.Commit.{commit_turn, own_kept}
 use Rattle.law_clients.proofs.Quiet.{gives_up, read_set, sweep_ends, sweep_goes, writes}
 use Rattle.law_clients.specs.Body.{AnswersOn, BodyOk, IsCovered}
+use Rattle.sdb_model.specs.Calls.{StoreCall}
 use Rattle.sdb_model.specs.ReadSet.{read_finished}
-use Rattle.law_clients.specs.Calls.{RecordsRead, ReadMade, calls_since}
+use Rattle.law_clients.specs.Calls.{IsMade, RecordsRead, ReadMade, calls_since}
 use Rattle.law_clients.specs.Filed.{number}
 use Rattle.law_clients.specs.Left.{Execution}
 use Rattle.law_clients.specs.Story.{Closed, MayCome, Opened}
@@ -47,10 +48,11 @@ use Rattle.law_clients.proofs.Bodies.{body_read}
 use Rattle.law_clients.proofs.Tellings.{story_stays}
 use Rattle.law_clients.proofs.HistoryTurns.{client_stands}
 use Rattle.law_clients.specs.Invariant.{ClientInvariant, EndedOk, IsOpenOf, InsideOk, IsClosed, IsCommitting, RunInvariant, IsInner, IsMild, IsRunning, IsWaiting, OpenedOk, RanOk}
+use Rattle.law_clients.specs.Progress.{FinishesOn}
 use Rattle.law_clients.specs.ReadSets.{IsMadeSince}
 use Rattle.law_clients.proofs.Goings.{turned}
 use Rattle.law_clients.proofs.Mild.{mild_begins, nothing_mild, rows_finish, rows_mild, uncommitted}
-use Rattle.law_clients.proofs.InvariantReads.{commit_made, made_reads, noted_elsewhere, noted_gap, noted_over, notes_read, since_read}
+use Rattle.law_clients.proofs.InvariantReads.{commit_made, made_reads, noted_elsewhere, noted_gap, noted_over, notes_read, notes_unfinished, since_read}
 use Rattle.law_clients.proofs.InvariantTurns as one
 use Rattle.law_clients.proofs.Small.{committing_as, running_as, twice, waiting_as}
 use Rattle.law_clients.proofs.InvariantOwn.{IsPlainRole, closed_as, commit_plain, goes_gap, goes_over, gone, opened_as, over, plain_apart, plain_counts, read_plain, sweep_plain}
@@ -302,11 +304,11 @@ module _ (catalog : List Table) (fit : Tables → Bool) (events : List Event) (s
           body_noted : BodyOk catalog fit (ran n).body (ran n).answers (with_read seen a images)
           body_noted = body_read (answered_q ∷ g.past) catalog fit (ran n).body (ran n).answers seen a images (subst (SeenOk (answered_q ∷ g.past)) held_then_read.2 inside_then.seen) (subst (BodyOk catalog fit (ran n).body (ran n).answers) held_then_read.2 inside_then.body)
 
-          notes_done : read_finished b ≡ true → RecordsRead (events ++ answered_q.event ∷ []) c s_now a images
-          notes_done finishes = notes_read events c answered_q.event s_now a images (refl, refl) finishes (client_at (Reading i seen a s) at_read).2 (subst (ReadMade (calls_since (events ++ answered_q.event ∷ []) c w.0.taken) a) done made_now)
+          notes_done : FinishesOn a images b → RecordsRead (events ++ answered_q.event ∷ []) c s_now a images
+          notes_done finishes = notes_read events c answered_q.event s_now b a images (refl, refl) refl finishes (client_at (Reading i seen a s) at_read).2 (subst (ReadMade (calls_since (events ++ answered_q.event ∷ []) c w.0.taken) a) done made_now)
 
         -- as one that changes nothing, whose read has not finished
-        pub going_fails : changes_nothing b ≡ true → read_finished b ≡ false → RunInvariant catalog fit (events ++ call_event y (Some b) ∷ []) (with_client sys c (Open i seen)) (at doing c None)
+        pub going_fails : changes_nothing b ≡ true → ((ms : List StoreCall) (m : StoreCall) → ReadMade ms a s → IsMade m request reply → read_finished (ms ++ m ∷ []) b ≡ false) → RunInvariant catalog fit (events ++ call_event y (Some b) ∷ []) (with_client sys c (Open i seen)) (at doing c None)
         going_fails idle unfinished = turned catalog fit events sys (with_client sys c (Open i seen)) doing g c None answered_q (record {
           plan = g.plan;
           x = with_answered x s_now;
@@ -317,7 +319,7 @@ module _ (catalog : List Table) (fit : Tables → Bool) (events : List Event) (s
           others = client_stands sys c (Open i seen);
           story = one.inside_story catalog fit events sys doing g c answered_q plain s_now b refl m w.3.commit is_said_read held_then_read.0 i seen (Reading i seen a s) at_read (λ u h. h) seen;
           own = one.idle_own catalog fit events sys doing g c answered_q plain s_now b refl m w.3.commit is_said_read held_then_read.0 i seen (Reading i seen a s) at_read (λ u h. h) idle held_then_read.2;
-          as_read = one.idle_noted catalog fit events sys doing g c answered_q plain s_now b refl m w.3.commit is_said_read held_then_read.0 i seen (Reading i seen a s) at_read (λ u h. h) (inl unfinished);
+          as_read = one.idle_noted catalog fit events sys doing g c answered_q plain s_now b refl m w.3.commit is_said_read held_then_read.0 i seen (Reading i seen a s) at_read (λ u h. h) (inl (notes_unfinished events c store request how reply s_now b (refl, refl) refl taken_before (λ m. unfinished (calls_since events c w.0.taken) m made_before)));
         })
           where
             m : IsMild b
@@ -327,7 +329,7 @@ module _ (catalog : List Table) (fit : Tables → Bool) (events : List Event) (s
             plain = read_plain s reply
 
         -- as one that changes nothing, whose read was done
-        pub going_keeps : (images : List Record) → changes_nothing b ≡ true → read_finished b ≡ true → next_read ≡ Done images → MayRecord seen a images → RunInvariant catalog fit (events ++ call_event y (Some b) ∷ []) (with_client sys c (Open i (with_read seen a images))) (at doing c None)
+        pub going_keeps : (images : List Record) → changes_nothing b ≡ true → FinishesOn a images b → next_read ≡ Done images → MayRecord seen a images → RunInvariant catalog fit (events ++ call_event y (Some b) ∷ []) (with_client sys c (Open i (with_read seen a images))) (at doing c None)
         going_keeps images idle finishes done may = turned catalog fit events sys (with_client sys c (Open i (with_read seen a images))) doing g c None answered_q (record {
           plan = g.plan;
           x = with_answered x s_now;
@@ -370,7 +372,7 @@ module _ (catalog : List Table) (fit : Tables → Bool) (events : List Event) (s
               covered answers w.2 m.1 read_untaken;
           as_read = one.read_noted catalog fit events sys doing g c answered_q plain s_now b refl m.0 w.3.commit is_said_read held_then_read.0 i seen (Reading i seen a s) at_read (λ u h. h)
               (record { seen = written; now = (ran n).now; body = (ran n).body ++ st ∷ []; answers = (ran n).answers ++ b ∷ [] }) a images changes held_then_read.2
-              (notes_done m.0 images done may (rows_finish b rows)) refl;
+              (notes_done m.0 images done may (λ ms made. rows_finish ms b rows)) refl;
         })
           where
             m : IsMild b × (changes_nothing b ≡ false)

@@ -4,6 +4,7 @@ use Rattle.std.specs.Prelude.{◌==◌, ◌&&◌, if◌then◌else◌, is_some, 
 use Rattle.std.specs.Cmp.{tied_itself}
 use Rattle.std.specs.Cmp.Lexicographic.{lists_total}
 use Rattle.std.specs.List.{cons_option}
+use Rattle.std.specs.Option.{option_map_or}
 use Rattle.std.specs.Ordering.{is_eq}
 use Rattle.std.proofs.lemmas.Bool.Decides.{nat_tests}
 use Rattle.std.proofs.lemmas.List.{append-nil, length-append}
@@ -24,9 +25,9 @@ use Rattle.sdb_model.specs.declared.answer.Answer.{Answer}
 use Rattle.sdb_model.specs.declared.event.Event.{Event}
 use Rattle.sdb_model.specs.declared.event.Event.TheVariants as event
 use Rattle.sdb_model.specs.declared.event.How.{How}
-use Rattle.sdb_model.specs.Calls.{StoreCall, end_of}
+use Rattle.sdb_model.specs.Calls.{StoreCall, calls_of, end_of}
 use Rattle.sdb_model.specs.Events.{table_asked}
-use Rattle.sdb_model.specs.ReadSet.{has_finished, read_items}
+use Rattle.sdb_model.specs.ReadSet.{has_finished, has_read, read_finished, read_items}
 use Rattle.sdb_model.specs.Rows.{Name}
 use Rattle.sdb_model.specs.Transactions.{Executed, begins, ends}
 use Rattle.law_protocol.specs.History.{at}
@@ -37,7 +38,7 @@ use Rattle.law_clients.specs.Reads.{with_read}
 use Rattle.law_clients.specs.ReadAt.{AreKinds, Done, IsOfData, ReadAt, read_pending, read_step}
 use Rattle.law_clients.specs.System.{ClientAt, Committing, IsBy, Open, Reading, Resting, Stopped, RunsVacuum, commit_left}
 use Rattle.law_clients.proofs.Lists.{each_more}
-use Rattle.law_clients.specs.Calls.{ReadsNothing, RecordsRead, ReadMade, WasAnswered, call_made, calls_since}
+use Rattle.law_clients.specs.Calls.{IsMade, ReadsNothing, RecordsRead, ReadMade, WasAnswered, call_made, calls_since}
 use Rattle.law_clients.specs.Left.{Execution}
 use Rattle.law_clients.specs.Story.{Closed, Finished, Opened, Rest, txn_ended_at}
 use Rattle.law_clients.specs.History.{ClientHistory, with_answered}
@@ -46,6 +47,7 @@ use Rattle.law_clients.proofs.Bodily.{noted_later, noted_nothing, noted_read, no
 use Rattle.law_clients.proofs.Noting.{read_made, read_notes}
 use Rattle.law_clients.proofs.Since.{calls_just, since_more, since_now}
 use Rattle.law_clients.specs.Invariant.{IsSilent}
+use Rattle.law_clients.specs.Progress.{FinishesOn}
 use Rattle.law_clients.specs.ReadSets.{ReadSetsOfClient, ReadSetsEnded, ReadSetInside, IsMadeSince, ReadSetOpened}
 use Rattle.law_clients.proofs.InvariantOwn.{below, finished, ran_before, ran_here, settled_begin, settled_gap, settled_inside, settled_over}
 use Rattle.sdb_types.proofs.Basics.{all_each as each_any}
@@ -274,7 +276,7 @@ module _ (events : List Event) (c : ℕ) (e : Event) (y : ClientAt) (x : ClientH
 ---- a read
 
 -- An access of tables of records is not one of the coordinator's.
-not_rows : (a : Access) → IsOfData a → is_coordinator_table (table_asked (request_of a)) ≡ false
+pub not_rows : (a : Access) → IsOfData a → is_coordinator_table (table_asked (request_of a)) ≡ false
 not_rows (access.Get key) tables = untrue (is_coordinator_table key.table) (tables key (ap is_eq (tied_itself key_total key)))
   where
     untrue : (b : Bool) → not b ≡ true → b ≡ false
@@ -313,10 +315,20 @@ pub made_reads : (kind : Record → Kind) (events : List Event) (c : ℕ) (w : O
 made_reads kind events c None i seen a s store q how r now o kinds low made pending can = tt
 made_reads kind events c (Some w) i seen a s store q how r now o kinds low made pending can = since_read kind events c w.taken a s store q how r now o kinds low made pending can
 
+-- Where by all calls up to a reply the read of a statement has not finished, which the reply answers, it has not.
+pub notes_unfinished : (events : List Event) (c : ℕ) (store : Name) (q : Request) (how : How) (r : Reply) (s : Executed) (b : Answer) → IsJustAnswered events s → s.answer ≡ Some b → s.taken ≤ length events → ((m : StoreCall) → IsMade m q r → read_finished (calls_since events c s.taken ++ m ∷ []) b ≡ false)
+    → has_read (events ++ event.Call c store q how r (Some b) ∷ []) c s ≡ false
+notes_unfinished events c store q how r s b is answers low unfinished =
+    let e : Event = event.Call c store q how r (Some b) in
+    let m : StoreCall = record { at = 1 + length events; store = store; request = q; how = how; reply = r } in
+    let ended : end_of (events ++ e ∷ []) s ≡ length (events ++ e ∷ []) = ap (λ x. if x then s.reached else length (events ++ e ∷ [])) is.0 ∙ is.1 ∙ sym (long events e) in
+    let calls : calls_of (events ++ e ∷ []) c s ≡ calls_since events c s.taken ++ m ∷ [] = calls_just (events ++ e ∷ []) c s ended ∙ since_more events c s.taken e low ∙ ap (λ ms. calls_since events c s.taken ++ ms) (own_call c (1 + length events) store q how r (Some b)) in
+    ap (λ ms. has_finished ms s) calls ∙ ap (λ (o : Option Answer). option_map_or (read_finished (calls_since events c s.taken ++ m ∷ [])) o false) answers ∙ unfinished m (record { request = refl; reply = refl })
+
 -- A statement whose read was done, and has finished by its answer, notes what the read was done with.
-pub notes_read : (events : List Event) (c : ℕ) (e : Event) (s : Executed) (a : Access) (images : List Record) → IsJustAnswered events s → has_finished s ≡ true → IsOfData a → ReadMade (calls_since (events ++ e ∷ []) c s.taken) a (Done images) → RecordsRead (events ++ e ∷ []) c s a images
-notes_read events c e s a images is finishes tables made = record {
-  finished = finishes;
+pub notes_read : (events : List Event) (c : ℕ) (e : Event) (s : Executed) (b : Answer) (a : Access) (images : List Record) → IsJustAnswered events s → s.answer ≡ Some b → FinishesOn a images b → IsOfData a → ReadMade (calls_since (events ++ e ∷ []) c s.taken) a (Done images) → RecordsRead (events ++ e ∷ []) c s a images
+notes_read events c e s b a images is answers finishes tables made = record {
+  finished = ap (λ ms. has_finished ms s) (calls_just (events ++ e ∷ []) c s ended) ∙ ap (λ (o : Option Answer). option_map_or (read_finished (calls_since (events ++ e ∷ []) c s.taken)) o false) answers ∙ finishes (calls_since (events ++ e ∷ []) c s.taken) made;
   read_set = ap read_items (calls_just (events ++ e ∷ []) c s ended) ∙ read_notes (calls_since (events ++ e ∷ []) c s.taken) a images made (not_rows a tables);
 }
   where

@@ -33,6 +33,7 @@ pub mod Notes
 pub mod Agree
 pub mod Meanings
 pub mod Noting
+pub mod Checks
 pub mod Since
 pub mod Bodily
 pub mod Goings
@@ -46,6 +47,7 @@ pub mod Rests
 pub mod InvariantEnds
 pub mod RowsFit
 pub mod Taken
+pub mod Finishing
 pub mod Asked
 pub mod Whole
 pub mod Fitted

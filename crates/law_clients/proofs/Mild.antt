@@ -1,9 +1,10 @@
 -- Answers that neither begin nor end a transaction.
-use Rattle.std.proofs.Common.{◌≡◌, ◌≢◌, Bool, true, false, Option, Some, refl, sym, ap, ◌∙◌}
+use Rattle.std.proofs.Common.{◌≡◌, ◌≢◌, Bool, true, false, List, Option, Some, refl, sym, ap, ◌∙◌}
 use Rattle.std.specs.Prelude.{◌&&◌, ◌||◌, not}
 use Rattle.std.specs.Option.{option_map_or}
 use Rattle.sdb_model.specs.declared.answer.Answer.{Answer}
 use Rattle.sdb_model.specs.declared.answer.Answer.TheVariants as answer
+use Rattle.sdb_model.specs.Calls.{StoreCall}
 use Rattle.sdb_model.specs.ReadSet.{read_finished}
 use Rattle.sdb_model.specs.Sql.{reads_begin, reads_commit, reads_rollback}
 use Rattle.sdb_model.specs.Transactions.{Executed, begins, changes_nothing, ends, is_answered_from_rows, is_conflict, is_done, is_effective}
@@ -50,22 +51,22 @@ rows_mild (answer.Unknown i) n = clash (sym n)
 rows_mild answer.Vacuuming n = clash (sym n)
 
 -- a statement that is answered from rows has finished its read
-pub rows_finish : (a : Answer) → is_answered_from_rows a ≡ true → read_finished a ≡ true
-rows_finish (answer.Rows rows) n = refl
-rows_finish (answer.Count k) n = refl
-rows_finish (answer.Duplicate key) n = refl
-rows_finish (answer.Busy key i m) n = clash (sym n)
-rows_finish answer.Faulted n = clash (sym n)
-rows_finish (answer.BadRecord key) n = clash (sym n)
-rows_finish (answer.Refused r) n = clash (sym n)
-rows_finish answer.OpenTransactions n = clash (sym n)
-rows_finish answer.NoMemory n = clash (sym n)
-rows_finish answer.Done n = clash (sym n)
-rows_finish answer.Committed n = clash (sym n)
-rows_finish (answer.Conflict key found) n = clash (sym n)
-rows_finish (answer.Expired i) n = clash (sym n)
-rows_finish (answer.Unknown i) n = clash (sym n)
-rows_finish answer.Vacuuming n = clash (sym n)
+pub rows_finish : (ms : List StoreCall) (a : Answer) → is_answered_from_rows a ≡ true → read_finished ms a ≡ true
+rows_finish ms (answer.Rows rows) n = refl
+rows_finish ms (answer.Count k) n = refl
+rows_finish ms (answer.Duplicate key) n = refl
+rows_finish ms (answer.Busy key i m) n = clash (sym n)
+rows_finish ms answer.Faulted n = clash (sym n)
+rows_finish ms (answer.BadRecord key) n = clash (sym n)
+rows_finish ms (answer.Refused r) n = clash (sym n)
+rows_finish ms answer.OpenTransactions n = clash (sym n)
+rows_finish ms answer.NoMemory n = clash (sym n)
+rows_finish ms answer.Done n = clash (sym n)
+rows_finish ms answer.Committed n = clash (sym n)
+rows_finish ms (answer.Conflict key found) n = clash (sym n)
+rows_finish ms (answer.Expired i) n = clash (sym n)
+rows_finish ms (answer.Unknown i) n = clash (sym n)
+rows_finish ms answer.Vacuuming n = clash (sym n)
 
 pub mild_begins : (s : Executed) (a : Answer) → s.answer ≡ Some a → IsMild a → begins s ≡ false
 mild_begins s a e m = ap (λ o. reads_begin s.text && is_done o) e ∙ ap (λ b. reads_begin s.text && b) m.undone ∙ no_second (reads_begin s.text)

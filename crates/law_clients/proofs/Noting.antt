@@ -1,6 +1,6 @@
 -- A read keeps what the records that it found mean by its calls, and what it is done with is what the model notes of its calls.
 use Rattle.std.proofs.Common.{◌≡◌, ℤ, Bool, true, false, List, [], ◌∷◌, ◌++◌, Option, Some, None, refl, sym, ap, subst, ◌∙◌, inl, inr}
-use Rattle.std.specs.Prelude.{if◌then◌else◌, filter, find}
+use Rattle.std.specs.Prelude.{if◌then◌else◌, filter, find, not}
 use Rattle.std.specs.List.{AllByRecursion, cons_option, filter_map}
 use Rattle.std.proofs.lemmas.Bool.{and_parts}
 use Rattle.std.proofs.lemmas.List.{append_assoc, append-nil}
@@ -18,7 +18,7 @@ use Rattle.sdb_record.specs.declared.access.Access.TheVariants as access
 use Rattle.sdb_record.specs.declared.coordinator.Decision.TheVariants as decision
 use Rattle.sdb_record.specs.declared.meta.Meta.{Meta}
 use Rattle.sdb_record.specs.Coordinator.{coordinator_key_of, coordinator_row_of, is_coordinator_table}
-use Rattle.sdb_record.specs.Meta.{is_in, is_unresolved}
+use Rattle.sdb_record.specs.Meta.{is_in, is_transactional, is_unresolved}
 use Rattle.sdb_record.specs.Moved.{version_of}
 use Rattle.sdb_record.specs.Parts.{before_record}
 use Rattle.sdb_record.specs.Rolls.{forward_record, undo}
@@ -46,8 +46,8 @@ some_is x y e = cc
 ---- rows
 
 -- one row more is settled
-row_done : (ms : List StoreCall) (a : Access) (images : List Record) (r : Record) (left : List Record) → RowsMade ms a images (r ∷ left) → HasMeaning ms r → (more : List Record) → more ≡ images ++ cons_option (meaning_of ms r) [] → RowsMade ms a more left
-row_done ms a images r left made has more e = record {
+row_done : (ms : List StoreCall) (a : Access) (images : List Record) (r : Record) (left : List Record) → RowsMade ms a images (r ∷ left) → HasMeaning ms r → is_transactional r ≡ true → (more : List Record) → more ≡ images ++ cons_option (meaning_of ms r) [] → RowsMade ms a more left
+row_done ms a images r left made has checks more e = record {
   first = made.first;
   more = made.more;
   calls = made.calls;
@@ -57,6 +57,7 @@ row_done ms a images r left made has more e = record {
   rows = made.rows ∙ ap Some (sym (append_assoc made.done (r ∷ []) left));
   rises = (and_parts (starts_after r.key left) (rise left) made.rises).1;
   settled = all_last (HasMeaning ms) made.done r made.settled has;
+  transactional = all_last (λ x. is_transactional x ≡ true) made.done r made.transactional checks;
   found = e ∙ ap (λ is. is ++ cons_option (meaning_of ms r) []) made.found ∙ sym (filter_map-append (meaning_of ms) made.done (r ∷ []));
   unrolled = made.unrolled.1;
   others = made.others;
@@ -64,10 +65,10 @@ row_done ms a images r left made has more e = record {
 
 pub settle_made : (kind : Record → Kind) (ms : List StoreCall) (a : Access) (images left : List Record) → AreKinds kind → RowsMade ms a images left → ReadMade ms a (settle kind images left)
 settle_made kind ms a images [] kinds made = made
-settle_made kind ms a images (r ∷ left) kinds made = by (kind r) (kinds r) (λ firm. settle_made kind ms a (images ++ r ∷ []) left kinds (row_done ms a images r left made (inl firm) (images ++ r ∷ []) (ap (λ o. images ++ cons_option o []) (sym (meaning_settled ms r firm)))))
+settle_made kind ms a images (r ∷ left) kinds made = by (kind r) (kinds r) (λ checks firm. settle_made kind ms a (images ++ r ∷ []) left kinds (row_done ms a images r left made (inl firm) checks (images ++ r ∷ []) (ap (λ o. images ++ cons_option o []) (sym (meaning_settled ms r firm)))))
   where
-    by : (x : Kind) → IsKind r x → (is_in state.Committed r.columns ≡ true → ReadMade ms a (settle kind (images ++ r ∷ []) left)) → ReadMade ms a (settle_one x images r left (settle kind (images ++ r ∷ []) left))
-    by Firm k rest = rest k.1
+    by : (x : Kind) → IsKind r x → (is_transactional r ≡ true → is_in state.Committed r.columns ≡ true → ReadMade ms a (settle kind (images ++ r ∷ []) left)) → ReadMade ms a (settle_one x images r left (settle kind (images ++ r ∷ []) left))
+    by Firm k rest = rest k.0 k.1
     by (Open meta) k rest = (made, k.0, k.1)
     by Bad k rest = tt
 
@@ -116,6 +117,7 @@ rows_made_more ms m a images left apart none made = record {
   rows = made.rows;
   rises = made.rises;
   settled = all_have_more ms m made.done made.settled;
+  transactional = made.transactional;
   found = made.found ∙ sym (meanings_more ms m made.done made.settled);
   unrolled = unrolled_more ms m left made.unrolled none;
   others = each_more (λ x. reads_rows x ≡ false) made.more m made.others apart;
@@ -133,6 +135,7 @@ row_rolled ms m a images rec left o apart open_still roll made more e = record {
   rows = made.rows ∙ ap Some (sym (append_assoc made.done (rec ∷ []) left));
   rises = (and_parts (starts_after rec.key left) (rise left) made.rises).1;
   settled = all_last (HasMeaning (ms ++ m ∷ [])) made.done rec (all_have_more ms m made.done made.settled) (inr (m, rolled));
+  transactional = all_last (λ x. is_transactional x ≡ true) made.done rec made.transactional (and_parts (is_transactional rec) (not (is_in state.Committed rec.columns)) open_still).0;
   found =
       e ∙ ap (λ x. images ++ cons_option x []) (sym (meaning_rolled (ms ++ m ∷ []) rec m o (held_of rec open_still) rolled roll.puts))
       ∙ ap (λ is. is ++ cons_option (meaning_of (ms ++ m ∷ []) rec) []) (made.found ∙ sym (meanings_more ms m made.done made.settled))
@@ -184,6 +187,7 @@ rows_made m a r rows is can e rises = record {
   rows = ap rows_of is.reply ∙ e;
   rises = rises;
   settled = tt;
+  transactional = tt;
   found = refl;
   unrolled = read_unrolled m rows (asks_plainly a m r is);
   others = tt;
@@ -238,11 +242,11 @@ note_is ms a images made = ap (λ q. read_item_of ms q made.first.reply) made.as
     by (access.Scan span) reply.Fault can e = absurd (cc (e))
     by (access.Scan span) reply.NoMemory can e = absurd (cc (e))
 
-none_kept : (ms : List StoreCall) → AllByRecursion (λ m. reads_rows m ≡ false) ms → filter reads_rows ms ≡ []
+pub none_kept : (ms : List StoreCall) → AllByRecursion (λ m. reads_rows m ≡ false) ms → filter reads_rows ms ≡ []
 none_kept [] h = refl
 none_kept (m ∷ ms) h = ap (λ b. if b then m ∷ filter reads_rows ms else filter reads_rows ms) h.0 ∙ none_kept ms h.1
 
-reads_it : (a : Access) → is_coordinator_table (table_asked (request_of a)) ≡ false → (if is_coordinator_table (table_asked (request_of a)) then false else is_read (request_of a)) ≡ true
+pub reads_it : (a : Access) → is_coordinator_table (table_asked (request_of a)) ≡ false → (if is_coordinator_table (table_asked (request_of a)) then false else is_read (request_of a)) ≡ true
 reads_it (access.Get key) e = ap (λ b. if b then false else true) e
 reads_it (access.Scan span) e = ap (λ b. if b then false else true) e
 

@@ -1,5 +1,5 @@
 -- A client that gets a reply to its read keeps what ties the events to the clients.
-use Rattle.std.proofs.Common.{◌≡◌, ℕ, Bool, true, false, ◌||◌, List, [], ◌∷◌, ◌++◌, Option, Some, None, refl, sym, ap, subst, ◌∙◌}
+use Rattle.std.proofs.Common.{◌≡◌, ◌⊎◌, inl, inr, ℕ, Bool, true, false, not, ◌&&◌, ◌||◌, List, [], ◌∷◌, ◌++◌, Option, Some, None, refl, sym, ap, subst, ◌∙◌}
 use Rattle.std.specs.Prelude.{if◌then◌else◌}
 use Rattle.std.specs.Option.{option_map}
 use Rattle.sdb_types.specs.declared.key.Key.{Key}
@@ -21,7 +21,7 @@ use Rattle.sdb_model.specs.Transactions.{changes_nothing, is_answered_from_rows}
 use Rattle.sdb_exec.specs.declared.plan.PlanStep.{PlanStep}
 use Rattle.sdb_exec.specs.declared.plan.PlanStep.TheVariants.{Finished}
 use Rattle.sdb_exec.specs.Plans.{Planned, finished, first_unfit, step_at, step_of}
-use Rattle.sdb_exec.specs.Reads.{access_of}
+use Rattle.sdb_model.specs.Reads.{access_of}
 use Rattle.sdb_exec.proofs.Places.{named_is_table}
 use Rattle.law_protocol.specs.History.{at}
 use Rattle.sdb_read.specs.declared.read.ReadStep.TheVariants as step
@@ -49,14 +49,21 @@ use Rattle.law_clients.proofs.Quiet.{read_set}
 use Rattle.law_clients.specs.Body.{AnswersOn, IsCovered}
 use Rattle.law_clients.specs.Invariant.{RunInvariant}
 use Rattle.law_clients.proofs.InvariantCalls.{going_differs, going_fails, going_keeps, going_reads, going_tells}
-use Rattle.sdb_model.specs.ReadSet.{read_finished}
+use Rattle.sdb_model.specs.Calls.{StoreCall}
+use Rattle.sdb_model.specs.ReadSet.{finds_transactional, read_finished}
+use Rattle.sdb_record.specs.Coordinator.{is_coordinator_table}
+use Rattle.law_clients.specs.Calls.{AsksRows, HasUnchecked, IsMade, ReadMade, rows_left}
+use Rattle.law_clients.proofs.Checks.{read_checks, read_unchecked}
+use Rattle.law_clients.specs.Progress.{FinishesOn}
+use Rattle.law_clients.proofs.InvariantReads.{not_rows}
+use Rattle.law_clients.proofs.Finishing.{GoesFrom, answer_finishes, misfit_finishes, step_bad, unfit_inside}
 use Rattle.law_clients.specs.Fitting.{tables_are_well_typed}
 use Rattle.law_clients.specs.States.{ClientState, IsAskedBy, IsCalled, doing_of, abstract_txn, system_of}
 use Rattle.law_clients.proofs.RowsFit.{answers_on}
 use Rattle.law_clients.proofs.Asked.{from_rows}
 use Rattle.law_clients.proofs.Fitted.{by_next}
 use Rattle.law_clients.proofs.Taken.{IsSo, moved}
-use Rattle.sdb_types.proofs.Basics.{or_second as or_so, itself as same_number, by_test}
+use Rattle.sdb_types.proofs.Basics.{or_second as or_so, itself as same_number, by_test, none_some}
 use Rattle.sdb_client.proofs.Calls.{last_noted}
 
 ---- what a read has noted
@@ -143,10 +150,40 @@ module _ (catalog : List Table) (events : List Event) (states : ℕ → ClientSt
         (sym (machine_steps x.stage y.now y.reply) ∙ ap abstract_read e) going)
 
     -- it is answered as one that changes nothing, and its read has not finished
-    fails : (b : Answer) → changes_nothing b ≡ true → read_finished b ≡ false → RepliedSo (Some b) (holding now (idle_of t))
+    abbrev Unfinished : Answer → Type 0
+    Unfinished b = (ms : List StoreCall) (m : StoreCall) → ReadMade ms a (abstract_read x.stage) → IsMade m y.request y.reply → read_finished (ms ++ m ∷ []) b ≡ false
+
+    fails : (b : Answer) → changes_nothing b ≡ true → Unfinished b → RepliedSo (Some b) (holding now (idle_of t))
     fails b nothing unfinished =
         moved catalog (tables_are_well_typed catalog) states y.client (holding now (idle_of t)) (events ++ call_event y (Some b) ∷ []) free refl
         (going_fails catalog (tables_are_well_typed catalog) events (system_of states) (doing_of states) g y.client y.store y.request y.how y.reply y.now machine_kind machine_kinds t.id t.seen a (abstract_read x.stage) here asked b p.statement runs_it nothing unfinished)
+
+    -- its access is of tables
+    of_data : laws.IsOfData a
+    of_data = (subst (ClientOk g.plan g.past y.client) here (g.system.each y.client)).2
+
+    of_rows : AsksRows a
+    of_rows = not_rows a of_data
+
+    -- its read found a bad record
+    goes_from : GoesFrom x.stage
+    goes_from = by x.stage pends
+      where
+        by : (s : ReadStage) → read_pending_at (request_of a) s ≡ Some y.request → GoesFrom s
+        by Asking e = tt
+        by (Resolving images rec meta f left) e = tt
+        by (Ended s) e = none_some y.request e
+
+    bad_unfinished : (key : Key) → read_step x.stage y.now y.reply ≡ Ended (step.BadRecord key) → Unfinished (answer.BadRecord key)
+    bad_unfinished key e ms m made is = by (step_bad x.stage y.now y.reply key goes_from e)
+      where
+        none : (b : Bool) → (b && false) ≡ false
+        none true = refl
+        none false = refl
+
+        by : (is_coordinator_table key.table ≡ true) ⊎ HasUnchecked (rows_left (abstract_read x.stage) y.reply) → read_finished (ms ++ m ∷ []) (answer.BadRecord key) ≡ false
+        by (inl own) = ap (λ b. not b && finds_transactional (ms ++ m ∷ [])) own
+        by (inr unchecked) = ap (λ b. not (is_coordinator_table key.table) && b) (read_unchecked ms m a (abstract_read x.stage) y.request y.reply made asked.asked is of_rows unchecked) ∙ none (not (is_coordinator_table key.table))
 
     -- a key that was read differs
     differs : (key : Key) (found : Option Record) → RepliedSo (Some (answer.Conflict key found)) (resting now)
@@ -190,7 +227,7 @@ module _ (catalog : List Table) (events : List Event) (states : ℕ → ClientSt
           by_doing = rw n.idle (λ i. Open (n.id i) (with_written (n.seen i) ks))
 
       -- it is answered as one that changes nothing, and what it read stays noted
-      keeps : (v : TxnAt) (b : Answer) → IsNoting t a images v → changes_nothing b ≡ true → read_finished b ≡ true → RepliedSo (Some b) (holding now v)
+      keeps : (v : TxnAt) (b : Answer) → IsNoting t a images v → changes_nothing b ≡ true → FinishesOn a images b → RepliedSo (Some b) (holding now v)
       keeps v b n nothing finishes =
           moved catalog (tables_are_well_typed catalog) states y.client (holding now v) (events ++ call_event y (Some b) ∷ []) free refl
           (subst (λ (z : ClientAt). RunInvariant catalog (tables_are_well_typed catalog) (events ++ call_event y (Some b) ∷ []) (with_client (system_of states) y.client z) (at (doing_of states) y.client None)) (sym by_doing)
@@ -201,27 +238,31 @@ module _ (catalog : List Table) (events : List Event) (states : ℕ → ClientSt
           by_doing = rw n.idle (λ i. Open (n.id i) (n.seen i))
 
       abbrev Told : TxnAt → PlanStep → Type 0
-      Told v s = RepliedSo (Some (given_answer v s)) (holding now (given_left (idle_of t) v s))
+      Told v s = RepliedSo (Some (given_answer v s)) (holding now (given_left v s))
 
-      finished_so : (v : TxnAt) (b : Answer) (ks : List Keyed) → IsNoting t a images v → gives p a v ≡ Finished b ks → (changes_nothing b ≡ false → is_answered_from_rows b ≡ true) → Told v (Finished b ks)
-      finished_so v b ks n gave rows =
+      finished_so : (v : TxnAt) (b : Answer) (ks : List Keyed) → IsNoting t a images v → gives p a v ≡ Finished b ks → FinishesOn a images b → (changes_nothing b ≡ false → is_answered_from_rows b ≡ true) → Told v (Finished b ks)
+      finished_so v b ks n gave finishes rows =
           by_test (changes_nothing b)
-          (λ q. by_test (read_finished b) (λ f. rw q (rw (q, f) (keeps v b n q f))) (λ f. rw q (rw (q, f) (fails b q f))))
-          (λ q. by_test (too_many v ks) (λ m. rw (q, m) (keeps v (refused 15) n refl refl)) (λ m. rw (q, m) (rw q (tells v b ks n gave (rows q)))))
+          (λ q. rw q (rw q (keeps v b n q finishes)))
+          (λ q. by_test (too_many v ks) (λ m. rw (q, m) (keeps v (refused 15) n refl (λ ms made. refl))) (λ m. rw (q, m) (rw q (tells v b ks n gave (rows q)))))
 
       told : (v : TxnAt) → IsNoting t a images v → Told v (gives p a v)
       told v n = by_unfit (first_unfit p.table (overlay a v.seen)) refl
         where
+          not_is : (b : Bool) → not b ≡ true → b ≡ false
+          not_is true h = absurd (cc)
+          not_is false h = refl
+
           gave : (o : Option Key) → first_unfit p.table (overlay a v.seen) ≡ o → gives p a v ≡ finished p.table p.statement (overlay a v.seen) o
           gave o e = ap (λ (b : Bool). step_at b p.table p.statement (overlay a v.seen)) k.asked ∙ ap (finished p.table p.statement (overlay a v.seen)) e
 
           by_unfit : (o : Option Key) → first_unfit p.table (overlay a v.seen) ≡ o → Told v (gives p a v)
-          by_unfit None e = subst (Told v) (sym (gave None e)) (finished_so v _ _ n (gave None e) (from_rows p.table p.statement (overlay a v.seen)))
-          by_unfit (Some key) e = subst (Told v) (sym (gave (Some key) e)) (finished_so v (answer.BadRecord key) [] n (gave (Some key) e) (λ h. absurd (cc)))
+          by_unfit None e = subst (Told v) (sym (gave None e)) (finished_so v _ _ n (gave None e) (λ ms made. answer_finishes ms p.table p.statement (overlay a v.seen)) (from_rows p.table p.statement (overlay a v.seen)))
+          by_unfit (Some key) e = subst (Told v) (sym (gave (Some key) e)) (finished_so v (answer.BadRecord key) [] n (gave (Some key) e) (λ ms made. misfit_finishes ms key (not_is (is_coordinator_table key.table) (of_data key (unfit_inside a v.seen p.table key e))) (read_checks ms a images made of_rows)) (λ h. absurd (cc)))
 
     images_case : (images : List Record) → read_step x.stage y.now y.reply ≡ Ended (step.Images images) → (n : Next) (u : TxnAt) → RowsReadPost t p a images n u → LedSo n u
     images_case images ends (next.Answer z) u h =
-        as_led (next.Answer z) (next.Answer (given_answer (with_rows_read t a images) (gives p a (with_rows_read t a images)))) u (given_left (idle_of t) (with_rows_read t a images) (gives p a (with_rows_read t a images))) (ap next.Answer h.1) h.2
+        as_led (next.Answer z) (next.Answer (given_answer (with_rows_read t a images) (gives p a (with_rows_read t a images)))) u (given_left (with_rows_read t a images) (gives p a (with_rows_read t a images))) (ap next.Answer h.1) h.2
         (told images ends h.0 (with_rows_read t a images) (is_noting t a images))
     images_case images ends (next.End (answer.Conflict key found)) u h = differs key found
     images_case images ends n u h = absurd h
@@ -231,13 +272,13 @@ module _ (catalog : List Table) (events : List Event) (states : ℕ → ClientSt
     stage_case (Resolving images rec meta q left) e n u h = as_led n next.Call u (record t { doing = doing.Read a (record x { stage = Resolving images rec meta q left }) }) h.0 h.1 (reads_on (Resolving images rec meta q left) e)
     stage_case (Ended step.More) e n u h = as_led n next.Call u (record t { doing = doing.Read a (record x { stage = Ended step.More }) }) h.0 h.1 (reads_on (Ended step.More) e)
     stage_case (Ended (step.Images images)) e n u h = images_case images e n u h
-    stage_case (Ended (step.Busy key id moment)) e n u h = as_led n (next.Answer (answer.Busy key id moment)) u (idle_of t) h.0 h.1 (fails (answer.Busy key id moment) refl refl)
-    stage_case (Ended step.Faulted) e n u h = as_led n (next.Answer answer.Faulted) u (idle_of t) h.0 h.1 (fails answer.Faulted refl refl)
-    stage_case (Ended (step.BadRecord key)) e n u h = as_led n (next.Answer (answer.BadRecord key)) u (idle_of t) h.0 h.1 (fails (answer.BadRecord key) refl refl)
+    stage_case (Ended (step.Busy key id moment)) e n u h = as_led n (next.Answer (answer.Busy key id moment)) u (idle_of t) h.0 h.1 (fails (answer.Busy key id moment) refl (λ ms m made is. refl))
+    stage_case (Ended step.Faulted) e n u h = as_led n (next.Answer answer.Faulted) u (idle_of t) h.0 h.1 (fails answer.Faulted refl (λ ms m made is. refl))
+    stage_case (Ended (step.BadRecord key)) e n u h = as_led n (next.Answer (answer.BadRecord key)) u (idle_of t) h.0 h.1 (fails (answer.BadRecord key) refl (bad_unfinished key e))
     stage_case (Ended step.NoMemory) e n u h = absurd h
 
     pub replied_read : (n : Next) (u : TxnAt) → CallPost t p a x y.reply y.now n u → LedSo n u
     replied_read n u h =
         by_next n
-        (λ e. as_led n (next.Answer answer.NoMemory) u (idle_of t) e (h.memory e) (fails answer.NoMemory refl refl))
+        (λ e. as_led n (next.Answer answer.NoMemory) u (idle_of t) e (h.memory e) (fails answer.NoMemory refl (λ ms m made is. refl)))
         (λ e. stage_case (read_step x.stage y.now y.reply) refl n u (h.told e))

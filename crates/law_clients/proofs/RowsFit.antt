@@ -31,7 +31,7 @@ use Rattle.sdb_model.specs.Exec.{Tables, all_rows, find_table, is_row_of, key_of
 use Rattle.sdb_model.specs.Refused.{refusal_by, refusal_of, refusal_on}
 use Rattle.sdb_exec.specs.declared.plan.PlanStep.TheVariants.{Finished}
 use Rattle.sdb_exec.specs.Plans.{IsExec, Planned, change_is_well_typed, changes_on, columns_at, finished, first_unfit, has_all_literals, leaves_well_typed, put_row, step_of}
-use Rattle.sdb_exec.specs.Reads.{access_of}
+use Rattle.sdb_model.specs.Reads.{access_of}
 use Rattle.sdb_exec.proofs.Fits.{changes_fit}
 use Rattle.sdb_exec.proofs.Laid.{by_key, get-with_row, keyed}
 use Rattle.sdb_exec.proofs.Places.{named_is_table}

@@ -20,7 +20,7 @@ use Rattle.sdb_model.specs.Exec.{find_table, named_table, table_of}
 use Rattle.sdb_model.specs.Refused.{refusal_by, refusal_of}
 use Rattle.sdb_model.specs.Sql.{Reads, reads_commit, reads_rollback}
 use Rattle.sdb_exec.specs.Plans.{has_all_literals}
-use Rattle.sdb_exec.specs.Reads.{access_of}
+use Rattle.sdb_model.specs.Reads.{access_of}
 use Rattle.sdb_snapshot.specs.Sets.{IsSetInvariant}
 use Rattle.sdb_sqltext.proofs.Clauses.{one_statement}
 use Rattle.sdb_sqltext.proofs.OneWord.{commit_read, rollback_read}

@@ -1,6 +1,6 @@
 -- What the records that a read found mean by its calls, and what a transaction has read by those of its statements.
 use Rattle.std.specs.Prelude.{◌≡◌, ◌⊎◌, true, false, List, [], ◌∷◌, ◌++◌, Option, Some, None, Ok, ℕ, ℤ, ◌≤◌, filter, find, nat_lt, length, is_some, Contains, ◌↔◌, map}
-use Rattle.std.specs.List.{AllByRecursion, cons_option, filter_map, flat_map}
+use Rattle.std.specs.List.{AllByRecursion, cons_option, filter_map, flat_map, list_all}
 use Rattle.sdb_types.specs.declared.record.Record.{Record}
 use Rattle.sdb_types.specs.declared.record.Request.{Request}
 use Rattle.sdb_types.specs.declared.record.Reply.{Reply}
@@ -10,13 +10,13 @@ use Rattle.sdb_types.specs.Contents.{CanAnswer, rise}
 use Rattle.sdb_record.specs.declared.access.Access.{Access}
 use Rattle.sdb_record.specs.declared.access.Access.TheVariants as access
 use Rattle.sdb_record.specs.Coordinator.{is_coordinator_table}
-use Rattle.sdb_record.specs.Meta.{checked, is_in, is_unresolved}
+use Rattle.sdb_record.specs.Meta.{checked, is_in, is_transactional, is_unresolved}
 use Rattle.sdb_model.specs.declared.event.Event.{Event}
 use Rattle.sdb_model.specs.Events.{table_asked}
-use Rattle.sdb_model.specs.Calls.{StoreCall, calls_by, calls_of, made_by}
+use Rattle.sdb_model.specs.Calls.{StoreCall, calls_by, calls_of, made_by, records_read}
 use Rattle.sdb_model.specs.Transactions.{Executed, client_of, statements_inside}
 use Rattle.sdb_record.specs.Moved.{version_of}
-use Rattle.sdb_model.specs.ReadSet.{ReadItem, KeyRead, SpanRead, meaning_of, read_items, reads_rows, rolls, has_finished}
+use Rattle.sdb_model.specs.ReadSet.{ReadItem, KeyRead, SpanRead, meaning_of, read_items, reads_rows, rolls, has_read}
 use Rattle.sdb_snapshot.specs.Reads.{reads_of}
 use Rattle.sdb_snapshot.specs.Seen.{Seen}
 use Rattle.law_protocol.specs.Lawful.{id}
@@ -42,8 +42,8 @@ rows_of (reply.Found (Some r)) = Some (r ∷ [])
 rows_of (reply.Rows rows) = Some rows
 rows_of r = None
 
--- The calls of a read: the first asked for its rows. Those that are done have a meaning each, and these are the images; none of those that are
--- left was rolled. The other calls are of recoveries.
+-- The calls of a read: the first asked for its rows. Those that are done pass the checks and have a meaning each, and these are the images;
+-- none of those that are left was rolled. The other calls are of recoveries.
 pub record RowsMade (ms : List StoreCall) (a : Access) (images left : List Record) : Type 0 where
   pub first : StoreCall
   pub more : List StoreCall
@@ -54,6 +54,7 @@ pub record RowsMade (ms : List StoreCall) (a : Access) (images left : List Recor
   pub rows : rows_of first.reply ≡ Some (done ++ left)
   pub rises : rise left ≡ true
   pub settled : AllByRecursion (HasMeaning ms) done
+  pub transactional : AllByRecursion (λ r. is_transactional r ≡ true) done
   pub found : images ≡ filter_map (meaning_of ms) done
   pub unrolled : AllByRecursion (IsUnrolled ms) left
   pub others : AllByRecursion (λ m. reads_rows m ≡ false) more
@@ -64,6 +65,16 @@ ReadMade ms a Asking = ms ≡ []
 ReadMade ms a (Resolving images rec meta p left) = RowsMade ms a images (rec ∷ left) × (is_unresolved rec ≡ true) × (checked rec.columns ≡ Ok meta)
 ReadMade ms a (Done images) = RowsMade ms a images []
 ReadMade ms a Failed = Unit {0}
+
+-- the rows that are left to a read when it takes a reply
+abbrev pub rows_left : ReadAt → Reply → List Record
+rows_left Asking r = records_read r
+rows_left (Resolving images rec meta p left) r = left
+rows_left s r = []
+
+-- one of these records doesn't pass the checks
+abbrev pub HasUnchecked : List Record → Type 0
+HasUnchecked rows = list_all is_transactional rows ≡ false
 
 -- A reply to the pending call of a read, whose rows are as they were observed, and the calls that it has made.
 pub record MadeReply : Type 0 where
@@ -109,7 +120,7 @@ pub record WasAnswered (events : List Event) (s : Executed) : Type 0 where
 
 -- the read set of the statements of a list whose reads have finished
 abbrev pub read_items_by : List Event → ℕ → List Executed → List ReadItem
-read_items_by events c ss = flat_map (λ s. read_items (calls_of events c s)) (filter has_finished ss)
+read_items_by events c ss = flat_map (λ s. read_items (calls_of events c s)) (filter (has_read events c) ss)
 
 -- What a transaction has read contains this item.
 abbrev pub HasReadItem : Seen → ReadItem → Type 0
@@ -121,11 +132,11 @@ IsReadSetIn events c ss seen = (n : ReadItem) → HasReadItem seen n ↔ Contain
 
 -- a statement adds nothing to the read set: its read has not finished, or it made none
 abbrev pub ReadsNothing : List Event → ℕ → Executed → Type 0
-ReadsNothing events c s = (has_finished s ≡ false) ⊎ (read_items (calls_of events c s) ≡ [])
+ReadsNothing events c s = (has_read events c s ≡ false) ⊎ (read_items (calls_of events c s) ≡ [])
 
 -- a statement records what a read returned
 pub record RecordsRead (events : List Event) (c : ℕ) (s : Executed) (a : Access) (images : List Record) : Type 0 where
-  pub finished : has_finished s ≡ true
+  pub finished : has_read events c s ≡ true
   pub read_set : read_items (calls_of events c s) ≡ read_item_with a images ∷ []
 
 -- The statements of a client's transaction, and what this has read, which is their read set.

@@ -13,6 +13,7 @@ use Rattle.sdb_model.specs.declared.event.Point.{Point}
 use Rattle.sdb_model.specs.declared.event.TableDump.{TableDump}
 use Rattle.sdb_model.specs.declared.script.Script.{Script}
 use Rattle.sdb_model.specs.declared.statement.Statement.{Statement}
+use Rattle.sdb_model.specs.Calls.{StoreCall}
 use Rattle.sdb_model.specs.Events.{IsTrace, StoreContents}
 use Rattle.sdb_model.specs.Exec.{Tables}
 use Rattle.sdb_model.specs.Follows.{Follows}
@@ -30,6 +31,7 @@ use Rattle.law_clients.specs.ReadAt.{AreKinds, Done, IsOfData, ReadAt, read_pend
 use Rattle.law_clients.specs.Vacuum.{VacuumModel, vacuum_call, vacuum_model_step}
 use Rattle.law_clients.specs.System.{ClientAt, ClientCall, IsReplyTo, Open, Reading, RunsVacuum, SystemAt, call_event, commit_left, with_client}
 use Rattle.law_clients.specs.Body.{AnswersOn, IsCovered}
+use Rattle.law_clients.specs.Calls.{IsMade, ReadMade}
 use Rattle.law_clients.specs.Left.{IsFitting}
 use Rattle.law_clients.specs.Invariant.{RunInvariant, IsInner}
 
@@ -132,6 +134,14 @@ pub record ReadReply (p : Progress) : Type 0 where
 abbrev pub read_next : {p : Progress} → ReadReply p → ReadAt
 read_next r = read_step r.kind r.stage r.call.now r.call.reply
 
+-- A statement is answered so with this reply, and by whatever calls its read has made up to it, the read has not finished.
+abbrev pub IsUnfinished : {p : Progress} → ReadReply p → Answer → Type 0
+IsUnfinished r b = (ms : List StoreCall) (m : StoreCall) → ReadMade ms r.asked r.stage → IsMade m r.call.request r.call.reply → read_finished (ms ++ m ∷ []) b ≡ false
+
+-- By whatever calls an access was read, a statement that is answered so has finished its read.
+abbrev pub FinishesOn : Access → List Record → Answer → Type 0
+FinishesOn a images b = (ms : List StoreCall) → ReadMade ms a (Done images) → read_finished ms b ≡ true
+
 -- The reply that a read was done with, and the answer to its statement, which changes nothing.
 pub record DoneReply (p : Progress) : Type 0 where
   pub reply : ReadReply p
@@ -140,7 +150,7 @@ pub record DoneReply (p : Progress) : Type 0 where
   pub may_note : MayRecord reply.seen reply.asked images
   pub answer : Answer
   pub nothing : changes_nothing answer ≡ true
-  pub finishes : read_finished answer ≡ true
+  pub finishes : FinishesOn reply.asked images answer
   pub runs : (st : Statement) × (p.doing reply.call.client ≡ Some st)
 
 -- what its transaction has then read

@@ -11,7 +11,7 @@ use Rattle.sdb_model.specs.declared.statement.Statement.{Statement}
 use Rattle.sdb_model.specs.Exec.{named_table}
 use Rattle.sdb_model.specs.Refused.{refusal_of}
 use Rattle.sdb_exec.specs.Plans.{Planned, has_all_literals}
-use Rattle.sdb_exec.specs.Reads.{access_of}
+use Rattle.sdb_model.specs.Reads.{access_of}
 use Rattle.law_protocol.specs.History.{at}
 use Rattle.sdb_read.specs.Read.{ReadAt, request_of}
 use Rattle.sdb_txn.specs.declared.txn.Doing.{Doing}

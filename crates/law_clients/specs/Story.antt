@@ -22,7 +22,6 @@ pub record Story : Type 0 where
   pub whole : List Finished
   pub rest : Rest
 
-
 -- one statement more, with its answer
 abbrev pub settle : List Finished → Rest → Executed → Story
 settle whole (Closed gap) s = if begins s then record { whole = whole; rest = Opened gap s [] } else record { whole = whole; rest = Closed (gap ++ s ∷ []) }

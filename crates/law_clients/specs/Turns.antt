@@ -15,7 +15,7 @@ use Rattle.sdb_model.specs.Exec.{find_table, named_table}
 use Rattle.sdb_model.specs.Refused.{refusal_of}
 use Rattle.sdb_exec.specs.declared.plan.PlanStep.TheVariants.{Finished}
 use Rattle.sdb_exec.specs.Plans.{Planned, has_all_literals, step_of}
-use Rattle.sdb_exec.specs.Reads.{access_of}
+use Rattle.sdb_model.specs.Reads.{access_of}
 use Rattle.sdb_client.specs.Client.{ClientAt as Client, ReplyPost, Taking, client_pending, next_id, TextStep}
 use Rattle.sdb_snapshot.specs.Seen.{Seen, overlay}
 use Rattle.law_clients.specs.System.{ClientCall, call_event}

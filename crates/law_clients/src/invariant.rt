@@ -14,7 +14,6 @@ ghost use Rattle.sdb_model.specs.declared.statement.Statement.{Statement};
 ghost use Rattle.sdb_model.specs.Serial.{IsRun};
 ghost use Rattle.sdb_model.specs.Exec.{Tables};
 ghost use Rattle.sdb_model.specs.Sql.{reads_commit};
-ghost use Rattle.sdb_model.specs.ReadSet.{read_finished};
 ghost use Rattle.sdb_model.specs.Transactions.{changes_nothing, is_conflict};
 ghost use Rattle.law_protocol.specs.Faithful.{AreReadSets};
 ghost use Rattle.sdb_phases.specs.Work.{Work};
@@ -24,7 +23,7 @@ ghost use Rattle.law_clients.specs.ReadAt.{Asking, IsOfData};
 ghost use Rattle.law_clients.specs.Vacuum.{Scanning};
 ghost use Rattle.law_clients.specs.System.{Committing, IsCommit, Open, Reading, Resting, Stopped, RunsVacuum, SystemAt, answer_at, commit_left, idle, with_client};
 ghost use Rattle.law_clients.specs.Invariant.{RunInvariant, IsMild, IsSilent, LeavesAtOnce};
-ghost use Rattle.law_clients.specs.Progress.{After, AfterAsked, AfterReply, AfterTake, Asked, AskedRows, DoneReply, Ending, IsPreservedAs, IsSame, LastReply, MayRead, Progress, ReadReply, Runs, VacuumReplied, committing, outcome_with, read_next, seen_after, seen_asked, seen_done, vacuum_next_at};
+ghost use Rattle.law_clients.specs.Progress.{After, AfterAsked, AfterReply, AfterTake, Asked, AskedRows, DoneReply, Ending, IsPreservedAs, IsSame, IsUnfinished, LastReply, MayRead, Progress, ReadReply, Runs, VacuumReplied, committing, outcome_with, read_next, seen_after, seen_asked, seen_done, vacuum_next_at};
 
 /// Before the first event no client has done anything; and the clock moves, or a client without work idles.
 pub fn rests()
@@ -67,7 +66,7 @@ pub fn answers()
 pub fn reads()
     ensures asks { (p : Progress) (q : Asked p) (st : Statement) (a : Access) → MayRead q st a → AfterAsked q None (Reading q.id q.seen a Asking) (Some st) }
     ensures goes_on { (p : Progress) (r : ReadReply p) → AfterReply p r.call None (Reading r.id r.seen r.asked (read_next r)) (p.doing r.call.client) }
-    ensures fails { (p : Progress) (r : ReadReply p) (b : Answer) → Runs p r.call.client → changes_nothing b ≡ true → read_finished b ≡ false → AfterReply p r.call (Some b) (Open r.id r.seen) None }
+    ensures fails { (p : Progress) (r : ReadReply p) (b : Answer) → Runs p r.call.client → changes_nothing b ≡ true → IsUnfinished r b → AfterReply p r.call (Some b) (Open r.id r.seen) None }
     ensures keeps { (p : Progress) (r : DoneReply p) → AfterReply p r.reply.call (Some r.answer) (Open r.reply.id (seen_done r)) None }
     ensures tells { (p : Progress) (r : LastReply p) → AfterReply p r.reply.call (Some r.answered.answer) (Open r.reply.id (seen_after r)) None }
     ensures differs { (p : Progress) (r : ReadReply p) (b : Answer) → Runs p r.call.client → is_conflict (Some b) ≡ true → AfterReply p r.call (Some b) Resting None }

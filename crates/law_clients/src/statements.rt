@@ -1,5 +1,5 @@
 //! The answers and the writes of a transaction's statements.
-ghost use Rattle.std.specs.Prelude.{◌≤◌, ◌+◌, length, ◌↔◌, ◌⊎◌, ℤ, filter, false, ◌≡◌, ℕ, List, ◌++◌, ◌∷◌, [], Bool};
+ghost use Rattle.std.specs.Prelude.{◌≤◌, ◌+◌, length, ◌↔◌, ◌⊎◌, ℤ, filter, false, true, ◌≡◌, ℕ, List, ◌++◌, ◌∷◌, [], Bool};
 ghost use Rattle.sdb_types.specs.declared.record.Record.{Record};
 ghost use Rattle.sdb_record.specs.declared.access.Access.{Access};
 ghost use Rattle.sdb_schema.specs.declared.table.Table.{Table};
@@ -17,7 +17,7 @@ ghost use Rattle.sdb_snapshot.specs.Seen.{Seen, Agrees, nothing, with_written};
 ghost use Rattle.law_clients.specs.Reads.{SeenOk, with_read, work_of};
 ghost use Rattle.law_clients.specs.ReadAt.{Done};
 ghost use Rattle.sdb_model.specs.Calls.{StoreCall, calls_of, end_of};
-ghost use Rattle.sdb_model.specs.ReadSet.{ReadItem, read_items};
+ghost use Rattle.sdb_model.specs.ReadSet.{ReadItem, finds_transactional, read_items};
 ghost use Rattle.law_clients.specs.Calls.{AsksRows, HasReadItem, IsMade, IsReadSetIn, IsCommitStartedWith, MadeReply, BodyReadSet, ReadSetWith, ReadsNothing, RecordsRead, ReadMade, WasAnswered, call_made, calls_since, read_item_with, stage_after};
 ghost use Rattle.law_clients.specs.Body.{AgreesAll, Body, BodyOk, ComeTo, IsCovered, NextStatement};
 
@@ -61,9 +61,11 @@ pub fn calls_observe_rows()
     ensures { (r : MadeReply) (m : StoreCall) → IsMade m r.call.request r.call.reply → ReadMade (r.made ++ m ∷ []) r.asked (stage_after r) }
 {}
 
-/// The model's read item of the calls of a read is what the read returned, and nothing else; and that is what the read set grows by.
+/// The model's read item of the calls of a read is what the read returned, and nothing else; each record that such a read found passes the
+/// checks; and what it returned is what the read set grows by.
 pub fn read_is_recorded()
     ensures calls { (ms : List StoreCall) (a : Access) (images : List Record) → ReadMade ms a (Done images) → AsksRows a → read_items ms ≡ read_item_with a images ∷ [] }
+    ensures checks { (ms : List StoreCall) (a : Access) (images : List Record) → ReadMade ms a (Done images) → AsksRows a → finds_transactional ms ≡ true }
     ensures adds { (s : Seen) (a : Access) (images : List Record) (n : ReadItem) → HasReadItem (with_read s a images) n ↔ (HasReadItem s n ⊎ (n ≡ read_item_with a images)) }
 {}
 

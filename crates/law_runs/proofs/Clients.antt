@@ -20,7 +20,6 @@ use Rattle.sdb_model.specs.declared.statement.Statement.{Statement}
 use Rattle.sdb_model.specs.declared.statement.Statement.TheVariants as statement
 use Rattle.sdb_model.specs.Causes.{refused}
 use Rattle.sdb_model.specs.Exec.{named_table}
-use Rattle.sdb_model.specs.ReadSet.{read_finished}
 use Rattle.sdb_model.specs.Plain.{is_one_line}
 use Rattle.sdb_model.specs.Refused.{refusal_by, refusal_of}
 use Rattle.sdb_model.specs.Sql.{reads_commit}
@@ -28,7 +27,7 @@ use Rattle.sdb_model.specs.Transactions.{changes_nothing}
 use Rattle.sdb_exec.specs.declared.plan.PlanStep.{PlanStep}
 use Rattle.sdb_exec.specs.declared.plan.PlanStep.TheVariants.{Finished, Read as Wants}
 use Rattle.sdb_exec.specs.Plans.{Planned}
-use Rattle.sdb_exec.specs.Reads.{access_of}
+use Rattle.sdb_model.specs.Reads.{access_of}
 use Rattle.sdb_phases.specs.declared.step.Outcome.{Outcome}
 use Rattle.sdb_phases.specs.declared.step.Outcome.TheVariants as outcome
 use Rattle.sdb_phases.specs.Commit.{Back, Checking, Deciding, Forward, Over, Preparing, Stage, Stopping, pending as commit_pending, step as commit_step}
@@ -106,14 +105,13 @@ RestsWith t = (t.doing ≡ doing.Idle) × SeenClear t.seen
 at_rest : (t : TxnAt) → RestsWith t → TxnClear t
 at_rest t h = subst (λ (x : Doing). DoingClear t.seen x) (sym h.0) h.1
 
-left_clear : (was t : TxnAt) (s : PlanStep) → RestsWith was → RestsWith t → GivesClear s → RestsWith (given_left was t s)
-left_clear was t (Finished a ks) w h g = by (changes_nothing (given_answer t (Finished a ks))) (read_finished (given_answer t (Finished a ks)))
+left_clear : (t : TxnAt) (s : PlanStep) → RestsWith t → GivesClear s → RestsWith (given_left t s)
+left_clear t (Finished a ks) h g = by (changes_nothing (given_answer t (Finished a ks)))
   where
-    by : (b f : Bool) → RestsWith (cond b (cond f t was) (written t ks))
-    by true true = h
-    by true false = w
-    by false f = (h.0, written_clear t.seen ks g.1 h.1)
-left_clear was t (Wants a) w h g = w
+    by : (b : Bool) → RestsWith (cond b t (written t ks))
+    by true = h
+    by false = (h.0, written_clear t.seen ks g.1 h.1)
+left_clear t (Wants a) h g = h
 
 plan_gives : (p : Planned) (a : Access) (t : TxnAt) → StatementClear p.statement → SeenClear t.seen → GivesClear (gives p a t)
 plan_gives p a t h k = gives_clear p (overlay a t.seen) h (overlay_clear a t.seen k)
@@ -159,7 +157,7 @@ module _ (q : Taking) (c d : ClientAt) (result : Option Answer) (waits : IsIdle 
       let here : AccessClear a = access_clear table st clear in
       let given : GivesClear (gives p a t) = plan_gives p a t clear seen in
       by_test (is_covered t.seen a)
-      (λ b. led_clear d _ result (Some (given_answer t (gives p a t))) (k.known b) (given_clear t (gives p a t) given) (holds_clear c (given_left t t (gives p a t)) h (at_rest (given_left t t (gives p a t)) (left_clear t t (gives p a t) (still, seen) (still, seen) given))))
+      (λ b. led_clear d _ result (Some (given_answer t (gives p a t))) (k.known b) (given_clear t (gives p a t) given) (holds_clear c (given_left t (gives p a t)) h (at_rest (given_left t (gives p a t)) (left_clear t (gives p a t) (still, seen) given))))
       (λ b. led_clear d _ result None (k.unknown b) tt (record { txn = (seen, here, asked_clear a here, tt); plan = clear; vacuum = h.vacuum }))
 
   table_step : (st : Statement) (t : TxnAt) → StatementClear st → c.txn ≡ Some t → TablePost q.catalog st c t result d → StepClear result d
@@ -251,7 +249,7 @@ module _ (t u : TxnAt) (p : Planned) (a : Access) (x : ReadAt) (clear : PlanClea
       let v : TxnAt = with_rows_read t a images in
       let as_read : RestsWith v = noting_clear t a images here i seen in
       let given : GivesClear (gives p a v) = plan_gives p a v clear as_read.1 in
-      (subst TxnClear (sym h.2) (at_rest (given_left (idle t) v (gives p a v)) (left_clear (idle t) v (gives p a v) (refl, seen) as_read given)), subst AnswerClear (sym h.1) (given_clear v (gives p a v) given))
+      (subst TxnClear (sym h.2) (at_rest (given_left v (gives p a v)) (left_clear v (gives p a v) as_read given)), subst AnswerClear (sym h.1) (given_clear v (gives p a v) given))
 
   stage_step : (n : Next) (s : ReadStage) → StageClear s → StagePost t p a x s (read_result s) n u → AfterClear n u
   stage_step n Asking i h = more_step n Asking i h

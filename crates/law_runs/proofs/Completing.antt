@@ -1,7 +1,7 @@
 -- Which answers are left to statements whose calls were served.
 use Rattle.std.proofs.Common.{◌≡◌, ◌⊎◌, inl, inr, ℕ, Bool, true, false, List, [], ◌∷◌, Option, Some, None, Ok, refl, sym, ap, subst, ◌∙◌}
 use Rattle.std.specs.Prelude.{Contains, if◌then◌else◌, is_some, nat_lt}
-use Rattle.std.specs.Option.{option_and_then}
+use Rattle.std.specs.Option.{option_and_then, option_map_or}
 use Rattle.std.specs.Result.{result_ok}
 use Rattle.std.proofs.lemmas.List.Elements.{Contains-append_left, Contains-append_right, Contains-push}
 use Rattle.sdb_types.specs.declared.key.Key.{Key}
@@ -28,9 +28,10 @@ use Rattle.sdb_model.specs.declared.script.Script.{Script}
 use Rattle.sdb_model.specs.declared.statement.Statement.{Statement}
 use Rattle.sdb_model.specs.declared.statement.Statement.TheVariants as statement
 use Rattle.sdb_model.specs.Calls.{StoreCall, calls_of, decision_found, decision_in_reply, decision_learned, decision_observed, is_of_row, put_by, record_at_key, records_observed}
-use Rattle.sdb_model.specs.Causes.{AreCaused, IsBad, IsCaused, IsCommitOf, IsConflict, IsConflictAtCommit, IsCounted, IsDecided, IsMisfit, IsRejected, MayPassMost, PutsRow, before, is_select, may_pass}
+use Rattle.sdb_model.specs.Causes.{AreCaused, IsBad, IsCaused, IsCommitOf, IsConflict, IsConflictAtCommit, IsCounted, IsDecided, IsRejected, MayPassMost, MeetsMisfit, PutsRow, before, is_select, may_pass}
 use Rattle.sdb_model.specs.Counted.{IsPassedOver, IsResolved, is_seen}
-use Rattle.sdb_model.specs.Exec.{table_of}
+use Rattle.sdb_model.specs.Events.{catalog_at}
+use Rattle.sdb_model.specs.Exec.{named_table, table_of}
 use Rattle.sdb_model.specs.Follows.{Follows}
 use Rattle.sdb_model.specs.ReadSet.{read_finished, read_set_of}
 use Rattle.sdb_model.specs.Sql.{Reads, reads_begin, reads_commit, reads_rollback, reads_vacuum}
@@ -46,7 +47,7 @@ use Rattle.law_answers.proofs.Lists.{each_in, kept_in}
 use Rattle.law_answers.proofs.ReadSteps.{shown_read}
 use Rattle.law_answers.proofs.Rolled.{all_resolved}
 use Rattle.sdb_execution.specs.Execution.{IsExecution, IsPlayable}
-use Rattle.law_runs.specs.Complete.{CommitEnds, IsUncontended, UncontendedCommitsComplete, HasCommitted, IsCoordinatorRow, IsOnTable, IsServed, ObserveNone, ReadsMisfit, ReadsUnresolved, RecoveriesComplete, RecoveryEnds, ResolvedAreNotBusy, SeenAreServed, StatementEnds, StatementsComplete}
+use Rattle.law_runs.specs.Complete.{CommitEnds, IsUncontended, UncontendedCommitsComplete, HasCommitted, IsCoordinatorRow, IsOnTable, IsServed, ObserveNone, ReadsUnresolved, RecoveriesComplete, RecoveryEnds, ResolvedAreNotBusy, SeenAreServed, StatementEnds, StatementsComplete}
 use Rattle.law_runs.specs.Laws.{BusyIsOfReads}
 use Rattle.law_runs.proofs.Busy.{execution_busy}
 use Rattle.law_runs.proofs.Endings.{execution_ends}
@@ -246,9 +247,10 @@ module _ (script : Script) (events : List Event) (playable : IsPlayable script) 
       commit_ends (answer.Expired id) e z = absurd (no_row z.call z.among (found_row id decision.Aborted z.call z.aborted))
       commit_ends answer.Faulted e z = clash (sym z.2 ∙ (h.served z.0 z.1).0)
       commit_ends (answer.Unknown id) e z = clash (sym (ap is_fault z.deciding.2) ∙ (h.served z.put z.deciding.0).0)
-      commit_ends (answer.BadRecord key) e z =
+      commit_ends (answer.BadRecord key) e (inl z) =
           let row : is_coordinator_table key.table ≡ true = (execution_ends script events playable x client s (answer.BadRecord key) h.among (h.is ∙ ap Some e)).bad key (h.is ∙ ap Some e) alone.commit in
           absurd (alone.undecided z.0 z.1 z.2 z.3 (ap (λ (k : Key). is_coordinator_table k.table) z.4 ∙ row))
+      commit_ends (answer.BadRecord key) e (inr z) = none_some z.table (sym (ap (named_table (catalog_at script.catalog events s.taken)) (other z.statement z.over.0)) ∙ z.over.1)
       commit_ends (answer.Refused r) e z = absurd (refused z)
         where
           refused : IsRejected script.catalog (before s events) client s.text (answer.Refused r) ⊎ ((r.kind ≡ 15) × (r.place ≡ 0) × MayPassMost events client s) → ⊥
@@ -261,12 +263,9 @@ module _ (script : Script) (events : List Event) (playable : IsPlayable script) 
     ---- statements on tables
 
     module _ (a : Answer) (h : IsServed script.catalog events client s a) (sound : ObserveNone IsBad calls) where
-      misfit : (key : Key) → IsCaused script.catalog events client s (answer.BadRecord key) → ReadsMisfit script.catalog events client s key
-      misfit key z = by z.5
-        where
-          by : IsBad z.1 ⊎ IsMisfit script.catalog events client s z.0 z.1 → ReadsMisfit script.catalog events client s key
-          by (inl y) = absurd (sound z.0 z.1 z.2 z.3 y)
-          by (inr y) = record { call = z.0; found = z.1; among = z.2; observed = z.3; same = z.4; misfit = y }
+      misfit : (key : Key) → IsCaused script.catalog events client s (answer.BadRecord key) → MeetsMisfit script.catalog events client s key
+      misfit key (inl z) = absurd (sound z.0 z.1 z.2 z.3 z.5)
+      misfit key (inr z) = z
 
       module _ (st : Statement) (on : IsOnTable s.text st) where
         no_commit : reads_commit s.text ≡ false
@@ -325,8 +324,9 @@ module _ (script : Script) (events : List Event) (playable : IsPlayable script) 
         })
         as_rolled (inr y) = inr y
 
-        read_rolled : (b : Answer) → a ≡ b → read_finished b ≡ true → Rolled
-        read_rolled b e finished = all_resolved events (execution_caused script events playable x).rolled seen client s b m r h.among (h.is ∙ ap Some e) finished read.among read.reads read.found read.unresolved
+        read_rolled : (b : Answer) → a ≡ b → read_finished calls b ≡ true → Rolled
+        read_rolled b e finished =
+            all_resolved events (execution_caused script events playable x).rolled seen client s m r h.among (ap (λ (o : Option Answer). option_map_or (read_finished calls) o false) (h.is ∙ ap Some e) ∙ finished) read.among read.reads read.found read.unresolved
 
         moved_rolled : (key : Key) (found : Option Record) → a ≡ answer.Conflict key found → Rolled
         moved_rolled key found e = by ((execution_ends script events playable x client s (answer.Conflict key found) h.among (h.is ∙ ap Some e)).moved key found (h.is ∙ ap Some e) no_commit m r read.among read.reads read.found read.unresolved)

@@ -337,7 +337,7 @@ module _ (catalog : List Table) (places : List Place) (events : List Event) (ope
     data_read m is same = ap (λ (b : Bool). if b then false else is_read m.request) (ap is_coordinator_table same ∙ not_true (is_coordinator_table key.table) ((apart_from catalog none).outside key table)) ∙ is
 
     pub resolved_decided : FoundDecided events client s key
-    resolved_decided m r has shows loose = by (rolled client s reader.a m r reader.among reader.answer reader.finished has (data_read m read.is read.table) (read.shown r refl) (and_both (is_transactional r) (not (is_in state.Committed r.columns)) taken (ap not loose)))
+    resolved_decided m r has shows loose = by (rolled client s m r reader.among reader.finished has (data_read m read.is read.table) (read.shown r refl) (and_both (is_transactional r) (not (is_in state.Committed r.columns)) taken (ap not loose)))
       where
         read : IsRead m.request m.reply key (Some r)
         read = read_of m.request m.reply key (Some r) shows

@@ -64,7 +64,7 @@ module _ (f : StatementOn) (no_commit : reads_commit f.text ≡ false) (b : Answ
   since = ap (λ ss. rest_of (from_begin 1 ss)) says ∙ since_first (begin_said f) (s ∷ z ∷ []) (begun f)
 
   ran : answered_inside events (id_of 1 1) ≡ s ∷ []
-  ran = ap running since ∙ running_ended (s ∷ []) z [] (goes_on, tt) over ∙ one_running s f.statement b (record { reads = f.reads; answered = refl; middle = middle; changes = changes; no_commit = no_commit })
+  ran = ap (running events 1) since ∙ running_ended events 1 (s ∷ []) z [] (goes_on, tt) over ∙ one_running events s f.statement b (record { reads = f.reads; answered = refl; middle = middle; changes = changes; no_commit = no_commit })
 
   commits : commit_of events (id_of 1 1) ≡ Some z
   commits =
@@ -74,12 +74,12 @@ module _ (f : StatementOn) (no_commit : reads_commit f.text ≡ false) (b : Answ
       ∙ ap (λ e. if e then Some z else None) t.commits
 
   abbrev found : Tables
-  found = (with_found nothing_found (found_by (read_call q r ∷ []))).rows
+  found = (with_found f.catalog nothing_found (found_by (read_call q r ∷ []))).rows
 
   keys_are : keys_of f.catalog events 1 (answered_inside events (id_of 1 1)) (Some f.statement ∷ []) ≡ with_keys [] (keys_on f.table f.statement found)
   keys_are =
       ap (λ ss. keys_of f.catalog events 1 ss (Some f.statement ∷ [])) ran
-      ∙ ap (λ ms. with_keys [] (keys_written f.catalog f.statement (with_found nothing_found (found_by ms)).rows)) reads
+      ∙ ap (λ ms. with_keys [] (keys_written f.catalog f.statement (with_found f.catalog nothing_found (found_by ms)).rows)) reads
       ∙ ap (λ (o : Option Table). with_keys [] (option_map_or (λ x. keys_on x f.statement found) o [])) f.named
 
   -- what its calls prepare
@@ -96,8 +96,8 @@ unwritten_refused f r row t law = by has.count (sym (one_prepared (id_of 1 1) []
     m : StoreCall
     m = record { at = 5; store = []; request = prepare_first t; how = Seen; reply = reply.Applied }
 
-    keys : with_keys [] (keys_on f.on.table f.on.statement (with_found nothing_found (found_by (read_call (ask.Get t.write.key) (reply.Found (Some r)) ∷ []))).rows) ≡ []
-    keys = ap (λ st. with_keys [] (keys_on f.on.table st (with_found nothing_found (found_by (read_call (ask.Get t.write.key) (reply.Found (Some r)) ∷ []))).rows)) f.is
+    keys : with_keys [] (keys_on f.on.table f.on.statement (with_found f.on.catalog nothing_found (found_by (read_call (ask.Get t.write.key) (reply.Found (Some r)) ∷ []))).rows) ≡ []
+    keys = ap (λ st. with_keys [] (keys_on f.on.table st (with_found f.on.catalog nothing_found (found_by (read_call (ask.Get t.write.key) (reply.Found (Some r)) ∷ []))).rows)) f.is
 
     has : PreparesAll [] (id_of 1 1) (m ∷ [])
     has = subst (λ ks. PreparesAll ks (id_of 1 1) (m ∷ [])) keys
@@ -108,7 +108,7 @@ unwritten_refused f r row t law = by has.count (sym (one_prepared (id_of 1 1) []
     by (suc n) e = cc
 
 -- the key that an INSERT writes, which found nothing
-inserted : (f : InsertOn) → with_keys [] (keys_on f.on.table f.on.statement (with_found nothing_found (found_by (read_call (ask.Get (insert_key f)) (reply.Found None) ∷ []))).rows) ≡ insert_key f ∷ []
+inserted : (f : InsertOn) → with_keys [] (keys_on f.on.table f.on.statement (with_found f.on.catalog nothing_found (found_by (read_call (ask.Get (insert_key f)) (reply.Found None) ∷ []))).rows) ≡ insert_key f ∷ []
 inserted f =
     ap (λ d. with_keys [] (keys_on f.on.table f.on.statement d)) (got_none f.on (insert_key f) refl)
     ∙ ap (λ st. with_keys [] (keys_on f.on.table st (with_row empty (insert_key f) None))) f.is

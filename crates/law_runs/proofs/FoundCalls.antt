@@ -1,16 +1,16 @@
 -- What a client's transactions ran on what they found, as its calls are replied.
-use Rattle.std.proofs.Common.{◌≡◌, ◌⊎◌, inl, inr, ℕ, ℤ, Bool, true, false, List, [], ◌∷◌, ◌++◌, Option, Some, None, IfSome, refl, sym, ap, subst, ◌∙◌}
+use Rattle.std.proofs.Common.{◌≡◌, ◌⊎◌, inl, inr, ◌+◌, ◌<◌, ℕ, ℤ, Bool, true, false, List, [], ◌∷◌, ◌++◌, length, Option, Some, None, IfSome, refl, sym, ap, subst, ◌∙◌, arith}
 use Rattle.std.specs.Prelude.{◌&&◌, ◌||◌, filter, is_some}
 use Rattle.std.proofs.lemmas.List.Elements.{filter-append}
 use Rattle.std.proofs.lemmas.List.Folds.{list_any-append}
-use Rattle.std.specs.List.{list_any}
+use Rattle.std.specs.List.{AllByRecursion, list_any}
 use Rattle.sdb_types.specs.declared.key.Key.{Key}
 use Rattle.sdb_types.specs.declared.record.Record.{Record}
 use Rattle.sdb_types.specs.declared.record.Reply.{Reply}
 use Rattle.sdb_types.specs.declared.record.Request.{Request}
 use Rattle.sdb_types.specs.declared.record.Span.{Span}
 use Rattle.sdb_types.specs.Contents.{CanAnswer}
-use Rattle.sdb_types.proofs.Basics.{clash, either, none_some, or_false, or_true}
+use Rattle.sdb_types.proofs.Basics.{all_each as each_any, clash, either, length_more, none_some, or_false, or_true}
 use Rattle.sdb_keyed.specs.Entries.{value_at}
 use Rattle.sdb_record.specs.declared.access.Access.{Access}
 use Rattle.sdb_record.specs.declared.access.Access.TheVariants as access
@@ -24,15 +24,15 @@ use Rattle.sdb_model.specs.declared.answer.Answer.TheVariants as answer
 use Rattle.sdb_model.specs.declared.event.Event.{Event}
 use Rattle.sdb_model.specs.declared.event.Event.TheVariants as event
 use Rattle.sdb_model.specs.declared.event.How.{How}
-use Rattle.sdb_model.specs.Calls.{StoreCall, calls_of}
+use Rattle.sdb_model.specs.Calls.{StoreCall, calls_of, clock_at}
 use Rattle.sdb_model.specs.Exec.{find_table, table_of}
 use Rattle.sdb_model.specs.Rows.{Name}
 use Rattle.sdb_model.specs.Sql.{reads_commit, reads_rollback}
-use Rattle.sdb_model.specs.ReadSet.{read_finished}
+use Rattle.sdb_model.specs.ReadSet.{has_finished, read_finished}
 use Rattle.sdb_model.specs.Transactions.{Executed, changes_nothing, ends, id_of, is_conflict, is_done}
 use Rattle.sdb_exec.specs.Plans.{Planned}
 use Rattle.sdb_read.specs.declared.read.ReadStep.TheVariants as step
-use Rattle.sdb_read.specs.Read.{Asking, Ended, ReadAt, ReadStage, Resolving, read_result, read_step, request_of}
+use Rattle.sdb_read.specs.Read.{Asking, Ended, ReadAt, ReadStage, Resolving, read_pending_at, read_result, read_step, request_of}
 use Rattle.sdb_snapshot.specs.Sets.{WereRead}
 use Rattle.sdb_snapshot.specs.Reads.{reads_of}
 use Rattle.sdb_snapshot.specs.Seen.{is_scanned, same_span}
@@ -50,17 +50,20 @@ use Rattle.sdb_client.proofs.Calls.{noting_idle}
 use Rattle.law_clients.proofs.Fitted.{by_next}
 use Rattle.law_clients.proofs.InTables.{access_table, own_table}
 use Rattle.law_clients.proofs.RowsFit.{found_itself}
+use Rattle.law_clients.specs.About.{IsDoingIn, IsIn, IsOfTables, IsReadIn, IsStageIn}
 use Rattle.law_clients.specs.History.{executed_with_answer, waiting_of}
 use Rattle.law_answers.specs.Changes.{HasRead, StageObserves}
-use Rattle.law_answers.specs.Reads.{ReadsBy}
+use Rattle.law_answers.specs.Reads.{LedBy, ReadsBy}
 use Rattle.law_answers.specs.Invariant.{IsWaiting, Knows}
-use Rattle.law_answers.specs.Unfit.{IsWellTypedTxn, SeesWellTyped, SeesWellTypedIn}
-use Rattle.law_answers.proofs.Calls.{call_said, made_at, silent_said}
-use Rattle.law_answers.proofs.ReadSteps.{IsDataTable}
+use Rattle.law_answers.proofs.Calls.{call_said, calls_open, clock_more, end_waiting, later_within, made_at, silent_said}
+use Rattle.law_answers.proofs.ReadSteps.{IsDataTable, LeavesData, reads_on}
+use Rattle.law_answers.proofs.Rows.{bad_unfinished}
+use Rattle.law_answers.proofs.Settling.{read_checks}
 use Rattle.law_answers.proofs.Showing.{IsOpenAt, shows_on}
-use Rattle.law_answers.proofs.Unfit.{fits_now, same_writes}
+use Rattle.law_answers.proofs.Unfit.{same_writes}
 use Rattle.law_runs.specs.Found.{found_by, is_answered, is_scan_of, scans_span, was_scanned}
 use Rattle.law_runs.specs.Written.{PreparesAll}
+use Rattle.law_runs.proofs.FoundGiven.{given_finishes}
 use Rattle.law_runs.proofs.FoundSteps.{ClientRuns, SeesIn, SeesRun, WroteAs, all_answered, answered_of_is}
 use Rattle.law_runs.proofs.FoundSteps as follows
 use Rattle.law_runs.proofs.OwnPrepares.{ends_commit, goes_further}
@@ -105,7 +108,7 @@ noted_scans t (access.Scan other) images span m e (inr f) =
     list_any-append (λ (x : Scan). same_span x.span span) t.seen.scans (record { span = other; found = reads_of images } ∷ []) ∙ ap (λ b. is_scanned t.seen.scans span || (b || false)) (sym (ap (is_scan_of span) e) ∙ f) ∙ or_true (is_scanned t.seen.scans span)
 
 module _ (catalog : List Table) (is : is_catalog catalog ≡ true) (apart : (k : Key) → is_some (find_table catalog k.table) ≡ true → is_data k ≡ true) (events : List Event) (c : ℕ) (h : ClientAt) (k : Knows catalog events c h) (runs : ClientRuns catalog events c h)
-    (x : Executed) (waiting : k.waiting ≡ Some x) (waits : IsWaiting catalog events c (is_some h.vacuum) x) (prepares : WaitPrepares catalog events c x h) (store : Name) (q : Request) (how : How) (r : Reply) (now : ℤ) (moment : is_moment now ≡ true) (can : CanAnswer q r)
+    (x : Executed) (waiting : k.waiting ≡ Some x) (waits : IsWaiting catalog events c (is_some h.vacuum) x) (prepares : WaitPrepares catalog events c x h) (store : Name) (q : Request) (how : How) (r : Reply) (now : ℤ) (moment : is_moment now ≡ true) (ticks : clock_at events (length events) ≡ now) (about : IsOfTables catalog h) (can : CanAnswer q r)
     (kept : (t : TxnAt) → h.vacuum ≡ None → h.txn ≡ Some t → (a : Access) (y : ReadAt) → t.doing ≡ doing.Read a y → WereRead t.seen.read_set t.seen.writes) (d : ClientAt) where
   abbrev ev : Option Answer → Event
   ev a = event.Call c store q how r a
@@ -125,8 +128,18 @@ module _ (catalog : List Table) (is : is_catalog catalog ≡ true) (apart : (k :
   calls_done : (b : Answer) → calls_of (E (Some b)) c (done b) ≡ ms ++ made ∷ []
   calls_done b = calls_more events c store q how r x waits.unanswered waits.taken (Some b)
 
+  -- the calls so far came before it
+  older : AllByRecursion (λ (m : StoreCall). m.at < made.at) ms
+  older = subst (AllByRecursion (λ (m : StoreCall). m.at < made.at)) (sym (calls_open c events x (end_waiting events x waits.unanswered))) (later_within c events x.taken)
+
+  clock_now : clock_at (E None) made.at ≡ now
+  clock_now = ap (clock_at (E None)) (sym (length_more events (ev None) ∙ one_plus (length events))) ∙ clock_more events (ev None) ∙ ticks
+    where
+      one_plus : (n : ℕ) → n + 1 ≡ 1 + n
+      one_plus n = omega arith
+
   abbrev Comes : Option Answer → ClientAt → Type 0
-  Comes None y = IfSome y.txn (SeesRun catalog (E None) c (running_of y.begun k.told))
+  Comes None y = IfSome y.txn (SeesRun catalog (E None) c (running_of (E None) c y.begun k.told))
   Comes (Some b) y = follows.Follows catalog events c h k runs (ev (Some b)) (done b) y
 
   as_comes : (a b : Option Answer) (y : ClientAt) → a ≡ b → d ≡ y → Comes b y → Comes a d
@@ -135,20 +148,20 @@ module _ (catalog : List Table) (is : is_catalog catalog ≡ true) (apart : (k :
   ---- a VACUUM and a COMMIT
 
   sweep_comes : (a : Option Answer) → SweepCall events c x h q r now a d → Comes a d
-  sweep_comes None z = subst (λ (o : Option TxnAt). IfSome o (SeesRun catalog (E None) c (running_of d.begun k.told))) (sym (ap (λ (y : ClientAt). y.txn) z.left ∙ z.rests)) tt
+  sweep_comes None z = subst (λ (o : Option TxnAt). IfSome o (SeesRun catalog (E None) c (running_of (E None) c d.begun k.told))) (sym (ap (λ (y : ClientAt). y.txn) z.left ∙ z.rests)) tt
   sweep_comes (Some b) z = follows.ended_follows catalog events c h k runs (ev (Some b)) (done b) d (inr z.rests) (ap (λ (y : ClientAt). y.txn) z.left ∙ z.rests)
 
   -- it writes what its statements wrote
-  commit_wrote : (a : Option Answer) (z : CommitCall events c k.told x h q r a d) → WroteAs catalog (E a) c (running_of h.begun k.told) z.k.work.writes
-  commit_wrote a z = subst (SeesIn catalog (E a) c (running_of h.begun k.told) z.t.seen) z.commits (follows.sees_open catalog events c h k runs (ev a) z.t z.opened z.free)
+  commit_wrote : (a : Option Answer) (z : CommitCall events c k.told x h q r a d) → WroteAs catalog (E a) c (running_of (E a) c h.begun k.told) z.k.work.writes
+  commit_wrote a z = subst (SeesIn catalog (E a) c (running_of (E a) c h.begun k.told) z.t.seen) z.commits (follows.sees_open catalog events c h k runs (ev a) z.t z.opened z.free)
 
   commit_comes : (a : Option Answer) → CommitCall events c k.told x h q r a d → Comes a d
   commit_comes None z =
       let further : z.progress ≡ progress.More = goes_further z.progress z.answer in
-      as_comes None None _ refl (z.left ∙ ap (λ p. after h (next_of p) z.u) further) (commits_see catalog (E None) c (running_of h.begun k.told) z.u z.k.work.writes _ (λ y n. ap (λ (w : Work). w.writes) n.0) (commit_wrote None z) (z.told.next further))
+      as_comes None None _ refl (z.left ∙ ap (λ p. after h (next_of p) z.u) further) (commits_see catalog (E None) c (running_of (E None) c h.begun k.told) z.u z.k.work.writes _ (λ y n. ap (λ (w : Work). w.writes) n.0) (commit_wrote None z) (z.told.next further))
   commit_comes (Some b) z =
       as_comes (Some b) (Some b) (resting h) refl (z.left ∙ ap (λ (n : Next). after h n z.u) (ends_only z.progress b z.answer))
-      (follows.ended_follows catalog events c h k runs (ev (Some b)) (done b) (resting h) (inl (follows.ends_stays (done b) (ends_commit (done b) z.is.text))) refl)
+      (follows.ended_follows catalog events c h k runs (ev (Some b)) (done b) (resting h) (inl (follows.ends_stays (E (Some b)) c (done b) (ends_commit (done b) z.is.text))) refl)
 
   ---- a read
 
@@ -168,11 +181,23 @@ module _ (catalog : List Table) (is : is_catalog catalog ≡ true) (apart : (k :
     own : IsDataTable (access_table z.access)
     own = subst IsDataTable (sym of_table) (apart (record { table = p.table.name; partition = []; clustering = [] }) (ap is_some listed))
 
-    sees : (b : Option Answer) → RunsTo catalog (E b) c (running_of h.begun k.told) t.seen
-    sees b = subst (SeesIn catalog (E b) c (running_of h.begun k.told) t.seen) z.reads (follows.sees_open catalog events c h k runs (ev b) t z.opened z.free)
+    sees : (b : Option Answer) → RunsTo catalog (E b) c (running_of (E b) c h.begun k.told) t.seen
+    sees b = subst (SeesIn catalog (E b) c (running_of (E b) c h.begun k.told) t.seen) z.reads (follows.sees_open catalog events c h k runs (ev b) t z.opened z.free)
 
-    fit : SeesWellTyped catalog t.seen
-    fit = subst (SeesWellTypedIn catalog t.seen) z.reads (subst (λ (o : Option TxnAt). IfSome o (IsWellTypedTxn catalog)) z.opened k.fits)
+    -- what is left to it is of tables of the catalog
+    read_in : IsReadIn catalog p z.access z.x
+    read_in =
+        let does : IsDoingIn catalog t.seen t.doing h.plan = subst (λ (o : Option TxnAt). IfSome o (λ u. IsDoingIn catalog u.seen u.doing h.plan)) z.opened about.txn in
+        (subst (IsDoingIn catalog t.seen (doing.Read z.access z.x)) z.plan (subst (λ y. IsDoingIn catalog t.seen y h.plan) z.reads does)).1
+
+    leaves : (s : ReadStage) → IsStageIn catalog s → LeavesData (E None) ms made older now clock_now s
+    leaves Asking i = tt
+    leaves (Resolving images rec meta y left) i = each_any (λ (b : Record). IsIn catalog b.key) (λ (b : Record). IsDataTable b.key.table) left (λ b inside. apart b.key inside) i.2
+    leaves (Ended s) i = tt
+
+    -- where the reply leads
+    leads : LedBy (E None) (ms ++ made ∷ []) (read_step z.x.stage now r)
+    leads = reads_on (E None) ms made older now clock_now z.access z.x.stage own (leaves z.x.stage read_in.stage) z.is.stage (subst (λ (y : Request). read_pending_at y z.x.stage ≡ Some q) z.asked.request z.pends) can
 
     open_at : (s : ReadStage) → ReadsBy ms s → IsOpenAt z.x.request ms made now moment s
     open_at Asking i = tt
@@ -192,30 +217,35 @@ module _ (catalog : List Table) (is : is_catalog catalog ≡ true) (apart : (k :
     as_left n m u v e f s = subst (λ (y : Next). Left y u) (sym e) (subst (λ (y : TxnAt). Left m y) (sym f) s)
 
     -- the statement has read nothing
-    fails : (b : Answer) → changes_nothing b ≡ true → read_finished b ≡ false → Left (next.Answer b) (idle t)
-    fails b nothing unfinished = follows.held_follows catalog events c h k runs (ev (Some b)) t z.opened z.free (done b) (idle t) (follows.nothing_stays (done b) b refl nothing unfinished) refl refl (sees (Some b))
+    fails : (b : Answer) → changes_nothing b ≡ true → read_finished (ms ++ made ∷ []) b ≡ false → Left (next.Answer b) (idle t)
+    fails b nothing unfinished =
+        follows.held_follows catalog events c h k runs (ev (Some b)) t z.opened z.free (done b) (idle t)
+        (follows.nothing_stays (E (Some b)) c (done b) b refl nothing (ap (λ cs. has_finished cs (done b)) (calls_done b) ∙ unfinished)) refl refl (sees (Some b))
 
     further : (s : ReadStage) → Left next.Call (record t { doing = doing.Read z.access (record z.x { stage = s }) })
     further s = sees None
 
     -- its scan is among the scans
-    scans_then : (b : Answer) (images : List Record) → read_step z.x.stage now r ≡ Ended (step.Images images) → HoldsScans (E (Some b)) c (running_of h.begun k.told ++ done b ∷ []) (with_rows_read t z.access images).seen
+    scans_then : (b : Answer) (images : List Record) → read_step z.x.stage now r ≡ Ended (step.Images images) → HoldsScans (E (Some b)) c (running_of (E (Some b)) c h.begun k.told ++ done b ∷ []) (with_rows_read t z.access images).seen
     scans_then b images e span is =
         noted_scans t z.access images span (has_read images e).first (has_read images e).request
-        (by (either (was_scanned (E (Some b)) c (running_of h.begun k.told) span) (scans_span span (calls_of (E (Some b)) c (done b))) (sym (scanned_more (E (Some b)) c (running_of h.begun k.told) (done b) span) ∙ is)))
+        (by (either (was_scanned (E (Some b)) c (running_of (E (Some b)) c h.begun k.told) span) (scans_span span (calls_of (E (Some b)) c (done b))) (sym (scanned_more (E (Some b)) c (running_of (E (Some b)) c h.begun k.told) (done b) span) ∙ is)))
       where
-        by : (was_scanned (E (Some b)) c (running_of h.begun k.told) span ≡ true) ⊎ (scans_span span (calls_of (E (Some b)) c (done b)) ≡ true) → (is_scanned t.seen.scans span ≡ true) ⊎ (is_scan_of span (has_read images e).first.request ≡ true)
+        by : (was_scanned (E (Some b)) c (running_of (E (Some b)) c h.begun k.told) span ≡ true) ⊎ (scans_span span (calls_of (E (Some b)) c (done b)) ≡ true) → (is_scanned t.seen.scans span ≡ true) ⊎ (is_scan_of span (has_read images e).first.request ≡ true)
         by (inl f) = inl ((sees (Some b)).scans span f)
         by (inr f) = inr (sym (ap (scans_span span) (calls_done b) ∙ ap (λ cs. list_any (λ (m : StoreCall). is_scan_of span m.request) cs) (read_only (ms ++ made ∷ []) z.access images (has_read images e) own) ∙ or_false (is_scan_of span (has_read images e).first.request)) ∙ f)
 
-    gives_rows : (images : List Record) → read_step z.x.stage now r ≡ Ended (step.Images images) → Left (next.Answer (given_answer (with_rows_read t z.access images) (gives p z.access (with_rows_read t z.access images)))) (given_left (idle t) (with_rows_read t z.access images) (gives p z.access (with_rows_read t z.access images)))
+    gives_rows : (images : List Record) → read_step z.x.stage now r ≡ Ended (step.Images images) → Left (next.Answer (given_answer (with_rows_read t z.access images) (gives p z.access (with_rows_read t z.access images)))) (given_left (with_rows_read t z.access images) (gives p z.access (with_rows_read t z.access images)))
     gives_rows images e =
-        let b : Answer = given_answer (with_rows_read t z.access images) (gives p z.access (with_rows_read t z.access images)) in
-        follows.given_follows catalog events c h k runs (ev (Some b)) t z.opened z.free (done b) p z.access (idle t) (with_rows_read t z.access images)
-        (record { is = is; named = z.asked.named; asked = z.asked.asked; taken = z.asked.taken; literals = z.asked.literals; access = z.asked.access }) z.is.text z.is.inner.commit refl (refl, refl) (noting_idle t z.access images, same_writes t z.access images) (sees (Some b))
-        (view_found (view_after catalog (E (Some b)) c (running_of h.begun k.told) (sees (Some b)).run) t z.access images (found_by (calls_of (E (Some b)) c (done b))) (sees (Some b)).sees (kept t z.free z.opened z.access z.x z.reads)
+        let v : TxnAt = with_rows_read t z.access images in
+        let b : Answer = given_answer v (gives p z.access v) in
+        follows.given_follows catalog events c h k runs (ev (Some b)) t z.opened z.free (done b) p z.access v
+        (record { is = is; named = z.asked.named; asked = z.asked.asked; taken = z.asked.taken; literals = z.asked.literals; access = z.asked.access }) z.is.text z.is.inner.commit refl
+        (ap (λ cs. has_finished cs (done b)) (calls_done b) ∙ given_finishes p z.access v (ms ++ made ∷ []) z.asked.asked (read_checks z.access (ms ++ made ∷ []) images (has_read images e) own) own)
+        (noting_idle t z.access images, same_writes t z.access images) (sees (Some b))
+        (view_found catalog (view_after catalog (E (Some b)) c (running_of (E (Some b)) c h.begun k.told) (sees (Some b)).run) t z.access images (found_by (calls_of (E (Some b)) c (done b))) (sees (Some b)).sees (kept t z.free z.opened z.access z.x z.reads)
         (λ key. ap (λ cs. value_at (found_by cs) key) (calls_done b) ∙ found_now (ms ++ made ∷ []) z.access images (has_read images e) own key))
-        (fits_now catalog p z.access listed of_table (ms ++ made ∷ []) t images (has_read images e) fit) (scans_then b images e)
+        (scans_then b images e)
 
     over : (b : Answer) → is_conflict (Some b) ≡ true → ends (done b) ≡ true
     over b e = ap (λ y. reads_commit x.text || y || (reads_rollback x.text && is_done (Some b))) e ∙ last (reads_commit x.text)
@@ -226,7 +256,7 @@ module _ (catalog : List Table) (is : is_catalog catalog ≡ true) (apart : (k :
 
     images_case : (images : List Record) → read_step z.x.stage now r ≡ Ended (step.Images images) → (n : Next) (u : TxnAt) → RowsReadPost t p z.access images n u → Left n u
     images_case images e (next.Answer b) u y = as_left (next.Answer b) (next.Answer (given_answer (with_rows_read t z.access images) (gives p z.access (with_rows_read t z.access images)))) u _ (ap next.Answer y.1) y.2 (gives_rows images e)
-    images_case images e (next.End (answer.Conflict key found)) u y = follows.ended_follows catalog events c h k runs (ev (Some (answer.Conflict key found))) (done (answer.Conflict key found)) (resting h) (inl (follows.ends_stays (done (answer.Conflict key found)) (over (answer.Conflict key found) refl))) refl
+    images_case images e (next.End (answer.Conflict key found)) u y = follows.ended_follows catalog events c h k runs (ev (Some (answer.Conflict key found))) (done (answer.Conflict key found)) (resting h) (inl (follows.ends_stays (E (Some (answer.Conflict key found))) c (done (answer.Conflict key found)) (over (answer.Conflict key found) refl))) refl
     images_case images e n u y = absurd y
 
     stage_case : (s : ReadStage) → read_step z.x.stage now r ≡ s → (n : Next) (u : TxnAt) → StagePost t p z.access z.x s (read_result s) n u → Left n u
@@ -236,7 +266,7 @@ module _ (catalog : List Table) (is : is_catalog catalog ≡ true) (apart : (k :
     stage_case (Ended (step.Images images)) e n u y = images_case images e n u y
     stage_case (Ended (step.Busy key id at)) e n u y = as_left n (next.Answer (answer.Busy key id at)) u (idle t) y.0 y.1 (fails (answer.Busy key id at) refl refl)
     stage_case (Ended step.Faulted) e n u y = as_left n (next.Answer answer.Faulted) u (idle t) y.0 y.1 (fails answer.Faulted refl refl)
-    stage_case (Ended (step.BadRecord key)) e n u y = as_left n (next.Answer (answer.BadRecord key)) u (idle t) y.0 y.1 (fails (answer.BadRecord key) refl refl)
+    stage_case (Ended (step.BadRecord key)) e n u y = as_left n (next.Answer (answer.BadRecord key)) u (idle t) y.0 y.1 (fails (answer.BadRecord key) refl (bad_unfinished (ms ++ made ∷ []) key (subst (LedBy (E None) (ms ++ made ∷ [])) e leads)))
     stage_case (Ended step.NoMemory) e n u y = absurd y
 
     read_left : Left z.next z.u
@@ -255,7 +285,7 @@ module _ (catalog : List Table) (is : is_catalog catalog ≡ true) (apart : (k :
   last_wrote b (inl z) reads opened = clash (sym opened ∙ follows.closed catalog events c h k runs (ev (Some b)) z.rests)
   last_wrote b (inr (inl z)) reads opened = clash (sym reads ∙ z.is.inner.commit)
   last_wrote b (inr (inr z)) reads opened =
-      subst (λ n. CommitWrote catalog (E (Some b)) c (running_of n k.told) (id_of c n) (calls_of (E (Some b)) c (done b))) k.begun
+      subst (λ n. CommitWrote catalog (E (Some b)) c (running_of (E (Some b)) c n k.told) (id_of c n) (calls_of (E (Some b)) c (done b))) k.begun
       (λ statements read.
       subst (λ ks. PreparesAll ks (id_of c h.begun) (calls_of (E (Some b)) c (done b))) (commit_wrote (Some b) z statements read)
       (subst (λ i. PreparesAll (write_keys z.k.work.writes) i (calls_of (E (Some b)) c (done b))) (z.is.same ∙ z.since.id)

@@ -93,12 +93,12 @@ module _ (w : WorldAt) (h : Holds w) (all : AllRun w) where
   step_take c text a u t =
       let hand : states_of w.client_slots c ≡ record { client = t.client_slot.client; stopped = t.client_slot.stopped } = hand_at w.client_slots t.place c t.client_slot t.number t.at in
       moves_all w (event.Take c text a) u t.place c t.client_slot (client_after t.client_slot 1 t.client) t.number t.at t.left h all (λ n apart. others_silent w.events n c (event.Take c text a) apart refl)
-      (takes_runs (record { catalog = catalog; now = w.clock; gate = t.gate; fresh = next_id t.client_slot.client }) h.world.playable.catalog w.events c text t.client_slot.client (subst (λ (y : ClientState). Knows catalog w.events c y.client) hand (h.caused.each c)) (subst (λ (y : ClientState). ClientRuns catalog w.events c y.client) hand (all c)) t.idle a t.client t.takes)
+      (takes_runs (record { catalog = catalog; now = w.clock; gate = t.gate; fresh = next_id t.client_slot.client }) h.world.playable.catalog h.world.playable.apart w.events c text t.client_slot.client (subst (λ (y : ClientState). Knows catalog w.events c y.client) hand (h.caused.each c)) (subst (λ (y : ClientState). ClientRuns catalog w.events c y.client) hand (all c)) t.idle a t.client t.takes)
 
   step_call : (prepared : AllSo NothingMore WaitPrepares w) (c : ℕ) (store : Name) (q : Request) (how : How) (r : Reply) (a : Option Answer) (u : State) (t : CallStep (state_of w) c q r a u) → AllRun (led w (event.Call c store q how r a) u)
   step_call prepared c store q how r a u t =
       moves_all w (event.Call c store q how r a) u t.place c t.client_slot (client_after t.client_slot 0 t.client) t.number t.at t.left h all (λ n apart. others_silent w.events n c (event.Call c store q how r a) apart refl)
-      (calls_runs catalog h.world.playable.catalog h.world.playable.apart w.events c t.client_slot.client k (subst (λ (y : ClientState). ClientRuns catalog w.events c y.client) hand (all c)) x.0 x.1 waits prepares store q how r w.clock h.world.moment t.can kept t.client a
+      (calls_runs catalog h.world.playable.catalog h.world.playable.apart w.events c t.client_slot.client k (subst (λ (y : ClientState). ClientRuns catalog w.events c y.client) hand (all c)) x.0 x.1 waits prepares store q how r w.clock h.world.moment h.caused.clock (h.world.each t.place t.client_slot t.at).about t.can kept t.client a
       (call_of catalog w.events c t.client_slot.client k x.0 x.1 q r w.clock a t.client t.pending (h.world.each t.place t.client_slot t.at).fitted t.takes))
     where
       hand : states_of w.client_slots c ≡ record { client = t.client_slot.client; stopped = t.client_slot.stopped }
@@ -150,7 +150,7 @@ no_commits catalog c n body s x = absurd (by n x.since)
 pub first_runs : (script : Script) (client_slots : List ClientSlot) (count : ℕ) → AreFresh count client_slots → (c : ℕ) → ClientRuns script.catalog [] c (states_of client_slots c).client
 first_runs script client_slots count fresh c = subst (λ (y : ClientState). ClientRuns script.catalog [] c y.client) (sym (fresh_hand count client_slots fresh c)) (record { ran = none; sees = tt; commits = no_commits script.catalog c })
   where
-    none : (n : ℕ) → IsRunOnFound script.catalog [] c (running_of n [])
+    none : (n : ℕ) → IsRunOnFound script.catalog [] c (running_of [] c n [])
     none zero = none_run script.catalog [] c
     none (suc n) = none_run script.catalog [] c
 
@@ -170,9 +170,9 @@ module _ (script : Script) (events : List Event) (playable : IsPlayable script) 
       k : Knows script.catalog events (client_of id) (states_of x.last.client_slots (client_of id)).client
       k = (execution_holds script events playable x).caused.each (client_of id)
 
-      by : (o : Option Executed) → IfSome o (IsWaiting script.catalog events (client_of id) (is_some (states_of x.last.client_slots (client_of id)).client.vacuum)) → running_of (ordinal_of id) k.told ≡ running_of (ordinal_of id) (k.told ++ waiting_of o)
-      by None h = ap (running_of (ordinal_of id)) (sym (append-nil k.told))
-      by (Some y) h = sym (running_waits (ordinal_of id) k.told y h.unanswered)
+      by : (o : Option Executed) → IfSome o (IsWaiting script.catalog events (client_of id) (is_some (states_of x.last.client_slots (client_of id)).client.vacuum)) → running_of events (client_of id) (ordinal_of id) k.told ≡ running_of events (client_of id) (ordinal_of id) (k.told ++ waiting_of o)
+      by None h = ap (running_of events (client_of id) (ordinal_of id)) (sym (append-nil k.told))
+      by (Some y) h = sym (running_waits events (client_of id) (ordinal_of id) k.told y h.unanswered)
 
-      same : running_of (ordinal_of id) (answered_of (client_of id) events) ≡ answered_inside events id
-      same = ap (running_of (ordinal_of id)) (answered_of_is script.catalog events (client_of id) (states_of x.last.client_slots (client_of id)).client k) ∙ by k.waiting k.waits ∙ ap (running_of (ordinal_of id)) (sym k.same)
+      same : running_of events (client_of id) (ordinal_of id) (answered_of (client_of id) events) ≡ answered_inside events id
+      same = ap (running_of events (client_of id) (ordinal_of id)) (answered_of_is script.catalog events (client_of id) (states_of x.last.client_slots (client_of id)).client k) ∙ by k.waiting k.waits ∙ ap (running_of events (client_of id) (ordinal_of id)) (sym k.same)

@@ -13,27 +13,25 @@ use Rattle.sdb_model.specs.declared.event.Event.{Event}
 use Rattle.sdb_model.specs.declared.statement.Statement.{Statement}
 use Rattle.sdb_model.specs.Calls.{StoreCall, calls_of}
 use Rattle.sdb_model.specs.Sql.{Reads, reads_commit}
-use Rattle.sdb_model.specs.ReadSet.{has_finished, read_finished}
+use Rattle.sdb_model.specs.ReadSet.{has_read}
 use Rattle.sdb_model.specs.Transactions.{Executed, changes_nothing, ends, from_begin, is_effective, rest_of, statements_by}
-use Rattle.std.specs.Option.{option_map_or}
 use Rattle.sdb_exec.specs.declared.plan.PlanStep.{PlanStep}
 use Rattle.sdb_exec.specs.declared.plan.PlanStep.TheVariants.{Finished, Read as Wants}
-use Rattle.sdb_exec.specs.Plans.{Planned, first_unfit}
-use Rattle.sdb_snapshot.specs.Seen.{Seen, overlay}
+use Rattle.sdb_exec.specs.Plans.{Planned}
+use Rattle.sdb_snapshot.specs.Seen.{Seen}
 use Rattle.sdb_txn.specs.declared.txn.Doing.{Doing}
 use Rattle.sdb_txn.specs.declared.txn.Doing.TheVariants as doing
 use Rattle.sdb_txn.specs.Txn.{TxnAt}
 use Rattle.sdb_client.specs.Client.{ClientAt, given_answer, given_left, gives, holding, written}
 use Rattle.law_clients.specs.History.{waiting_of}
 use Rattle.law_answers.specs.Invariant.{IsAnswered, IsOpenAs, IsWaiting, Knows, DoingByHistory, ClientByHistory, begun_in, open_after}
-use Rattle.law_answers.specs.Unfit.{SeesWellTyped}
 use Rattle.law_answers.proofs.Lists.{since_more, since_none}
 use Rattle.law_answers.proofs.Shows.{effective_by}
 use Rattle.sdb_vacuum.specs.Vacuum.{VacuumAt}
 use Rattle.law_runs.specs.Found.{AllRunAs, IsRunOnFound, found_by, is_answered, nothing_found, scans_span, takes_part, was_scanned, with_found}
 use Rattle.law_runs.specs.Written.{keys_of, written_on_found}
-use Rattle.law_runs.proofs.FoundGiven.{IsPlannedOn, given_runs}
-use Rattle.law_runs.proofs.Running.{HoldsScans, RunsTo, each_more, each_running, finds_stay, goes_on, is_running, none_run, run_stays, running, running_more, running_of, running_same, runs_kept, runs_stay, scanned_more, view_after}
+use Rattle.law_runs.proofs.FoundGiven.{IsPlannedOn, given_runs, given_takes}
+use Rattle.law_runs.proofs.Running.{HoldsScans, RunsTo, each_more, each_running, finds_stay, goes_on, is_running, none_run, run_stays, running, running_more, running_of, running_of_stays, running_same, runs_kept, runs_stay, scanned_more, view_after}
 use Rattle.law_runs.proofs.Views.{IsViewOf}
 use Rattle.law_runs.proofs.Writing.{run_once, write_keys}
 use Rattle.law_runs.proofs.WroteCommits.{CommitsWrote, LastWrote, commits_more, commits_still}
@@ -58,8 +56,8 @@ SeesRun catalog events c ss t = SeesIn catalog events c ss t.seen t.doing
 
 -- Each transaction of a client ran on what it found, its open one has what that left, and each COMMIT prepares what its statements wrote.
 pub record ClientRuns (catalog : List Table) (events : List Event) (c : ℕ) (h : ClientAt) : Type 0 where
-  pub ran : (n : ℕ) → IsRunOnFound catalog events c (running_of n (answered_of c events))
-  pub sees : IfSome h.txn (SeesRun catalog events c (running_of h.begun (answered_of c events)))
+  pub ran : (n : ℕ) → IsRunOnFound catalog events c (running_of events c n (answered_of c events))
+  pub sees : IfSome h.txn (SeesRun catalog events c (running_of events c h.begun (answered_of c events)))
   pub commits : CommitsWrote catalog events c (answered_of c events)
 
 pub runs_wrote : (catalog : List Table) (events : List Event) (c : ℕ) (ss : List Executed) (s : Seen) → RunsTo catalog events c ss s → WroteAs catalog events c ss s.writes
@@ -82,41 +80,36 @@ answered_of_is catalog events c h k = ap (filter is_answered) k.same ∙ filter-
     by (Some w) x = ap (λ (o : Option Answer). k.told ++ (if is_some o then w ∷ [] else [])) x.unanswered
 
 -- the transaction that a statement leaves does nothing
-left_idle : (was v : TxnAt) (x : PlanStep) → was.doing ≡ doing.Idle → v.doing ≡ doing.Idle → (given_left was v x).doing ≡ doing.Idle
-left_idle was v (Finished b ks) h k = by (changes_nothing (given_answer v (Finished b ks))) (read_finished (given_answer v (Finished b ks)))
+left_idle : (v : TxnAt) (x : PlanStep) → v.doing ≡ doing.Idle → (given_left v x).doing ≡ doing.Idle
+left_idle v (Finished b ks) h = by (changes_nothing (given_answer v (Finished b ks)))
   where
-    by : (t f : Bool) → (if t then (if f then v else was) else written v ks).doing ≡ doing.Idle
-    by true true = k
-    by true false = h
-    by false f = k
-left_idle was v (Wants a) h k = h
+    by : (t : Bool) → (if t then v else written v ks).doing ≡ doing.Idle
+    by true = h
+    by false = h
+left_idle v (Wants a) h = h
 
 ---- statements that don't run
 
-pub ends_stays : (z : Executed) → ends z ≡ true → is_running z ≡ false
-ends_stays z e = ap (λ b. not b && takes_part z && is_answered z) e
+pub ends_stays : (events : List Event) (c : ℕ) (z : Executed) → ends z ≡ true → is_running events c z ≡ false
+ends_stays events c z e = ap (λ b. not b && takes_part events c z && is_answered z) e
 
-pub nothing_stays : (z : Executed) (b : Answer) → z.answer ≡ Some b → changes_nothing b ≡ true → read_finished b ≡ false → is_running z ≡ false
-nothing_stays z b is e unfinished =
-    ap (λ x. goes_on z && (x || has_finished z) && is_answered z) (effective_by z b true is e)
-    ∙ ap (λ (o : Option Answer). goes_on z && option_map_or read_finished o false && is_answered z) is
-    ∙ ap (λ x. goes_on z && x && is_answered z) unfinished
-    ∙ none (goes_on z)
+pub nothing_stays : (events : List Event) (c : ℕ) (z : Executed) (b : Answer) → z.answer ≡ Some b → changes_nothing b ≡ true → has_read events c z ≡ false → is_running events c z ≡ false
+nothing_stays events c z b is e unfinished = ap (λ x. goes_on z && (x || has_read events c z) && is_answered z) (effective_by z b true is e) ∙ ap (λ x. goes_on z && x && is_answered z) unfinished ∙ none (goes_on z)
   where
     none : (x : Bool) → (x && false && is_answered z) ≡ false
     none true = refl
     none false = refl
 
-running_of_same : (n : ℕ) (past : List Executed) (z : Executed) → is_running z ≡ false → running_of n (past ++ z ∷ []) ≡ running_of n past
-running_of_same n past z none = by (from_begin n past) refl
+running_of_same : (events : List Event) (c n : ℕ) (past : List Executed) (z : Executed) → is_running events c z ≡ false → running_of events c n (past ++ z ∷ []) ≡ running_of events c n past
+running_of_same events c n past z none = by (from_begin n past) refl
   where
-    by : (r : List Executed) → from_begin n past ≡ r → running_of n (past ++ z ∷ []) ≡ running_of n past
-    by [] e = ap running (since_none n past z e) ∙ sym (ap (λ x. running (rest_of x)) e)
-    by (b ∷ r) e = ap (λ x. running (rest_of x)) (since_more n past z b r e) ∙ running_same r z none ∙ sym (ap (λ x. running (rest_of x)) e)
+    by : (r : List Executed) → from_begin n past ≡ r → running_of events c n (past ++ z ∷ []) ≡ running_of events c n past
+    by [] e = ap (running events c) (since_none n past z e) ∙ sym (ap (λ x. running events c (rest_of x)) e)
+    by (b ∷ r) e = ap (λ x. running events c (rest_of x)) (since_more n past z b r e) ∙ running_same events c r z none ∙ sym (ap (λ x. running events c (rest_of x)) e)
 
-running_of_more : (n : ℕ) (past : List Executed) (z begin : Executed) (body : List Executed) → from_begin n past ≡ begin ∷ body → AllByRecursion (λ s. ends s ≡ false) body → is_running z ≡ true → running_of n (past ++ z ∷ []) ≡ running_of n past ++ z ∷ []
-running_of_more n past z begin body since opens runs =
-    ap (λ x. running (rest_of x)) (since_more n past z begin body since) ∙ running_more body z opens ∙ ap (λ b. running body ++ (if b then z ∷ [] else [])) runs ∙ ap (λ x. running (rest_of x) ++ z ∷ []) (sym since)
+running_of_more : (events : List Event) (c n : ℕ) (past : List Executed) (z begin : Executed) (body : List Executed) → from_begin n past ≡ begin ∷ body → AllByRecursion (λ s. ends s ≡ false) body → is_running events c z ≡ true → running_of events c n (past ++ z ∷ []) ≡ running_of events c n past ++ z ∷ []
+running_of_more events c n past z begin body since opens runs =
+    ap (λ x. running events c (rest_of x)) (since_more n past z begin body since) ∙ running_more events c body z opens ∙ ap (λ b. running events c body ++ (if b then z ∷ [] else [])) runs ∙ ap (λ x. running events c (rest_of x) ++ z ∷ []) (sym since)
 
 sees_stay : (catalog : List Table) (events : List Event) (e : Event) (c : ℕ) (ss : List Executed) (s : Seen) (d : Doing) → AllByRecursion (IsAnswered catalog events c) ss → SeesIn catalog events c ss s d → SeesIn catalog (events ++ e ∷ []) c ss s d
 sees_stay catalog events e c ss s doing.Idle all h = runs_stay catalog events e c ss s all h
@@ -133,19 +126,23 @@ module _ (catalog : List Table) (events : List Event) (c : ℕ) (h : ClientAt) (
   abbrev answered_same : answered_of c events ≡ k.told
   answered_same = answered_of_is catalog events c h k
 
-  ran_then : (n : ℕ) → IsRunOnFound catalog E c (running_of n k.told)
-  ran_then n = run_stays catalog events e c (running_of n k.told) (each_running (IsAnswered catalog events c) n k.told k.answered) (subst (λ ts. IsRunOnFound catalog events c (running_of n ts)) answered_same (runs.ran n))
+  ran_then : (n : ℕ) → IsRunOnFound catalog E c (running_of E c n k.told)
+  ran_then n =
+      subst (IsRunOnFound catalog E c) (sym (running_of_stays catalog events e c n k.told k.answered))
+      (run_stays catalog events e c (running_of events c n k.told) (each_running (IsAnswered catalog events c) events c n k.told k.answered) (subst (λ ts. IsRunOnFound catalog events c (running_of events c n ts)) answered_same (runs.ran n)))
 
-  pub sees_then : IfSome h.txn (SeesRun catalog E c (running_of h.begun k.told))
-  sees_then = by h.txn (subst (λ ts. IfSome h.txn (SeesRun catalog events c (running_of h.begun ts))) answered_same runs.sees)
+  pub sees_then : IfSome h.txn (SeesRun catalog E c (running_of E c h.begun k.told))
+  sees_then = by h.txn (subst (λ ts. IfSome h.txn (SeesRun catalog events c (running_of events c h.begun ts))) answered_same runs.sees)
     where
-      by : (o : Option TxnAt) → IfSome o (SeesRun catalog events c (running_of h.begun k.told)) → IfSome o (SeesRun catalog E c (running_of h.begun k.told))
+      by : (o : Option TxnAt) → IfSome o (SeesRun catalog events c (running_of events c h.begun k.told)) → IfSome o (SeesRun catalog E c (running_of E c h.begun k.told))
       by None x = tt
-      by (Some t) x = sees_stay catalog events e c (running_of h.begun k.told) t.seen t.doing (each_running (IsAnswered catalog events c) h.begun k.told k.answered) x
+      by (Some t) x =
+          subst (λ ss. SeesIn catalog E c ss t.seen t.doing) (sym (running_of_stays catalog events e c h.begun k.told k.answered))
+          (sees_stay catalog events e c (running_of events c h.begun k.told) t.seen t.doing (each_running (IsAnswered catalog events c) events c h.begun k.told k.answered) x)
 
   -- where no statement is answered
   abbrev Stays : ClientAt → Type 0
-  Stays d = IfSome d.txn (SeesRun catalog E c (running_of d.begun k.told))
+  Stays d = IfSome d.txn (SeesRun catalog E c (running_of E c d.begun k.told))
 
   -- the COMMITs that were answered
   wrote_then : CommitsWrote catalog E c k.told
@@ -153,29 +150,29 @@ module _ (catalog : List Table) (events : List Event) (c : ℕ) (h : ClientAt) (
 
   pub still_runs : (d : ClientAt) → answered_of c E ≡ k.told → Stays d → ClientRuns catalog E c d
   still_runs d same sees = record {
-    ran = λ n. subst (λ ts. IsRunOnFound catalog E c (running_of n ts)) (sym same) (ran_then n);
-    sees = subst (λ ts. IfSome d.txn (SeesRun catalog E c (running_of d.begun ts))) (sym same) sees;
+    ran = λ n. subst (λ ts. IsRunOnFound catalog E c (running_of E c n ts)) (sym same) (ran_then n);
+    sees = subst (λ ts. IfSome d.txn (SeesRun catalog E c (running_of E c d.begun ts))) (sym same) sees;
     commits = subst (CommitsWrote catalog E c) (sym same) wrote_then;
   }
 
   -- where one is
   abbrev pub Follows : Executed → ClientAt → Type 0
-  Follows z d = (open_after k.told ≡ true → is_running z ≡ true → IsRunOnFound catalog E c (running_of (begun_in k.told) k.told ++ z ∷ [])) × IfSome d.txn (SeesRun catalog E c (running_of d.begun (k.told ++ z ∷ [])))
+  Follows z d = (open_after k.told ≡ true → is_running E c z ≡ true → IsRunOnFound catalog E c (running_of E c (begun_in k.told) k.told ++ z ∷ [])) × IfSome d.txn (SeesRun catalog E c (running_of E c d.begun (k.told ++ z ∷ [])))
 
   pub next_runs : (z : Executed) (d : ClientAt) → answered_of c E ≡ k.told ++ z ∷ [] → Follows z d → LastWrote catalog E c k.told z → ClientRuns catalog E c d
   next_runs z d same f last = record {
-    ran = λ n. subst (λ ts. IsRunOnFound catalog E c (running_of n ts)) (sym same) (each_more (IsRunOnFound catalog E c) k.told z k.counted.paired (none_run catalog E c) ran_then f.0 n);
-    sees = subst (λ ts. IfSome d.txn (SeesRun catalog E c (running_of d.begun ts))) (sym same) f.1;
+    ran = λ n. subst (λ ts. IsRunOnFound catalog E c (running_of E c n ts)) (sym same) (each_more (IsRunOnFound catalog E c) E c k.told z k.counted.paired (none_run catalog E c) ran_then f.0 n);
+    sees = subst (λ ts. IfSome d.txn (SeesRun catalog E c (running_of E c d.begun ts))) (sym same) f.1;
     commits = subst (CommitsWrote catalog E c) (sym same) (commits_more catalog E c k.told z k.counted.paired wrote_then last);
   }
 
   ---- where its transaction is
 
   abbrev At : Executed → TxnAt → Type 0
-  At z u = SeesRun catalog E c (running_of h.begun (k.told ++ z ∷ [])) u
+  At z u = SeesRun catalog E c (running_of E c h.begun (k.told ++ z ∷ [])) u
 
-  sees_same : (z : Executed) (s : Seen) (u : TxnAt) → is_running z ≡ false → u.doing ≡ doing.Idle → u.seen ≡ s → RunsTo catalog E c (running_of h.begun k.told) s → At z u
-  sees_same z s u none idle same r = subst (λ xs. SeesIn catalog E c xs u.seen u.doing) (sym (running_of_same h.begun k.told z none)) (subst (SeesIn catalog E c (running_of h.begun k.told) u.seen) (sym idle) (subst (RunsTo catalog E c (running_of h.begun k.told)) (sym same) r))
+  sees_same : (z : Executed) (s : Seen) (u : TxnAt) → is_running E c z ≡ false → u.doing ≡ doing.Idle → u.seen ≡ s → RunsTo catalog E c (running_of E c h.begun k.told) s → At z u
+  sees_same z s u none idle same r = subst (λ xs. SeesIn catalog E c xs u.seen u.doing) (sym (running_of_same E c h.begun k.told z none)) (subst (SeesIn catalog E c (running_of E c h.begun k.told) u.seen) (sym idle) (subst (RunsTo catalog E c (running_of E c h.begun k.told)) (sym same) r))
 
   -- no transaction is open
   pub closed : h.txn ≡ None → open_after k.told ≡ false
@@ -191,77 +188,76 @@ module _ (catalog : List Table) (events : List Event) (c : ℕ) (h : ClientAt) (
       by_vacuum (Some v) (Some x) s = s.1
 
   -- it changes nothing, or no transaction is open
-  pub no_more : (z : Executed) → (is_running z ≡ false) ⊎ (h.txn ≡ None) → open_after k.told ≡ true → is_running z ≡ true → IsRunOnFound catalog E c (running_of (begun_in k.told) k.told ++ z ∷ [])
+  pub no_more : (z : Executed) → (is_running E c z ≡ false) ⊎ (h.txn ≡ None) → open_after k.told ≡ true → is_running E c z ≡ true → IsRunOnFound catalog E c (running_of E c (begun_in k.told) k.told ++ z ∷ [])
   no_more z (inl f) opened t = clash (sym t ∙ f)
   no_more z (inr f) opened t = clash (sym opened ∙ closed f)
 
   -- and the client is as it was
-  pub same_follows : (z : Executed) → (is_running z ≡ false) ⊎ (h.txn ≡ None) → Follows z h
+  pub same_follows : (z : Executed) → (is_running E c z ≡ false) ⊎ (h.txn ≡ None) → Follows z h
   same_follows z none = (no_more z none, by none)
     where
-      by_txn : (o : Option TxnAt) → is_running z ≡ false → IfSome o (SeesRun catalog E c (running_of h.begun k.told)) → IfSome o (At z)
+      by_txn : (o : Option TxnAt) → is_running E c z ≡ false → IfSome o (SeesRun catalog E c (running_of E c h.begun k.told)) → IfSome o (At z)
       by_txn None f x = tt
-      by_txn (Some t) f x = subst (λ xs. SeesIn catalog E c xs t.seen t.doing) (sym (running_of_same h.begun k.told z f)) x
+      by_txn (Some t) f x = subst (λ xs. SeesIn catalog E c xs t.seen t.doing) (sym (running_of_same E c h.begun k.told z f)) x
 
-      by : (is_running z ≡ false) ⊎ (h.txn ≡ None) → IfSome h.txn (At z)
+      by : (is_running E c z ≡ false) ⊎ (h.txn ≡ None) → IfSome h.txn (At z)
       by (inl f) = by_txn h.txn f sees_then
       by (inr f) = subst (λ (o : Option TxnAt). IfSome o (At z)) (sym f) tt
 
   -- or has none open
-  pub ended_follows : (z : Executed) (d : ClientAt) → (is_running z ≡ false) ⊎ (h.txn ≡ None) → d.txn ≡ None → Follows z d
-  ended_follows z d none f = (no_more z none, subst (λ (o : Option TxnAt). IfSome o (SeesRun catalog E c (running_of d.begun (k.told ++ z ∷ [])))) (sym f) tt)
+  pub ended_follows : (z : Executed) (d : ClientAt) → (is_running E c z ≡ false) ⊎ (h.txn ≡ None) → d.txn ≡ None → Follows z d
+  ended_follows z d none f = (no_more z none, subst (λ (o : Option TxnAt). IfSome o (SeesRun catalog E c (running_of E c d.begun (k.told ++ z ∷ [])))) (sym f) tt)
 
   module _ (t : TxnAt) (some : h.txn ≡ Some t) (free : h.vacuum ≡ None) where
     opened : IsOpenAs c h.begun k.told t
     opened = (subst (DoingByHistory events c h.begun k.told k.waiting h.plan) some (subst (ClientByHistory events c h.begun k.told k.waiting h.plan h.txn) free k.stands)).1
 
-    pub sees_open : SeesRun catalog E c (running_of h.begun k.told) t
-    sees_open = subst (λ (o : Option TxnAt). IfSome o (SeesRun catalog E c (running_of h.begun k.told))) some sees_then
+    pub sees_open : SeesRun catalog E c (running_of E c h.begun k.told) t
+    sees_open = subst (λ (o : Option TxnAt). IfSome o (SeesRun catalog E c (running_of E c h.begun k.told))) some sees_then
 
     -- it is answered that nothing was changed
-    pub held_follows : (z : Executed) (u : TxnAt) → is_running z ≡ false → u.doing ≡ doing.Idle → u.seen ≡ t.seen → RunsTo catalog E c (running_of h.begun k.told) t.seen → Follows z (holding h u)
+    pub held_follows : (z : Executed) (u : TxnAt) → is_running E c z ≡ false → u.doing ≡ doing.Idle → u.seen ≡ t.seen → RunsTo catalog E c (running_of E c h.begun k.told) t.seen → Follows z (holding h u)
     held_follows z u none idle same r = (no_more z (inl none), sees_same z t.seen u none idle same r)
 
     -- it is answered that nothing was changed, and what it found stays
-    pub kept_follows : (z : Executed) (u : TxnAt) → is_running z ≡ true → is_effective z ≡ false → u.doing ≡ doing.Idle → (r : RunsTo catalog E c (running_of h.begun k.told) t.seen)
-        → IsViewOf (with_found (view_after catalog E c (running_of h.begun k.told) r.run) (found_by (calls_of E c z))) u.seen → HoldsScans E c (running_of h.begun k.told ++ z ∷ []) u.seen → write_keys u.seen.writes ≡ write_keys t.seen.writes → Follows z (holding h u)
+    pub kept_follows : (z : Executed) (u : TxnAt) → is_running E c z ≡ true → is_effective z ≡ false → u.doing ≡ doing.Idle → (r : RunsTo catalog E c (running_of E c h.begun k.told) t.seen)
+        → IsViewOf catalog (with_found catalog (view_after catalog E c (running_of E c h.begun k.told) r.run) (found_by (calls_of E c z))) u.seen → HoldsScans E c (running_of E c h.begun k.told ++ z ∷ []) u.seen → write_keys u.seen.writes ≡ write_keys t.seen.writes → Follows z (holding h u)
     kept_follows z u takes idle rests r now scans same =
-        let more : RunsTo catalog E c (running_of h.begun k.told ++ z ∷ []) u.seen = runs_kept catalog E c (running_of h.begun k.told) z r.run u.seen idle now scans (same ∙ r.writes) in (
-          λ opened_now runs_now. subst (λ n. IsRunOnFound catalog E c (running_of n k.told ++ z ∷ [])) k.begun more.run,
-          subst (SeesIn catalog E c (running_of h.begun (k.told ++ z ∷ [])) u.seen) (sym rests) (subst (λ xs. RunsTo catalog E c xs u.seen) (sym (running_of_more h.begun k.told z opened.begin opened.body opened.since opened.goes_on takes)) more),
+        let more : RunsTo catalog E c (running_of E c h.begun k.told ++ z ∷ []) u.seen = runs_kept catalog E c (running_of E c h.begun k.told) z r.run u.seen idle now scans (same ∙ r.writes) in (
+          λ opened_now runs_now. subst (λ n. IsRunOnFound catalog E c (running_of E c n k.told ++ z ∷ [])) k.begun more.run,
+          subst (SeesIn catalog E c (running_of E c h.begun (k.told ++ z ∷ [])) u.seen) (sym rests) (subst (λ xs. RunsTo catalog E c xs u.seen) (sym (running_of_more E c h.begun k.told z opened.begin opened.body opened.since opened.goes_on takes)) more),
         )
 
     -- it is answered so without a call, and the transaction is as it was
     pub turned_open : (z : Executed) (b : Answer) → z.answer ≡ Some b → changes_nothing b ≡ true → calls_of E c z ≡ [] → t.doing ≡ doing.Idle → Follows z h
-    turned_open z b is nothing none idle = by (is_running z) refl
+    turned_open z b is nothing none idle = by (is_running E c z) refl
       where
-        r : RunsTo catalog E c (running_of h.begun k.told) t.seen
-        r = subst (SeesIn catalog E c (running_of h.begun k.told) t.seen) idle sees_open
+        r : RunsTo catalog E c (running_of E c h.begun k.told) t.seen
+        r = subst (SeesIn catalog E c (running_of E c h.begun k.told) t.seen) idle sees_open
 
-        scans : HoldsScans E c (running_of h.begun k.told ++ z ∷ []) t.seen
-        scans span e = r.scans span (sym (scanned_more E c (running_of h.begun k.told) z span ∙ ap (λ ms. was_scanned E c (running_of h.begun k.told) span || scans_span span ms) none ∙ or_false (was_scanned E c (running_of h.begun k.told) span)) ∙ e)
+        scans : HoldsScans E c (running_of E c h.begun k.told ++ z ∷ []) t.seen
+        scans span e = r.scans span (sym (scanned_more E c (running_of E c h.begun k.told) z span ∙ ap (λ ms. was_scanned E c (running_of E c h.begun k.told) span || scans_span span ms) none ∙ or_false (was_scanned E c (running_of E c h.begun k.told) span)) ∙ e)
 
-        by : (x : Bool) → is_running z ≡ x → Follows z h
+        by : (x : Bool) → is_running E c z ≡ x → Follows z h
         by false e = same_follows z (inl e)
         by true e =
-            let f = kept_follows z t e (effective_by z b true is nothing) idle r (subst (λ (ms : List StoreCall). IsViewOf (with_found (view_after catalog E c (running_of h.begun k.told) r.run) (found_by ms)) t.seen) (sym none) r.sees) scans refl in
+            let f = kept_follows z t e (effective_by z b true is nothing) idle r (subst (λ (ms : List StoreCall). IsViewOf catalog (with_found catalog (view_after catalog E c (running_of E c h.begun k.told) r.run) (found_by ms)) t.seen) (sym none) r.sees) scans refl in
             (f.0, subst (λ (o : Option TxnAt). IfSome o (At z)) (sym some) f.1)
 
     -- it is answered from the rows that are seen
-    pub given_follows : (z : Executed) (p : Planned) (a : Access) (was v : TxnAt) → IsPlannedOn catalog p a → Reads z.text p.statement → reads_commit z.text ≡ false → z.answer ≡ Some (given_answer v (gives p a v)) → (was.doing ≡ doing.Idle) × (was.seen ≡ t.seen) → (v.doing ≡ doing.Idle) × (v.seen.writes ≡ t.seen.writes) → (r : RunsTo catalog E c (running_of h.begun k.told) t.seen)
-        → IsViewOf (with_found (view_after catalog E c (running_of h.begun k.told) r.run) (found_by (calls_of E c z))) v.seen → (first_unfit p.table (overlay a v.seen) ≡ None → SeesWellTyped catalog v.seen) → HoldsScans E c (running_of h.begun k.told ++ z ∷ []) v.seen → Follows z (holding h (given_left was v (gives p a v)))
-    given_follows z p a was v on reads no_commit answered same unwritten r now fits scans = by (given_runs catalog E c (running_of h.begun k.told) z p a on was v reads answered r.run now fits scans (ap write_keys unwritten.1 ∙ r.writes) no_commit)
+    pub given_follows : (z : Executed) (p : Planned) (a : Access) (v : TxnAt) → IsPlannedOn catalog p a → Reads z.text p.statement → reads_commit z.text ≡ false → z.answer ≡ Some (given_answer v (gives p a v)) → has_read E c z ≡ true → (v.doing ≡ doing.Idle) × (v.seen.writes ≡ t.seen.writes)
+        → (r : RunsTo catalog E c (running_of E c h.begun k.told) t.seen) → IsViewOf catalog (with_found catalog (view_after catalog E c (running_of E c h.begun k.told) r.run) (found_by (calls_of E c z))) v.seen → HoldsScans E c (running_of E c h.begun k.told ++ z ∷ []) v.seen → Follows z (holding h (given_left v (gives p a v)))
+    given_follows z p a v on reads no_commit answered finished unwritten r now scans = (
+      λ opened_now runs_now. subst (λ n. IsRunOnFound catalog E c (running_of E c n k.told ++ z ∷ [])) k.begun more.run,
+      subst (SeesIn catalog E c (running_of E c h.begun (k.told ++ z ∷ [])) (given_left v (gives p a v)).seen) (sym (left_idle v (gives p a v) unwritten.0))
+          (subst (λ xs. RunsTo catalog E c xs (given_left v (gives p a v)).seen) (sym (running_of_more E c h.begun k.told z opened.begin opened.body opened.since opened.goes_on takes)) more),
+    )
       where
-        rests : (given_left was v (gives p a v)).doing ≡ doing.Idle
-        rests = left_idle was v (gives p a v) same.0 unwritten.0
+        takes : is_running E c z ≡ true
+        takes = given_takes catalog E c (running_of E c h.begun k.told) z p a on v reads answered r.run now scans (ap write_keys unwritten.1 ∙ r.writes) no_commit finished
 
-        by : ((is_running z ≡ true) × RunsTo catalog E c (running_of h.begun k.told ++ z ∷ []) (given_left was v (gives p a v)).seen) ⊎ ((is_running z ≡ false) × (given_left was v (gives p a v) ≡ was)) → Follows z (holding h (given_left was v (gives p a v)))
-        by (inl x) = (
-          λ opened_now runs_now. subst (λ n. IsRunOnFound catalog E c (running_of n k.told ++ z ∷ [])) k.begun x.1.run,
-          subst (SeesIn catalog E c (running_of h.begun (k.told ++ z ∷ [])) (given_left was v (gives p a v)).seen) (sym rests)
-              (subst (λ xs. RunsTo catalog E c xs (given_left was v (gives p a v)).seen) (sym (running_of_more h.begun k.told z opened.begin opened.body opened.since opened.goes_on x.0)) x.1),
-        )
-        by (inr x) = held_follows z (given_left was v (gives p a v)) x.0 rests (ap (λ (u : TxnAt). u.seen) x.1 ∙ same.1) r
+        more : RunsTo catalog E c (running_of E c h.begun k.told ++ z ∷ []) (given_left v (gives p a v)).seen
+        more = given_runs catalog E c (running_of E c h.begun k.told) z p a on v reads answered r.run now scans (ap write_keys unwritten.1 ∙ r.writes)
 
   -- it is answered that nothing was changed without a call, and the client is as it was
   pub turned_follows : (z : Executed) (b : Answer) → z.answer ≡ Some b → changes_nothing b ≡ true → calls_of E c z ≡ [] → h.vacuum ≡ None → IfSome h.txn (λ t. t.doing ≡ doing.Idle) → Follows z h

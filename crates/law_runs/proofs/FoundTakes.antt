@@ -3,6 +3,7 @@ use Rattle.std.proofs.Common.{◌≡◌, ◌⊎◌, inl, inr, ◌+◌, ℕ, suc,
 use Rattle.std.specs.Prelude.{◌&&◌, ◌||◌, if◌then◌else◌, filter, is_some}
 use Rattle.std.proofs.lemmas.List.{append-nil}
 use Rattle.std.proofs.lemmas.List.Elements.{filter-append}
+use Rattle.sdb_types.specs.declared.key.Key.{Key}
 use Rattle.sdb_types.proofs.Basics.{by_test, clash, or_false}
 use Rattle.sdb_schema.specs.declared.table.Table.{Table}
 use Rattle.sdb_schema.specs.Catalog.{is_catalog}
@@ -14,32 +15,37 @@ use Rattle.sdb_model.specs.declared.event.Event.TheVariants as event
 use Rattle.sdb_model.specs.declared.statement.Statement.{Statement}
 use Rattle.sdb_model.specs.declared.statement.Statement.TheVariants as statement
 use Rattle.sdb_model.specs.Calls.{StoreCall, calls_of}
-use Rattle.sdb_model.specs.Exec.{named_table}
+use Rattle.sdb_model.specs.Exec.{find_table, named_table, table_of}
+use Rattle.sdb_model.specs.ReadSet.{has_finished, has_read}
+use Rattle.sdb_model.specs.Tables.{is_data}
 use Rattle.sdb_model.specs.Refused.{refusal_by, refusal_of}
 use Rattle.sdb_model.specs.Sql.{Reads, reads_commit}
 use Rattle.sdb_model.specs.Transactions.{Executed, begins, changes_nothing, ends, id_of, rest_of, statements_by}
-use Rattle.sdb_exec.specs.Reads.{access_of}
+use Rattle.sdb_model.specs.Reads.{access_of}
 use Rattle.sdb_snapshot.specs.Seen.{nothing}
 use Rattle.sdb_sqltext.proofs.OneWord.{begin_read, rollback_read}
 use Rattle.sdb_txn.specs.declared.txn.Doing.TheVariants as doing
 use Rattle.sdb_txn.specs.Txn.{TxnAt, committing}
 use Rattle.sdb_client.specs.Client.{AskPost, BeginPost, ClientAt, CommitStartPost, GatePost, IsIdle, IsAnsweredAtOnce, RollbackPost, RowsPost, ParsedPost, Parses, StatementPost, TablePost, Taking, VacuumStartPost, given_answer, given_left, gives, holding, is_covered, plan_of, resting, out_of_memory, with_begun, TextStep}
+use Rattle.law_clients.proofs.InTables.{access_table, own_table}
+use Rattle.law_clients.proofs.RowsFit.{found_itself}
 use Rattle.law_clients.proofs.Taken.{other_no_commit}
 use Rattle.law_clients.proofs.Whole.{by_memory, literals_read}
 use Rattle.law_clients.specs.History.{executed_of_take}
 use Rattle.law_clients.proofs.Answered.{take_said}
 use Rattle.law_answers.specs.Invariant.{Knows, begun_in}
-use Rattle.law_answers.specs.Unfit.{IsWellTypedTxn, SeesWellTyped, SeesWellTypedIn}
 use Rattle.law_answers.proofs.Lists.{since_new}
+use Rattle.law_answers.proofs.ReadSteps.{IsDataTable}
 use Rattle.law_answers.proofs.Takings.{none_yet}
 use Rattle.law_runs.specs.Found.{found_by, is_answered, scans_span, was_scanned, with_found}
+use Rattle.law_runs.proofs.FoundGiven.{given_finishes}
 use Rattle.law_runs.proofs.FoundSteps.{ClientRuns, SeesIn, SeesRun, answered_of_is, answered_of}
 use Rattle.law_runs.proofs.FoundSteps as steps
 use Rattle.law_runs.proofs.Running.{HoldsScans, RunsTo, is_running, none_runs, running, running_of, scanned_more, view_after}
 use Rattle.law_runs.proofs.Views.{IsViewOf}
 use Rattle.law_runs.proofs.WroteCommits.{none_wrote}
 
-module _ (q : Taking) (is : is_catalog q.catalog ≡ true) (events : List Event) (c : ℕ) (text : List ℕ) (h : ClientAt) (k : Knows q.catalog events c h) (runs : ClientRuns q.catalog events c h) (idle : IsIdle h) where
+module _ (q : Taking) (is : is_catalog q.catalog ≡ true) (apart : (k : Key) → is_some (find_table q.catalog k.table) ≡ true → is_data k ≡ true) (events : List Event) (c : ℕ) (text : List ℕ) (h : ClientAt) (k : Knows q.catalog events c h) (runs : ClientRuns q.catalog events c h) (idle : IsIdle h) where
   abbrev E : Option Answer → List Event
   E a = events ++ event.Take c text a ∷ []
 
@@ -48,7 +54,7 @@ module _ (q : Taking) (is : is_catalog q.catalog ≡ true) (events : List Event)
 
   -- what it is to come to
   abbrev Comes : Option Answer → ClientAt → Type 0
-  Comes None d = IfSome d.txn (SeesRun q.catalog (E None) c (running_of d.begun k.told))
+  Comes None d = IfSome d.txn (SeesRun q.catalog (E None) c (running_of (E None) c d.begun k.told))
   Comes (Some b) d = steps.Follows q.catalog events c h k runs (event.Take c text (Some b)) (one (Some b)) d
 
   -- as an answer that leaves the client there
@@ -76,8 +82,10 @@ module _ (q : Taking) (is : is_catalog q.catalog ≡ true) (events : List Event)
       ids : (n : ℕ) → n + 1 ≡ suc n
       ids n = omega arith
 
-      new : running_of (h.begun + 1) (k.told ++ one (Some answer.Done) ∷ []) ≡ []
-      new = ap (λ n. running_of n (k.told ++ one (Some answer.Done) ∷ [])) (ap (λ n. n + 1) k.begun ∙ ids (begun_in k.told)) ∙ ap (λ ss. running (rest_of ss)) (since_new k.told (one (Some answer.Done)) begins_now)
+      new : running_of (E (Some answer.Done)) c (h.begun + 1) (k.told ++ one (Some answer.Done) ∷ []) ≡ []
+      new =
+          ap (λ n. running_of (E (Some answer.Done)) c n (k.told ++ one (Some answer.Done) ∷ [])) (ap (λ n. n + 1) k.begun ∙ ids (begun_in k.told))
+          ∙ ap (λ ss. running (E (Some answer.Done)) c (rest_of ss)) (since_new k.told (one (Some answer.Done)) begins_now)
 
   begin_comes : (o : Option TxnAt) (a : Option Answer) (d : ClientAt) → h.txn ≡ o → Reads text statement.Begin → BeginPost q.gate q.fresh h o a d → Comes a d
   begin_comes None a d e reads t = gate_comes q.gate.vacuum_runs a d e reads t
@@ -85,7 +93,7 @@ module _ (q : Taking) (is : is_catalog q.catalog ≡ true) (events : List Event)
 
   rollback_comes : (o : Option TxnAt) (a : Option Answer) (d : ClientAt) → Reads text statement.Rollback → RollbackPost h o a d → Comes a d
   rollback_comes None a d reads t = answer_comes _ a d t (inl refl)
-  rollback_comes (Some x) a d reads t = as_comes a d (Some answer.Done) (resting h) t.0 t.1 (steps.ended_follows q.catalog events c h k runs (event.Take c text (Some answer.Done)) (one (Some answer.Done)) (resting h) (inl (steps.ends_stays (one (Some answer.Done)) over)) refl)
+  rollback_comes (Some x) a d reads t = as_comes a d (Some answer.Done) (resting h) t.0 t.1 (steps.ended_follows q.catalog events c h k runs (event.Take c text (Some answer.Done)) (one (Some answer.Done)) (resting h) (inl (steps.ends_stays (E (Some answer.Done)) c (one (Some answer.Done)) over)) refl)
     where
       over : ends (one (Some answer.Done)) ≡ true
       over = ap (λ b. reads_commit text || false || (b && true)) ((rollback_read text).1 reads) ∙ last (reads_commit text)
@@ -112,27 +120,32 @@ module _ (q : Taking) (is : is_catalog q.catalog ≡ true) (events : List Event)
     still : t.doing ≡ doing.Idle
     still = subst (λ (o : Option TxnAt). IfSome o (λ u. u.doing ≡ doing.Idle)) some idle.still
 
-    sees : (a : Option Answer) → RunsTo q.catalog (E a) c (running_of h.begun k.told) t.seen
-    sees a = subst (SeesIn q.catalog (E a) c (running_of h.begun k.told) t.seen) still (steps.sees_open q.catalog events c h k runs (event.Take c text a) t some idle.free)
-
-    fit : SeesWellTyped q.catalog t.seen
-    fit = subst (SeesWellTypedIn q.catalog t.seen) still (subst (λ (o : Option TxnAt). IfSome o (IsWellTypedTxn q.catalog)) some k.fits)
+    sees : (a : Option Answer) → RunsTo q.catalog (E a) c (running_of (E a) c h.begun k.told) t.seen
+    sees a = subst (SeesIn q.catalog (E a) c (running_of (E a) c h.begun k.told) t.seen) still (steps.sees_open q.catalog events c h k runs (event.Take c text a) t some idle.free)
 
     -- it scans nothing
-    scans : (a : Option Answer) → HoldsScans (E a) c (running_of h.begun k.told ++ one a ∷ []) t.seen
-    scans a span e = (sees a).scans span (sym (scanned_more (E a) c (running_of h.begun k.told) (one a) span ∙ ap (λ ms. was_scanned (E a) c (running_of h.begun k.told) span || scans_span span ms) (none_yet c events text a) ∙ or_false (was_scanned (E a) c (running_of h.begun k.told) span)) ∙ e)
+    scans : (a : Option Answer) → HoldsScans (E a) c (running_of (E a) c h.begun k.told ++ one a ∷ []) t.seen
+    scans a span e = (sees a).scans span (sym (scanned_more (E a) c (running_of (E a) c h.begun k.told) (one a) span ∙ ap (λ ms. was_scanned (E a) c (running_of (E a) c h.begun k.told) span || scans_span span ms) (none_yet c events text a) ∙ or_false (was_scanned (E a) c (running_of (E a) c h.begun k.told) span)) ∙ e)
 
     abbrev given : Statement → Table → Answer
     given st table = given_answer t (gives (plan_of table st) (access_of table st) t)
 
-    rows_comes : (st : Statement) (table : Table) (a : Option Answer) (d : ClientAt) → Reads text st → reads_commit text ≡ false → refusal_of q.catalog st ≡ None → named_table q.catalog st ≡ Some table → RowsPost (plan_of table st) (access_of table st) h t a d → Comes a d
-    rows_comes st table a d reads no_commit taken named x = by_test (is_covered t.seen (access_of table st)) (λ b. let z = x.known b in as_comes a d (Some (given_answer t (gives (plan_of table st) (access_of table st) t))) (holding h (given_left t t (gives (plan_of table st) (access_of table st) t))) z.0 z.1 known) (λ b. let z = x.unknown b in as_comes a d None _ z.0 z.1 (sees None))
+    -- its read has finished, without a call
+    finished_here : (st : Statement) (table : Table) → named_table q.catalog st ≡ Some table → has_read (E (Some (given st table))) c (one (Some (given st table))) ≡ true
+    finished_here st table named = ap (λ ms. has_finished ms (one (Some (given st table)))) (none_yet c events text (Some (given st table))) ∙ given_finishes (plan_of table st) (access_of table st) t [] refl refl own
       where
-        known : Comes (Some (given st table)) (holding h (given_left t t (gives (plan_of table st) (access_of table st) t)))
+        own : IsDataTable (access_table (access_of table st))
+        own = subst IsDataTable (sym (own_table table st)) (apart (record { table = table.name; partition = []; clustering = [] }) (ap is_some (found_itself q.catalog (table_of st) table named)))
+
+    rows_comes : (st : Statement) (table : Table) (a : Option Answer) (d : ClientAt) → Reads text st → reads_commit text ≡ false → refusal_of q.catalog st ≡ None → named_table q.catalog st ≡ Some table → RowsPost (plan_of table st) (access_of table st) h t a d → Comes a d
+    rows_comes st table a d reads no_commit taken named x = by_test (is_covered t.seen (access_of table st)) (λ b. let z = x.known b in as_comes a d (Some (given st table)) (holding h (given_left t (gives (plan_of table st) (access_of table st) t))) z.0 z.1 known) (λ b. let z = x.unknown b in as_comes a d None _ z.0 z.1 (sees None))
+      where
+        known : Comes (Some (given st table)) (holding h (given_left t (gives (plan_of table st) (access_of table st) t)))
         known =
-            steps.given_follows q.catalog events c h k runs (event.Take c text (Some (given st table))) t some idle.free (one (Some (given st table))) (plan_of table st) (access_of table st) t t
-            (record { is = is; named = named; asked = refl; taken = taken; literals = literals_read text st reads; access = refl }) reads no_commit refl (still, refl) (still, refl) (sees (Some (given st table)))
-            (subst (λ (ms : List StoreCall). IsViewOf (with_found (view_after q.catalog (E (Some (given st table))) c (running_of h.begun k.told) (sees (Some (given st table))).run) (found_by ms)) t.seen) (sym (none_yet c events text (Some (given st table)))) (sees (Some (given st table))).sees) (λ n. fit) (scans (Some (given st table)))
+            steps.given_follows q.catalog events c h k runs (event.Take c text (Some (given st table))) t some idle.free (one (Some (given st table))) (plan_of table st) (access_of table st) t
+            (record { is = is; named = named; asked = refl; taken = taken; literals = literals_read text st reads; access = refl }) reads no_commit refl (finished_here st table named) (still, refl) (sees (Some (given st table)))
+            (subst (λ (ms : List StoreCall). IsViewOf q.catalog (with_found q.catalog (view_after q.catalog (E (Some (given st table))) c (running_of (E (Some (given st table))) c h.begun k.told) (sees (Some (given st table))).run) (found_by ms)) t.seen) (sym (none_yet c events text (Some (given st table)))) (sees (Some (given st table))).sees)
+            (scans (Some (given st table)))
 
     table_comes : (st : Statement) (a : Option Answer) (d : ClientAt) → Reads text st → reads_commit text ≡ false → TablePost q.catalog st h t a d → Comes a d
     table_comes st a d reads no_commit x = by_refusal (refusal_of q.catalog st) refl
@@ -151,7 +164,7 @@ module _ (q : Taking) (is : is_catalog q.catalog ≡ true) (events : List Event)
 
   commit_comes : (o : Option TxnAt) (a : Option Answer) (d : ClientAt) → h.txn ≡ o → CommitStartPost q.now h o a d → Comes a d
   commit_comes None a d e t = answer_comes _ a d t (inl refl)
-  commit_comes (Some x) a d e t = as_comes a d None (holding h (committing x q.now)) t.0 t.1 (steps.runs_wrote q.catalog (E None) c (running_of h.begun k.told) x.seen (sees x e None))
+  commit_comes (Some x) a d e t = as_comes a d None (holding h (committing x q.now)) t.0 t.1 (steps.runs_wrote q.catalog (E None) c (running_of (E None) c h.begun k.told) x.seen (sees x e None))
 
   ---- each text
 
@@ -174,8 +187,8 @@ module _ (q : Taking) (is : is_catalog q.catalog ≡ true) (events : List Event)
   starved_comes : Comes (Some answer.NoMemory) (out_of_memory text h)
   starved_comes = by (reads_commit text)
     where
-      none : is_running (one (Some answer.NoMemory)) ≡ false
-      none = steps.nothing_stays (one (Some answer.NoMemory)) answer.NoMemory refl refl refl
+      none : is_running (E (Some answer.NoMemory)) c (one (Some answer.NoMemory)) ≡ false
+      none = steps.nothing_stays (E (Some answer.NoMemory)) c (one (Some answer.NoMemory)) answer.NoMemory refl refl refl
 
       by : (b : Bool) → Comes (Some answer.NoMemory) (if b then resting h else h)
       by true = steps.ended_follows q.catalog events c h k runs (event.Take c text (Some answer.NoMemory)) (one (Some answer.NoMemory)) (resting h) (inl none) refl
@@ -195,4 +208,4 @@ module _ (q : Taking) (is : is_catalog q.catalog ≡ true) (events : List Event)
       by None z = steps.still_runs q.catalog events c h k runs (event.Take c text None) d (now None ∙ append-nil k.told) z
       by (Some b) z =
           steps.next_runs q.catalog events c h k runs (event.Take c text (Some b)) (one (Some b)) d (now (Some b)) z
-          (λ reads opened. none_wrote q.catalog (E (Some b)) c (running_of (begun_in k.told) k.told) (id_of c (begun_in k.told)) (calls_of (E (Some b)) c (one (Some b))) (none_yet c events text (Some b)))
+          (λ reads opened. none_wrote q.catalog (E (Some b)) c (running_of (E (Some b)) c (begun_in k.told) k.told) (id_of c (begun_in k.told)) (calls_of (E (Some b)) c (one (Some b))) (none_yet c events text (Some b)))

@@ -42,12 +42,12 @@ use Rattle.law_answers.proofs.Lists.{each_in, each_kept, since_more, since_none}
 use Rattle.law_answers.proofs.Noting.{each_left, each_middle, since_all}
 use Rattle.law_answers.proofs.RolledSteps.{recovery_unread}
 use Rattle.law_answers.proofs.Takings.{none_yet}
-use Rattle.law_runs.specs.Found.{AllRunAs, IsNewRead, View, finds, found_by, has_found, is_answered, nothing_found, run_on_found, run_one, takes_part, was_found, was_scanned, with_found}
+use Rattle.law_runs.specs.Found.{AllRunAs, IsNewRead, View, finds, found_by, has_found, is_answered, meets_misfit, nothing_found, run_on_found, run_one, takes_part, was_found, was_scanned, with_found}
 use Rattle.law_runs.proofs.OngoingReads.{NothingMore, reads_again}
 use Rattle.law_runs.proofs.FoundSteps.{ClientRuns, SeesIn, closed, sees_open}
 use Rattle.law_runs.proofs.OwnPrepares.{calls_again, goes_further}
 use Rattle.law_runs.proofs.Replies.{CallOf, ReadCall, call_of}
-use Rattle.law_runs.proofs.Running.{RunsTo, each_taken, finds_stay, goes_on, running, running_of, scanned_stays}
+use Rattle.law_runs.proofs.Running.{RunsTo, each_taken, finds_stay, goes_on, run_by, running, running_of, running_stays, scanned_stays}
 use Rattle.law_runs.proofs.Statements.{AreKept, SoBy, calls_more, none_in, replied_said}
 use Rattle.law_runs.proofs.Takes.{TakenAs, taken_as}
 use Rattle.law_runs.proofs.Views.{all_found}
@@ -67,14 +67,18 @@ view_finds catalog events c [] [] v q run = sym (or_false (has_found v q))
 view_finds catalog events c [] (y ∷ ys) v q run = absurd run
 view_finds catalog events c (s ∷ ss) [] v q run = absurd run
 view_finds catalog events c (s ∷ ss) (y ∷ ys) v q run =
-    view_finds catalog events c ss ys (run_one catalog y (with_found v (found_by (calls_of events c s)))).1 q run.1
-    ∙ ap (λ b. b || was_found events c ss q) (as_found y (with_found v (found_by (calls_of events c s))) ∙ (all_found v (found_by (calls_of events c s)) q).0 ∙ ap (λ b. has_found v q || b) (any_at (found_by (calls_of events c s)) q))
+    view_finds catalog events c ss ys (run_one catalog y (with_found catalog v (found_by (calls_of events c s)))).1 q run.1
+    ∙ ap (λ b. b || was_found events c ss q) (as_found y (with_found catalog v (found_by (calls_of events c s))) ∙ (all_found catalog v (found_by (calls_of events c s)) q).keys ∙ ap (λ b. has_found v q || b) (any_at (found_by (calls_of events c s)) q))
     ∙ both (has_found v q) (list_any (λ e. same_key q e.0) (found_by (calls_of events c s))) (was_found events c ss q)
   where
     -- a statement finds nothing more as it runs
     as_found : (o : Option Statement) (w : View) → has_found (run_one catalog o w).1 q ≡ has_found w q
     as_found None w = refl
-    as_found (Some st) w = refl
+    as_found (Some st) w = by (meets_misfit catalog st w)
+      where
+        by : (b : Bool) → has_found (run_by catalog st w b).1 q ≡ has_found w q
+        by true = refl
+        by false = refl
 
     both : (x y z : Bool) → ((x || y) || z) ≡ (x || (y || z))
     both true y z = refl
@@ -99,33 +103,35 @@ StatementNew events c ss s = reads_commit s.text ≡ false → (m : StoreCall) �
 
 -- So it is of each statement of each transaction.
 abbrev pub AllNew : List Event → ℕ → List Executed → Type 0
-AllNew events c past = (n : ℕ) (begin : Executed) (body : List Executed) (s : Executed) (tail : List Executed) → from_begin n past ≡ begin ∷ (body ++ s ∷ tail) → AllByRecursion (λ x. ends x ≡ false) body → StatementNew events c (running body) s
+AllNew events c past = (n : ℕ) (begin : Executed) (body : List Executed) (s : Executed) (tail : List Executed) → from_begin n past ≡ begin ∷ (body ++ s ∷ tail) → AllByRecursion (λ x. ends x ≡ false) body → StatementNew events c (running events c body) s
 
 pub all_stay : (catalog : List Table) (events : List Event) (e : Event) (c : ℕ) (past : List Executed) → AllByRecursion (IsAnswered catalog events c) past → AllNew events c past → AllNew (events ++ e ∷ []) c past
 all_stay catalog events e c past all k n begin body s tail since goes no_commit m among reads =
     let whole : AllByRecursion (IsAnswered catalog events c) (body ++ s ∷ tail) = since_all (IsAnswered catalog events c) n past begin (body ++ s ∷ tail) all since in
     let here : IsAnswered catalog events c s = each_middle (IsAnswered catalog events c) body tail s whole in
     let before : AllByRecursion (IsAnswered catalog events c) body = each_left (IsAnswered catalog events c) body (s ∷ tail) whole in
-    new_stays catalog events e c (running body) m.request (each_kept (IsAnswered catalog events c) is_answered (filter takes_part (take_while goes_on body)) (each_kept (IsAnswered catalog events c) takes_part (take_while goes_on body) (each_taken (IsAnswered catalog events c) goes_on body before)))
-    (k n begin body s tail since goes no_commit m (subst (λ (ms : List StoreCall). Contains ms m) (calls_stay c events e s here.given here.is here.answered) among) reads)
+    subst (λ (ss : List Executed). IsNewRead (events ++ e ∷ []) c ss m.request) (sym (running_stays catalog events e c body before))
+    (new_stays catalog events e c (running events c body) m.request
+    (each_kept (IsAnswered catalog events c) is_answered (filter (takes_part events c) (take_while goes_on body)) (each_kept (IsAnswered catalog events c) (takes_part events c) (take_while goes_on body) (each_taken (IsAnswered catalog events c) goes_on body before)))
+    (k n begin body s tail since goes no_commit m (subst (λ (ms : List StoreCall). Contains ms m) (calls_stay c events e s here.given here.is here.answered) among) reads))
 
 -- with one statement more, which is of the open transaction or of none
-pub all_more : (events : List Event) (c : ℕ) (past : List Executed) (z : Executed) → ArePaired false past → AllNew events c past → (open_after past ≡ true → StatementNew events c (running_of (begun_in past) past) z) → AllNew events c (past ++ z ∷ [])
+pub all_more : (events : List Event) (c : ℕ) (past : List Executed) (z : Executed) → ArePaired false past → AllNew events c past → (open_after past ≡ true → StatementNew events c (running_of events c (begun_in past) past) z) → AllNew events c (past ++ z ∷ [])
 all_more events c past z pairs k last n begin body s tail since goes = by (from_begin n past) refl
   where
     none : (ys : List Executed) → ys ++ s ∷ tail ≡ [] → ⊥
     none [] h = absurd (cc)
     none (w ∷ ys) h = absurd (cc)
 
-    here : (b : Executed) (r : List Executed) → from_begin n past ≡ b ∷ r → b ≡ begin → ((r ≡ body) × (z ≡ s)) ⊎ ((front : List Executed) × (r ≡ body ++ s ∷ front)) → StatementNew events c (running body) s
+    here : (b : Executed) (r : List Executed) → from_begin n past ≡ b ∷ r → b ≡ begin → ((r ≡ body) × (z ≡ s)) ⊎ ((front : List Executed) × (r ≡ body ++ s ∷ front)) → StatementNew events c (running events c body) s
     here b r e f (inr h) = k n b body s h.0 (e ∙ ap (λ x. b ∷ x) h.1) goes
     here b r e f (inl h) =
         let from : from_begin n past ≡ b ∷ body = e ∙ ap (λ x. b ∷ x) h.0 in
         let only = open_only n past false b body pairs from goes in
-        let rest : running_of (begun_in past) past ≡ running body = ap (λ i. running_of i past) (sym only.0) ∙ ap (λ x. running (rest_of x)) from in
-        subst (StatementNew events c (running body)) h.1 (subst (λ (ss : List Executed). StatementNew events c ss z) rest (last only.1))
+        let rest : running_of events c (begun_in past) past ≡ running events c body = ap (λ i. running_of events c i past) (sym only.0) ∙ ap (λ x. running events c (rest_of x)) from in
+        subst (StatementNew events c (running events c body)) h.1 (subst (λ (ss : List Executed). StatementNew events c ss z) rest (last only.1))
 
-    by : (r : List Executed) → from_begin n past ≡ r → StatementNew events c (running body) s
+    by : (r : List Executed) → from_begin n past ≡ r → StatementNew events c (running events c body) s
     by [] e = absurd (none body (sym (ap rest_of since) ∙ since_none n past z e))
     by (b ∷ r) e =
         let whole : b ∷ (r ++ z ∷ []) ≡ begin ∷ (body ++ s ∷ tail) = sym (since_more n past z b r e) ∙ since in
@@ -218,15 +224,15 @@ access_new catalog events c ss s a z runs uncovered all no_commit m among reads 
 
 -- a statement that is answered by a call
 pub answered_new : (catalog : List Table) (events : List Event) (c : ℕ) (h d : ClientAt) (k : Knows catalog events c h) (runs : ClientRuns catalog events c h) (store : Name) (q : Request) (how : How) (r : Reply) (now : ℤ) (x : Executed) (b : Answer) → IsWaiting catalog events c (is_some h.vacuum) x → WaitNew catalog events c x h → CallOf catalog events c k.told x h q r now (Some b) d
-    → open_after k.told ≡ true → StatementNew (events ++ event.Call c store q how r (Some b) ∷ []) c (running_of (begun_in k.told) k.told) (executed_with_answer events x b)
+    → open_after k.told ≡ true → StatementNew (events ++ event.Call c store q how r (Some b) ∷ []) c (running_of (events ++ event.Call c store q how r (Some b) ∷ []) c (begun_in k.told) k.told) (executed_with_answer events x b)
 answered_new catalog events c h d k runs store q how r now x b waits so (inl z) opened = clash (sym opened ∙ closed catalog events c h k runs (event.Call c store q how r (Some b)) z.rests)
 answered_new catalog events c h d k runs store q how r now x b waits so (inr (inr z)) opened = λ no_commit. clash (sym z.is.text ∙ no_commit)
 answered_new catalog events c h d k runs store q how r now x b waits so (inr (inl z)) opened =
     let e : Event = event.Call c store q how r (Some b) in
     let more = access_more catalog events c h d store q how r now k.told x so (Some b) z in
-    subst (λ n. StatementNew (events ++ e ∷ []) c (running_of n k.told) (executed_with_answer events x b)) k.begun
-    (access_new catalog (events ++ e ∷ []) c (running_of h.begun k.told) z.t.seen z.access (executed_with_answer events x b)
-    (subst (SeesIn catalog (events ++ e ∷ []) c (running_of h.begun k.told) z.t.seen) z.reads (sees_open catalog events c h k runs e z.t z.opened z.free)) more.0
+    subst (λ n. StatementNew (events ++ e ∷ []) c (running_of (events ++ e ∷ []) c n k.told) (executed_with_answer events x b)) k.begun
+    (access_new catalog (events ++ e ∷ []) c (running_of (events ++ e ∷ []) c h.begun k.told) z.t.seen z.access (executed_with_answer events x b)
+    (subst (SeesIn catalog (events ++ e ∷ []) c (running_of (events ++ e ∷ []) c h.begun k.told) z.t.seen) z.reads (sees_open catalog events c h k runs e z.t z.opened z.free)) more.0
     (subst (ReadsAccess z.access) (sym (calls_more events c store q how r x waits.unanswered waits.taken (Some b))) more.1))
 
 -- one that is answered as it is taken

@@ -52,7 +52,7 @@ rests_new : (catalog : List Table) (events : List Event) (e : Event) (c : ℕ) (
 rests_new catalog events e c h k says new = subst (AllNew (events ++ e ∷ []) c) (sym (ap (filter is_answered) says)) (all_stay catalog events e c (answered_of c events) (answered_each catalog events c h k) new)
 
 -- where a statement is answered
-ends_new : (catalog : List Table) (events : List Event) (e : Event) (c : ℕ) (h : ClientAt) (k : Knows catalog events c h) (z : Executed) → answered_of c (events ++ e ∷ []) ≡ k.told ++ z ∷ [] → AllNew events c (answered_of c events) → (open_after k.told ≡ true → StatementNew (events ++ e ∷ []) c (running_of (begun_in k.told) k.told) z)
+ends_new : (catalog : List Table) (events : List Event) (e : Event) (c : ℕ) (h : ClientAt) (k : Knows catalog events c h) (z : Executed) → answered_of c (events ++ e ∷ []) ≡ k.told ++ z ∷ [] → AllNew events c (answered_of c events) → (open_after k.told ≡ true → StatementNew (events ++ e ∷ []) c (running_of (events ++ e ∷ []) c (begun_in k.told) k.told) z)
     → AllNew (events ++ e ∷ []) c (answered_of c (events ++ e ∷ []))
 ends_new catalog events e c h k z same new last = subst (AllNew (events ++ e ∷ []) c) (sym same) (all_more (events ++ e ∷ []) c k.told z k.counted.paired (all_stay catalog events e c k.told k.answered (subst (AllNew events c) (answered_of_is catalog events c h k) new)) last)
 
@@ -85,7 +85,7 @@ module _ (w : WorldAt) (h : Holds w) (all : AllRun w) (so : AllSo NothingMore Wa
       by None e = subst (AllNew (w.events ++ event.Take c text None ∷ []) c) (sym (now None ∙ append-nil (answered_of c w.events))) (all_stay catalog w.events (event.Take c text None) c (answered_of c w.events) (answered_each catalog w.events c (states_of w.client_slots c).client k) (new c))
       by (Some b) e =
           ends_new catalog w.events (event.Take c text (Some b)) c (states_of w.client_slots c).client k (executed_of_take w.events text (Some b)) (now (Some b) ∙ ap (λ ss. ss ++ executed_of_take w.events text (Some b) ∷ []) (answered_of_is catalog w.events c (states_of w.client_slots c).client k)) (new c)
-          (λ opened. taken_new w.events c text (Some b) (running_of (begun_in k.told) k.told))
+          (λ opened. taken_new w.events c text (Some b) (running_of (w.events ++ event.Take c text (Some b) ∷ []) c (begun_in k.told) k.told))
 
   step_new : (e : Event) (u : State) → IsStepFrom w.script (state_of w) e u → AllReadNew (led w e u)
   step_new (event.Take c text a) u t n = by_nat c n (λ same. subst (λ (x : ℕ). AllNew (w.events ++ event.Take c text a ∷ []) x (answered_of x (w.events ++ event.Take c text a ∷ []))) same (take_step c text a)) (λ apart. others_new (event.Take c text a) n (others_silent w.events n c (event.Take c text a) apart refl))
@@ -161,8 +161,8 @@ split_end (x ∷ xs) before s after e = by (ends x) refl (λ ys k. split_end xs 
     by false f ih k = more f ih before k
 
 -- where none of them ends it, those that take part are those that were answered and changed something, or whose reads have finished
-running_open : (before : List Executed) → AllByRecursion (λ x. ends x ≡ false) before → running before ≡ filter is_answered (filter takes_part before)
-running_open before opens = ap (λ xs. filter is_answered (filter takes_part xs)) (ap (take_while goes_on) (sym (append-nil before)) ∙ take_open before [] opens ∙ append-nil before)
+running_open : (events : List Event) (c : ℕ) (before : List Executed) → AllByRecursion (λ x. ends x ≡ false) before → running events c before ≡ filter is_answered (filter (takes_part events c) before)
+running_open events c before opens = ap (λ xs. filter is_answered (filter (takes_part events c) xs)) (ap (take_while goes_on) (sym (append-nil before)) ∙ take_open before [] opens ∙ append-nil before)
 
 module _ (script : Script) (events : List Event) (playable : IsPlayable script) (x : IsExecution script events) where
   all_new : AllReadNew (record { script = script; client_slots = x.last.client_slots; events = events; clock = x.last.clock })
@@ -178,30 +178,30 @@ module _ (script : Script) (events : List Event) (playable : IsPlayable script) 
     k = (execution_holds script events playable x).caused.each c
 
     -- the statement that waits reads new
-    waiting_new : (w : Executed) → k.waiting ≡ Some w → IsWaiting script.catalog events c (is_some h.vacuum) w → open_after k.told ≡ true → StatementNew events c (running_of (begun_in k.told) k.told) w
+    waiting_new : (w : Executed) → k.waiting ≡ Some w → IsWaiting script.catalog events c (is_some h.vacuum) w → open_after k.told ≡ true → StatementNew events c (running_of events c (begun_in k.told) k.told) w
     waiting_new w waiting waits opened = by_vacuum h.vacuum (subst (λ (o : Option Executed). ClientByHistory events c h.begun k.told o h.plan h.txn h.vacuum) waiting k.stands)
       where
         so : TxnNew h.txn (calls_of events c w)
         so = wait_new (record { script = script; client_slots = x.last.client_slots; events = events; clock = x.last.clock }) (statements_so NothingMore WaitNew new_kept script events playable x) c h refl k w waiting waits
 
-        sees : IfSome h.txn (SeesRun script.catalog events c (running_of h.begun k.told))
-        sees = subst (λ ss. IfSome h.txn (SeesRun script.catalog events c (running_of h.begun ss))) (answered_of_is script.catalog events c h k) (all_run script events playable x c).sees
+        sees : IfSome h.txn (SeesRun script.catalog events c (running_of events c h.begun k.told))
+        sees = subst (λ ss. IfSome h.txn (SeesRun script.catalog events c (running_of events c h.begun ss))) (answered_of_is script.catalog events c h k) (all_run script events playable x c).sees
 
-        by_doing : (t : TxnAt) (p : Option Planned) (d : Doing) → IsDoing events c t p (Some w) d → DoingNew t.seen d (calls_of events c w) → SeesIn script.catalog events c (running_of h.begun k.told) t.seen d → StatementNew events c (running_of (begun_in k.told) k.told) w
+        by_doing : (t : TxnAt) (p : Option Planned) (d : Doing) → IsDoing events c t p (Some w) d → DoingNew t.seen d (calls_of events c w) → SeesIn script.catalog events c (running_of events c h.begun k.told) t.seen d → StatementNew events c (running_of events c (begun_in k.told) k.told) w
         by_doing t p doing.Idle i n s = absurd (none_is (sym i))
           where
             none_is : ◌≡◌ {A = Option Executed} None (Some w) → ⊥
             none_is e = cc
         by_doing t None (doing.Read a y) i n s = absurd i
-        by_doing t (Some p) (doing.Read a y) i n s = subst (λ m. StatementNew events c (running_of m k.told) w) k.begun (access_new script.catalog events c (running_of h.begun k.told) t.seen a w s n.0 n.1)
+        by_doing t (Some p) (doing.Read a y) i n s = subst (λ m. StatementNew events c (running_of events c m k.told) w) k.begun (access_new script.catalog events c (running_of events c h.begun k.told) t.seen a w s n.0 n.1)
         by_doing t p (doing.Commit y) i n s = λ no_commit. clash (sym i.text ∙ no_commit)
         by_doing t p doing.Over i n s = absurd i
 
-        by_txn : (o : Option TxnAt) → DoingByHistory events c h.begun k.told (Some w) h.plan o → TxnNew o (calls_of events c w) → IfSome o (SeesRun script.catalog events c (running_of h.begun k.told)) → StatementNew events c (running_of (begun_in k.told) k.told) w
+        by_txn : (o : Option TxnAt) → DoingByHistory events c h.begun k.told (Some w) h.plan o → TxnNew o (calls_of events c w) → IfSome o (SeesRun script.catalog events c (running_of events c h.begun k.told)) → StatementNew events c (running_of events c (begun_in k.told) k.told) w
         by_txn None s n v = clash (sym opened ∙ s.1)
         by_txn (Some t) s n v = by_doing t h.plan t.doing s.2 n v
 
-        by_vacuum : (v : Option VacuumAt) → ClientByHistory events c h.begun k.told (Some w) h.plan h.txn v → StatementNew events c (running_of (begun_in k.told) k.told) w
+        by_vacuum : (v : Option VacuumAt) → ClientByHistory events c h.begun k.told (Some w) h.plan h.txn v → StatementNew events c (running_of events c (begun_in k.told) k.told) w
         by_vacuum None s = by_txn h.txn s so sees
         by_vacuum (Some v) s = clash (sym opened ∙ s.1)
 
@@ -220,9 +220,9 @@ module _ (script : Script) (events : List Event) (playable : IsPlayable script) 
   pub execution_new : ReadsAreNew events
   execution_new id before s m r = by (from_begin (ordinal_of id) (statements_by (client_of id) events)) refl
     where
-      by : (ss : List Executed) → from_begin (ordinal_of id) (statements_by (client_of id) events) ≡ ss → IsNewRead events (client_of id) (filter is_answered (filter takes_part before)) m.request
+      by : (ss : List Executed) → from_begin (ordinal_of id) (statements_by (client_of id) events) ≡ ss → IsNewRead events (client_of id) (filter is_answered (filter (takes_part events (client_of id)) before)) m.request
       by [] e = absurd (none_left before s r.after (sym (ap (λ xs. through_end (rest_of xs)) e) ∙ r.statements))
       by (b ∷ ss) e =
           let p = split_end ss before s r.after (sym (ap (λ xs. through_end (rest_of xs)) e) ∙ r.statements) in
-          subst (λ xs. IsNewRead events (client_of id) xs m.request) (running_open before p.opens)
+          subst (λ xs. IsNewRead events (client_of id) xs m.request) (running_open events (client_of id) before p.opens)
           (each_new (client_of id) (ordinal_of id) b before s p.tail (e ∙ ap (λ xs. b ∷ xs) p.whole) p.opens r.no_commit m r.call r.reads)

@@ -1,8 +1,8 @@
 -- What statements noted is the same where calls are moved to other stores.
 use Rattle.std.proofs.Common.{◌≡◌, ℕ, ◌+◌, Bool, true, false, List, [], ◌∷◌, map, Option, Some, None, refl, sym, ap, ◌∙◌}
 use Rattle.std.specs.Prelude.{◌==◌, ◌&&◌, filter, find, if◌then◌else◌, is_some, nat_le, nat_lt, not, take_while}
-use Rattle.std.specs.List.{cons_option, enumerate_from, filter_map, flat_map}
-use Rattle.std.specs.Option.{option_and_then, option_map}
+use Rattle.std.specs.List.{cons_option, enumerate_from, filter_map, flat_map, list_all}
+use Rattle.std.specs.Option.{option_and_then, option_map, option_map_or}
 use Rattle.std.proofs.lemmas.List.{length-map}
 use Rattle.sdb_types.specs.declared.txid.TxId.{TxId}
 use Rattle.sdb_types.specs.declared.record.Record.{Record}
@@ -11,12 +11,15 @@ use Rattle.sdb_types.specs.declared.record.Reply.TheVariants as reply
 use Rattle.sdb_types.specs.declared.record.Request.{Request}
 use Rattle.sdb_types.specs.declared.record.Request.TheVariants as ask
 use Rattle.sdb_types.specs.declared.record.State.TheVariants as state
-use Rattle.sdb_record.specs.Meta.{is_in}
+use Rattle.sdb_record.specs.Coordinator.{is_coordinator_table}
+use Rattle.sdb_record.specs.Meta.{is_in, is_transactional}
+use Rattle.sdb_model.specs.declared.answer.Answer.{Answer}
+use Rattle.sdb_model.specs.declared.answer.Answer.TheVariants as answer
 use Rattle.sdb_model.specs.declared.event.Event.{Event}
 use Rattle.sdb_model.specs.declared.event.Event.TheVariants as event
-use Rattle.sdb_model.specs.Calls.{StoreCall, calls_by, calls_of, end_of, made_by, put_by}
+use Rattle.sdb_model.specs.Calls.{StoreCall, calls_by, calls_of, end_of, made_by, put_by, records_read}
 use Rattle.sdb_model.specs.Events.{table_asked}
-use Rattle.sdb_model.specs.ReadSet.{KeyRead, ReadItem, SpanRead, has_finished, meaning_of, read_item_of, read_of, read_set_of, read_items, reads_rows, rolls}
+use Rattle.sdb_model.specs.ReadSet.{KeyRead, ReadItem, SpanRead, finds_transactional, has_finished, has_read, meaning_of, read_finished, read_item_of, read_of, read_set_of, read_items, reads_rows, rolls}
 use Rattle.sdb_model.specs.Rows.{Name}
 use Rattle.sdb_model.specs.Transactions.{Executed, client_of, ends, from_begin, ordinal_of, rest_of, statements_inside}
 use Rattle.law_protocol.specs.Spread.{relocated_event, relocated_events}
@@ -105,6 +108,41 @@ module _ (at : Name → Name) where
   notes_moved : (ms : List StoreCall) → read_items (map moved_made ms) ≡ read_items ms
   notes_moved ms = ap (filter_map (λ m. read_item_of (map moved_made ms) m.request m.reply)) (kept_moved reads_rows (λ m. refl) ms) ∙ each_moved ms (filter reads_rows ms)
 
+  -- and so is whether a read has finished
+  abbrev pass : StoreCall → Bool
+  pass m = list_all is_transactional (records_read m.reply)
+
+  sound_moved : (ms : List StoreCall) → finds_transactional (map moved_made ms) ≡ finds_transactional ms
+  sound_moved ms = ap (list_all pass) (kept_moved reads_rows (λ m. refl) ms) ∙ each (filter reads_rows ms)
+    where
+      each : (xs : List StoreCall) → list_all pass (map moved_made xs) ≡ list_all pass xs
+      each [] = refl
+      each (m ∷ xs) = ap (λ b. pass m && b) (each xs)
+
+  finished_moved : (ms : List StoreCall) (a : Answer) → read_finished (map moved_made ms) a ≡ read_finished ms a
+  finished_moved ms (answer.BadRecord key) = ap (λ b. not (is_coordinator_table key.table) && b) (sound_moved ms)
+  finished_moved ms (answer.Rows rows) = refl
+  finished_moved ms (answer.Count n) = refl
+  finished_moved ms answer.Done = refl
+  finished_moved ms answer.Committed = refl
+  finished_moved ms (answer.Duplicate key) = refl
+  finished_moved ms (answer.Busy key id now) = refl
+  finished_moved ms (answer.Conflict key found) = refl
+  finished_moved ms (answer.Expired id) = refl
+  finished_moved ms answer.Faulted = refl
+  finished_moved ms (answer.Unknown id) = refl
+  finished_moved ms (answer.Refused refusal) = refl
+  finished_moved ms answer.Vacuuming = refl
+  finished_moved ms answer.OpenTransactions = refl
+  finished_moved ms answer.NoMemory = refl
+
+  read_moved : (events : List Event) (c : ℕ) (s : Executed) → has_read (relocated_events at events) c s ≡ has_read events c s
+  read_moved events c s = ap (λ ms. has_finished ms s) (of_moved events c s) ∙ by s.answer
+    where
+      by : (o : Option Answer) → option_map_or (read_finished (map moved_made (calls_of events c s))) o false ≡ option_map_or (read_finished (calls_of events c s)) o false
+      by None = refl
+      by (Some a) = finished_moved (calls_of events c s) a
+
   flat_same : (f g : Executed → List ReadItem) → ((s : Executed) → f s ≡ g s) → (ss : List Executed) → flat_map f ss ≡ flat_map g ss
   flat_same f g same ss = λ k. flat_map (λ s. same s k) ss
 
@@ -114,5 +152,6 @@ module _ (at : Name → Name) where
   -- What the statements of a transaction noted is the same where calls are moved to other stores.
   pub noted_moved : (events : List Event) (id : TxId) → read_set_of (relocated_events at events) id ≡ read_set_of events id
   noted_moved events id =
-      ap (λ ss. flat_map (λ s. read_items (calls_of (relocated_events at events) (client_of id) s)) (filter has_finished ss)) (inside_moved events id)
-      ∙ flat_same (λ s. read_items (calls_of (relocated_events at events) (client_of id) s)) (λ s. read_items (calls_of events (client_of id) s)) (λ s. ap read_items (of_moved events (client_of id) s) ∙ notes_moved (calls_of events (client_of id) s)) (filter has_finished (statements_inside events id))
+      ap (λ ss. flat_map (λ s. read_items (calls_of (relocated_events at events) (client_of id) s)) (filter (has_read (relocated_events at events) (client_of id)) ss)) (inside_moved events id)
+      ∙ (λ k. flat_map (λ s. read_items (calls_of (relocated_events at events) (client_of id) s)) (filter (λ s. read_moved events (client_of id) s k) (statements_inside events id)))
+      ∙ flat_same (λ s. read_items (calls_of (relocated_events at events) (client_of id) s)) (λ s. read_items (calls_of events (client_of id) s)) (λ s. ap read_items (of_moved events (client_of id) s) ∙ notes_moved (calls_of events (client_of id) s)) (filter (has_read events (client_of id)) (statements_inside events id))

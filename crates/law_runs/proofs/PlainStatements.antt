@@ -34,7 +34,7 @@ use Rattle.sdb_model.specs.Rows.{Name, at_kind, is_key_column, kind_of_column, l
 use Rattle.sdb_exec.specs.declared.plan.PlanStep.{PlanStep}
 use Rattle.sdb_exec.specs.declared.plan.PlanStep.TheVariants.{Finished, Read as Wants}
 use Rattle.sdb_exec.specs.Plans.{Planned, answer_on, changes_on, columns_at, finished, first_unfit, is_unfit, put_row, step_at, step_of}
-use Rattle.sdb_exec.specs.Reads.{access_by, access_for, access_of, all_fixed, fixed, is_equals, joined}
+use Rattle.sdb_model.specs.Reads.{access_by, access_for, access_of, all_fixed, fixed, is_equals, joined}
 use Rattle.sdb_reading.specs.OneLine.{ValueHasNoLf}
 use Rattle.law_runs.proofs.Lists.{filter_all, find_all, insert_all, map_all, option_so, take_all}
 use Rattle.law_runs.proofs.Clear.{AreClear, ColumnsClear, KeyClear, RecordClear, column_clear, column_set}

@@ -9,7 +9,7 @@ use Rattle.sdb_model.specs.declared.statement.Statement.TheVariants as statement
 use Rattle.sdb_model.specs.Exec.{named_table}
 use Rattle.sdb_model.specs.Refused.{refusal_by, refusal_of}
 use Rattle.sdb_exec.specs.Plans.{Planned}
-use Rattle.sdb_exec.specs.Reads.{access_of}
+use Rattle.sdb_model.specs.Reads.{access_of}
 use Rattle.sdb_txn.specs.Txn.{TxnAt, committing, reading}
 use Rattle.sdb_vacuum.specs.Vacuum.{begun as sweeping}
 use Rattle.sdb_client.specs.Client.{AskPost, BeginPost, ClientAt, CommitStartPost, GatePost, RollbackPost, ParsedPost, StatementPost, TablePost, Taking, VacuumStartPost, holding, is_covered, plan_of, TextStep}

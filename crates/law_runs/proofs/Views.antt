@@ -1,12 +1,14 @@
 -- A view with what a statement found agrees with what its client then sees.
 use Rattle.std.proofs.Common.{◌≡◌, Bool, true, false, cond, List, [], ◌∷◌, ◌++◌, map, Option, Some, None, refl, sym, ap, ◌∙◌}
-use Rattle.std.specs.Prelude.{◌||◌, if◌then◌else◌, filter, is_some, slice_get}
+use Rattle.std.specs.Prelude.{◌||◌, if◌then◌else◌, filter, is_some, not, slice_get}
 use Rattle.std.specs.FinMap.{get, get-insert, get-remove, same_map}
-use Rattle.std.specs.List.{AllByRecursion, cons_option, filter_map, flat_map}
+use Rattle.std.specs.List.{AllByRecursion, cons_option, filter_map, flat_map, list_any}
 use Rattle.std.specs.Option.{option_map}
 use Rattle.std.proofs.lemmas.List.{append-nil}
 use Rattle.std.proofs.lemmas.List.Folds.{list_any-append}
 use Rattle.sdb_types.specs.declared.key.Key.{Key}
+use Rattle.sdb_schema.specs.declared.table.Table.{Table}
+use Rattle.sdb_exec.proofs.Laid.{sieved_at}
 use Rattle.sdb_types.specs.declared.pair.Pair.{Pair}
 use Rattle.sdb_types.specs.declared.record.Record.{Record}
 use Rattle.sdb_types.specs.declared.record.Reply.{Reply}
@@ -32,21 +34,34 @@ use Rattle.sdb_snapshot.specs.Seen.{Seen, row_seen, row_with, tables_seen}
 use Rattle.sdb_snapshot.proofs.Shown.{get_seen}
 use Rattle.sdb_txn.specs.Txn.{TxnAt}
 use Rattle.sdb_client.specs.Client.{with_rows_read}
+use Rattle.law_clients.specs.Fitting.{row_is_well_typed}
 use Rattle.law_clients.proofs.InTables.{access_table}
 use Rattle.law_answers.specs.Changes.{HasRead, IsRows, IsSettledAs}
 use Rattle.law_answers.proofs.ReadSteps.{IsDataTable}
 use Rattle.law_answers.proofs.Settling.{data_read, settled_means}
 use Rattle.law_answers.proofs.Unfit.{at_note, found_new, noted_now, same_writes}
-use Rattle.law_runs.specs.Found.{View, found_by, found_in, has_found, with_found, with_one_found}
+use Rattle.law_answers.specs.Unfit.{fits_catalog, fitting_part}
+use Rattle.law_answers.proofs.Fitting.{get_fitting}
+use Rattle.law_runs.specs.Found.{View, found_by, found_in, has_found, is_misfit_row, with_found, with_one_found}
 use Rattle.law_answers.proofs.ShowsRead.{unwritten}
 
 ---- a view with what was found
 
 -- by what was found at a key before, and now
-abbrev laid : Bool → Option (Option Record) → Option (List Pair) → Option (List Pair)
-laid true now row = row
-laid false None row = row
-laid false (Some found) row = row_found found
+abbrev laid : List Table → Key → Bool → Option (Option Record) → Option (List Pair) → Option (List Pair)
+laid catalog q true now row = row
+laid catalog q false None row = row
+laid catalog q false (Some found) row = if is_misfit_row catalog q (row_found found) then row else row_found found
+
+-- whether the row there doesn't fit
+abbrev laid_misfit : List Table → Key → Bool → Option (Option Record) → Bool → Bool
+laid_misfit catalog q true now misfit = misfit
+laid_misfit catalog q false None misfit = misfit
+laid_misfit catalog q false (Some found) misfit = misfit || is_misfit_row catalog q (row_found found)
+
+-- the row found at a key doesn't fit
+abbrev pub has_misfit : View → Key → Bool
+has_misfit v q = list_any (same_key q) v.misfits
 
 get_row : (d : Tables) (k : Key) (o : Option (List Pair)) (q : Key) → get (with_row d k o) q ≡ cond (same_key q k) o (get d q)
 get_row d k None q = get-remove key_total d k q ∙ ap (λ b. cond b None (get d q)) (sym (same_key_is q k))
@@ -56,49 +71,107 @@ has_same : (v : View) (k q : Key) → same_key q k ≡ true → has_found v q �
 has_same v k q e = ap (has_found v) (same_key_exact q k e)
 
 -- one thing that was found
-one_found : (v : View) (k : Key) (o : Option Record) (q : Key) → has_found (with_one_found v (k, o)) q ≡ (has_found v q || same_key q k)
-one_found v k o q = by (has_found v k) (same_key q k) refl refl
-  where
-    by : (b t : Bool) → has_found v k ≡ b → same_key q k ≡ t → has_found (if b then v else record { keys = v.keys ++ k ∷ []; rows = with_row v.rows k (row_found o) }) q ≡ (has_found v q || t)
-    by true true e f = has_same v k q f ∙ e ∙ sym (ap (λ x. x || true) (has_same v k q f ∙ e))
-    by true false e f = sym (or_false (has_found v q))
-    by false t e f = list_any-append (same_key q) v.keys (k ∷ []) ∙ ap (λ x. has_found v q || (x || false)) f ∙ ap (λ x. has_found v q || x) (or_false t)
+module _ (catalog : List Table) (v : View) (k : Key) (o : Option Record) (q : Key) where
+  -- a view with it, where its key is new
+  abbrev with_new : Bool → View
+  with_new m = if m then record { keys = v.keys ++ k ∷ []; misfits = v.misfits ++ k ∷ []; rows = v.rows } else record { keys = v.keys ++ k ∷ []; misfits = v.misfits; rows = with_row v.rows k (row_found o) }
 
-one_row_found : (v : View) (k : Key) (o : Option Record) (q : Key) → get (with_one_found v (k, o)).rows q ≡ laid (has_found v q) (cond (same_key q k) (Some o) None) (get v.rows q)
-one_row_found v k o q = by (has_found v k) (same_key q k) refl refl
-  where
-    same : (x : Bool) → laid x None (get v.rows q) ≡ get v.rows q
-    same true = refl
-    same false = refl
+  one_found : has_found (with_one_found catalog v (k, o)) q ≡ (has_found v q || same_key q k)
+  one_found = by (has_found v k) (is_misfit_row catalog k (row_found o)) (same_key q k) refl refl
+    where
+      key_new : (t : Bool) → same_key q k ≡ t → list_any (same_key q) (v.keys ++ k ∷ []) ≡ (has_found v q || t)
+      key_new t f = list_any-append (same_key q) v.keys (k ∷ []) ∙ ap (λ x. has_found v q || (x || false)) f ∙ ap (λ x. has_found v q || x) (or_false t)
 
-    by : (b t : Bool) → has_found v k ≡ b → same_key q k ≡ t → get (if b then v else record { keys = v.keys ++ k ∷ []; rows = with_row v.rows k (row_found o) }).rows q ≡ laid (has_found v q) (cond t (Some o) None) (get v.rows q)
-    by true true e f = sym (ap (λ x. laid x (Some o) (get v.rows q)) (has_same v k q f ∙ e))
-    by true false e f = sym (same (has_found v q))
-    by false true e f = get_row v.rows k (row_found o) q ∙ ap (λ x. cond x (row_found o) (get v.rows q)) f ∙ sym (ap (λ x. laid x (Some o) (get v.rows q)) (has_same v k q f ∙ e))
-    by false false e f = get_row v.rows k (row_found o) q ∙ ap (λ x. cond x (row_found o) (get v.rows q)) f ∙ sym (same (has_found v q))
+      by : (b m t : Bool) → has_found v k ≡ b → same_key q k ≡ t → has_found (if b then v else with_new m) q ≡ (has_found v q || t)
+      by true m true e f = has_same v k q f ∙ e ∙ sym (ap (λ x. x || true) (has_same v k q f ∙ e))
+      by true m false e f = sym (or_false (has_found v q))
+      by false true t e f = key_new t f
+      by false false t e f = key_new t f
+
+  one_row_found : get (with_one_found catalog v (k, o)).rows q ≡ laid catalog q (has_found v q) (cond (same_key q k) (Some o) None) (get v.rows q)
+  one_row_found = by (has_found v k) (is_misfit_row catalog k (row_found o)) (same_key q k) refl refl refl
+    where
+      same : (x : Bool) → laid catalog q x None (get v.rows q) ≡ get v.rows q
+      same true = refl
+      same false = refl
+
+      -- what was found now is there
+      now : (m : Bool) → has_found v k ≡ false → is_misfit_row catalog k (row_found o) ≡ m → same_key q k ≡ true → laid catalog q (has_found v q) (Some o) (get v.rows q) ≡ (if m then get v.rows q else row_found o)
+      now m e g f = ap (λ x. laid catalog q x (Some o) (get v.rows q)) (has_same v k q f ∙ e) ∙ ap (λ y. if y then get v.rows q else row_found o) (ap (λ (z : Key). is_misfit_row catalog z (row_found o)) (same_key_exact q k f) ∙ g)
+
+      by : (b m t : Bool) → has_found v k ≡ b → is_misfit_row catalog k (row_found o) ≡ m → same_key q k ≡ t → get (if b then v else with_new m).rows q ≡ laid catalog q (has_found v q) (cond t (Some o) None) (get v.rows q)
+      by true m true e g f = sym (ap (λ x. laid catalog q x (Some o) (get v.rows q)) (has_same v k q f ∙ e))
+      by true m false e g f = sym (same (has_found v q))
+      by false true true e g f = sym (now true e g f)
+      by false true false e g f = sym (same (has_found v q))
+      by false false true e g f = get_row v.rows k (row_found o) q ∙ ap (λ x. cond x (row_found o) (get v.rows q)) f ∙ sym (now false e g f)
+      by false false false e g f = get_row v.rows k (row_found o) q ∙ ap (λ x. cond x (row_found o) (get v.rows q)) f ∙ sym (same (has_found v q))
+
+  one_misfit : has_misfit (with_one_found catalog v (k, o)) q ≡ laid_misfit catalog q (has_found v q) (cond (same_key q k) (Some o) None) (has_misfit v q)
+  one_misfit = by (has_found v k) (is_misfit_row catalog k (row_found o)) (same_key q k) refl refl refl
+    where
+      same : (x : Bool) → laid_misfit catalog q x None (has_misfit v q) ≡ has_misfit v q
+      same true = refl
+      same false = refl
+
+      now : (m : Bool) → has_found v k ≡ false → is_misfit_row catalog k (row_found o) ≡ m → same_key q k ≡ true → laid_misfit catalog q (has_found v q) (Some o) (has_misfit v q) ≡ (has_misfit v q || m)
+      now m e g f = ap (λ x. laid_misfit catalog q x (Some o) (has_misfit v q)) (has_same v k q f ∙ e) ∙ ap (λ y. has_misfit v q || y) (ap (λ (z : Key). is_misfit_row catalog z (row_found o)) (same_key_exact q k f) ∙ g)
+
+      more : (t : Bool) → same_key q k ≡ t → list_any (same_key q) (v.misfits ++ k ∷ []) ≡ (has_misfit v q || t)
+      more t f = list_any-append (same_key q) v.misfits (k ∷ []) ∙ ap (λ x. has_misfit v q || (x || false)) f ∙ ap (λ x. has_misfit v q || x) (or_false t)
+
+      by : (b m t : Bool) → has_found v k ≡ b → is_misfit_row catalog k (row_found o) ≡ m → same_key q k ≡ t → has_misfit (if b then v else with_new m) q ≡ laid_misfit catalog q (has_found v q) (cond t (Some o) None) (has_misfit v q)
+      by true m true e g f = sym (ap (λ x. laid_misfit catalog q x (Some o) (has_misfit v q)) (has_same v k q f ∙ e))
+      by true m false e g f = sym (same (has_found v q))
+      by false true true e g f = more true f ∙ sym (now true e g f)
+      by false true false e g f = more false f ∙ or_false (has_misfit v q) ∙ sym (same (has_found v q))
+      by false false true e g f = sym (or_false (has_misfit v q)) ∙ sym (now false e g f)
+      by false false false e g f = sym (same (has_found v q))
+
+-- what a view with some things that were found has at a key
+pub record IsFoundAt (catalog : List Table) (v : View) (fs : List (Key × Option Record)) (q : Key) : Type 0 where
+  pub keys : has_found (with_found catalog v fs) q ≡ (has_found v q || is_some (value_at fs q))
+  pub rows : get (with_found catalog v fs).rows q ≡ laid catalog q (has_found v q) (value_at fs q) (get v.rows q)
+  pub misfits : has_misfit (with_found catalog v fs) q ≡ laid_misfit catalog q (has_found v q) (value_at fs q) (has_misfit v q)
 
 -- all that a statement found
-pub all_found : (v : View) (fs : List (Key × Option Record)) (q : Key) → (has_found (with_found v fs) q ≡ (has_found v q || is_some (value_at fs q))) × (get (with_found v fs).rows q ≡ laid (has_found v q) (value_at fs q) (get v.rows q))
-all_found v [] q = (sym (or_false (has_found v q)), same (has_found v q))
+pub all_found : (catalog : List Table) (v : View) (fs : List (Key × Option Record)) (q : Key) → IsFoundAt catalog v fs q
+all_found catalog v [] q = record { keys = sym (or_false (has_found v q)); rows = row (has_found v q); misfits = misfit (has_found v q) }
   where
-    same : (x : Bool) → get v.rows q ≡ laid x None (get v.rows q)
-    same true = refl
-    same false = refl
-all_found v (e ∷ fs) q =
-    let ih = all_found (with_one_found v e) fs q in (
-      ih.0 ∙ ap (λ x. x || is_some (value_at fs q)) (one_found v e.0 e.1 q) ∙ has (has_found v q) (same_key q e.0) (value_at fs q),
-      ih.1 ∙ ap (λ x. laid x (value_at fs q) (get (with_one_found v e).rows q)) (one_found v e.0 e.1 q) ∙ ap (laid (has_found v q || same_key q e.0) (value_at fs q)) (one_row_found v e.0 e.1 q) ∙ row (has_found v q) (same_key q e.0) (value_at fs q),
-    )
+    row : (x : Bool) → get v.rows q ≡ laid catalog q x None (get v.rows q)
+    row true = refl
+    row false = refl
+
+    misfit : (x : Bool) → has_misfit v q ≡ laid_misfit catalog q x None (has_misfit v q)
+    misfit true = refl
+    misfit false = refl
+all_found catalog v (e ∷ fs) q =
+    let w = with_one_found catalog v e in
+    let ih = all_found catalog w fs q in
+    record {
+      keys = ih.keys ∙ ap (λ x. x || is_some (value_at fs q)) (one_found catalog v e.0 e.1 q) ∙ has (has_found v q) (same_key q e.0) (value_at fs q);
+      rows =
+          ih.rows ∙ ap (λ x. laid catalog q x (value_at fs q) (get w.rows q)) (one_found catalog v e.0 e.1 q) ∙ ap (laid catalog q (has_found v q || same_key q e.0) (value_at fs q)) (one_row_found catalog v e.0 e.1 q)
+          ∙ row (has_found v q) (same_key q e.0) (value_at fs q);
+      misfits =
+          ih.misfits ∙ ap (λ x. laid_misfit catalog q x (value_at fs q) (has_misfit w q)) (one_found catalog v e.0 e.1 q) ∙ ap (laid_misfit catalog q (has_found v q || same_key q e.0) (value_at fs q)) (one_misfit catalog v e.0 e.1 q)
+          ∙ misfit (has_found v q) (same_key q e.0) (value_at fs q);
+    }
   where
     has : (b t : Bool) (o : Option (Option Record)) → ((b || t) || is_some o) ≡ (b || is_some (cond t (Some e.1) o))
     has true t o = refl
     has false true o = refl
     has false false o = refl
 
-    row : (b t : Bool) (o : Option (Option Record)) → laid (b || t) o (laid b (cond t (Some e.1) None) (get v.rows q)) ≡ laid b (cond t (Some e.1) o) (get v.rows q)
+    row : (b t : Bool) (o : Option (Option Record)) → laid catalog q (b || t) o (laid catalog q b (cond t (Some e.1) None) (get v.rows q)) ≡ laid catalog q b (cond t (Some e.1) o) (get v.rows q)
     row true t o = refl
     row false true o = refl
     row false false o = refl
+
+    misfit : (b t : Bool) (o : Option (Option Record)) → laid_misfit catalog q (b || t) o (laid_misfit catalog q b (cond t (Some e.1) None) (has_misfit v q)) ≡ laid_misfit catalog q b (cond t (Some e.1) o) (has_misfit v q)
+    misfit true t o = refl
+    misfit false true o = refl
+    misfit false false o = refl
 
 ---- what the calls of a read found
 
@@ -150,35 +223,80 @@ module _ (calls : List StoreCall) where
 
 ---- what a client sees
 
--- A view is what a transaction has read and written: something was found at the keys that were read, and the rows are those that it sees.
-pub record IsViewOf (v : View) (s : Seen) : Type 0 where
+-- A view is what a transaction has read and written: something was found at the keys that were read, its rows are those that the transaction
+-- sees and that fit, and its misfits are the keys of the others.
+pub record IsViewOf (catalog : List Table) (v : View) (s : Seen) : Type 0 where
   pub keys : (q : Key) → has_found v q ≡ is_key_read s.read_set q
-  pub rows : (q : Key) → get v.rows q ≡ row_seen s.read_set s.writes q
+  pub rows : (q : Key) → get v.rows q ≡ sieved_at (fits_catalog catalog) q (row_seen s.read_set s.writes q)
+  pub misfits : (q : Key) → has_misfit v q ≡ is_misfit_row catalog q (row_seen s.read_set s.writes q)
 
--- its rows are the tables that it sees
-pub view_tables : (v : View) (s : Seen) → IsViewOf v s → v.rows ≡ tables_seen s
-view_tables v s h = same_map key_total key_exact v.rows (tables_seen s) (λ q. h.rows q ∙ sym (get_seen s.read_set s.writes q))
+-- its rows are the part that fits of the tables that it sees
+pub view_tables : (catalog : List Table) (v : View) (s : Seen) → IsViewOf catalog v s → v.rows ≡ fitting_part catalog (tables_seen s)
+view_tables catalog v s h =
+    same_map key_total key_exact v.rows (fitting_part catalog (tables_seen s)) (λ q. h.rows q ∙ ap (sieved_at (fits_catalog catalog) q) (sym (get_seen s.read_set s.writes q)) ∙ sym (get_fitting catalog (tables_seen s) q))
 
--- A view with what a read found is what the transaction has then read.
-pub view_found : (v : View) (t : TxnAt) (a : Access) (images : List Record) (fs : List (Key × Option Record)) → IsViewOf v t.seen → WereRead t.seen.read_set t.seen.writes → ((q : Key) → value_at fs q ≡ found_new a images q) → IsViewOf (with_found v fs) (with_rows_read t a images).seen
-view_found v t a images fs h kept found = record { keys = keys; rows = rows }
+-- a row that doesn't fit is sieved out
+sieved_row : (catalog : List Table) (q : Key) (o : Option (List Pair)) → (if is_misfit_row catalog q o then None else o) ≡ sieved_at (fits_catalog catalog) q o
+sieved_row catalog q None = refl
+sieved_row catalog q (Some cs) = by (row_is_well_typed catalog q cs)
   where
-    keys : (q : Key) → has_found (with_found v fs) q ≡ is_key_read (with_rows_read t a images).seen.read_set q
-    keys q =
-        (all_found v fs q).0 ∙ ap (λ x. x || is_some (value_at fs q)) (h.keys q) ∙ ap (λ o. is_key_read t.seen.read_set q || is_some o) (found q)
-        ∙ either (value_at t.seen.read_set q) (found_new a images q) ∙ sym (ap is_some (noted_now t a images q))
-      where
-        either : (x y : Option (Option Record)) → (is_some x || is_some y) ≡ is_some (or_else x y)
-        either None y = refl
-        either (Some x) y = refl
+    by : (b : Bool) → (if not b then None else Some cs) ≡ cond b (Some cs) None
+    by true = refl
+    by false = refl
 
-    rows : (q : Key) → get (with_found v fs).rows q ≡ row_seen (with_rows_read t a images).seen.read_set (with_rows_read t a images).seen.writes q
-    rows q =
-        (all_found v fs q).1 ∙ ap (λ x. laid x (value_at fs q) (get v.rows q)) (h.keys q) ∙ ap (λ o. laid (is_key_read t.seen.read_set q) o (get v.rows q)) (found q) ∙ ap (laid (is_key_read t.seen.read_set q) (found_new a images q)) (h.rows q)
-        ∙ by (value_at t.seen.read_set q) (found_new a images q) refl
-        ∙ sym (ap (λ ws. row_with (write_among ws q) (at_note (value_at (with_rows_read t a images).seen.read_set q))) (same_writes t a images) ∙ ap (λ x. row_with (write_among t.seen.writes q) (at_note x)) (noted_now t a images q))
-      where
-        by : (x y : Option (Option Record)) → value_at t.seen.read_set q ≡ x → laid (is_some x) y (row_with (write_among t.seen.writes q) (at_note x)) ≡ row_with (write_among t.seen.writes q) (at_note (or_else x y))
-        by (Some x) y e = refl
-        by None None e = refl
-        by None (Some o) e = sym (ap (λ w. row_with w o) (unwritten t.seen q kept (ap is_some e)))
+---- what a read adds
+
+module _ (catalog : List Table) (v : View) (t : TxnAt) (a : Access) (images : List Record) (fs : List (Key × Option Record)) (h : IsViewOf catalog v t.seen) (kept : WereRead t.seen.read_set t.seen.writes) (found : (q : Key) → value_at fs q ≡ found_new a images q) where
+  abbrev now : Seen
+  now = (with_rows_read t a images).seen
+
+  -- the row that is seen at a key, by what was read there
+  abbrev row_by : Key → Option (Option Record) → Option (List Pair)
+  row_by q x = row_with (write_among t.seen.writes q) (at_note x)
+
+  row_now : (q : Key) → row_seen now.read_set now.writes q ≡ row_by q (or_else (value_at t.seen.read_set q) (found_new a images q))
+  row_now q = ap (λ ws. row_with (write_among ws q) (at_note (value_at now.read_set q))) (same_writes t a images) ∙ ap (row_by q) (noted_now t a images q)
+
+  -- nothing was written where nothing was read
+  none_written : (q : Key) → value_at t.seen.read_set q ≡ None → write_among t.seen.writes q ≡ None
+  none_written q e = unwritten t.seen q kept (ap is_some e)
+
+  keys_now : (q : Key) → has_found (with_found catalog v fs) q ≡ is_key_read now.read_set q
+  keys_now q =
+      (all_found catalog v fs q).keys ∙ ap (λ x. x || is_some (value_at fs q)) (h.keys q) ∙ ap (λ o. is_key_read t.seen.read_set q || is_some o) (found q)
+      ∙ either (value_at t.seen.read_set q) (found_new a images q) ∙ sym (ap is_some (noted_now t a images q))
+    where
+      either : (x y : Option (Option Record)) → (is_some x || is_some y) ≡ is_some (or_else x y)
+      either None y = refl
+      either (Some x) y = refl
+
+  rows_now : (q : Key) → get (with_found catalog v fs).rows q ≡ sieved_at (fits_catalog catalog) q (row_seen now.read_set now.writes q)
+  rows_now q =
+      (all_found catalog v fs q).rows ∙ ap (λ x. laid catalog q x (value_at fs q) (get v.rows q)) (h.keys q) ∙ ap (λ o. laid catalog q (is_key_read t.seen.read_set q) o (get v.rows q)) (found q)
+      ∙ ap (laid catalog q (is_key_read t.seen.read_set q) (found_new a images q)) (h.rows q)
+      ∙ by (value_at t.seen.read_set q) (found_new a images q) refl
+      ∙ sym (ap (sieved_at (fits_catalog catalog) q) (row_now q))
+    where
+      by : (x y : Option (Option Record)) → value_at t.seen.read_set q ≡ x → laid catalog q (is_some x) y (sieved_at (fits_catalog catalog) q (row_by q x)) ≡ sieved_at (fits_catalog catalog) q (row_by q (or_else x y))
+      by (Some x) y e = refl
+      by None None e = refl
+      by None (Some o) e =
+          ap (λ w. if is_misfit_row catalog q (row_found o) then sieved_at (fits_catalog catalog) q (row_with w None) else row_found o) (none_written q e)
+          ∙ sieved_row catalog q (row_found o)
+          ∙ sym (ap (λ w. sieved_at (fits_catalog catalog) q (row_with w o)) (none_written q e))
+
+  misfits_now : (q : Key) → has_misfit (with_found catalog v fs) q ≡ is_misfit_row catalog q (row_seen now.read_set now.writes q)
+  misfits_now q =
+      (all_found catalog v fs q).misfits ∙ ap (λ x. laid_misfit catalog q x (value_at fs q) (has_misfit v q)) (h.keys q) ∙ ap (λ o. laid_misfit catalog q (is_key_read t.seen.read_set q) o (has_misfit v q)) (found q)
+      ∙ ap (laid_misfit catalog q (is_key_read t.seen.read_set q) (found_new a images q)) (h.misfits q)
+      ∙ by (value_at t.seen.read_set q) (found_new a images q) refl
+      ∙ sym (ap (is_misfit_row catalog q) (row_now q))
+    where
+      by : (x y : Option (Option Record)) → value_at t.seen.read_set q ≡ x → laid_misfit catalog q (is_some x) y (is_misfit_row catalog q (row_by q x)) ≡ is_misfit_row catalog q (row_by q (or_else x y))
+      by (Some x) y e = refl
+      by None None e = refl
+      by None (Some o) e = ap (λ w. is_misfit_row catalog q (row_with w None) || is_misfit_row catalog q (row_found o)) (none_written q e) ∙ sym (ap (λ w. is_misfit_row catalog q (row_with w o)) (none_written q e))
+
+  -- A view with what a read found is what the transaction has then read.
+  pub view_found : IsViewOf catalog (with_found catalog v fs) now
+  view_found = record { keys = keys_now; rows = rows_now; misfits = misfits_now }

@@ -20,12 +20,12 @@ write_keys ws = map (λ w. w.key) ws
 -- with one statement more
 pub written_more : (catalog : List Table) (events : List Event) (c : ℕ) (xs : List Executed) (os : List (Option Statement)) (z : Executed) (o : Option Statement) (v : View) (ks : List Key) → AllRunAs xs os
     → written_on_found catalog (finds events c (xs ++ z ∷ [])) (os ++ o ∷ []) v ks
-    ≡ with_keys (written_on_found catalog (finds events c xs) os v ks) (keys_by catalog o (with_found (run_on_found catalog (finds events c xs) os v).1 (found_by (calls_of events c z))).rows)
+    ≡ with_keys (written_on_found catalog (finds events c xs) os v ks) (keys_by catalog o (with_found catalog (run_on_found catalog (finds events c xs) os v).1 (found_by (calls_of events c z))).rows)
 written_more catalog events c [] [] z o v ks run = refl
 written_more catalog events c [] (y ∷ ys) z o v ks run = absurd run
 written_more catalog events c (x ∷ xs) [] z o v ks run = absurd run
 written_more catalog events c (x ∷ xs) (y ∷ ys) z o v ks run =
-    let found = with_found v (found_by (calls_of events c x)) in
+    let found = with_found catalog v (found_by (calls_of events c x)) in
     written_more catalog events c xs ys z o (run_one catalog y found).1 (with_keys ks (keys_by catalog y found.rows)) run.1
 
 -- a statement runs as one statement only

@@ -16,7 +16,7 @@ use Rattle.law_answers.proofs.Lists.{each_kept, since_more, since_none}
 use Rattle.law_answers.proofs.Noting.{each_left, each_middle, since_all}
 use Rattle.law_runs.specs.Found.{AllRunAs, is_answered, nothing_found, takes_part}
 use Rattle.law_runs.specs.Written.{PreparesAll, keys_of, written_on_found}
-use Rattle.law_runs.proofs.Running.{each_taken, finds_stay, goes_on, running, running_of}
+use Rattle.law_runs.proofs.Running.{each_taken, finds_stay, goes_on, running, running_of, running_stays}
 use Rattle.law_runs.proofs.Statements.{none_in}
 
 -- the calls of a COMMIT prepare what statements wrote
@@ -32,11 +32,11 @@ pub record EndsAs (told : List Executed) (n : ℕ) (body : List Executed) (s : E
   pub commits : reads_commit s.text ≡ true
 
 abbrev pub CommitsWrote : List Table → List Event → ℕ → List Executed → Type 0
-CommitsWrote catalog events c told = (n : ℕ) (body : List Executed) (s : Executed) → EndsAs told n body s → CommitWrote catalog events c (running body) (id_of c n) (calls_of events c s)
+CommitsWrote catalog events c told = (n : ℕ) (body : List Executed) (s : Executed) → EndsAs told n body s → CommitWrote catalog events c (running events c body) (id_of c n) (calls_of events c s)
 
 -- so does the last statement, where it is the COMMIT of the open transaction
 abbrev pub LastWrote : List Table → List Event → ℕ → List Executed → Executed → Type 0
-LastWrote catalog events c told z = reads_commit z.text ≡ true → open_after told ≡ true → CommitWrote catalog events c (running_of (begun_in told) told) (id_of c (begun_in told)) (calls_of events c z)
+LastWrote catalog events c told z = reads_commit z.text ≡ true → open_after told ≡ true → CommitWrote catalog events c (running_of events c (begun_in told) told) (id_of c (begun_in told)) (calls_of events c z)
 
 -- a COMMIT without a call
 pub none_wrote : (catalog : List Table) (events : List Event) (c : ℕ) (ss : List Executed) (id : TxId) (calls : List StoreCall) → calls ≡ [] → CommitWrote catalog events c ss id calls
@@ -47,10 +47,13 @@ pub commits_still : (catalog : List Table) (events : List Event) (e : Event) (c 
 commits_still catalog events e c told all k n body s x statements read =
     let whole : AllByRecursion (IsAnswered catalog events c) (body ++ s ∷ x.tail) = since_all (IsAnswered catalog events c) n told x.begin (body ++ s ∷ x.tail) all x.since in
     let here : IsAnswered catalog events c s = each_middle (IsAnswered catalog events c) body x.tail s whole in
-    let ran : AllByRecursion (IsAnswered catalog events c) (running body) =
-    each_kept (IsAnswered catalog events c) is_answered _ (each_kept (IsAnswered catalog events c) takes_part _ (each_taken (IsAnswered catalog events c) goes_on body (each_left (IsAnswered catalog events c) body (s ∷ x.tail) whole))) in
-    subst (λ ks. PreparesAll ks (id_of c n) (calls_of (events ++ e ∷ []) c s)) (ap (λ fs. written_on_found catalog fs statements nothing_found []) (sym (finds_stay catalog events e c (running body) ran)))
-    (subst (PreparesAll (keys_of catalog events c (running body) statements) (id_of c n)) (sym (calls_stay c events e s here.given here.is here.answered)) (k n body s x statements read))
+    let front : AllByRecursion (IsAnswered catalog events c) body = each_left (IsAnswered catalog events c) body (s ∷ x.tail) whole in
+    let ran : AllByRecursion (IsAnswered catalog events c) (running events c body) =
+    each_kept (IsAnswered catalog events c) is_answered _ (each_kept (IsAnswered catalog events c) (takes_part events c) _ (each_taken (IsAnswered catalog events c) goes_on body front)) in
+    let same : running (events ++ e ∷ []) c body ≡ running events c body = running_stays catalog events e c body front in
+    subst (λ ks. PreparesAll ks (id_of c n) (calls_of (events ++ e ∷ []) c s))
+    (ap (λ fs. written_on_found catalog fs statements nothing_found []) (sym (finds_stay catalog events e c (running events c body) ran)) ∙ ap (λ ss. keys_of catalog (events ++ e ∷ []) c ss statements) (sym same))
+    (subst (PreparesAll (keys_of catalog events c (running events c body) statements) (id_of c n)) (sym (calls_stay c events e s here.given here.is here.answered)) (k n body s x statements (subst (λ ss. AllRunAs ss statements) same read)))
 
 -- with one statement more
 pub commits_more : (catalog : List Table) (events : List Event) (c : ℕ) (told : List Executed) (z : Executed) → ArePaired false told → CommitsWrote catalog events c told → LastWrote catalog events c told z → CommitsWrote catalog events c (told ++ z ∷ [])
@@ -60,17 +63,17 @@ commits_more catalog events c told z pairs k last n body s x = by (from_begin n 
     none [] h = absurd (cc)
     none (w ∷ ys) h = absurd (cc)
 
-    here : (b : Executed) (r : List Executed) → from_begin n told ≡ b ∷ r → ((r ≡ body) × (z ≡ s)) ⊎ ((front : List Executed) × (r ≡ body ++ s ∷ front)) → CommitWrote catalog events c (running body) (id_of c n) (calls_of events c s)
+    here : (b : Executed) (r : List Executed) → from_begin n told ≡ b ∷ r → ((r ≡ body) × (z ≡ s)) ⊎ ((front : List Executed) × (r ≡ body ++ s ∷ front)) → CommitWrote catalog events c (running events c body) (id_of c n) (calls_of events c s)
     here b r e (inr h) = k n body s (record { begin = b; tail = h.0; since = e ∙ ap (λ y. b ∷ y) h.1; opens = x.opens; commits = x.commits })
     here b r e (inl h) =
         let from : from_begin n told ≡ b ∷ body = e ∙ ap (λ y. b ∷ y) h.0 in
         let only = open_only n told false b body pairs from x.opens in
-        let ran : running_of (begun_in told) told ≡ running body = ap (λ i. running_of i told) (sym only.0) ∙ ap (λ y. running (rest_of y)) from in
-        subst (λ (y : Executed). CommitWrote catalog events c (running body) (id_of c n) (calls_of events c y)) h.1
-        (subst (λ i. CommitWrote catalog events c (running body) (id_of c i) (calls_of events c z)) (sym only.0)
+        let ran : running_of events c (begun_in told) told ≡ running events c body = ap (λ i. running_of events c i told) (sym only.0) ∙ ap (λ y. running events c (rest_of y)) from in
+        subst (λ (y : Executed). CommitWrote catalog events c (running events c body) (id_of c n) (calls_of events c y)) h.1
+        (subst (λ i. CommitWrote catalog events c (running events c body) (id_of c i) (calls_of events c z)) (sym only.0)
         (subst (λ ss. CommitWrote catalog events c ss (id_of c (begun_in told)) (calls_of events c z)) ran (last (ap (λ (y : Executed). reads_commit y.text) h.1 ∙ x.commits) only.1)))
 
-    by : (r : List Executed) → from_begin n told ≡ r → CommitWrote catalog events c (running body) (id_of c n) (calls_of events c s)
+    by : (r : List Executed) → from_begin n told ≡ r → CommitWrote catalog events c (running events c body) (id_of c n) (calls_of events c s)
     by [] e = absurd (none body (sym (ap rest_of x.since) ∙ since_none n told z e))
     by (b ∷ r) e =
         let whole : b ∷ (r ++ z ∷ []) ≡ x.begin ∷ (body ++ s ∷ x.tail) = sym (since_more n told z b r e) ∙ x.since in

@@ -68,9 +68,9 @@ commit_is (Some x) s h = test (reads_commit x.text) refl h
     test false t z = none_some s z
 
 -- those that run are those before it
-pub running_ended : (body : List Executed) (s : Executed) (tail : List Executed) → AllByRecursion (λ x. ends x ≡ false) body → ends s ≡ true → running (body ++ s ∷ tail) ≡ running body
-running_ended body s tail opens over =
-    ap (λ xs. filter is_answered (filter takes_part xs)) (take_open body (s ∷ tail) opens ∙ ap (λ xs. body ++ xs) (take_ends s tail over) ∙ sym (take_open body [] opens) ∙ ap (take_while goes_on) (append-nil body))
+pub running_ended : (events : List Event) (c : ℕ) (body : List Executed) (s : Executed) (tail : List Executed) → AllByRecursion (λ x. ends x ≡ false) body → ends s ≡ true → running events c (body ++ s ∷ tail) ≡ running events c body
+running_ended events c body s tail opens over =
+    ap (λ xs. filter is_answered (filter (takes_part events c) xs)) (take_open body (s ∷ tail) opens ∙ ap (λ xs. body ++ xs) (take_ends s tail over) ∙ sym (take_open body [] opens) ∙ ap (take_while goes_on) (append-nil body))
 
 module _ (script : Script) (events : List Event) (playable : IsPlayable script) (x : IsExecution script events) where
   abbrev catalog : List Table
@@ -90,7 +90,7 @@ module _ (script : Script) (events : List Event) (playable : IsPlayable script) 
     k = (execution_holds script events playable x).caused.each c
 
     abbrev Wrote : Executed → ℕ → Type 0
-    Wrote y n = CommitWrote catalog events c (running_of n k.told) (id_of c n) (calls_of events c y)
+    Wrote y n = CommitWrote catalog events c (running_of events c n k.told) (id_of c n) (calls_of events c y)
 
     -- the COMMIT that waits has prepared what was written
     waiting_wrote : (y : Executed) → k.waiting ≡ Some y → IsWaiting catalog events c (is_some h.vacuum) y → LastWrote catalog events c k.told y
@@ -99,10 +99,10 @@ module _ (script : Script) (events : List Event) (playable : IsPlayable script) 
         so : TxnPrepares h.txn (calls_of events c y)
         so = wait_so w WaitPrepares prepared c h refl k y waiting waits
 
-        sees : IfSome h.txn (SeesRun catalog events c (running_of h.begun k.told))
-        sees = subst (λ ss. IfSome h.txn (SeesRun catalog events c (running_of h.begun ss))) (answered_of_is catalog events c h k) (all_run script events playable x c).sees
+        sees : IfSome h.txn (SeesRun catalog events c (running_of events c h.begun k.told))
+        sees = subst (λ ss. IfSome h.txn (SeesRun catalog events c (running_of events c h.begun ss))) (answered_of_is catalog events c h k) (all_run script events playable x c).sees
 
-        by_doing : (t : TxnAt) (p : Option Planned) (d : Doing) → IsOpenAs c h.begun k.told t → IsDoing events c t p (Some y) d → DoingPrepares d (calls_of events c y) → SeesIn catalog events c (running_of h.begun k.told) t.seen d → Wrote y (begun_in k.told)
+        by_doing : (t : TxnAt) (p : Option Planned) (d : Doing) → IsOpenAs c h.begun k.told t → IsDoing events c t p (Some y) d → DoingPrepares d (calls_of events c y) → SeesIn catalog events c (running_of events c h.begun k.told) t.seen d → Wrote y (begun_in k.told)
         by_doing t p doing.Idle o i n s = absurd (none_is (sym i))
           where
             none_is : ◌≡◌ {A = Option Executed} None (Some y) → ⊥
@@ -114,7 +114,7 @@ module _ (script : Script) (events : List Event) (playable : IsPlayable script) 
             (λ statements read. subst (λ ks. PreparesAll ks (id_of c h.begun) (calls_of events c y)) (s statements read) (subst (λ (id : TxId). PreparesAll (write_keys z.work.writes) id (calls_of events c y)) (i.same ∙ o.id) n.sofar))
         by_doing t p doing.Over o i n s = absurd i
 
-        by_txn : (o : Option TxnAt) → DoingByHistory events c h.begun k.told (Some y) h.plan o → TxnPrepares o (calls_of events c y) → IfSome o (SeesRun catalog events c (running_of h.begun k.told)) → Wrote y (begun_in k.told)
+        by_txn : (o : Option TxnAt) → DoingByHistory events c h.begun k.told (Some y) h.plan o → TxnPrepares o (calls_of events c y) → IfSome o (SeesRun catalog events c (running_of events c h.begun k.told)) → Wrote y (begun_in k.told)
         by_txn None s n v = clash (sym opened ∙ s.1)
         by_txn (Some t) s n v = by_doing t h.plan t.doing s.1 s.2 n v
 
@@ -154,9 +154,10 @@ module _ (script : Script) (events : List Event) (playable : IsPlayable script) 
       by [] from z = none_some s (sym (ap (λ ss. find ends (rest_of ss)) from) ∙ z.0)
       by (b ∷ rest) from z =
           let f = end_found rest s (sym (ap (λ ss. find ends (rest_of ss)) from) ∙ z.0) in
-          let ran : running f.body ≡ answered_inside events id = sym (ap (λ ss. running (rest_of ss)) from ∙ ap running f.whole ∙ running_ended f.body s f.tail f.opens f.over) in
+          let ran : running events (client_of id) f.body ≡ answered_inside events id =
+          sym (ap (λ ss. running events (client_of id) (rest_of ss)) from ∙ ap (running events (client_of id)) f.whole ∙ running_ended events (client_of id) f.body s f.tail f.opens f.over) in
           subst (λ ss. CommitWrote catalog events (client_of id) ss id (calls_of events (client_of id) s)) ran
-          (subst (λ i. CommitWrote catalog events (client_of id) (running f.body) i (calls_of events (client_of id) s)) (id_again id)
+          (subst (λ i. CommitWrote catalog events (client_of id) (running events (client_of id) f.body) i (calls_of events (client_of id) s)) (id_again id)
           (all_wrote (client_of id) (ordinal_of id) f.body s (record { begin = b; tail = f.tail; since = from ∙ ap (λ ss. b ∷ ss) f.whole; opens = f.opens; commits = z.1 })))
 
   -- Each COMMIT prepares what was written.

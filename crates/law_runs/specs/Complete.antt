@@ -17,7 +17,7 @@ use Rattle.sdb_model.specs.declared.statement.Insert.{Insert}
 use Rattle.sdb_model.specs.declared.statement.Statement.{Statement}
 use Rattle.sdb_model.specs.declared.statement.Statement.TheVariants as statement
 use Rattle.sdb_model.specs.Calls.{StoreCall, calls_of, records_observed, records_read}
-use Rattle.sdb_model.specs.Causes.{HasChanged, IsBad, IsBusy, IsChecked, IsCommitOf, IsConflictAtScan, IsCounted, IsIn, IsMisfit, IsRebased, IsRejected, IsUnmet, MayPassMost, PutsRow, before, is_select}
+use Rattle.sdb_model.specs.Causes.{HasChanged, IsBad, IsBusy, IsChecked, IsCommitOf, IsConflictAtScan, IsCounted, IsIn, IsRebased, IsRejected, IsUnmet, MayPassMost, MeetsMisfit, PutsRow, before, is_select}
 use Rattle.sdb_model.specs.Counted.{IsPassedOver, IsResolved}
 use Rattle.sdb_model.specs.Exec.{table_of}
 use Rattle.sdb_model.specs.ReadSet.{ReadItem, read_set_of, reads_rows}
@@ -102,25 +102,16 @@ pub record IsOnTable (text : List ℕ) (st : Statement) : Type 0 where
   pub reads : Reads text st
   pub table : is_some (table_of st) ≡ true
 
--- A record that a call observed means a row that doesn't fit its table.
-pub record ReadsMisfit (catalog : List Table) (events : List Event) (client : ℕ) (s : Executed) (key : Key) : Type 0 where
-  pub call : StoreCall
-  pub found : Record
-  pub among : Contains (calls_of events client s) call
-  pub observed : Contains (records_observed call.reply) found
-  pub same : found.key ≡ key
-  pub misfit : IsMisfit catalog events client s call found
-
 -- It is answered as a statement of its kind is; or Conflict, where its scan differs from what its transaction had read; or Busy, where a
--- transaction whose record it read may still decide; or BadRecord, where a row that it read doesn't fit its table; or refused, where the
--- transaction might write too many keys; or it was out of memory.
+-- transaction whose record it read may still decide; or BadRecord, where a row that its transaction has read at a key of its access doesn't
+-- fit its table; or refused, where the transaction might write too many keys; or it was out of memory.
 abbrev pub StatementEnds : List Table → List Event → ℕ → Executed → Statement → Answer → Type 0
 StatementEnds catalog events client s st (answer.Rows rows) = is_select st ≡ true
 StatementEnds catalog events client s st (answer.Count n) = IsCounted events client s st n
 StatementEnds catalog events client s st (answer.Duplicate key) = (i : Insert) × (st ≡ statement.Insert i)
 StatementEnds catalog events client s st (answer.Conflict key found) = (id : TxId) × IsIn events client s id × IsConflictAtScan events client s id key found
 StatementEnds catalog events client s st (answer.Busy key id at) = IsBusy events client s key id at
-StatementEnds catalog events client s st (answer.BadRecord key) = ReadsMisfit catalog events client s key
+StatementEnds catalog events client s st (answer.BadRecord key) = MeetsMisfit catalog events client s key
 StatementEnds catalog events client s st (answer.Refused r) = (r.kind ≡ 15) × (r.place ≡ 0) × MayPassMost events client s
 StatementEnds catalog events client s st answer.NoMemory = Unit {0}
 StatementEnds catalog events client s st a = ⊥
@@ -151,7 +142,7 @@ pub record ReadsUnresolved (calls : List StoreCall) (m : StoreCall) (r : Record)
 -- a row that it read doesn't fit its table, or that it was out of memory.
 abbrev pub RecoveryEnds : List Table → List Event → ℕ → Executed → StoreCall → Record → Answer → Type 0
 RecoveryEnds catalog events client s m r (answer.Busy key id at) = IsBusy events client s key id at
-RecoveryEnds catalog events client s m r (answer.BadRecord key) = ReadsMisfit catalog events client s key
+RecoveryEnds catalog events client s m r (answer.BadRecord key) = MeetsMisfit catalog events client s key
 RecoveryEnds catalog events client s m r answer.NoMemory = Unit {0}
 RecoveryEnds catalog events client s m r a = IsResolved (calls_of events client s) m r ⊎ IsPassedOver events s (calls_of events client s) m r
 

@@ -8,8 +8,7 @@ use Rattle.sdb_types.specs.declared.record.State.TheVariants as state
 use Rattle.sdb_schema.specs.declared.table.Table.{Table}
 use Rattle.sdb_record.specs.declared.coordinator.Decided.{Decided}
 use Rattle.sdb_record.specs.Meta.{id_in, is_in}
-use Rattle.sdb_model.specs.ReadSet.{read_finished}
-use Rattle.sdb_model.specs.declared.answer.Answer.{Answer}
+use Rattle.sdb_model.specs.ReadSet.{has_read}
 use Rattle.sdb_model.specs.declared.event.Event.{Event}
 use Rattle.sdb_model.specs.Calls.{StoreCall, calls_of, decision_observed, end_of}
 use Rattle.sdb_model.specs.Explained.{IsTableKey, Observes}
@@ -34,9 +33,7 @@ FoundDecided events client s key = (m : StoreCall) (r : Record) → Contains (ca
 -- A statement of a client has finished its read, and is no VACUUM.
 pub record IsReader (events : List Event) (client : ℕ) (s : Executed) : Type 0 where
   pub among : Contains (statements_by client events) s
-  pub a : Answer
-  pub answer : s.answer ≡ Some a
-  pub finished : read_finished a ≡ true
+  pub finished : has_read events client s ≡ true
   pub no_vacuum : reads_vacuum s.text ≡ false
 
 -- Calls of such a statement showed a row at a key of a table.

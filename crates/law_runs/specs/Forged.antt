@@ -15,6 +15,7 @@ use Rattle.sdb_record.specs.declared.coordinator.Decision.TheVariants as decisio
 use Rattle.sdb_record.specs.declared.write.Write.{Write}
 use Rattle.sdb_record.specs.Coordinator.{is_coordinator_table}
 use Rattle.sdb_record.specs.Meta.{is_in, is_moment}
+use Rattle.sdb_record.specs.Parts.{user_columns}
 use Rattle.sdb_record.specs.Rolls.{is_tombstone, prepared_record}
 use Rattle.sdb_schema.specs.declared.table.Table.{Table}
 use Rattle.sdb_model.specs.declared.answer.Answer.{Answer}
@@ -27,9 +28,12 @@ use Rattle.sdb_model.specs.declared.statement.Select.{Select}
 use Rattle.sdb_model.specs.declared.statement.Statement.{Statement}
 use Rattle.sdb_model.specs.declared.statement.Statement.TheVariants as statement
 use Rattle.sdb_model.specs.declared.statement.Update.{Update}
+use Rattle.sdb_model.specs.Access.{in_access}
 use Rattle.sdb_model.specs.Exec.{key_of, named_table}
+use Rattle.sdb_model.specs.Reads.{access_of}
 use Rattle.sdb_model.specs.Sql.{Reads, reads_begin, reads_commit}
 use Rattle.sdb_model.specs.Transactions.{client_of, id_of}
+use Rattle.law_clients.specs.Fitting.{row_is_well_typed}
 use Rattle.law_runs.specs.Laws.{row_put}
 
 -- an id of 128 bits, and a moment that isn't 0
@@ -104,12 +108,20 @@ pub record UpdateOn : Type 0 where
 abbrev pub IsCommittedRow : Record → Type 0
 IsCommittedRow r = (is_in state.Committed r.columns ≡ true) × (is_tombstone r ≡ false)
 
--- a SELECT without tests and LIMIT, and a row of its table at a key
+-- a SELECT without tests and LIMIT, and a row of its table at a key that it reads
 pub record FindsRow (f : SelectOn) (key : Key) (r : Record) : Type 0 where
   pub tests : f.select.tests ≡ []
   pub limit : f.select.limit ≡ None
   pub inside : key.table ≡ f.on.table.name
+  pub reads : in_access (access_of f.on.table f.on.statement) key ≡ true
   pub shows : IsCommittedRow r
+
+-- a SELECT, and a row of its table at a key that it reads, which doesn't fit the table
+pub record FindsMisfit (f : SelectOn) (key : Key) (r : Record) : Type 0 where
+  pub inside : key.table ≡ f.on.table.name
+  pub reads : in_access (access_of f.on.table f.on.statement) key ≡ true
+  pub shows : IsCommittedRow r
+  pub misfit : row_is_well_typed f.on.catalog key (user_columns r.columns) ≡ false
 
 -- a SELECT, and a record at a key of its table that isn't committed
 pub record FindsUnresolved (f : SelectOn) (key : Key) (r : Record) : Type 0 where
@@ -131,6 +143,10 @@ answers_unread f row rows = answered_at_once f.on (answer.Rows (row ∷ rows))
 -- It leaves out the row that it found.
 abbrev pub leaves_out : SelectOn → Key → Record → List Event
 leaves_out f key r = answered_after f.on (ask.Get key) (reply.Found (Some r)) (answer.Rows [])
+
+-- It is answered with rows.
+abbrev pub answers_rows : SelectOn → Key → Record → List (List Value) → List Event
+answers_rows f key r rows = answered_after f.on (ask.Get key) (reply.Found (Some r)) (answer.Rows rows)
 
 -- It shows a row where it found a record, which it didn't roll.
 abbrev pub answers_unrolled : SelectOn → Key → Record → List Value → List Event

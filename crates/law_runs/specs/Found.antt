@@ -1,8 +1,8 @@
 -- What a transaction has found in the tables, and what its statements answer on that.
-use Rattle.std.specs.Prelude.{◌≡◌, Bool, false, if◌then◌else◌, ℕ, List, [], ◌∷◌, ◌++◌, filter, fold, map, Option, Some, None, is_some, true, Contains, ◌||◌}
+use Rattle.std.specs.Prelude.{◌≡◌, Bool, false, not, if◌then◌else◌, ℕ, List, [], ◌∷◌, ◌++◌, filter, fold, map, Option, Some, None, is_some, true, Contains, ◌||◌}
 use Rattle.std.specs.FinMap.{empty}
 use Rattle.std.specs.List.{filter_map, flat_map, list_any}
-use Rattle.std.specs.Option.{option_and_then}
+use Rattle.std.specs.Option.{option_and_then, option_map_or}
 use Rattle.sdb_types.specs.declared.key.Key.{Key}
 use Rattle.sdb_types.specs.declared.record.Record.{Record}
 use Rattle.sdb_types.specs.declared.record.Reply.{Reply}
@@ -17,13 +17,16 @@ use Rattle.sdb_schema.specs.declared.table.Table.{Table}
 use Rattle.sdb_model.specs.declared.answer.Answer.{Answer}
 use Rattle.sdb_model.specs.declared.event.Event.{Event}
 use Rattle.sdb_model.specs.declared.statement.Statement.{Statement}
-use Rattle.sdb_model.specs.Access.{with_row}
+use Rattle.sdb_model.specs.Access.{in_access, with_row}
+use Rattle.sdb_types.specs.declared.pair.Pair.{Pair}
 use Rattle.sdb_model.specs.Calls.{StoreCall, calls_of}
-use Rattle.sdb_model.specs.Exec.{Tables, exec}
-use Rattle.sdb_model.specs.ReadSet.{meaning_of, reads_rows, has_finished}
+use Rattle.sdb_model.specs.Exec.{Tables, exec, named_table}
+use Rattle.sdb_model.specs.Reads.{access_of}
+use Rattle.sdb_model.specs.ReadSet.{meaning_of, reads_rows, has_read}
 use Rattle.sdb_model.specs.Sql.{reads_commit, Reads}
 use Rattle.sdb_model.specs.Transactions.{Executed, client_of, is_effective, statements_of, statements_inside}
 use Rattle.sdb_snapshot.specs.Seen.{same_span}
+use Rattle.law_clients.specs.Fitting.{row_is_well_typed}
 
 ---- what a statement found
 
@@ -40,44 +43,58 @@ found_by calls = flat_map (λ m. found_in calls m.request m.reply) (filter reads
 
 ---- what a transaction has found
 
--- A transaction's view of the tables: the keys at which it has found something, and the rows there, with its own changes.
+-- A transaction's view of the tables: the keys at which it has found something, those of them at which the row found doesn't fit its table, and
+-- the rows at the others, with its own changes.
 pub record View : Type 0 where
   pub keys : List Key
+  pub misfits : List Key
   pub rows : Tables
 
 abbrev pub nothing_found : View
-nothing_found = record { keys = []; rows = empty }
+nothing_found = record { keys = []; misfits = []; rows = empty }
 
 -- something was found at a key
 abbrev pub has_found : View → Key → Bool
 has_found v key = list_any (same_key key) v.keys
 
--- with what was found at a key; what was found there first stays, with the changes since
-abbrev pub with_one_found : View → Key × Option Record → View
-with_one_found v e = if has_found v e.0 then v else record { keys = v.keys ++ e.0 ∷ []; rows = with_row v.rows e.0 (option_and_then row_of_image e.1) }
+-- a row, if there is one, doesn't fit its table, or is of none of the catalog
+abbrev pub is_misfit_row : List Table → Key → Option (List Pair) → Bool
+is_misfit_row catalog key row = option_map_or (λ columns. not (row_is_well_typed catalog key columns)) row false
+
+-- With what was found at a key; what was found there first stays, with the changes since.
+abbrev pub with_one_found : List Table → View → Key × Option Record → View
+with_one_found catalog v e =
+    if has_found v e.0 then v
+    else if is_misfit_row catalog e.0 (option_and_then row_of_image e.1) then record { keys = v.keys ++ e.0 ∷ []; misfits = v.misfits ++ e.0 ∷ []; rows = v.rows }
+    else record { keys = v.keys ++ e.0 ∷ []; misfits = v.misfits; rows = with_row v.rows e.0 (option_and_then row_of_image e.1) }
 
 -- with what a statement found
-abbrev pub with_found : View → List (Key × Option Record) → View
-with_found v found = fold with_one_found v found
+abbrev pub with_found : List Table → View → List (Key × Option Record) → View
+with_found catalog v found = fold (with_one_found catalog) v found
 
 ---- statements
 
 -- a statement on the rows of a view: its answer, and the view with its changes
 abbrev pub exec_on : List Table → Statement → View → Answer × View
-exec_on catalog s v = ((exec catalog s v.rows).0, record { keys = v.keys; rows = (exec catalog s v.rows).1 })
+exec_on catalog s v = ((exec catalog s v.rows).0, record { keys = v.keys; misfits = v.misfits; rows = (exec catalog s v.rows).1 })
 
--- A statement that runs, or none, on the rows of a view: its answer, if there is one, and the view with its changes.
+-- a statement reads at a key whose row doesn't fit
+abbrev pub meets_misfit : List Table → Statement → View → Bool
+meets_misfit catalog s v = option_map_or (λ t. list_any (in_access (access_of t s)) v.misfits) (named_table catalog s) false
+
+-- A statement that runs, or none, on the rows of a view: its answer, if there is one, and the view with its changes. One that reads at a key
+-- whose row doesn't fit gives none.
 abbrev pub run_one : List Table → Option Statement → View → List Answer × View
 run_one catalog None v = ([], v)
-run_one catalog (Some s) v = ((exec_on catalog s v).0 ∷ [], (exec_on catalog s v).1)
+run_one catalog (Some s) v = if meets_misfit catalog s v then ([], v) else ((exec_on catalog s v).0 ∷ [], (exec_on catalog s v).1)
 
 -- The answers to statements that run one after the other, each on what was found so far, with what it found itself; and the view after them.
--- One that was refused doesn't run, and what it found is found.
+-- One that was refused, or met a row that doesn't fit, doesn't run, and what it found is found.
 abbrev pub run_on_found : List Table → List (List (Key × Option Record)) → List (Option Statement) → View → List Answer × View
 run_on_found catalog [] ss v = ([], v)
 run_on_found catalog (f ∷ fs) [] v = ([], v)
 run_on_found catalog (f ∷ fs) (s ∷ ss) v =
-    ((run_one catalog s (with_found v f)).0 ++ (run_on_found catalog fs ss (run_one catalog s (with_found v f)).1).0, (run_on_found catalog fs ss (run_one catalog s (with_found v f)).1).1)
+    ((run_one catalog s (with_found catalog v f)).0 ++ (run_on_found catalog fs ss (run_one catalog s (with_found catalog v f)).1).0, (run_on_found catalog fs ss (run_one catalog s (with_found catalog v f)).1).1)
 
 -- what each of some statements of a client found
 abbrev pub finds : List Event → ℕ → List Executed → List (List (Key × Option Record))
@@ -105,12 +122,12 @@ abbrev pub is_answered : Executed → Bool
 is_answered s = is_some s.answer
 
 -- a statement changed something, or its read has finished
-abbrev pub takes_part : Executed → Bool
-takes_part s = is_effective s || has_finished s
+abbrev pub takes_part : List Event → ℕ → Executed → Bool
+takes_part events client s = is_effective s || has_read events client s
 
 -- the statements of a transaction that were answered and changed something, or whose reads have finished
 abbrev pub answered_inside : List Event → TxId → List Executed
-answered_inside events id = filter is_answered (filter takes_part (statements_inside events id))
+answered_inside events id = filter is_answered (filter (takes_part events (client_of id)) (statements_inside events id))
 
 -- This holds of each transaction, recorded or not.
 abbrev pub RunsOnFound : List Table → List Event → Type 0
@@ -150,4 +167,4 @@ pub record ReadsIn (events : List Event) (id : TxId) (before : List Executed) (s
 
 -- It is new after those before it that were answered and changed something, or whose reads have finished.
 abbrev pub ReadsAreNew : List Event → Type 0
-ReadsAreNew events = (id : TxId) (before : List Executed) (s : Executed) (m : StoreCall) → ReadsIn events id before s m → IsNewRead events (client_of id) (filter is_answered (filter takes_part before)) m.request
+ReadsAreNew events = (id : TxId) (before : List Executed) (s : Executed) (m : StoreCall) → ReadsIn events id before s m → IsNewRead events (client_of id) (filter is_answered (filter (takes_part events (client_of id)) before)) m.request

@@ -32,7 +32,7 @@ keys_by catalog (Some s) d = keys_written catalog s d
 abbrev pub written_on_found : List Table → List (List (Key × Option Record)) → List (Option Statement) → View → List Key → List Key
 written_on_found catalog [] ss v ks = ks
 written_on_found catalog (f ∷ fs) [] v ks = ks
-written_on_found catalog (f ∷ fs) (s ∷ ss) v ks = written_on_found catalog fs ss (run_one catalog s (with_found v f)).1 (with_keys ks (keys_by catalog s (with_found v f).rows))
+written_on_found catalog (f ∷ fs) (s ∷ ss) v ks = written_on_found catalog fs ss (run_one catalog s (with_found catalog v f)).1 (with_keys ks (keys_by catalog s (with_found catalog v f).rows))
 
 -- those that statements of a client write, which run as these
 abbrev pub keys_of : List Table → List Event → ℕ → List Executed → List (Option Statement) → List Key

@@ -15,7 +15,7 @@ ghost use Rattle.sdb_model.specs.Causes.{AreCaused};
 ghost use Rattle.sdb_model.specs.Counted.{AreCounted, AreResolved};
 ghost use Rattle.law_protocol.specs.Spread.{AreAbout};
 ghost use Rattle.law_runs.specs.Complete.{RecoveriesComplete, ResolvedAreNotBusy, SeenAreServed, StatementsComplete, UncontendedCommitsComplete};
-ghost use Rattle.law_runs.specs.Forged.{CommitText, FindsRow, FindsUnresolved, InsertOn, IsOfOther, IsOtherMoment, SelectOn, IsCommittedRow, UpdateOn, busy_at_once, counted_at_once, counts_over, counts_twice, counts_unread, decides_at_once, decides_early, decides_unapplied, decides_unprepared, duplicates_none, faults_at_once, leaves_out, prepares_at, prepares_unwritten, reads_again, reads_and_is_done, answers_two, answers_unread, answers_unrolled};
+ghost use Rattle.law_runs.specs.Forged.{CommitText, FindsMisfit, FindsRow, FindsUnresolved, InsertOn, IsOfOther, IsOtherMoment, SelectOn, IsCommittedRow, UpdateOn, busy_at_once, counted_at_once, counts_over, counts_twice, counts_unread, decides_at_once, decides_early, decides_unapplied, decides_unprepared, duplicates_none, faults_at_once, leaves_out, prepares_at, prepares_unwritten, reads_again, reads_and_is_done, answers_rows, answers_two, answers_unread, answers_unrolled};
 ghost use Rattle.law_runs.specs.Found.{ReadsAreNew, RunsOnFound};
 ghost use Rattle.law_runs.specs.Laws.{BusyIsOfReads, CallsAreOfStatements, DecisionsAreDue, ExecutionOf, FollowsMoves, RulesHold, PreparesAreOwn, ReadsAreFew};
 ghost use Rattle.law_runs.specs.Moments.{IsSoundAfter, TraceOf, WritesPersistAfter};
@@ -85,7 +85,8 @@ pub fn vacuums_are_complete()
 {}
 
 /// The answered statements of each transaction's body, recorded or not, give the answers that its client got where they run one after the
-/// other, each on what the transaction has found so far, with what it made of it. What a refused statement found is found too.
+/// other, each on what the transaction has found so far, with what it made of it; and none of them reads at a key where the row found doesn't
+/// fit its table. What a statement found that was refused, or met such a row, is found too.
 pub fn transactions_run_on_found()
     ensures { (x : ExecutionOf) → RunsOnFound x.script.catalog x.events }
 {}
@@ -118,8 +119,9 @@ pub fn uncontended_commits_complete()
 
 /// A statement on a table that isn't rejected, whose calls the stores served and which observed no malformed record, is answered as one of its
 /// kind: SELECT with rows, the others with a count, INSERT also with Duplicate. Or else it is answered Conflict, where its scan differs from what
-/// its transaction had read; Busy, where a record that it read has not expired; BadRecord, where a row that it read doesn't fit its table; refused,
-/// where its transaction might write too many keys; or it was out of memory. Where it observed no unresolved record it isn't answered Busy.
+/// its transaction had read; Busy, where a record that it read has not expired; BadRecord, where a row at a key that it reads, which its
+/// transaction has read, doesn't fit its table; refused, where its transaction might write too many keys; or it was out of memory. Where it
+/// observed no unresolved record it isn't answered Busy.
 pub fn statements_complete()
     ensures ends { (x : ExecutionOf) → StatementsComplete x.script.catalog x.events }
     ensures resolved { (x : ExecutionOf) → ResolvedAreNotBusy x.events }
@@ -155,8 +157,8 @@ pub fn records_are_sound_at_every_moment()
 /// Events that no execution has, and the law that each of them breaks: a COMMIT that is answered Busy, a statement that is and has read
 /// nothing, a COMMIT that is answered Faulted and has made no call, a VACUUM of a table that counts without a scan, a BEGIN that reads, a
 /// prepare with another moment than the clock showed, and a decision on another's transaction by a first call; and statements of a transaction:
-/// a SELECT that shows a row without a read, leaves out the row that it found, shows a row of a record that it found and didn't roll, or shows
-/// two rows where its LIMIT is 1, an UPDATE that counts rows without a read, an INSERT that is counted over a row that it found or over its
+/// a SELECT that shows a row without a read, leaves out the row that it found, is answered with rows over one that doesn't fit its table, shows a
+/// row of a record that it found and didn't roll, or shows two rows where its LIMIT is 1, an UPDATE that counts rows without a read, an INSERT that is counted over a row that it found or over its
 /// transaction's own row, a Duplicate where nothing was found, and an INSERT that reads its key again; and a COMMIT that prepares a key that
 /// its transaction only read, or puts its row COMMITTED without an applied prepare of what its transaction inserted: without any, after one
 /// that faulted, or before one.
@@ -170,6 +172,7 @@ pub fn forged_events_are_refused()
     ensures decided { (text : List ℕ) (id : TxId) (d : Decision) (now : ℤ) → IsOfOther id → DecisionsAreDue (decides_at_once text id d now) → ⊥ }
     ensures invented { (f : SelectOn) (row : List Value) (rows : List (List Value)) → RunsOnFound f.on.catalog (answers_unread f row rows) → ⊥ }
     ensures left_out { (f : SelectOn) (key : Key) (r : Record) → FindsRow f key r → RunsOnFound f.on.catalog (leaves_out f key r) → ⊥ }
+    ensures misfit { (f : SelectOn) (key : Key) (r : Record) (rows : List (List Value)) → FindsMisfit f key r → RunsOnFound f.on.catalog (answers_rows f key r rows) → ⊥ }
     ensures unrolled { (f : SelectOn) (key : Key) (r : Record) (row : List Value) → FindsUnresolved f key r → RunsOnFound f.on.catalog (answers_unrolled f key r row) → ⊥ }
     ensures unlimited { (f : SelectOn) (q : Request) (r : Reply) (a b : List Value) → f.select.limit ≡ Some (pos 1) → RunsOnFound f.on.catalog (answers_two f q r a b) → ⊥ }
     ensures miscounted { (f : UpdateOn) (n : ℕ) → RunsOnFound f.on.catalog (counts_unread f n) → ⊥ }

@@ -1,19 +1,15 @@
 -- A script that was read and played is a run of the headline.
-use Rattle.std.proofs.Common.{◌≡◌, ◌∙◌, refl, Result, Ok, Err, IfErr, ℕ, ◌≤◌, ◌<◌, true, false, List, [], Option, Some, None, length, sym, ap, subst, arith}
+use Rattle.std.proofs.Common.{◌≡◌, ◌∙◌, refl, Result, Ok, Err, IfErr, ℕ, ◌≤◌, ◌<◌, List, [], Option, None, length, sym, ap, subst, arith}
 use Rattle.std.specs.FinMap.{empty}
 use Rattle.std.specs.Prelude.{slice_get, IsErrAnd}
-use Rattle.std.specs.Option.{option_map_or}
 use Rattle.sdb_types.specs.declared.key.Key.{Key}
 use Rattle.sdb_types.specs.declared.pair.Pair.{Pair}
-use Rattle.sdb_types.proofs.Basics.{clash}
 use Rattle.sdb_record.specs.Coordinator.{coordinator_table}
-use Rattle.sdb_model.specs.ReadSet.{read_finished}
 use Rattle.sdb_model.specs.declared.event.Event.{Event}
 use Rattle.sdb_stores.specs.Views.{Attached, StoreView as Counted, AreDistinct, HaveRisen, names_of, total_faults}
 use Rattle.sdb_model.specs.declared.event.Outcome.{Outcome}
 use Rattle.sdb_types.specs.declared.place.Place.{Place}
 use Rattle.sdb_model.specs.declared.script.Script.{Script}
-use Rattle.sdb_model.specs.declared.answer.Answer.{Answer}
 use Rattle.sdb_model.specs.declared.answer.Answer.TheVariants as answer
 use Rattle.sdb_model.specs.Counted.{AreResolved}
 use Rattle.sdb_model.specs.Events.{StoreContents, store_of}
@@ -33,7 +29,7 @@ use Rattle.law_answers.proofs.Faults.{answered_seen}
 use Rattle.law_answers.proofs.Rolled.{all_resolved}
 use Rattle.law_answers.specs.Views.{WasRead}
 use Rattle.law_answers.proofs.ShowsWhole.{answers_own}
-use Rattle.law_runs.specs.DirtyReads.{IsReader, ReadBy}
+use Rattle.law_runs.specs.DirtyReads.{ReadBy}
 use Rattle.law_runs.proofs.Finding.{answers_as, answers_committed}
 use Rattle.sdb_world.specs.Broken.{BreaksWithin}
 use Rattle.sdb_execution.specs.Execution.{IsExecution, IsPlayable}
@@ -161,11 +157,7 @@ shown_of script opening events none caused resolved explained moments end traced
     (answers_as script.catalog (WasRead script.catalog events) (ReadBy script.catalog events) events read (answers_own script.catalog events caused.shown))
   where
     read : (c : ℕ) (s : Executed) (key : Key) (row : Option (List Pair)) → WasRead script.catalog events c s key row → ReadBy script.catalog events c s key row
-    read c s key row w = (by s.answer refl w.1.told, w.1.table, w.1.found)
-      where
-        by : (o : Option Answer) → s.answer ≡ o → option_map_or read_finished o false ≡ true → IsReader events c s
-        by None e h = clash (sym h)
-        by (Some a) e h = record { among = w.0; a = a; answer = e; finished = h; no_vacuum = w.1.no_vacuum }
+    read c s key row w = (record { among = w.0; finished = w.1.told; no_vacuum = w.1.no_vacuum }, w.1.table, w.1.found)
 
 played_on : (script : Script) (old mid then : Attached) (new : List StoreContents) (o : Outcome) → mid.places ≡ script.places → mid.views ≡ old.views → GoOn mid then → AreUsable script.catalog mid
     → first_key (opening_in script.catalog mid) ≡ None → HoldTheSame mid then → (AreReady script then → IsRun script (contents_of_views then.views) new o) → (AreReady script then → IsExplained script o.events (contents_of_views then.views)) → AnswersHaveCauses script.catalog o.events → find_table script.catalog coordinator_table ≡ None → AreResolved o.events → IsPlayable script → HasLines script → IsExecution script o.events → outcome_fits o → IsCorrect script (contents_of_views old.views) new o

@@ -22,7 +22,7 @@ use Rattle.sdb_snapshot.specs.Seen.{Seen, forgotten, mark_of, overlay}
 use Rattle.sdb_txn.proofs.Notes.{kept_cut}
 use Rattle.sdb_txn.specs.declared.txn.Doing.{Doing}
 use Rattle.sdb_txn.specs.declared.txn.Doing.TheVariants as doing
-use Rattle.sdb_exec.specs.Reads.{access_of}
+use Rattle.sdb_model.specs.Reads.{access_of}
 use Rattle.sdb_client.specs.Inside.{IsKeyRead, IsReadOf}
 use Rattle.sdb_snapshot.proofs.Forgotten.{get_forgotten, scan_forgotten}
 use Rattle.sdb_txn.specs.declared.progress.Progress.{Progress}
@@ -181,7 +181,7 @@ answer_or (next.Answer z) = z
 answer_or n = answer.NoMemory
 
 pub rows_call : (t u v : TxnAt) (p : Planned) (a : Access) (x : ReadAt) (r : Reply) (now : ℤ) (rows : List Image) (m : Mark) (z : Answer) → m ≡ mark_of t.seen → IsNoted t u a (read_result (read_step x.stage now r)) rows
-    → (z ≢ answer.NoMemory → z ≡ given_answer u (step_of p rows)) → (z ≢ answer.NoMemory → v ≡ given_left (cut m u) u (step_of p rows)) → (z ≡ answer.NoMemory → v ≡ cut m u) → CallPost t p a x r now (next.Answer z) v
+    → (z ≢ answer.NoMemory → z ≡ given_answer u (step_of p rows)) → (z ≢ answer.NoMemory → v ≡ given_left u (step_of p rows)) → (z ≡ answer.NoMemory → v ≡ cut m u) → CallPost t p a x r now (next.Answer z) v
 rows_call t u v p a x r now rows m z e h told left memory =
     let same : cut m u ≡ idle t = cut_is t u a (read_result (read_step x.stage now r)) rows m e h in
     let gave : step_of p rows ≡ gives p a (with_rows_read t a h.images) = ap (step_of p) (h.rows ∙ ap (λ (w : TxnAt). overlay a w.seen) h.with_read) in
@@ -192,7 +192,7 @@ rows_call t u v p a x r now rows m z e h told left memory =
           subst (λ (s : ReadStep). StagePost t p a x (read_step x.stage now r) s (next.Answer z) v) (sym h.ended) (
             h.as_read,
             told some ∙ ap (given_answer u) gave ∙ ap (λ (w : TxnAt). given_answer w (gives p a (with_rows_read t a h.images))) h.with_read,
-            left some ∙ ap (λ (w : TxnAt). given_left w u (step_of p rows)) same ∙ ap (given_left (idle t) u) gave ∙ ap (λ (w : TxnAt). given_left (idle t) w (gives p a (with_rows_read t a h.images))) h.with_read,
+            left some ∙ ap (given_left u) gave ∙ ap (λ (w : TxnAt). given_left w (gives p a (with_rows_read t a h.images))) h.with_read,
           );
     }
 
@@ -235,7 +235,7 @@ rows_read (doing.Commit k) t u p r now rows at h = absurd at
 rows_read doing.Over t u p r now rows at h = absurd at
 
 pub rows_told : (d : Doing) (t u v : TxnAt) (p : Planned) (r : Reply) (now : ℤ) (rows : List Image) (m : Mark) (z : Answer) → m ≡ mark_of t.seen → IfReading d (λ a x. ReadPost t a x r now (progress.Rows rows) u)
-    → (z ≢ answer.NoMemory → z ≡ given_answer u (step_of p rows)) → (z ≢ answer.NoMemory → v ≡ given_left (cut m u) u (step_of p rows)) → (z ≡ answer.NoMemory → v ≡ cut m u) → IfReading d (λ a x. CallPost t p a x r now (next.Answer z) v)
+    → (z ≢ answer.NoMemory → z ≡ given_answer u (step_of p rows)) → (z ≢ answer.NoMemory → v ≡ given_left u (step_of p rows)) → (z ≡ answer.NoMemory → v ≡ cut m u) → IfReading d (λ a x. CallPost t p a x r now (next.Answer z) v)
 rows_told (doing.Read a x) t u v p r now rows m z e h told left memory = rows_call t u v p a x r now rows m z e (rows_noted t u a x r now rows h) told left memory
 rows_told doing.Idle t u v p r now rows m z e h told left memory = tt
 rows_told (doing.Commit k) t u v p r now rows m z e h told left memory = tt

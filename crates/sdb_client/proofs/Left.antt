@@ -4,7 +4,6 @@ use Rattle.sdb_types.specs.declared.record.Reply.{Reply}
 use Rattle.sdb_record.specs.declared.access.Access.{Access}
 use Rattle.sdb_model.specs.declared.answer.Answer.{Answer}
 use Rattle.sdb_model.specs.declared.answer.Answer.TheVariants as answer
-use Rattle.sdb_model.specs.ReadSet.{read_finished}
 use Rattle.sdb_model.specs.Transactions.{changes_nothing}
 use Rattle.sdb_exec.specs.declared.plan.PlanStep.{PlanStep}
 use Rattle.sdb_exec.specs.declared.plan.PlanStep.TheVariants.{Finished, Read as Wants}
@@ -33,14 +32,13 @@ use Rattle.sdb_read.specs.Read.{read_pending_at}
 
 ---- reads
 
-pub given_idle : (was t : TxnAt) (s : PlanStep) → was.doing ≡ doing.Idle → t.doing ≡ doing.Idle → (given_left was t s).doing ≡ doing.Idle
-given_idle was t (Finished a ks) h k = by (changes_nothing (given_answer t (Finished a ks))) (read_finished (given_answer t (Finished a ks)))
+pub given_idle : (t : TxnAt) (s : PlanStep) → t.doing ≡ doing.Idle → (given_left t s).doing ≡ doing.Idle
+given_idle t (Finished a ks) h = by (changes_nothing (given_answer t (Finished a ks)))
   where
-    by : (b f : Bool) → (cond b (cond f t was) (written t ks)).doing ≡ doing.Idle
-    by true true = k
-    by true false = h
-    by false f = k
-given_idle was t (Wants a) h k = h
+    by : (b : Bool) → (cond b t (written t ks)).doing ≡ doing.Idle
+    by true = h
+    by false = h
+given_idle t (Wants a) h = h
 
 call_stage : (t u : TxnAt) (p : Planned) (a : Access) (x : ReadAt) (f : ReadStage) (s : ReadStep) → read_result f ≡ s → IsReadOf (doing.Read a x) p → (read_result f ≡ step.More → IsSome (read_pending_at x.request f)) → StagePost t p a x f s next.Call u → IsUnder u.doing (Some p)
 call_stage t u p a x f step.More is at goes h = subst (λ (d : Doing). IsUnder d (Some p)) (sym (ap (λ (v : TxnAt). v.doing) h.1)) (at.0, at.1, goes is)
@@ -52,7 +50,7 @@ call_stage t u p a x f step.NoMemory is at goes h = absurd h
 
 answer_stage : (t u : TxnAt) (p : Planned) (a : Access) (x : ReadAt) (next_stage : ReadStage) (s : ReadStep) (z : Answer) → StagePost t p a x next_stage s (next.Answer z) u → u.doing ≡ doing.Idle
 answer_stage t u p a x f step.More z h = absurd (let e = h.0 in cc)
-answer_stage t u p a x f (step.Images images) z h = ap (λ (v : TxnAt). v.doing) h.2 ∙ given_idle (idle t) (with_rows_read t a images) (gives p a (with_rows_read t a images)) refl (noting_idle t a images)
+answer_stage t u p a x f (step.Images images) z h = ap (λ (v : TxnAt). v.doing) h.2 ∙ given_idle (with_rows_read t a images) (gives p a (with_rows_read t a images)) (noting_idle t a images)
 answer_stage t u p a x f (step.Busy key id m) z h = ap (λ (v : TxnAt). v.doing) h.1
 answer_stage t u p a x f step.Faulted z h = ap (λ (v : TxnAt). v.doing) h.1
 answer_stage t u p a x f (step.BadRecord key) z h = ap (λ (v : TxnAt). v.doing) h.1

@@ -1,5 +1,5 @@
 -- What the taking of a statement rests on.
-use Rattle.std.proofs.Common.{◌≡◌, ◌≢◌, ℕ, Bool, true, false, cond, List, Option, Some, None, Err, refl, sym, ap, subst, ◌∙◌, ◌⊎◌, inl, inr}
+use Rattle.std.proofs.Common.{◌≡◌, ◌≢◌, ℕ, true, List, Option, Some, None, Err, refl, sym, ap, subst, ◌∙◌, ◌⊎◌, inl, inr}
 use Rattle.std.specs.Prelude.{IfSome}
 use Rattle.sdb_schema.specs.declared.table.Table.{Table}
 use Rattle.sdb_schema.specs.Catalog.{is_catalog}
@@ -9,14 +9,9 @@ use Rattle.sdb_model.specs.declared.answer.Refusal.{Refusal}
 use Rattle.sdb_model.specs.declared.statement.Statement.{Statement}
 use Rattle.sdb_model.specs.Refused.{refusal_by, refusal_on}
 use Rattle.sdb_model.specs.Sql.{Refuses}
-use Rattle.sdb_model.specs.ReadSet.{read_finished}
-use Rattle.sdb_model.specs.Transactions.{changes_nothing}
-use Rattle.sdb_exec.specs.declared.plan.PlanStep.{PlanStep}
-use Rattle.sdb_exec.specs.declared.plan.PlanStep.TheVariants.{Finished, Read as Wants}
 use Rattle.sdb_exec.specs.Plans.{Planned, has_all_literals}
 use Rattle.sdb_exec.proofs.Places.{named_is_table}
-use Rattle.sdb_txn.specs.Txn.{TxnAt}
-use Rattle.sdb_client.specs.Client.{ClientAt, Taking, TextPost, given_answer, given_left, written}
+use Rattle.sdb_client.specs.Client.{ClientAt, Taking, TextPost, is_out_of_memory}
 use Rattle.sdb_client.specs.Inside.{IsValidPlan, IsPlanOf}
 
 ---- answers
@@ -38,21 +33,23 @@ memory_or (answer.Refused r) = inr (λ e. cc)
 memory_or answer.Vacuuming = inr (λ e. cc)
 memory_or answer.OpenTransactions = inr (λ e. cc)
 
-left_same : (t : TxnAt) (s : PlanStep) → changes_nothing (given_answer t s) ≡ true → given_left t t s ≡ t
-left_same t (Finished a ks) h = ap (λ b. cond b (cond (read_finished (given_answer t (Finished a ks))) t t) (written t ks)) h ∙ both (read_finished (given_answer t (Finished a ks)))
-  where
-    both : (f : Bool) → cond f t t ≡ t
-    both true = refl
-    both false = refl
-left_same t (Wants a) h = refl
-
--- a statement that is answered that it changed nothing has written nothing
-pub nothing_left : (t u : TxnAt) (s : PlanStep) (z : Answer) → changes_nothing z ≡ true → (z ≢ answer.NoMemory → z ≡ given_answer t s) → (z ≢ answer.NoMemory → u ≡ given_left t t s) → (z ≡ answer.NoMemory → u ≡ t) → u ≡ t
-nothing_left t u s z h told left memory = by (memory_or z)
-  where
-    by : (z ≡ answer.NoMemory) ⊎ (z ≢ answer.NoMemory) → u ≡ t
-    by (inl e) = memory e
-    by (inr n) = left n ∙ left_same t s (sym (ap changes_nothing (told n)) ∙ h)
+-- the answer that says so is out of memory
+pub out_of_memory_is : (z : Answer) → is_out_of_memory z ≡ true → z ≡ answer.NoMemory
+out_of_memory_is answer.NoMemory h = refl
+out_of_memory_is (answer.Rows rows) h = absurd (cc)
+out_of_memory_is (answer.Count n) h = absurd (cc)
+out_of_memory_is answer.Done h = absurd (cc)
+out_of_memory_is answer.Committed h = absurd (cc)
+out_of_memory_is (answer.Duplicate key) h = absurd (cc)
+out_of_memory_is (answer.Busy key id at) h = absurd (cc)
+out_of_memory_is (answer.Conflict key found) h = absurd (cc)
+out_of_memory_is (answer.Expired id) h = absurd (cc)
+out_of_memory_is answer.Faulted h = absurd (cc)
+out_of_memory_is (answer.Unknown id) h = absurd (cc)
+out_of_memory_is (answer.BadRecord key) h = absurd (cc)
+out_of_memory_is (answer.Refused r) h = absurd (cc)
+out_of_memory_is answer.Vacuuming h = absurd (cc)
+out_of_memory_is answer.OpenTransactions h = absurd (cc)
 
 ---- plans
 

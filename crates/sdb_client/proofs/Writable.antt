@@ -23,7 +23,7 @@ use Rattle.sdb_model.specs.declared.statement.Statement.{Statement}
 use Rattle.sdb_model.specs.declared.statement.Statement.TheVariants as statement
 use Rattle.sdb_model.specs.Exec.{key_of, passes, with_sets}
 use Rattle.sdb_exec.specs.Plans.{Planned, change_is_well_typed, changes_on, columns_at, finished, first_unfit, is_unfit, put_row, step_at, step_of}
-use Rattle.sdb_exec.specs.Reads.{access_of}
+use Rattle.sdb_model.specs.Reads.{access_of}
 use Rattle.sdb_exec.proofs.Fits.{changes_fit}
 use Rattle.sdb_snapshot.specs.Reads.{ReadRecord, is_key_read}
 use Rattle.sdb_snapshot.specs.Sets.{IsSetInvariant}

@@ -16,14 +16,13 @@ use Rattle.sdb_model.specs.declared.statement.Statement.{Statement}
 use Rattle.sdb_model.specs.declared.statement.Statement.TheVariants as statement
 use Rattle.sdb_model.specs.Causes.{refused}
 use Rattle.sdb_model.specs.Exec.{named_table}
-use Rattle.sdb_model.specs.ReadSet.{read_finished}
 use Rattle.sdb_model.specs.Refused.{refusal_of}
 use Rattle.sdb_model.specs.Sql.{Reads, Refuses, reads_commit}
 use Rattle.sdb_model.specs.Transactions.{changes_nothing, id_of}
 use Rattle.sdb_exec.specs.declared.plan.PlanStep.{PlanStep}
 use Rattle.sdb_exec.specs.declared.plan.PlanStep.TheVariants.{Finished, Read as Wants}
 use Rattle.sdb_exec.specs.Plans.{Planned, step_of}
-use Rattle.sdb_exec.specs.Reads.{access_of}
+use Rattle.sdb_model.specs.Reads.{access_of}
 use Rattle.sdb_commit.specs.Phases.{CommitAt}
 use Rattle.sdb_read.specs.declared.read.ReadStep.{ReadStep}
 use Rattle.sdb_read.specs.declared.read.ReadStep.TheVariants as step
@@ -102,14 +101,18 @@ given_answer t (Wants a) = answer.NoMemory
 abbrev pub written : TxnAt → List Keyed → TxnAt
 written t ks = record t { seen = with_written t.seen ks }
 
--- The transaction that a statement leaves, which it read as `t` and began as `was`: with its changes written; where its read has
--- finished and it is refused, as it read it; or as it was, and what it read is forgotten.
-abbrev pub left_by_answer : (was t : TxnAt) → Answer → List Keyed → TxnAt
-left_by_answer was t z ks = if changes_nothing z then (if read_finished z then t else was) else written t ks
+abbrev pub is_out_of_memory : Answer → Bool
+is_out_of_memory answer.NoMemory = true
+is_out_of_memory a = false
 
-abbrev pub given_left : (was t : TxnAt) → PlanStep → TxnAt
-given_left was t (Finished a ks) = left_by_answer was t (given_answer t (Finished a ks)) ks
-given_left was t (Wants a) = was
+-- The transaction that a statement leaves, which read it as `t`: with its changes written, or, where it is answered that it changed
+-- nothing, as it read it. What it read stays noted.
+abbrev pub left_by_answer : TxnAt → Answer → List Keyed → TxnAt
+left_by_answer t z ks = if changes_nothing z then t else written t ks
+
+abbrev pub given_left : TxnAt → PlanStep → TxnAt
+given_left t (Finished a ks) = left_by_answer t (given_answer t (Finished a ks)) ks
+given_left t (Wants a) = t
 
 -- a statement's plan on the rows that its transaction sees
 abbrev pub gives : Planned → Access → TxnAt → PlanStep
@@ -173,7 +176,7 @@ VacuumStartPost false (t ∷ ts) c result d = (result ≡ None) × (d ≡ record
 
 -- A statement reads: from what was read before it is answered at once; else the call for its rows is pending.
 pub record RowsPost (p : Planned) (a : Access) (c : ClientAt) (t : TxnAt) (result : Option Answer) (d : ClientAt) : Type 0 where
-  pub known : is_covered t.seen a ≡ true → (result ≡ Some (given_answer t (gives p a t))) × (d ≡ holding c (given_left t t (gives p a t)))
+  pub known : is_covered t.seen a ≡ true → (result ≡ Some (given_answer t (gives p a t))) × (d ≡ holding c (given_left t (gives p a t)))
   pub unknown : is_covered t.seen a ≡ false → (result ≡ None) × (d ≡ record c { txn = Some (reading t a); plan = Some p })
 
 -- A statement on a table is refused by the catalog, or reads.
@@ -231,7 +234,7 @@ IsChangedAt t (access.Scan span) images moved found = IsFirstDifference t.seen.r
 -- A statement that has read is answered from the rows that its transaction then sees; or its read doesn't agree with those before,
 -- and ends the transaction.
 abbrev pub RowsReadPost : TxnAt → Planned → Access → List Record → Next → TxnAt → Type 0
-RowsReadPost t p a images (next.Answer z) u = IsAsRead t a images × (z ≡ given_answer (with_rows_read t a images) (gives p a (with_rows_read t a images))) × (u ≡ given_left (idle t) (with_rows_read t a images) (gives p a (with_rows_read t a images)))
+RowsReadPost t p a images (next.Answer z) u = IsAsRead t a images × (z ≡ given_answer (with_rows_read t a images) (gives p a (with_rows_read t a images))) × (u ≡ given_left (with_rows_read t a images) (gives p a (with_rows_read t a images)))
 RowsReadPost t p a images (next.End (answer.Conflict key found)) u = IsChangedAt t a images key found
 RowsReadPost t p a images n u = ⊥
 

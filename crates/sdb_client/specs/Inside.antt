@@ -10,7 +10,7 @@ use Rattle.sdb_model.specs.Refused.{refusal_of, refusal_on}
 use Rattle.sdb_exec.specs.declared.plan.PlanStep.{PlanStep}
 use Rattle.sdb_exec.specs.declared.plan.PlanStep.TheVariants.{Finished, Read as Wants}
 use Rattle.sdb_exec.specs.Plans.{Planned, has_all_literals}
-use Rattle.sdb_exec.specs.Reads.{access_of}
+use Rattle.sdb_model.specs.Reads.{access_of}
 use Rattle.sdb_record.specs.declared.access.Image.{Image}
 use Rattle.sdb_phases.specs.Work.{Work}
 use Rattle.sdb_phases.specs.Checks.{checks}
@@ -101,7 +101,7 @@ IfRows p P = Unit {0}
 
 -- a statement reads, of an open transaction
 pub record TxnReads (p : Planned) (a : Access) (t : TxnAt) (result : Option Answer) (u : TxnAt) (v : Option Planned) : Type 0 where
-  pub known : is_covered t.seen a ≡ true → (result ≡ Some (given_answer t (gives p a t))) × (u ≡ given_left t t (gives p a t)) × (v ≡ None)
+  pub known : is_covered t.seen a ≡ true → (result ≡ Some (given_answer t (gives p a t))) × (u ≡ given_left t (gives p a t)) × (v ≡ None)
   pub unknown : is_covered t.seen a ≡ false → (result ≡ None) × (u ≡ reading t a) × (v ≡ Some p)
 
 -- a statement that the catalog takes reads so, by its plan on its table

@@ -1,9 +1,8 @@
 //! Answers that a client gives of its own.
 ghost use Rattle.std.specs.Prelude.{◌≡◌, true, false};
 ghost use Rattle.sdb_model.specs.Causes.{refused as refused_lem};
-ghost use Rattle.sdb_model.specs.ReadSet.{read_finished as read_finished_lem};
 ghost use Rattle.sdb_model.specs.Transactions.{changes_nothing as changes_nothing_lem};
-ghost use Rattle.sdb_client.specs.Client.{answer_of as answer_of_lem, next_of as next_of_lem};
+ghost use Rattle.sdb_client.specs.Client.{answer_of as answer_of_lem, is_out_of_memory as is_out_of_memory_lem, next_of as next_of_lem};
 
 use crate::next::Next;
 use sdb_model::{Answer, Refusal};
@@ -32,14 +31,11 @@ pub fn changes_nothing(answer: &Answer) -> bool
     }
 }
 
-/// Whether the read of a statement that is answered so has finished.
-pub fn read_finished(answer: &Answer) -> bool
-    ensures { result ≡ read_finished_lem answer.now }
+/// Whether a statement that is answered so ran out of memory.
+pub fn is_out_of_memory(answer: &Answer) -> bool
+    ensures { result ≡ is_out_of_memory_lem answer.now }
 {
-    matches!(
-        answer,
-        Answer::Rows(_) | Answer::Count(_) | Answer::Duplicate(_) | Answer::Refused(_)
-    )
+    matches!(answer, Answer::NoMemory)
 }
 
 /// What a call of a COMMIT leads to.

@@ -2,7 +2,7 @@
 ghost use Rattle.std.specs.Prelude.{◌≡◌, ◌≢◌, true, take};
 ghost use Rattle.sdb_exec.specs.declared.plan.PlanStep.TheVariants.{Finished};
 ghost use Rattle.sdb_exec.specs.Plans.{step_of};
-ghost use Rattle.sdb_exec.specs.Reads.{access_of};
+ghost use Rattle.sdb_model.specs.Reads.{access_of};
 ghost use Rattle.sdb_snapshot.specs.Sets.{IsSetInvariant};
 ghost use Rattle.sdb_snapshot.specs.Seen.{forgotten, overlay};
 ghost use Rattle.sdb_snapshot.specs.Written.{AreChanges};
@@ -10,7 +10,7 @@ ghost use Rattle.sdb_txn.specs.declared.txn.Doing.TheVariants as doing;
 ghost use Rattle.sdb_client.specs.Client.{given_answer, given_left};
 ghost use Rattle.sdb_client.specs.Inside.{IsValidPlan, IsKeyRead};
 
-use crate::answers::{changes_nothing, read_finished, refused};
+use crate::answers::{changes_nothing, is_out_of_memory, refused};
 use sdb_exec::{Plan, PlanStep};
 use sdb_model::Answer;
 use sdb_record::{Changes, Images};
@@ -23,7 +23,7 @@ fn write(txn: &mut Txn, answer: Answer, changes: Changes) -> Answer
     requires valid { AreChanges txn.old.seen.read_set changes }
     ensures idle { txn.new.doing ≡ doing.Idle }
     ensures answer { result ≢ Answer.NoMemory → result ≡ given_answer txn.old (Finished answer changes) }
-    ensures left { result ≢ Answer.NoMemory → txn.new ≡ given_left txn.old txn.old (Finished answer changes) }
+    ensures left { result ≢ Answer.NoMemory → txn.new ≡ given_left txn.old (Finished answer changes) }
     ensures memory { result ≡ Answer.NoMemory → txn.new ≡ txn.old }
 {
     if changes_nothing(&answer) || changes.len() == 0 {
@@ -44,7 +44,7 @@ pub fn finish(txn: &mut Txn, plan: &mut Plan, rows: Images) -> Answer
     requires read { IsKeyRead txn.old.seen.read_set (access_of plan.old.table plan.old.statement) }
     ensures idle { txn.new.doing ≡ doing.Idle }
     ensures answer { result ≢ Answer.NoMemory → result ≡ given_answer txn.old (step_of plan.old rows) }
-    ensures left { result ≢ Answer.NoMemory → txn.new ≡ given_left txn.old txn.old (step_of plan.old rows) }
+    ensures left { result ≢ Answer.NoMemory → txn.new ≡ given_left txn.old (step_of plan.old rows) }
     ensures memory { result ≡ Answer.NoMemory → txn.new ≡ txn.old }
 {
     let _mark = txn.mark();
@@ -54,8 +54,8 @@ pub fn finish(txn: &mut Txn, plan: &mut Plan, rows: Images) -> Answer
     }
 }
 
-/// Answers a statement on rows that it read after a mark. Where it is refused, what it read stays in the read set; where another answer
-/// says that it changed nothing, that is forgotten.
+/// Answers a statement on rows that it read after a mark. What it read stays in the read set, whatever the answer; where memory runs out, it
+/// is forgotten.
 pub fn finish_read(txn: &mut Txn, plan: &mut Plan, rows: Images, mark: Mark) -> Answer
     requires idle { txn.old.doing ≡ doing.Idle }
     requires valid { IsValidPlan plan.old }
@@ -64,11 +64,11 @@ pub fn finish_read(txn: &mut Txn, plan: &mut Plan, rows: Images, mark: Mark) -> 
     requires kept { IsSetInvariant (take mark.read_set txn.old.seen.read_set) txn.old.seen.writes }
     ensures idle { txn.new.doing ≡ doing.Idle }
     ensures answer { result ≢ Answer.NoMemory → result ≡ given_answer txn.old (step_of plan.old rows) }
-    ensures left { result ≢ Answer.NoMemory → txn.new ≡ given_left (record txn.old { seen = forgotten mark txn.old.seen }) txn.old (step_of plan.old rows) }
+    ensures left { result ≢ Answer.NoMemory → txn.new ≡ given_left txn.old (step_of plan.old rows) }
     ensures memory { result ≡ Answer.NoMemory → txn.new ≡ record txn.old { seen = forgotten mark txn.old.seen } }
 {
     let answer = finish(txn, plan, rows);
-    if changes_nothing(&answer) && !read_finished(&answer) {
+    if is_out_of_memory(&answer) {
         txn.forget(mark);
     }
     answer

@@ -5,7 +5,7 @@ ghost use Rattle.sdb_model.specs.declared.answer.Answer.TheVariants as answer;
 ghost use Rattle.sdb_model.specs.declared.answer.Refusal.{Refusal as RefusalValue};
 ghost use Rattle.sdb_model.specs.Refused.{refusal_of};
 ghost use Rattle.sdb_exec.specs.Plans.{has_all_literals};
-ghost use Rattle.sdb_exec.specs.Reads.{access_of};
+ghost use Rattle.sdb_model.specs.Reads.{access_of};
 ghost use Rattle.sdb_snapshot.specs.Seen.{overlay};
 ghost use Rattle.sdb_txn.specs.declared.txn.Doing.TheVariants as doing;
 ghost use Rattle.sdb_txn.specs.Txn.{reading};

@@ -1,7 +1,7 @@
 -- Values found so far, and the rest.
 use Rattle.std.proofs.Common.{◌≡◌, List, [], ◌∷◌, ◌++◌, Option, Some, None, refl, ap, sym, append_assoc}
 use Rattle.sdb_types.specs.declared.value.Value.{Value}
-use Rattle.sdb_exec.specs.Reads.{joined}
+use Rattle.sdb_model.specs.Reads.{joined}
 
 abbrev pub after_values : List Value → Option (List Value) → Option (List Value)
 after_values vs None = None

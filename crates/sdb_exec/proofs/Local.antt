@@ -19,7 +19,7 @@ use Rattle.sdb_record.specs.declared.write.Change.TheVariants as change
 use Rattle.sdb_record.specs.declared.access.Image.{Image}
 use Rattle.sdb_schema.specs.Table.{is_table}
 use Rattle.sdb_model.specs.Exec.{Tables, all_rows, row_of_entry, tables_of_rows, is_row_of, passes, with_sets, key_of, with_named, answer_of, left_by, projected, cut, sorted}
-use Rattle.sdb_exec.specs.Reads.{access_for, access_of}
+use Rattle.sdb_model.specs.Reads.{access_for, access_of}
 use Rattle.sdb_model.specs.Access.{in_access, rows_at, with_changes}
 use Rattle.sdb_exec.specs.Plans.{has_shape, are_shaped, put_row, columns_at, answer_on, changes_on}
 use Rattle.sdb_exec.proofs.Narrow.{narrow, tests_imply_access}

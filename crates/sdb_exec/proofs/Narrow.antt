@@ -23,7 +23,7 @@ use Rattle.sdb_model.specs.declared.statement.Test.{Test}
 use Rattle.sdb_model.specs.declared.statement.Test.TheVariants.{Compare, IsNull, NotNull}
 use Rattle.sdb_model.specs.Rows.{Name, same_name, order_names, value_of, value_in, literal_at}
 use Rattle.sdb_model.specs.Exec.{passes_test, passes, is_row_of}
-use Rattle.sdb_exec.specs.Reads.{fixed, joined, all_fixed, access_by, access_for}
+use Rattle.sdb_model.specs.Reads.{fixed, joined, all_fixed, access_by, access_for}
 use Rattle.sdb_model.specs.Access.{in_access}
 use Rattle.sdb_exec.specs.Plans.{has_shape}
 use Rattle.sdb_exec.proofs.Places.{sound}

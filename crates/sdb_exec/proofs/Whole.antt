@@ -21,7 +21,7 @@ use Rattle.sdb_model.specs.Rows.{Name}
 use Rattle.sdb_model.specs.declared.statement.Statement.{Statement}
 use Rattle.sdb_model.specs.declared.statement.Statement.TheVariants as statement
 use Rattle.sdb_model.specs.Exec.{Tables, all_rows, is_row_of, exec, exec_in, named_table, answer_of, left_by, key_of}
-use Rattle.sdb_exec.specs.Reads.{access_of, access_by}
+use Rattle.sdb_model.specs.Reads.{access_of, access_by}
 use Rattle.sdb_model.specs.Access.{in_access, rows_at, with_changes}
 use Rattle.sdb_exec.specs.Plans.{Planned, first_unfit, has_shape, are_shaped, all_well_typed, answer_on, changes_on, step_of, IsExec}
 use Rattle.sdb_exec.proofs.Local.{same_answer, same_after}

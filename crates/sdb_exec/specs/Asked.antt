@@ -10,7 +10,7 @@ use Rattle.sdb_model.specs.Access.{rows_at}
 use Rattle.sdb_model.specs.Exec.{Tables, all_rows, named_table}
 use Rattle.sdb_model.specs.Refused.{refusal_on}
 use Rattle.sdb_exec.specs.Plans.{IsExec, Planned, are_shaped, first_unfit, has_all_literals, step_of}
-use Rattle.sdb_exec.specs.Reads.{access_of}
+use Rattle.sdb_model.specs.Reads.{access_of}
 
 -- A plan whose rows were asked for, and whose table is the one of the catalog that the statement names.
 pub record AskedPlan : Type 0 where

@@ -23,7 +23,7 @@ use Rattle.sdb_exec.specs.declared.plan.PlanRefused.TheVariants as refused
 use Rattle.sdb_exec.specs.declared.plan.PlanStep.{PlanStep}
 use Rattle.sdb_exec.specs.declared.plan.PlanStep.TheVariants.{Read, Finished}
 use Rattle.sdb_model.specs.Access.{with_changes}
-use Rattle.sdb_exec.specs.Reads.{access_of}
+use Rattle.sdb_model.specs.Reads.{access_of}
 
 -- A plan: a statement, its table, and whether the rows were asked for.
 pub record Planned : Type 0 where

@@ -1,7 +1,7 @@
 //! The access of a statement.
 ghost use Rattle.std.specs.Prelude.{◌≡◌, IfOk, Some};
 ghost use Rattle.sdb_model.specs.Rows.{order_names};
-ghost use Rattle.sdb_exec.specs.Reads.{is_equals, fixed, all_fixed, access_for, access_of};
+ghost use Rattle.sdb_model.specs.Reads.{is_equals, fixed, all_fixed, access_for, access_of};
 
 use crate::{inserted_key, literal_at};
 use sdb_model::{Comparison, Statement, Test};

@@ -1,5 +1,5 @@
 -- Why a statement has its answer: for each answer its cause, over the events of a run.
-use Rattle.std.specs.Prelude.{◌≡◌, ◌≢◌, ◌⊎◌, ℕ, ℤ, ◌+◌, ◌-◌, Bool, true, false, not, ◌&&◌, if◌then◌else◌, MatchBool, nat_lt, List, filter, length, fold, take, sum_by, codes, Option, Some, None, IsSomeAnd, is_none, is_some, Contains, Err, All}
+use Rattle.std.specs.Prelude.{◌≡◌, ◌≢◌, ◌⊎◌, ◌≤◌, ℕ, ℤ, ◌+◌, ◌-◌, Bool, true, false, not, ◌&&◌, if◌then◌else◌, MatchBool, nat_lt, List, filter, length, fold, take, sum_by, codes, Option, Some, None, IsSomeAnd, is_none, is_some, Contains, Err, All}
 use Rattle.std.specs.Option.{option_and_then, option_map_or}
 use Rattle.std.specs.List.{count_by, list_any}
 use Rattle.std.specs.Result.{result_ok}
@@ -33,13 +33,15 @@ use Rattle.sdb_model.specs.declared.statement.Statement.{Statement}
 use Rattle.sdb_model.specs.declared.statement.Statement.TheVariants as statement
 use Rattle.sdb_model.specs.Sql.{Reads, Refuses, reads_commit, reads_vacuum}
 use Rattle.sdb_model.specs.Events.{catalog_at}
-use Rattle.sdb_model.specs.Exec.{find_table, key_of, table_of}
+use Rattle.sdb_model.specs.Access.{in_access}
+use Rattle.sdb_model.specs.Exec.{find_table, key_of, named_table, table_of}
+use Rattle.sdb_model.specs.Reads.{access_of}
 use Rattle.sdb_model.specs.Refused.{refusal_of}
 use Rattle.sdb_model.specs.Follows.{has_stopped}
 use Rattle.sdb_model.specs.Transactions.{Executed, statements_by, begins, ends, body, client_of, commit_of, statements_of, is_prepared_record, statements_inside}
 use Rattle.sdb_model.specs.Calls.{StoreCall, calls_of, calls_after, calls_before, clock_at, decision_found, decision_learned, is_of_row, is_read, is_removal, put_by, records_read, records_observed}
 use Rattle.sdb_model.specs.Requests.{any_of, records_put, shown_by}
-use Rattle.sdb_model.specs.ReadSet.{ReadItem, SpanRead, read_set_of, reads_rows, version_read, meaning_of, has_finished}
+use Rattle.sdb_model.specs.ReadSet.{ReadItem, SpanRead, read_set_of, reads_rows, version_read, meaning_of, has_read}
 use Rattle.sdb_types.specs.Replies.{is_applied, is_fault}
 use Rattle.sdb_types.specs.Order.{same_key}
 
@@ -214,7 +216,7 @@ pub record IsUnknown (events : List Event) (client : ℕ) (s : Executed) (id : T
   pub deciding : Contains (calls_of events client s) put × PutsRow id decision.Committed put × (put.reply ≡ reply.Fault)
   pub failed : Contains (calls_after put.at (calls_of events client s)) later × (is_of_row id later.request ≡ true) × ((later.reply ≡ reply.Fault) ⊎ (later.reply ≡ reply.NoMemory))
 
--- A call of the statement found a record, or a row of the coordinator, that isn't of the form of records.
+-- A record, or a row of the coordinator, isn't of the form of records.
 abbrev pub IsBad : Record → Type 0
 IsBad r = (name : List ℕ) × MatchBool (is_coordinator_table r.key.table) (decision_in r ≡ Err name) (checked r.columns ≡ Err name)
 
@@ -226,13 +228,27 @@ is_well_typed catalog key columns = option_map_or (λ t. fits_table t key column
 abbrev pub is_misfit : List Table → List StoreCall → Record → Bool
 is_misfit catalog calls r = not (is_coordinator_table r.key.table) && option_map_or (λ columns. not (is_well_typed catalog r.key columns)) (option_and_then row_of_image (meaning_of calls r)) false
 
--- A statement that is no COMMIT and no VACUUM read such a record.
-abbrev pub IsMisfit : List Table → List Event → ℕ → Executed → StoreCall → Record → Type 0
-IsMisfit catalog events client s m r = (reads_commit s.text ≡ false) × (reads_vacuum s.text ≡ false) × (reads_rows m ≡ true) × (is_misfit catalog (calls_of events client s) r ≡ true)
+-- A statement on a table reads at a key whose row doesn't fit: a statement of its transaction, this one or one before, whose read has
+-- finished, read a record there that means such a row.
+pub record MeetsMisfit (catalog : List Table) (events : List Event) (client : ℕ) (s : Executed) (key : Key) : Type 0 where
+  pub id : TxId
+  pub statement : Statement
+  pub table : Table
+  pub reader : Executed
+  pub call : StoreCall
+  pub found : Record
+  pub within : IsIn events client s id × IsIn events client reader id × (reader.taken ≤ s.taken)
+  pub over : Reads s.text statement × (named_table (catalog_at catalog events s.taken) statement ≡ Some table) × (in_access (access_of table statement) key ≡ true)
+  pub finished : has_read events client reader ≡ true
+  pub reads : Contains (calls_of events client reader) call × (reads_rows call ≡ true) × Contains (records_read call.reply) found × (found.key ≡ key)
+  pub misfit : is_misfit catalog (calls_of events client reader) found ≡ true
+
+-- a call of the statement found a record of the key, or a row of the coordinator, that isn't of the form of records
+abbrev pub FindsBad : List Event → ℕ → Executed → Key → Type 0
+FindsBad events client s key = (m : StoreCall) × (r : Record) × Contains (calls_of events client s) m × Contains (records_observed m.reply) r × (r.key ≡ key) × IsBad r
 
 abbrev pub IsBadRecord : List Table → List Event → ℕ → Executed → Key → Type 0
-IsBadRecord catalog events client s key =
-    (m : StoreCall) × (r : Record) × Contains (calls_of events client s) m × Contains (records_observed m.reply) r × (r.key ≡ key) × (IsBad r ⊎ IsMisfit catalog events client s m r)
+IsBadRecord catalog events client s key = FindsBad events client s key ⊎ MeetsMisfit catalog events client s key
 
 -- how many keys a transaction may write
 abbrev pub most_keys : ℕ
@@ -244,7 +260,7 @@ body_before events id s = filter (λ b. nat_lt b.taken s.taken) (body events id)
 
 -- its statements that were taken before this one and whose reads have finished
 abbrev pub finished_before : List Event → TxId → Executed → List Executed
-finished_before events id s = filter (λ b. nat_lt b.taken s.taken) (filter has_finished (statements_inside events id))
+finished_before events id s = filter (λ b. nat_lt b.taken s.taken) (filter (has_read events (client_of id)) (statements_inside events id))
 
 -- how many rows an answer counts
 abbrev pub rows_counted : Option Answer → ℕ

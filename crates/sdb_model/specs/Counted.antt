@@ -21,7 +21,6 @@ use Rattle.sdb_record.specs.declared.roll.Back.{Back}
 use Rattle.sdb_record.specs.declared.roll.Back.TheVariants as back
 use Rattle.sdb_record.specs.Meta.{id_in, is_unresolved, state_in}
 use Rattle.sdb_record.specs.Rolls.{back_of, forward_record}
-use Rattle.sdb_model.specs.declared.answer.Answer.{Answer}
 use Rattle.sdb_model.specs.declared.answer.Answer.TheVariants as answer
 use Rattle.sdb_model.specs.declared.event.Event.{Event}
 use Rattle.sdb_model.specs.declared.event.Event.TheVariants as event
@@ -30,7 +29,7 @@ use Rattle.sdb_model.specs.declared.event.How.TheVariants.{Seen, Lost, Discarded
 use Rattle.sdb_model.specs.Sql.{reads_commit, reads_vacuum}
 use Rattle.sdb_model.specs.Transactions.{Executed, statements_by, client_of, commit_of, prepares}
 use Rattle.sdb_model.specs.Calls.{StoreCall, calls_of, calls_after, decision_observed, is_removal, key_asked, records_read}
-use Rattle.sdb_model.specs.ReadSet.{ReadItem, KeyRead, SpanRead, read_set_of, read_finished, reads_rows}
+use Rattle.sdb_model.specs.ReadSet.{ReadItem, KeyRead, SpanRead, read_set_of, has_read, reads_rows}
 use Rattle.sdb_model.specs.Causes.{IsEarly}
 use Rattle.sdb_types.specs.Replies.{is_answered}
 
@@ -125,7 +124,7 @@ IsPassedOver events s calls read r = (id : TxId) × (at : ℤ) × (reads_vacuum 
 
 -- Whoever has finished a read had each unresolved record that was found rolled first.
 abbrev pub AreResolved : List Event → Type 0
-AreResolved events = (client : ℕ) (s : Executed) (a : Answer) (m : StoreCall) (r : Record) → Contains (statements_by client events) s → s.answer ≡ Some a → read_finished a ≡ true
+AreResolved events = (client : ℕ) (s : Executed) (m : StoreCall) (r : Record) → Contains (statements_by client events) s → has_read events client s ≡ true
     → Contains (calls_of events client s) m → reads_rows m ≡ true → Contains (records_read m.reply) r → is_unresolved r ≡ true → IsResolved (calls_of events client s) m r ⊎ IsPassedOver events s (calls_of events client s) m r
 
 ---- stores that fail

@@ -30,7 +30,7 @@ use Rattle.sdb_model.specs.Exec.{Tables, exec, find_table, projected}
 use Rattle.sdb_model.specs.Events.{StoreContents, catalog_at, moment}
 use Rattle.sdb_model.specs.Explained.{Observes}
 use Rattle.sdb_model.specs.Images.{row_at}
-use Rattle.sdb_model.specs.ReadSet.{meaning_of, has_finished}
+use Rattle.sdb_model.specs.ReadSet.{meaning_of, has_read}
 use Rattle.sdb_model.specs.Transactions.{Executed, client_of, is_effective, statements_of}
 use Rattle.sdb_model.specs.Serial.{AreRead}
 use Rattle.sdb_model.specs.Calls.{StoreCall, calls_of, decision_observed, end_of}
@@ -105,7 +105,7 @@ pub record HasRow (catalog : List Table) (was : Executed → Key → Option (Lis
   pub base : Option (List Pair)
   pub parts : statements_of events id ≡ earlier ++ changing ++ s ∷ later
   pub begins : StartsWith first (changing ++ s ∷ [])
-  pub finished : has_finished first ≡ true
+  pub finished : has_read events (client_of id) first ≡ true
   pub shown : was first key base
   pub read : AreRead (filter is_effective changing) sts
   pub made : row ≡ fold (λ r st. row_left catalog st key r) base sts

@@ -19,5 +19,6 @@ pub mod Form
 pub mod SqlTokens
 pub mod Sql
 pub mod Access
+pub mod Reads
 pub mod Plain
 pub mod Tables

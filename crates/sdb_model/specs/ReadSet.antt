@@ -1,7 +1,7 @@
 -- The read set of a transaction: what the records that its statements read mean, with the versions found.
-use Rattle.std.specs.Prelude.{Bool, true, false, List, ◌&&◌, filter, find, Option, Some, None, if◌then◌else◌}
+use Rattle.std.specs.Prelude.{ℕ, Bool, true, false, not, List, ◌&&◌, filter, find, Option, Some, None, if◌then◌else◌}
 use Rattle.std.specs.Option.{option_and_then, option_map, option_map_or}
-use Rattle.std.specs.List.{filter_map, flat_map}
+use Rattle.std.specs.List.{filter_map, flat_map, list_all}
 use Rattle.std.specs.Ordering.{is_eq}
 use Rattle.sdb_types.specs.declared.txid.TxId.{TxId}
 use Rattle.sdb_types.specs.declared.key.Key.{Key}
@@ -17,14 +17,14 @@ use Rattle.sdb_types.specs.Contents.{holds, in_span}
 use Rattle.sdb_record.specs.declared.access.Read.{Read}
 use Rattle.sdb_record.specs.declared.access.Scan.{Scan}
 use Rattle.sdb_record.specs.Coordinator.{is_coordinator_table}
-use Rattle.sdb_record.specs.Meta.{is_in}
+use Rattle.sdb_record.specs.Meta.{is_in, is_transactional}
 use Rattle.sdb_record.specs.Moved.{version_of}
 use Rattle.sdb_record.specs.Among.{version_among}
 use Rattle.sdb_model.specs.declared.answer.Answer.{Answer}
 use Rattle.sdb_model.specs.declared.answer.Answer.TheVariants as answer
 use Rattle.sdb_model.specs.declared.event.Event.{Event}
 use Rattle.sdb_model.specs.Events.{table_asked}
-use Rattle.sdb_model.specs.Calls.{StoreCall, calls_of, is_read, key_asked, put_by}
+use Rattle.sdb_model.specs.Calls.{StoreCall, calls_of, is_read, key_asked, put_by, records_read}
 use Rattle.sdb_model.specs.Transactions.{Executed, client_of, statements_inside}
 
 -- One item of a read set: a key with the version found there, or a span with the versions found in it.
@@ -77,20 +77,30 @@ reads_rows m = if is_coordinator_table (table_asked m.request) then false else i
 abbrev pub read_items : List StoreCall → List ReadItem
 read_items calls = filter_map (λ m. read_item_of calls m.request m.reply) (filter reads_rows calls)
 
--- The read of a statement that is answered so has finished: it is answered from rows, or is refused, which says that it would write too
--- many keys, or that it made no call.
-abbrev pub read_finished : Answer → Bool
-read_finished (answer.Rows rows) = true
-read_finished (answer.Count n) = true
-read_finished (answer.Duplicate key) = true
-read_finished (answer.Refused refusal) = true
-read_finished a = false
+-- each record that the reads among some calls found passes the checks
+abbrev pub finds_transactional : List StoreCall → Bool
+finds_transactional calls = list_all (λ m. list_all is_transactional (records_read m.reply)) (filter reads_rows calls)
 
--- the read of a statement has finished
-abbrev pub has_finished : Executed → Bool
-has_finished s = option_map_or read_finished s.answer false
+-- The read of a statement that made these calls and is answered so has finished. It has where the statement is answered from rows, or is
+-- refused, which says that it would write too many keys, or that it made no call. It has where the statement is answered BadRecord of a row
+-- that doesn't fit its table: each record that it found passes the checks, and the key is none of the coordinator's.
+abbrev pub read_finished : List StoreCall → Answer → Bool
+read_finished calls (answer.Rows rows) = true
+read_finished calls (answer.Count n) = true
+read_finished calls (answer.Duplicate key) = true
+read_finished calls (answer.Refused refusal) = true
+read_finished calls (answer.BadRecord key) = not (is_coordinator_table key.table) && finds_transactional calls
+read_finished calls a = false
+
+-- the read of a statement has finished, which made these calls
+abbrev pub has_finished : List StoreCall → Executed → Bool
+has_finished calls s = option_map_or (read_finished calls) s.answer false
+
+-- the read of a statement that a client took has finished
+abbrev pub has_read : List Event → ℕ → Executed → Bool
+has_read events client s = has_finished (calls_of events client s) s
 
 -- The read set of a transaction, in order. What a statement read is in it where its read has finished, whatever the statement is then
 -- answered.
 abbrev pub read_set_of : List Event → TxId → List ReadItem
-read_set_of events id = flat_map (λ s. read_items (calls_of events (client_of id) s)) (filter has_finished (statements_inside events id))
+read_set_of events id = flat_map (λ s. read_items (calls_of events (client_of id) s)) (filter (has_read events (client_of id)) (statements_inside events id))

@@ -39,7 +39,7 @@ use Rattle.sdb_model.specs.Transactions.{changes_nothing, is_answered_from_rows}
 use Rattle.sdb_exec.specs.declared.plan.PlanStep.{PlanStep}
 use Rattle.sdb_exec.specs.declared.plan.PlanStep.TheVariants.{Finished}
 use Rattle.sdb_exec.specs.Plans.{Planned, finished, first_unfit, step_at, step_of, changes_on}
-use Rattle.sdb_exec.specs.Reads.{access_of}
+use Rattle.sdb_model.specs.Reads.{access_of}
 use Rattle.sdb_exec.proofs.Places.{named_is_table}
 use Rattle.law_protocol.specs.Lawful.{Labelled}
 use Rattle.sdb_read.specs.declared.read.ReadStep.TheVariants as step
@@ -296,7 +296,7 @@ module _ (catalog : List Table) (apart : IsApart catalog) (g h : Database) (soun
     )
 
     abbrev Answers : TxnAt → PlanStep → Type 0
-    Answers v s = Led (next.Answer (given_answer v s)) (given_left (idle_of t) v s)
+    Answers v s = Led (next.Answer (given_answer v s)) (given_left v s)
 
     finished_at : (v : TxnAt) (b : Answer) (ks : List Keyed) → IsNoting t a images v → gives p a v ≡ Finished b ks → ks ≡ changes_on p.table p.statement (overlay a v.seen) → Answers v (Finished b ks)
     finished_at v b ks n gave is =
@@ -316,7 +316,7 @@ module _ (catalog : List Table) (apart : IsApart catalog) (g h : Database) (soun
 
   images_case : (images : List Record) → AreRowsAt h a images → AreCommitted images → (n : Next) (u : TxnAt) → RowsReadPost t p a images n u → Led n u
   images_case images rows firm (next.Answer z) u e =
-      as_led (next.Answer z) (next.Answer (given_answer (with_rows_read t a images) (gives p a (with_rows_read t a images)))) u (given_left (idle_of t) (with_rows_read t a images) (gives p a (with_rows_read t a images))) (ap next.Answer e.1) e.2
+      as_led (next.Answer z) (next.Answer (given_answer (with_rows_read t a images) (gives p a (with_rows_read t a images)))) u (given_left (with_rows_read t a images) (gives p a (with_rows_read t a images))) (ap next.Answer e.1) e.2
       (took images rows firm e.0 (with_rows_read t a images) (is_noting t a images))
   images_case images rows firm (next.End (answer.Conflict key found)) u e = by a refl e
     where

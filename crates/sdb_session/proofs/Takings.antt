@@ -38,7 +38,7 @@ use Rattle.sdb_model.specs.Transactions.{changes_nothing, is_answered_from_rows}
 use Rattle.sdb_exec.specs.declared.plan.PlanStep.{PlanStep}
 use Rattle.sdb_exec.specs.declared.plan.PlanStep.TheVariants.{Finished}
 use Rattle.sdb_exec.specs.Plans.{Planned, finished, first_unfit, has_all_literals, step_at, step_of, changes_on}
-use Rattle.sdb_exec.specs.Reads.{access_of}
+use Rattle.sdb_model.specs.Reads.{access_of}
 use Rattle.sdb_exec.proofs.Places.{named_is_table}
 use Rattle.sdb_exec.proofs.Whole.{own}
 use Rattle.sdb_phases.specs.Checks.{checks}
@@ -145,7 +145,7 @@ module _ (catalog : List Table) (g : Database) (sound : IsSound catalog g) (d : 
       )
 
   abbrev AnsweredAt : PlanStep → Type 0
-  AnsweredAt s = AtOnce (given_answer t s) (given_left t t s)
+  AnsweredAt s = AtOnce (given_answer t s) (given_left t s)
 
   finished_at : (b : Answer) (ks : List Keyed) → gives p a t ≡ Finished b ks → ks ≡ changes_on p.table p.statement (overlay a t.seen) → AnsweredAt (Finished b ks)
   finished_at b ks gave is =
@@ -305,9 +305,9 @@ module _ (q : Taking) (apart : IsApart q.catalog) (is : is_catalog q.catalog ≡
       rows table taken named r = by_test (is_covered t.seen (access_of table st))
           (λ k.
           let w = at_once q.catalog g sound d are_images fit q.now b.statements b.answers t s.0 (plan_of table st) (access_of table st) asked opened k in
-          Answers (given_answer t (gives (plan_of table st) (access_of table st) t)) (r.known k).0 (Answered b st (plan_of table st) (access_of table st) (given_left t t (gives (plan_of table st) (access_of table st) t)).seen refl refl asked stays u (settles_refl q.catalog g)
-          (subst (λ (i : TxId). AnsweredAlone q.catalog g b.statements b.answers st (access_of table st) q.now i (given_answer t (gives (plan_of table st) (access_of table st) t)) (given_left t t (gives (plan_of table st) (access_of table st) t)).seen) s.1 w.2)
-          (record { t = given_left t t (gives (plan_of table st) (access_of table st) t); txn = ap (λ (y : ClientAt). y.txn) (r.known k).1; idle = w.0; id = w.1 ∙ s.1; seen = refl; free = ap (λ (y : ClientAt). y.vacuum) (r.known k).1 ∙ between.free; plan = ap (λ (y : ClientAt). y.plan) (r.known k).1 })))
+          Answers (given_answer t (gives (plan_of table st) (access_of table st) t)) (r.known k).0 (Answered b st (plan_of table st) (access_of table st) (given_left t (gives (plan_of table st) (access_of table st) t)).seen refl refl asked stays u (settles_refl q.catalog g)
+          (subst (λ (i : TxId). AnsweredAlone q.catalog g b.statements b.answers st (access_of table st) q.now i (given_answer t (gives (plan_of table st) (access_of table st) t)) (given_left t (gives (plan_of table st) (access_of table st) t)).seen) s.1 w.2)
+          (record { t = given_left t (gives (plan_of table st) (access_of table st) t); txn = ap (λ (y : ClientAt). y.txn) (r.known k).1; idle = w.0; id = w.1 ∙ s.1; seen = refl; free = ap (λ (y : ClientAt). y.vacuum) (r.known k).1 ∙ between.free; plan = ap (λ (y : ClientAt). y.plan) (r.known k).1 })))
           (λ k.
           More st refl (r.unknown k).0 (Reads b (reading t (access_of table st)) (plan_of table st) (access_of table st) (record { request = request_of (access_of table st); stage = Asking }) u
           (ap (λ (y : ClientAt). y.vacuum) (r.unknown k).1 ∙ between.free) (ap (λ (y : ClientAt). y.txn) (r.unknown k).1) (ap (λ (y : ClientAt). y.plan) (r.unknown k).1) refl refl asked refl s.1 opened tt (settles_refl q.catalog g) stays))

@@ -23,7 +23,7 @@ use Rattle.sdb_model.specs.Refused.{refusal_by, refusal_of}
 use Rattle.sdb_model.specs.Transactions.{changes_nothing, is_conflict, is_done}
 use Rattle.sdb_exec.specs.Plans.{Planned, answer_on, changes_on, columns_at, finished, first_unfit, step_at, step_of}
 use Rattle.sdb_exec.specs.declared.plan.PlanStep.TheVariants.{Finished}
-use Rattle.sdb_exec.specs.Reads.{access_of}
+use Rattle.sdb_model.specs.Reads.{access_of}
 use Rattle.sdb_phases.specs.Commit.{preparing}
 use Rattle.sdb_read.specs.declared.read.ReadStep.{ReadStep}
 use Rattle.sdb_read.specs.declared.read.ReadStep.TheVariants as step
@@ -210,7 +210,7 @@ module _ (catalog : List Table) (now : ℤ) (id : TxId) where
       images_case : (images : List Record) (n : Next) (u : TxnAt) → RowsReadPost t p a images n u → Left st n u
       images_case images (next.Answer z) u h =
           let plain : IsPlain z = subst IsPlain (sym h.1) (given_plain p _ (with_rows_read t a images) (ap (λ y. is_some (table_of y)) of ∙ on)) in
-          kept_at z u (ap (λ (v : TxnAt). v.doing) h.2 ∙ left_idle (idle_of t) (with_rows_read t a images) (gives p a (with_rows_read t a images)) refl (noting_idle images a)) plain.agrees plain.may
+          kept_at z u (ap (λ (v : TxnAt). v.doing) h.2 ∙ left_idle (with_rows_read t a images) (gives p a (with_rows_read t a images)) (noting_idle images a)) plain.agrees plain.may
       images_case images (next.End (answer.Conflict key found)) u h = answered true (Ok st) (answer.Conflict key found) (Some (answer.Conflict key found)) (resting c) (resting c) refl refl (ended_at (Ok st) (answer.Conflict key found) c stays free (conflict_ends (is_commit (Ok st))) tt)
         where
           conflict_ends : (b : Bool) → (b || (true || (is_rollback (Ok st) && false))) ≡ true
@@ -345,8 +345,8 @@ module _ (q : Taking) (vacuums : q.gate.vacuum_runs ≡ false) (opens : q.gate.o
       rows_case : (table : Table) → rejected q.catalog true (Ok st) ≡ None → RowsPost (plan_of table st) (access_of table st) c t result d → Goes true (Ok st)
       rows_case table stays r = by_test (is_covered t.seen (access_of table st))
           (λ k. let plain = given_plain (plan_of table st) _ t on.table in
-          answered q.catalog q.now q.fresh true (Ok st) _ result (holding c (given_left t t (gives (plan_of table st) (access_of table st) t))) d (r.known k).0 (r.known k).1
-          (kept_open q.catalog q.now q.fresh st (given_answer t (gives (plan_of table st) (access_of table st) t)) c _ stays on.table idle.free (left_idle t t (gives (plan_of table st) (access_of table st) t) (still_of t e) (still_of t e)) plain.agrees plain.may))
+          answered q.catalog q.now q.fresh true (Ok st) _ result (holding c (given_left t (gives (plan_of table st) (access_of table st) t))) d (r.known k).0 (r.known k).1
+          (kept_open q.catalog q.now q.fresh st (given_answer t (gives (plan_of table st) (access_of table st) t)) c _ stays on.table idle.free (left_idle t (gives (plan_of table st) (access_of table st) t) (still_of t e)) plain.agrees plain.may))
           (λ k. waiting q.catalog q.now q.fresh true st result (record c { txn = Some (reading t (access_of table st)); plan = Some (plan_of table st) }) d (r.unknown k).0 (r.unknown k).1 stays
           (Reads (reading t (access_of table st)) (plan_of table st) (access_of table st) (record { request = request_of (access_of table st); stage = Asking }) idle.free refl refl refl refl on.table refl))
 

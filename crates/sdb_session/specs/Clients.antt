@@ -17,7 +17,7 @@ use Rattle.sdb_model.specs.Transactions.{changes_nothing, is_answered_from_rows}
 use Rattle.sdb_model.specs.declared.answer.Answer.{Answer}
 use Rattle.sdb_model.specs.declared.answer.Answer.TheVariants as answer
 use Rattle.sdb_exec.specs.Plans.{Planned, has_all_literals}
-use Rattle.sdb_exec.specs.Reads.{access_of}
+use Rattle.sdb_model.specs.Reads.{access_of}
 use Rattle.sdb_read.specs.Read.{ReadAt}
 use Rattle.sdb_txn.specs.declared.txn.Doing.TheVariants as doing
 use Rattle.sdb_txn.specs.Txn.{TxnAt}

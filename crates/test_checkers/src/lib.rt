@@ -16,6 +16,8 @@ mod forged;
 #[cfg(test)]
 mod lawful;
 #[cfg(test)]
+mod misfits;
+#[cfg(test)]
 mod moments;
 #[cfg(test)]
 mod runs;

@@ -8,7 +8,7 @@ use sdb_texts::{answer_text, put_key, put_record, put_span};
 use sdb_types::{NoMemory, Request, Txt};
 use std::alloc::Global;
 use std::test::Fail;
-use test_builders::{Case, all_cases};
+use test_builders::{Case, Cell, all_cases};
 
 // A statement, its calls, each with its reply, and its answer.
 type Step = (
@@ -284,6 +284,67 @@ const OWN_INSERT: &[Step] = &[
     ),
 ];
 
+// A row whose balance is no number.
+const UNFIT: Answer = Answer::Row(&[
+    ("tx_id", Cell::Text("00000000-0000-0001-0000-000000000001")),
+    ("tx_state", Cell::Int(3)),
+    ("tx_version", Cell::Int(1)),
+    ("tx_prepared_at", Cell::BigInt(0)),
+    ("tx_committed_at", Cell::BigInt(0)),
+    ("balance", Cell::Text("much")),
+]);
+
+// A SELECT that meets a row which doesn't fit its table.
+const MISFIT: Step = (
+    "SELECT balance FROM bank.account WHERE id = 1",
+    &[("get bank.account(1)", UNFIT)],
+    "badrecord bank.account(1)",
+);
+
+// Later statements over the row are answered without a call, and COMMIT checks what was read.
+const MISFIT_CHECKED: &[Step] = &[
+    BEGIN,
+    MISFIT,
+    (
+        "SELECT balance FROM bank.account WHERE id = 1",
+        &[],
+        "badrecord bank.account(1)",
+    ),
+    (
+        "UPDATE bank.account SET balance = 1 WHERE id = 1",
+        &[],
+        "badrecord bank.account(1)",
+    ),
+    (
+        "COMMIT",
+        &[
+            ("get bank.account(1)", UNFIT),
+            (
+                "put coordinator.state('00000000-0000-0001-0000-000000000001'){tx_created_at=0L,tx_state=3}",
+                Answer::Applied,
+            ),
+        ],
+        "committed",
+    ),
+];
+
+// The row is gone by then.
+const MISFIT_CHANGED: &[Step] = &[
+    BEGIN,
+    MISFIT,
+    (
+        "COMMIT",
+        &[
+            ("get bank.account(1)", Answer::NoRow),
+            (
+                "put coordinator.state('00000000-0000-0001-0000-000000000001'){tx_created_at=0L,tx_state=4}",
+                Answer::Applied,
+            ),
+        ],
+        "conflict bank.account(1) none",
+    ),
+];
+
 // Statements inside and outside of transactions; a fault leaves the transaction open, and records no read.
 const OUTSIDE: &[Step] = &[
     ("COMMIT", &[], "refused 5 0"),
@@ -366,6 +427,25 @@ static READ_AGAIN: [Script; 1] = [Script {
 
 fn read_again(alloc: Global) -> Result<(), Fail> {
     all_cases(alloc, "read again", READ_AGAIN.as_slice())
+}
+
+static MISFITS: [Script; 2] = [
+    Script {
+        schema: BANK,
+        steps: MISFIT_CHECKED,
+        open: false,
+        begun: 1,
+    },
+    Script {
+        schema: BANK,
+        steps: MISFIT_CHANGED,
+        open: false,
+        begun: 1,
+    },
+];
+
+fn misfits(alloc: Global) -> Result<(), Fail> {
+    all_cases(alloc, "misfits", MISFITS.as_slice())
 }
 
 static REFUSALS: [Script; 2] = [
@@ -489,6 +569,7 @@ fn refused_insert_is_checked(rt: HostRuntime) -> Result<(), Fail> {
 fn clients_are_answered(rt: HostRuntime) -> Result<(), Fail> {
     in_transactions(rt.alloc())?;
     read_again(rt.alloc())?;
+    misfits(rt.alloc())?;
     refusals(rt.alloc())?;
     outside_of_them(rt.alloc())
 }

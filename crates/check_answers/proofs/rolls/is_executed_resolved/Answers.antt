@@ -2,8 +2,12 @@ use Rattle.std.proofs.Common.{ap, sym, ◌∙◌}
 use Rattle.sdb_order.specs.Commits.{executed_of}
 use Rattle.check_tables.specs.Values.{all_made}
 use Rattle.check_answers.proofs.Decided.{if_ok}
-use Rattle.check_answers.proofs.RollLaws.{said_resolved}
+use Rattle.check_answers.proofs.RollLaws.{said_resolved, said_unfinished}
 use Rattle.check_answers.proofs.rolls.is_executed_resolved.Goals as goal
+
+pub returns-then-not-has_finished : goal.returns-then-not-has_finished
+returns-then-not-has_finished c =
+    said_unfinished c.args.events.now c.args.client (executed_of c.args.executed.now) c.as_slice-all.result.now (ap all_made c.as_slice-all.ensures ∙ c.in_ok-calls.ensures) (sym c.if-not-has_finished.ensures)
 
 pub returns : goal.returns
 returns c =

@@ -2,7 +2,7 @@ use Rattle.std.proofs.Common.{◌∙◌, ◌++◌, List, ap}
 use Rattle.std.specs.Prelude.{ℕ, filter}
 use Rattle.std.specs.List.{flat_map}
 use Rattle.sdb_model.specs.Calls.{calls_of}
-use Rattle.sdb_model.specs.ReadSet.{ReadItem, has_finished, read_items}
+use Rattle.sdb_model.specs.ReadSet.{ReadItem, has_read, read_items}
 use Rattle.sdb_model.specs.Transactions.{Executed, client_of, statements_by}
 use Rattle.sdb_order.specs.declared.executed.Executed.{Executed as Plain}
 use Rattle.sdb_order.specs.Commits.{all_executed, executed_of}
@@ -15,7 +15,7 @@ pub returns : goal.returns
 returns c =
     let events = c.args.events.now in
     let client = c.client_of-client.result in
-    let f : ℕ → List Executed → List ReadItem = λ n ss. flat_map (λ s. read_items (calls_of events n s)) (filter has_finished ss) in
+    let f : ℕ → List Executed → List ReadItem = λ n ss. flat_map (λ s. read_items (calls_of events n s)) (filter (has_read events n) ss) in
     c.in_ok-add_all_said.ensures ∙ ap (λ (ns : List Found). all_items ns ++ flat_map (λ s. items_of_statement events client (executed_of s)) c.in_ok-inside.inside.now) c.new-read_set.ensures
     ∙ all_noted events client c.in_ok-inside.inside.now ∙ ap (f client) c.in_ok-inside.ensures
     ∙ ap (λ (ss : List Plain). f client (inside_among (all_executed ss) c.ordinal_of.result)) c.as_slice.ensures

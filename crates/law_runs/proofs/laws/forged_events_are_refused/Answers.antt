@@ -1,6 +1,6 @@
 use Rattle.law_runs.proofs.ForgedCommits.{early_refused, unapplied_refused, unprepared_refused, unwritten_refused}
 use Rattle.law_runs.proofs.ForgedEnds.{faulted_refused}
-use Rattle.law_runs.proofs.ForgedFound.{again_refused, counted_over_refused, forgotten_refused, invented_refused, left_out_refused, miscounted_refused, no_duplicate_refused, unlimited_refused, unrolled_refused}
+use Rattle.law_runs.proofs.ForgedFound.{again_refused, counted_over_refused, forgotten_refused, invented_refused, left_out_refused, miscounted_refused, misfit_refused, no_duplicate_refused, unlimited_refused, unrolled_refused}
 use Rattle.law_runs.proofs.Forgeries.{begin_refused, busy_refused, decision_refused, idle_busy_refused, lazy_refused, moment_refused}
 use Rattle.law_runs.proofs.laws.forged_events_are_refused.Goals as goal
 
@@ -15,6 +15,7 @@ returns c = record {
   decided = λ text id d now h. decision_refused text id d now h.0 h.1;
   invented = invented_refused;
   left_out = left_out_refused;
+  misfit = misfit_refused;
   unrolled = unrolled_refused;
   unlimited = unlimited_refused;
   miscounted = miscounted_refused;

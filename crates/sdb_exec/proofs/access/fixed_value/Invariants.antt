@@ -1,5 +1,5 @@
 use Rattle.std.proofs.Common.{◌≡◌, drop}
-use Rattle.sdb_exec.specs.Reads.{fixed}
+use Rattle.sdb_model.specs.Reads.{fixed}
 use Rattle.sdb_exec.proofs.access.fixed_value.Given as goal
 
 abbrev pub invariant-loop-test : goal.invariant-loop-test

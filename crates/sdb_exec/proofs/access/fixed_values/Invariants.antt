@@ -1,5 +1,5 @@
 use Rattle.std.proofs.Common.{◌≡◌, drop}
-use Rattle.sdb_exec.specs.Reads.{all_fixed}
+use Rattle.sdb_model.specs.Reads.{all_fixed}
 use Rattle.sdb_exec.proofs.Fixed.{after_values}
 use Rattle.sdb_exec.proofs.access.fixed_values.Given as goal
 

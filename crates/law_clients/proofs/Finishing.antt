@@ -1,0 +1,221 @@
+-- By its answer the read of a statement has finished, or has not.
+use Rattle.std.proofs.Common.{◌≡◌, ◌⊎◌, inl, inr, ℕ, ℤ, Bool, true, false, not, List, [], ◌∷◌, ◌++◌, Option, Some, None, Result, Ok, Err, refl, sym, ap, subst, ◌∙◌}
+use Rattle.std.specs.Prelude.{◌&&◌, if◌then◌else◌, filter, find, is_ok, is_some}
+use Rattle.std.specs.List.{AllByRecursion, list_all}
+use Rattle.std.specs.Option.{option_map}
+use Rattle.std.proofs.lemmas.Bool.{and_parts}
+use Rattle.sdb_types.specs.declared.key.Key.{Key}
+use Rattle.sdb_types.specs.declared.record.Record.{Record}
+use Rattle.sdb_types.specs.declared.record.Reply.{Reply}
+use Rattle.sdb_types.specs.declared.record.Reply.TheVariants as reply
+use Rattle.sdb_types.specs.declared.record.State.TheVariants as state
+use Rattle.sdb_record.specs.Parts.{are_stored}
+use Rattle.sdb_types.proofs.Basics.{clash, none_some, some_is}
+use Rattle.sdb_record.specs.declared.access.Access.{Access}
+use Rattle.sdb_record.specs.declared.access.Image.{Image}
+use Rattle.sdb_record.specs.declared.coordinator.Decided.{Decided}
+use Rattle.sdb_record.specs.declared.coordinator.Decision.{Decision}
+use Rattle.sdb_record.specs.declared.coordinator.Decision.TheVariants as decision
+use Rattle.sdb_record.specs.declared.meta.Meta.{Meta}
+use Rattle.sdb_record.specs.Coordinator.{coordinator_key_of, decision_in, is_coordinator_table, is_expired}
+use Rattle.sdb_record.specs.Meta.{checked, is_in, is_transactional}
+use Rattle.sdb_schema.specs.declared.table.Table.{Table}
+use Rattle.sdb_model.specs.declared.answer.Answer.{Answer}
+use Rattle.sdb_model.specs.declared.answer.Answer.TheVariants as answer
+use Rattle.sdb_model.specs.declared.statement.Statement.{Statement}
+use Rattle.sdb_model.specs.declared.statement.Statement.TheVariants as statement
+use Rattle.sdb_model.specs.Access.{in_access}
+use Rattle.sdb_model.specs.Calls.{StoreCall}
+use Rattle.sdb_model.specs.Causes.{refused}
+use Rattle.sdb_model.specs.Exec.{all_rows, key_of}
+use Rattle.sdb_model.specs.ReadSet.{finds_transactional, read_finished}
+use Rattle.sdb_model.specs.Transactions.{changes_nothing}
+use Rattle.sdb_exec.specs.Plans.{Planned, answer_on, changes_on, columns_at, finished, first_unfit, is_unfit, step_at, step_of}
+use Rattle.sdb_phases.specs.declared.step.RecoverPhase.{RecoverPhase}
+use Rattle.sdb_phases.specs.declared.step.RecoverPhase.TheVariants as phase
+use Rattle.sdb_phases.specs.declared.step.RecoverStep.{RecoverStep}
+use Rattle.sdb_phases.specs.declared.step.RecoverStep.TheVariants as steps
+use Rattle.sdb_phases.specs.Recover.{recover_next, roll_to, undecided}
+use Rattle.sdb_read.specs.declared.read.ReadStep.TheVariants as step
+use Rattle.sdb_read.specs.Read.{Kind, Firm, Open, Bad, ReadStage, Asking, Resolving, Ended, answered, kind_of, opened, read_step, resolved, settle, settle_one}
+use Rattle.sdb_snapshot.specs.Seen.{Seen, overlay, tables_seen}
+use Rattle.sdb_txn.specs.Txn.{TxnAt}
+use Rattle.sdb_client.specs.Client.{given_answer, too_many}
+use Rattle.law_clients.specs.Machine.{abstract_read}
+use Rattle.law_clients.specs.Calls.{HasUnchecked, rows_left}
+use Rattle.law_clients.proofs.Noting.{coordinators}
+
+---- rows that don't fit
+
+pub passes_all : (p : Image → Bool) (xs : List Image) → AllByRecursion (λ x. p x ≡ true) (filter p xs)
+passes_all p [] = tt
+passes_all p (x ∷ xs) = by (p x) refl (passes_all p xs)
+  where
+    by : (b : Bool) → p x ≡ b → AllByRecursion (λ y. p y ≡ true) (filter p xs) → AllByRecursion (λ y. p y ≡ true) (if b then x ∷ filter p xs else filter p xs)
+    by true e ih = (e, ih)
+    by false e ih = ih
+
+pub found_so : (P : Image → Type 0) (p : Image → Bool) (xs : List Image) (x : Image) → AllByRecursion P xs → find p xs ≡ Some x → P x
+found_so P p [] x all e = none_some x e
+found_so P p (y ∷ xs) x all e = by (p y) (λ h. found_so P p xs x all.1 h) e
+  where
+    by : (b : Bool) → (find p xs ≡ Some x → P x) → (if b then Some y else find p xs) ≡ Some x → P x
+    by true ih h = subst P (some_is y x h) all.0
+    by false ih h = ih h
+
+-- a row that is seen at an access and doesn't fit lies there
+pub unfit_inside : (a : Access) (s : Seen) (t : Table) (key : Key) → first_unfit t (overlay a s) ≡ Some key → in_access a key ≡ true
+unfit_inside a s t key e = by (find (is_unfit t) (overlay a s)) refl e
+  where
+    by : (o : Option Image) → find (is_unfit t) (overlay a s) ≡ o → option_map (λ (r : Image). r.key) o ≡ Some key → in_access a key ≡ true
+    by None k h = none_some key h
+    by (Some r) k h =
+        subst (λ (z : Key). in_access a z ≡ true) (some_is r.key key h)
+        (found_so (λ (x : Image). in_access a x.key ≡ true) (is_unfit t) (overlay a s) r (passes_all (λ (x : Image). in_access a x.key) (all_rows (tables_seen s))) k)
+
+---- what a plan answers
+
+pub answer_finishes : (ms : List StoreCall) (t : Table) (st : Statement) (rows : List Image) → read_finished ms (answer_on t st rows) ≡ true
+answer_finishes ms t (statement.Insert s) rows = by (is_some (columns_at (key_of t s) rows))
+  where
+    by : (b : Bool) → read_finished ms (if b then answer.Duplicate (key_of t s) else answer.Count 1) ≡ true
+    by true = refl
+    by false = refl
+answer_finishes ms t (statement.Upsert s) rows = refl
+answer_finishes ms t (statement.Update s) rows = refl
+answer_finishes ms t (statement.Delete s) rows = refl
+answer_finishes ms t (statement.Select s) rows = refl
+answer_finishes ms t statement.Begin rows = refl
+answer_finishes ms t statement.Commit rows = refl
+answer_finishes ms t statement.Rollback rows = refl
+answer_finishes ms t statement.Vacuum rows = refl
+
+pub misfit_finishes : (ms : List StoreCall) (key : Key) → is_coordinator_table key.table ≡ false → finds_transactional ms ≡ true → read_finished ms (answer.BadRecord key) ≡ true
+misfit_finishes ms key apart taken = ap (λ b. not b && finds_transactional ms) apart ∙ taken
+
+-- Where a plan was asked for its rows, the read of its statement has finished by what it is answered on them.
+pub given_finishes : (ms : List StoreCall) (p : Planned) (rows : List Image) (t : TxnAt) → p.asked ≡ true → ((key : Key) → first_unfit p.table rows ≡ Some key → is_coordinator_table key.table ≡ false) → finds_transactional ms ≡ true → read_finished ms (given_answer t (step_of p rows)) ≡ true
+given_finishes ms p rows t asked apart taken = ap (λ b. read_finished ms (given_answer t (step_at b p.table p.statement rows))) asked ∙ by (first_unfit p.table rows) refl
+  where
+    on_rows : (z : Bool) → read_finished ms (if z then refused 15 else answer_on p.table p.statement rows) ≡ true
+    on_rows true = refl
+    on_rows false = answer_finishes ms p.table p.statement rows
+
+    by : (o : Option Key) → first_unfit p.table rows ≡ o → read_finished ms (given_answer t (finished p.table p.statement rows o)) ≡ true
+    by None e = on_rows (not (changes_nothing (answer_on p.table p.statement rows)) && too_many t (changes_on p.table p.statement rows))
+    by (Some key) e = misfit_finishes ms key (apart key e) taken
+
+---- reads that find a bad record
+
+kind_apart : (r : Record) → is_transactional r ≡ true → kind_of r ≡ Bad → ⊥
+kind_apart r taken e = by_firm (is_in state.Committed r.columns) (sym (ap (λ b. if b then (if is_in state.Committed r.columns then Firm else opened (checked r.columns)) else Bad) taken) ∙ e)
+  where
+    by_checked : (x : Result Meta (List ℕ)) → checked r.columns ≡ x → opened x ≡ Bad → ⊥
+    by_checked (Ok meta) k h = absurd (cc)
+    by_checked (Err column) k h = clash (sym (and_parts (are_stored r.columns) (is_ok (checked r.columns)) taken).1 ∙ ap is_ok k)
+
+    by_firm : (b : Bool) → (if b then Firm else opened (checked r.columns)) ≡ Bad → ⊥
+    by_firm true h = absurd (cc)
+    by_firm false h = by_checked (checked r.columns) refl h
+
+settle_bad : (images left : List Record) (key : Key) → settle images left ≡ Ended (step.BadRecord key) → HasUnchecked left
+settle_bad images [] key e = absurd (cc)
+settle_bad images (r ∷ left) key e = by (is_transactional r) refl (λ h. settle_bad (images ++ r ∷ []) left key h)
+  where
+    by_kind : is_transactional r ≡ true → (k : Kind) → kind_of r ≡ k → (settle (images ++ r ∷ []) left ≡ Ended (step.BadRecord key) → HasUnchecked left) → settle_one k images r left (settle (images ++ r ∷ []) left) ≡ Ended (step.BadRecord key) → HasUnchecked left
+    by_kind taken Firm is rest h = rest h
+    by_kind taken (Open meta) is rest h = absurd (cc)
+    by_kind taken Bad is rest h = absurd (kind_apart r taken is)
+
+    by : (b : Bool) → is_transactional r ≡ b → (settle (images ++ r ∷ []) left ≡ Ended (step.BadRecord key) → HasUnchecked left) → list_all is_transactional (r ∷ left) ≡ false
+    by false taken rest = ap (λ b. b && list_all is_transactional left) taken
+    by true taken rest = ap (λ b. b && list_all is_transactional left) taken ∙ by_kind taken (kind_of r) refl rest e
+
+-- a row that is followed is bad by itself
+row_bad : (meta : Meta) (d : Result Decided (List ℕ)) (key : Key) → (roll_to meta d).1 ≡ steps.BadRecord key → is_coordinator_table key.table ≡ true
+row_bad meta (Err column) key e =
+    let is : coordinator_key_of meta.id ≡ key = cc in
+    subst (λ (k : Key). is_coordinator_table k.table ≡ true) is (coordinators meta.id)
+row_bad meta (Ok d) key e = on d.decision e
+  where
+    on : (x : Decision) → (elim x as (λ _. RecoverPhase × RecoverStep) [ decision.Committed ↦ (phase.Forward d.created_at, steps.More) | decision.Aborted ↦ (phase.Back, steps.More) ]).1 ≡ steps.BadRecord key → is_coordinator_table key.table ≡ true
+    on decision.Committed h = absurd (cc)
+    on decision.Aborted h = absurd (cc)
+
+-- without a row, by whether the record has expired
+abbrev undecided_at : Meta → ℤ → Bool → RecoverPhase × RecoverStep
+undecided_at meta now b = if b then (phase.Abort now, steps.More) else (phase.Ended, steps.Busy meta.id meta.prepared_at)
+
+undecided_bad : (meta : Meta) (now : ℤ) (key : Key) → (undecided meta now).1 ≡ steps.BadRecord key → is_coordinator_table key.table ≡ true
+undecided_bad meta now key e = by (is_expired meta.prepared_at now) e
+  where
+    by : (b : Bool) → (undecided_at meta now b).1 ≡ steps.BadRecord key → is_coordinator_table key.table ≡ true
+    by true h = absurd (cc)
+    by false h = absurd (cc)
+
+recovery_bad : (rec : Record) (meta : Meta) (p : RecoverPhase) (now : ℤ) (r : Reply) (key : Key) → (recover_next rec meta p now r).1 ≡ steps.BadRecord key → is_coordinator_table key.table ≡ true
+recovery_bad rec meta phase.Look now (reply.Found (Some row)) key e = row_bad meta (decision_in row) key e
+recovery_bad rec meta phase.Look now (reply.Found None) key e = undecided_bad meta now key e
+recovery_bad rec meta phase.Look now reply.Fault key e = absurd (cc)
+recovery_bad rec meta phase.Look now reply.NoMemory key e = absurd (cc)
+recovery_bad rec meta phase.Look now reply.Applied key e = absurd (cc)
+recovery_bad rec meta phase.Look now (reply.NotMet found) key e = absurd (cc)
+recovery_bad rec meta phase.Look now (reply.Rows rows) key e = absurd (cc)
+recovery_bad rec meta phase.Again now (reply.Found (Some row)) key e = row_bad meta (decision_in row) key e
+recovery_bad rec meta phase.Again now (reply.Found None) key e = absurd (cc)
+recovery_bad rec meta phase.Again now reply.Fault key e = absurd (cc)
+recovery_bad rec meta phase.Again now reply.NoMemory key e = absurd (cc)
+recovery_bad rec meta phase.Again now reply.Applied key e = absurd (cc)
+recovery_bad rec meta phase.Again now (reply.NotMet found) key e = absurd (cc)
+recovery_bad rec meta phase.Again now (reply.Rows rows) key e = absurd (cc)
+recovery_bad rec meta (phase.Abort n) now reply.Applied key e = absurd (cc)
+recovery_bad rec meta (phase.Abort n) now (reply.NotMet (Some row)) key e = row_bad meta (decision_in row) key e
+recovery_bad rec meta (phase.Abort n) now (reply.NotMet None) key e = absurd (cc)
+recovery_bad rec meta (phase.Abort n) now reply.Fault key e = absurd (cc)
+recovery_bad rec meta (phase.Abort n) now reply.NoMemory key e = absurd (cc)
+recovery_bad rec meta (phase.Abort n) now (reply.Found found) key e = absurd (cc)
+recovery_bad rec meta (phase.Abort n) now (reply.Rows rows) key e = absurd (cc)
+recovery_bad rec meta (phase.Forward at) now reply.Applied key e = absurd (cc)
+recovery_bad rec meta (phase.Forward at) now (reply.NotMet found) key e = absurd (cc)
+recovery_bad rec meta (phase.Forward at) now reply.Fault key e = absurd (cc)
+recovery_bad rec meta (phase.Forward at) now reply.NoMemory key e = absurd (cc)
+recovery_bad rec meta (phase.Forward at) now (reply.Found found) key e = absurd (cc)
+recovery_bad rec meta (phase.Forward at) now (reply.Rows rows) key e = absurd (cc)
+recovery_bad rec meta phase.Back now reply.Applied key e = absurd (cc)
+recovery_bad rec meta phase.Back now (reply.NotMet found) key e = absurd (cc)
+recovery_bad rec meta phase.Back now reply.Fault key e = absurd (cc)
+recovery_bad rec meta phase.Back now reply.NoMemory key e = absurd (cc)
+recovery_bad rec meta phase.Back now (reply.Found found) key e = absurd (cc)
+recovery_bad rec meta phase.Back now (reply.Rows rows) key e = absurd (cc)
+recovery_bad rec meta phase.Ended now r key e = absurd (cc)
+
+resolved_bad : (images : List Record) (rec : Record) (meta : Meta) (left : List Record) (n : RecoverPhase × RecoverStep) (key : Key) → ((k : Key) → n.1 ≡ steps.BadRecord k → is_coordinator_table k.table ≡ true) → resolved images rec meta left n ≡ Ended (step.BadRecord key) → (is_coordinator_table key.table ≡ true) ⊎ HasUnchecked left
+resolved_bad images rec meta left (p, steps.More) key bad e = absurd (cc)
+resolved_bad images rec meta left (p, steps.Image None) key bad e = inr (settle_bad images left key e)
+resolved_bad images rec meta left (p, steps.Image (Some b)) key bad e = inr (settle_bad (images ++ b ∷ []) left key e)
+resolved_bad images rec meta left (p, steps.Busy id at) key bad e = absurd (cc)
+resolved_bad images rec meta left (p, steps.Faulted) key bad e = absurd (cc)
+resolved_bad images rec meta left (p, steps.BadRecord k) key bad e =
+    let is : k ≡ key = cc in
+    inl (subst (λ (z : Key). is_coordinator_table z.table ≡ true) is (bad k refl))
+resolved_bad images rec meta left (p, steps.NoMemory) key bad e = absurd (cc)
+
+asked_bad : (r : Reply) (key : Key) → answered r ≡ Ended (step.BadRecord key) → HasUnchecked (rows_left (abstract_read Asking) r)
+asked_bad (reply.Found None) key e = absurd (cc)
+asked_bad (reply.Found (Some x)) key e = settle_bad [] (x ∷ []) key e
+asked_bad (reply.Rows rows) key e = settle_bad [] rows key e
+asked_bad reply.Fault key e = absurd (cc)
+asked_bad reply.NoMemory key e = absurd (cc)
+asked_bad reply.Applied key e = absurd (cc)
+asked_bad (reply.NotMet found) key e = absurd (cc)
+
+-- A read goes on from there.
+abbrev pub GoesFrom : ReadStage → Type 0
+GoesFrom (Ended s) = ⊥
+GoesFrom s = Unit {0}
+
+-- A read that ends with a bad record found it in the coordinator's table, or among the records that were left.
+pub step_bad : (s : ReadStage) (now : ℤ) (r : Reply) (key : Key) → GoesFrom s → read_step s now r ≡ Ended (step.BadRecord key) → (is_coordinator_table key.table ≡ true) ⊎ HasUnchecked (rows_left (abstract_read s) r)
+step_bad Asking now r key goes e = inr (asked_bad r key e)
+step_bad (Resolving images rec meta p left) now r key goes e = resolved_bad images rec meta left (recover_next rec meta p now r) key (λ k h. recovery_bad rec meta p now r k h) e
+step_bad (Ended s) now r key goes e = absurd goes
