@@ -1,6 +1,6 @@
 -- Which answers are left to statements whose calls were served.
 use Rattle.std.proofs.Common.{◌≡◌, ◌⊎◌, inl, inr, ℕ, Bool, true, false, List, [], ◌∷◌, Option, Some, None, Ok, refl, sym, ap, subst, ◌∙◌}
-use Rattle.std.specs.Prelude.{Contains, if◌then◌else◌, is_some, nat_lt}
+use Rattle.std.specs.Prelude.{◌&&◌, Contains, if◌then◌else◌, is_some, nat_le, nat_lt}
 use Rattle.std.specs.Option.{option_and_then, option_map_or}
 use Rattle.std.specs.Result.{result_ok}
 use Rattle.std.proofs.lemmas.List.Elements.{Contains-append_left, Contains-append_right, Contains-push}
@@ -21,13 +21,14 @@ use Rattle.sdb_record.specs.declared.coordinator.Decision.TheVariants as decisio
 use Rattle.sdb_record.specs.Coordinator.{decision_in, decision_in_value, id_in_values, id_of_key, if_empty, is_coordinator_table}
 use Rattle.sdb_record.specs.Meta.{moment_in, need}
 use Rattle.sdb_record.specs.Names.{tx_created_at}
+use Rattle.sdb_schema.specs.declared.table.Table.{Table}
 use Rattle.sdb_model.specs.declared.answer.Answer.{Answer}
 use Rattle.sdb_model.specs.declared.answer.Answer.TheVariants as answer
 use Rattle.sdb_model.specs.declared.event.Event.{Event}
 use Rattle.sdb_model.specs.declared.script.Script.{Script}
 use Rattle.sdb_model.specs.declared.statement.Statement.{Statement}
 use Rattle.sdb_model.specs.declared.statement.Statement.TheVariants as statement
-use Rattle.sdb_model.specs.Calls.{StoreCall, calls_of, decision_found, decision_in_reply, decision_learned, decision_observed, is_of_row, put_by, record_at_key, records_observed}
+use Rattle.sdb_model.specs.Calls.{StoreCall, calls_by, calls_of, end_of, is_stored_reply, decision_found, decision_in_reply, decision_learned, decision_observed, is_of_row, put_by, record_at_key, records_observed}
 use Rattle.sdb_model.specs.Causes.{AreCaused, IsBad, IsCaused, IsCommitOf, IsConflict, IsConflictAtCommit, IsCounted, IsDecided, IsRejected, MayPassMost, MeetsMisfit, PutsRow, before, is_select, may_pass}
 use Rattle.sdb_model.specs.Counted.{IsPassedOver, IsResolved, is_seen}
 use Rattle.sdb_model.specs.Events.{catalog_at}
@@ -37,15 +38,17 @@ use Rattle.sdb_model.specs.ReadSet.{read_finished, read_set_of}
 use Rattle.sdb_model.specs.Sql.{Reads, reads_begin, reads_commit, reads_rollback, reads_vacuum}
 use Rattle.sdb_model.specs.Transactions.{Executed, client_of, commit_in, ending_in, from_begin, ordinal_of, statements_by}
 use Rattle.sdb_sqltext.proofs.Clauses.{one_statement}
-use Rattle.sdb_sqltext.proofs.OneWord.{begin_read, commit_read, rollback_read}
+use Rattle.sdb_sqltext.proofs.OneWord.{begin_read, commit_read, rollback_read, vacuum_read}
 use Rattle.law_clients.proofs.Taken.{other_no_commit}
 use Rattle.law_answers.specs.Counts.{CommitIsCounted}
-use Rattle.law_answers.specs.Rolled.{AnsweredWereSeen, IsDealtWith}
-use Rattle.law_answers.specs.Commits.{PutsOutOfMemory}
+use Rattle.law_answers.specs.Rolled.{AnsweredWereSeen, IsDealtWith, RolledBut}
+use Rattle.law_answers.specs.Commits.{ObservesBad, PutsOutOfMemory}
+use Rattle.law_answers.specs.Unfit.{AreStoredReplies}
 use Rattle.law_answers.proofs.Faults.{answered_seen, seen_no_faults}
-use Rattle.law_answers.proofs.Lists.{each_in, kept_in}
+use Rattle.law_answers.proofs.Lists.{each_in, each_kept, kept_in}
 use Rattle.law_answers.proofs.ReadSteps.{shown_read}
 use Rattle.law_answers.proofs.Rolled.{all_resolved}
+use Rattle.law_answers.proofs.Unfit.{shown_bad}
 use Rattle.sdb_execution.specs.Execution.{IsExecution, IsPlayable}
 use Rattle.law_runs.specs.Complete.{CommitEnds, IsUncontended, UncontendedCommitsComplete, HasCommitted, IsCoordinatorRow, IsOnTable, IsServed, ObserveNone, ReadsUnresolved, RecoveriesComplete, RecoveryEnds, ResolvedAreNotBusy, SeenAreServed, StatementEnds, StatementsComplete}
 use Rattle.law_runs.specs.Laws.{BusyIsOfReads}
@@ -53,7 +56,7 @@ use Rattle.law_runs.proofs.Busy.{execution_busy}
 use Rattle.law_runs.proofs.Endings.{execution_ends}
 use Rattle.law_runs.proofs.ReadsOnce.{execution_few}
 use Rattle.law_runs.proofs.Statements.{none_in}
-use Rattle.law_runs.proofs.Steps.{execution_caused}
+use Rattle.law_runs.proofs.Steps.{execution_caused, execution_holds}
 
 ---- rows of the coordinator
 
@@ -335,6 +338,31 @@ module _ (script : Script) (events : List Event) (playable : IsPlayable script) 
             by (inl y) = none_in r y
             by (inr y) = as_rolled y
 
+        -- one on a table is no VACUUM
+        no_vacuum : (y : Statement) (t : Table) → Reads s.text y → named_table (catalog_at script.catalog events s.taken) y ≡ Some t → reads_vacuum s.text ≡ false
+        no_vacuum y t reads named = by (reads_vacuum s.text) refl
+          where
+            by : (b : Bool) → reads_vacuum s.text ≡ b → reads_vacuum s.text ≡ false
+            by false f = f
+            by true f = none_some t (sym (ap (named_table (catalog_at script.catalog events s.taken)) (one_statement s.text y statement.Vacuum reads ((vacuum_read s.text).0 f))) ∙ named)
+
+        unfit_rolled : (key : Key) → MeetsMisfit script.catalog events client s key → a ≡ answer.BadRecord key → Rolled
+        unfit_rolled key z e =
+            by ((execution_ends script events playable x client s (answer.BadRecord key) h.among (h.is ∙ ap Some e)).unfit key (h.is ∙ ap Some e) no_commit (no_vacuum z.statement z.table z.over.0 z.over.1))
+          where
+            stored : AreStoredReplies calls
+            stored =
+                each_kept (λ (y : StoreCall). is_stored_reply y.reply ≡ true) (λ y. nat_lt s.taken y.at && nat_le y.at (end_of events s)) (calls_by events client)
+                ((execution_holds script events playable x).caused.each client).stored
+
+            rolled : Contains [] r ⊎ IsDealtWith events (reads_vacuum s.text) calls m r → Rolled
+            rolled (inl y) = none_in r y
+            rolled (inr y) = as_rolled y
+
+            by : ObservesBad calls key ⊎ RolledBut events (reads_vacuum s.text) calls [] → Rolled
+            by (inl b) = absurd (sound b.call b.found b.among b.shown (shown_bad calls key stored b))
+            by (inr g) = rolled (g m r read.among read.reads read.found read.unresolved)
+
         none_commits_here : (id : TxId) → IsCommitOf events client s id → ⊥
         none_commits_here id of = clash (sym (commit_text events client s id of) ∙ no_commit)
 
@@ -342,7 +370,7 @@ module _ (script : Script) (events : List Event) (playable : IsPlayable script) 
         no_call : (reads_begin s.text ≡ true) ⊎ (reads_rollback s.text ≡ true) → ⊥
         no_call is = none_in m (subst (λ (ms : List StoreCall). Contains ms m) ((execution_few script events playable x client s h.among).1 is) read.among)
 
-        recovery_ends : (b : Answer) → a ≡ b → IsCaused script.catalog events client s b → RecoveryEnds script.catalog events client s m r b
+        recovery_ends : (b : Answer) → a ≡ b → IsCaused script.catalog events client s b → RecoveryEnds events client s m r b
         recovery_ends (answer.Rows rows) e z = read_rolled (answer.Rows rows) e refl
         recovery_ends (answer.Count n) e z = read_rolled (answer.Count n) e refl
         recovery_ends answer.Done e z = absurd (done z)
@@ -357,7 +385,8 @@ module _ (script : Script) (events : List Event) (playable : IsPlayable script) 
         recovery_ends (answer.Expired id) e z = absurd (none_commits_here id z.commit)
         recovery_ends answer.Faulted e z = absurd (clash (sym z.2 ∙ (h.served z.0 z.1).0))
         recovery_ends (answer.Unknown id) e z = absurd (none_commits_here id z.commit)
-        recovery_ends (answer.BadRecord key) e z = misfit key z
+        recovery_ends (answer.BadRecord key) e (inl z) = absurd (sound z.0 z.1 z.2 z.3 z.5)
+        recovery_ends (answer.BadRecord key) e (inr z) = unfit_rolled key z e
         recovery_ends (answer.Refused y) e z = read_rolled (answer.Refused y) e refl
         recovery_ends answer.Vacuuming e z = absurd (h.accepted answer.Vacuuming z)
         recovery_ends answer.OpenTransactions e z = absurd (h.accepted answer.OpenTransactions z)

@@ -1,5 +1,5 @@
 -- How a COMMIT comes to BadRecord, and a statement that reads to Conflict.
-use Rattle.std.proofs.Common.{◌≡◌, ◌≢◌, inl, inr, ◌+◌, ◌<◌, ℕ, ℤ, true, false, List, [], ◌∷◌, ◌++◌, length, Option, Some, None, IfSome, Result, Ok, Err, refl, sym, ap, subst, ◌∙◌, arith}
+use Rattle.std.proofs.Common.{◌≡◌, ◌≢◌, ◌⊎◌, inl, inr, ◌+◌, ◌<◌, ℕ, ℤ, true, false, List, [], ◌∷◌, ◌++◌, length, Option, Some, None, IfSome, Result, Ok, Err, refl, sym, ap, subst, ◌∙◌, arith}
 use Rattle.std.specs.Prelude.{Contains, cond, is_some, nat_lt, slice_get}
 use Rattle.std.specs.List.{AllByRecursion}
 use Rattle.sdb_types.specs.declared.key.Key.{Key}
@@ -7,6 +7,7 @@ use Rattle.sdb_types.specs.declared.record.Record.{Record}
 use Rattle.sdb_types.specs.declared.record.Reply.{Reply}
 use Rattle.sdb_types.specs.declared.record.Reply.TheVariants as reply
 use Rattle.sdb_types.specs.declared.record.Request.{Request}
+use Rattle.sdb_types.specs.Contents.{CanAnswer}
 use Rattle.sdb_types.proofs.Basics.{clash, length_more, none_some, some_is}
 use Rattle.sdb_record.specs.declared.coordinator.Decided.{Decided}
 use Rattle.sdb_record.specs.declared.coordinator.Decision.{Decision}
@@ -26,6 +27,8 @@ use Rattle.sdb_model.specs.declared.statement.Statement.TheVariants as statement
 use Rattle.sdb_model.specs.Calls.{StoreCall, calls_of, clock_at}
 use Rattle.sdb_model.specs.Rows.{Name}
 use Rattle.sdb_model.specs.Sql.{Reads, reads_commit, reads_vacuum}
+use Rattle.sdb_model.specs.Exec.{find_table}
+use Rattle.sdb_model.specs.Tables.{is_data}
 use Rattle.sdb_model.specs.Transactions.{Executed, statements_by}
 use Rattle.sdb_phases.specs.declared.step.DecidePhase.{DecidePhase}
 use Rattle.sdb_phases.specs.declared.step.DecidePhase.TheVariants as phase
@@ -57,8 +60,10 @@ use Rattle.sdb_sqltext.proofs.OneWord.{commit_read, vacuum_read}
 use Rattle.law_clients.specs.History.{executed_of_take}
 use Rattle.law_clients.proofs.Noting.{coordinators}
 use Rattle.law_clients.proofs.Taken.{other_no_commit, refused_no_commit}
-use Rattle.law_answers.specs.Commits.{EndsBy, StageByCalls}
+use Rattle.law_clients.specs.About.{IsOfTables}
+use Rattle.law_answers.specs.Commits.{EndsBy, ObservesBad, StageByCalls}
 use Rattle.law_answers.specs.Invariant.{IsWaiting, Knows}
+use Rattle.law_answers.specs.Reads.{LedBy}
 use Rattle.law_answers.specs.Rolled.{DoingRolls, ReadRolls, RolledBut, WaitRolls}
 use Rattle.law_answers.proofs.Calls.{clock_more, made_at, of_within}
 use Rattle.law_answers.proofs.Rolled.{but_still, none_found, reads_so_far}
@@ -67,14 +72,16 @@ use Rattle.law_answers.proofs.Takings.{none_yet}
 use Rattle.sdb_execution.specs.Execution.{IsExecution, IsPlayable}
 use Rattle.law_runs.specs.World.{states_of}
 use Rattle.law_runs.proofs.GivesUp.{each_of}
+use Rattle.law_runs.proofs.ReadLeads.{read_leads}
 use Rattle.law_runs.proofs.Replies.{CallOf, ReadCall, call_of}
 use Rattle.law_runs.proofs.Statements.{AreKept, IsPast, SoBy, calls_more, replied_said, statements_so}
 
 -- A COMMIT that is answered BadRecord met a row of the coordinator. A statement that reads and is answered Conflict had each unresolved
--- record rolled first.
+-- record rolled first; so had one that is answered BadRecord, unless its calls showed a record of no form there.
 pub record EndsAs (events : List Event) (c : ℕ) (s : Executed) : Type 0 where
   pub bad : (key : Key) → s.answer ≡ Some (answer.BadRecord key) → reads_commit s.text ≡ true → is_coordinator_table key.table ≡ true
   pub moved : (key : Key) (found : Option Record) → s.answer ≡ Some (answer.Conflict key found) → reads_commit s.text ≡ false → RolledBut events (reads_vacuum s.text) (calls_of events c s) []
+  pub unfit : (key : Key) → s.answer ≡ Some (answer.BadRecord key) → reads_commit s.text ≡ false → reads_vacuum s.text ≡ false → ObservesBad (calls_of events c s) key ⊎ RolledBut events (reads_vacuum s.text) (calls_of events c s) []
 
 abbrev AnyWaits : List Event → ℕ → Executed → ClientAt → Type 0
 AnyWaits events c s h = Unit {0}
@@ -243,6 +250,7 @@ taken_ends q events c text h d None t = tt
 taken_ends q events c text h d (Some b) t = record {
   bad = λ key e commit. clash (sym commit ∙ taken_bad key q text h d (Some b) t e);
   moved = λ key found e reads. subst (λ ms. RolledBut (events ++ event.Take c text (Some b) ∷ []) (reads_vacuum text) ms []) (sym (none_yet c events text (Some b))) (none_found (events ++ event.Take c text (Some b) ∷ []) (reads_vacuum text));
+  unfit = λ key e reads sweeps. inr (subst (λ ms. RolledBut (events ++ event.Take c text (Some b) ∷ []) (reads_vacuum text) ms []) (sym (none_yet c events text (Some b))) (none_found (events ++ event.Take c text (Some b) ∷ []) (reads_vacuum text)));
 }
 
 ---- as a reply comes
@@ -254,6 +262,14 @@ module _ (key : Key) (found : Option Record) where
 
   in_memory : (n : Next) → Some (answer.Conflict key found) ≡ answer_in n → n ≢ next.Answer answer.NoMemory
   in_memory n e f = let g : Some (answer.Conflict key found) ≡ answer_in (next.Answer answer.NoMemory) = e ∙ ap answer_in f in cc
+
+-- so has one that ends for a row that doesn't fit
+module _ (key : Key) where
+  bad_more : (n : Next) → Some (answer.BadRecord key) ≡ answer_in n → n ≢ next.Call
+  bad_more n e f = let g : Some (answer.BadRecord key) ≡ answer_in next.Call = e ∙ ap answer_in f in cc
+
+  bad_memory : (n : Next) → Some (answer.BadRecord key) ≡ answer_in n → n ≢ next.Answer answer.NoMemory
+  bad_memory n e f = let g : Some (answer.BadRecord key) ≡ answer_in (next.Answer answer.NoMemory) = e ∙ ap answer_in f in cc
 
 module _ (catalog : List Table) (events : List Event) (c : ℕ) (h d : ClientAt) (store : Name) (q : Request) (how : How) (r : Reply) (now : ℤ) (k : Knows catalog events c h) (x : Executed) (waiting : k.waiting ≡ Some x) (waits : IsWaiting catalog events c (is_some h.vacuum) x) where
   abbrev E : Option Answer → List Event
@@ -268,7 +284,7 @@ module _ (catalog : List Table) (events : List Event) (c : ℕ) (h d : ClientAt)
   more : (a : Option Answer) → calls_of (E a) c (replied_said events x a) ≡ ms ++ made ∷ []
   more a = calls_more events c store q how r x waits.unanswered waits.taken a
 
-  module _ (clock : clock_at events (length events) ≡ now) (moment : is_moment now ≡ true) where
+  module _ (clock : clock_at events (length events) ≡ now) (moment : is_moment now ≡ true) (apart : (y : Key) → is_some (find_table catalog y.table) ≡ true → is_data y ≡ true) (about : IsOfTables catalog h) (can : CanAnswer q r) where
     older : AllByRecursion (λ y. y.at < made.at) ms
     older = each_of ms (λ y has. let low = of_within c events x y has in omega (arith, low))
 
@@ -307,6 +323,30 @@ module _ (catalog : List Table) (events : List Event) (c : ℕ) (h d : ClientAt)
         by (Ended (step.BadRecord other)) g y = absurd (let e : Some (answer.Conflict key found) ≡ Some (answer.BadRecord other) = z.answer ∙ ap answer_in y.0 in cc)
         by (Ended step.NoMemory) g y = absurd y
 
+    -- and all of it is where that is BadRecord, or a record of no form was shown
+    reads_unfit : (key : Key) (z : ReadCall catalog events c x h q r now (Some (answer.BadRecord key)) d) → ObservesBad (ms ++ made ∷ []) key ⊎ RolledBut (E (Some (answer.BadRecord key))) (reads_vacuum x.text) (ms ++ made ∷ []) []
+    reads_unfit key z = by (read_step z.x.stage now r) (read_leads catalog apart events c h d x waits store q how r now clock about can (Some (answer.BadRecord key)) z) (rolled (Some (answer.BadRecord key)) z) (z.told.told (bad_memory key z.next z.answer))
+      where
+        by : (s : ReadStage) → LedBy (E None) (ms ++ made ∷ []) s → ReadRolls (E (Some (answer.BadRecord key))) (reads_vacuum x.text) (ms ++ made ∷ []) s → StagePost z.t z.p z.access z.x s (read_result s) z.next z.u
+            → ObservesBad (ms ++ made ∷ []) key ⊎ RolledBut (E (Some (answer.BadRecord key))) (reads_vacuum x.text) (ms ++ made ∷ []) []
+        by Asking l g y = absurd (bad_more key z.next z.answer y.0)
+        by (Resolving images rec meta p left) l g y = absurd (bad_more key z.next z.answer y.0)
+        by (Ended (step.Images images)) l g y = inr g
+        by (Ended step.More) l g y = absurd (bad_more key z.next z.answer y.0)
+        by (Ended (step.Busy other id at)) l g y = absurd (let e : Some (answer.BadRecord key) ≡ Some (answer.Busy other id at) = z.answer ∙ ap answer_in y.0 in cc)
+        by (Ended step.Faulted) l g y = absurd (let e : Some (answer.BadRecord key) ≡ Some answer.Faulted = z.answer ∙ ap answer_in y.0 in cc)
+        by (Ended (step.BadRecord other)) l g y =
+            let e : Some (answer.BadRecord key) ≡ Some (answer.BadRecord other) = z.answer ∙ ap answer_in y.0 in
+            let same : other ≡ key = cc in
+            inl (subst (ObservesBad (ms ++ made ∷ [])) same l)
+        by (Ended step.NoMemory) l g y = absurd y
+
+    call_unfit : (key : Key) → reads_commit x.text ≡ false → reads_vacuum x.text ≡ false → CallOf catalog events c k.told x h q r now (Some (answer.BadRecord key)) d
+        → ObservesBad (ms ++ made ∷ []) key ⊎ RolledBut (E (Some (answer.BadRecord key))) (reads_vacuum x.text) (ms ++ made ∷ []) []
+    call_unfit key reads sweeps (inl z) = clash (sym (waits.vacuum ∙ ap is_some z.runs) ∙ sweeps)
+    call_unfit key reads sweeps (inr (inl z)) = reads_unfit key z
+    call_unfit key reads sweeps (inr (inr z)) = clash (sym z.is.text ∙ reads)
+
     -- a VACUUM is never answered Conflict
     swept_moved : (key : Key) (found : Option Record) (s : VacuumStep) → Some (answer.Conflict key found) ≡ answer_of s → ⊥
     swept_moved key found vacuuming.More e = cc
@@ -333,6 +373,8 @@ module _ (catalog : List Table) (events : List Event) (c : ℕ) (h d : ClientAt)
       bad = λ key e commit. call_bad key commit (subst (λ (o : Option Answer). CallOf catalog events c k.told x h q r now o d) e z);
       moved = λ key found e reads. subst (λ cs. RolledBut (E (Some b)) (reads_vacuum x.text) cs []) (sym (more (Some b)))
           (subst (λ (o : Option Answer). RolledBut (E o) (reads_vacuum x.text) (ms ++ made ∷ []) []) (sym e) (call_moved key found reads (subst (λ (o : Option Answer). CallOf catalog events c k.told x h q r now o d) e z)));
+      unfit = λ key e reads sweeps. subst (λ cs. ObservesBad cs key ⊎ RolledBut (E (Some b)) (reads_vacuum x.text) cs []) (sym (more (Some b)))
+          (subst (λ (o : Option Answer). ObservesBad (ms ++ made ∷ []) key ⊎ RolledBut (E o) (reads_vacuum x.text) (ms ++ made ∷ []) []) (sym e) (call_unfit key reads sweeps (subst (λ (o : Option Answer). CallOf catalog events c k.told x h q r now o d) e z)));
     }
 
 ---- every statement
@@ -341,14 +383,19 @@ past_ends : (catalog : List Table) (events : List Event) (e : Event) (c : ℕ) (
 past_ends catalog events e c s past so = record {
   bad = so.bad;
   moved = λ key found is reads. subst (λ cs. RolledBut (events ++ e ∷ []) (reads_vacuum s.text) cs []) (sym past.calls) (but_still events e (reads_vacuum s.text) (calls_of events c s) (of_within c events s) [] (so.moved key found is reads));
+  unfit = λ key is reads sweeps. subst (λ cs. ObservesBad cs key ⊎ RolledBut (events ++ e ∷ []) (reads_vacuum s.text) cs []) (sym past.calls) (still key (so.unfit key is reads sweeps));
 }
+  where
+    still : (key : Key) → ObservesBad (calls_of events c s) key ⊎ RolledBut events (reads_vacuum s.text) (calls_of events c s) [] → ObservesBad (calls_of events c s) key ⊎ RolledBut (events ++ e ∷ []) (reads_vacuum s.text) (calls_of events c s) []
+    still key (inl b) = inl b
+    still key (inr g) = inr (but_still events e (reads_vacuum s.text) (calls_of events c s) (of_within c events s) [] g)
 
 ends_kept : AreKept (λ catalog. EndsAs) (λ catalog. AnyWaits)
 ends_kept = record {
   answered = past_ends;
   waiting = λ catalog events e c s h still t. tt;
   takes = λ w u c text a t h. taken_ends (record { catalog = w.script.catalog; now = w.clock; gate = t.gate; fresh = next_id t.client_slot.client }) w.events c text t.client_slot.client t.client a t.takes;
-  calls = λ w u c store q how r a t h k x waiting waits so. call_ends w.script.catalog w.events c t.client_slot.client t.client store q how r w.clock k x waiting waits h.caused.clock h.world.moment a
+  calls = λ w u c store q how r a t h k x waiting waits so. call_ends w.script.catalog w.events c t.client_slot.client t.client store q how r w.clock k x waiting waits h.caused.clock h.world.moment h.world.playable.apart (h.world.each t.place t.client_slot t.at).about t.can a
       (call_of w.script.catalog w.events c t.client_slot.client k x waiting q r w.clock a t.client t.pending (h.world.each t.place t.client_slot t.at).fitted t.takes);
 }
 

@@ -1,16 +1,16 @@
 -- What a client's transactions ran on what they found, as its calls are replied.
-use Rattle.std.proofs.Common.{◌≡◌, ◌⊎◌, inl, inr, ◌+◌, ◌<◌, ℕ, ℤ, Bool, true, false, List, [], ◌∷◌, ◌++◌, length, Option, Some, None, IfSome, refl, sym, ap, subst, ◌∙◌, arith}
+use Rattle.std.proofs.Common.{◌≡◌, ◌⊎◌, inl, inr, ℕ, ℤ, Bool, true, false, List, [], ◌∷◌, ◌++◌, length, Option, Some, None, IfSome, refl, sym, ap, subst, ◌∙◌}
 use Rattle.std.specs.Prelude.{◌&&◌, ◌||◌, filter, is_some}
 use Rattle.std.proofs.lemmas.List.Elements.{filter-append}
 use Rattle.std.proofs.lemmas.List.Folds.{list_any-append}
-use Rattle.std.specs.List.{AllByRecursion, list_any}
+use Rattle.std.specs.List.{list_any}
 use Rattle.sdb_types.specs.declared.key.Key.{Key}
 use Rattle.sdb_types.specs.declared.record.Record.{Record}
 use Rattle.sdb_types.specs.declared.record.Reply.{Reply}
 use Rattle.sdb_types.specs.declared.record.Request.{Request}
 use Rattle.sdb_types.specs.declared.record.Span.{Span}
 use Rattle.sdb_types.specs.Contents.{CanAnswer}
-use Rattle.sdb_types.proofs.Basics.{all_each as each_any, clash, either, length_more, none_some, or_false, or_true}
+use Rattle.sdb_types.proofs.Basics.{clash, either, none_some, or_false, or_true}
 use Rattle.sdb_keyed.specs.Entries.{value_at}
 use Rattle.sdb_record.specs.declared.access.Access.{Access}
 use Rattle.sdb_record.specs.declared.access.Access.TheVariants as access
@@ -25,14 +25,14 @@ use Rattle.sdb_model.specs.declared.event.Event.{Event}
 use Rattle.sdb_model.specs.declared.event.Event.TheVariants as event
 use Rattle.sdb_model.specs.declared.event.How.{How}
 use Rattle.sdb_model.specs.Calls.{StoreCall, calls_of, clock_at}
-use Rattle.sdb_model.specs.Exec.{find_table, table_of}
+use Rattle.sdb_model.specs.Exec.{find_table}
 use Rattle.sdb_model.specs.Rows.{Name}
 use Rattle.sdb_model.specs.Sql.{reads_commit, reads_rollback}
 use Rattle.sdb_model.specs.ReadSet.{has_finished, read_finished}
 use Rattle.sdb_model.specs.Transactions.{Executed, changes_nothing, ends, id_of, is_conflict, is_done}
 use Rattle.sdb_exec.specs.Plans.{Planned}
 use Rattle.sdb_read.specs.declared.read.ReadStep.TheVariants as step
-use Rattle.sdb_read.specs.Read.{Asking, Ended, ReadAt, ReadStage, Resolving, read_pending_at, read_result, read_step, request_of}
+use Rattle.sdb_read.specs.Read.{Asking, Ended, ReadAt, ReadStage, Resolving, read_result, read_step, request_of}
 use Rattle.sdb_snapshot.specs.Sets.{WereRead}
 use Rattle.sdb_snapshot.specs.Reads.{reads_of}
 use Rattle.sdb_snapshot.specs.Seen.{is_scanned, same_span}
@@ -48,15 +48,14 @@ use Rattle.sdb_client.specs.declared.next.Next.TheVariants as next
 use Rattle.sdb_client.specs.Client.{ClientAt, RowsReadPost, StagePost, after, answer_in, given_answer, given_left, gives, next_of, with_rows_read, resting}
 use Rattle.sdb_client.proofs.Calls.{noting_idle}
 use Rattle.law_clients.proofs.Fitted.{by_next}
-use Rattle.law_clients.proofs.InTables.{access_table, own_table}
-use Rattle.law_clients.proofs.RowsFit.{found_itself}
-use Rattle.law_clients.specs.About.{IsDoingIn, IsIn, IsOfTables, IsReadIn, IsStageIn}
+use Rattle.law_clients.proofs.InTables.{access_table}
+use Rattle.law_clients.specs.About.{IsOfTables}
 use Rattle.law_clients.specs.History.{executed_with_answer, waiting_of}
 use Rattle.law_answers.specs.Changes.{HasRead, StageObserves}
 use Rattle.law_answers.specs.Reads.{LedBy, ReadsBy}
 use Rattle.law_answers.specs.Invariant.{IsWaiting, Knows}
-use Rattle.law_answers.proofs.Calls.{call_said, calls_open, clock_more, end_waiting, later_within, made_at, silent_said}
-use Rattle.law_answers.proofs.ReadSteps.{IsDataTable, LeavesData, reads_on}
+use Rattle.law_answers.proofs.Calls.{call_said, made_at, silent_said}
+use Rattle.law_answers.proofs.ReadSteps.{IsDataTable}
 use Rattle.law_answers.proofs.Rows.{bad_unfinished}
 use Rattle.law_answers.proofs.Settling.{read_checks}
 use Rattle.law_answers.proofs.Showing.{IsOpenAt, shows_on}
@@ -68,6 +67,7 @@ use Rattle.law_runs.proofs.FoundSteps.{ClientRuns, SeesIn, SeesRun, WroteAs, all
 use Rattle.law_runs.proofs.FoundSteps as follows
 use Rattle.law_runs.proofs.OwnPrepares.{ends_commit, goes_further}
 use Rattle.law_runs.proofs.PreparingCalls.{WaitPrepares, call_prepares}
+use Rattle.law_runs.proofs.ReadLeads.{read_leads, reads_data}
 use Rattle.law_runs.proofs.Replies.{CallOf, CommitCall, ReadCall, SweepCall}
 use Rattle.law_runs.proofs.Running.{HoldsScans, RunsTo, running_of, scanned_more, view_after}
 use Rattle.law_runs.proofs.Statements.{calls_more}
@@ -128,16 +128,6 @@ module _ (catalog : List Table) (is : is_catalog catalog ≡ true) (apart : (k :
   calls_done : (b : Answer) → calls_of (E (Some b)) c (done b) ≡ ms ++ made ∷ []
   calls_done b = calls_more events c store q how r x waits.unanswered waits.taken (Some b)
 
-  -- the calls so far came before it
-  older : AllByRecursion (λ (m : StoreCall). m.at < made.at) ms
-  older = subst (AllByRecursion (λ (m : StoreCall). m.at < made.at)) (sym (calls_open c events x (end_waiting events x waits.unanswered))) (later_within c events x.taken)
-
-  clock_now : clock_at (E None) made.at ≡ now
-  clock_now = ap (clock_at (E None)) (sym (length_more events (ev None) ∙ one_plus (length events))) ∙ clock_more events (ev None) ∙ ticks
-    where
-      one_plus : (n : ℕ) → n + 1 ≡ 1 + n
-      one_plus n = omega arith
-
   abbrev Comes : Option Answer → ClientAt → Type 0
   Comes None y = IfSome y.txn (SeesRun catalog (E None) c (running_of (E None) c y.begun k.told))
   Comes (Some b) y = follows.Follows catalog events c h k runs (ev (Some b)) (done b) y
@@ -172,32 +162,15 @@ module _ (catalog : List Table) (is : is_catalog catalog ≡ true) (apart : (k :
     abbrev p : Planned
     p = z.p
 
-    listed : find_table catalog p.table.name ≡ Some p.table
-    listed = found_itself catalog (table_of p.statement) p.table z.asked.named
-
-    of_table : access_table z.access ≡ p.table.name
-    of_table = ap access_table z.asked.access ∙ own_table p.table p.statement
-
     own : IsDataTable (access_table z.access)
-    own = subst IsDataTable (sym of_table) (apart (record { table = p.table.name; partition = []; clustering = [] }) (ap is_some listed))
+    own = reads_data catalog apart events c h d x waits store q how r now ticks about can a z
 
     sees : (b : Option Answer) → RunsTo catalog (E b) c (running_of (E b) c h.begun k.told) t.seen
     sees b = subst (SeesIn catalog (E b) c (running_of (E b) c h.begun k.told) t.seen) z.reads (follows.sees_open catalog events c h k runs (ev b) t z.opened z.free)
 
-    -- what is left to it is of tables of the catalog
-    read_in : IsReadIn catalog p z.access z.x
-    read_in =
-        let does : IsDoingIn catalog t.seen t.doing h.plan = subst (λ (o : Option TxnAt). IfSome o (λ u. IsDoingIn catalog u.seen u.doing h.plan)) z.opened about.txn in
-        (subst (IsDoingIn catalog t.seen (doing.Read z.access z.x)) z.plan (subst (λ y. IsDoingIn catalog t.seen y h.plan) z.reads does)).1
-
-    leaves : (s : ReadStage) → IsStageIn catalog s → LeavesData (E None) ms made older now clock_now s
-    leaves Asking i = tt
-    leaves (Resolving images rec meta y left) i = each_any (λ (b : Record). IsIn catalog b.key) (λ (b : Record). IsDataTable b.key.table) left (λ b inside. apart b.key inside) i.2
-    leaves (Ended s) i = tt
-
     -- where the reply leads
     leads : LedBy (E None) (ms ++ made ∷ []) (read_step z.x.stage now r)
-    leads = reads_on (E None) ms made older now clock_now z.access z.x.stage own (leaves z.x.stage read_in.stage) z.is.stage (subst (λ (y : Request). read_pending_at y z.x.stage ≡ Some q) z.asked.request z.pends) can
+    leads = read_leads catalog apart events c h d x waits store q how r now ticks about can a z
 
     open_at : (s : ReadStage) → ReadsBy ms s → IsOpenAt z.x.request ms made now moment s
     open_at Asking i = tt

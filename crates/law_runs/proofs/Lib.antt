@@ -21,6 +21,7 @@ pub mod First
 pub mod Steps
 pub mod Takes
 pub mod Replies
+pub mod ReadLeads
 pub mod Statements
 pub mod Belonging
 pub mod Busy

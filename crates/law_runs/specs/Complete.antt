@@ -138,16 +138,15 @@ pub record ReadsUnresolved (calls : List StoreCall) (m : StoreCall) (r : Record)
   pub unresolved : is_unresolved r ≡ true
 
 -- What the recovery of a record that a statement read comes to: the record is rolled, or found as another has rolled it, or a VACUUM passes
--- over it before it has expired. Or else it ends with the statement, which is answered Busy before a record that it read has expired, or that
--- a row that it read doesn't fit its table, or that it was out of memory.
-abbrev pub RecoveryEnds : List Table → List Event → ℕ → Executed → StoreCall → Record → Answer → Type 0
-RecoveryEnds catalog events client s m r (answer.Busy key id at) = IsBusy events client s key id at
-RecoveryEnds catalog events client s m r (answer.BadRecord key) = MeetsMisfit catalog events client s key
-RecoveryEnds catalog events client s m r answer.NoMemory = Unit {0}
-RecoveryEnds catalog events client s m r a = IsResolved (calls_of events client s) m r ⊎ IsPassedOver events s (calls_of events client s) m r
+-- over it before it has expired. Or else it ends with the statement, which is answered Busy before a record that it read has expired, or that it
+-- was out of memory.
+abbrev pub RecoveryEnds : List Event → ℕ → Executed → StoreCall → Record → Answer → Type 0
+RecoveryEnds events client s m r (answer.Busy key id at) = IsBusy events client s key id at
+RecoveryEnds events client s m r answer.NoMemory = Unit {0}
+RecoveryEnds events client s m r a = IsResolved (calls_of events client s) m r ⊎ IsPassedOver events s (calls_of events client s) m r
 
 -- Each recovery of a statement ends so, where the stores served its calls, and these observed no malformed record or row of the coordinator.
 abbrev pub RecoveriesComplete : List Table → List Event → Type 0
 RecoveriesComplete catalog events =
     (client : ℕ) (s : Executed) (a : Answer) (m : StoreCall) (r : Record) → IsServed catalog events client s a → reads_commit s.text ≡ false
-    → ObserveNone IsBad (calls_of events client s) → ReadsUnresolved (calls_of events client s) m r → RecoveryEnds catalog events client s m r a
+    → ObserveNone IsBad (calls_of events client s) → ReadsUnresolved (calls_of events client s) m r → RecoveryEnds events client s m r a

@@ -128,8 +128,8 @@ pub fn statements_complete()
 {}
 
 /// Where the events follow the script's moves, each recovery of such a statement, or of a VACUUM, ends: the record is rolled, or found rolled,
-/// or a VACUUM passes over it before it has expired. Or else the statement is answered Busy, before a record that it read has expired; or
-/// BadRecord, where a row that it read doesn't fit its table; or it was out of memory.
+/// or a VACUUM passes over it before it has expired. Or else the statement is answered Busy, before a record that it read has expired; or it was
+/// out of memory.
 pub fn recoveries_complete()
     ensures { (x : ExecutionOf) → FollowsMoves x → RecoveriesComplete x.script.catalog x.events }
 {}

@@ -1,0 +1,73 @@
+-- Where the reply to a call of a read leads it.
+use Rattle.std.proofs.Common.{◌≡◌, ◌+◌, ◌<◌, ℕ, ℤ, true, List, [], ◌∷◌, ◌++◌, length, Option, Some, None, IfSome, sym, ap, subst, ◌∙◌, arith}
+use Rattle.std.specs.Prelude.{is_some}
+use Rattle.std.specs.List.{AllByRecursion}
+use Rattle.sdb_types.specs.declared.key.Key.{Key}
+use Rattle.sdb_types.specs.declared.record.Record.{Record}
+use Rattle.sdb_types.specs.declared.record.Reply.{Reply}
+use Rattle.sdb_types.specs.declared.record.Request.{Request}
+use Rattle.sdb_types.specs.Contents.{CanAnswer}
+use Rattle.sdb_types.proofs.Basics.{all_each, length_more}
+use Rattle.sdb_schema.specs.declared.table.Table.{Table}
+use Rattle.sdb_model.specs.declared.answer.Answer.{Answer}
+use Rattle.sdb_model.specs.declared.event.Event.{Event}
+use Rattle.sdb_model.specs.declared.event.Event.TheVariants as event
+use Rattle.sdb_model.specs.declared.event.How.{How}
+use Rattle.sdb_model.specs.Calls.{StoreCall, calls_of, clock_at}
+use Rattle.sdb_model.specs.Exec.{find_table, table_of}
+use Rattle.sdb_model.specs.Rows.{Name}
+use Rattle.sdb_model.specs.Tables.{is_data}
+use Rattle.sdb_model.specs.Transactions.{Executed}
+use Rattle.sdb_read.specs.Read.{Asking, Ended, ReadStage, Resolving, read_pending_at, read_step}
+use Rattle.sdb_txn.specs.declared.txn.Doing.TheVariants as doing
+use Rattle.sdb_txn.specs.Txn.{TxnAt}
+use Rattle.sdb_client.specs.Client.{ClientAt}
+use Rattle.law_clients.specs.About.{IsDoingIn, IsIn, IsOfTables, IsReadIn, IsStageIn}
+use Rattle.law_clients.proofs.InTables.{access_table, own_table}
+use Rattle.law_clients.proofs.RowsFit.{found_itself}
+use Rattle.law_answers.specs.Invariant.{IsWaiting}
+use Rattle.law_answers.specs.Reads.{LedBy}
+use Rattle.law_answers.proofs.Calls.{calls_open, clock_more, end_waiting, later_within, made_at}
+use Rattle.law_answers.proofs.ReadSteps.{IsDataTable, LeavesData, reads_on}
+use Rattle.law_runs.proofs.Replies.{ReadCall}
+
+module _ (catalog : List Table) (apart : (k : Key) → is_some (find_table catalog k.table) ≡ true → is_data k ≡ true) (events : List Event) (c : ℕ) (h d : ClientAt) (x : Executed) (waits : IsWaiting catalog events c (is_some h.vacuum) x)
+    (store : Name) (q : Request) (how : How) (r : Reply) (now : ℤ) (ticks : clock_at events (length events) ≡ now) (about : IsOfTables catalog h) (can : CanAnswer q r) (a : Option Answer) (z : ReadCall catalog events c x h q r now a d) where
+  abbrev E : List Event
+  E = events ++ event.Call c store q how r None ∷ []
+
+  abbrev made : StoreCall
+  made = made_at events store q how r
+
+  abbrev ms : List StoreCall
+  ms = calls_of events c x
+
+  -- the calls so far came before it
+  older : AllByRecursion (λ (m : StoreCall). m.at < made.at) ms
+  older = subst (AllByRecursion (λ (m : StoreCall). m.at < made.at)) (sym (calls_open c events x (end_waiting events x waits.unanswered))) (later_within c events x.taken)
+
+  clock_now : clock_at E made.at ≡ now
+  clock_now = ap (clock_at E) (sym (length_more events (event.Call c store q how r None) ∙ one_plus (length events))) ∙ clock_more events (event.Call c store q how r None) ∙ ticks
+    where
+      one_plus : (n : ℕ) → n + 1 ≡ 1 + n
+      one_plus n = omega arith
+
+  -- it reads a table of the catalog
+  pub reads_data : IsDataTable (access_table z.access)
+  reads_data =
+      subst IsDataTable (sym (ap access_table z.asked.access ∙ own_table z.p.table z.p.statement))
+      (apart (record { table = z.p.table.name; partition = []; clustering = [] }) (ap is_some (found_itself catalog (table_of z.p.statement) z.p.table z.asked.named)))
+
+  read_in : IsReadIn catalog z.p z.access z.x
+  read_in =
+      let does : IsDoingIn catalog z.t.seen z.t.doing h.plan = subst (λ (o : Option TxnAt). IfSome o (λ u. IsDoingIn catalog u.seen u.doing h.plan)) z.opened about.txn in
+      (subst (IsDoingIn catalog z.t.seen (doing.Read z.access z.x)) z.plan (subst (λ y. IsDoingIn catalog z.t.seen y h.plan) z.reads does)).1
+
+  leaves : (s : ReadStage) → IsStageIn catalog s → LeavesData E ms made older now clock_now s
+  leaves Asking i = tt
+  leaves (Resolving images rec meta y left) i = all_each (λ (b : Record). IsIn catalog b.key) (λ (b : Record). IsDataTable b.key.table) left (λ b inside. apart b.key inside) i.2
+  leaves (Ended s) i = tt
+
+  -- what the calls show where it leads
+  pub read_leads : LedBy E (ms ++ made ∷ []) (read_step z.x.stage now r)
+  read_leads = reads_on E ms made older now clock_now z.access z.x.stage reads_data (leaves z.x.stage read_in.stage) z.is.stage (subst (λ (y : Request). read_pending_at y z.x.stage ≡ Some q) z.asked.request z.pends) can
