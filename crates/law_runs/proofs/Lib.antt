@@ -67,3 +67,8 @@ pub mod PlainRuns
 pub mod Endings
 pub mod Completing
 pub mod ForgedEnds
+pub mod MalformedReads
+pub mod MalformedStatements
+pub mod MalformedSweeps
+pub mod MalformedAnswers
+pub mod ForgedMalformed

@@ -122,7 +122,7 @@ takes_sweeps w u c text None t h = subst (λ (ms : List StoreCall). GoesOver w.s
 ---- a call is made
 
 -- where it goes on, and where it is counted
-more_of : (s : VacuumStep) → None ≡ answer_of s → s ≡ vacuuming.More
+pub more_of : (s : VacuumStep) → None ≡ answer_of s → s ≡ vacuuming.More
 more_of vacuuming.More e = refl
 more_of (vacuuming.Count n) e = absurd (cc)
 more_of vacuuming.Faulted e = absurd (cc)
@@ -136,7 +136,7 @@ count_of vacuuming.Faulted n e = absurd (cc)
 count_of (vacuuming.BadRecord key) n e = absurd (cc)
 count_of vacuuming.NoMemory n e = absurd (cc)
 
-after_keeps : (h : ClientAt) (n : Next) (u : TxnAt) → (after h n u).vacuum ≡ h.vacuum
+pub after_keeps : (h : ClientAt) (n : Next) (u : TxnAt) → (after h n u).vacuum ≡ h.vacuum
 after_keeps h next.Call u = refl
 after_keeps h (next.Answer a) u = refl
 after_keeps h (next.End a) u = refl

@@ -14,7 +14,7 @@ use Rattle.sdb_record.specs.declared.coordinator.Decision.{Decision}
 use Rattle.sdb_record.specs.declared.coordinator.Decision.TheVariants as decision
 use Rattle.sdb_record.specs.declared.write.Write.{Write}
 use Rattle.sdb_record.specs.Coordinator.{is_coordinator_table}
-use Rattle.sdb_record.specs.Meta.{is_in, is_moment}
+use Rattle.sdb_record.specs.Meta.{is_in, is_moment, is_transactional}
 use Rattle.sdb_record.specs.Parts.{user_columns}
 use Rattle.sdb_record.specs.Rolls.{is_tombstone, prepared_record}
 use Rattle.sdb_schema.specs.declared.table.Table.{Table}
@@ -128,6 +128,11 @@ pub record FindsUnresolved (f : SelectOn) (key : Key) (r : Record) : Type 0 wher
   pub inside : key.table ≡ f.on.table.name
   pub unresolved : is_in state.Committed r.columns ≡ false
 
+-- a SELECT, and a record at a key of its table that isn't of the form of records
+pub record MeetsMalformed (f : SelectOn) (key : Key) (r : Record) : Type 0 where
+  pub inside : key.table ≡ f.on.table.name
+  pub malformed : is_transactional r ≡ false
+
 -- a transaction's first statement, which is answered as it is taken
 abbrev pub answered_at_once : StatementOn → Answer → List Event
 answered_at_once f a = event.Take 1 f.begin (Some answer.Done) ∷ event.Take 1 f.text (Some a) ∷ []
@@ -218,3 +223,15 @@ abbrev pub decides_early : InsertOn → CommitText → List Event
 decides_early f t =
     answered_after f.on (ask.Get (insert_key f)) (reply.Found None) (answer.Count 1)
     ++ event.Take 1 t.text None ∷ seen_so (decide_first t) reply.Applied ∷ seen_so (prepare_first t) reply.Applied ∷ []
+
+---- answers over a malformed record
+
+-- A SELECT finds a record, and is answered BadRecord of a key.
+abbrev pub answers_bad : SelectOn → Key → Record → Key → List Event
+answers_bad f key r other = answered_after f.on (ask.Get key) (reply.Found (Some r)) (answer.BadRecord other)
+
+-- It is answered so after another call.
+abbrev pub answers_bad_later : SelectOn → Key → Record → Key → List Event
+answers_bad_later f key r other =
+    event.Take 1 f.on.begin (Some answer.Done)
+    ∷ event.Take 1 f.on.text None ∷ seen_so (ask.Get key) (reply.Found (Some r)) ∷ event.Call 1 [] (ask.Get key) Seen (reply.Found (Some r)) (Some (answer.BadRecord other)) ∷ []

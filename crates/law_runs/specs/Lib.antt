@@ -16,3 +16,4 @@ pub mod Forged
 pub mod Facts
 pub mod Runs
 pub mod Complete
+pub mod Malformed

@@ -1,5 +1,5 @@
 //! Laws of executions, whatever the stores reply.
-ghost use Rattle.std.specs.Prelude.{[], ◌∷◌, ◌≡◌, List, Some, pos, take, true, ℕ, ℤ};
+ghost use Rattle.std.specs.Prelude.{[], ◌∷◌, ◌≡◌, ◌≢◌, List, Some, pos, take, true, ℕ, ℤ};
 ghost use Rattle.sdb_types.specs.declared.key.Key.{Key};
 ghost use Rattle.sdb_types.specs.declared.record.Record.{Record};
 ghost use Rattle.sdb_types.specs.declared.record.Reply.{Reply};
@@ -15,9 +15,10 @@ ghost use Rattle.sdb_model.specs.Causes.{AreCaused};
 ghost use Rattle.sdb_model.specs.Counted.{AreCounted, AreResolved};
 ghost use Rattle.law_protocol.specs.Spread.{AreAbout};
 ghost use Rattle.law_runs.specs.Complete.{RecoveriesComplete, ResolvedAreNotBusy, SeenAreServed, StatementsComplete, UncontendedCommitsComplete};
-ghost use Rattle.law_runs.specs.Forged.{CommitText, FindsMisfit, FindsRow, FindsUnresolved, InsertOn, IsOfOther, IsOtherMoment, SelectOn, IsCommittedRow, UpdateOn, busy_at_once, counted_at_once, counts_over, counts_twice, counts_unread, decides_at_once, decides_early, decides_unapplied, decides_unprepared, duplicates_none, faults_at_once, leaves_out, prepares_at, prepares_unwritten, reads_again, reads_and_is_done, answers_rows, answers_two, answers_unread, answers_unrolled};
+ghost use Rattle.law_runs.specs.Forged.{MeetsMalformed, answers_bad, answers_bad_later, CommitText, FindsMisfit, FindsRow, FindsUnresolved, InsertOn, IsOfOther, IsOtherMoment, SelectOn, IsCommittedRow, UpdateOn, busy_at_once, counted_at_once, counts_over, counts_twice, counts_unread, decides_at_once, decides_early, decides_unapplied, decides_unprepared, duplicates_none, faults_at_once, leaves_out, prepares_at, prepares_unwritten, reads_again, reads_and_is_done, answers_rows, answers_two, answers_unread, answers_unrolled};
 ghost use Rattle.law_runs.specs.Found.{ReadsAreNew, RunsOnFound};
 ghost use Rattle.law_runs.specs.Laws.{BusyIsOfReads, CallsAreOfStatements, DecisionsAreDue, ExecutionOf, FollowsMoves, RulesHold, PreparesAreOwn, ReadsAreFew};
+ghost use Rattle.law_runs.specs.Malformed.{MalformedAreAnswered, MalformedEndAtOnce, VacuumsMeetMalformed};
 ghost use Rattle.law_runs.specs.Moments.{IsSoundAfter, TraceOf, WritesPersistAfter};
 ghost use Rattle.law_runs.specs.Vacuums.{VacuumsAreComplete};
 ghost use Rattle.law_runs.specs.Written.{CommitsPrepareWritten, DecisionsFollowPoints, PreparesAreAsMany};
@@ -127,6 +128,16 @@ pub fn statements_complete()
     ensures resolved { (x : ExecutionOf) → ResolvedAreNotBusy x.events }
 {}
 
+/// A statement on a table whose read finds a record that isn't of the form of records, after some that are, is answered BadRecord of it, whatever
+/// the stores replied; or a record before it ended the statement: Busy of one that is unresolved, BadRecord of its transaction's row, or Faulted,
+/// for a call that faulted; or it was out of memory. Where each record before it is committed, the read is its only call, and it is answered
+/// BadRecord of the record, or was out of memory. A VACUUM whose scan finds such a record is answered so too.
+pub fn malformed_records_are_answered()
+    ensures ends { (x : ExecutionOf) → MalformedAreAnswered x.events }
+    ensures at_once { (x : ExecutionOf) → MalformedEndAtOnce x.events }
+    ensures vacuum { (x : ExecutionOf) → VacuumsMeetMalformed x.events }
+{}
+
 /// Where the events follow the script's moves, each recovery of such a statement, or of a VACUUM, ends: the record is rolled, or found rolled,
 /// or a VACUUM passes over it before it has expired. Or else the statement is answered Busy, before a record that it read has expired; or it was
 /// out of memory.
@@ -158,10 +169,11 @@ pub fn records_are_sound_at_every_moment()
 /// nothing, a COMMIT that is answered Faulted and has made no call, a VACUUM of a table that counts without a scan, a BEGIN that reads, a
 /// prepare with another moment than the clock showed, and a decision on another's transaction by a first call; and statements of a transaction:
 /// a SELECT that shows a row without a read, leaves out the row that it found, is answered with rows over one that doesn't fit its table, shows a
-/// row of a record that it found and didn't roll, or shows two rows where its LIMIT is 1, an UPDATE that counts rows without a read, an INSERT that is counted over a row that it found or over its
-/// transaction's own row, a Duplicate where nothing was found, and an INSERT that reads its key again; and a COMMIT that prepares a key that
-/// its transaction only read, or puts its row COMMITTED without an applied prepare of what its transaction inserted: without any, after one
-/// that faulted, or before one.
+/// row of a record that it found and didn't roll, or shows two rows where its LIMIT is 1, an UPDATE that counts rows without a read, an INSERT
+/// that is counted over a row that it found or over its transaction's own row, a Duplicate where nothing was found, an INSERT that reads its
+/// key again, and a SELECT that finds a malformed record, and is answered with rows, BadRecord of another key, or BadRecord after another call;
+/// and a COMMIT that prepares a key that its transaction only read, or puts its row COMMITTED without an applied prepare of what its
+/// transaction inserted: without any, after one that faulted, or before one.
 pub fn forged_events_are_refused()
     ensures busy { (text : List ℕ) (key : Key) (id : TxId) (at : ℤ) → reads_commit text ≡ true → BusyIsOfReads (busy_at_once text key id at) → ⊥ }
     ensures idle_busy { (text : List ℕ) (key : Key) (id : TxId) (at : ℤ) → ResolvedAreNotBusy (busy_at_once text key id at) → ⊥ }
@@ -183,5 +195,8 @@ pub fn forged_events_are_refused()
     ensures unwritten { (f : SelectOn) (r : Record) (row : List Value) (t : CommitText) → CommitsPrepareWritten f.on.catalog (prepares_unwritten f r row t) → ⊥ }
     ensures unprepared { (f : InsertOn) (t : CommitText) → CommitsPrepareWritten f.on.catalog (decides_unprepared f t) → ⊥ }
     ensures unapplied { (f : InsertOn) (t : CommitText) → CommitsPrepareWritten f.on.catalog (decides_unapplied f t) → ⊥ }
+    ensures malformed { (f : SelectOn) (key : Key) (r : Record) (rows : List (List Value)) → MeetsMalformed f key r → MalformedAreAnswered (answers_rows f key r rows) → ⊥ }
+    ensures misnamed { (f : SelectOn) (key : Key) (r : Record) (other : Key) → MeetsMalformed f key r → other ≢ r.key → MalformedAreAnswered (answers_bad f key r other) → ⊥ }
+    ensures late { (f : SelectOn) (key : Key) (r : Record) (other : Key) → MeetsMalformed f key r → MalformedEndAtOnce (answers_bad_later f key r other) → ⊥ }
     ensures early { (f : InsertOn) (t : CommitText) → DecisionsFollowPoints (decides_early f t) → ⊥ }
 {}
