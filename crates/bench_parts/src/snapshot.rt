@@ -69,7 +69,7 @@ fn note_partition(
     Some(())
 }
 
-fn noted(alloc: Global, table: &TableName, load: Load) -> Option<Snapshot> {
+fn recorded_read(alloc: Global, table: &TableName, load: Load) -> Option<Snapshot> {
     let mut seen = Snapshot::new(alloc);
     for partition in 0..load.partitions {
         note_partition(alloc, table, &mut seen, partition, load.rows)?;
@@ -137,7 +137,7 @@ fn after(partition: i64, partitions: i64) -> i64 {
 // Goes through the partitions, one call a turn, and returns what the last call returned.
 fn play_turns(alloc: Global, load: Load) -> Option<usize> {
     let table = table(alloc)?;
-    let mut seen = noted(alloc, &table, load)?;
+    let mut seen = recorded_read(alloc, &table, load)?;
     let mut last = 0;
     let mut partition = 0;
     for _ in 0..load.turns {

@@ -111,8 +111,8 @@ fn play_turns<S: Store>(store: &mut S, requests: &[Request], turns: i64) -> Opti
     let mut total: usize = 0;
     let mut place = 0;
     for _ in 0..turns {
-        let shown = make(store, requests.get(place)?)?;
-        total = total.checked_add(shown)?;
+        let observed = make(store, requests.get(place)?)?;
+        total = total.checked_add(observed)?;
         place = if place + 1 < requests.len() {
             place + 1
         } else {

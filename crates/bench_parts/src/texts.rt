@@ -1,7 +1,7 @@
 //! A script or a report on standard input, read and counted, or printed again.
+use sdb_model::report_text;
 use sdb_report::read_report;
 use sdb_script::{print_script, read_script};
-use sdb_texts::report_text;
 use sdb_types::{Name, Names};
 use std::alloc::Global;
 use std::env::Args;

@@ -7,22 +7,13 @@ use Rattle.std.specs.FinMap.{slice_cmp-IsAntisymmetric}
 use Rattle.std.specs.List.{AllByRecursion, list_all, list_any}
 use Rattle.std.specs.Option.{option_map_or}
 use Rattle.std.specs.Ordering.{is_eq}
-use Rattle.sdb_types.specs.declared.key.Key.{Key}
-use Rattle.sdb_types.specs.declared.pair.Pair.{Pair}
-use Rattle.sdb_types.specs.declared.txid.TxId.{TxId}
-use Rattle.sdb_types.specs.declared.value.Value.{Value}
+use Rattle.check_answers.specs.Types.{Answer, Event, Image, Key, Pair, Select, Statement, Table, TxId, Value}
 use Rattle.sdb_types.specs.Exact.{equal_of}
 use Rattle.sdb_types.specs.Order.{value_cmp}
 use Rattle.sdb_types.specs.ValueLaws.{value_exact, value_total}
 use Rattle.sdb_types.proofs.Basics.{all_each, clash}
 use Rattle.sdb_types.proofs.Bools.{and_first as left}
-use Rattle.sdb_schema.specs.declared.table.Table.{Table}
-use Rattle.sdb_record.specs.declared.access.Image.{Image}
-use Rattle.sdb_model.specs.declared.answer.Answer.{Answer}
 use Rattle.sdb_model.specs.declared.answer.Answer.TheVariants as answer
-use Rattle.sdb_model.specs.declared.event.Event.{Event}
-use Rattle.sdb_model.specs.declared.statement.Select.{Select}
-use Rattle.sdb_model.specs.declared.statement.Statement.{Statement}
 use Rattle.sdb_model.specs.declared.statement.Statement.TheVariants as statement
 use Rattle.sdb_model.specs.Exec.{find_table, projected}
 use Rattle.sdb_model.specs.DirtyReads.{HasRow, KeyHasRow, AnswersAreOf, RowsAreOf}
@@ -89,7 +80,7 @@ module _ (catalog : List Table) (x : Stores) (events : List Event) (id : TxId) (
     parts = h.parts;
     begins = h.begins;
     finished = h.finished;
-    shown = h.shown;
+    observed = h.observed;
     read = h.read;
     made = h.made;
   }
@@ -105,7 +96,7 @@ module _ (catalog : List Table) (x : Stores) (events : List Event) (id : TxId) (
     parts = h.parts;
     begins = h.begins;
     finished = h.finished;
-    shown = h.shown;
+    observed = h.observed;
     read = h.read;
     made = h.made;
   }

@@ -3,23 +3,17 @@ use Rattle.std.proofs.Common.{◌≡◌, ℕ, ℤ, Bool, true, false, List, Opti
 use Rattle.std.specs.Prelude.{filter, Contains, ◌&&◌, nat_lt, not}
 use Rattle.std.specs.List.{list_any}
 use Rattle.std.specs.Cmp.{signed_Decides}
-use Rattle.sdb_types.specs.declared.txid.TxId.{TxId}
-use Rattle.sdb_types.specs.declared.key.Key.{Key}
-use Rattle.sdb_types.specs.declared.record.Record.{Record}
-use Rattle.sdb_types.specs.declared.record.Request.{Request}
+use Rattle.check_answers.specs.Types.{Event, Key, Made, Record, Reply, Request, TxId}
 use Rattle.sdb_types.specs.declared.record.Request.TheVariants as ask
-use Rattle.sdb_types.specs.declared.record.Reply.{Reply}
 use Rattle.sdb_types.specs.declared.record.Reply.TheVariants as reply
 use Rattle.sdb_record.specs.Coordinator.{coordinator_key_of, is_expired}
 use Rattle.sdb_record.specs.Meta.{id_in, is_unresolved}
-use Rattle.sdb_model.specs.declared.event.Event.{Event}
 use Rattle.sdb_model.specs.Calls as calls
 use Rattle.sdb_model.specs.Calls.{calls_of, clock_at, is_read, records_read}
 use Rattle.sdb_model.specs.Causes.{IsBusy, IsEarly}
 use Rattle.sdb_model.specs.Transactions.{Executed}
 use Rattle.check_protocol.proofs.Lists.{right, not_true, true_not, any_some, some_any}
 use Rattle.check_protocol.proofs.ShownLaws.{number_is, is_number}
-use Rattle.check_tables.specs.declared.made.Made.{Made}
 use Rattle.check_tables.specs.Values.{all_made, made_of}
 use Rattle.check_answers.specs.Tests.{busy_among, gets_none, is_at, is_early, is_id, looks_early, prepared_moment}
 use Rattle.check_answers.proofs.Finds.{in_contains, contains_in, kept_in, in_kept, made_in, in_made, made_contained, contained_made}

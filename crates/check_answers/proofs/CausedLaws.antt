@@ -3,10 +3,8 @@ use Rattle.std.proofs.Common.{◌≡◌, ℕ, Bool, true, false, List, [], ◌�
 use Rattle.std.specs.Prelude.{◌↔◌, ◌==◌, ◌||◌, Contains, IfSome, IsTrue}
 use Rattle.std.specs.List.{AllByRecursion}
 use Rattle.std.specs.Option.{option_map_or}
-use Rattle.sdb_schema.specs.declared.table.Table.{Table}
-use Rattle.sdb_model.specs.declared.answer.Answer.{Answer}
+use Rattle.check_answers.specs.Types.{Answer, Event, Table}
 use Rattle.sdb_model.specs.declared.answer.Answer.TheVariants as answer
-use Rattle.sdb_model.specs.declared.event.Event.{Event}
 use Rattle.sdb_model.specs.Causes.{AreCaused, IsRejected, before}
 use Rattle.sdb_model.specs.Transactions.{Executed, statements_by}
 use Rattle.check_protocol.proofs.Lists.{none_some, right, In}
@@ -71,7 +69,7 @@ no_memory_is answer.OpenTransactions h = clash (sym h)
 no_memory_is answer.NoMemory h = refl
 
 answered_is : (s : Executed) (a : Answer) → answered_with s a ≡ true → IsAnsweredWith s a
-answered_is s a h = (number_is s.reached s.taken (left (s.reached == s.taken) rest h), by s.answer refl (right (s.reached == s.taken) rest h))
+answered_is s a h = (number_is s.reached s.accepted (left (s.reached == s.accepted) rest h), by s.answer refl (right (s.reached == s.accepted) rest h))
   where
     rest : Bool
     rest = option_map_or (λ x. is_no_memory x || same_answer x a) s.answer false
@@ -81,7 +79,7 @@ answered_is s a h = (number_is s.reached s.taken (left (s.reached == s.taken) re
     by (Some x) e h = elim (either (is_no_memory x) (same_answer x a) h) [ inl n ↦ inr (e ∙ ap Some (no_memory_is x n)) | inr k ↦ inl (e ∙ ap Some (answer_is x a k)) ]
 
 is_answered_of : (s : Executed) (a : Answer) → IsAnsweredWith s a → answered_with s a ≡ true
-is_answered_of s a (t, w) = both (s.reached == s.taken) (option_map_or (λ x. is_no_memory x || same_answer x a) s.answer false) (is_number s.reached s.taken t) (by w)
+is_answered_of s a (t, w) = both (s.reached == s.accepted) (option_map_or (λ x. is_no_memory x || same_answer x a) s.answer false) (is_number s.reached s.accepted t) (by w)
   where
     by : (s.answer ≡ Some a) ⊎ (s.answer ≡ Some answer.NoMemory) → option_map_or (λ x. is_no_memory x || same_answer x a) s.answer false ≡ true
     by (inl e) = ap (λ o. option_map_or (λ x. is_no_memory x || same_answer x a) o false) e ∙ or_right (is_no_memory a) (same_answer a a) (is_answer a a refl)

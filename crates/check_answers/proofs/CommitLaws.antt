@@ -5,21 +5,15 @@ use Rattle.std.specs.List.{list_any}
 use Rattle.std.specs.Option.{option_and_then}
 use Rattle.std.specs.Result.{result_ok}
 use Rattle.std.proofs.lemmas.List.Elements.{All-contains, Contains-get_or}
-use Rattle.sdb_types.specs.declared.txid.TxId.{TxId}
-use Rattle.sdb_types.specs.declared.key.Key.{Key}
-use Rattle.sdb_types.specs.declared.record.Reply.{Reply}
+use Rattle.check_answers.specs.Types.{Decided, Decision, Event, Key, Made, Reply, TxId}
 use Rattle.sdb_types.specs.declared.record.Reply.TheVariants as reply
-use Rattle.sdb_record.specs.declared.coordinator.Decided.{Decided}
-use Rattle.sdb_record.specs.declared.coordinator.Decision.{Decision}
 use Rattle.sdb_record.specs.declared.coordinator.Decision.TheVariants as decision
 use Rattle.sdb_record.specs.Coordinator.{coordinator_key_of, decision_in, same_decision}
-use Rattle.sdb_model.specs.declared.event.Event.{Event}
 use Rattle.sdb_model.specs.Calls as calls
 use Rattle.sdb_model.specs.Calls.{calls_of, decision_learned, is_of_row, put_by}
 use Rattle.sdb_model.specs.Causes.{IsCommitOf, IsDecided, IsExpired, IsOfCommit, IsUnknown, PutsRow}
 use Rattle.sdb_model.specs.Transactions.{Executed}
 use Rattle.check_protocol.proofs.Lists.{right, not_true, true_not, not_both, In, any_some, some_any}
-use Rattle.check_tables.specs.declared.made.Made.{Made}
 use Rattle.check_tables.specs.Values.{all_made, asks_row, decision_found_at, made_of}
 use Rattle.check_answers.specs.Tests.{any_id, commits_as, is_commit_of, expired_among, fails_later, found_aborted, has_failed, is_decided, is_lost_put, put_before, puts_row, unknown_among}
 use Rattle.check_answers.proofs.IdLaws.{commit_found, commit_is, id_some, is_commit}

@@ -3,22 +3,14 @@ use Rattle.std.proofs.Common.{◌≡◌, ℕ, Bool, true, false, List, [], ◌�
 use Rattle.std.specs.Prelude.{Contains, ◌&&◌, ◌||◌, not}
 use Rattle.std.specs.List.{list_any}
 use Rattle.std.specs.Option.{option_and_then, option_map_or}
-use Rattle.sdb_types.specs.declared.txid.TxId.{TxId}
-use Rattle.sdb_types.specs.declared.key.Key.{Key}
-use Rattle.sdb_types.specs.declared.pair.Pair.{Pair}
-use Rattle.sdb_types.specs.declared.record.Record.{Record}
-use Rattle.sdb_types.specs.declared.record.Request.{Request}
+use Rattle.check_answers.specs.Types.{Event, Key, Made, Pair, Record, Reply, Request, Scan, Span, TxId}
 use Rattle.sdb_types.specs.declared.record.Request.TheVariants as ask
-use Rattle.sdb_types.specs.declared.record.Reply.{Reply}
 use Rattle.sdb_types.specs.declared.record.Reply.TheVariants as reply
-use Rattle.sdb_types.specs.declared.record.Span.{Span}
 use Rattle.sdb_types.specs.Contents.{in_span, record_among}
-use Rattle.sdb_record.specs.declared.access.Scan.{Scan}
 use Rattle.sdb_record.specs.Meta.{id_in}
 use Rattle.sdb_record.specs.Moved.{is_unchanged, same_version, version_of}
 use Rattle.sdb_record.specs.Parts.{before_part, before_record, record_with}
 use Rattle.sdb_record.specs.Among.{version_among}
-use Rattle.sdb_model.specs.declared.event.Event.{Event}
 use Rattle.sdb_model.specs.Calls as calls
 use Rattle.sdb_model.specs.Calls.{calls_of, put_by}
 use Rattle.sdb_model.specs.Causes.{HasChanged, IsChecked, IsConflict, IsConflictAtCommit, IsConflictAtScan, IsRebased, IsUnmet, ReadObserves, prepares_key}
@@ -28,7 +20,6 @@ use Rattle.sdb_model.specs.Requests.{records_put}
 use Rattle.sdb_model.specs.Transactions.{Executed, is_prepared_record}
 use Rattle.sdb_model.proofs.Requests.{PreparesAt, in_only, only_put, shown_unmet, unmet_shown}
 use Rattle.check_protocol.proofs.Lists.{none_some, right, or_left, not_true, true_not, In, any_some, some_any}
-use Rattle.check_tables.specs.declared.made.Made.{Made}
 use Rattle.check_tables.specs.Values.{all_made, made_of}
 use Rattle.check_answers.specs.Tests.{any_id, base_put, conflict_at_commit, conflict_at_scan, conflict_of, get_observes, has_changed_from, has_prepared, is_commit_of, is_found_by, is_in, is_changed, is_rebased, is_unmet, not_met_as, read_observes, same_found, scan_differs, scan_observes, scan_observes_by, means, means_by}
 use Rattle.check_answers.proofs.Finds.{in_contains, contains_in, made_contained, contained_made, found_is, is_found}

@@ -4,12 +4,9 @@ use Rattle.std.specs.Prelude.{◌↔◌, ◌&&◌, ◌||◌, ◌==◌, not, nat_
 use Rattle.std.proofs.lemmas.List.{length-append, length-map}
 use Rattle.std.proofs.lemmas.List.Elements.{filter-append}
 use Rattle.std.proofs.lemmas.Bool.Decides.{nat_tests}
-use Rattle.sdb_types.specs.declared.txid.TxId.{TxId}
-use Rattle.sdb_schema.specs.declared.table.Table.{Table}
+use Rattle.check_answers.specs.Types.{Answer, Event, Made, Table, TxId}
 use Rattle.sdb_record.specs.Meta.{is_unresolved}
-use Rattle.sdb_model.specs.declared.answer.Answer.{Answer}
 use Rattle.sdb_model.specs.declared.answer.Answer.TheVariants as answer
-use Rattle.sdb_model.specs.declared.event.Event.{Event}
 use Rattle.sdb_model.specs.Calls as calls
 use Rattle.sdb_model.specs.Calls.{calls_of, is_removal, records_read}
 use Rattle.sdb_model.specs.Causes.{IsCommitOf}
@@ -19,7 +16,6 @@ use Rattle.sdb_model.specs.Sql.{reads_commit, reads_vacuum}
 use Rattle.sdb_model.specs.Transactions.{Executed, id_of, prepares, statements_by, is_committed_answer}
 use Rattle.check_protocol.proofs.Lists.{In, right, or_left, not_true, true_not, not_both, all_each, each_all}
 use Rattle.check_protocol.proofs.ShownLaws.{number_is, is_number}
-use Rattle.check_tables.specs.declared.made.Made.{Made}
 use Rattle.check_tables.specs.Values.{all_made, made_of}
 use Rattle.check_answers.specs.Tests.{any_id, any_upto, is_commit_of}
 use Rattle.check_answers.proofs.Finds.{in_made, made_in, in_contains}
@@ -88,20 +84,20 @@ module _ (events : List Event) (id : TxId) (s : Executed) (ms : List Made) where
   abbrev most : Bool
   most = nat_le (length ms) (w + 4)
 
-  abbrev told : Bool
-  told = is_committed_answer s.answer && all_seen ms
+  abbrev answered : Bool
+  answered = is_committed_answer s.answer && all_seen ms
 
   abbrev exact : Bool
   exact = length ms == w + 1
 
   counted_is : commit_counted ms (read_set_of events id) id s ≡ true → IsCommitCounted events id s (all_made ms)
   counted_is h = record {
-    exact = λ a all. length-map ms made_of ∙ number_is (length ms) (w + 1) (elim (either (not told) exact (right most (not told || exact) h)) [
-      | inl n ↦ not_both told (both (is_committed_answer s.answer) (all_seen ms) (ap is_committed_answer a) (seen_is ms all)) (not_true told n)
+    exact = λ a all. length-map ms made_of ∙ number_is (length ms) (w + 1) (elim (either (not answered) exact (right most (not answered || exact) h)) [
+      | inl n ↦ not_both answered (both (is_committed_answer s.answer) (all_seen ms) (ap is_committed_answer a) (seen_is ms all)) (not_true answered n)
       | inr e ↦ e
     ]) ∙ ap (λ n. n + 1) (sym (wanted_is events id ms));
     most =
-        let l : length ms ≤ w + 4 = le_is (length ms) (w + 4) (left most (not told || exact) h) in
+        let l : length ms ≤ w + 4 = le_is (length ms) (w + 4) (left most (not answered || exact) h) in
         let a : length (all_made ms) ≡ length ms = length-map ms made_of in
         let e : calls_wanted events id (all_made ms) ≡ w = wanted_is events id ms in
         omega (arith, l, a, e);
@@ -112,9 +108,9 @@ module _ (events : List Event) (id : TxId) (s : Executed) (ms : List Made) where
       let a : length (all_made ms) ≡ length ms = length-map ms made_of in
       let e : calls_wanted events id (all_made ms) ≡ w = wanted_is events id ms in
       let m : length (all_made ms) ≤ calls_wanted events id (all_made ms) + 4 = c.most in
-      both most (not told || exact) (is_le (length ms) (w + 4) (omega (arith, m, a, e))) (elim (decide told) [
-        | inl t ↦ or_right (not told) exact (is_number (length ms) (w + 1) (sym a ∙ c.exact (told_is s.answer (left (is_committed_answer s.answer) (all_seen ms) t)) (is_seen_of ms (right (is_committed_answer s.answer) (all_seen ms) t)) ∙ ap (λ n. n + 1) e))
-        | inr f ↦ or_left (not told) exact (true_not told f)
+      both most (not answered || exact) (is_le (length ms) (w + 4) (omega (arith, m, a, e))) (elim (decide answered) [
+        | inl t ↦ or_right (not answered) exact (is_number (length ms) (w + 1) (sym a ∙ c.exact (told_is s.answer (left (is_committed_answer s.answer) (all_seen ms) t)) (is_seen_of ms (right (is_committed_answer s.answer) (all_seen ms) t)) ∙ ap (λ n. n + 1) e))
+        | inr f ↦ or_left (not answered) exact (true_not answered f)
       ])
 
 ---- the calls of other statements

@@ -2,18 +2,13 @@
 use Rattle.std.proofs.Common.{◌≡◌, ℕ, suc, ℤ, Bool, true, false, List, [], ◌∷◌, length, Option, ◌⊎◌, inl, inr, refl, sym, ap, ◌∙◌}
 use Rattle.std.specs.Prelude.{◌↔◌, IfOk, IsTrue, Result, Ok, Err}
 use Rattle.std.specs.List.{list_any}
-use Rattle.sdb_types.specs.declared.txid.TxId.{TxId}
-use Rattle.sdb_types.specs.declared.key.Key.{Key}
-use Rattle.sdb_types.specs.declared.record.Record.{Record}
-use Rattle.sdb_types.specs.declared.record.Reply.{Reply}
+use Rattle.check_answers.specs.Types.{Event, Key, Made, Record, Reply, TxId}
 use Rattle.sdb_record.specs.Coordinator.{coordinator_key_of}
-use Rattle.sdb_model.specs.declared.event.Event.{Event}
 use Rattle.sdb_model.specs.Calls.{calls_of}
 use Rattle.sdb_model.specs.Causes.{FindsBad, HasReply, IsBusy, IsConflict, IsExpired, IsOfCommit, IsUnknown}
 use Rattle.sdb_model.specs.Transactions.{Executed, id_of, statements_by}
-use Rattle.sdb_order.specs.declared.executed.Executed.{Executed as Plain}
-use Rattle.sdb_order.specs.Commits.{all_executed}
-use Rattle.check_tables.specs.declared.made.Made.{Made}
+use Rattle.sdb_contents.specs.declared.executed.Executed.{Executed as Plain}
+use Rattle.sdb_contents.specs.Commits.{all_executed}
 use Rattle.check_tables.specs.Values.{all_made}
 use Rattle.check_answers.specs.Tests.{any_upto, busy_among, commits_as, conflict_of, expired_among, is_commit_of, observes_bad, unknown_among}
 use Rattle.check_answers.proofs.BusyLaws.{busy_is, is_busy_of}

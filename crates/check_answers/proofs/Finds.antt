@@ -2,15 +2,13 @@
 use Rattle.std.proofs.Common.{◌≡◌, zero, suc, Bool, true, false, List, [], ◌∷◌, Option, Some, None, ◌⊎◌, inl, inr, refl, sym, ap, ◌∙◌, arith}
 use Rattle.std.specs.Prelude.{filter, Contains, ◌||◌, if◌then◌else◌}
 use Rattle.std.specs.List.{list_any}
-use Rattle.sdb_types.specs.declared.record.Record.{Record}
+use Rattle.check_answers.specs.Types.{Made, ReadItem, Record}
 use Rattle.sdb_model.specs.ReadSet as as_read
-use Rattle.check_protocol.specs.declared.plan.ReadItem.{ReadItem}
 use Rattle.check_protocol.specs.Values.{item_of}
 use Rattle.check_protocol.proofs.ShownLaws.{record_is, is_record}
 use Rattle.check_answers.specs.Tests.{same_found}
 use Rattle.sdb_model.specs.Calls as calls
 use Rattle.check_protocol.proofs.Lists.{In}
-use Rattle.check_tables.specs.declared.made.Made.{Made}
 use Rattle.check_tables.specs.Values.{all_made, all_items, made_of}
 use Rattle.sdb_types.proofs.Basics.{clash}
 

@@ -4,9 +4,7 @@ use Rattle.std.specs.Prelude.{◌↔◌, ◌&&◌, ◌==◌, IsTrue, filter, nat
 use Rattle.std.specs.Option.{option_map_or}
 use Rattle.std.proofs.lemmas.Bool.Decides.{nat_tests}
 use Rattle.std.proofs.lemmas.List.Sums.{sum_by-cons}
-use Rattle.sdb_types.specs.declared.txid.TxId.{TxId}
-use Rattle.sdb_model.specs.declared.event.Event.{Event}
-use Rattle.sdb_model.specs.declared.statement.Statement.{Statement}
+use Rattle.check_answers.specs.Types.{Event, Made, Statement, TxId}
 use Rattle.sdb_model.specs.declared.statement.Statement.TheVariants as statement
 use Rattle.sdb_model.specs.Calls as calls
 use Rattle.sdb_model.specs.Calls.{records_read}
@@ -14,7 +12,6 @@ use Rattle.sdb_model.specs.ReadSet.{has_read, reads_rows}
 use Rattle.sdb_model.specs.Causes.{MayPassMost, body_before, finished_before, may_pass, records_found, counted_by}
 use Rattle.sdb_model.specs.Transactions.{Executed, client_of, id_of, is_effective, ordinal_of, statements_by}
 use Rattle.check_protocol.proofs.Lists.{right}
-use Rattle.check_tables.specs.declared.made.Made.{Made}
 use Rattle.check_tables.specs.Values.{all_made, inside_among, made_of}
 use Rattle.check_answers.specs.Tests.{IsReading, any_id, any_upto, found_among, found_by, found_left, is_in, passes_left, passes_most, total_before, written_left}
 use Rattle.check_answers.proofs.Decided.{decide_by}
@@ -35,17 +32,17 @@ found_is (m ∷ ms) = by (reads_rows (made_of m)) (found_is ms)
     by true more = ap (λ n. length (records_read m.reply) + n) more ∙ sym (sum_by-cons size (made_of m) (filter reads_rows (all_made ms)))
     by false more = zero-add (found_among ms) ∙ more
 
-sum_before : (t : Executed → Bool) (f : Executed → ℕ) (taken : ℕ) (ss : List Executed) → sum_by f (filter (λ b. nat_lt b.taken taken) (filter t ss)) ≡ total_before t f taken ss
-sum_before t f taken [] = refl
-sum_before t f taken (s ∷ ss) = by (t s) (nat_lt s.taken taken) refl (sum_before t f taken ss)
+sum_before : (t : Executed → Bool) (f : Executed → ℕ) (accepted : ℕ) (ss : List Executed) → sum_by f (filter (λ b. nat_lt b.accepted accepted) (filter t ss)) ≡ total_before t f accepted ss
+sum_before t f accepted [] = refl
+sum_before t f accepted (s ∷ ss) = by (t s) (nat_lt s.accepted accepted) refl (sum_before t f accepted ss)
   where
     early : List Executed → List Executed
-    early = filter (λ b. nat_lt b.taken taken)
+    early = filter (λ b. nat_lt b.accepted accepted)
 
-    by : (a c : Bool) → nat_lt s.taken taken ≡ c → sum_by f (early (filter t ss)) ≡ total_before t f taken ss → sum_by f (early (if a then s ∷ filter t ss else filter t ss)) ≡ (if a && c then f s else 0) + total_before t f taken ss
-    by false c e more = more ∙ sym (zero-add (total_before t f taken ss))
+    by : (a c : Bool) → nat_lt s.accepted accepted ≡ c → sum_by f (early (filter t ss)) ≡ total_before t f accepted ss → sum_by f (early (if a then s ∷ filter t ss else filter t ss)) ≡ (if a && c then f s else 0) + total_before t f accepted ss
+    by false c e more = more ∙ sym (zero-add (total_before t f accepted ss))
     by true true e more = ap (λ b. sum_by f (if b then s ∷ early (filter t ss) else early (filter t ss))) e ∙ sum_by-cons f s (early (filter t ss)) ∙ ap (λ n. f s + n) more
-    by true false e more = ap (λ b. sum_by f (if b then s ∷ early (filter t ss) else early (filter t ss))) e ∙ more ∙ sym (zero-add (total_before t f taken ss))
+    by true false e more = ap (λ b. sum_by f (if b then s ∷ early (filter t ss) else early (filter t ss))) e ∙ more ∙ sym (zero-add (total_before t f accepted ss))
 
 ---- the test
 
@@ -79,15 +76,15 @@ module _ (events : List Event) (client : ℕ) (s : Executed) (o : Option Stateme
   abbrev here : TxId → Statement → Bool
   here id st = may_pass (sum_by counted_by (before id)) (sum_by (found_by events client) (finished id) + found_by events client s) st
 
-  same : (id : TxId) (st : Statement) → client_of id ≡ client → passes_left (written_left events id s.taken) (found_left events client id s) st ≡ here id st
+  same : (id : TxId) (st : Statement) → client_of id ≡ client → passes_left (written_left events id s.accepted) (found_left events client id s) st ≡ here id st
   same id st own =
-      passes_is (total_before is_effective counted_by s.taken (inside id)) (total_before (has_read events client) (found_by events client) s.taken (inside id)) (found_by events client s) st
-      ∙ ap (λ n. may_pass n (total_before (has_read events client) (found_by events client) s.taken (inside id) + found_by events client s) st) (sym (sum_before is_effective counted_by s.taken (inside id)))
-      ∙ ap (λ n. may_pass (sum_by counted_by (before id)) (n + found_by events client s) st) (sym (sum_before (has_read events client) (found_by events client) s.taken (inside id)))
-      ∙ ap (λ n. may_pass (sum_by counted_by (before id)) (sum_by (found_by events client) (filter (λ b. nat_lt b.taken s.taken) (filter (has_read events n) (inside id))) + found_by events client s) st) (sym own)
+      passes_is (total_before is_effective counted_by s.accepted (inside id)) (total_before (has_read events client) (found_by events client) s.accepted (inside id)) (found_by events client s) st
+      ∙ ap (λ n. may_pass n (total_before (has_read events client) (found_by events client) s.accepted (inside id) + found_by events client s) st) (sym (sum_before is_effective counted_by s.accepted (inside id)))
+      ∙ ap (λ n. may_pass (sum_by counted_by (before id)) (n + found_by events client s) st) (sym (sum_before (has_read events client) (found_by events client) s.accepted (inside id)))
+      ∙ ap (λ n. may_pass (sum_by counted_by (before id)) (sum_by (found_by events client) (filter (λ b. nat_lt b.accepted s.accepted) (filter (has_read events n) (inside id))) + found_by events client s) st) (sym own)
 
   abbrev passes : TxId → Statement → Bool
-  passes id = passes_left (written_left events id s.taken) (found_left events client id s)
+  passes id = passes_left (written_left events id s.accepted) (found_left events client id s)
 
   most_is : any_id events client (passes_most events client s o) ≡ true → MayPassMost events client s
   most_is h =

@@ -3,23 +3,17 @@ use Rattle.std.proofs.Common.{◌≡◌, ℕ, ◌≤◌, ◌<◌, Bool, true, fa
 use Rattle.std.specs.Prelude.{◌&&◌, Contains, filter, fold, if◌then◌else◌}
 use Rattle.std.specs.List.{flat_map, list_any}
 use Rattle.std.specs.Option.{option_map_or}
-use Rattle.sdb_types.specs.declared.key.Key.{Key}
-use Rattle.sdb_types.specs.declared.pair.Pair.{Pair}
-use Rattle.sdb_types.specs.declared.record.Request.{Request}
+use Rattle.check_answers.specs.Types.{Event, Image, Key, Pair, Request, Statement, Table}
 use Rattle.sdb_types.specs.declared.record.Request.TheVariants as ask
 use Rattle.sdb_types.proofs.Basics.{clash}
 use Rattle.sdb_types.proofs.Keys.{same_key_exact, same_key_of}
-use Rattle.sdb_schema.specs.declared.table.Table.{Table}
-use Rattle.sdb_record.specs.declared.access.Image.{Image}
-use Rattle.sdb_model.specs.declared.event.Event.{Event}
-use Rattle.sdb_model.specs.declared.statement.Statement.{Statement}
 use Rattle.sdb_model.specs.DirtyReads.{CommittedBy, ReadsKey, StartsWith, row_left}
 use Rattle.sdb_model.specs.Serial.{AreRead}
 use Rattle.sdb_model.specs.Calls.{calls_of}
 use Rattle.sdb_model.specs.ReadSet.{has_finished, has_read}
 use Rattle.sdb_model.specs.Transactions.{Executed, is_effective}
 use Rattle.sdb_snapshot.specs.Seen.{images_with}
-use Rattle.sdb_order.specs.Commits.{executed_of}
+use Rattle.sdb_contents.specs.Commits.{executed_of}
 use Rattle.check_protocol.proofs.Lists.{In, any_some, some_any}
 use Rattle.check_tables.specs.Values.{all_made, made_of}
 use Rattle.check_answers.specs.Tests.{same_executed}
@@ -56,16 +50,16 @@ module _ (x : Stores) (events : List Event) (client : ℕ) where
   bases_is : (s : Executed) (t : Turn) (key : Key) (row : Option (List Pair)) → IsTurn events client s t → In (bases x key t) row → (has_read events client s ≡ true) × Was s key row
   bases_is s t key row h i = by (has_finished (all_made t.calls) (executed_of t.executed)) (list_any (λ m. reads_key key m.request) t.calls) refl refl i
     where
-      by : (f b : Bool) → has_finished (all_made t.calls) (executed_of t.executed) ≡ f → list_any (λ m. reads_key key m.request) t.calls ≡ b → In (if f && b then rows_below (row_then x key) t.executed.taken t.end else []) row → (has_read events client s ≡ true) × Was s key row
+      by : (f b : Bool) → has_finished (all_made t.calls) (executed_of t.executed) ≡ f → list_any (λ m. reads_key key m.request) t.calls ≡ b → In (if f && b then rows_below (row_then x key) t.executed.accepted t.end else []) row → (has_read events client s ≡ true) × Was s key row
       by true true f e j =
           let m = any_some (λ m. reads_key key m.request) t.calls e in
-          let r = below_in (row_then x key) t.executed.taken t.end row j in (
+          let r = below_in (row_then x key) t.executed.accepted t.end row j in (
             sym (read_is s t h) ∙ f,
             record {
               call = made_of m.0;
               at = r.0;
               read = (subst (λ cs. Contains cs (made_of m.0)) h.calls (made_contained t.calls m.0 m.1), reads_is key m.0.request m.2);
-              within = (subst (λ n. n ≤ r.0) (ap (λ (z : Executed). z.taken) h.executed) r.1, subst (λ n. r.0 < n) h.ends r.2);
+              within = (subst (λ n. n ≤ r.0) (ap (λ (z : Executed). z.accepted) h.executed) r.1, subst (λ n. r.0 < n) h.ends r.2);
               image = r.3;
             },
           )
@@ -76,9 +70,9 @@ module _ (x : Stores) (events : List Event) (client : ℕ) where
   is_bases s t key row h f w =
       let m = contained_made t.calls w.call (subst (λ cs. Contains cs w.call) (sym h.calls) w.read.0) in
       let some : list_any (λ m. reads_key key m.request) t.calls ≡ true = some_any (λ m. reads_key key m.request) t.calls m.0 m.1 (is_reads key m.0.request (subst (λ c. ReadsKey key c.request) m.2 w.read.1)) in
-      subst (λ z. In (if z && list_any (λ m. reads_key key m.request) t.calls then rows_below (row_then x key) t.executed.taken t.end else []) row) (sym (read_is s t h ∙ f))
-      (subst (λ b. In (if b then rows_below (row_then x key) t.executed.taken t.end else []) row) (sym some)
-      (in_below (row_then x key) t.executed.taken t.end w.at row (subst (λ n. n ≤ w.at) (sym (ap (λ (z : Executed). z.taken) h.executed)) w.within.0) (subst (λ n. w.at < n) (sym h.ends) w.within.1) w.image))
+      subst (λ z. In (if z && list_any (λ m. reads_key key m.request) t.calls then rows_below (row_then x key) t.executed.accepted t.end else []) row) (sym (read_is s t h ∙ f))
+      (subst (λ b. In (if b then rows_below (row_then x key) t.executed.accepted t.end else []) row) (sym some)
+      (in_below (row_then x key) t.executed.accepted t.end w.at row (subst (λ n. n ≤ w.at) (sym (ap (λ (z : Executed). z.accepted) h.executed)) w.within.0) (subst (λ n. w.at < n) (sym h.ends) w.within.1) w.image))
 
 ---- what the statements made of it
 
@@ -189,7 +183,7 @@ pub record IsHad (catalog : List Table) (x : Stores) (events : List Event) (clie
   pub parts : ss ≡ earlier ++ changing ++ s ∷ later
   pub begins : StartsWith first (changing ++ s ∷ [])
   pub finished : has_read events client first ≡ true
-  pub shown : Was x events client first key base
+  pub observed : Was x events client first key base
   pub read : AreRead (filter is_effective changing) sts
   pub made : Some columns ≡ fold (λ r st. row_left catalog st key r) base sts
 
@@ -222,7 +216,7 @@ module _ (catalog : List Table) (x : Stores) (events : List Event) (client : ℕ
           parts = p.1.parts;
           begins = starts u ss p.1.changing p.1.later p.1.parts;
           finished = (bases_is x events client u t key base h k).0;
-          shown = (bases_is x events client u t key base h k).1;
+          observed = (bases_is x events client u t key base h k).1;
           read = p.1.read;
           made = p.1.made;
         },
@@ -241,7 +235,7 @@ module _ (catalog : List Table) (x : Stores) (events : List Event) (client : ℕ
           parts = ap (λ z. u ∷ z) p.1.parts;
           begins = p.1.begins;
           finished = p.1.finished;
-          shown = p.1.shown;
+          observed = p.1.observed;
           read = p.1.read;
           made = p.1.made;
         },
@@ -263,4 +257,4 @@ module _ (catalog : List Table) (x : Stores) (events : List Event) (client : ℕ
       in_right (flat_map (λ y. rows_from catalog s key y (t ∷ ts)) (bases x key t)) (had_at catalog x s key ts) (record { key = key; columns = columns }) (found es changing later first sts base ts columns a b f w r m)
 
   pub is_had : (ss : List Executed) (ts : List Turn) (columns : List Pair) → AreTurns events client ss ts → IsHad catalog x events client ss s key columns → In (had_at catalog x s key ts) (record { key = key; columns = columns })
-  is_had ss ts columns a h = found h.earlier h.changing h.later h.first h.sts h.base ts columns (subst (λ z. AreTurns events client z ts) h.parts a) h.begins h.finished h.shown h.read h.made
+  is_had ss ts columns a h = found h.earlier h.changing h.later h.first h.sts h.base ts columns (subst (λ z. AreTurns events client z ts) h.parts a) h.begins h.finished h.observed h.read h.made

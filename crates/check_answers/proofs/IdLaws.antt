@@ -4,8 +4,7 @@ use Rattle.std.specs.Prelude.{◌||◌, ◌==◌, Contains, find, if◌then◌el
 use Rattle.std.specs.List.{list_any}
 use Rattle.std.specs.Option.{option_and_then}
 use Rattle.sdb_model.specs.Sql.{reads_commit}
-use Rattle.sdb_types.specs.declared.txid.TxId.{TxId}
-use Rattle.sdb_model.specs.declared.event.Event.{Event}
+use Rattle.check_answers.specs.Types.{Event, TxId}
 use Rattle.sdb_model.specs.Causes.{IsCommitOf, IsIn}
 use Rattle.sdb_model.specs.Transactions.{Executed, begins, ends, rest_of, through_end, client_of, commit_of, from_begin, id_of, ordinal_of, statements_by, statements_of}
 use Rattle.check_protocol.proofs.Lists.{none_some, right, or_left, In, any_some, some_any}

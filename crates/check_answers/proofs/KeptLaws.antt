@@ -1,9 +1,7 @@
 -- It is so of all statements where it is so of those of each client that takes one.
 use Rattle.std.proofs.Common.{◌≡◌, ℕ, zero, suc, Bool, true, false, List, [], ◌∷◌, Option, Some, None, ◌⊎◌, inr, refl, subst}
 use Rattle.std.specs.Prelude.{◌==◌, Contains, find, if◌then◌else◌}
-use Rattle.sdb_types.specs.declared.txid.TxId.{TxId}
-use Rattle.sdb_schema.specs.declared.table.Table.{Table}
-use Rattle.sdb_model.specs.declared.event.Event.{Event}
+use Rattle.check_answers.specs.Types.{Event, Table, TxId}
 use Rattle.sdb_model.specs.Counted.{AreCounted, AreResolved}
 use Rattle.sdb_model.specs.Sql.{reads_commit}
 use Rattle.sdb_model.specs.Transactions.{Executed, begins, client_of, commit_of, ends, from_begin, ordinal_of, rest_of, statements_by}

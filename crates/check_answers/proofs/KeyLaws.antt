@@ -6,21 +6,14 @@ use Rattle.std.specs.FinMap as finite
 use Rattle.std.specs.List.{cons_option, flat_map}
 use Rattle.std.specs.Option.{option_and_then, option_map, option_map_or}
 use Rattle.std.specs.Ordering.{is_eq}
-use Rattle.sdb_types.specs.declared.key.Key.{Key}
-use Rattle.sdb_types.specs.declared.pair.Pair.{Pair}
-use Rattle.sdb_types.specs.declared.record.Record.{Record}
+use Rattle.check_answers.specs.Types.{Event, Image, Key, Pair, Place, Record, Statement, Table}
 use Rattle.sdb_types.specs.Contents.{Contents, record_at}
 use Rattle.sdb_types.specs.Exact.{equal_of}
 use Rattle.sdb_types.specs.Order.{key_cmp}
 use Rattle.sdb_types.proofs.KeyOrder.{key_exact, key_total}
-use Rattle.sdb_schema.specs.declared.table.Table.{Table}
-use Rattle.sdb_record.specs.declared.access.Image.{Image}
 use Rattle.sdb_record.specs.Rolls.{image_of, row_of_image}
-use Rattle.sdb_model.specs.declared.event.Event.{Event}
-use Rattle.sdb_types.specs.declared.place.Place.{Place}
-use Rattle.sdb_model.specs.declared.statement.Statement.{Statement}
 use Rattle.sdb_model.specs.declared.statement.Statement.TheVariants as statement
-use Rattle.sdb_model.specs.Events.{contents_under, moment, standing, store_of}
+use Rattle.sdb_model.specs.Events.{contents_under, moment, stored_at, store_of}
 use Rattle.sdb_model.specs.Exec.{Tables, all_rows, entry_of_row, exec_in, find_table, key_of, passes, row_of_entry, updated, with_named}
 use Rattle.sdb_model.specs.Images.{decision_on, image_at, row_at}
 use Rattle.sdb_model.specs.Rows.{Name, same_name}
@@ -60,19 +53,19 @@ some_mapped f (Some a) b h = (a, refl, same (f a) b h)
     same : {C : Type 0} (y z : C) → Some y ≡ Some z → y ≡ z
     same y z k = cc
 
-kept_held : (shelves : List StoreContents) (o : Option Contents) (name : Name) (key : Key) (r : Record) → contents_under (all_contents shelves) name ≡ o → option_map_or (λ m. record_at m key) o None ≡ Some r → In (keys_at_stores shelves) key
-kept_held shelves None name key r e h = none_some h
-kept_held shelves (Some m) name key r e h =
-    let s = some_mapped (λ (s : StoreContents). s.rows) (find (λ (s : StoreContents). same_name s.name name) shelves) m (sym (held_is shelves name) ∙ e) in
-    let i = found_in (λ (s : StoreContents). same_name s.name name) shelves s.0 s.1 in
+kept_held : (store_contents : List StoreContents) (o : Option Contents) (name : Name) (key : Key) (r : Record) → contents_under (all_contents store_contents) name ≡ o → option_map_or (λ m. record_at m key) o None ≡ Some r → In (keys_at_stores store_contents) key
+kept_held store_contents None name key r e h = none_some h
+kept_held store_contents (Some m) name key r e h =
+    let s = some_mapped (λ (s : StoreContents). s.rows) (find (λ (s : StoreContents). same_name s.name name) store_contents) m (sym (held_is store_contents name) ∙ e) in
+    let i = found_in (λ (s : StoreContents). same_name s.name name) store_contents s.0 s.1 in
     let c = some_mapped (λ (columns : List Pair). record { key = key; columns = columns }) (get m key) r h in
-    flat_in keys_in shelves s.0 key i.0 (subst (λ (d : Contents). In (map (λ (z : Image). z.key) (all_rows d)) key) (sym s.2) (among (entries m) key c.0 (sym (get-entries m key) ∙ c.1)))
+    flat_in keys_in store_contents s.0 key i.0 (subst (λ (d : Contents). In (map (λ (z : Image). z.key) (all_rows d)) key) (sym s.2) (among (entries m) key c.0 (sym (get-entries m key) ∙ c.1)))
 
-kept_row : (places : List Place) (shelves : List StoreContents) (key : Key) (columns : List Pair) → row_at places (all_contents shelves) key ≡ Some columns → In (keys_at_stores shelves) key
-kept_row places shelves key columns h =
-    let i = some_before row_of_image (image_at places (all_contents shelves) key) columns h in
-    let r = some_before (λ r. image_of r (decision_on places (all_contents shelves) r)) (standing places (all_contents shelves) key) i.0 i.1 in
-    kept_held shelves (contents_under (all_contents shelves) (store_of places (all_contents shelves) key.table.ns)) (store_of places (all_contents shelves) key.table.ns) key r.0 refl r.1
+kept_row : (places : List Place) (store_contents : List StoreContents) (key : Key) (columns : List Pair) → row_at places (all_contents store_contents) key ≡ Some columns → In (keys_at_stores store_contents) key
+kept_row places store_contents key columns h =
+    let i = some_before row_of_image (image_at places (all_contents store_contents) key) columns h in
+    let r = some_before (λ r. image_of r (decision_on places (all_contents store_contents) r)) (stored_at places (all_contents store_contents) key) i.0 i.1 in
+    kept_held store_contents (contents_under (all_contents store_contents) (store_of places (all_contents store_contents) key.table.ns)) (store_of places (all_contents store_contents) key.table.ns) key r.0 refl r.1
 
 kept_then : (places : List Place) (opening : List StoreContents) (ms : List (List StoreContents)) (n : ℕ) (key : Key) (columns : List Pair) → row_at places (moment (all_contents opening) (all_moments ms) n) key ≡ Some columns → In (keys_at_stores opening ++ flat_map keys_at_stores ms) key
 kept_then places opening ms zero key columns h = in_left (keys_at_stores opening) (flat_map keys_at_stores ms) key (kept_row places opening key columns h)
@@ -165,4 +158,4 @@ module _ (catalog : List Table) (x : Stores) (events : List Event) (client : ℕ
 
       by : (o : Option (List Pair)) → h.base ≡ o → In (all_keys catalog x ts) key
       by None e = in_right kept (flat_map inserts ts) key (later_new h.earlier h.changing h.later h.sts ts columns (subst (λ z. AreTurns events client z ts) h.parts a) h.read (h.made ∙ ap (λ o. fold (λ r st. row_left catalog st key r) o h.sts) e))
-      by (Some b) e = in_left kept (flat_map inserts ts) key (kept_then x.places x.opening x.moments h.shown.at key b (h.shown.image ∙ e))
+      by (Some b) e = in_left kept (flat_map inserts ts) key (kept_then x.places x.opening x.moments h.observed.at key b (h.observed.image ∙ e))

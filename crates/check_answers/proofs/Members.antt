@@ -40,30 +40,30 @@ last_or_less zero (suc m) l = inr (omega arith)
 last_or_less (suc i) zero l = absurd (omega (arith, l))
 last_or_less (suc i) (suc m) l = elim (last_or_less i m (omega (arith, l))) [ inl e ↦ inl (ap suc e) | inr e ↦ inr (omega (arith, e)) ]
 
-pub below_in : (f : ℕ → Option (List Pair)) (taken n : ℕ) (row : Option (List Pair)) → In (rows_below f taken n) row → (at : ℕ) × (taken ≤ at) × (at < n) × (f at ≡ row)
-below_in f taken zero row i = absurd i
-below_in f taken (suc n) row i = elim (in_either (rows_below f taken n) (if nat_lt taken (suc n) then f n ∷ [] else []) row i) [
-  | inl j ↦ let r = below_in f taken n row j in (r.0, r.1, omega (arith, r.2), r.3)
-  | inr j ↦ by (nat_lt taken (suc n)) refl j
+pub below_in : (f : ℕ → Option (List Pair)) (accepted n : ℕ) (row : Option (List Pair)) → In (rows_below f accepted n) row → (at : ℕ) × (accepted ≤ at) × (at < n) × (f at ≡ row)
+below_in f accepted zero row i = absurd i
+below_in f accepted (suc n) row i = elim (in_either (rows_below f accepted n) (if nat_lt accepted (suc n) then f n ∷ [] else []) row i) [
+  | inl j ↦ let r = below_in f accepted n row j in (r.0, r.1, omega (arith, r.2), r.3)
+  | inr j ↦ by (nat_lt accepted (suc n)) refl j
 ]
   where
-    by : (b : Bool) → nat_lt taken (suc n) ≡ b → In (if b then f n ∷ [] else []) row → (at : ℕ) × (taken ≤ at) × (at < suc n) × (f at ≡ row)
-    by true e (inl k) = let l : taken < suc n = lt_of taken (suc n) e in (n, omega (arith, l), omega arith, sym k)
+    by : (b : Bool) → nat_lt accepted (suc n) ≡ b → In (if b then f n ∷ [] else []) row → (at : ℕ) × (accepted ≤ at) × (at < suc n) × (f at ≡ row)
+    by true e (inl k) = let l : accepted < suc n = lt_of accepted (suc n) e in (n, omega (arith, l), omega arith, sym k)
     by true e (inr k) = absurd k
     by false e k = absurd k
 
-pub in_below : (f : ℕ → Option (List Pair)) (taken n at : ℕ) (row : Option (List Pair)) → taken ≤ at → at < n → f at ≡ row → In (rows_below f taken n) row
-in_below f taken zero at row h l e = absurd (omega (arith, l))
-in_below f taken (suc n) at row h l e = by (last_or_less at n l) (λ k. in_below f taken n at row h k e)
+pub in_below : (f : ℕ → Option (List Pair)) (accepted n at : ℕ) (row : Option (List Pair)) → accepted ≤ at → at < n → f at ≡ row → In (rows_below f accepted n) row
+in_below f accepted zero at row h l e = absurd (omega (arith, l))
+in_below f accepted (suc n) at row h l e = by (last_or_less at n l) (λ k. in_below f accepted n at row h k e)
   where
-    is_lt : at ≡ n → nat_lt taken (suc n) ≡ true
+    is_lt : at ≡ n → nat_lt accepted (suc n) ≡ true
     is_lt s = grind (arith, nat_tests, h, s)
 
-    by : (at ≡ n) ⊎ (at < n) → (at < n → In (rows_below f taken n) row) → In (rows_below f taken (suc n)) row
-    by (inl s) more = in_right (rows_below f taken n) (if nat_lt taken (suc n) then f n ∷ [] else []) row (subst (λ b. In (if b then f n ∷ [] else []) row) (sym (is_lt s)) (inl (sym e ∙ ap f s)))
-    by (inr k) more = in_left (rows_below f taken n) (if nat_lt taken (suc n) then f n ∷ [] else []) row (more k)
+    by : (at ≡ n) ⊎ (at < n) → (at < n → In (rows_below f accepted n) row) → In (rows_below f accepted (suc n)) row
+    by (inl s) more = in_right (rows_below f accepted n) (if nat_lt accepted (suc n) then f n ∷ [] else []) row (subst (λ b. In (if b then f n ∷ [] else []) row) (sym (is_lt s)) (inl (sym e ∙ ap f s)))
+    by (inr k) more = in_left (rows_below f accepted n) (if nat_lt accepted (suc n) then f n ∷ [] else []) row (more k)
 
 -- the last number first
-pub below_more : (f : ℕ → Option (List Pair)) (taken n : ℕ) → (n ≡ 0 → ⊥) → rows_below f taken n ≡ rows_below f taken (n - 1) ++ (if nat_lt taken n then f (n - 1) ∷ [] else [])
-below_more f taken zero some = absurd (some refl)
-below_more f taken (suc n) some = let e : suc n - 1 ≡ n = omega arith in ap (λ m. rows_below f taken m ++ (if nat_lt taken (suc n) then f m ∷ [] else [])) (sym e)
+pub below_more : (f : ℕ → Option (List Pair)) (accepted n : ℕ) → (n ≡ 0 → ⊥) → rows_below f accepted n ≡ rows_below f accepted (n - 1) ++ (if nat_lt accepted n then f (n - 1) ∷ [] else [])
+below_more f accepted zero some = absurd (some refl)
+below_more f accepted (suc n) some = let e : suc n - 1 ≡ n = omega arith in ap (λ m. rows_below f accepted m ++ (if nat_lt accepted (suc n) then f m ∷ [] else [])) (sym e)

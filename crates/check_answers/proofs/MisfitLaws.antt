@@ -3,16 +3,11 @@ use Rattle.std.proofs.Common.{◌≡◌, ℕ, Bool, true, false, List, length, O
 use Rattle.std.specs.Prelude.{◌↔◌, ◌&&◌, IsTrue, nat_le}
 use Rattle.std.specs.List.{list_any}
 use Rattle.std.specs.Option.{option_map_or}
-use Rattle.sdb_types.specs.declared.key.Key.{Key}
-use Rattle.sdb_types.specs.declared.record.Record.{Record}
-use Rattle.sdb_types.specs.declared.txid.TxId.{TxId}
+use Rattle.check_answers.specs.Types.{Event, Key, Record, Statement, Table, TxId}
 use Rattle.sdb_types.specs.Order.{same_key}
 use Rattle.sdb_types.proofs.Basics.{at_most_nat, nat_at_most}
 use Rattle.sdb_types.proofs.Bools.{and_first as left, and_both as both}
 use Rattle.sdb_types.proofs.Keys.{same_key_exact, same_key_of}
-use Rattle.sdb_schema.specs.declared.table.Table.{Table}
-use Rattle.sdb_model.specs.declared.event.Event.{Event}
-use Rattle.sdb_model.specs.declared.statement.Statement.{Statement}
 use Rattle.sdb_model.specs.Access.{in_access}
 use Rattle.sdb_model.specs.Calls.{StoreCall, calls_of, records_read}
 use Rattle.sdb_model.specs.Causes.{MeetsMisfit, is_misfit}
@@ -30,7 +25,7 @@ use Rattle.check_answers.proofs.ReadLaws.{passed, read}
 
 module _ (catalog : List Table) (events : List Event) (client : ℕ) (s : Executed) (o : Option Statement) (reading : IsReading s.text o) (key : Key) where
   abbrev has : Executed → Bool
-  has b = has_read_misfit catalog events client s.taken key b
+  has b = has_read_misfit catalog events client s.accepted key b
 
   abbrev here : TxId → Bool
   here id = misfit_of catalog events client s key id
@@ -55,7 +50,7 @@ module _ (catalog : List Table) (events : List Event) (client : ℕ) (s : Execut
       let b = any_some has (statements_of events id.0) (right (is_in events client s id.0) (among id.0) id.1) in
       let within = in_is events client s id.0 (left (is_in events client s id.0) (among id.0) id.1) in
       let any = any_misfit catalog (by b.0) key in
-      let more = right (nat_le b.0.taken s.taken) (has_read events client b.0 && any) b.2 in
+      let more = right (nat_le b.0.accepted s.accepted) (has_read events client b.0 && any) b.2 in
       let m = any_some (reads_misfit catalog (by b.0) key) (by b.0) (right (has_read events client b.0) any more) in
       let shows = list_any (found b.0) (records_read m.0.reply) in
       let r = any_some (found b.0) (records_read m.0.reply) (right (reads_rows m.0) shows m.2) in
@@ -66,7 +61,7 @@ module _ (catalog : List Table) (events : List Event) (client : ℕ) (s : Execut
         reader = b.0;
         call = m.0;
         found = r.0;
-        within = (within, (within.0, in_contains (statements_of events id.0) b.0 b.1), nat_at_most b.0.taken s.taken (left (nat_le b.0.taken s.taken) (has_read events client b.0 && any) b.2));
+        within = (within, (within.0, in_contains (statements_of events id.0) b.0 b.1), nat_at_most b.0.accepted s.accepted (left (nat_le b.0.accepted s.accepted) (has_read events client b.0 && any) b.2));
         over = (st.1, t.1, t.2);
         finished = left (has_read events client b.0) any more;
         reads = (in_contains (by b.0) m.0 m.1, left (reads_rows m.0) shows m.2, in_contains (records_read m.0.reply) r.0 r.1, same_key_exact r.0.key key (left (same_key r.0.key key) (is_misfit catalog (by b.0) r.0) r.2));
@@ -85,7 +80,7 @@ module _ (catalog : List Table) (events : List Event) (client : ℕ) (s : Execut
   has_it : (x : MeetsMisfit catalog events client s key) → has x.reader ≡ true
   has_it x =
       let any = any_misfit catalog (by x.reader) key in
-      both (nat_le x.reader.taken s.taken) (has_read events client x.reader && any) (at_most_nat x.reader.taken s.taken x.within.2)
+      both (nat_le x.reader.accepted s.accepted) (has_read events client x.reader && any) (at_most_nat x.reader.accepted s.accepted x.within.2)
       (both (has_read events client x.reader) any x.finished (some_any (reads_misfit catalog (by x.reader) key) (by x.reader) x.call (contains_in (by x.reader) x.call x.reads.0) (is_shown x)))
 
   is_met : MeetsMisfit catalog events client s key → any_id events client here ≡ true

@@ -3,18 +3,14 @@ use Rattle.std.proofs.Common.{◌≡◌, ℕ, Bool, true, false, List, refl, sym
 use Rattle.std.specs.Prelude.{Contains, ◌&&◌, MatchBool, is_none, if◌then◌else◌, Result, Ok, Err}
 use Rattle.std.specs.List.{list_any}
 use Rattle.std.specs.Result.{result_ok}
-use Rattle.sdb_types.specs.declared.key.Key.{Key}
-use Rattle.sdb_types.specs.declared.record.Record.{Record}
-use Rattle.sdb_types.specs.declared.record.Reply.{Reply}
+use Rattle.check_answers.specs.Types.{Event, Key, Made, Record, Reply}
 use Rattle.sdb_record.specs.Coordinator.{decision_in, is_coordinator_table}
 use Rattle.sdb_record.specs.Meta.{checked}
-use Rattle.sdb_model.specs.declared.event.Event.{Event}
 use Rattle.sdb_model.specs.Calls as calls
 use Rattle.sdb_model.specs.Calls.{calls_of, records_observed}
 use Rattle.sdb_model.specs.Causes.{FindsBad, HasReply, IsBad}
 use Rattle.sdb_model.specs.Transactions.{Executed}
 use Rattle.check_protocol.proofs.Lists.{right, any_some, some_any}
-use Rattle.check_tables.specs.declared.made.Made.{Made}
 use Rattle.check_tables.specs.Values.{all_made, made_of}
 use Rattle.check_answers.specs.Tests.{is_bad, observes_bad}
 use Rattle.check_answers.proofs.Finds.{in_contains, contains_in, made_contained, contained_made}
@@ -61,10 +57,10 @@ module _ (events : List Event) (ms : List Made) (client : ℕ) (s : Executed) (e
       )
 
   pub is_finds : FindsBad events client s key → list_any (observes_bad key) ms ≡ true
-  is_finds (c, r, k, shown, at, bad) =
+  is_finds (c, r, k, observed, at, bad) =
       let m = contained_made ms c (subst (λ cs. Contains cs c) (sym e) k) in
       some_any (observes_bad key) ms m.0 m.1
-      (some_any here (records_observed m.0.reply) r (contains_in (records_observed m.0.reply) r (subst (λ (x : calls.StoreCall). Contains (records_observed x.reply) r) m.2 shown))
+      (some_any here (records_observed m.0.reply) r (contains_in (records_observed m.0.reply) r (subst (λ (x : calls.StoreCall). Contains (records_observed x.reply) r) m.2 observed))
       (both (same_key r.key key) (is_bad r) (same_key_of r.key key at) (is_bad_of r bad)))
 
 module _ (events : List Event) (ms : List Made) (client : ℕ) (s : Executed) (e : all_made ms ≡ calls_of events client s) where

@@ -1,21 +1,16 @@
--- The causes that are in the text of a statement are told by what it is read as.
+-- The causes that are in the text of a statement are answered by what it is read as.
 use Rattle.std.proofs.Common.{◌≡◌, ℕ, Bool, true, false, List, [], ◌∷◌, Option, Some, None, inl, inr, refl, sym, ap, ◌∙◌}
 use Rattle.std.specs.Prelude.{◌↔◌, IsTrue, filter, length, suc, if◌then◌else◌}
 use Rattle.std.specs.Option.{option_map_or}
 use Rattle.std.specs.List.{count_by}
 use Rattle.std.proofs.lemmas.List.Sums.{length-filter}
-use Rattle.sdb_model.specs.declared.statement.Insert.{Insert}
+use Rattle.check_answers.specs.Types.{Event, Insert, Key, Made, Statement, Table}
 use Rattle.sdb_model.specs.Exec.{find_table, key_of}
-use Rattle.sdb_schema.specs.declared.table.Table.{Table}
-use Rattle.sdb_model.specs.declared.event.Event.{Event}
-use Rattle.sdb_model.specs.declared.statement.Statement.{Statement}
 use Rattle.sdb_model.specs.declared.statement.Statement.TheVariants as statement
 use Rattle.sdb_model.specs.Sql.{Reads}
 use Rattle.sdb_model.specs.Causes.{IsCounted, before, is_open, is_select, removes}
 use Rattle.sdb_model.specs.Transactions.{Executed}
-use Rattle.sdb_types.specs.declared.key.Key.{Key}
 use Rattle.sdb_model.specs.Calls.{calls_of}
-use Rattle.check_tables.specs.declared.made.Made.{Made}
 use Rattle.check_tables.specs.Values.{all_made, made_of}
 use Rattle.check_protocol.proofs.ShownLaws.{number_is, is_number}
 use Rattle.check_answers.specs.Tests.{Inserts, IsOfCount, IsOfDone, IsOfDuplicate, IsOfRows, IsReading, counts_so, is_done, removed_by}

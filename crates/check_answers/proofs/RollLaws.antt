@@ -4,14 +4,9 @@ use Rattle.std.specs.Prelude.{◌↔◌, ◌&&◌, ◌||◌, not, nat_lt, Contai
 use Rattle.std.specs.List.{list_all}
 use Rattle.std.specs.Option.{option_map_or}
 use Rattle.sdb_types.specs.declared.record.Condition.TheVariants as condition
-use Rattle.sdb_types.specs.declared.record.Record.{Record}
-use Rattle.sdb_types.specs.declared.record.Request.{Request}
-use Rattle.sdb_types.specs.declared.record.State.{State}
-use Rattle.sdb_types.specs.declared.txid.TxId.{TxId}
+use Rattle.check_answers.specs.Types.{Event, How, Made, Record, Request, State, TxId}
 use Rattle.sdb_record.specs.Coordinator.{coordinator_key_of}
 use Rattle.sdb_record.specs.Meta.{id_in, is_unresolved, state_in}
-use Rattle.sdb_model.specs.declared.event.Event.{Event}
-use Rattle.sdb_model.specs.declared.event.How.{How}
 use Rattle.sdb_model.specs.declared.event.How.TheVariants.{Seen, Lost, Discarded, Broken}
 use Rattle.sdb_model.specs.Calls as calls
 use Rattle.sdb_model.specs.Calls.{calls_after, calls_of, decision_observed, records_read}
@@ -21,7 +16,6 @@ use Rattle.sdb_model.specs.Sql.{reads_vacuum}
 use Rattle.sdb_model.specs.Transactions.{Executed}
 use Rattle.check_protocol.specs.Values.{same_request}
 use Rattle.check_protocol.proofs.Lists.{In, right, or_left, not_true, true_not, not_both, all_each, each_all, any_some, some_any}
-use Rattle.check_tables.specs.declared.made.Made.{Made}
 use Rattle.check_tables.specs.Values.{all_made, decision_at, made_of}
 use Rattle.check_answers.specs.Tests.{is_early, prepared_moment}
 use Rattle.check_answers.proofs.BusyLaws.{early_is, is_early_of}
@@ -84,13 +78,13 @@ module _ (ms : List Made) (read : Made) (r : Record) where
       let roll = in_after ms x.look.at x.roll x.rolls.0 in
       let q : Request = roll_by r (condition.Version x.id x.state) x.decided in
       let late : nat_lt look.0.at roll.0.at ≡ true = ap (λ (c : calls.StoreCall). nat_lt c.at roll.0.at) (sym look.3) ∙ roll.2 in
-      let shown : decision_at (coordinator_key_of x.id) look.0 ≡ Some x.decided = ap (decision_observed x.id) (sym look.3) ∙ x.looks.1 in
+      let observed : decision_at (coordinator_key_of x.id) look.0 ≡ Some x.decided = ap (decision_observed x.id) (sym look.3) ∙ x.looks.1 in
       let put : roll.0.request ≡ q = ap (λ (c : calls.StoreCall). c.request) (sym roll.3) ∙ x.rolls.1 in
       let seen : is_seen roll.0.how ≡ true = ap (λ (c : calls.StoreCall). is_seen c.how) (sym roll.3) ∙ ap is_seen x.answered.0 in
       let answered : is_answered roll.0.reply ≡ true = ap (λ (c : calls.StoreCall). is_answered c.reply) (sym roll.3) ∙ x.answered.1 in
       let rolls : is_roll look.0.at q roll.0 ≡ true = both (nat_lt look.0.at roll.0.at) (is_seen roll.0.how && (is_answered roll.0.reply && same_request roll.0.request q)) late (both (is_seen roll.0.how) (is_answered roll.0.reply && same_request roll.0.request q) seen (both (is_answered roll.0.reply) (same_request roll.0.request q) answered (is_request roll.0.request q put))) in
       let one : is_rolled_by ms read r x.id x.state look.0 ≡ true = both (nat_lt read.at look.0.at) (option_map_or (λ d. rolled_after ms look.0.at (roll_by r (condition.Version x.id x.state) d)) (decision_at (coordinator_key_of x.id) look.0) false) look.2
-      (of_some (λ d. rolled_after ms look.0.at (roll_by r (condition.Version x.id x.state) d)) (decision_at (coordinator_key_of x.id) look.0) x.decided shown (some_any (is_roll look.0.at q) ms roll.0 roll.1 rolls)) in
+      (of_some (λ d. rolled_after ms look.0.at (roll_by r (condition.Version x.id x.state) d)) (decision_at (coordinator_key_of x.id) look.0) x.decided observed (some_any (is_roll look.0.at q) ms roll.0 roll.1 rolls)) in
       of_some (λ id. option_map_or (is_rolled_in ms read r id) (state_in r.columns) false) (id_in r.columns) x.id x.writer.0
       (of_some (is_rolled_in ms read r x.id) (state_in r.columns) x.state x.writer.1 (some_any (is_rolled_by ms read r x.id x.state) ms look.0 look.1 one))
 

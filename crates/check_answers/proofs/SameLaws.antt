@@ -82,21 +82,21 @@ alike_exact a b r is = (λ t. alike_is a b (sym is ∙ t), λ e. is ∙ subst (�
 
 pub said_is : (a b : Executed) → same_executed a b ≡ true → a ≡ b
 said_is a b h =
-    let w = a.taken == b.taken in
+    let w = a.accepted == b.accepted in
     let x = a.reached == b.reached in
     let y = same_name a.text b.text in
     let z = answered_alike a.answer b.answer in
     let rest = right w (x && (y && z)) h in
     let last = right x (y && z) rest in
-    let n = number_is a.taken b.taken (left w (x && (y && z)) h) in
+    let n = number_is a.accepted b.accepted (left w (x && (y && z)) h) in
     let m = number_is a.reached b.reached (left x (y && z) rest) in
     let t = same_name-true a.text b.text (left y z last) in
     let o = alike_is a.answer b.answer (right y z last) in
-    λ i. record { taken = n i; text = t i; answer = o i; reached = m i }
+    λ i. record { accepted = n i; text = t i; answer = o i; reached = m i }
 
 pub said_itself : (a : Executed) → same_executed a a ≡ true
 said_itself a =
-    both (a.taken == a.taken) ((a.reached == a.reached) && (same_name a.text a.text && answered_alike a.answer a.answer)) (is_number a.taken a.taken refl)
+    both (a.accepted == a.accepted) ((a.reached == a.reached) && (same_name a.text a.text && answered_alike a.answer a.answer)) (is_number a.accepted a.accepted refl)
     (both (a.reached == a.reached) (same_name a.text a.text && answered_alike a.answer a.answer) (is_number a.reached a.reached refl)
     (both (same_name a.text a.text) (answered_alike a.answer a.answer) (same_name-itself a.text) (alike_itself a.answer)))
 

@@ -3,21 +3,15 @@ use Rattle.std.proofs.Common.{◌≡◌, ◌∙◌, ℕ, suc, ◌<◌, ◌^◌, 
 use Rattle.std.specs.Prelude.{slice_get}
 use Rattle.std.proofs.Math.Seq.{take-suc}
 use Rattle.std.proofs.lemmas.Option.{slice_get_read}
-use Rattle.sdb_model.specs.declared.event.Event.{Event}
-use Rattle.sdb_types.specs.declared.record.Reply.{Reply}
-use Rattle.sdb_types.specs.declared.record.Request.{Request}
+use Rattle.check_answers.specs.Types.{Answer, ClientSlot, Event, Gate, Reply, Request, Script}
 use Rattle.sdb_types.specs.Contents.{CanAnswer}
-use Rattle.sdb_model.specs.declared.answer.Answer.{Answer}
-use Rattle.sdb_model.specs.declared.script.Script.{Script}
 use Rattle.sdb_model.specs.Follows.{texts_of}
 use Rattle.sdb_client.specs.Client.{ClientAt, IsIdle, ReplyPost, client_pending, next_id, TextStep}
-use Rattle.sdb_client.specs.declared.gate.Gate.{Gate}
-use Rattle.sdb_execution.specs.declared.slot.ClientSlot.{ClientSlot}
-use Rattle.sdb_execution.specs.Execution.{CallStep, IsGateAt, State, TakeStep, client_after, with_client_at}
+use Rattle.sdb_client.specs.Execution.{CallStep, IsGateAt, State, TakeStep, client_after, with_client_at}
 use Rattle.sdb_model.specs.Calls.{is_stored_reply}
 
 pub took : (script : Script) (s : State) (c at : ℕ) (client_slot : ClientSlot) (gate : Gate) (text : List ℕ) (answer : Option Answer) (client : ClientAt)
-    → c ≡ suc at → at < length s.client_slots → IfSome (slice_get s.client_slots at) (λ x. x.stopped ≡ false) → client_slot ≡ get_or s.client_slots at client_slot → IsIdle client_slot.client → slice_get (texts_of script.clients (suc at)) client_slot.taken ≡ Some text → IsGateAt gate s.client_slots at → client.begun < 2 ^ 64
+    → c ≡ suc at → at < length s.client_slots → IfSome (slice_get s.client_slots at) (λ x. x.stopped ≡ false) → client_slot ≡ get_or s.client_slots at client_slot → IsIdle client_slot.client → slice_get (texts_of script.clients (suc at)) client_slot.accepted ≡ Some text → IsGateAt gate s.client_slots at → client.begun < 2 ^ 64
     → TextStep (record { catalog = script.catalog; now = s.clock; gate = gate; fresh = next_id client_slot.client }) text client_slot.client answer client → TakeStep script s c text answer (with_client_at s at (client_after client_slot 1 client))
 took script s c at client_slot gate text answer client number low goes read idle next gated small takes = record {
   place = at;
@@ -28,7 +22,7 @@ took script s c at client_slot gate text answer client number low goes read idle
   at = there;
   goes_on = subst (λ (o : Option ClientSlot). IfSome o (λ x. x.stopped ≡ false)) there goes;
   idle = idle;
-  next = subst (λ n. slice_get (texts_of script.clients n) client_slot.taken ≡ Some text) (sym number) next;
+  next = subst (λ n. slice_get (texts_of script.clients n) client_slot.accepted ≡ Some text) (sym number) next;
   gated = gated;
   small = small;
   takes = takes;
@@ -40,7 +34,7 @@ took script s c at client_slot gate text answer client number low goes read idle
 
 pub called : (s v : State) (c at : ℕ) (client_slot : ClientSlot) (q : Request) (r : Reply) (answer : Option Answer) (client : ClientAt)
     → c ≡ suc at → at < length s.client_slots → IfSome (slice_get s.client_slots at) (λ x. x.stopped ≡ false) → client_slot ≡ get_or s.client_slots at client_slot → client_pending client_slot.client ≡ Some q → CanAnswer q r → is_stored_reply r ≡ true
-    → ReplyPost client_slot.client client_slot.client.vacuum r s.clock answer client → v ≡ with_client_at s at (record { client = client; taken = client_slot.taken; stopped = client_slot.stopped }) → CallStep s c q r answer v
+    → ReplyPost client_slot.client client_slot.client.vacuum r s.clock answer client → v ≡ with_client_at s at (record { client = client; accepted = client_slot.accepted; stopped = client_slot.stopped }) → CallStep s c q r answer v
 called s v c at client_slot q r answer client number low goes read pending can stored takes left = record {
   place = at;
   client_slot = client_slot;
@@ -52,7 +46,7 @@ called s v c at client_slot q r answer client number low goes read pending can s
   can = can;
   stored = stored;
   takes = takes;
-  left = left ∙ ap (λ n. with_client_at s at (record { client = client; taken = n; stopped = client_slot.stopped })) (sym (add-zero client_slot.taken));
+  left = left ∙ ap (λ n. with_client_at s at (record { client = client; accepted = n; stopped = client_slot.stopped })) (sym (add-zero client_slot.accepted));
 }
   where
     there : slice_get s.client_slots at ≡ Some client_slot

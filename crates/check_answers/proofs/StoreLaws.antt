@@ -7,7 +7,7 @@ use Rattle.sdb_model.specs.Rows.{Name, same_name}
 use Rattle.check_answers.specs.declared.stores.StoreContents.{StoreContents}
 use Rattle.check_answers.specs.Values.{all_contents, contents_value}
 
-pub held_is : (shelves : List StoreContents) (name : Name) → contents_under (all_contents shelves) name ≡ option_map (λ (s : StoreContents). s.rows) (find (λ (s : StoreContents). same_name s.name name) shelves)
+pub held_is : (store_contents : List StoreContents) (name : Name) → contents_under (all_contents store_contents) name ≡ option_map (λ (s : StoreContents). s.rows) (find (λ (s : StoreContents). same_name s.name name) store_contents)
 held_is [] name = refl
 held_is (s ∷ ss) name = by (same_name s.name name) (held_is ss name)
   where

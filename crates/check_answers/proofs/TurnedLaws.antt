@@ -3,13 +3,9 @@ use Rattle.std.proofs.Common.{◌≡◌, ℕ, ◌+◌, Bool, true, false, List, 
 use Rattle.std.specs.Prelude.{◌&&◌, ◌||◌, not, is_some, is_none, ◌==◌, fold, if◌then◌else◌}
 use Rattle.std.specs.List.{list_any, enumerate_from}
 use Rattle.std.specs.Option.{option_map, option_map_or}
-use Rattle.sdb_schema.specs.declared.table.Table.{Table}
-use Rattle.sdb_model.specs.declared.answer.Answer.{Answer}
+use Rattle.check_answers.specs.Types.{Answer, Event, Refusal, Statement, Table, Work}
 use Rattle.sdb_model.specs.declared.answer.Answer.TheVariants as answer
-use Rattle.sdb_model.specs.declared.answer.Refusal.{Refusal}
-use Rattle.sdb_model.specs.declared.event.Event.{Event}
 use Rattle.sdb_model.specs.declared.event.Event.TheVariants as event
-use Rattle.sdb_model.specs.declared.statement.Statement.{Statement}
 use Rattle.sdb_model.specs.declared.statement.Statement.TheVariants as statement
 use Rattle.sdb_model.specs.Sql.{Reads, Refuses, reads_vacuum}
 use Rattle.sdb_model.specs.Exec.{table_of}
@@ -19,7 +15,6 @@ use Rattle.sdb_model.specs.Transactions.{Executed, statements_by, statements_aft
 use Rattle.sdb_model.specs.Causes.{IsRejected, NeedsTransaction, is_open, is_open_after, refused, runs_vacuum}
 use Rattle.check_protocol.proofs.Lists.{none_some, right, not_true, true_not, In, any_some, some_any}
 use Rattle.check_protocol.proofs.ShownLaws.{number_is}
-use Rattle.check_tables.specs.declared.open.Work.{Work}
 use Rattle.check_tables.specs.declared.open.Work.TheVariants as work
 use Rattle.check_tables.specs.Values.{is_client_doing, is_doing, someone_does, taker}
 use Rattle.check_answers.specs.Tests.{IsTurned, inside_turned, refusal_met, turned_by}
@@ -32,7 +27,7 @@ abbrev takes : ℕ → Event → Bool
 takes client e = option_map_or (λ c. c == client) (taker e) false
 
 untaken : (client : ℕ) (n : ℕ) (e : Event) → takes client e ≡ false → statements_after client [] (n, e) ≡ []
-untaken client n (event.Take c text a) h = ap (λ b. if b then record { taken = n; text = text; answer = a; reached = n } ∷ [] else []) h
+untaken client n (event.Take c text a) h = ap (λ b. if b then record { accepted = n; text = text; answer = a; reached = n } ∷ [] else []) h
 untaken client n (event.Call c store q how r None) h = refl
 untaken client n (event.Call c store q how r (Some a)) h = by (c == client)
   where
@@ -64,7 +59,7 @@ taker_is client e h = by (taker e) h
     by None h = clash (sym h)
     by (Some c) h = ap Some (number_is c client h)
 
--- who said something has taken a statement
+-- who said something has accepted a statement
 pub taken_by : (client : ℕ) (events : List Event) → (statements_by client events ≡ [] → ⊥) → (e : Event) × In events e × (taker e ≡ Some client)
 taken_by client events some = elim (decide (list_any (takes client) events)) [
   | inl h ↦ let r = any_some (takes client) events h in (r.0, r.1, taker_is client r.0 r.2)

@@ -1,9 +1,7 @@
 -- It is so of all transactions where it is so of those of each client that takes a statement.
 use Rattle.std.proofs.Common.{◌≡◌, ℕ, zero, suc, ◌-◌, ◌<◌, Bool, true, false, List, [], length, Option, Some, None, ◌⊎◌, inl, inr, refl, sym, ap, subst, ◌∙◌, arith}
 use Rattle.std.specs.Prelude.{◌↔◌, Contains, IfSome, IsTrue}
-use Rattle.sdb_types.specs.declared.txid.TxId.{TxId}
-use Rattle.sdb_schema.specs.declared.table.Table.{Table}
-use Rattle.sdb_model.specs.declared.event.Event.{Event}
+use Rattle.check_answers.specs.Types.{Event, Table, TxId}
 use Rattle.sdb_model.specs.DirtyReads.{NoDirtyReads}
 use Rattle.sdb_model.specs.Transactions.{client_of, from_begin, id_of, ordinal_of, rest_of, statements_by, through_end}
 use Rattle.check_tables.specs.Values.{taker}

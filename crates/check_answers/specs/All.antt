@@ -1,10 +1,7 @@
 -- What is asked of all transactions of a run.
 use Rattle.std.specs.Prelude.{◌≡◌, ℕ, zero, suc, List, length, Some, IfSome, Contains}
 use Rattle.std.specs.List.{AllByRecursion}
-use Rattle.sdb_types.specs.declared.txid.TxId.{TxId}
-use Rattle.sdb_schema.specs.declared.table.Table.{Table}
-use Rattle.sdb_model.specs.declared.answer.Answer.{Answer}
-use Rattle.sdb_model.specs.declared.event.Event.{Event}
+use Rattle.check_answers.specs.Types.{Answer, Event, Table, TxId}
 use Rattle.sdb_model.specs.DirtyReads.{CommittedBy, AnswersAreOf}
 use Rattle.sdb_model.specs.Transactions.{Executed, client_of, id_of, statements_by, statements_of}
 use Rattle.check_tables.specs.Values.{taker}

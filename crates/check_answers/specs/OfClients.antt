@@ -1,8 +1,7 @@
 -- What is asked of all statements, or of all transactions, of a run.
 use Rattle.std.specs.Prelude.{ℕ, List, IfSome}
 use Rattle.std.specs.List.{AllByRecursion}
-use Rattle.sdb_schema.specs.declared.table.Table.{Table}
-use Rattle.sdb_model.specs.declared.event.Event.{Event}
+use Rattle.check_answers.specs.Types.{Event, Table}
 use Rattle.sdb_model.specs.Transactions.{statements_by}
 use Rattle.check_tables.specs.Values.{taker}
 use Rattle.check_answers.specs.All.{HasClientNoDirtyReads}

@@ -4,27 +4,18 @@ use Rattle.std.specs.Cmp.Lexicographic.{slice_cmp}
 use Rattle.std.specs.List.{cons_option, flat_map, list_all, list_any}
 use Rattle.std.specs.Option.{option_map, option_map_or}
 use Rattle.std.specs.Ordering.{is_eq}
-use Rattle.sdb_types.specs.declared.key.Key.{Key}
-use Rattle.sdb_types.specs.declared.pair.Pair.{Pair}
-use Rattle.sdb_types.specs.declared.record.Request.{Request}
+use Rattle.check_answers.specs.Types.{Answer, Image, Insert, Key, Pair, Request, Select, Statement, Table, Value}
 use Rattle.sdb_types.specs.declared.record.Request.TheVariants as ask
-use Rattle.sdb_types.specs.declared.value.Value.{Value}
 use Rattle.sdb_types.specs.Contents.{in_span}
 use Rattle.sdb_types.specs.Order.{value_cmp, same_key}
-use Rattle.sdb_schema.specs.declared.table.Table.{Table}
-use Rattle.sdb_record.specs.declared.access.Image.{Image}
-use Rattle.sdb_model.specs.declared.answer.Answer.{Answer}
 use Rattle.sdb_model.specs.declared.answer.Answer.TheVariants as answer
-use Rattle.sdb_model.specs.declared.statement.Insert.{Insert}
-use Rattle.sdb_model.specs.declared.statement.Select.{Select}
-use Rattle.sdb_model.specs.declared.statement.Statement.{Statement}
 use Rattle.sdb_model.specs.declared.statement.Statement.TheVariants as statement
 use Rattle.sdb_model.specs.Exec.{all_rows, find_table, key_of, projected}
 use Rattle.sdb_model.specs.DirtyReads.{row_left}
 use Rattle.sdb_model.specs.ReadSet.{has_finished}
 use Rattle.sdb_model.specs.Transactions.{Executed, is_effective}
 use Rattle.sdb_snapshot.specs.Seen.{images_with}
-use Rattle.sdb_order.specs.Commits.{executed_of}
+use Rattle.sdb_contents.specs.Commits.{executed_of}
 use Rattle.check_tables.specs.Values.{all_made}
 use Rattle.check_answers.specs.Tests.{same_executed}
 use Rattle.check_answers.specs.declared.stores.StoreContents.{StoreContents}
@@ -42,11 +33,11 @@ reads_key key (ask.DeleteIf k condition) = false
 
 -- the rows at moments from one on, before another
 abbrev pub rows_below : (ℕ → Option (List Pair)) → ℕ → ℕ → List (Option (List Pair))
-rows_below f taken zero = []
-rows_below f taken (suc n) = rows_below f taken n ++ (if nat_lt taken (suc n) then f n ∷ [] else [])
+rows_below f accepted zero = []
+rows_below f accepted (suc n) = rows_below f accepted n ++ (if nat_lt accepted (suc n) then f n ∷ [] else [])
 
 abbrev pub bases : Stores → Key → Turn → List (Option (List Pair))
-bases x key t = if has_finished (all_made t.calls) (executed_of t.executed) && list_any (λ m. reads_key key m.request) t.calls then rows_below (row_then x key) t.executed.taken t.end else []
+bases x key t = if has_finished (all_made t.calls) (executed_of t.executed) && list_any (λ m. reads_key key m.request) t.calls then rows_below (row_then x key) t.executed.accepted t.end else []
 
 ---- what the statements made of it
 
@@ -74,7 +65,7 @@ abbrev pub keys_in : StoreContents → List Key
 keys_in s = map (λ r. r.key) (all_rows s.rows)
 
 abbrev pub keys_at_stores : List StoreContents → List Key
-keys_at_stores shelves = flat_map keys_in shelves
+keys_at_stores store_contents = flat_map keys_in store_contents
 
 abbrev pub inserted_by : List Table → Insert → Option Key
 inserted_by catalog i = option_map (λ t. key_of t i) (find_table catalog i.table)

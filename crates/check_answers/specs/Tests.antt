@@ -4,30 +4,18 @@ use Rattle.std.specs.Option.{option_and_then, option_map, option_map_or}
 use Rattle.std.specs.Ordering.{int_eq}
 use Rattle.std.specs.List.{AllByRecursion, list_any}
 use Rattle.std.specs.Result.{result_ok}
-use Rattle.sdb_types.specs.declared.txid.TxId.{TxId}
-use Rattle.sdb_types.specs.declared.key.Key.{Key}
-use Rattle.sdb_types.specs.declared.record.Record.{Record}
-use Rattle.sdb_types.specs.declared.record.Request.{Request}
+use Rattle.check_answers.specs.Types.{Answer, Decided, Decision, Event, Insert, Key, Made, Record, Refusal, Reply, Request, Statement, Table, TxId}
 use Rattle.sdb_types.specs.declared.record.Request.TheVariants as ask
-use Rattle.sdb_types.specs.declared.record.Reply.{Reply}
 use Rattle.sdb_types.specs.declared.record.Reply.TheVariants as reply
 use Rattle.sdb_types.specs.Contents.{in_span, record_among}
-use Rattle.sdb_schema.specs.declared.table.Table.{Table}
-use Rattle.sdb_record.specs.declared.coordinator.Decided.{Decided}
-use Rattle.sdb_record.specs.declared.coordinator.Decision.{Decision}
 use Rattle.sdb_record.specs.declared.coordinator.Decision.TheVariants as decision
 use Rattle.sdb_record.specs.Coordinator.{decision_in, is_coordinator_table, is_expired, same_decision}
 use Rattle.sdb_record.specs.Meta.{checked, id_in, is_unresolved, moment_in}
 use Rattle.sdb_record.specs.Moved.{is_unchanged, same_version}
 use Rattle.sdb_record.specs.Parts.{before_part}
 use Rattle.sdb_record.specs.Among.{version_among}
-use Rattle.sdb_model.specs.declared.answer.Answer.{Answer}
 use Rattle.sdb_model.specs.declared.answer.Answer.TheVariants as answer
-use Rattle.sdb_model.specs.declared.answer.Refusal.{Refusal}
 use Rattle.sdb_model.specs.contracts.answer.AnswerPartialEq.TheImpl as answer_eq
-use Rattle.sdb_model.specs.declared.event.Event.{Event}
-use Rattle.sdb_model.specs.declared.statement.Insert.{Insert}
-use Rattle.sdb_model.specs.declared.statement.Statement.{Statement}
 use Rattle.sdb_model.specs.declared.statement.Statement.TheVariants as statement
 use Rattle.sdb_model.specs.Sql.{Reads, Refuses, reads_commit}
 use Rattle.sdb_model.specs.Exec.{find_table, key_of, named_table}
@@ -41,7 +29,6 @@ use Rattle.sdb_model.specs.Calls.{clock_at, calls_of, decision_learned, is_read,
 use Rattle.sdb_model.specs.ReadSet.{ReadItem, KeyRead, SpanRead, read_set_of, reads_rows, version_read, meaning_of, has_read}
 use Rattle.sdb_model.specs.Causes.{IsCaused, IsCounted, IsRejected, before, is_misfit, is_open, is_select, prepares_key, records_found, refused, removes, counted_by}
 use Rattle.check_protocol.specs.Values.{same_record}
-use Rattle.check_tables.specs.declared.made.Made.{Made}
 use Rattle.check_answers.specs.declared.sign.Sign.{Sign}
 use Rattle.check_answers.specs.declared.sign.Sign.TheVariants as sign
 use Rattle.check_tables.specs.declared.open.Work.TheVariants as work
@@ -61,7 +48,7 @@ answered_alike (Some a) None = false
 answered_alike (Some a) (Some b) = same_answer a b
 
 abbrev pub same_executed : Executed → Executed → Bool
-same_executed a b = (a.taken == b.taken) && ((a.reached == b.reached) && (same_name a.text b.text && answered_alike a.answer b.answer))
+same_executed a b = (a.accepted == b.accepted) && ((a.reached == b.reached) && (same_name a.text b.text && answered_alike a.answer b.answer))
 
 abbrev pub same_found : Option Record → Option Record → Bool
 same_found None None = true
@@ -161,14 +148,14 @@ abbrev pub has_changed_from : List ReadItem → Key → Option Record → Bool
 has_changed_from read_set key found = list_any (is_changed key found) read_set
 
 abbrev pub not_met_as : Reply → Option Record → Bool
-not_met_as (reply.NotMet standing) found = same_found standing found
+not_met_as (reply.NotMet stored_at) found = same_found stored_at found
 not_met_as r found = false
 
 abbrev pub is_unmet : TxId → Key → Option Record → Made → Bool
 is_unmet id key found m = prepares_key id key (made_of m) && not_met_as m.reply found
 
 abbrev pub get_observes : Request → Reply → Key → Option Record → Bool
-get_observes (ask.Get k) (reply.Found standing) key found = same_key k key && same_found standing found
+get_observes (ask.Get k) (reply.Found stored_at) key found = same_key k key && same_found stored_at found
 get_observes q r key found = false
 
 abbrev pub scan_observes_by : Request → Reply → Key → Option Record → Bool
@@ -231,17 +218,17 @@ has_sign sign.Fault m = is_fault m.reply
 
 ---- too many keys
 
--- a statement that a test takes, and that was taken before
+-- a statement that a test takes, and that was accepted before
 abbrev pub is_before : (Executed → Bool) → ℕ → Executed → Bool
-is_before t taken b = t b && nat_lt b.taken taken
+is_before t accepted b = t b && nat_lt b.accepted accepted
 
 abbrev pub before_only : (Executed → Bool) → (Executed → ℕ) → ℕ → Executed → ℕ
-before_only t f taken b = if is_before t taken b then f b else 0
+before_only t f accepted b = if is_before t accepted b then f b else 0
 
 -- a sum over the statements that pass a test
 abbrev pub total_before : (Executed → Bool) → (Executed → ℕ) → ℕ → List Executed → ℕ
-total_before t f taken [] = 0
-total_before t f taken (b ∷ bs) = before_only t f taken b + total_before t f taken bs
+total_before t f accepted [] = 0
+total_before t f accepted (b ∷ bs) = before_only t f accepted b + total_before t f accepted bs
 
 abbrev pub found_by : List Event → ℕ → Executed → ℕ
 found_by events client b = records_found (calls_of events client b)
@@ -267,14 +254,14 @@ passes_left written found statement.Vacuum = false
 
 -- what the transaction's statements, up to its end, leave of so many keys before one
 abbrev pub written_left : List Event → TxId → ℕ → ℕ
-written_left events id taken = 4097 - total_before is_effective counted_by taken (inside_among (statements_by (client_of id) events) (ordinal_of id))
+written_left events id accepted = 4097 - total_before is_effective counted_by accepted (inside_among (statements_by (client_of id) events) (ordinal_of id))
 
 abbrev pub found_left : List Event → ℕ → TxId → Executed → ℕ
 found_left events client id s =
-    (written_left events id s.taken - total_before (has_read events client) (found_by events client) s.taken (inside_among (statements_by (client_of id) events) (ordinal_of id))) - found_by events client s
+    (written_left events id s.accepted - total_before (has_read events client) (found_by events client) s.accepted (inside_among (statements_by (client_of id) events) (ordinal_of id))) - found_by events client s
 
 abbrev pub passes_most : List Event → ℕ → Executed → Option Statement → TxId → Bool
-passes_most events client s read id = is_in events client s id && option_map_or (passes_left (written_left events id s.taken) (found_left events client id s)) read false
+passes_most events client s read id = is_in events client s id && option_map_or (passes_left (written_left events id s.accepted) (found_left events client id s)) read false
 
 ---- BadRecord
 
@@ -292,9 +279,9 @@ reads_misfit catalog cs key m = reads_rows m && list_any (λ x. same_key x.key k
 abbrev pub any_misfit : List Table → List calls.StoreCall → Key → Bool
 any_misfit catalog cs key = list_any (reads_misfit catalog cs key) cs
 
--- a statement that was taken by then, and whose read has finished, found such a record
+-- a statement that was accepted by then, and whose read has finished, found such a record
 abbrev pub has_read_misfit : List Table → List Event → ℕ → ℕ → Key → Executed → Bool
-has_read_misfit catalog events client taken key b = nat_le b.taken taken && (has_read events client b && any_misfit catalog (calls_of events client b) key)
+has_read_misfit catalog events client accepted key b = nat_le b.accepted accepted && (has_read events client b && any_misfit catalog (calls_of events client b) key)
 
 -- a statement on a table reads at a key
 abbrev pub reads_at : List Table → Key → Statement → Bool
@@ -302,7 +289,7 @@ reads_at catalog key st = option_map_or (λ t. in_access (access_of t st) key) (
 
 -- it is one of this transaction, of which a statement by then found such a record
 abbrev pub misfit_of : List Table → List Event → ℕ → Executed → Key → TxId → Bool
-misfit_of catalog events client s key id = is_in events client s id && list_any (has_read_misfit catalog events client s.taken key) (statements_of events id)
+misfit_of catalog events client s key id = is_in events client s id && list_any (has_read_misfit catalog events client s.accepted key) (statements_of events id)
 
 ---- texts
 
@@ -386,14 +373,14 @@ abbrev pub IsAnswerCaused : List Table → List Event → ℕ → Executed → T
 IsAnswerCaused catalog events client s = (a : Answer) → s.answer ≡ Some a → IsCaused catalog events client s a
 
 abbrev pub IsAnsweredWith : Executed → Answer → Type 0
-IsAnsweredWith s a = (s.reached ≡ s.taken) × ((s.answer ≡ Some a) ⊎ (s.answer ≡ Some answer.NoMemory))
+IsAnsweredWith s a = (s.reached ≡ s.accepted) × ((s.answer ≡ Some a) ⊎ (s.answer ≡ Some answer.NoMemory))
 
 abbrev pub is_no_memory : Answer → Bool
 is_no_memory answer.NoMemory = true
 is_no_memory a = false
 
 abbrev pub answered_with : Executed → Answer → Bool
-answered_with s a = (s.reached == s.taken) && option_map_or (λ x. is_no_memory x || same_answer x a) s.answer false
+answered_with s a = (s.reached == s.accepted) && option_map_or (λ x. is_no_memory x || same_answer x a) s.answer false
 
 abbrev pub IsTurnedIfDue : List Table → List Event → ℕ → Executed → Type 0
 IsTurnedIfDue catalog events client s = (a : Answer) → IsRejected catalog (before s events) client s.text a → IsAnsweredWith s a

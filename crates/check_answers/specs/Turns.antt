@@ -3,7 +3,7 @@ use Rattle.std.specs.Prelude.{◌≡◌, ℕ, List, [], ◌∷◌}
 use Rattle.sdb_model.specs.Calls.{calls_of, end_of}
 use Rattle.sdb_model.specs.declared.event.Event.{Event}
 use Rattle.sdb_model.specs.Transactions.{Executed}
-use Rattle.sdb_order.specs.Commits.{executed_of}
+use Rattle.sdb_contents.specs.Commits.{executed_of}
 use Rattle.check_tables.specs.Values.{all_made}
 use Rattle.check_answers.specs.Tests.{IsReading}
 use Rattle.check_answers.specs.declared.turn.Turn.{Turn}

@@ -1,7 +1,6 @@
 -- What the stores contain at moments, as values of the model.
 use Rattle.std.specs.Prelude.{ℕ, List, map, Option}
-use Rattle.sdb_types.specs.declared.key.Key.{Key}
-use Rattle.sdb_types.specs.declared.pair.Pair.{Pair}
+use Rattle.check_answers.specs.Types.{Key, Pair}
 use Rattle.sdb_model.specs.Events as events
 use Rattle.sdb_model.specs.Events.{moment}
 use Rattle.sdb_model.specs.Images.{row_at}

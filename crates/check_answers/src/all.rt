@@ -3,7 +3,7 @@ ghost use Rattle.std.specs.Prelude.{◌≡◌, ◌↔◌, IfOk, IfSome, IsTrue, 
 ghost use Rattle.std.specs.List.{AllByRecursion};
 ghost use Rattle.sdb_model.specs.Counted.{AreCounted, AreResolved, broken_in as broken_in_lem, is_broken as is_broken_lem};
 ghost use Rattle.sdb_model.specs.DirtyReads.{NoDirtyReads};
-ghost use Rattle.sdb_order.specs.Commits.{all_executed};
+ghost use Rattle.sdb_contents.specs.Commits.{all_executed};
 ghost use Rattle.check_tables.specs.Values.{taker as taker_lem};
 ghost use Rattle.check_answers.specs.All.{HaveNoDirtyReadsUpto, HasTransactionNoDirtyReads};
 ghost use Rattle.check_answers.specs.Counts.{IsExecutedCounted, IsExecutedResolved};
@@ -17,8 +17,8 @@ use crate::rolls::is_executed_resolved;
 use crate::stores::Stores;
 use crate::turn::turns_of;
 use check_tables::{id_of, taker};
+use sdb_contents::{Executed, statements_by};
 use sdb_model::{Event, How};
-use sdb_order::{Executed, statements_by};
 use sdb_schema::Catalog;
 use sdb_types::{NoMemory, TxId};
 use std::alloc::Global;
@@ -96,8 +96,8 @@ fn are_shown_upto(
     if count == 0 {
         return Ok(true);
     }
-    let shown = is_transaction_shown(alloc, catalog, events, stores, id_of(client, count))?;
-    if shown {
+    let observed = is_transaction_shown(alloc, catalog, events, stores, id_of(client, count))?;
+    if observed {
         return are_shown_upto(alloc, catalog, events, stores, client, count - 1);
     }
     Ok(false)

@@ -2,15 +2,15 @@
 ghost use Rattle.std.specs.Prelude.{◌≡◌, IfOk, map};
 ghost use Rattle.std.specs.List.{list_all, list_any};
 ghost use Rattle.sdb_model.specs.Rows.{value_of};
-ghost use Rattle.sdb_order.specs.Commits.{executed_of};
+ghost use Rattle.sdb_contents.specs.Commits.{executed_of};
 ghost use Rattle.check_answers.specs.Rows.{answer_is_of as answer_is_of_lem, had_at, same_values, select_is_of as select_is_of_lem, some_had as some_had_lem, statement_is_of as statement_is_of_lem};
 
 use crate::had::{add_had, images_had};
 use crate::stores::Stores;
 use crate::turn::Turn;
-use sdb_exec::{projected_names, shown};
+use sdb_contents::Executed;
+use sdb_exec::{observed, projected_names};
 use sdb_model::{Answer, Select, Statement};
-use sdb_order::Executed;
 use sdb_record::{Image, Images};
 use sdb_schema::{Catalog, Table};
 use sdb_types::{Key, Name, NoMemory, Values};
@@ -35,7 +35,7 @@ fn any_shows(
     let Some((first, rest)) = images.split_first() else {
         return Ok(false);
     };
-    let values = shown(alloc, table, names, first)?;
+    let values = observed(alloc, table, names, first)?;
     if is_same_row(&values, row) {
         return Ok(true);
     }
@@ -124,8 +124,8 @@ fn answer_shown(
     match &turn.executed.answer {
         Some(Answer::Rows(rows)) => {
             let images = images_had(alloc, catalog, stores, &turn.executed, keys, turns)?;
-            let shown = rows.as_slice();
-            statement_shown(alloc, catalog, &turn.statement, shown, images.as_slice())
+            let observed = rows.as_slice();
+            statement_shown(alloc, catalog, &turn.statement, observed, images.as_slice())
         }
         Some(Answer::Duplicate(key)) => {
             some_had(alloc, catalog, stores, &turn.executed, key, turns)

@@ -3,14 +3,14 @@ ghost use Rattle.std.specs.Prelude.{◌≡◌, ◌&&◌, IfOk, IsTrue, ◌↔◌
 ghost use Rattle.std.specs.List.{list_any};
 ghost use Rattle.sdb_types.specs.Order.{same_key};
 ghost use Rattle.sdb_model.specs.Causes.{FindsBad, IsBadRecord};
-ghost use Rattle.sdb_order.specs.Commits.{executed_of};
+ghost use Rattle.sdb_contents.specs.Commits.{executed_of};
 ghost use Rattle.check_answers.specs.Tests.{is_bad as is_bad_lem, observes_bad as observes_bad_lem};
 
 use crate::misfit::meets_misfit;
 use check_protocol::{decided, is_same_key};
 use check_tables::{Made, calls_of};
+use sdb_contents::Executed;
 use sdb_model::Event;
-use sdb_order::Executed;
 use sdb_record::{is_coordinator, meta_of};
 use sdb_schema::Catalog;
 use sdb_types::{Key, NoMemory, Record, Reply};

@@ -5,14 +5,14 @@ ghost use Rattle.sdb_record.specs.Meta.{is_unresolved as is_unresolved_lem};
 ghost use Rattle.sdb_model.specs.Causes.{IsBusy};
 ghost use Rattle.sdb_model.specs.Calls.{records_read};
 ghost use Rattle.sdb_types.specs.Order.{same_key};
-ghost use Rattle.sdb_order.specs.Commits.{executed_of};
+ghost use Rattle.sdb_contents.specs.Commits.{executed_of};
 ghost use Rattle.check_answers.specs.Tests.{is_id as is_id_lem, is_at as is_at_lem, prepared_moment as prepared_moment_lem, looks_early as looks_early_lem, is_early as is_early_lem, reads_busy as reads_busy_lem, busy_among as busy_among_lem};
 
 use crate::sign::{Sign, any};
 use check_protocol::{is_committed, is_same_key, writer};
 use check_tables::{Made, calls_of, clock_at, is_read};
+use sdb_contents::Executed;
 use sdb_model::Event;
-use sdb_order::Executed;
 use sdb_record::{coordinator_key, expired, meta_of};
 use sdb_types::{Key, NoMemory, Record, Reply, Request, TxId, Value, value_named};
 use std::alloc::Global;

@@ -3,7 +3,7 @@ ghost use Rattle.std.specs.Prelude.{◌≡◌, ◌||◌, IfOk, IfSome, IsTrue, �
 ghost use Rattle.std.specs.List.{AllByRecursion};
 ghost use Rattle.sdb_model.specs.declared.answer.Answer.TheVariants as answer;
 ghost use Rattle.sdb_model.specs.Causes.{AreCaused, IsCaused, IsRejected, MayPassMost, before as before_lem};
-ghost use Rattle.sdb_order.specs.Commits.{all_executed, executed_of};
+ghost use Rattle.sdb_contents.specs.Commits.{all_executed, executed_of};
 ghost use Rattle.check_tables.specs.Values.{taker as taker_lem};
 ghost use Rattle.check_answers.specs.Tests.{answered_with, is_no_memory, same_answer, AreTakersWell, IsAnswerCaused, IsClientWell, IsTurnedIfDue, IsWellAnswered};
 
@@ -16,8 +16,8 @@ use crate::plain::{before, has_fault, is_of_count, is_of_done, is_of_duplicate, 
 use crate::same::is_same_answer;
 use crate::turned::turned_away;
 use check_tables::taker;
+use sdb_contents::{Executed, statements_by};
 use sdb_model::{Answer, Event, Refusal};
-use sdb_order::{Executed, statements_by};
 use sdb_schema::Catalog;
 use sdb_types::NoMemory;
 use std::alloc::Global;
@@ -139,7 +139,7 @@ fn is_answer(answer: &Answer, turned: &Answer) -> bool
 fn is_answered_with(executed: &Executed, turned: &Answer) -> bool
     ensures { result ≡ answered_with (executed_of executed.now) turned.now }
 {
-    if executed.reached != executed.taken {
+    if executed.reached != executed.accepted {
         return false;
     }
     match &executed.answer {

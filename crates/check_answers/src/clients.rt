@@ -3,12 +3,11 @@ ghost use Rattle.std.specs.Prelude.{◌≡◌, ◌<◌, ◌-◌, ◌^◌, pos, s
 ghost use Rattle.sdb_record.specs.Meta.{is_moment as is_moment_lem};
 ghost use Rattle.sdb_model.specs.Follows.{texts_of};
 ghost use Rattle.sdb_client.specs.Client.{IsIdle, client_pending};
-ghost use Rattle.sdb_execution.specs.Execution.{AreFresh, CallStep, IsStepFrom, StopStep, TakeStep};
+ghost use Rattle.sdb_client.specs.Execution.{AreFresh, CallStep, IsStepFrom, StopStep, TakeStep};
 
 use crate::is_answered_alike;
 use crate::replies::{can_answer, is_moment};
-use sdb_client::Client;
-use sdb_execution::{ClientSlot, fresh_slots, gate_at, prove_order};
+use sdb_client::{Client, ClientSlot, fresh_slots, gate_at, prove_order};
 use sdb_model::{Answer, Event, Script};
 use sdb_types::{Duplicate, NoMemory, Reply, Request, Txt, same};
 use std::alloc::Global;
@@ -31,7 +30,7 @@ impl Drop for Clients {
 }
 
 impl Model for Clients {
-    ghost use Rattle.sdb_execution.specs.Execution.{State};
+    ghost use Rattle.sdb_client.specs.Execution.{State};
 
     ghost Value = { State };
 
@@ -39,11 +38,11 @@ impl Model for Clients {
 }
 
 // A text is a client's next statement.
-fn is_next(script: &Script, at: usize, taken: usize, text: &Txt) -> bool
-    ensures { result ≡ true → slice_get (texts_of script.now.clients (suc at)) taken ≡ Some text.now }
+fn is_next(script: &Script, at: usize, accepted: usize, text: &Txt) -> bool
+    ensures { result ≡ true → slice_get (texts_of script.now.clients (suc at)) accepted ≡ Some text.now }
 {
     match script.clients.at(at) {
-        Some(client) => match client.statements.at(taken) {
+        Some(client) => match client.statements.at(accepted) {
             Some(next) => same(next, text),
             None => false,
         },
@@ -102,11 +101,11 @@ impl Clients {
         };
         let gate = gate_at(&self.client_slots, at);
         let client_slot = &mut self.client_slots[at];
-        let Some(taken) = client_slot.taken.checked_add(1) else {
+        let Some(accepted) = client_slot.accepted.checked_add(1) else {
             return false;
         };
         if !client_slot.client.is_idle()
-            || !is_next(script, at, client_slot.taken, text)
+            || !is_next(script, at, client_slot.accepted, text)
             || !is_short(text)
         {
             return false;
@@ -116,7 +115,7 @@ impl Clients {
             .client
             .take(&script.catalog, text, gate, fresh, self.clock);
         let _begun = client_slot.client.begun();
-        client_slot.taken = taken;
+        client_slot.accepted = accepted;
         is_answered_alike(&answered, answer)
     }
 

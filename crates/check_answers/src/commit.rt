@@ -5,7 +5,7 @@ ghost use Rattle.sdb_record.specs.declared.coordinator.Decision.TheVariants as d
 ghost use Rattle.sdb_model.specs.Calls.{decision_learned};
 ghost use Rattle.sdb_model.specs.Causes.{IsExpired, IsOfCommit, IsUnknown};
 ghost use Rattle.sdb_model.specs.Transactions.{id_of as id_of_lem, through_end};
-ghost use Rattle.sdb_order.specs.Commits.{executed_of, all_executed};
+ghost use Rattle.sdb_contents.specs.Commits.{executed_of, all_executed};
 ghost use Rattle.check_tables.specs.Values.{all_made};
 ghost use Rattle.check_answers.specs.Tests.{any_upto, commits_as as commits_as_lem, is_commit_of as is_commit_of_lem, is_in as is_in_lem, same_executed, is_decided as is_decided_lem, puts_row as puts_row_lem, found_aborted as found_aborted_lem, expired_among as expired_among_lem, fails_later as fails_later_lem, is_lost_put as is_lost_put_lem, unknown_among as unknown_among_lem};
 
@@ -16,8 +16,8 @@ use check_tables::{
     Made, asks_row, calls_of, client_of, commit_of, decision_found_at, decision_learned_at,
     from_begin, id_of, ordinal_of, put_by, rest_of,
 };
+use sdb_contents::{Executed, ends, statements_by};
 use sdb_model::Event;
-use sdb_order::{Executed, ends, statements_by};
 use sdb_record::{Decided, Decision, coordinator_key};
 use sdb_types::{Key, NoMemory, Reply, TxId};
 use std::alloc::Global;

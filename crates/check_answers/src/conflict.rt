@@ -5,7 +5,7 @@ ghost use Rattle.std.specs.List.{list_any};
 ghost use Rattle.sdb_model.specs.Causes.{IsConflict, prepares_key as prepares_key_lem};
 ghost use Rattle.sdb_model.specs.ReadSet.{meaning_of as meaning_of_lem, read_set_of as read_set_of_lem};
 ghost use Rattle.sdb_model.specs.Transactions.{id_of as id_of_lem};
-ghost use Rattle.sdb_order.specs.Commits.{executed_of};
+ghost use Rattle.sdb_contents.specs.Commits.{executed_of};
 ghost use Rattle.sdb_record.specs.Moved.{is_unchanged as is_unchanged_lem};
 ghost use Rattle.check_protocol.specs.Values.{item_of};
 ghost use Rattle.check_tables.specs.Values.{all_made, all_items, made_of};
@@ -18,8 +18,8 @@ use check_protocol::{
     ReadItem, before_writer, is_same_key, record_among, version_among, version_read,
 };
 use check_tables::{Made, calls_of, id_of, is_prepared_record, meaning_of, put_by, read_set_of};
+use sdb_contents::{Executed, is_word, statements_by};
 use sdb_model::{Event, Keyword};
-use sdb_order::{Executed, is_word, statements_by};
 use sdb_record::{Scan, is_same_version, is_unchanged};
 use sdb_types::{Key, NoMemory, Record, Reply, Request, TxId};
 use std::alloc::Global;
@@ -76,7 +76,7 @@ fn not_met_as(reply: &Reply, found: &Option<Record>) -> bool
     ensures { result ≡ not_met_as_lem reply.now found.now }
 {
     match reply {
-        Reply::NotMet(standing) => is_same_found(standing.as_ref(), found),
+        Reply::NotMet(stored_at) => is_same_found(stored_at.as_ref(), found),
         _ => false,
     }
 }
@@ -92,8 +92,8 @@ fn get_shows(made: &Made, key: &Key, found: &Option<Record>) -> bool
     ensures { result ≡ get_observes_lem made.now.request made.now.reply key.now found.now }
 {
     match (&made.request, &made.reply) {
-        (Request::Get(asked), Reply::Found(standing)) => {
-            is_same_key(asked, key) && is_same_found(standing.as_ref(), found)
+        (Request::Get(asked), Reply::Found(stored_at)) => {
+            is_same_key(asked, key) && is_same_found(stored_at.as_ref(), found)
         }
         _ => false,
     }

@@ -4,7 +4,7 @@ ghost use Rattle.std.specs.List.{list_all, list_any};
 ghost use Rattle.sdb_record.specs.Meta.{is_unresolved as is_unresolved_lem};
 ghost use Rattle.sdb_model.specs.Calls.{is_removal as is_removal_lem};
 ghost use Rattle.sdb_model.specs.Transactions.{id_of as id_of_lem, prepares as prepares_lem, is_committed_answer as is_told_committed_lem};
-ghost use Rattle.sdb_order.specs.Commits.{executed_of};
+ghost use Rattle.sdb_contents.specs.Commits.{executed_of};
 ghost use Rattle.check_protocol.specs.Values.{item_of};
 ghost use Rattle.check_tables.specs.Values.{all_items};
 ghost use Rattle.check_answers.specs.Tests.{any_upto};
@@ -15,8 +15,8 @@ use check_protocol::ReadItem;
 use check_tables::{
     Made, asks_row, calls_of, id_of, is_prepare, is_removal, read_set_of, reads_rows,
 };
+use sdb_contents::{Executed, is_word, statements_by};
 use sdb_model::{Answer, Event, How, Keyword};
-use sdb_order::{Executed, is_word, statements_by};
 use sdb_schema::Catalog;
 use sdb_types::{Key, NoMemory, Record, Reply, TxId};
 use std::alloc::Global;

@@ -1,6 +1,6 @@
 //! Executions decided, by the clients themselves.
 ghost use Rattle.std.specs.Prelude.{◌≡◌, ◌<◌, ◌-◌, ◌^◌, true, length, IfOk, IfSome};
-ghost use Rattle.sdb_execution.specs.Execution.{IsExecution};
+ghost use Rattle.sdb_client.specs.Execution.{IsExecution};
 
 use crate::clients::Clients;
 use sdb_model::{Event, Script};

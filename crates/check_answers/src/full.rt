@@ -5,7 +5,7 @@ ghost use Rattle.sdb_model.specs.Calls.{records_read};
 ghost use Rattle.sdb_model.specs.Causes.{MayPassMost, rows_counted as rows_counted_lem, counted_by};
 ghost use Rattle.sdb_model.specs.ReadSet.{has_read};
 ghost use Rattle.sdb_model.specs.Transactions.{id_of as id_of_lem, is_effective as is_effective_lem};
-ghost use Rattle.sdb_order.specs.Commits.{executed_of, all_executed};
+ghost use Rattle.sdb_contents.specs.Commits.{executed_of, all_executed};
 ghost use Rattle.check_answers.specs.Tests.{any_upto, before_only, found_among, found_by, found_left as found_left_lem, is_before as is_before_lem, passes_left as passes_left_lem, passes_most as passes_most_lem, read_by as read_by_lem, total_before, written_left as written_left_lem};
 
 use crate::commit::is_in;
@@ -13,8 +13,8 @@ use crate::reading::statement_in;
 use check_tables::{
     Made, calls_of, has_finished, id_of, inside_of, is_effective, ordinal_of, reads_rows,
 };
+use sdb_contents::{Executed, statements_by};
 use sdb_model::{Answer, Event, Statement};
-use sdb_order::{Executed, statements_by};
 use sdb_types::{NoMemory, Reply, TxId};
 use std::alloc::Global;
 
@@ -27,30 +27,30 @@ fn rows_counted(answer: &Option<Answer>) -> u64
     }
 }
 
-fn is_before(executed: &Executed, taken: u64) -> bool
-    ensures { result ≡ is_before_lem is_effective_lem taken (executed_of executed.now) }
+fn is_before(executed: &Executed, accepted: u64) -> bool
+    ensures { result ≡ is_before_lem is_effective_lem accepted (executed_of executed.now) }
 {
-    is_effective(executed) && executed.taken < taken
+    is_effective(executed) && executed.accepted < accepted
 }
 
-// What is left of a number without the rows that a statement counted, where it was taken before.
-fn without_counted(executed: &Executed, taken: u64, left: u64) -> u64
-    ensures { result ≡ left - before_only is_effective_lem counted_by taken (executed_of executed.now) }
+// What is left of a number without the rows that a statement counted, where it was accepted before.
+fn without_counted(executed: &Executed, accepted: u64, left: u64) -> u64
+    ensures { result ≡ left - before_only is_effective_lem counted_by accepted (executed_of executed.now) }
 {
-    if is_before(executed, taken) {
+    if is_before(executed, accepted) {
         left.saturating_sub(rows_counted(&executed.answer))
     } else {
         left
     }
 }
 
-fn without_all_counted(inside: &[Executed], taken: u64, left: u64) -> u64
-    ensures { result ≡ left - total_before is_effective_lem counted_by taken (all_executed inside.now) }
+fn without_all_counted(inside: &[Executed], accepted: u64, left: u64) -> u64
+    ensures { result ≡ left - total_before is_effective_lem counted_by accepted (all_executed inside.now) }
 {
     let Some((first, rest)) = inside.split_first() else {
         return left;
     };
-    without_all_counted(rest, taken, without_counted(first, taken, left))
+    without_all_counted(rest, accepted, without_counted(first, accepted, left))
 }
 
 fn count_read(reply: &Reply) -> usize
@@ -103,12 +103,12 @@ fn without_found_before(
     events: &[Event],
     client: u64,
     executed: &Executed,
-    taken: u64,
+    accepted: u64,
     left: u64,
 ) -> Result<u64, NoMemory>
-    ensures { IfOk result (λ n. n ≡ left - before_only (has_read events.now client) (found_by events.now client) taken (executed_of executed.now)) }
+    ensures { IfOk result (λ n. n ≡ left - before_only (has_read events.now client) (found_by events.now client) accepted (executed_of executed.now)) }
 {
-    if executed.taken >= taken {
+    if executed.accepted >= accepted {
         return Ok(left);
     }
     let calls = calls_of(alloc, events, client, executed)?;
@@ -124,16 +124,16 @@ fn without_all_found(
     events: &[Event],
     client: u64,
     inside: &[Executed],
-    taken: u64,
+    accepted: u64,
     left: u64,
 ) -> Result<u64, NoMemory>
-    ensures { IfOk result (λ n. n ≡ left - total_before (has_read events.now client) (found_by events.now client) taken (all_executed inside.now)) }
+    ensures { IfOk result (λ n. n ≡ left - total_before (has_read events.now client) (found_by events.now client) accepted (all_executed inside.now)) }
 {
     let Some((first, rest)) = inside.split_first() else {
         return Ok(left);
     };
-    let left = without_found_before(alloc, events, client, first, taken, left)?;
-    without_all_found(alloc, events, client, rest, taken, left)
+    let left = without_found_before(alloc, events, client, first, accepted, left)?;
+    without_all_found(alloc, events, client, rest, accepted, left)
 }
 
 // What is left of one more than the most keys, after the rows that were counted and the records that were found.
@@ -144,12 +144,12 @@ fn both_left(
     executed: &Executed,
     id: TxId,
 ) -> Result<(u64, u64), NoMemory>
-    ensures { IfOk result (λ left. left ≡ (written_left_lem events.now id executed.now.taken, found_left_lem events.now client id (executed_of executed.now))) }
+    ensures { IfOk result (λ left. left ≡ (written_left_lem events.now id executed.now.accepted, found_left_lem events.now client id (executed_of executed.now))) }
 {
     let all = statements_by(alloc, check_tables::client_of(id), events)?;
     let inside = inside_of(alloc, all.as_slice(), ordinal_of(id))?;
-    let written = without_all_counted(inside, executed.taken, 4097);
-    let before = without_all_found(alloc, events, client, inside, executed.taken, written)?;
+    let written = without_all_counted(inside, executed.accepted, 4097);
+    let before = without_all_found(alloc, events, client, inside, executed.accepted, written)?;
     let found = without_found_by(alloc, events, client, executed, before)?;
     Ok((written, found))
 }

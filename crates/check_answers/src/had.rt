@@ -2,7 +2,7 @@
 ghost use Rattle.std.specs.Prelude.{◌≡◌, ◌++◌, IfOk, OnOk};
 ghost use Rattle.std.specs.List.{flat_map, list_any};
 ghost use Rattle.sdb_snapshot.specs.Seen.{images_with};
-ghost use Rattle.sdb_order.specs.Commits.{executed_of};
+ghost use Rattle.sdb_contents.specs.Commits.{executed_of};
 ghost use Rattle.check_answers.specs.Rows.{bases as bases_lem, had, had_at, image_then, reads_key as reads_key_lem, rows_below, rows_from};
 ghost use Rattle.check_answers.specs.Values.{row_then as row_then_lem};
 
@@ -12,7 +12,7 @@ use crate::stores::{Stores, moment_at};
 use crate::turn::Turn;
 use check_protocol::is_same_key;
 use check_tables::{Made, has_finished, is_effective};
-use sdb_order::Executed;
+use sdb_contents::Executed;
 use sdb_record::{Image, Images};
 use sdb_schema::Catalog;
 use sdb_types::{Columns, Duplicate, Key, NoMemory, Request, Seq};
@@ -46,8 +46,8 @@ fn any_reads(key: &Key, calls: &[Made]) -> bool
 fn row_then(alloc: Global, stores: &Stores, key: &Key, n: u64) -> Result<Option<Columns>, NoMemory>
     ensures { IfOk result (λ row. row ≡ row_then_lem stores.now key.now n) }
 {
-    let shelves = moment_at(stores.opening.as_slice(), stores.moments.as_slice(), n);
-    row_at(alloc, stores.places.as_slice(), shelves, key)
+    let store_contents = moment_at(stores.opening.as_slice(), stores.moments.as_slice(), n);
+    row_at(alloc, stores.places.as_slice(), store_contents, key)
 }
 
 // Adds the rows at a key from one moment on, before another.
@@ -56,16 +56,16 @@ fn add_below(
     rows: &mut Bases,
     stores: &Stores,
     key: &Key,
-    taken: u64,
+    accepted: u64,
     n: u64,
 ) -> Result<(), NoMemory>
-    ensures { OnOk result (rows.new ≡ rows.old ++ rows_below (row_then_lem stores.now key.now) taken n) }
+    ensures { OnOk result (rows.new ≡ rows.old ++ rows_below (row_then_lem stores.now key.now) accepted n) }
 {
     if n == 0 {
         return Ok(());
     }
-    add_below(alloc, rows, stores, key, taken, n - 1)?;
-    if taken < n {
+    add_below(alloc, rows, stores, key, accepted, n - 1)?;
+    if accepted < n {
         let row = row_then(alloc, stores, key, n - 1)?;
         rows.push(row)?;
     }
@@ -79,7 +79,14 @@ fn bases(alloc: Global, stores: &Stores, key: &Key, turn: &Turn) -> Result<Bases
     let mut rows = Bases::new(alloc);
     let calls = turn.calls.as_slice();
     if has_finished(alloc, calls, &turn.executed) && any_reads(key, calls) {
-        add_below(alloc, &mut rows, stores, key, turn.executed.taken, turn.end)?;
+        add_below(
+            alloc,
+            &mut rows,
+            stores,
+            key,
+            turn.executed.accepted,
+            turn.end,
+        )?;
     }
     Ok(rows)
 }

@@ -24,17 +24,17 @@ fn add_keys(keys: &mut Keys, rows: &[Image]) -> Result<(), NoMemory>
     add_keys(keys, rest)
 }
 
-fn add_kept_in(keys: &mut Keys, shelf: &StoreContents) -> Result<(), NoMemory>
-    ensures { OnOk result (keys.new ≡ keys.old ++ keys_in shelf.now) }
+fn add_kept_in(keys: &mut Keys, store_content: &StoreContents) -> Result<(), NoMemory>
+    ensures { OnOk result (keys.new ≡ keys.old ++ keys_in store_content.now) }
 {
-    let rows = shelf.rows.all()?;
+    let rows = store_content.rows.all()?;
     add_keys(keys, rows.as_slice())
 }
 
-fn add_kept(keys: &mut Keys, shelves: &[StoreContents]) -> Result<(), NoMemory>
-    ensures { OnOk result (keys.new ≡ keys.old ++ keys_at_stores shelves.now) }
+fn add_kept(keys: &mut Keys, store_contents: &[StoreContents]) -> Result<(), NoMemory>
+    ensures { OnOk result (keys.new ≡ keys.old ++ keys_at_stores store_contents.now) }
 {
-    let Some((first, rest)) = shelves.split_first() else {
+    let Some((first, rest)) = store_contents.split_first() else {
         return Ok(());
     };
     add_kept_in(keys, first)?;

@@ -8,7 +8,7 @@ ghost use Rattle.sdb_model.specs.ReadSet.{meaning_of as meaning_of_lem};
 ghost use Rattle.sdb_model.specs.Causes.{MeetsMisfit, is_misfit as is_misfit_lem, is_well_typed as is_well_typed_lem};
 ghost use Rattle.sdb_model.specs.Exec.{named_table as named_table_lem};
 ghost use Rattle.sdb_model.specs.Transactions.{id_of as id_of_lem, through_end};
-ghost use Rattle.sdb_order.specs.Commits.{all_executed, executed_of};
+ghost use Rattle.sdb_contents.specs.Commits.{all_executed, executed_of};
 ghost use Rattle.check_tables.specs.Values.{all_made, made_of};
 ghost use Rattle.check_answers.specs.Tests.{any_upto, has_read_misfit as has_read_misfit_lem, misfit_of as misfit_of_lem, reads_at as reads_at_lem, reads_misfit as reads_misfit_lem};
 
@@ -19,8 +19,8 @@ use check_tables::{
     Made, calls_of, client_of, from_begin, has_finished, id_of, meaning_of, ordinal_of, reads_rows,
     rest_of,
 };
+use sdb_contents::{Executed, ends, statements_by};
 use sdb_model::{Event, Statement};
-use sdb_order::{Executed, ends, statements_by};
 use sdb_record::is_coordinator;
 use sdb_schema::{Catalog, Table};
 use sdb_snapshot::row_of;
@@ -136,19 +136,19 @@ fn any_misfit(
     any_misfit(alloc, catalog, calls, key, rest)
 }
 
-// Whether a statement was taken by then, its read has finished, and it found such a record.
+// Whether a statement was accepted by then, its read has finished, and it found such a record.
 fn has_read_misfit(
     alloc: Global,
     catalog: &Catalog,
     events: &[Event],
     client: u64,
-    taken: u64,
+    accepted: u64,
     key: &Key,
     executed: &Executed,
 ) -> Result<bool, NoMemory>
-    ensures { IfOk result (λ has. has ≡ has_read_misfit_lem catalog.now events.now client taken key.now (executed_of executed.now)) }
+    ensures { IfOk result (λ has. has ≡ has_read_misfit_lem catalog.now events.now client accepted key.now (executed_of executed.now)) }
 {
-    if executed.taken > taken {
+    if executed.accepted > accepted {
         return Ok(false);
     }
     let calls = calls_of(alloc, events, client, executed)?;
@@ -166,22 +166,22 @@ fn have_read_misfit(
     catalog: &Catalog,
     events: &[Event],
     client: u64,
-    taken: u64,
+    accepted: u64,
     key: &Key,
     all: &[Executed],
 ) -> Result<bool, NoMemory>
-    ensures { IfOk result (λ any. any ≡ list_any (has_read_misfit_lem catalog.now events.now client taken key.now) (through_end (all_executed all.now))) }
+    ensures { IfOk result (λ any. any ≡ list_any (has_read_misfit_lem catalog.now events.now client accepted key.now) (through_end (all_executed all.now))) }
 {
     let Some((first, rest)) = all.split_first() else {
         return Ok(false);
     };
-    if has_read_misfit(alloc, catalog, events, client, taken, key, first)? {
+    if has_read_misfit(alloc, catalog, events, client, accepted, key, first)? {
         return Ok(true);
     }
     if ends(alloc, first)? {
         return Ok(false);
     }
-    have_read_misfit(alloc, catalog, events, client, taken, key, rest)
+    have_read_misfit(alloc, catalog, events, client, accepted, key, rest)
 }
 
 // Whether a statement is one of this transaction, of which a statement by then found such a record.
@@ -207,7 +207,7 @@ fn misfit_of(
         catalog,
         events,
         client,
-        executed.taken,
+        executed.accepted,
         key,
         rest_of(since),
     )

@@ -4,7 +4,7 @@ ghost use Rattle.std.specs.Prelude.{◌≡◌, IfOk, IsTrue, ◌↔◌, ◌≤�
 ghost use Rattle.std.specs.Option.{option_map_or};
 ghost use Rattle.sdb_model.specs.Calls.{calls_of as calls_of_lem};
 ghost use Rattle.sdb_model.specs.Causes.{HasReply, before as before_lem, is_select as is_select_lem, removes as removes_lem};
-ghost use Rattle.sdb_order.specs.Commits.{executed_of};
+ghost use Rattle.sdb_contents.specs.Commits.{executed_of};
 ghost use Rattle.check_tables.specs.Values.{made_of};
 ghost use Rattle.check_answers.specs.Tests.{Inserts, counts_so as counts_so_lem, is_done as is_done_lem, IsOfRows, IsOfCount, IsOfDone, IsOfDuplicate, removed_by};
 
@@ -12,21 +12,21 @@ use crate::reading::statement_in;
 use crate::sign::{Sign, any};
 use check_protocol::is_same_key;
 use check_tables::{Made, calls_of, is_open, is_removal, prefix};
+use sdb_contents::Executed;
 use sdb_exec::inserted_key;
 use sdb_model::{Event, Statement};
-use sdb_order::Executed;
 use sdb_schema::Catalog;
 use sdb_types::{Key, NoMemory, Reply};
 use std::alloc::Global;
 
-/// The events before a statement was taken.
+/// The events before a statement was accepted.
 pub fn before<'a>(executed: &Executed, events: &'a [Event]) -> &'a [Event]
     ensures { result.now ≡ before_lem (executed_of executed.now) events.now }
 {
-    if executed.taken == 0 {
+    if executed.accepted == 0 {
         prefix(events, 0)
     } else {
-        prefix(events, executed.taken - 1)
+        prefix(events, executed.accepted - 1)
     }
 }
 

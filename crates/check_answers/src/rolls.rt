@@ -5,14 +5,14 @@ ghost use Rattle.sdb_record.specs.Meta.{is_unresolved as is_unresolved_lem, numb
 ghost use Rattle.sdb_record.specs.Coordinator.{coordinator_key_of};
 ghost use Rattle.sdb_record.specs.Rolls.{back_of};
 ghost use Rattle.sdb_model.specs.Counted.{request_of_back, roll_by as roll_by_lem};
-ghost use Rattle.sdb_order.specs.Commits.{executed_of};
+ghost use Rattle.sdb_contents.specs.Commits.{executed_of};
 ghost use Rattle.check_answers.specs.Counts.{IsExecutedResolved, are_well_left as are_well_left_lem, is_passed_over as is_passed_over_lem, is_roll as is_roll_lem, is_rolled as is_rolled_lem, is_rolled_by as is_rolled_by_lem, is_well_left as is_well_left_lem, is_well_read as is_well_read_lem, rolled_after as rolled_after_lem};
 
 use crate::{is_early, is_unresolved, prepared_moment};
 use check_protocol::{is_same_request, writer};
 use check_tables::{Made, calls_of, decision_at, has_finished, reads_rows};
+use sdb_contents::{Executed, is_word};
 use sdb_model::{Event, How, Keyword};
-use sdb_order::{Executed, is_word};
 use sdb_record::{Back, Decided, Decision, coordinator_key, rolled_back, rolled_forward};
 use sdb_types::{
     Condition, Duplicate, Key, NoMemory, Record, Reply, Request, State, TxId, Value, value_named,

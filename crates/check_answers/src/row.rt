@@ -5,7 +5,7 @@ ghost use Rattle.sdb_types.specs.declared.record.State.TheVariants.{Committed};
 ghost use Rattle.sdb_record.specs.Meta.{is_in};
 ghost use Rattle.sdb_record.specs.Parts.{before_record};
 ghost use Rattle.sdb_record.specs.Rolls.{forward_record, image_of, row_of_image};
-ghost use Rattle.sdb_model.specs.Events.{standing as standing_lem};
+ghost use Rattle.sdb_model.specs.Events.{stored_at as standing_lem};
 ghost use Rattle.sdb_model.specs.Images.{decision_at as decision_at_lem, decision_on as decision_on_lem, row_at as row_at_lem};
 ghost use Rattle.sdb_model.specs.DirtyReads.{one_row as one_row_lem, row_left as row_left_lem};
 ghost use Rattle.check_answers.specs.Values.{all_contents};
@@ -40,14 +40,14 @@ fn record_with(key: &Key, columns: &Columns) -> Result<Record, NoMemory>
 }
 
 // The record at a key.
-fn standing(
+fn stored_at(
     places: &[Place],
-    shelves: &[StoreContents],
+    store_contents: &[StoreContents],
     key: &Key,
 ) -> Result<Option<Record>, NoMemory>
-    ensures { IfOk result (λ rec. rec ≡ standing_lem places.now (all_contents shelves.now) key.now) }
+    ensures { IfOk result (λ rec. rec ≡ standing_lem places.now (all_contents store_contents.now) key.now) }
 {
-    let Some(rows) = contents_for(places, shelves, &key.table.ns) else {
+    let Some(rows) = contents_for(places, store_contents, &key.table.ns) else {
         return Ok(None);
     };
     match rows.find(key) {
@@ -60,13 +60,13 @@ fn standing(
 fn decision_at(
     alloc: Global,
     places: &[Place],
-    shelves: &[StoreContents],
+    store_contents: &[StoreContents],
     id: TxId,
 ) -> Result<Option<Decided>, NoMemory>
-    ensures { IfOk result (λ d. d ≡ decision_at_lem places.now (all_contents shelves.now) id) }
+    ensures { IfOk result (λ d. d ≡ decision_at_lem places.now (all_contents store_contents.now) id) }
 {
     let row = coordinator_key(alloc, id)?;
-    match standing(places, shelves, &row)? {
+    match stored_at(places, store_contents, &row)? {
         Some(rec) => Ok(decided(alloc, &rec)),
         None => Ok(None),
     }
@@ -75,13 +75,13 @@ fn decision_at(
 fn decision_on(
     alloc: Global,
     places: &[Place],
-    shelves: &[StoreContents],
+    store_contents: &[StoreContents],
     rec: &Record,
 ) -> Result<Option<Decided>, NoMemory>
-    ensures { IfOk result (λ d. d ≡ decision_on_lem places.now (all_contents shelves.now) rec.now) }
+    ensures { IfOk result (λ d. d ≡ decision_on_lem places.now (all_contents store_contents.now) rec.now) }
 {
     match writer(rec) {
-        Some(id) => decision_at(alloc, places, shelves, id),
+        Some(id) => decision_at(alloc, places, store_contents, id),
         None => Ok(None),
     }
 }
@@ -137,14 +137,14 @@ fn row_under(
 pub fn row_at(
     alloc: Global,
     places: &[Place],
-    shelves: &[StoreContents],
+    store_contents: &[StoreContents],
     key: &Key,
 ) -> Result<Option<Columns>, NoMemory>
-    ensures { IfOk result (λ row. row ≡ row_at_lem places.now (all_contents shelves.now) key.now) }
+    ensures { IfOk result (λ row. row ≡ row_at_lem places.now (all_contents store_contents.now) key.now) }
 {
-    match standing(places, shelves, key)? {
+    match stored_at(places, store_contents, key)? {
         Some(rec) => {
-            let decided = decision_on(alloc, places, shelves, &rec)?;
+            let decided = decision_on(alloc, places, store_contents, &rec)?;
             row_under(alloc, &rec, decided)
         }
         None => Ok(None),

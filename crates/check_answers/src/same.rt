@@ -2,12 +2,12 @@
 ghost use Rattle.std.specs.Prelude.{◌≡◌, ◌↔◌, IsTrue};
 ghost use Rattle.std.specs.Option.{option_copied};
 ghost use Rattle.sdb_model.specs.Rows.{same_name};
-ghost use Rattle.sdb_order.specs.Commits.{executed_of};
+ghost use Rattle.sdb_contents.specs.Commits.{executed_of};
 ghost use Rattle.check_answers.specs.Tests.{answered_alike, same_answer, same_found, same_executed};
 
 use check_protocol::is_same_record;
+use sdb_contents::Executed;
 use sdb_model::Answer;
-use sdb_order::Executed;
 use sdb_types::{Record, Txt};
 
 /// Whether two answers are equal.
@@ -46,7 +46,7 @@ fn is_same_text(a: &Txt, b: &Txt) -> bool
 pub fn is_same_executed(a: &Executed, b: &Executed) -> bool
     ensures { result ≡ same_executed (executed_of a.now) (executed_of b.now) }
 {
-    a.taken == b.taken
+    a.accepted == b.accepted
         && (a.reached == b.reached
             && (is_same_text(&a.text, &b.text) && is_answered_alike(&a.answer, &b.answer)))
 }

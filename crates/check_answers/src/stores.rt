@@ -71,12 +71,12 @@ fn placed<'a>(places: &'a [Place], ns: &Name) -> Option<&'a Place>
     None
 }
 
-fn find_shelf<'a>(shelves: &'a [StoreContents], name: &Name) -> Option<&'a StoreContents>
-    ensures { option_copied result ≡ find (λ s. same_name s.name name.now) shelves.now }
+fn find_shelf<'a>(store_contents: &'a [StoreContents], name: &Name) -> Option<&'a StoreContents>
+    ensures { option_copied result ≡ find (λ s. same_name s.name name.now) store_contents.now }
 {
-    for shelf in shelves {
-        if shelf.name.cmp(name).is_eq() {
-            return Some(shelf);
+    for store_content in store_contents {
+        if store_content.name.cmp(name).is_eq() {
+            return Some(store_content);
         }
     }
     None
@@ -84,22 +84,22 @@ fn find_shelf<'a>(shelves: &'a [StoreContents], name: &Name) -> Option<&'a Store
 
 // What the store of a name contains.
 #[tactic(auto, using(crate::proofs::StoreLaws::held_is))]
-fn kept_by<'a>(shelves: &'a [StoreContents], name: &Name) -> Option<&'a PlainTables>
-    ensures { option_copied result ≡ contents_under (all_contents shelves.now) name.now }
+fn kept_by<'a>(store_contents: &'a [StoreContents], name: &Name) -> Option<&'a PlainTables>
+    ensures { option_copied result ≡ contents_under (all_contents store_contents.now) name.now }
 {
-    match find_shelf(shelves, name) {
-        Some(shelf) => Some(&shelf.rows),
+    match find_shelf(store_contents, name) {
+        Some(store_content) => Some(&store_content.rows),
         None => None,
     }
 }
 
 // What the first store contains, where there is one.
 #[tactic(auto)]
-fn kept_first(shelves: &[StoreContents]) -> Option<&PlainTables>
-    ensures { option_copied result ≡ contents_under (all_contents shelves.now) (first_name (all_contents shelves.now)) }
+fn kept_first(store_contents: &[StoreContents]) -> Option<&PlainTables>
+    ensures { option_copied result ≡ contents_under (all_contents store_contents.now) (first_name (all_contents store_contents.now)) }
 {
-    match shelves.first() {
-        Some(first) => kept_by(shelves, &first.name),
+    match store_contents.first() {
+        Some(first) => kept_by(store_contents, &first.name),
         None => None,
     }
 }
@@ -107,13 +107,13 @@ fn kept_first(shelves: &[StoreContents]) -> Option<&PlainTables>
 /// What the store of a namespace contains.
 pub fn contents_for<'a>(
     places: &[Place],
-    shelves: &'a [StoreContents],
+    store_contents: &'a [StoreContents],
     ns: &Name,
 ) -> Option<&'a PlainTables>
-    ensures { option_copied result ≡ contents_under (all_contents shelves.now) (store_of places.now (all_contents shelves.now) ns.now) }
+    ensures { option_copied result ≡ contents_under (all_contents store_contents.now) (store_of places.now (all_contents store_contents.now) ns.now) }
 {
     match placed(places, ns) {
-        Some(place) => kept_by(shelves, &place.store),
-        None => kept_first(shelves),
+        Some(place) => kept_by(store_contents, &place.store),
+        None => kept_first(store_contents),
     }
 }

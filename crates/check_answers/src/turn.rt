@@ -1,13 +1,13 @@
 //! The statements of a transaction, with what is asked of each.
 ghost use Rattle.std.specs.Prelude.{◌≡◌, ◌++◌, ◌∷◌, [], IfOk, OnOk, List};
 ghost use Rattle.sdb_model.specs.Transactions.{Executed as SaidOf, client_of as client_of_lem, statements_of, through_end};
-ghost use Rattle.sdb_order.specs.Commits.{all_executed, executed_of};
+ghost use Rattle.sdb_contents.specs.Commits.{all_executed, executed_of};
 ghost use Rattle.check_answers.specs.Turns.{AreTurns, IsTurn};
 
 use crate::statement_in;
 use check_tables::{Made, calls_of, client_of, end_of, from_begin, ordinal_of, rest_of};
+use sdb_contents::{Executed, ends, statements_by};
 use sdb_model::{Event, Statement};
-use sdb_order::{Executed, ends, statements_by};
 use sdb_types::{Duplicate, NoMemory, Seq, TxId};
 use std::alloc::Global;
 
@@ -37,7 +37,7 @@ fn copied(executed: &Executed) -> Result<Executed, NoMemory>
     ensures { IfOk result (λ copy. copy ≡ executed.now) }
 {
     Ok(Executed {
-        taken: executed.taken,
+        accepted: executed.accepted,
         text: executed.text.copy()?,
         answer: executed.answer.copy()?,
         reached: executed.reached,

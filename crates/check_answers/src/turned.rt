@@ -1,4 +1,4 @@
-//! Statements that are turned away when they are taken.
+//! Statements that are turned away when they are accepted.
 ghost use Rattle.std.specs.Prelude.{◌≡◌, IfOk};
 ghost use Rattle.sdb_model.specs.Causes.{refused as refused_lem};
 ghost use Rattle.check_answers.specs.Tests.{refusal_met, begin_turned as begin_turned_lem, vacuum_turned as vacuum_turned_lem, inside_turned as inside_turned_lem, turned_by as turned_by_lem, IsTurned};

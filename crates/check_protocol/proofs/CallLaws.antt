@@ -5,29 +5,19 @@ use Rattle.std.specs.Option.{option_map_or, option_map}
 use Rattle.std.specs.List.{list_all, enumerate_from}
 use Rattle.std.proofs.lemmas.Bool.{ltb-true, lt-ltb}
 use Rattle.std.proofs.lemmas.List.{length-append}
-use Rattle.sdb_types.specs.declared.key.Key.{Key}
-use Rattle.sdb_types.specs.declared.txid.TxId.{TxId}
-use Rattle.sdb_types.specs.declared.value.Value.{Value}
+use Rattle.check_protocol.specs.Types.{Event, Key, Read, Record, Reply, Request, Scan, Span, TxId, Value, Write}
 use Rattle.sdb_types.specs.declared.value.Value.TheVariants as value
-use Rattle.sdb_types.specs.declared.record.Record.{Record}
-use Rattle.sdb_types.specs.declared.record.Span.{Span}
 use Rattle.sdb_types.specs.declared.record.Condition.TheVariants as condition
-use Rattle.sdb_types.specs.declared.record.Request.{Request}
 use Rattle.sdb_types.specs.declared.record.Request.TheVariants as ask
-use Rattle.sdb_types.specs.declared.record.Reply.{Reply}
 use Rattle.sdb_types.specs.declared.record.Reply.TheVariants as reply
 use Rattle.sdb_types.specs.Contents.{in_span, record_among}
 use Rattle.sdb_types.specs.Exactness.{span_is_exact}
-use Rattle.sdb_record.specs.declared.access.Read.{Read}
-use Rattle.sdb_record.specs.declared.access.Scan.{Scan}
 use Rattle.sdb_record.specs.declared.coordinator.Decision.TheVariants as decision
-use Rattle.sdb_record.specs.declared.write.Write.{Write}
 use Rattle.sdb_record.specs.Coordinator.{coordinator_row_of}
 use Rattle.sdb_record.specs.Meta.{is_moment}
 use Rattle.sdb_record.specs.Moved.{version_of, condition_of, is_unchanged, same_version}
 use Rattle.sdb_record.specs.Rolls.{IsWrite, prepared_record}
 use Rattle.sdb_record.specs.Among.{version_among, write_among}
-use Rattle.sdb_model.specs.declared.event.Event.{Event}
 use Rattle.sdb_model.specs.declared.event.Event.TheVariants as event
 use Rattle.law_protocol.specs.Plan.{written, version_read_at, number_of}
 use Rattle.sdb_model.specs.ReadSet.{version_read}
@@ -88,7 +78,7 @@ in_commit_is past client t h =
     let one = right (commit_started_in past t) (open_in past t && (own && on)) h in
     let two = right (open_in past t) (own && on) one in
     record {
-      taken = taken_is past t ∙ left (commit_started_in past t) (open_in past t && (own && on)) h;
+      accepted = taken_is past t ∙ left (commit_started_in past t) (open_in past t && (own && on)) h;
       is_open = open_is past t ∙ left (open_in past t) (own && on) one;
       owner = owner_is past t ∙ number_is (owner_of past t) client (left own on two);
       goes_on = stopped_is past client ∙ not_true (stopped_in past client) (right own on two);
@@ -98,7 +88,7 @@ pub is_in_commit : (past : List Labelled) (client t : ℕ) → InCommit (protoco
 is_in_commit past client t m =
     let own = owner_of past t == client in
     let on = not (stopped_in past client) in
-    both (commit_started_in past t) (open_in past t && (own && on)) (sym (taken_is past t) ∙ m.taken)
+    both (commit_started_in past t) (open_in past t && (own && on)) (sym (taken_is past t) ∙ m.accepted)
     (both (open_in past t) (own && on) (sym (open_is past t) ∙ m.is_open) (both own on (is_number (owner_of past t) client (sym (owner_is past t) ∙ m.owner)) (true_not (stopped_in past client) (sym (stopped_is past client) ∙ m.goes_on))))
 
 ---- prepares
@@ -340,7 +330,7 @@ module _ (past : List Labelled) (plans : List Plan) (t : ℕ) where
   told_all : list_all (λ (w : Write). acknowledged_in past t w.key) (writes_in plans t) ≡ true → IsPrepared (plan_in plans) (protocol_state (all_labelled past)) t
   told_all h k f = by (write_among (writes_in plans t) k) refl
     where
-      by : (o : Option Write) → write_among (writes_in plans t) k ≡ o → (protocol_state (all_labelled past)).told t k ≡ true
+      by : (o : Option Write) → write_among (writes_in plans t) k ≡ o → (protocol_state (all_labelled past)).answered t k ≡ true
       by None e = absurd (f (is_free plans t k (ap is_some e)))
       by (Some w) e = let i = write_in_is (writes_in plans t) k w e in told_is past t k ∙ subst (λ x. acknowledged_in past t x ≡ true) i.1 (all_each (λ (x : Write). acknowledged_in past t x.key) (writes_in plans t) h w i.0)
 
@@ -406,22 +396,22 @@ module _ (past : List Labelled) (plans : List Plan) (t : ℕ) where
 pub decide_is : (past : List Labelled) (plans : List Plan) (e : Event) (t : ℕ) (w : Ack) → decides_well past plans e t w ≡ true → MayDecide (plan_in plans) (all_labelled past) e t (ack_of w)
 decide_is past plans (event.Call client store q how r answered) t w h =
     let put = ask.PutIf (coordinator_row_of (id t) decision.Committed (moment_in plans t)) condition.Absent in
-    let told = list_all (λ (x : Write). acknowledged_in past t x.key) (writes_in plans t) in
+    let answered = list_all (λ (x : Write). acknowledged_in past t x.key) (writes_in plans t) in
     let agree = list_all (agrees (writes_in plans t)) (items_in plans t) in
     let checked = list_all (λ (x : ℕ × ReadItem). is_item_checked past t (writes_in plans t) x.0 x.1) (enumerate_from 0 (items_in plans t)) in
-    let one = right (in_commit past client t) (matches_reply w r && (same_request q put && (told && (agree && checked)))) h in
-    let two = right (matches_reply w r) (same_request q put && (told && (agree && checked))) one in
-    let three = right (same_request q put) (told && (agree && checked)) two in
-    let same = request_is q put (left (same_request q put) (told && (agree && checked)) two) in
+    let one = right (in_commit past client t) (matches_reply w r && (same_request q put && (acked && (agree && checked)))) h in
+    let two = right (matches_reply w r) (same_request q put && (acked && (agree && checked))) one in
+    let three = right (same_request q put) (acked && (agree && checked)) two in
+    let same = request_is q put (left (same_request q put) (acked && (agree && checked)) two) in
     record {
       client = client;
       r = r;
-      within = in_commit_is past client t (left (in_commit past client t) (matches_reply w r && (same_request q put && (told && (agree && checked)))) h);
+      within = in_commit_is past client t (left (in_commit past client t) (matches_reply w r && (same_request q put && (acked && (agree && checked)))) h);
       call = record { store = store; how = how; answer = answered; call = λ i. event.Call client store (same i) how r answered };
-      word_is = fits_is w r (left (matches_reply w r) (same_request q put && (told && (agree && checked))) one);
-      prepared = told_all past plans t (left told (agree && checked) three);
-      checked = checked_all past plans t (right agree checked (right told (agree && checked) three));
-      agrees = agrees_all past plans t (left agree checked (right told (agree && checked) three));
+      word_is = fits_is w r (left (matches_reply w r) (same_request q put && (acked && (agree && checked))) one);
+      prepared = told_all past plans t (left acked (agree && checked) three);
+      checked = checked_all past plans t (right agree checked (right acked (agree && checked) three));
+      agrees = agrees_all past plans t (left agree checked (right acked (agree && checked) three));
     }
 decide_is past plans (event.Take client text answer) t w h = clash (sym h)
 decide_is past plans (event.Stop client) t w h = clash (sym h)
@@ -431,14 +421,14 @@ decide_is past plans (event.Idle client) t w h = clash (sym h)
 pub is_decide : (past : List Labelled) (plans : List Plan) (e : Event) (t : ℕ) (w : Ack) → MayDecide (plan_in plans) (all_labelled past) e t (ack_of w) → decides_well past plans e t w ≡ true
 is_decide past plans e t w m =
     let put = ask.PutIf (coordinator_row_of (id t) decision.Committed (moment_in plans t)) condition.Absent in
-    let told = list_all (λ (x : Write). acknowledged_in past t x.key) (writes_in plans t) in
+    let answered = list_all (λ (x : Write). acknowledged_in past t x.key) (writes_in plans t) in
     let agree = list_all (agrees (writes_in plans t)) (items_in plans t) in
     let checked = list_all (λ (x : ℕ × ReadItem). is_item_checked past t (writes_in plans t) x.0 x.1) (enumerate_from 0 (items_in plans t)) in
     ap (λ x. decides_well past plans x t w) m.call.call
-    ∙ both (in_commit past m.client t) (matches_reply w m.r && (same_request put put && (told && (agree && checked)))) (is_in_commit past m.client t m.within)
-    (both (matches_reply w m.r) (same_request put put && (told && (agree && checked))) (is_fit w m.r m.word_is)
-    (both (same_request put put) (told && (agree && checked)) (is_request put put refl)
-    (both told (agree && checked) (all_told past plans t m.prepared) (both agree checked (all_agree past plans t m.agrees) (all_checked past plans t m.checked)))))
+    ∙ both (in_commit past m.client t) (matches_reply w m.r && (same_request put put && (acked && (agree && checked)))) (is_in_commit past m.client t m.within)
+    (both (matches_reply w m.r) (same_request put put && (acked && (agree && checked))) (is_fit w m.r m.word_is)
+    (both (same_request put put) (acked && (agree && checked)) (is_request put put refl)
+    (both acked (agree && checked) (all_told past plans t m.prepared) (both agree checked (all_agree past plans t m.agrees) (all_checked past plans t m.checked)))))
 
 ---- puts of ABORTED
 

@@ -2,9 +2,7 @@
 use Rattle.std.proofs.Common.{◌≡◌, ℕ, Bool, true, false, List, [], ◌∷◌, ◌++◌, Option, Some, None, inl, inr, refl, sym, ap, subst, ◌∙◌}
 use Rattle.std.specs.Prelude.{ℤ, ◌&&◌, ◌||◌, ◌==◌, not, if◌then◌else◌}
 use Rattle.std.specs.Option.{option_map}
-use Rattle.sdb_types.specs.declared.key.Key.{Key}
-use Rattle.sdb_types.specs.declared.record.Record.{Record}
-use Rattle.sdb_record.specs.declared.write.Write.{Write}
+use Rattle.check_protocol.specs.Types.{Key, Record, Write}
 use Rattle.sdb_record.specs.Coordinator.{coordinator_key_of}
 use Rattle.sdb_record.specs.Rolls.{IsWrite, prepared_record}
 use Rattle.law_protocol.specs.Plan.{write_at}
@@ -116,7 +114,7 @@ is_own past plans t k r sound asked there =
 
 ---- what a lawful list has checked
 
--- A COMMIT that was taken has writes of the form of records.
+-- A COMMIT that was accepted has writes of the form of records.
 take_sound : (plans : List Plan) (past : List Labelled) (p : Labelled) (t : ℕ) → IsEnabled (plan_in plans) (all_labelled past) p.event (action_of p.action) → is_take_of t p.action ≡ true → (k : Key) (w : Write) → write_at (plan_in plans t) k ≡ Some w → IsWrite w
 take_sound plans past p t m h k w at = by p.action m h
   where
@@ -135,7 +133,7 @@ ask_taken : (plans : List Plan) (past : List Labelled) (p : Labelled) (t : ℕ) 
 ask_taken plans past p t k m h = by p.action m h
   where
     by : (r : Action) → IsEnabled (plan_in plans) (all_labelled past) p.event (action_of r) → is_prepare_of t k r ≡ true → commit_started_in past t ≡ true
-    by (action.Prepares u q w) m h = subst (λ x. commit_started_in past x ≡ true) (sym (number_is t u.0 (left (t == u.0) (same_key k q) h))) (sym (taken_is past u.0) ∙ m.within.taken)
+    by (action.Prepares u q w) m h = subst (λ x. commit_started_in past x ≡ true) (sym (number_is t u.0 (left (t == u.0) (same_key k q) h))) (sym (taken_is past u.0) ∙ m.within.accepted)
     by _ m h = clash (sym h)
 
 pub lawful_asked : (plans : List Plan) (past : List Labelled) (t : ℕ) (k : Key) → IsLawful (plan_in plans) (all_labelled past) → asked_in past t k ≡ true → commit_started_in past t ≡ true

@@ -4,25 +4,15 @@ use Rattle.std.specs.Prelude.{◌&&◌, ◌||◌, ◌==◌, not, find}
 use Rattle.std.specs.Option.{option_map_or}
 use Rattle.std.specs.List.{list_any}
 use Rattle.sdb_types.specs.Order.{same_key}
-use Rattle.sdb_types.specs.declared.key.Key.{Key}
-use Rattle.sdb_types.specs.declared.record.Record.{Record}
-use Rattle.sdb_types.specs.declared.record.State.{State}
+use Rattle.check_protocol.specs.Types.{Answer, Condition, Decision, Event, How, Key, Record, Reply, Request, State, Write}
 use Rattle.sdb_types.specs.declared.record.State.TheVariants as state
-use Rattle.sdb_types.specs.declared.record.Condition.{Condition}
 use Rattle.sdb_types.specs.declared.record.Condition.TheVariants as condition
-use Rattle.sdb_types.specs.declared.record.Request.{Request}
 use Rattle.sdb_types.specs.declared.record.Request.TheVariants as ask
-use Rattle.sdb_types.specs.declared.record.Reply.{Reply}
-use Rattle.sdb_record.specs.declared.coordinator.Decision.{Decision}
 use Rattle.sdb_record.specs.declared.coordinator.Decision.TheVariants as decision
-use Rattle.sdb_record.specs.declared.write.Write.{Write}
 use Rattle.sdb_record.specs.Meta.{is_committed}
 use Rattle.sdb_record.specs.Parts.{before_record}
 use Rattle.sdb_record.specs.Rolls.{IsWrite, forward_record, undo}
-use Rattle.sdb_model.specs.declared.answer.Answer.{Answer}
-use Rattle.sdb_model.specs.declared.event.Event.{Event}
 use Rattle.sdb_model.specs.declared.event.Event.TheVariants as event
-use Rattle.sdb_model.specs.declared.event.How.{How}
 use Rattle.sdb_model.specs.Rows.{Name}
 use Rattle.law_protocol.specs.Plan.{write_at}
 use Rattle.law_protocol.specs.Lawful.{id, protocol_state, IsPreparedThere, MayRollForward, MayRollBack, MayRollBy, MayRemove}
@@ -86,7 +76,7 @@ is_rolled : (past : List Labelled) (plans : List Plan) (t : ℕ) (k : Key) (f : 
     → (option_map_or f (own past plans t k) false || list_any (λ r. is_prepared_by t k r && f r) (observed past)) ≡ true
 is_rolled past plans t k f r sound (inl held) h =
     or_right (option_map_or f (own past plans t k) false) (list_any (λ r. is_prepared_by t k r && f r) (observed past))
-    (some_any (λ r. is_prepared_by t k r && f r) (observed past) r (is_shown past r held.shown) (both (is_prepared_by t k r) (f r) (is_held_by_of past t k r held) h))
+    (some_any (λ r. is_prepared_by t k r && f r) (observed past) r (is_shown past r held.observed) (both (is_prepared_by t k r) (f r) (is_held_by_of past t k r held) h))
 is_rolled past plans t k f r sound (inr mine) h =
     or_left (option_map_or f (own past plans t k) false) (list_any (λ r. is_prepared_by t k r && f r) (observed past)) (ap (λ o. option_map_or f o false) (is_own past plans t k r (sound mine.0) mine.0 mine.1) ∙ h)
 

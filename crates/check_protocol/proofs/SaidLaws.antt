@@ -2,8 +2,7 @@
 use Rattle.std.proofs.Common.{◌≡◌, ◌≢◌, ℕ, zero, suc, ◌+◌, Bool, true, false, List, [], ◌∷◌, Option, Some, None, refl, sym, ap, ◌∙◌, arith}
 use Rattle.std.specs.Prelude.{◌&&◌, ◌||◌, ◌==◌, ◌↔◌, not, find, if◌then◌else◌}
 use Rattle.std.specs.Option.{option_map_or, option_map}
-use Rattle.sdb_types.specs.declared.key.Key.{Key}
-use Rattle.sdb_types.specs.declared.txid.TxId.{TxId}
+use Rattle.check_protocol.specs.Types.{Key, TxId}
 use Rattle.law_protocol.specs.History.{ProtocolState, state_after_event, Stage, Preparing, Checking, Deciding, is_yes, is_met, is_out_of_memory_ack, state_after}
 use Rattle.law_protocol.specs.Lawful.{protocol_state, ended}
 use Rattle.check_protocol.specs.declared.labelled.Action.{Action}
@@ -34,16 +33,16 @@ module _ {X : Type 0} (field : ProtocolState → X) (still : (h : ProtocolState)
   past_end h None = refl
   past_end h (Some t) = still h t
 
----- taken
+---- accepted
 
-taken_step : (h : ProtocolState) (r : Action) (u : ℕ) → (state_after_event h (action_of r)).taken u ≡ (is_take_of u r || h.taken u)
-taken_step h (action.Takes t) u = if_or (u == t.0) (h.taken u)
+taken_step : (h : ProtocolState) (r : Action) (u : ℕ) → (state_after_event h (action_of r)).accepted u ≡ (is_take_of u r || h.accepted u)
+taken_step h (action.Takes t) u = if_or (u == t.0) (h.accepted u)
 taken_step h _ u = refl
 
-pub taken_is : (past : List Labelled) (u : ℕ) → (protocol_state (all_labelled past)).taken u ≡ commit_started_in past u
+pub taken_is : (past : List Labelled) (u : ℕ) → (protocol_state (all_labelled past)).accepted u ≡ commit_started_in past u
 taken_is [] u = refl
 taken_is (p ∷ past) u =
-    past_end (λ h. h.taken u) (λ h t. refl) (state_after_event (protocol_state (all_labelled past)) (action_of p.action)) (option_map (λ t. t.0) p.ends)
+    past_end (λ h. h.accepted u) (λ h t. refl) (state_after_event (protocol_state (all_labelled past)) (action_of p.action)) (option_map (λ t. t.0) p.ends)
     ∙ taken_step (protocol_state (all_labelled past)) p.action u
     ∙ ap (λ b. is_take_of u p.action || b) (taken_is past u)
 
@@ -202,14 +201,14 @@ owner_is (p ∷ past) u =
 told_by : (a y x : Bool) → (if a then y else x) ≡ (if a then y else x)
 told_by a y x = refl
 
-told_step : (h : ProtocolState) (r : Action) (u : ℕ) (q : Key) → (state_after_event h (action_of r)).told u q ≡ (if is_prepare_of u q r then is_applied r else h.told u q)
+told_step : (h : ProtocolState) (r : Action) (u : ℕ) (q : Key) → (state_after_event h (action_of r)).answered u q ≡ (if is_prepare_of u q r then is_applied r else h.answered u q)
 told_step h (action.Prepares t k w) u q = refl
 told_step h _ u q = refl
 
-pub told_is : (past : List Labelled) (u : ℕ) (q : Key) → (protocol_state (all_labelled past)).told u q ≡ acknowledged_in past u q
+pub told_is : (past : List Labelled) (u : ℕ) (q : Key) → (protocol_state (all_labelled past)).answered u q ≡ acknowledged_in past u q
 told_is [] u q = refl
 told_is (p ∷ past) u q =
-    past_end (λ h. h.told u q) (λ h t. refl) (state_after_event (protocol_state (all_labelled past)) (action_of p.action)) (option_map (λ t. t.0) p.ends)
+    past_end (λ h. h.answered u q) (λ h t. refl) (state_after_event (protocol_state (all_labelled past)) (action_of p.action)) (option_map (λ t. t.0) p.ends)
     ∙ told_step (protocol_state (all_labelled past)) p.action u q
     ∙ ap (λ n. if is_prepare_of u q p.action then is_applied p.action else n) (told_is past u q)
     ∙ sym (newest (λ (x : Labelled). is_prepare_of u q x.action) (λ x. is_applied x.action) p past false)

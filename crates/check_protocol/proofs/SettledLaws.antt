@@ -3,11 +3,8 @@ use Rattle.std.proofs.Common.{◌≡◌, ℕ, Bool, true, false, List, Option, S
 use Rattle.std.specs.Prelude.{ℤ, ◌&&◌, ◌||◌, not, is_some}
 use Rattle.std.specs.Option.{option_map_or}
 use Rattle.std.specs.List.{list_any}
-use Rattle.sdb_types.specs.declared.key.Key.{Key}
-use Rattle.sdb_types.specs.declared.txid.TxId.{TxId}
-use Rattle.sdb_types.specs.declared.value.Value.{Value}
+use Rattle.check_protocol.specs.Types.{Key, Record, TxId, Value}
 use Rattle.sdb_types.specs.declared.value.Value.TheVariants as value
-use Rattle.sdb_types.specs.declared.record.Record.{Record}
 use Rattle.sdb_types.specs.declared.record.State.TheVariants as state
 use Rattle.sdb_types.specs.Contents.{has_value}
 use Rattle.sdb_types.specs.Columns.{column}
@@ -47,7 +44,7 @@ some_one (Some x) h = (x, refl)
 
 pub held_shown : (past : List Labelled) (t : ℕ) (k : Key) (r : Record) → In (observed past) r → is_prepared_at k r ≡ true → id_in r.columns ≡ Some (id t) → IsPreparedObserved (all_labelled past) t k r
 held_shown past t k r i h w = record {
-  shown = shown_is past r i;
+  observed = shown_is past r i;
   key = same_key_exact r.key k (left (same_key r.key k) (not (is_in state.Committed r.columns)) h);
   held = not_true (is_in state.Committed r.columns) (right (same_key r.key k) (not (is_in state.Committed r.columns)) h);
   writer = w;
@@ -104,13 +101,13 @@ module _ (past : List Labelled) (k : Key) (b : Record) where
   is_settled_of (Forward t r m held row same) =
       or_right (is_itself (observed past) k b) (is_back (observed past) k b || list_any (forward_from (observed past) k b) (observed past))
       (or_right (is_back (observed past) k b) (list_any (forward_from (observed past) k b) (observed past))
-      (some_any (forward_from (observed past) k b) (observed past) r (is_shown past r held.shown)
+      (some_any (forward_from (observed past) k b) (observed past) r (is_shown past r held.observed)
       (both (is_prepared_at k r) (option_map_or (λ i. is_forward r (moments (observed past) (coordinator_key_of i)) b) (id_in r.columns) false) (is_held_of past t k r held)
       (ap (λ o. option_map_or (λ i. is_forward r (moments (observed past) (coordinator_key_of i)) b) o false) held.writer ∙ is_forward_at r (moments (observed past) (coordinator_key_of (id t))) b m (shown_moment past t m row) same))))
   is_settled_of (Back t r held same) =
       or_right (is_itself (observed past) k b) (is_back (observed past) k b || list_any (forward_from (observed past) k b) (observed past))
       (or_left (is_back (observed past) k b) (list_any (forward_from (observed past) k b) (observed past))
-      (some_any (λ (r : Record). is_prepared_at k r && (is_some (id_in r.columns) && is_before_image_of r b)) (observed past) r (is_shown past r held.shown)
+      (some_any (λ (r : Record). is_prepared_at k r && (is_some (id_in r.columns) && is_before_image_of r b)) (observed past) r (is_shown past r held.observed)
       (both (is_prepared_at k r) (is_some (id_in r.columns) && is_before_image_of r b) (is_held_of past t k r held) (both (is_some (id_in r.columns)) (is_before_image_of r b) (ap is_some held.writer) (is_kept_of r b same)))))
 
 ---- a version that is settled
@@ -176,12 +173,12 @@ module _ (past : List Labelled) (k : Key) (u : ℕ) where
       or_right (list_any own_of (observed past)) (list_any back_of (observed past) || (list_any (is_prepared_by u k) (observed past) && observes_commit (observed past) (coordinator_key_of (id u))))
       (or_right (list_any back_of (observed past)) (list_any (is_prepared_by u k) (observed past) && observes_commit (observed past) (coordinator_key_of (id u)))
       (both (list_any (is_prepared_by u k) (observed past)) (observes_commit (observed past) (coordinator_key_of (id u)))
-      (some_any (is_prepared_by u k) (observed past) r (is_shown past r held.shown) (subst (λ x. is_prepared_by x k r ≡ true) t_is (is_held_by_of past t k r held)))
+      (some_any (is_prepared_by u k) (observed past) r (is_shown past r held.observed) (subst (λ x. is_prepared_by x k r ≡ true) t_is (is_held_by_of past t k r held)))
       (subst (λ x. observes_commit (observed past) (coordinator_key_of (id x)) ≡ true) t_is (shows_commit_of past t m row))))
   settles_by b (Back t r held same) w =
       or_right (list_any own_of (observed past)) (list_any back_of (observed past) || (list_any (is_prepared_by u k) (observed past) && observes_commit (observed past) (coordinator_key_of (id u))))
       (or_left (list_any back_of (observed past)) (list_any (is_prepared_by u k) (observed past) && observes_commit (observed past) (coordinator_key_of (id u)))
-      (some_any back_of (observed past) r (is_shown past r held.shown)
+      (some_any back_of (observed past) r (is_shown past r held.observed)
       (both (is_prepared_at k r) (is_some (id_in r.columns) && writer_is u (before_writer r.columns)) (is_held_of past t k r held)
       (both (is_some (id_in r.columns)) (writer_is u (before_writer r.columns)) (ap is_some held.writer) (is_writer_of u (before_writer r.columns) (sym (kept_writer_is r.columns) ∙ ap id_in (sym (before_columns r b same)) ∙ w))))))
 
@@ -271,12 +268,12 @@ module _ (past : List Labelled) (k : Key) (u : ℕ) where
       or_right (list_any own_gone (observed past)) (list_any back_gone (observed past) || (list_any held_gone (observed past) && observes_commit (observed past) (coordinator_key_of (id u))))
       (or_right (list_any back_gone (observed past)) (list_any held_gone (observed past) && observes_commit (observed past) (coordinator_key_of (id u)))
       (both (list_any held_gone (observed past)) (observes_commit (observed past) (coordinator_key_of (id u)))
-      (some_any held_gone (observed past) r (is_shown past r held.shown) (both (is_prepared_by u k r) (is_in state.Deleted r.columns || is_tombstone r) (subst (λ x. is_prepared_by x k r ≡ true) t_is (is_held_by_of past t k r held)) (sym (forward_gone r m) ∙ ap is_tombstone (sym same) ∙ g)))
+      (some_any held_gone (observed past) r (is_shown past r held.observed) (both (is_prepared_by u k r) (is_in state.Deleted r.columns || is_tombstone r) (subst (λ x. is_prepared_by x k r ≡ true) t_is (is_held_by_of past t k r held)) (sym (forward_gone r m) ∙ ap is_tombstone (sym same) ∙ g)))
       (subst (λ x. observes_commit (observed past) (coordinator_key_of (id x)) ≡ true) t_is (shows_commit_of past t m row))))
   goes_by b (Back t r held same) g w =
       or_right (list_any own_gone (observed past)) (list_any back_gone (observed past) || (list_any held_gone (observed past) && observes_commit (observed past) (coordinator_key_of (id u))))
       (or_left (list_any back_gone (observed past)) (list_any held_gone (observed past) && observes_commit (observed past) (coordinator_key_of (id u)))
-      (some_any back_gone (observed past) r (is_shown past r held.shown)
+      (some_any back_gone (observed past) r (is_shown past r held.observed)
       (both (is_prepared_at k r) (is_some (id_in r.columns) && (writer_is u (before_writer r.columns) && has_tombstone_before r.columns)) (is_held_of past t k r held)
       (both (is_some (id_in r.columns)) (writer_is u (before_writer r.columns) && has_tombstone_before r.columns) (ap is_some held.writer)
       (both (writer_is u (before_writer r.columns)) (has_tombstone_before r.columns) (is_writer_of u (before_writer r.columns) (sym (kept_writer_is r.columns) ∙ ap id_in (sym (before_columns r b same)) ∙ w)) (sym (kept_gone r b same) ∙ g))))))

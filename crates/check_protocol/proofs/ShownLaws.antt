@@ -6,18 +6,11 @@ use Rattle.std.specs.Result.{result_ok}
 use Rattle.std.specs.Ordering.{is_eq}
 use Rattle.std.specs.List.{list_any, filter_map, cons_option}
 use Rattle.std.specs.Cmp.{unsigned_Decides}
-use Rattle.sdb_types.specs.declared.key.Key.{Key}
-use Rattle.sdb_types.specs.declared.pair.Pair.{Pair}
-use Rattle.sdb_types.specs.declared.txid.TxId.{TxId}
-use Rattle.sdb_types.specs.declared.value.Value.{Value}
-use Rattle.sdb_types.specs.declared.record.Record.{Record}
-use Rattle.sdb_types.specs.declared.record.Reply.{Reply}
+use Rattle.check_protocol.specs.Types.{Decided, Decision, Event, Key, Pair, Record, Reply, TxId, Value}
 use Rattle.sdb_types.specs.declared.record.Reply.TheVariants as reply
 use Rattle.sdb_types.specs.Contents.{tx_id, record_among}
 use Rattle.sdb_types.specs.Order.{value_cmp, same_key}
 use Rattle.sdb_types.specs.Exactness.{record_is_exact, value_is_exact}
-use Rattle.sdb_record.specs.declared.coordinator.Decided.{Decided}
-use Rattle.sdb_record.specs.declared.coordinator.Decision.{Decision}
 use Rattle.sdb_record.specs.declared.coordinator.Decision.TheVariants as decision
 use Rattle.sdb_record.specs.Coordinator.{coordinator_key_of, decision_in}
 use Rattle.sdb_record.specs.Names.{base_name, same_name}
@@ -27,7 +20,6 @@ use Rattle.sdb_record.specs.Rolls.{forward_record}
 use Rattle.sdb_record.proofs.NameLemmas.{same_name-true, same_name-itself}
 use Rattle.sdb_record.proofs.Within.{column-before_part}
 use Rattle.sdb_record.proofs.RollLaws.{before_part-any}
-use Rattle.sdb_model.specs.declared.event.Event.{Event}
 use Rattle.sdb_model.specs.declared.event.Event.TheVariants as event
 use Rattle.law_protocol.specs.Lawful.{id, InReply, InEvent, IsObserved, IsRowObserved, IsBadRow}
 use Rattle.check_protocol.specs.declared.labelled.Labelled.{Labelled}
@@ -214,21 +206,21 @@ pub commit_shown : (past : List Labelled) (t : ℕ) → observes_commit (observe
 commit_shown past t h =
     let a = any_some (λ (r : Record). same_key r.key (coordinator_key_of (id t)) && commits (decided r)) (observed past) h in
     let m = commits_is a.0 (right (same_key a.0.key (coordinator_key_of (id t))) (commits (decided a.0)) a.2) in
-    (m.0, record { row = a.0; shown = shown_is past a.0 a.1; key = same_key_exact a.0.key (coordinator_key_of (id t)) (left (same_key a.0.key (coordinator_key_of (id t))) (commits (decided a.0)) a.2); says = m.1 })
+    (m.0, record { row = a.0; observed = shown_is past a.0 a.1; key = same_key_exact a.0.key (coordinator_key_of (id t)) (left (same_key a.0.key (coordinator_key_of (id t))) (commits (decided a.0)) a.2); says = m.1 })
 
 pub shows_commit_of : (past : List Labelled) (t : ℕ) (m : ℤ) → IsRowObserved (all_labelled past) t decision.Committed m → observes_commit (observed past) (coordinator_key_of (id t)) ≡ true
 shows_commit_of past t m s =
-    some_any (λ (r : Record). same_key r.key (coordinator_key_of (id t)) && commits (decided r)) (observed past) s.row (is_shown past s.row s.shown) (both (same_key s.row.key (coordinator_key_of (id t))) (commits (decided s.row)) (same_key_of s.row.key (coordinator_key_of (id t)) s.key) (ap (λ o. commits (result_ok o)) s.says))
+    some_any (λ (r : Record). same_key r.key (coordinator_key_of (id t)) && commits (decided r)) (observed past) s.row (is_shown past s.row s.observed) (both (same_key s.row.key (coordinator_key_of (id t))) (commits (decided s.row)) (same_key_of s.row.key (coordinator_key_of (id t)) s.key) (ap (λ o. commits (result_ok o)) s.says))
 
 pub abort_shown : (past : List Labelled) (t : ℕ) → observes_abort (observed past) (coordinator_key_of (id t)) ≡ true → (m : ℤ) × IsRowObserved (all_labelled past) t decision.Aborted m
 abort_shown past t h =
     let a = any_some (λ (r : Record). same_key r.key (coordinator_key_of (id t)) && aborts (decided r)) (observed past) h in
     let m = aborts_is a.0 (right (same_key a.0.key (coordinator_key_of (id t))) (aborts (decided a.0)) a.2) in
-    (m.0, record { row = a.0; shown = shown_is past a.0 a.1; key = same_key_exact a.0.key (coordinator_key_of (id t)) (left (same_key a.0.key (coordinator_key_of (id t))) (aborts (decided a.0)) a.2); says = m.1 })
+    (m.0, record { row = a.0; observed = shown_is past a.0 a.1; key = same_key_exact a.0.key (coordinator_key_of (id t)) (left (same_key a.0.key (coordinator_key_of (id t))) (aborts (decided a.0)) a.2); says = m.1 })
 
 pub shows_abort_of : (past : List Labelled) (t : ℕ) (m : ℤ) → IsRowObserved (all_labelled past) t decision.Aborted m → observes_abort (observed past) (coordinator_key_of (id t)) ≡ true
 shows_abort_of past t m s =
-    some_any (λ (r : Record). same_key r.key (coordinator_key_of (id t)) && aborts (decided r)) (observed past) s.row (is_shown past s.row s.shown) (both (same_key s.row.key (coordinator_key_of (id t))) (aborts (decided s.row)) (same_key_of s.row.key (coordinator_key_of (id t)) s.key) (ap (λ o. aborts (result_ok o)) s.says))
+    some_any (λ (r : Record). same_key r.key (coordinator_key_of (id t)) && aborts (decided r)) (observed past) s.row (is_shown past s.row s.observed) (both (same_key s.row.key (coordinator_key_of (id t))) (aborts (decided s.row)) (same_key_of s.row.key (coordinator_key_of (id t)) s.key) (ap (λ o. aborts (result_ok o)) s.says))
 
 none_is : {A : Type 0} (o : Option A) → is_none o ≡ true → o ≡ None
 none_is None h = refl
@@ -237,11 +229,11 @@ none_is (Some x) h = clash (sym h)
 pub bad_row_shown : (past : List Labelled) (t : ℕ) → observes_bad_row (observed past) (coordinator_key_of (id t)) ≡ true → IsBadRow (all_labelled past) t
 bad_row_shown past t h =
     let a = any_some (λ (r : Record). same_key r.key (coordinator_key_of (id t)) && is_none (decided r)) (observed past) h in
-    record { row = a.0; shown = shown_is past a.0 a.1; key = same_key_exact a.0.key (coordinator_key_of (id t)) (left (same_key a.0.key (coordinator_key_of (id t))) (is_none (decided a.0)) a.2); bad = none_is (decided a.0) (right (same_key a.0.key (coordinator_key_of (id t))) (is_none (decided a.0)) a.2) }
+    record { row = a.0; observed = shown_is past a.0 a.1; key = same_key_exact a.0.key (coordinator_key_of (id t)) (left (same_key a.0.key (coordinator_key_of (id t))) (is_none (decided a.0)) a.2); bad = none_is (decided a.0) (right (same_key a.0.key (coordinator_key_of (id t))) (is_none (decided a.0)) a.2) }
 
 pub shows_bad_row_of : (past : List Labelled) (t : ℕ) → IsBadRow (all_labelled past) t → observes_bad_row (observed past) (coordinator_key_of (id t)) ≡ true
 shows_bad_row_of past t s =
-    some_any (λ (r : Record). same_key r.key (coordinator_key_of (id t)) && is_none (decided r)) (observed past) s.row (is_shown past s.row s.shown) (both (same_key s.row.key (coordinator_key_of (id t))) (is_none (decided s.row)) (same_key_of s.row.key (coordinator_key_of (id t)) s.key) (ap is_none s.bad))
+    some_any (λ (r : Record). same_key r.key (coordinator_key_of (id t)) && is_none (decided r)) (observed past) s.row (is_shown past s.row s.observed) (both (same_key s.row.key (coordinator_key_of (id t))) (is_none (decided s.row)) (same_key_of s.row.key (coordinator_key_of (id t)) s.key) (ap is_none s.bad))
 
 ---- moments
 
@@ -266,13 +258,13 @@ in_kept f (z ∷ zs) x y (inr i) e = later (f z) (filter_map f zs) y (in_kept f 
 moment_says : (r : Record) (row : Key) (m : ℤ) → row_moment row r ≡ Some m → (r.key ≡ row) × (decision_in r ≡ Ok (record { decision = decision.Committed; created_at = m }))
 moment_says r row m h = by (same_key r.key row) refl h
   where
-    told : (x : Decision) (n : ℤ) → (if is_commit x then Some n else None) ≡ Some m → (x ≡ decision.Committed) × (n ≡ m)
-    told decision.Committed n e = (refl, some_is n m e)
-    told decision.Aborted n e = none_some e
+    answered : (x : Decision) (n : ℤ) → (if is_commit x then Some n else None) ≡ Some m → (x ≡ decision.Committed) × (n ≡ m)
+    answered decision.Committed n e = (refl, some_is n m e)
+    answered decision.Aborted n e = none_some e
 
     says : (o : Result Decided (List ℕ)) → decision_in r ≡ o → commit_moment (result_ok o) ≡ Some m → decision_in r ≡ Ok (record { decision = decision.Committed; created_at = m })
     says (Err x) e k = none_some k
-    says (Ok d) e k = let t = told d.decision d.created_at k in e ∙ (λ i. Ok (record { decision = t.0 i; created_at = t.1 i }))
+    says (Ok d) e k = let t = answered d.decision d.created_at k in e ∙ (λ i. Ok (record { decision = t.0 i; created_at = t.1 i }))
 
     by : (b : Bool) → same_key r.key row ≡ b → (if b then commit_moment (decided r) else None) ≡ Some m → (r.key ≡ row) × (decision_in r ≡ Ok (record { decision = decision.Committed; created_at = m }))
     by true e k = (same_key_exact r.key row e, says (decision_in r) refl k)
@@ -282,11 +274,11 @@ pub moment_shown : (past : List Labelled) (t : ℕ) (m : ℤ) → In (moments (o
 moment_shown past t m i =
     let a = kept_in (row_moment (coordinator_key_of (id t))) (observed past) m i in
     let s = moment_says a.0 (coordinator_key_of (id t)) m a.2 in
-    record { row = a.0; shown = shown_is past a.0 a.1; key = s.0; says = s.1 }
+    record { row = a.0; observed = shown_is past a.0 a.1; key = s.0; says = s.1 }
 
 pub shown_moment : (past : List Labelled) (t : ℕ) (m : ℤ) → IsRowObserved (all_labelled past) t decision.Committed m → In (moments (observed past) (coordinator_key_of (id t))) m
 shown_moment past t m s =
-    in_kept (row_moment (coordinator_key_of (id t))) (observed past) s.row m (is_shown past s.row s.shown) (ap (λ b. if b then commit_moment (decided s.row) else None) (same_key_of s.row.key (coordinator_key_of (id t)) s.key) ∙ ap (λ o. commit_moment (result_ok o)) s.says)
+    in_kept (row_moment (coordinator_key_of (id t))) (observed past) s.row m (is_shown past s.row s.observed) (ap (λ b. if b then commit_moment (decided s.row) else None) (same_key_of s.row.key (coordinator_key_of (id t)) s.key) ∙ ap (λ o. commit_moment (result_ok o)) s.says)
 
 ---- rolled
 

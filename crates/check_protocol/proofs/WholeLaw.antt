@@ -2,12 +2,9 @@
 use Rattle.std.proofs.Common.{◌≡◌, ℕ, Bool, true, false, List, [], ◌∷◌, Option, Some, None, ◌⊎◌, inl, inr, refl, sym, ap, subst, ◌∙◌}
 use Rattle.std.specs.Prelude.{◌&&◌, ◌||◌, ◌↔◌, not, Result, Ok, Err, IfOk, IsTrue}
 use Rattle.std.specs.Option.{option_map}
-use Rattle.sdb_types.specs.declared.key.Key.{Key}
-use Rattle.sdb_types.specs.declared.txid.TxId.{TxId}
+use Rattle.check_protocol.specs.Types.{Answer, Event, Key, TxId}
 use Rattle.sdb_record.specs.Coordinator.{coordinator_key_of}
-use Rattle.sdb_model.specs.declared.answer.Answer.{Answer}
 use Rattle.sdb_model.specs.declared.answer.Answer.TheVariants as answer
-use Rattle.sdb_model.specs.declared.event.Event.{Event}
 use Rattle.sdb_model.specs.declared.event.Event.TheVariants as event
 use Rattle.law_protocol.specs.Lawful.{id, protocol_state, answer_of, is_denial, IsEnabled, MayAnswer, MayDeny, IsKnownAborted, IsBadRow, IsLawful}
 use Rattle.check_protocol.specs.declared.plan.Plan.{Plan}
@@ -58,7 +55,7 @@ is_play : (past : List Labelled) (plans : List Plan) (e : Event) (r : Action) �
 is_play past plans e action.Other l m = m
 is_play past plans e (action.Begins t c) l m = is_begin past e t.0 c m
 is_play past plans e (action.Takes t) l m = is_take past plans e t.0 m
-is_play past plans e (action.Prepares t k w) l m = is_prepare past plans e t.0 k w m (lawful_sound plans past t.0 l (sym (taken_is past t.0) ∙ m.within.taken) k m.write m.at)
+is_play past plans e (action.Prepares t k w) l m = is_prepare past plans e t.0 k w m (lawful_sound plans past t.0 l (sym (taken_is past t.0) ∙ m.within.accepted) k m.write m.at)
 is_play past plans e (action.Checks t i) l m = is_check past plans e t.0 i m
 is_play past plans e (action.Decides t w) l m = is_decide past plans e t.0 w m
 is_play past plans e (action.Aborts t moment w) l m = is_abort past e t.0 moment w m
@@ -84,7 +81,7 @@ tell_is plans past p h e = elim (either (not (is_committed_answer (answer_of p.e
     by None e m = clash (sym m)
     by (Some t) e m =
         let k = known_is (p ∷ past) plans t.0 (right (commit_started_in past t.0) (is_known_committed (observed (p ∷ past)) (p ∷ past) t.0) m) in
-        record { t = t.0; ends = ap (option_map (λ x. x.0)) e; taken = taken_is past t.0 ∙ left (commit_started_in past t.0) (is_known_committed (observed (p ∷ past)) (p ∷ past) t.0) m; moment = k.0; known = k.1 }
+        record { t = t.0; ends = ap (option_map (λ x. x.0)) e; accepted = taken_is past t.0 ∙ left (commit_started_in past t.0) (is_known_committed (observed (p ∷ past)) (p ∷ past) t.0) m; moment = k.0; known = k.1 }
 
 is_tell : (plans : List Plan) (past : List Labelled) (p : Labelled) → (answer_of p.event ≡ Some answer.Committed → MayAnswer (plan_in plans) (all_labelled past) (labelled_of p)) → (not (is_committed_answer (answer_of p.event)) || may_answer (observed (p ∷ past)) (p ∷ past) past p.ends) ≡ true
 is_tell plans past p f = elim (decide (is_committed_answer (answer_of p.event))) [
@@ -96,16 +93,16 @@ is_tell plans past p f = elim (decide (is_committed_answer (answer_of p.event)))
     by None m e = none_some e
     by (Some t) m e =
         let same = some_is t.0 m.t e in
-        both (commit_started_in past t.0) (is_known_committed (observed (p ∷ past)) (p ∷ past) t.0) (ap (commit_started_in past) same ∙ sym (taken_is past m.t) ∙ m.taken) (ap (is_known_committed (observed (p ∷ past)) (p ∷ past)) same ∙ is_known (p ∷ past) plans m.t m.moment m.known)
+        both (commit_started_in past t.0) (is_known_committed (observed (p ∷ past)) (p ∷ past) t.0) (ap (commit_started_in past) same ∙ sym (taken_is past m.t) ∙ m.accepted) (ap (is_known_committed (observed (p ∷ past)) (p ∷ past)) same ∙ is_known (p ∷ past) plans m.t m.moment m.known)
 
 abbrev Denied : List Labelled → ℕ → Type 0
 Denied whole t = IsKnownAborted (all_labelled whole) t ⊎ ((protocol_state (all_labelled whole)).risked t ≡ false) ⊎ IsBadRow (all_labelled whole) t
 
 denied_is : (whole past : List Labelled) (t : TxId) → may_deny (observed whole) whole past (Some t) ≡ true → commit_started_in past t.0 ≡ true → Denied whole t.0
-denied_is whole past t h taken =
+denied_is whole past t h accepted =
     let bad = observes_bad_row (observed whole) (coordinator_key_of (id t.0)) in
     elim (either (not (commit_started_in past t.0)) (is_known_aborted (observed whole) whole t.0 || (not (risked_in whole t.0) || bad)) h) [
-      | inl n ↦ not_both (commit_started_in past t.0) taken (not_true (commit_started_in past t.0) n)
+      | inl n ↦ not_both (commit_started_in past t.0) accepted (not_true (commit_started_in past t.0) n)
       | inr a ↦ elim (either (is_known_aborted (observed whole) whole t.0) (not (risked_in whole t.0) || bad) a) [
         | inl k ↦ inl (aborted_is whole t.0 k)
         | inr b ↦ elim (either (not (risked_in whole t.0)) bad b) [ inl n ↦ inr (inl (risked_is whole t.0 ∙ not_true (risked_in whole t.0) n)) | inr s ↦ inr (inr (bad_row_shown whole t.0 s)) ]
@@ -126,21 +123,21 @@ is_denied whole past t f = elim (decide (commit_started_in past t.0)) [
         or_right (is_known_aborted (observed whole) whole t.0) (not (risked_in whole t.0) || observes_bad_row (observed whole) (coordinator_key_of (id t.0))) (or_right (not (risked_in whole t.0)) (observes_bad_row (observed whole) (coordinator_key_of (id t.0))) (shows_bad_row_of whole t.0 s))
 
 deny_is : (past : List Labelled) (p : Labelled) → (not (denies (answer_of p.event)) || may_deny (observed (p ∷ past)) (p ∷ past) past p.ends) ≡ true → (a : Answer) → answer_of p.event ≡ Some a → is_denial a ≡ true → MayDeny (all_labelled past) (labelled_of p)
-deny_is past p h a e d t ends taken = elim (either (not (denies (answer_of p.event))) (may_deny (observed (p ∷ past)) (p ∷ past) past p.ends) h) [
+deny_is past p h a e d t ends accepted = elim (either (not (denies (answer_of p.event))) (may_deny (observed (p ∷ past)) (p ∷ past) past p.ends) h) [
   | inl n ↦ not_both (denies (answer_of p.event)) (ap denies e ∙ d) (not_true (denies (answer_of p.event)) n)
   | inr m ↦ by p.ends ends m
 ]
   where
     by : (o : Option TxId) → option_map (λ x. x.0) o ≡ Some t → may_deny (observed (p ∷ past)) (p ∷ past) past o ≡ true → Denied (p ∷ past) t
     by None e m = none_some e
-    by (Some u) e m = let same = some_is u.0 t e in subst (λ x. Denied (p ∷ past) x) same (denied_is (p ∷ past) past u m (ap (commit_started_in past) same ∙ sym (taken_is past t) ∙ taken))
+    by (Some u) e m = let same = some_is u.0 t e in subst (λ x. Denied (p ∷ past) x) same (denied_is (p ∷ past) past u m (ap (commit_started_in past) same ∙ sym (taken_is past t) ∙ accepted))
 
 is_deny : (past : List Labelled) (p : Labelled) → ((a : Answer) → answer_of p.event ≡ Some a → is_denial a ≡ true → MayDeny (all_labelled past) (labelled_of p)) → (not (denies (answer_of p.event)) || may_deny (observed (p ∷ past)) (p ∷ past) past p.ends) ≡ true
 is_deny past p f = by (answer_of p.event) refl
   where
     of_ends : (o : Option TxId) → p.ends ≡ o → MayDeny (all_labelled past) (labelled_of p) → may_deny (observed (p ∷ past)) (p ∷ past) past o ≡ true
     of_ends None e m = refl
-    of_ends (Some u) e m = is_denied (p ∷ past) past u (λ taken. m u.0 (ap (option_map (λ x. x.0)) e) (taken_is past u.0 ∙ taken))
+    of_ends (Some u) e m = is_denied (p ∷ past) past u (λ accepted. m u.0 (ap (option_map (λ x. x.0)) e) (taken_is past u.0 ∙ accepted))
 
     by : (o : Option Answer) → answer_of p.event ≡ o → (not (denies o) || may_deny (observed (p ∷ past)) (p ∷ past) past p.ends) ≡ true
     by None e = refl
@@ -155,20 +152,20 @@ pub lawful_is : (plans : List Plan) (past : List Labelled) → obeys_rules plans
 lawful_is plans [] h = tt
 lawful_is plans (p ∷ past) h =
     let plays = acts_well (observed past) past plans p.event p.action in
-    let tells = not (is_committed_answer (answer_of p.event)) || may_answer (observed (p ∷ past)) (p ∷ past) past p.ends in
+    let is_known = not (is_committed_answer (answer_of p.event)) || may_answer (observed (p ∷ past)) (p ∷ past) past p.ends in
     let denies_it = not (denies (answer_of p.event)) || may_deny (observed (p ∷ past)) (p ∷ past) past p.ends in
-    let one = right (obeys_rules plans past) (plays && (tells && denies_it)) h in
-    let two = right plays (tells && denies_it) one in
-    (lawful_is plans past (left (obeys_rules plans past) (plays && (tells && denies_it)) h), play_is past plans p.event p.action (left plays (tells && denies_it) one), tell_is plans past p (left tells denies_it two), deny_is past p (right tells denies_it two))
+    let one = right (obeys_rules plans past) (plays && (knows && denies_it)) h in
+    let two = right plays (knows && denies_it) one in
+    (lawful_is plans past (left (obeys_rules plans past) (plays && (knows && denies_it)) h), play_is past plans p.event p.action (left plays (knows && denies_it) one), tell_is plans past p (left knows denies_it two), deny_is past p (right knows denies_it two))
 
 pub is_lawful : (plans : List Plan) (past : List Labelled) → IsLawful (plan_in plans) (all_labelled past) → obeys_rules plans past ≡ true
 is_lawful plans [] l = refl
 is_lawful plans (p ∷ past) l =
     let plays = acts_well (observed past) past plans p.event p.action in
-    let tells = not (is_committed_answer (answer_of p.event)) || may_answer (observed (p ∷ past)) (p ∷ past) past p.ends in
+    let is_known = not (is_committed_answer (answer_of p.event)) || may_answer (observed (p ∷ past)) (p ∷ past) past p.ends in
     let denies_it = not (denies (answer_of p.event)) || may_deny (observed (p ∷ past)) (p ∷ past) past p.ends in
-    both (obeys_rules plans past) (plays && (tells && denies_it)) (is_lawful plans past l.0)
-    (both plays (tells && denies_it) (is_play past plans p.event p.action l.0 l.1) (both tells denies_it (is_tell plans past p l.2) (is_deny past p l.3)))
+    both (obeys_rules plans past) (plays && (knows && denies_it)) (is_lawful plans past l.0)
+    (both plays (knows && denies_it) (is_play past plans p.event p.action l.0 l.1) (both knows denies_it (is_tell plans past p l.2) (is_deny past p l.3)))
 
 -- what passes the tests or not is so of the law
 pub decided : {E : Type 0} (plans : List Plan) (past : List Labelled) (r : Result Bool E) → IfOk r (λ w. w ≡ obeys_rules plans past) → IfOk r (λ w. IsTrue w ↔ IsLawful (plan_in plans) (all_labelled past))

@@ -1,3 +1,4 @@
+pub mod Types
 pub mod Values
 pub mod Started
 pub mod Observed

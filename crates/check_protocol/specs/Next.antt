@@ -1,8 +1,6 @@
 -- What the law of the tests speaks of.
 use Rattle.std.specs.Prelude.{ℕ, List}
-use Rattle.sdb_types.specs.declared.key.Key.{Key}
-use Rattle.sdb_record.specs.declared.coordinator.Decision.{Decision}
-use Rattle.sdb_model.specs.declared.event.Event.{Event}
+use Rattle.check_protocol.specs.Types.{Decision, Event, Key}
 use Rattle.law_protocol.specs.Lawful as lawful
 use Rattle.law_protocol.specs.Lawful.{IsLawful, MayPrepare, MayRollBy}
 use Rattle.law_protocol.specs.Plan as law

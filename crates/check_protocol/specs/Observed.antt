@@ -4,25 +4,18 @@ use Rattle.std.specs.Option.{option_map_or}
 use Rattle.std.specs.Result.{result_ok}
 use Rattle.std.specs.Ordering.{is_eq}
 use Rattle.std.specs.List.{list_any, filter_map}
-use Rattle.sdb_types.specs.declared.key.Key.{Key}
-use Rattle.sdb_types.specs.declared.pair.Pair.{Pair}
-use Rattle.sdb_types.specs.declared.txid.TxId.{TxId}
-use Rattle.sdb_types.specs.declared.value.Value.{Value}
+use Rattle.check_protocol.specs.Types.{Decided, Event, Key, Pair, Record, Reply, TxId, Value}
 use Rattle.sdb_types.specs.declared.value.Value.TheVariants as value
-use Rattle.sdb_types.specs.declared.record.Record.{Record}
 use Rattle.sdb_types.specs.declared.record.State.TheVariants.{Deleted, Committed}
-use Rattle.sdb_types.specs.declared.record.Reply.{Reply}
 use Rattle.sdb_types.specs.declared.record.Reply.TheVariants as reply
 use Rattle.sdb_types.specs.Columns.{column}
 use Rattle.sdb_types.specs.Contents.{tx_id, has_value, record_among}
 use Rattle.sdb_types.specs.Order.{value_cmp, same_key}
-use Rattle.sdb_record.specs.declared.coordinator.Decided.{Decided}
 use Rattle.sdb_record.specs.Coordinator.{coordinator_key_of, decision_in}
 use Rattle.sdb_record.specs.Meta.{id_in, id_in_value, is_in}
 use Rattle.sdb_record.specs.Names.{tx_tombstone, before_name, base_name, same_name}
 use Rattle.sdb_record.specs.Parts.{is_before_pair}
 use Rattle.sdb_record.specs.Rolls.{forward_record, is_tombstone}
-use Rattle.sdb_model.specs.declared.event.Event.{Event}
 use Rattle.sdb_model.specs.declared.event.Event.TheVariants as event
 use Rattle.law_protocol.specs.Lawful.{id}
 use Rattle.check_protocol.specs.Values.{same_record}

@@ -2,30 +2,19 @@
 use Rattle.std.specs.Prelude.{ℕ, ℤ, Bool, true, false, not, nat_lt, ◌^◌, ◌&&◌, ◌||◌, ◌==◌, if◌then◌else◌, List, [], ◌∷◌, ◌++◌, Option, Some, None, is_some, slice_get}
 use Rattle.std.specs.Option.{option_map_or}
 use Rattle.std.specs.List.{list_any, list_all, enumerate_from}
-use Rattle.sdb_types.specs.declared.key.Key.{Key}
-use Rattle.sdb_types.specs.declared.txid.TxId.{TxId}
-use Rattle.sdb_types.specs.declared.record.Record.{Record}
+use Rattle.check_protocol.specs.Types.{Answer, Condition, Decision, Event, Key, Read, Record, Reply, Request, Scan, TxId, Write}
 use Rattle.sdb_types.specs.declared.record.State.TheVariants.{Committed}
-use Rattle.sdb_types.specs.declared.record.Condition.{Condition}
 use Rattle.sdb_types.specs.declared.record.Condition.TheVariants as condition
-use Rattle.sdb_types.specs.declared.record.Request.{Request}
 use Rattle.sdb_types.specs.declared.record.Request.TheVariants as ask
-use Rattle.sdb_types.specs.declared.record.Reply.{Reply}
 use Rattle.sdb_types.specs.declared.record.Reply.TheVariants as reply
 use Rattle.sdb_types.specs.Contents.{in_span, record_among}
 use Rattle.sdb_types.specs.Order.{same_key}
-use Rattle.sdb_record.specs.declared.access.Read.{Read}
-use Rattle.sdb_record.specs.declared.access.Scan.{Scan}
-use Rattle.sdb_record.specs.declared.coordinator.Decision.{Decision}
 use Rattle.sdb_record.specs.declared.coordinator.Decision.TheVariants as decision
-use Rattle.sdb_record.specs.declared.write.Write.{Write}
 use Rattle.sdb_record.specs.Coordinator.{coordinator_key_of, coordinator_row_of, is_coordinator_table}
 use Rattle.sdb_record.specs.Meta.{is_in, is_transactional, is_moment, is_committed}
 use Rattle.sdb_record.specs.Moved.{version_of, condition_of, is_unchanged, same_version}
 use Rattle.sdb_record.specs.Rolls.{is_change, prepared_record}
 use Rattle.sdb_record.specs.Among.{version_among, write_among}
-use Rattle.sdb_model.specs.declared.answer.Answer.{Answer}
-use Rattle.sdb_model.specs.declared.event.Event.{Event}
 use Rattle.sdb_model.specs.declared.event.Event.TheVariants as event
 use Rattle.sdb_model.specs.Sql.{reads_begin, reads_commit}
 use Rattle.sdb_model.specs.ReadSet.{version_read}
@@ -175,7 +164,7 @@ abbrev pub with_own : Bool → ℤ → List ℤ → List ℤ
 with_own true moment ms = ms ++ moment ∷ []
 with_own false moment ms = ms
 
--- its own moment is one of them: it won, or its COMMIT was taken and its row was observed
+-- its own moment is one of them: it won, or its COMMIT was accepted and its row was observed
 unfoldable pub has_own_moment : List Record → List Labelled → ℕ → Bool
 has_own_moment rs past t = won_in past t || (commit_started_in past t && observes_commit rs (coordinator_key_of (id t)))
 

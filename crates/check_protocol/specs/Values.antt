@@ -1,13 +1,10 @@
 -- What the values mean in the law.
 use Rattle.std.specs.Prelude.{ℕ, ℤ, pos, Bool, ◌==◌, List, [], map, Option, find}
 use Rattle.std.specs.Option.{option_map, option_map_or}
-use Rattle.sdb_types.specs.declared.record.Record.{Record}
-use Rattle.sdb_types.specs.declared.record.Request.{Request}
-use Rattle.sdb_types.specs.declared.record.Span.{Span}
+use Rattle.check_protocol.specs.Types.{Record, Request, Span, Write}
 use Rattle.sdb_types.specs.contracts.record.RecordPartialEq.TheImpl as record_eq
 use Rattle.sdb_types.specs.contracts.record.SpanPartialEq.TheImpl as span_eq
 use Rattle.sdb_types.specs.contracts.record.RequestPartialEq.TheImpl as request_eq
-use Rattle.sdb_record.specs.declared.write.Write.{Write}
 use Rattle.sdb_model.specs.ReadSet as as_read
 use Rattle.law_protocol.specs.Plan as law
 use Rattle.law_protocol.specs.History as part

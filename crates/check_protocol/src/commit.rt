@@ -1,4 +1,4 @@
-//! Whether a COMMIT may be taken: its write set and its read set against what was observed.
+//! Whether a COMMIT may be accepted: its write set and its read set against what was observed.
 ghost use Rattle.std.specs.Prelude.{◌≡◌, ◌&&◌, if◌then◌else◌, IfOk};
 ghost use Rattle.std.specs.Option.{option_copied, option_map_or};
 ghost use Rattle.std.specs.List.{list_all};
@@ -107,41 +107,45 @@ pub fn prepared_by(
 
 fn is_fine_write(
     alloc: Global,
-    shown: &[Record],
+    observed: &[Record],
     key: &Key,
     write: &Write,
 ) -> Result<bool, NoMemory>
-    ensures { IfOk result (λ valid. valid ≡ is_valid_write_lem shown.now key.now write.now) }
+    ensures { IfOk result (λ valid. valid ≡ is_valid_write_lem observed.now key.now write.now) }
 {
     if !is_sound(alloc, write) || !is_data(key) {
         return Ok(false);
     }
     match &write.base {
-        Some(base) => is_settled(alloc, shown, key, base),
+        Some(base) => is_settled(alloc, observed, key, base),
         None => Ok(true),
     }
 }
 
 fn is_fine_key(
     alloc: Global,
-    shown: &[Record],
+    observed: &[Record],
     writes: &[Write],
     write: &Write,
 ) -> Result<bool, NoMemory>
-    ensures { IfOk result (λ valid. valid ≡ is_valid_key_lem shown.now writes.now write.now) }
+    ensures { IfOk result (λ valid. valid ≡ is_valid_key_lem observed.now writes.now write.now) }
 {
     match write_of(writes, &write.key) {
-        Some(first) => is_fine_write(alloc, shown, &write.key, first),
+        Some(first) => is_fine_write(alloc, observed, &write.key, first),
         None => Ok(true),
     }
 }
 
 /// Whether each key is written as a transaction may, over a committed record that a read came to.
-pub fn are_valid_writes(alloc: Global, shown: &[Record], writes: &[Write]) -> Result<bool, NoMemory>
-    ensures { IfOk result (λ valid. valid ≡ are_valid_writes_lem shown.now writes.now writes.now) }
+pub fn are_valid_writes(
+    alloc: Global,
+    observed: &[Record],
+    writes: &[Write],
+) -> Result<bool, NoMemory>
+    ensures { IfOk result (λ valid. valid ≡ are_valid_writes_lem observed.now writes.now writes.now) }
 {
     for write in writes {
-        if !is_fine_key(alloc, shown, writes, write)? {
+        if !is_fine_key(alloc, observed, writes, write)? {
             return Ok(false);
         }
     }
@@ -150,60 +154,60 @@ pub fn are_valid_writes(alloc: Global, shown: &[Record], writes: &[Write]) -> Re
 
 fn is_fine_version(
     alloc: Global,
-    shown: &[Record],
+    observed: &[Record],
     key: &Key,
     version: Option<TxId>,
 ) -> Result<bool, NoMemory>
-    ensures { IfOk result (λ valid. valid ≡ is_valid_version_lem shown.now key.now version) }
+    ensures { IfOk result (λ valid. valid ≡ is_valid_version_lem observed.now key.now version) }
 {
     match version {
-        Some(id) => settles(alloc, shown, key, id),
+        Some(id) => settles(alloc, observed, key, id),
         None => Ok(true),
     }
 }
 
 fn is_fine_found(
     alloc: Global,
-    shown: &[Record],
+    observed: &[Record],
     scan: &Scan,
     read: &Read,
 ) -> Result<bool, NoMemory>
-    ensures { IfOk result (λ valid. valid ≡ is_valid_found_lem shown.now scan.now read.now) }
+    ensures { IfOk result (λ valid. valid ≡ is_valid_found_lem observed.now scan.now read.now) }
 {
     if !scan.span.contains(&read.key) {
         return Ok(true);
     }
     let version = version_among(scan.found.as_slice(), &read.key);
-    is_fine_version(alloc, shown, &read.key, version)
+    is_fine_version(alloc, observed, &read.key, version)
 }
 
-fn is_fine_scan(alloc: Global, shown: &[Record], scan: &Scan) -> Result<bool, NoMemory>
-    ensures { IfOk result (λ valid. valid ≡ list_all (is_valid_found_lem shown.now scan.now) scan.now.found) }
+fn is_fine_scan(alloc: Global, observed: &[Record], scan: &Scan) -> Result<bool, NoMemory>
+    ensures { IfOk result (λ valid. valid ≡ list_all (is_valid_found_lem observed.now scan.now) scan.now.found) }
 {
     let found = scan.found.as_slice();
     for read in found {
-        if !is_fine_found(alloc, shown, scan, read)? {
+        if !is_fine_found(alloc, observed, scan, read)? {
             return Ok(false);
         }
     }
     Ok(true)
 }
 
-fn is_fine_note(alloc: Global, shown: &[Record], item: &ReadItem) -> Result<bool, NoMemory>
-    ensures { IfOk result (λ valid. valid ≡ is_valid_item_lem shown.now item.now) }
+fn is_fine_note(alloc: Global, observed: &[Record], item: &ReadItem) -> Result<bool, NoMemory>
+    ensures { IfOk result (λ valid. valid ≡ is_valid_item_lem observed.now item.now) }
 {
     match item {
         ReadItem::KeyRead(read) => {
             if !is_data(&read.key) {
                 return Ok(false);
             }
-            is_fine_version(alloc, shown, &read.key, read.version)
+            is_fine_version(alloc, observed, &read.key, read.version)
         }
         ReadItem::SpanRead(scan) => {
             if is_coordinator(&scan.span.table) {
                 return Ok(false);
             }
-            is_fine_scan(alloc, shown, scan)
+            is_fine_scan(alloc, observed, scan)
         }
     }
 }
@@ -211,13 +215,13 @@ fn is_fine_note(alloc: Global, shown: &[Record], item: &ReadItem) -> Result<bool
 /// Whether each version read is that of a committed record that a read came to.
 pub fn are_valid_items(
     alloc: Global,
-    shown: &[Record],
+    observed: &[Record],
     read_set: &[ReadItem],
 ) -> Result<bool, NoMemory>
-    ensures { IfOk result (λ valid. valid ≡ list_all (is_valid_item_lem shown.now) read_set.now) }
+    ensures { IfOk result (λ valid. valid ≡ list_all (is_valid_item_lem observed.now) read_set.now) }
 {
     for item in read_set {
-        if !is_fine_note(alloc, shown, item)? {
+        if !is_fine_note(alloc, observed, item)? {
             return Ok(false);
         }
     }

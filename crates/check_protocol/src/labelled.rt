@@ -28,7 +28,7 @@ pub enum Action {
     Other,
     /// A transaction of a client begins.
     Begins(TxId, u32),
-    /// Its COMMIT is taken.
+    /// Its COMMIT is accepted.
     Takes(TxId),
     /// Its prepare of a key.
     Prepares(TxId, Key, Ack),

@@ -16,18 +16,18 @@ use std::alloc::Global;
 
 fn may_play(
     alloc: Global,
-    shown: &[Record],
+    found_in: &[Record],
     past: &[Labelled],
     plans: &[Plan],
     event: &Event,
     action: &Action,
 ) -> Result<bool, NoMemory>
-    ensures { IfOk result (λ well. well ≡ acts_well shown.now past.now plans.now event.now action.now) }
+    ensures { IfOk result (λ well. well ≡ acts_well found_in.now past.now plans.now event.now action.now) }
 {
     match action {
         Action::Other => Ok(is_quiet(event)),
         Action::Begins(id, client) => may_begin(alloc, past, event, *id, *client),
-        Action::Takes(id) => may_take(alloc, shown, past, plans, event, *id),
+        Action::Takes(id) => may_take(alloc, found_in, past, plans, event, *id),
         Action::Prepares(id, key, word) => {
             may_prepare(alloc, past, plans, event, *id, key, *word)
         }
@@ -35,9 +35,9 @@ fn may_play(
         Action::Decides(id, word) => may_decide(alloc, past, plans, event, *id, *word),
         Action::Aborts(id, moment, word) => may_abort(alloc, event, *id, *moment, *word),
         Action::Rolls(id, key, decision) => {
-            may_roll(alloc, shown, past, plans, event, *id, key, *decision)
+            may_roll(alloc, found_in, past, plans, event, *id, key, *decision)
         }
-        Action::Removes(key, id) => may_remove(alloc, shown, past, event, key, *id),
+        Action::Removes(key, id) => may_remove(alloc, found_in, past, event, key, *id),
         Action::Ends(_) => Ok(false),
         Action::Stops(client) => Ok(may_stop(event, *client)),
     }

@@ -1,7 +1,6 @@
 //! What the searches return is what the law calls the protocol's state, observed and settled.
 ghost use Rattle.std.specs.Prelude.{◌≡◌, ◌≢◌, ◌↔◌, ℕ, ℤ, List, IsTrue, true, false};
-ghost use Rattle.sdb_types.specs.declared.key.Key.{Key};
-ghost use Rattle.sdb_types.specs.declared.record.Record.{Record};
+ghost use Rattle.check_protocol.specs.Types.{Key, Record};
 ghost use Rattle.sdb_record.specs.declared.coordinator.Decision.TheVariants.{Committed, Aborted};
 ghost use Rattle.sdb_record.specs.Coordinator.{coordinator_key_of};
 ghost use Rattle.law_protocol.specs.History.{Preparing, Deciding};
@@ -17,9 +16,9 @@ pub fn state_is_protocol_state()
     ensures owner { (past : List Labelled) (u : ℕ) → (protocol_state (all_labelled past)).owner u ≡ owner_of past u }
     ensures is_open { (past : List Labelled) (u : ℕ) → (protocol_state (all_labelled past)).is_open u ≡ open_in past u }
     ensures stopped { (past : List Labelled) (c : ℕ) → (protocol_state (all_labelled past)).stopped c ≡ stopped_in past c }
-    ensures taken { (past : List Labelled) (u : ℕ) → (protocol_state (all_labelled past)).taken u ≡ commit_started_in past u }
+    ensures accepted { (past : List Labelled) (u : ℕ) → (protocol_state (all_labelled past)).accepted u ≡ commit_started_in past u }
     ensures asked { (past : List Labelled) (u : ℕ) (k : Key) → (protocol_state (all_labelled past)).asked u k ≡ asked_in past u k }
-    ensures told { (past : List Labelled) (u : ℕ) (k : Key) → (protocol_state (all_labelled past)).told u k ≡ acknowledged_in past u k }
+    ensures answered { (past : List Labelled) (u : ℕ) (k : Key) → (protocol_state (all_labelled past)).answered u k ≡ acknowledged_in past u k }
     ensures checked { (past : List Labelled) (u i : ℕ) → (protocol_state (all_labelled past)).checked u i ≡ checked_in past u i }
     ensures preparing { (past : List Labelled) (u : ℕ) → (staged_in past u ≡ false) ↔ ((protocol_state (all_labelled past)).stage u ≡ Preparing) }
     ensures deciding { (past : List Labelled) (u : ℕ) → (deciding_in past u ≡ false) ↔ ((protocol_state (all_labelled past)).stage u ≢ Deciding) }

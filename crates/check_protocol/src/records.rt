@@ -366,10 +366,10 @@ fn has_trace(alloc: Global, rec: &Record, trace: Trace) -> bool
     }
 }
 
-fn any(alloc: Global, shown: &[Record], trace: Trace) -> bool
-    ensures { result ≡ list_any (has_trace_lem trace.entry) shown.now }
+fn any(alloc: Global, found_in: &[Record], trace: Trace) -> bool
+    ensures { result ≡ list_any (has_trace_lem trace.entry) found_in.now }
 {
-    for rec in shown {
+    for rec in found_in {
         if has_trace(alloc, rec, trace) {
             return true;
         }
@@ -378,23 +378,23 @@ fn any(alloc: Global, shown: &[Record], trace: Trace) -> bool
 }
 
 /// Whether a row of this key was observed that says COMMITTED.
-pub fn observes_commit(alloc: Global, shown: &[Record], row: &Key) -> bool
-    ensures { result ≡ observes_commit_lem shown.now row.now }
+pub fn observes_commit(alloc: Global, found_in: &[Record], row: &Key) -> bool
+    ensures { result ≡ observes_commit_lem found_in.now row.now }
 {
-    any(alloc, shown, Trace::Commit(row))
+    any(alloc, found_in, Trace::Commit(row))
 }
 
-pub fn observes_abort(alloc: Global, shown: &[Record], row: &Key) -> bool
-    ensures { result ≡ observes_abort_lem shown.now row.now }
+pub fn observes_abort(alloc: Global, found_in: &[Record], row: &Key) -> bool
+    ensures { result ≡ observes_abort_lem found_in.now row.now }
 {
-    any(alloc, shown, Trace::Abort(row))
+    any(alloc, found_in, Trace::Abort(row))
 }
 
 /// Whether a row of this key was observed that is none.
-pub fn observes_bad_row(alloc: Global, shown: &[Record], row: &Key) -> bool
-    ensures { result ≡ observes_bad_row_lem shown.now row.now }
+pub fn observes_bad_row(alloc: Global, found_in: &[Record], row: &Key) -> bool
+    ensures { result ≡ observes_bad_row_lem found_in.now row.now }
 {
-    any(alloc, shown, Trace::BadRow(row))
+    any(alloc, found_in, Trace::BadRow(row))
 }
 
 fn add_moment(alloc: Global, found: &mut Seq<i64>, row: &Key, rec: &Record) -> Result<(), NoMemory>
@@ -407,11 +407,11 @@ fn add_moment(alloc: Global, found: &mut Seq<i64>, row: &Key, rec: &Record) -> R
 }
 
 /// The moments of the rows COMMITTED of this key that were observed.
-pub fn moments(alloc: Global, shown: &[Record], row: &Key) -> Result<Seq<i64>, NoMemory>
-    ensures { IfOk result (λ found. found ≡ moments_lem shown.now row.now) }
+pub fn moments(alloc: Global, found_in: &[Record], row: &Key) -> Result<Seq<i64>, NoMemory>
+    ensures { IfOk result (λ found. found ≡ moments_lem found_in.now row.now) }
 {
     let mut found = Seq::new(alloc);
-    for rec in shown {
+    for rec in found_in {
         add_moment(alloc, &mut found, row, rec)?;
     }
     Ok(found)
@@ -446,20 +446,20 @@ pub fn is_forward(
     Ok(false)
 }
 
-fn is_itself(alloc: Global, shown: &[Record], key: &Key, base: &Record) -> bool
-    ensures { result ≡ is_itself_lem shown.now key.now base.now }
+fn is_itself(alloc: Global, found_in: &[Record], key: &Key, base: &Record) -> bool
+    ensures { result ≡ is_itself_lem found_in.now key.now base.now }
 {
-    any(alloc, shown, Trace::Itself(base)) && (is_same_key(&base.key, key) && is_committed(base))
+    any(alloc, found_in, Trace::Itself(base)) && (is_same_key(&base.key, key) && is_committed(base))
 }
 
 fn forward_from(
     alloc: Global,
-    shown: &[Record],
+    found_in: &[Record],
     key: &Key,
     base: &Record,
     rec: &Record,
 ) -> Result<bool, NoMemory>
-    ensures { IfOk result (λ found. found ≡ forward_from_lem shown.now key.now base.now rec.now) }
+    ensures { IfOk result (λ found. found ≡ forward_from_lem found_in.now key.now base.now rec.now) }
 {
     if !is_held(rec, key) {
         return Ok(false);
@@ -468,17 +468,22 @@ fn forward_from(
         None => Ok(false),
         Some(id) => {
             let row = coordinator_key(alloc, id)?;
-            let moments = moments(alloc, shown, &row)?;
+            let moments = moments(alloc, found_in, &row)?;
             is_forward(alloc, rec, moments.as_slice(), base)
         }
     }
 }
 
-fn any_forward(alloc: Global, shown: &[Record], key: &Key, base: &Record) -> Result<bool, NoMemory>
-    ensures { IfOk result (λ found. found ≡ list_any (forward_from_lem shown.now key.now base.now) shown.now) }
+fn any_forward(
+    alloc: Global,
+    found_in: &[Record],
+    key: &Key,
+    base: &Record,
+) -> Result<bool, NoMemory>
+    ensures { IfOk result (λ found. found ≡ list_any (forward_from_lem found_in.now key.now base.now) found_in.now) }
 {
-    for rec in shown {
-        if forward_from(alloc, shown, key, base, rec)? {
+    for rec in found_in {
+        if forward_from(alloc, found_in, key, base, rec)? {
             return Ok(true);
         }
     }
@@ -488,43 +493,48 @@ fn any_forward(alloc: Global, shown: &[Record], key: &Key, base: &Record) -> Res
 /// Whether a read of the key comes to this committed record.
 pub fn is_settled(
     alloc: Global,
-    shown: &[Record],
+    found_in: &[Record],
     key: &Key,
     base: &Record,
 ) -> Result<bool, NoMemory>
-    ensures { IfOk result (λ found. found ≡ is_settled_lem shown.now key.now base.now) }
+    ensures { IfOk result (λ found. found ≡ is_settled_lem found_in.now key.now base.now) }
 {
-    if is_itself(alloc, shown, key, base) || any(alloc, shown, Trace::Back(key, base)) {
+    if is_itself(alloc, found_in, key, base) || any(alloc, found_in, Trace::Back(key, base)) {
         return Ok(true);
     }
-    any_forward(alloc, shown, key, base)
+    any_forward(alloc, found_in, key, base)
 }
 
 /// Whether a read of the key comes to a committed record of this transaction.
-pub fn settles(alloc: Global, shown: &[Record], key: &Key, id: TxId) -> Result<bool, NoMemory>
-    ensures { IfOk result (λ found. found ≡ settles_lem shown.now key.now id.0) }
+pub fn settles(alloc: Global, found_in: &[Record], key: &Key, id: TxId) -> Result<bool, NoMemory>
+    ensures { IfOk result (λ found. found ≡ settles_lem found_in.now key.now id.0) }
 {
-    if any(alloc, shown, Trace::Committed(key, id)) || any(alloc, shown, Trace::Kept(key, id)) {
+    if any(alloc, found_in, Trace::Committed(key, id))
+        || any(alloc, found_in, Trace::Kept(key, id))
+    {
         return Ok(true);
     }
     let row = coordinator_key(alloc, id)?;
-    Ok(any(alloc, shown, Trace::Held(key, id)) && observes_commit(alloc, shown, &row))
+    Ok(any(alloc, found_in, Trace::Held(key, id)) && observes_commit(alloc, found_in, &row))
 }
 
 /// Whether a read of the key comes to a tombstone of this transaction.
 pub fn settles_removed(
     alloc: Global,
-    shown: &[Record],
+    found_in: &[Record],
     key: &Key,
     id: TxId,
 ) -> Result<bool, NoMemory>
-    ensures { IfOk result (λ found. found ≡ settles_removed_lem shown.now key.now id.0) }
+    ensures { IfOk result (λ found. found ≡ settles_removed_lem found_in.now key.now id.0) }
 {
-    if any(alloc, shown, Trace::CommittedTombstone(key, id))
-        || any(alloc, shown, Trace::KeptTombstone(key, id))
+    if any(alloc, found_in, Trace::CommittedTombstone(key, id))
+        || any(alloc, found_in, Trace::KeptTombstone(key, id))
     {
         return Ok(true);
     }
     let row = coordinator_key(alloc, id)?;
-    Ok(any(alloc, shown, Trace::HeldTombstone(key, id)) && observes_commit(alloc, shown, &row))
+    Ok(
+        any(alloc, found_in, Trace::HeldTombstone(key, id))
+            && observes_commit(alloc, found_in, &row),
+    )
 }

@@ -23,33 +23,33 @@ use std::alloc::Global;
 /// Whether a transaction is known to be committed: it won, or its row was observed.
 pub fn is_known_committed(
     alloc: Global,
-    shown: &[Record],
+    observed: &[Record],
     past: &[Labelled],
     id: TxId,
 ) -> Result<bool, NoMemory>
-    ensures { IfOk result (λ known. known ≡ is_known_committed_lem shown.now past.now id.0) }
+    ensures { IfOk result (λ known. known ≡ is_known_committed_lem observed.now past.now id.0) }
 {
     if is_won(past, id) {
         return Ok(true);
     }
     let row = coordinator_key(alloc, id)?;
-    Ok(observes_commit(alloc, shown, &row))
+    Ok(observes_commit(alloc, observed, &row))
 }
 
 /// Whether it is known to be aborted.
 pub fn is_known_aborted(
     alloc: Global,
-    shown: &[Record],
+    observed: &[Record],
     past: &[Labelled],
     id: TxId,
 ) -> Result<bool, NoMemory>
-    ensures { IfOk result (λ known. known ≡ is_known_aborted_lem shown.now past.now id.0) }
+    ensures { IfOk result (λ known. known ≡ is_known_aborted_lem observed.now past.now id.0) }
 {
     if is_dead(past, id) || (is_met_once(past, id) && !is_risked(past, id)) {
         return Ok(true);
     }
     let row = coordinator_key(alloc, id)?;
-    Ok(observes_abort(alloc, shown, &row))
+    Ok(observes_abort(alloc, observed, &row))
 }
 
 // What a transaction has prepared itself at a key.
@@ -80,11 +80,11 @@ fn add_own(found: &mut Seq<i64>, won: bool, moment: i64) -> Result<(), NoMemory>
 #[tactic(auto, unfolding(crate::specs::Rules::has_own_moment))]
 fn has_own_moment(
     alloc: Global,
-    shown: &[Record],
+    observed: &[Record],
     past: &[Labelled],
     id: TxId,
 ) -> Result<bool, NoMemory>
-    ensures { IfOk result (λ own. own ≡ has_own_moment_lem shown.now past.now id.0) }
+    ensures { IfOk result (λ own. own ≡ has_own_moment_lem observed.now past.now id.0) }
 {
     if is_won(past, id) {
         return Ok(true);
@@ -93,36 +93,36 @@ fn has_own_moment(
         return Ok(false);
     }
     let row = coordinator_key(alloc, id)?;
-    Ok(observes_commit(alloc, shown, &row))
+    Ok(observes_commit(alloc, observed, &row))
 }
 
 fn known_moments(
     alloc: Global,
-    shown: &[Record],
+    observed: &[Record],
     past: &[Labelled],
     plans: &[Plan],
     id: TxId,
 ) -> Result<Seq<i64>, NoMemory>
-    ensures { IfOk result (λ found. found ≡ known_moments_lem shown.now past.now plans.now id.0) }
+    ensures { IfOk result (λ found. found ≡ known_moments_lem observed.now past.now plans.now id.0) }
 {
     let row = coordinator_key(alloc, id)?;
-    let mut found = moments(alloc, shown, &row)?;
-    let own = has_own_moment(alloc, shown, past, id)?;
+    let mut found = moments(alloc, observed, &row)?;
+    let own = has_own_moment(alloc, observed, past, id)?;
     add_own(&mut found, own, moment_of(plans, id))?;
     Ok(found)
 }
 
 fn any_held_forward(
     alloc: Global,
-    shown: &[Record],
+    observed: &[Record],
     moments: &[i64],
     id: TxId,
     key: &Key,
     target: &Record,
 ) -> Result<bool, NoMemory>
-    ensures { IfOk result (λ found. found ≡ any_prepared_forward_lem shown.now moments.now id.0 key.now target.now) }
+    ensures { IfOk result (λ found. found ≡ any_prepared_forward_lem observed.now moments.now id.0 key.now target.now) }
 {
-    for rec in shown {
+    for rec in observed {
         if is_prepared_by(rec, key, id) && is_forward(alloc, rec, moments, target)? {
             return Ok(true);
         }
@@ -162,14 +162,14 @@ fn rolls_open(condition: Condition, id: TxId) -> bool
 /// A roll forward of what is known to be committed, by anybody.
 pub fn may_roll_forward(
     alloc: Global,
-    shown: &[Record],
+    observed: &[Record],
     past: &[Labelled],
     plans: &[Plan],
     event: &Event,
     id: TxId,
     key: &Key,
 ) -> Result<bool, NoMemory>
-    ensures { IfOk result (λ well. well ≡ rolls_forward shown.now past.now plans.now event.now id.0 key.now) }
+    ensures { IfOk result (λ well. well ≡ rolls_forward observed.now past.now plans.now event.now id.0 key.now) }
 {
     match event {
         Event::Call(_, _, Request::PutIf(target, condition), _, _, _) => {
@@ -177,11 +177,11 @@ pub fn may_roll_forward(
                 return Ok(false);
             }
             let own = own(alloc, past, plans, id, key)?;
-            let moments = known_moments(alloc, shown, past, plans, id)?;
+            let moments = known_moments(alloc, observed, past, plans, id)?;
             if is_own_forward(alloc, &own, moments.as_slice(), target)? {
                 return Ok(true);
             }
-            any_held_forward(alloc, shown, moments.as_slice(), id, key, target)
+            any_held_forward(alloc, observed, moments.as_slice(), id, key, target)
         }
         _ => Ok(false),
     }
@@ -206,10 +206,10 @@ fn own_keeps(own: &Option<Record>, base: Option<&Record>) -> bool
     }
 }
 
-fn any_keeps(shown: &[Record], id: TxId, key: &Key, base: Option<&Record>) -> bool
-    ensures { result ≡ list_any (λ r. is_prepared_by_lem id.0 key.now r && has_before_or_none_lem (option_copied base.entry) r) shown.now }
+fn any_keeps(observed: &[Record], id: TxId, key: &Key, base: Option<&Record>) -> bool
+    ensures { result ≡ list_any (λ r. is_prepared_by_lem id.0 key.now r && has_before_or_none_lem (option_copied base.entry) r) observed.now }
 {
-    for rec in shown {
+    for rec in observed {
         if is_prepared_by(rec, key, id) && is_kept(rec, base) {
             return true;
         }
@@ -219,27 +219,27 @@ fn any_keeps(shown: &[Record], id: TxId, key: &Key, base: Option<&Record>) -> bo
 
 // Whether a record that the transaction prepared keeps this.
 fn is_put_back(
-    shown: &[Record],
+    observed: &[Record],
     own: &Option<Record>,
     id: TxId,
     key: &Key,
     base: Option<&Record>,
 ) -> bool
-    ensures { result ≡ is_back_lem shown.now own.now id.0 key.now (option_copied base.entry) }
+    ensures { result ≡ is_back_lem observed.now own.now id.0 key.now (option_copied base.entry) }
 {
-    own_keeps(own, base) || any_keeps(shown, id, key, base)
+    own_keeps(own, base) || any_keeps(observed, id, key, base)
 }
 
-fn undoes(shown: &[Record], own: &Option<Record>, request: &Request, id: TxId, key: &Key) -> bool
-    ensures { result ≡ undoes_lem shown.now own.now request.now id.0 key.now }
+fn undoes(observed: &[Record], own: &Option<Record>, request: &Request, id: TxId, key: &Key) -> bool
+    ensures { result ≡ undoes_lem observed.now own.now request.now id.0 key.now }
 {
     match request {
         Request::PutIf(base, condition) => {
-            rolls_open(*condition, id) && is_put_back(shown, own, id, key, Some(base))
+            rolls_open(*condition, id) && is_put_back(observed, own, id, key, Some(base))
         }
         Request::DeleteIf(at, condition) => {
             rolls_open(*condition, id)
-                && (is_same_key(at, key) && is_put_back(shown, own, id, key, None))
+                && (is_same_key(at, key) && is_put_back(observed, own, id, key, None))
         }
         Request::Get(_) => false,
         Request::Scan(_) => false,
@@ -249,22 +249,22 @@ fn undoes(shown: &[Record], own: &Option<Record>, request: &Request, id: TxId, k
 /// A roll back of what is known to be aborted, by anybody.
 pub fn may_roll_back(
     alloc: Global,
-    shown: &[Record],
+    observed: &[Record],
     past: &[Labelled],
     plans: &[Plan],
     event: &Event,
     id: TxId,
     key: &Key,
 ) -> Result<bool, NoMemory>
-    ensures { IfOk result (λ well. well ≡ rolls_back shown.now past.now plans.now event.now id.0 key.now) }
+    ensures { IfOk result (λ well. well ≡ rolls_back observed.now past.now plans.now event.now id.0 key.now) }
 {
     match event {
         Event::Call(_, _, request, _, _, _) => {
-            if !is_data(key) || !is_known_aborted(alloc, shown, past, id)? {
+            if !is_data(key) || !is_known_aborted(alloc, observed, past, id)? {
                 return Ok(false);
             }
             let own = own(alloc, past, plans, id, key)?;
-            Ok(undoes(shown, &own, request, id, key))
+            Ok(undoes(observed, &own, request, id, key))
         }
         _ => Ok(false),
     }
@@ -273,7 +273,7 @@ pub fn may_roll_back(
 /// A roll by a decision.
 pub fn may_roll(
     alloc: Global,
-    shown: &[Record],
+    observed: &[Record],
     past: &[Labelled],
     plans: &[Plan],
     event: &Event,
@@ -281,11 +281,11 @@ pub fn may_roll(
     key: &Key,
     decision: Decision,
 ) -> Result<bool, NoMemory>
-    ensures { IfOk result (λ well. well ≡ rolls_well shown.now past.now plans.now event.now id.0 key.now decision) }
+    ensures { IfOk result (λ well. well ≡ rolls_well observed.now past.now plans.now event.now id.0 key.now decision) }
 {
     match decision {
-        Decision::Committed => may_roll_forward(alloc, shown, past, plans, event, id, key),
-        Decision::Aborted => may_roll_back(alloc, shown, past, plans, event, id, key),
+        Decision::Committed => may_roll_forward(alloc, observed, past, plans, event, id, key),
+        Decision::Aborted => may_roll_back(alloc, observed, past, plans, event, id, key),
     }
 }
 
@@ -301,13 +301,13 @@ fn removes_version(condition: Condition, id: TxId) -> bool
 /// VACUUM's removal of a tombstone that was read, while no transaction is open of a client that hasn't stopped.
 pub fn may_remove(
     alloc: Global,
-    shown: &[Record],
+    observed: &[Record],
     past: &[Labelled],
     event: &Event,
     key: &Key,
     id: TxId,
 ) -> Result<bool, NoMemory>
-    ensures { IfOk result (λ well. well ≡ removes_well shown.now past.now event.now key.now id.0) }
+    ensures { IfOk result (λ well. well ≡ removes_well observed.now past.now event.now key.now id.0) }
 {
     match event {
         Event::Call(_, _, Request::DeleteIf(at, condition), _, _, _) => {
@@ -317,7 +317,7 @@ pub fn may_remove(
             if !is_data(key) || !are_shut(past) {
                 return Ok(false);
             }
-            settles_removed(alloc, shown, key, id)
+            settles_removed(alloc, observed, key, id)
         }
         _ => Ok(false),
     }
@@ -359,12 +359,12 @@ fn denies(answer: Option<&Answer>) -> bool
 /// Committed may be answered.
 pub fn may_answer(
     alloc: Global,
-    shown: &[Record],
+    observed: &[Record],
     whole: &[Labelled],
     past: &[Labelled],
     ends: Option<TxId>,
 ) -> Result<bool, NoMemory>
-    ensures { IfOk result (λ well. well ≡ may_answer_lem shown.now whole.now past.now ends) }
+    ensures { IfOk result (λ well. well ≡ may_answer_lem observed.now whole.now past.now ends) }
 {
     match ends {
         None => Ok(false),
@@ -372,7 +372,7 @@ pub fn may_answer(
             if !is_commit_started(past, id) {
                 return Ok(false);
             }
-            is_known_committed(alloc, shown, whole, id)
+            is_known_committed(alloc, observed, whole, id)
         }
     }
 }
@@ -380,24 +380,24 @@ pub fn may_answer(
 /// An answer may be given that denies a COMMIT.
 pub fn may_deny(
     alloc: Global,
-    shown: &[Record],
+    observed: &[Record],
     whole: &[Labelled],
     past: &[Labelled],
     ends: Option<TxId>,
 ) -> Result<bool, NoMemory>
-    ensures { IfOk result (λ well. well ≡ may_deny_lem shown.now whole.now past.now ends) }
+    ensures { IfOk result (λ well. well ≡ may_deny_lem observed.now whole.now past.now ends) }
 {
     match ends {
         None => Ok(true),
         Some(id) => {
-            if !is_commit_started(past, id) || is_known_aborted(alloc, shown, whole, id)? {
+            if !is_commit_started(past, id) || is_known_aborted(alloc, observed, whole, id)? {
                 return Ok(true);
             }
             if !is_risked(whole, id) {
                 return Ok(true);
             }
             let row = coordinator_key(alloc, id)?;
-            Ok(observes_bad_row(alloc, shown, &row))
+            Ok(observes_bad_row(alloc, observed, &row))
         }
     }
 }
@@ -405,19 +405,19 @@ pub fn may_deny(
 /// The answer that an event gives is true as far as the events show.
 pub fn answers_truly(
     alloc: Global,
-    shown: &[Record],
+    observed: &[Record],
     whole: &[Labelled],
     past: &[Labelled],
     labelled: &Labelled,
 ) -> Result<bool, NoMemory>
-    ensures { IfOk result (λ well. well ≡ answers_well shown.now whole.now past.now labelled.now) }
+    ensures { IfOk result (λ well. well ≡ answers_well observed.now whole.now past.now labelled.now) }
 {
     let answer = answer_of(&labelled.event);
-    if is_committed_answer(answer) && !may_answer(alloc, shown, whole, past, labelled.ends)? {
+    if is_committed_answer(answer) && !may_answer(alloc, observed, whole, past, labelled.ends)? {
         return Ok(false);
     }
     if denies(answer) {
-        return may_deny(alloc, shown, whole, past, labelled.ends);
+        return may_deny(alloc, observed, whole, past, labelled.ends);
     }
     Ok(true)
 }

@@ -26,7 +26,7 @@ use sdb_record::{
     Decision, Read, Scan, Write, condition_of, coordinator_row, has_version, is_same_version,
     version_of,
 };
-use sdb_sqltokens::reads_word;
+use sdb_sqltext::reads_word;
 use sdb_types::{Condition, Key, NoMemory, Record, Reply, Request, State, TxId, Txt};
 use std::alloc::Global;
 
@@ -101,32 +101,32 @@ pub fn may_begin(
 
 fn commits_well(
     alloc: Global,
-    shown: &[Record],
+    observed: &[Record],
     past: &[Labelled],
     plans: &[Plan],
     id: TxId,
 ) -> Result<bool, NoMemory>
-    ensures { IfOk result (λ well. well ≡ commits_well_lem shown.now past.now plans.now id.0) }
+    ensures { IfOk result (λ well. well ≡ commits_well_lem observed.now past.now plans.now id.0) }
 {
     if is_commit_started(past, id) || !is_moment(moment_of(plans, id)) {
         return Ok(false);
     }
-    if !are_valid_writes(alloc, shown, writes_of(plans, id))? {
+    if !are_valid_writes(alloc, observed, writes_of(plans, id))? {
         return Ok(false);
     }
-    are_valid_items(alloc, shown, items_of(plans, id))
+    are_valid_items(alloc, observed, items_of(plans, id))
 }
 
 /// The taking of a COMMIT: the transaction is open and has no other, and what it read was observed.
 pub fn may_take(
     alloc: Global,
-    shown: &[Record],
+    observed: &[Record],
     past: &[Labelled],
     plans: &[Plan],
     event: &Event,
     id: TxId,
 ) -> Result<bool, NoMemory>
-    ensures { IfOk result (λ well. well ≡ starts_well shown.now past.now plans.now event.now id.0) }
+    ensures { IfOk result (λ well. well ≡ starts_well observed.now past.now plans.now event.now id.0) }
 {
     match event {
         Event::Take(by, text, _) => {
@@ -136,7 +136,7 @@ pub fn may_take(
             if !(owner(past, id) == *by && (is_open(past, id) && !is_stopped(past, *by))) {
                 return Ok(false);
             }
-            commits_well(alloc, shown, past, plans, id)
+            commits_well(alloc, observed, past, plans, id)
         }
         _ => Ok(false),
     }

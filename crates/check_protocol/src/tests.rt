@@ -1,7 +1,6 @@
 //! Each test is its rule.
 ghost use Rattle.std.specs.Prelude.{◌≡◌, ◌↔◌, ℕ, ℤ, List, IsTrue};
-ghost use Rattle.sdb_types.specs.declared.key.Key.{Key};
-ghost use Rattle.sdb_record.specs.declared.coordinator.Decision.{Decision};
+ghost use Rattle.check_protocol.specs.Types.{Decision, Key};
 ghost use Rattle.law_protocol.specs.Lawful.{IsLawful, MayBegin, MayTake, MayCheck, MayDecide, MayAbort, MayRemove};
 ghost use Rattle.check_protocol.specs.declared.plan.Plan.{Plan};
 ghost use Rattle.check_protocol.specs.declared.labelled.Ack.{Ack};
@@ -12,7 +11,7 @@ ghost use Rattle.check_protocol.specs.Rules.{begins_well, starts_well, prepares_
 ghost use Rattle.check_protocol.specs.Next.{IsAfterLawful, MayPrepareKey, MayRollKey, NextEvent, past_of, plan_of};
 
 /// The tests of the rules hold exactly where the rules do. A prepare and a roll are tested after lists that are lawful: there
-/// each write of a COMMIT that was taken has the form of records.
+/// each write of a COMMIT that was accepted has the form of records.
 pub fn rules_are_decided()
     ensures begin { (n : NextEvent) (t c : ℕ) → IsTrue (begins_well n.past n.event t c) ↔ MayBegin (past_of n) n.event t c }
     ensures take { (n : NextEvent) (t : ℕ) → IsTrue (starts_well (observed n.past) n.past n.plans n.event t) ↔ MayTake (plan_of n) (past_of n) n.event t }

@@ -14,8 +14,8 @@ use Rattle.sdb_model.specs.Calls as calls
 use Rattle.sdb_model.specs.Calls.{calls_of, decision_learned, put_by}
 use Rattle.sdb_model.specs.ReadSet.{ReadItem, read_item_of, read_items, reads_rows, rolls, has_read}
 use Rattle.sdb_model.specs.Transactions.{Executed}
-use Rattle.sdb_order.specs.declared.executed.Executed as plain
-use Rattle.sdb_order.specs.Commits.{all_executed, executed_of}
+use Rattle.sdb_contents.specs.declared.executed.Executed as plain
+use Rattle.sdb_contents.specs.Commits.{all_executed, executed_of}
 use Rattle.check_tables.specs.declared.made.Made.{Made}
 use Rattle.check_tables.specs.Values.{all_made, decision_at, decision_learned_at, made_of, items_by, items_of_statement}
 

@@ -37,7 +37,7 @@ all_items = map item_of
 
 -- a call that was made after one event and up to another
 abbrev pub is_within : ℕ → ℕ → calls.StoreCall → Bool
-is_within taken end m = nat_lt taken m.at && nat_le m.at end
+is_within accepted end m = nat_lt accepted m.at && nat_le m.at end
 
 ---- rows of the coordinator, by their key
 

@@ -4,13 +4,13 @@ ghost use Rattle.std.specs.List.{list_all};
 ghost use Rattle.sdb_record.specs.Meta.{is_transactional as is_transactional_lem};
 ghost use Rattle.sdb_model.specs.Calls.{records_read};
 ghost use Rattle.sdb_model.specs.ReadSet.{finds_transactional as finds_transactional_lem, has_finished as has_finished_lem};
-ghost use Rattle.sdb_order.specs.Commits.{executed_of};
+ghost use Rattle.sdb_contents.specs.Commits.{executed_of};
 ghost use Rattle.check_tables.specs.Values.{all_made};
 
 use crate::made::Made;
 use crate::request::reads_rows;
+use sdb_contents::Executed;
 use sdb_model::Answer;
-use sdb_order::Executed;
 use sdb_record::{is_coordinator, meta_of};
 use sdb_types::{Record, Reply};
 use std::alloc::Global;

@@ -3,11 +3,11 @@ ghost use Rattle.std.specs.Prelude.{◌≡◌, ◌++◌, [], IfOk, OnOk, filter}
 ghost use Rattle.std.specs.Option.{option_map};
 ghost use Rattle.std.specs.List.{cons_option};
 ghost use Rattle.sdb_model.specs.Calls.{made_by as made_by_lem, calls_of as calls_of_lem, end_of as end_of_lem};
-ghost use Rattle.sdb_order.specs.Commits.{executed_of};
+ghost use Rattle.sdb_contents.specs.Commits.{executed_of};
 ghost use Rattle.check_tables.specs.Values.{made_of, all_made, is_within};
 
+use sdb_contents::Executed;
 use sdb_model::{Event, How};
-use sdb_order::Executed;
 use sdb_types::{Duplicate, Name, NoMemory, Reply, Request, Seq};
 use std::alloc::Global;
 
@@ -64,25 +64,25 @@ pub fn end_of(events: &[Event], executed: &Executed) -> u64
     }
 }
 
-fn is_made_within(taken: u64, end: u64, made: &Made) -> bool
-    ensures { result ≡ is_within taken end (made_of made.now) }
+fn is_made_within(accepted: u64, end: u64, made: &Made) -> bool
+    ensures { result ≡ is_within accepted end (made_of made.now) }
 {
-    taken < made.at && made.at <= end
+    accepted < made.at && made.at <= end
 }
 
 fn add_call(
     calls: &mut Seq<Made>,
     client: u64,
-    taken: u64,
+    accepted: u64,
     end: u64,
     number: u64,
     event: &Event,
 ) -> Result<(), NoMemory>
-    ensures { OnOk result (all_made calls.new ≡ all_made calls.old ++ filter (is_within taken end) (cons_option (made_by_lem client (number, event.now)) [])) }
+    ensures { OnOk result (all_made calls.new ≡ all_made calls.old ++ filter (is_within accepted end) (cons_option (made_by_lem client (number, event.now)) [])) }
 {
     match made_by(client, number, event)? {
         Some(made) => {
-            if is_made_within(taken, end, &made) {
+            if is_made_within(accepted, end, &made) {
                 calls.push(made)?;
             }
             Ok(())
@@ -107,7 +107,7 @@ pub fn calls_of(
         add_call(
             &mut calls,
             client,
-            executed.taken,
+            executed.accepted,
             end,
             i as u64 + 1,
             &events[i],

@@ -47,8 +47,8 @@ pub fn serial(
     let mut answers = Seq::new(alloc);
     let mut tables = tables;
     for body in bodies {
-        let (told, after) = run_body(alloc, catalog, body.as_slice(), tables)?;
-        answers.push(told)?;
+        let (answered, after) = run_body(alloc, catalog, body.as_slice(), tables)?;
+        answers.push(answered)?;
         tables = after;
     }
     Ok((answers, tables))

@@ -1,12 +1,12 @@
 //! Transactions among the events of a run, and their order.
 ghost use Rattle.std.specs.Prelude.{◌≡◌, ◌<◌, [], IfOk, OnOk, Some, None, map, fold, length, option_map, find, take_while, nat_le};
 ghost use Rattle.sdb_model.specs.Transactions.{from_begin as from_begin_lem, ends as ends_lem, is_prepared_record as is_prepared_record_lem, prepares as prepares_lem, is_prepared_by, last_prepare as last_prepare_lem, point as point_lem, point_at};
-ghost use Rattle.sdb_order.specs.Commits.{executed_of, all_executed};
+ghost use Rattle.sdb_contents.specs.Commits.{executed_of, all_executed};
 ghost use Rattle.check_tables.specs.Points.{inserted_point, order_of as order_of_lem};
 
 use crate::transaction::{client_of, commit_of, ordinal_of};
+use sdb_contents::{Executed, begins, ends, statements_by};
 use sdb_model::{Event, How, Point, Points};
-use sdb_order::{Executed, begins, ends, statements_by};
 use sdb_record::has_version;
 use sdb_types::{NoMemory, Record, Reply, Request, State, TxId};
 use std::alloc::Global;
@@ -98,7 +98,7 @@ pub fn point(alloc: Global, events: &[Event], id: TxId) -> Result<u64, NoMemory>
     }
     let all = statements_by(alloc, client_of(id), events)?;
     match commit_of(alloc, all.as_slice(), ordinal_of(id))? {
-        Some(commit) => Ok(commit.taken),
+        Some(commit) => Ok(commit.accepted),
         None => Ok(0),
     }
 }

@@ -172,8 +172,8 @@ fn select(alloc: Global, table: &Table, select: &Select, tables: PlainTables) ->
 {
     let rows = tables.all()?;
     let found = passing(table, select.tests.as_slice(), rows);
-    let shown = selected(alloc, table, select, found.as_slice())?;
-    Ok((Answer::Rows(shown), tables))
+    let observed = selected(alloc, table, select, found.as_slice())?;
+    Ok((Answer::Rows(observed), tables))
 }
 
 // The table that a statement names, as the catalog has it.

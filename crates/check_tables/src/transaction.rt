@@ -2,13 +2,13 @@
 ghost use Rattle.std.specs.Prelude.{◌≡◌, ◌≤◌, IfOk, not, length, take_while};
 ghost use Rattle.std.specs.Option.{option_map};
 ghost use Rattle.sdb_model.specs.Transactions.{from_begin as from_begin_lem, client_of as client_of_lem, ordinal_of as ordinal_of_lem, id_of as id_of_lem, ends as ends_lem, rest_of as rest_of_lem, is_effective as is_effective_lem, changes_nothing as changes_nothing_lem};
-ghost use Rattle.sdb_order.specs.Commits.{executed_of, all_executed};
+ghost use Rattle.sdb_contents.specs.Commits.{executed_of, all_executed};
 ghost use Rattle.check_tables.specs.Points.{commit_among as commit_among_lem};
 ghost use Rattle.check_tables.specs.Values.{inside_among as inside_among_lem};
 
 use crate::points::{first_ending, from_begin};
+use sdb_contents::{Executed, ends, is_word};
 use sdb_model::{Answer, Keyword};
-use sdb_order::{Executed, ends, is_word};
 use sdb_types::{NoMemory, TxId};
 use std::alloc::Global;
 

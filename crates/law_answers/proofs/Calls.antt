@@ -6,12 +6,8 @@ use Rattle.std.proofs.lemmas.Bool.Decides.{nat_tests}
 use Rattle.std.proofs.lemmas.List.{append-nil, take-append-le, take_all}
 use Rattle.std.proofs.lemmas.List.Elements.{filter-append, filter_map-append}
 use Rattle.std.proofs.lemmas.List.Sums.{fold-append}
-use Rattle.sdb_types.specs.declared.record.Reply.{Reply}
-use Rattle.sdb_types.specs.declared.record.Request.{Request}
-use Rattle.sdb_model.specs.declared.answer.Answer.{Answer}
-use Rattle.sdb_model.specs.declared.event.Event.{Event}
+use Rattle.law_answers.specs.Types.{Answer, Event, How, Reply, Request}
 use Rattle.sdb_model.specs.declared.event.Event.TheVariants as event
-use Rattle.sdb_model.specs.declared.event.How.{How}
 use Rattle.sdb_model.specs.Rows.{Name}
 use Rattle.sdb_model.specs.Calls.{StoreCall, calls_by, calls_of, clock_after, clock_at, end_of, made_by}
 use Rattle.sdb_model.specs.Causes.{before}
@@ -40,10 +36,10 @@ silent_said c events store q how r = said_more c events (event.Call c store q ho
 
 ---- the events before a statement, and the clock
 
-pub before_same : (s : Executed) (events : List Event) (e : Event) → s.taken ≤ length events → before s (events ++ e ∷ []) ≡ before s events
-before_same s events e l = take-append-le (s.taken - 1) events (e ∷ []) (omega arith)
+pub before_same : (s : Executed) (events : List Event) (e : Event) → s.accepted ≤ length events → before s (events ++ e ∷ []) ≡ before s events
+before_same s events e l = take-append-le (s.accepted - 1) events (e ∷ []) (omega arith)
 
--- of one that is taken they are all
+-- of one that is accepted they are all
 pub before_taken : (events : List Event) (e : Event) (text : List ℕ) (a : Option Answer) → before (executed_of_take events text a) (events ++ e ∷ []) ≡ events
 before_taken events e text a = take-append-le (1 + length events - 1) events (e ∷ []) (omega arith) ∙ take_all (1 + length events - 1) events (omega arith)
 
@@ -60,7 +56,7 @@ clock_more events e =
 
 -- the calls of a client after an event
 abbrev pub later_calls : List Event → ℕ → ℕ → List StoreCall
-later_calls events c taken = filter (λ m. nat_lt taken m.at) (calls_by events c)
+later_calls events c accepted = filter (λ m. nat_lt accepted m.at) (calls_by events c)
 
 pub made_more : (c : ℕ) (events : List Event) (e : Event) → calls_by (events ++ e ∷ []) c ≡ calls_by events c ++ cons_option (made_by c (1 + length events, e)) []
 made_more c events e = ap (filter_map (made_by c)) (numbers_more 1 events e) ∙ filter_map-append (made_by c) (numbered events) ((1 + length events, e) ∷ [])
@@ -115,21 +111,21 @@ numbers_below c n (e ∷ es) = by (made_by c (n, e)) refl (shifted (numbers_belo
 pub calls_within : (c : ℕ) (events : List Event) → AllByRecursion (λ m. m.at < 1 + length events) (calls_by events c)
 calls_within c events = numbers_below c 1 events
 
-pub later_within : (c : ℕ) (events : List Event) (taken : ℕ) → AllByRecursion (λ m. m.at < 1 + length events) (later_calls events c taken)
-later_within c events taken = each_kept (λ (m : StoreCall). m.at < 1 + length events) (λ m. nat_lt taken m.at) (calls_by events c) (calls_within c events)
+pub later_within : (c : ℕ) (events : List Event) (accepted : ℕ) → AllByRecursion (λ m. m.at < 1 + length events) (later_calls events c accepted)
+later_within c events accepted = each_kept (λ (m : StoreCall). m.at < 1 + length events) (λ m. nat_lt accepted m.at) (calls_by events c) (calls_within c events)
 
 -- the calls of a statement that ends where the events end
-pub calls_open : (c : ℕ) (events : List Event) (s : Executed) → end_of events s ≡ length events → calls_of events c s ≡ later_calls events c s.taken
+pub calls_open : (c : ℕ) (events : List Event) (s : Executed) → end_of events s ≡ length events → calls_of events c s ≡ later_calls events c s.accepted
 calls_open c events s e =
-    ap (λ n. filter (λ m. nat_lt s.taken m.at && nat_le m.at n) (calls_by events c)) e
-    ∙ filter_same (λ m. nat_lt s.taken m.at && nat_le m.at (length events)) (λ m. nat_lt s.taken m.at) (calls_by events c) (each (calls_by events c) (calls_within c events))
+    ap (λ n. filter (λ m. nat_lt s.accepted m.at && nat_le m.at n) (calls_by events c)) e
+    ∙ filter_same (λ m. nat_lt s.accepted m.at && nat_le m.at (length events)) (λ m. nat_lt s.accepted m.at) (calls_by events c) (each (calls_by events c) (calls_within c events))
   where
     same : (t k n : ℕ) → k < 1 + n → (nat_lt t k && nat_le k n) ≡ nat_lt t k
     same t k n l = grind (arith, nat_tests)
 
-    each : (xs : List StoreCall) → AllByRecursion (λ m. m.at < 1 + length events) xs → AllByRecursion (λ m. (nat_lt s.taken m.at && nat_le m.at (length events)) ≡ nat_lt s.taken m.at) xs
+    each : (xs : List StoreCall) → AllByRecursion (λ m. m.at < 1 + length events) xs → AllByRecursion (λ m. (nat_lt s.accepted m.at && nat_le m.at (length events)) ≡ nat_lt s.accepted m.at) xs
     each [] a = tt
-    each (x ∷ xs) a = (same s.taken x.at (length events) a.0, each xs a.1)
+    each (x ∷ xs) a = (same s.accepted x.at (length events) a.0, each xs a.1)
 
 pub end_waiting : (events : List Event) (s : Executed) → s.answer ≡ None → end_of events s ≡ length events
 end_waiting events s e = ap (λ o. if is_some o then s.reached else length events) e
@@ -138,27 +134,27 @@ pub end_answered : (events : List Event) (s : Executed) (a : Answer) → s.answe
 end_answered events s a e = ap (λ o. if is_some o then s.reached else length events) e
 
 -- a call more of its client
-pub later_more : (c : ℕ) (events : List Event) (e : Event) (taken : ℕ) (m : StoreCall) → taken ≤ length events → m.at ≡ 1 + length events → made_by c (1 + length events, e) ≡ Some m → later_calls (events ++ e ∷ []) c taken ≡ later_calls events c taken ++ m ∷ []
-later_more c events e taken m l n some =
-    ap (filter (λ m. nat_lt taken m.at)) (one_made c events e m some)
-    ∙ filter-append (λ m. nat_lt taken m.at) (calls_by events c) (m ∷ [])
-    ∙ ap (λ b. later_calls events c taken ++ (if b then m ∷ [] else [])) (above taken m.at (length events) l n)
+pub later_more : (c : ℕ) (events : List Event) (e : Event) (accepted : ℕ) (m : StoreCall) → accepted ≤ length events → m.at ≡ 1 + length events → made_by c (1 + length events, e) ≡ Some m → later_calls (events ++ e ∷ []) c accepted ≡ later_calls events c accepted ++ m ∷ []
+later_more c events e accepted m l n some =
+    ap (filter (λ m. nat_lt accepted m.at)) (one_made c events e m some)
+    ∙ filter-append (λ m. nat_lt accepted m.at) (calls_by events c) (m ∷ [])
+    ∙ ap (λ b. later_calls events c accepted ++ (if b then m ∷ [] else [])) (above accepted m.at (length events) l n)
   where
     above : (t k n : ℕ) → t ≤ n → k ≡ 1 + n → nat_lt t k ≡ true
     above t k n l e = grind (arith, nat_tests)
 
-pub later_same : (c : ℕ) (events : List Event) (e : Event) (taken : ℕ) → made_by c (1 + length events, e) ≡ None → later_calls (events ++ e ∷ []) c taken ≡ later_calls events c taken
-later_same c events e taken none = ap (filter (λ m. nat_lt taken m.at)) (none_made c events e none)
+pub later_same : (c : ℕ) (events : List Event) (e : Event) (accepted : ℕ) → made_by c (1 + length events, e) ≡ None → later_calls (events ++ e ∷ []) c accepted ≡ later_calls events c accepted
+later_same c events e accepted none = ap (filter (λ m. nat_lt accepted m.at)) (none_made c events e none)
 
 abbrev within_said : Executed → StoreCall → Bool
-within_said s m = nat_lt s.taken m.at && nat_le m.at s.reached
+within_said s m = nat_lt s.accepted m.at && nat_le m.at s.reached
 
 -- The calls of a statement that was answered stay.
 pub calls_stay : (c : ℕ) (events : List Event) (e : Event) (s : Executed) (a : Answer) → s.answer ≡ Some a → s.reached ≤ length events → calls_of (events ++ e ∷ []) c s ≡ calls_of events c s
 calls_stay c events e s a is l =
-    ap (λ n. filter (λ m. nat_lt s.taken m.at && nat_le m.at n) (calls_by (events ++ e ∷ []) c)) (end_answered (events ++ e ∷ []) s a is)
+    ap (λ n. filter (λ m. nat_lt s.accepted m.at && nat_le m.at n) (calls_by (events ++ e ∷ []) c)) (end_answered (events ++ e ∷ []) s a is)
     ∙ by (made_by c (1 + length events, e)) refl
-    ∙ ap (λ n. filter (λ m. nat_lt s.taken m.at && nat_le m.at n) (calls_by events c)) (sym (end_answered events s a is))
+    ∙ ap (λ n. filter (λ m. nat_lt s.accepted m.at && nat_le m.at n) (calls_by events c)) (sym (end_answered events s a is))
   where
     past : (t k n a : ℕ) → a ≤ n → k ≡ 1 + n → (nat_lt t k && nat_le k a) ≡ false
     past t k n a l e = grind (arith, nat_tests)
@@ -168,7 +164,7 @@ calls_stay c events e s a is l =
     by (Some m) k =
         ap (filter (within_said s)) (one_made c events e m k)
         ∙ filter-append (within_said s) (calls_by events c) (m ∷ [])
-        ∙ ap (λ b. filter (within_said s) (calls_by events c) ++ (if b then m ∷ [] else [])) (past s.taken m.at (length events) s.reached l (numbered_made c (1 + length events) e m k))
+        ∙ ap (λ b. filter (within_said s) (calls_by events c) ++ (if b then m ∷ [] else [])) (past s.accepted m.at (length events) s.reached l (numbered_made c (1 + length events) e m k))
         ∙ append-nil (filter (within_said s) (calls_by events c))
 
 -- and whether its read has finished
@@ -177,7 +173,7 @@ read_stays c events e s a is l = ap (λ ms. has_finished ms s) (calls_stay c eve
 
 -- each of them is within the events
 pub of_within : (c : ℕ) (events : List Event) (s : Executed) (m : StoreCall) → Contains (calls_of events c s) m → m.at ≤ length events
-of_within c events s m has = bound (each_in (λ (x : StoreCall). x.at < 1 + length events) (calls_by events c) m (calls_within c events) (kept_in (λ (x : StoreCall). nat_lt s.taken x.at && nat_le x.at (end_of events s)) (calls_by events c) m has))
+of_within c events s m has = bound (each_in (λ (x : StoreCall). x.at < 1 + length events) (calls_by events c) m (calls_within c events) (kept_in (λ (x : StoreCall). nat_lt s.accepted x.at && nat_le x.at (end_of events s)) (calls_by events c) m has))
   where
     bound : m.at < 1 + length events → m.at ≤ length events
     bound h = omega arith

@@ -5,11 +5,8 @@ use Rattle.std.specs.List.{AllByRecursion}
 use Rattle.std.specs.Option.{option_and_then}
 use Rattle.std.proofs.lemmas.List.{append-nil}
 use Rattle.std.proofs.lemmas.List.Elements.{All-contains_itself, All-contains, Contains-append_cases, Contains-append_left, Contains-append_right, Contains-push, Contains-push_cases, recursion_from_All}
-use Rattle.sdb_types.specs.declared.txid.TxId.{TxId}
+use Rattle.law_answers.specs.Types.{Answer, Doing, Event, Table, TxId}
 use Rattle.sdb_types.proofs.Basics.{clash, none_some, some_is, all_each as each_any}
-use Rattle.sdb_schema.specs.declared.table.Table.{Table}
-use Rattle.sdb_model.specs.declared.answer.Answer.{Answer}
-use Rattle.sdb_model.specs.declared.event.Event.{Event}
 use Rattle.sdb_model.specs.Calls.{StoreCall, calls_of}
 use Rattle.sdb_model.specs.Counted.{AreCounted, is_seen}
 use Rattle.sdb_model.specs.ReadSet.{ReadItem, read_set_of}
@@ -21,7 +18,6 @@ use Rattle.sdb_model.specs.Transactions.{Executed, begins, client_of, commit_of,
 use Rattle.law_clients.specs.History.{waiting_of}
 use Rattle.law_clients.specs.States.{ClientState}
 use Rattle.law_clients.proofs.Lists.{each_more}
-use Rattle.sdb_txn.specs.declared.txn.Doing.{Doing}
 use Rattle.sdb_txn.specs.declared.txn.Doing.TheVariants as doing
 use Rattle.sdb_txn.specs.Txn.{TxnAt, pending_in}
 use Rattle.sdb_vacuum.specs.Vacuum.{VacuumAt}
@@ -99,47 +95,47 @@ module _ (catalog : List Table) (c : ℕ) (events : List Event) (e : Event) wher
   still_counted [] all h = tt
   still_counted (s ∷ ss) all h = (subst (IsCountedBy catalog s.text) (sym (calls_stay c events e s all.0.given all.0.is all.0.answered)) h.0, still_counted ss all.1 h.1)
 
-  module _ (told : List Executed) (o : Option Executed) (h : ClientAt) (all : AllByRecursion (IsAnswered catalog events c) told) (k : CountsBy catalog events c told o h) where
+  module _ (answered : List Executed) (o : Option Executed) (h : ClientAt) (all : AllByRecursion (IsAnswered catalog events c) answered) (k : CountsBy catalog events c answered o h) where
     abbrev id : TxId
     id = id_of c h.begun
 
     -- what its open transaction has noted
     abbrev pub read_set : List ReadItem
-    read_set = read_items_since events c h.begun told
+    read_set = read_items_since events c h.begun answered
 
-    notes_now : read_set ≡ read_items_since E c h.begun told
-    notes_now = sym (since_stay catalog events e c h.begun told all)
+    notes_now : read_set ≡ read_items_since E c h.begun answered
+    notes_now = sym (since_stay catalog events e c h.begun answered all)
 
     -- where the calls of the one that waits stay
-    pub counts_stay : ((x : Executed) → o ≡ Some x → calls_of E c x ≡ calls_of events c x) → CountsBy catalog E c told o h
+    pub counts_stay : ((x : Executed) → o ≡ Some x → calls_of E c x ≡ calls_of events c x) → CountsBy catalog E c answered o h
     counts_stay same = record {
-      answered = still_counted told all k.answered;
-      commits = commits_still catalog events e c told all k.commits;
+      answered = still_counted answered all k.answered;
+      commits = commits_still catalog events e c answered all k.commits;
       paired = k.paired;
       as_read = subst (λ ns. ReadByTxn ns h.txn) notes_now k.as_read;
       waits = by o k.waits same;
     }
       where
-        by : (w : Option Executed) → IfSome w (λ x. WaitCounted catalog x.text id read_set (calls_of events c x) h.vacuum h.txn) → ((x : Executed) → w ≡ Some x → calls_of E c x ≡ calls_of events c x) → IfSome w (λ x. WaitCounted catalog x.text id (read_items_since E c h.begun told) (calls_of E c x) h.vacuum h.txn)
+        by : (w : Option Executed) → IfSome w (λ x. WaitCounted catalog x.text id read_set (calls_of events c x) h.vacuum h.txn) → ((x : Executed) → w ≡ Some x → calls_of E c x ≡ calls_of events c x) → IfSome w (λ x. WaitCounted catalog x.text id (read_items_since E c h.begun answered) (calls_of E c x) h.vacuum h.txn)
         by None w same = tt
         by (Some x) w same = subst (λ ns. WaitCounted catalog x.text id ns (calls_of E c x) h.vacuum h.txn) notes_now (subst (λ ms. WaitCounted catalog x.text id read_set ms h.vacuum h.txn) (sym (same x refl)) w)
 
     -- where one waits, with these calls
-    pub counts_on : (w : Executed) (d : ClientAt) (calls : List StoreCall) → d.begun ≡ h.begun → calls_of E c w ≡ calls → ReadByTxn read_set d.txn → WaitCounted catalog w.text id read_set calls d.vacuum d.txn → CountsBy catalog E c told (Some w) d
+    pub counts_on : (w : Executed) (d : ClientAt) (calls : List StoreCall) → d.begun ≡ h.begun → calls_of E c w ≡ calls → ReadByTxn read_set d.txn → WaitCounted catalog w.text id read_set calls d.vacuum d.txn → CountsBy catalog E c answered (Some w) d
     counts_on w d calls begun are as_read waits = record {
-      answered = still_counted told all k.answered;
-      commits = commits_still catalog events e c told all k.commits;
+      answered = still_counted answered all k.answered;
+      commits = commits_still catalog events e c answered all k.commits;
       paired = k.paired;
-      as_read = subst (λ n. ReadByTxn (read_items_since E c n told) d.txn) (sym begun) (subst (λ ns. ReadByTxn ns d.txn) notes_now as_read);
-      waits = subst (λ n. WaitCounted catalog w.text (id_of c n) (read_items_since E c n told) (calls_of E c w) d.vacuum d.txn) (sym begun) (subst (λ ns. WaitCounted catalog w.text id ns (calls_of E c w) d.vacuum d.txn) notes_now (subst (λ ms. WaitCounted catalog w.text id read_set ms d.vacuum d.txn) (sym are) waits));
+      as_read = subst (λ n. ReadByTxn (read_items_since E c n answered) d.txn) (sym begun) (subst (λ ns. ReadByTxn ns d.txn) notes_now as_read);
+      waits = subst (λ n. WaitCounted catalog w.text (id_of c n) (read_items_since E c n answered) (calls_of E c w) d.vacuum d.txn) (sym begun) (subst (λ ns. WaitCounted catalog w.text id ns (calls_of E c w) d.vacuum d.txn) notes_now (subst (λ ms. WaitCounted catalog w.text id read_set ms d.vacuum d.txn) (sym are) waits));
     }
 
     -- where one is answered, with these calls
-    pub counts_end : (w : Executed) (d : ClientAt) (calls : List StoreCall) → h.begun ≡ begun_in told → calls_of E c w ≡ calls → IsCountedBy catalog w.text calls → (begins w ≡ true → open_after told ≡ false) → (reads_commit w.text ≡ true → open_after told ≡ true → CommitIsCounted read_set id w.answer calls) → ReadByTxn (read_items_since E c d.begun (told ++ w ∷ [])) d.txn → CountsBy catalog E c (told ++ w ∷ []) None d
+    pub counts_end : (w : Executed) (d : ClientAt) (calls : List StoreCall) → h.begun ≡ begun_in answered → calls_of E c w ≡ calls → IsCountedBy catalog w.text calls → (begins w ≡ true → open_after answered ≡ false) → (reads_commit w.text ≡ true → open_after answered ≡ true → CommitIsCounted read_set id w.answer calls) → ReadByTxn (read_items_since E c d.begun (answered ++ w ∷ [])) d.txn → CountsBy catalog E c (answered ++ w ∷ []) None d
     counts_end w d calls begun are now pairs fits as_read = record {
-      answered = each_more (λ (s : Executed). IsCountedBy catalog s.text (calls_of E c s)) told w (still_counted told all k.answered) (subst (IsCountedBy catalog w.text) (sym are) now);
-      commits = commits_more E c told w k.paired (commits_still catalog events e c told all k.commits) (λ reads opened. subst (λ n. CommitIsCounted (read_items_since E c n told) (id_of c n) w.answer (calls_of E c w)) begun (subst (λ ns. CommitIsCounted ns id w.answer (calls_of E c w)) notes_now (subst (CommitIsCounted read_set id w.answer) (sym are) (fits reads opened))));
-      paired = paired_more told false w k.paired pairs;
+      answered = each_more (λ (s : Executed). IsCountedBy catalog s.text (calls_of E c s)) answered w (still_counted answered all k.answered) (subst (IsCountedBy catalog w.text) (sym are) now);
+      commits = commits_more E c answered w k.paired (commits_still catalog events e c answered all k.commits) (λ reads opened. subst (λ n. CommitIsCounted (read_items_since E c n answered) (id_of c n) w.answer (calls_of E c w)) begun (subst (λ ns. CommitIsCounted ns id w.answer (calls_of E c w)) notes_now (subst (CommitIsCounted read_set id w.answer) (sym are) (fits reads opened))));
+      paired = paired_more answered false w k.paired pairs;
       as_read = as_read;
       waits = tt;
     }
@@ -148,31 +144,31 @@ module _ (catalog : List Table) (c : ℕ) (events : List Event) (e : Event) wher
 
 module _ (catalog : List Table) (events : List Event) (c : ℕ) (h : ClientAt) (k : Knows catalog events c h) where
   module _ (s : Executed) where
-    last_counted : (o : Option Executed) → IfSome o (IsWaiting catalog events c (is_some h.vacuum)) → IfSome o (λ w. WaitCounted catalog w.text (id_of c h.begun) (read_items_since events c h.begun k.told) (calls_of events c w) h.vacuum h.txn) → Contains (waiting_of o) s → IsCountedBy catalog s.text (calls_of events c s)
+    last_counted : (o : Option Executed) → IfSome o (IsWaiting catalog events c (is_some h.vacuum)) → IfSome o (λ w. WaitCounted catalog w.text (id_of c h.begun) (read_items_since events c h.begun k.answered) (calls_of events c w) h.vacuum h.txn) → Contains (waiting_of o) s → IsCountedBy catalog s.text (calls_of events c s)
     last_counted None w n x = absurd (omega (arith, x.1))
     last_counted (Some w) waits n x = only (Contains-push_cases [] w s x)
       where
         only : Contains [] s ⊎ (w ≡ s) → IsCountedBy catalog s.text (calls_of events c s)
         only (inl y) = absurd (omega (arith, y.1))
-        only (inr e) = subst (λ (z : Executed). IsCountedBy catalog z.text (calls_of events c z)) e (so_far catalog w.text (calls_of events c w) h.vacuum h.txn (id_of c h.begun) (read_items_since events c h.begun k.told) waits.vacuum n)
+        only (inr e) = subst (λ (z : Executed). IsCountedBy catalog z.text (calls_of events c z)) e (so_far catalog w.text (calls_of events c w) h.vacuum h.txn (id_of c h.begun) (read_items_since events c h.begun k.answered) waits.vacuum n)
 
     said_counted : Contains (statements_by c events) s → IsCountedBy catalog s.text (calls_of events c s)
-    said_counted has = either (Contains-append_cases k.told (waiting_of k.waiting) s (subst (λ ss. Contains ss s) k.same has))
+    said_counted has = either (Contains-append_cases k.answered (waiting_of k.waiting) s (subst (λ ss. Contains ss s) k.same has))
       where
-        either : Contains k.told s ⊎ Contains (waiting_of k.waiting) s → IsCountedBy catalog s.text (calls_of events c s)
-        either (inl x) = each_in (λ (z : Executed). IsCountedBy catalog z.text (calls_of events c z)) k.told s k.counted.answered x
+        either : Contains k.answered s ⊎ Contains (waiting_of k.waiting) s → IsCountedBy catalog s.text (calls_of events c s)
+        either (inl x) = each_in (λ (z : Executed). IsCountedBy catalog z.text (calls_of events c z)) k.answered s k.counted.answered x
         either (inr x) = last_counted k.waiting k.waits k.counted.waits x
 
   -- the COMMIT that waits, too
   all_fit : CommitsAreCounted events c (statements_by c events)
   all_fit = subst (CommitsAreCounted events c) (sym k.same) (by k.waiting k.waits k.counted.waits)
     where
-      by : (o : Option Executed) → IfSome o (IsWaiting catalog events c (is_some h.vacuum)) → IfSome o (λ w. WaitCounted catalog w.text (id_of c h.begun) (read_items_since events c h.begun k.told) (calls_of events c w) h.vacuum h.txn) → CommitsAreCounted events c (k.told ++ waiting_of o)
-      by None waits n = subst (CommitsAreCounted events c) (sym (append-nil k.told)) k.counted.commits
-      by (Some w) waits n = commits_more events c k.told w k.counted.paired k.counted.commits (λ reads opened.
-          subst (λ (a : Option Answer). CommitIsCounted (read_items_since events c (begun_in k.told) k.told) (id_of c (begun_in k.told)) a (calls_of events c w)) (sym waits.unanswered)
-          (subst (λ i. CommitIsCounted (read_items_since events c i k.told) (id_of c i) None (calls_of events c w)) k.begun
-          (fits_so_far catalog w.text (calls_of events c w) h.vacuum h.txn (id_of c h.begun) (read_items_since events c h.begun k.told) reads waits.vacuum k.counted.as_read n)))
+      by : (o : Option Executed) → IfSome o (IsWaiting catalog events c (is_some h.vacuum)) → IfSome o (λ w. WaitCounted catalog w.text (id_of c h.begun) (read_items_since events c h.begun k.answered) (calls_of events c w) h.vacuum h.txn) → CommitsAreCounted events c (k.answered ++ waiting_of o)
+      by None waits n = subst (CommitsAreCounted events c) (sym (append-nil k.answered)) k.counted.commits
+      by (Some w) waits n = commits_more events c k.answered w k.counted.paired k.counted.commits (λ reads opened.
+          subst (λ (a : Option Answer). CommitIsCounted (read_items_since events c (begun_in k.answered) k.answered) (id_of c (begun_in k.answered)) a (calls_of events c w)) (sym waits.unanswered)
+          (subst (λ i. CommitIsCounted (read_items_since events c i k.answered) (id_of c i) None (calls_of events c w)) k.begun
+          (fits_so_far catalog w.text (calls_of events c w) h.vacuum h.txn (id_of c h.begun) (read_items_since events c h.begun k.answered) reads waits.vacuum k.counted.as_read n)))
 
 ordinal_small : (id : TxId) → ordinal_of id < 2 ^ 64
 ordinal_small id = small id.0

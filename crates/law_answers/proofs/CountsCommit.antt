@@ -9,16 +9,10 @@ use Rattle.std.proofs.lemmas.List.{append-nil, length-append, length-map, take_a
 use Rattle.std.proofs.lemmas.List.Elements.{filter-append}
 use Rattle.std.proofs.lemmas.List.Sums.{length-filter}
 use Rattle.std.proofs.lemmas.Option.{slice_get_within}
-use Rattle.sdb_types.specs.declared.key.Key.{Key}
-use Rattle.sdb_types.specs.declared.record.Condition.{Condition}
-use Rattle.sdb_types.specs.declared.record.Record.{Record}
-use Rattle.sdb_types.specs.declared.record.Reply.{Reply}
+use Rattle.law_answers.specs.Types.{Answer, Check, Condition, DecidePhase, DecideStep, Decided, Key, Outcome, Read, Record, Reply, Request, Scan, State, TxId, Write}
 use Rattle.sdb_types.specs.declared.record.Reply.TheVariants as reply
-use Rattle.sdb_types.specs.declared.record.Request.{Request}
 use Rattle.sdb_types.specs.declared.record.Request.TheVariants as ask
-use Rattle.sdb_types.specs.declared.record.State.{State}
 use Rattle.sdb_types.specs.declared.record.State.TheVariants as state
-use Rattle.sdb_types.specs.declared.txid.TxId.{TxId}
 use Rattle.sdb_types.specs.declared.value.Value.TheVariants as value
 use Rattle.sdb_types.specs.Columns.{column}
 use Rattle.sdb_types.specs.TxId.{id_text}
@@ -26,28 +20,19 @@ use Rattle.sdb_types.specs.Contents.{has_value, is_version, state_number, tx_id}
 use Rattle.sdb_types.specs.Order.{key_cmp, same_key}
 use Rattle.sdb_types.proofs.Keys.{same_key_is}
 use Rattle.sdb_types.proofs.Basics.{clash, none_some, some_is, append_all as each_append}
-use Rattle.sdb_record.specs.declared.access.Read.{Read}
-use Rattle.sdb_record.specs.declared.access.Scan.{Scan}
-use Rattle.sdb_record.specs.declared.coordinator.Decided.{Decided}
 use Rattle.sdb_record.specs.declared.coordinator.Decision.TheVariants as decision
-use Rattle.sdb_record.specs.declared.write.Write.{Write}
 use Rattle.sdb_record.specs.Coordinator.{coordinator_key_of, coordinator_row_of, decision_in}
 use Rattle.sdb_record.specs.Rolls.{IsWrite, forward_record, prepared_record}
 use Rattle.sdb_record.proofs.RollLaws.{forward-state}
 use Rattle.sdb_record.proofs.TakenLaws.{prepared-key}
 use Rattle.sdb_record.specs.Among.{is_written, write_among}
-use Rattle.sdb_model.specs.declared.answer.Answer.{Answer}
 use Rattle.sdb_model.specs.declared.answer.Answer.TheVariants as answer
 use Rattle.sdb_model.specs.Calls.{StoreCall, key_asked}
 use Rattle.sdb_model.specs.Counted.{is_checked_get, is_key_of, is_scan, prepares_in}
 use Rattle.sdb_model.specs.ReadSet.{KeyRead, ReadItem, SpanRead}
 use Rattle.sdb_model.specs.Transactions.{prepares}
-use Rattle.sdb_phases.specs.declared.check.Check.{Check}
-use Rattle.sdb_phases.specs.declared.step.DecidePhase.{DecidePhase}
 use Rattle.sdb_phases.specs.declared.step.DecidePhase.TheVariants as phase
-use Rattle.sdb_phases.specs.declared.step.DecideStep.{DecideStep}
 use Rattle.sdb_phases.specs.declared.step.DecideStep.TheVariants as decide
-use Rattle.sdb_phases.specs.declared.step.Outcome.{Outcome}
 use Rattle.sdb_phases.specs.declared.step.Outcome.TheVariants as outcome
 use Rattle.sdb_phases.specs.Checks.{check_of_read, check_of_scan, checks, difference_in}
 use Rattle.sdb_phases.specs.Commit.{Stage, Preparing, Checking, Deciding, Forward, Stopping, Back, Over, after_abort, after_check, after_decide, after_prepare, back, checking, decided, forward, pending, preparing, out_of_memory, out_of_memory_answer, step}

@@ -6,29 +6,21 @@ use Rattle.std.proofs.lemmas.Bool.{eqb-true}
 use Rattle.std.proofs.lemmas.List.{append-nil, length-append}
 use Rattle.std.proofs.lemmas.List.Elements.{filter-append}
 use Rattle.std.proofs.lemmas.List.Sums.{length-filter}
-use Rattle.sdb_types.specs.declared.key.Key.{Key}
-use Rattle.sdb_types.specs.declared.record.Record.{Record}
-use Rattle.sdb_types.specs.declared.record.Reply.{Reply}
+use Rattle.law_answers.specs.Types.{Access, Doing, Event, Key, Read, Record, Reply, Scan, Table}
 use Rattle.sdb_types.specs.declared.record.Reply.TheVariants as reply
 use Rattle.sdb_types.specs.declared.record.Request.TheVariants as ask
 use Rattle.sdb_types.specs.Contents.{CanAnswer}
 use Rattle.sdb_types.proofs.Basics.{clash}
-use Rattle.sdb_record.specs.declared.access.Access.{Access}
 use Rattle.sdb_record.specs.declared.access.Access.TheVariants as access
-use Rattle.sdb_record.specs.declared.access.Read.{Read}
-use Rattle.sdb_record.specs.declared.access.Scan.{Scan}
-use Rattle.sdb_schema.specs.declared.table.Table.{Table}
-use Rattle.sdb_model.specs.declared.event.Event.{Event}
 use Rattle.sdb_model.specs.Calls.{StoreCall, calls_of}
 use Rattle.sdb_model.specs.Causes.{is_open_after}
 use Rattle.sdb_model.specs.Counted.{is_scan}
 use Rattle.sdb_model.specs.ReadSet.{KeyRead, ReadItem, SpanRead, read_item_of, read_items, has_read}
 use Rattle.sdb_model.specs.Sql.{reads_commit}
 use Rattle.sdb_model.specs.Transactions.{Executed, begins, ends, from_begin, id_of, rest_of}
-use Rattle.sdb_read.specs.Read.{request_of}
+use Rattle.sdb_txn.specs.Read.{request_of}
 use Rattle.sdb_snapshot.specs.Seen.{Seen}
 use Rattle.law_clients.proofs.InTables.{access_table}
-use Rattle.sdb_txn.specs.declared.txn.Doing.{Doing}
 use Rattle.sdb_txn.specs.declared.txn.Doing.TheVariants as doing
 use Rattle.sdb_txn.specs.Txn.{TxnAt}
 use Rattle.sdb_client.specs.Client.{with_rows_read}
@@ -68,24 +60,24 @@ with_scanned read_set z s x h = record {
 
 -- a read that is done
 pub noted_read : (a : Access) (calls : List StoreCall) (images : List Record) (read_set : List ReadItem) (t : TxnAt) → HasRead (request_of a) calls images [] → IsDataTable (access_table a) → ReadItemsAre read_set t.seen.reads t.seen.scans → ReadItemsAre (read_set ++ read_items calls) (with_rows_read t a images).seen.reads (with_rows_read t a images).seen.scans
-noted_read (access.Get key) calls images read_set t h own k = subst (λ ns. ReadItemsAre (read_set ++ ns) (with_rows_read t (access.Get key) images).seen.reads t.seen.scans) (sym (read_notes (access.Get key) calls images [] h own)) (by h.first.reply h.can h.told)
+noted_read (access.Get key) calls images read_set t h own k = subst (λ ns. ReadItemsAre (read_set ++ ns) (with_rows_read t (access.Get key) images).seen.reads t.seen.scans) (sym (read_notes (access.Get key) calls images [] h own)) (by h.first.reply h.can h.answered)
   where
     by : (r : Reply) → CanAnswer (ask.Get key) r → IsRows r → ReadItemsAre (read_set ++ cons_option (read_item_of calls (ask.Get key) r) []) (with_rows_read t (access.Get key) images).seen.reads t.seen.scans
-    by (reply.Found found) can told = with_got read_set _ t.seen _ refl k
-    by (reply.Rows rows) can told = absurd can
-    by reply.Applied can told = absurd told
-    by (reply.NotMet found) can told = absurd told
-    by reply.Fault can told = absurd told
-    by reply.NoMemory can told = absurd told
-noted_read (access.Scan span) calls images read_set t h own k = subst (λ ns. ReadItemsAre (read_set ++ ns) t.seen.reads (with_rows_read t (access.Scan span) images).seen.scans) (sym (read_notes (access.Scan span) calls images [] h own)) (by h.first.reply h.can h.told)
+    by (reply.Found found) can answered = with_got read_set _ t.seen _ refl k
+    by (reply.Rows rows) can answered = absurd can
+    by reply.Applied can answered = absurd answered
+    by (reply.NotMet found) can answered = absurd answered
+    by reply.Fault can answered = absurd answered
+    by reply.NoMemory can answered = absurd answered
+noted_read (access.Scan span) calls images read_set t h own k = subst (λ ns. ReadItemsAre (read_set ++ ns) t.seen.reads (with_rows_read t (access.Scan span) images).seen.scans) (sym (read_notes (access.Scan span) calls images [] h own)) (by h.first.reply h.can h.answered)
   where
     by : (r : Reply) → CanAnswer (ask.Scan span) r → IsRows r → ReadItemsAre (read_set ++ cons_option (read_item_of calls (ask.Scan span) r) []) t.seen.reads (with_rows_read t (access.Scan span) images).seen.scans
-    by (reply.Rows rows) can told = with_scanned read_set _ t.seen _ k
-    by (reply.Found found) can told = absurd can
-    by reply.Applied can told = absurd told
-    by (reply.NotMet found) can told = absurd told
-    by reply.Fault can told = absurd told
-    by reply.NoMemory can told = absurd told
+    by (reply.Rows rows) can answered = with_scanned read_set _ t.seen _ k
+    by (reply.Found found) can answered = absurd can
+    by reply.Applied can answered = absurd answered
+    by (reply.NotMet found) can answered = absurd answered
+    by reply.Fault can answered = absurd answered
+    by reply.NoMemory can answered = absurd answered
 
 -- a transaction that does nothing
 pub idle_noted : (read_set : List ReadItem) (s : Seen) (d : Doing) → d ≡ doing.Idle → ReadByDoing read_set s d → ReadItemsAre read_set s.reads s.scans
@@ -97,24 +89,24 @@ noted_idle read_set s d e h = subst (ReadByDoing read_set s) (sym e) h
 ---- one statement more
 
 -- it is after those since a BEGIN, or none began
-since_split : (n : ℕ) (told : List Executed) (s : Executed) → (rest_of (from_begin n (told ++ s ∷ [])) ≡ rest_of (from_begin n told) ++ s ∷ []) ⊎ ((rest_of (from_begin n (told ++ s ∷ [])) ≡ []) × (rest_of (from_begin n told) ≡ []))
-since_split n told s = by (from_begin n told) refl
+since_split : (n : ℕ) (answered : List Executed) (s : Executed) → (rest_of (from_begin n (answered ++ s ∷ [])) ≡ rest_of (from_begin n answered) ++ s ∷ []) ⊎ ((rest_of (from_begin n (answered ++ s ∷ [])) ≡ []) × (rest_of (from_begin n answered) ≡ []))
+since_split n answered s = by (from_begin n answered) refl
   where
-    by : (r : List Executed) → from_begin n told ≡ r → (rest_of (from_begin n (told ++ s ∷ [])) ≡ rest_of (from_begin n told) ++ s ∷ []) ⊎ ((rest_of (from_begin n (told ++ s ∷ [])) ≡ []) × (rest_of (from_begin n told) ≡ []))
-    by [] e = inr (since_none n told s e, ap rest_of e)
-    by (b ∷ body) e = inl (ap rest_of (since_more n told s b body e) ∙ ap (λ r. r ++ s ∷ []) (sym (ap rest_of e)))
+    by : (r : List Executed) → from_begin n answered ≡ r → (rest_of (from_begin n (answered ++ s ∷ [])) ≡ rest_of (from_begin n answered) ++ s ∷ []) ⊎ ((rest_of (from_begin n (answered ++ s ∷ [])) ≡ []) × (rest_of (from_begin n answered) ≡ []))
+    by [] e = inr (since_none n answered s e, ap rest_of e)
+    by (b ∷ body) e = inl (ap rest_of (since_more n answered s b body e) ∙ ap (λ r. r ++ s ∷ []) (sym (ap rest_of e)))
 
 -- one that notes nothing
-pub since_same : (events : List Event) (c n : ℕ) (told : List Executed) (s : Executed) → read_items_of_body events c (s ∷ []) ≡ [] → read_items_since events c n (told ++ s ∷ []) ≡ read_items_since events c n told
-since_same events c n told s none = either (since_split n told s)
+pub since_same : (events : List Event) (c n : ℕ) (answered : List Executed) (s : Executed) → read_items_of_body events c (s ∷ []) ≡ [] → read_items_since events c n (answered ++ s ∷ []) ≡ read_items_since events c n answered
+since_same events c n answered s none = either (since_split n answered s)
   where
-    either : (rest_of (from_begin n (told ++ s ∷ [])) ≡ rest_of (from_begin n told) ++ s ∷ []) ⊎ ((rest_of (from_begin n (told ++ s ∷ [])) ≡ []) × (rest_of (from_begin n told) ≡ [])) → read_items_since events c n (told ++ s ∷ []) ≡ read_items_since events c n told
-    either (inl e) = ap (read_items_of_body events c) e ∙ notes_more events c (rest_of (from_begin n told)) s ∙ ap (λ ns. read_items_since events c n told ++ ns) none ∙ append-nil (read_items_since events c n told)
+    either : (rest_of (from_begin n (answered ++ s ∷ [])) ≡ rest_of (from_begin n answered) ++ s ∷ []) ⊎ ((rest_of (from_begin n (answered ++ s ∷ [])) ≡ []) × (rest_of (from_begin n answered) ≡ [])) → read_items_since events c n (answered ++ s ∷ []) ≡ read_items_since events c n answered
+    either (inl e) = ap (read_items_of_body events c) e ∙ notes_more events c (rest_of (from_begin n answered)) s ∙ ap (λ ns. read_items_since events c n answered ++ ns) none ∙ append-nil (read_items_since events c n answered)
     either (inr e) = ap (read_items_of_body events c) e.0 ∙ sym (ap (read_items_of_body events c) e.1)
 
 -- one of an open transaction
-pub since_open : (events : List Event) (c n : ℕ) (told : List Executed) (s b : Executed) (body : List Executed) → from_begin n told ≡ b ∷ body → read_items_since events c n (told ++ s ∷ []) ≡ read_items_since events c n told ++ read_items_of_body events c (s ∷ [])
-since_open events c n told s b body e = ap (λ r. read_items_of_body events c (rest_of r)) (since_more n told s b body e) ∙ notes_more events c body s ∙ ap (λ ns. ns ++ read_items_of_body events c (s ∷ [])) (sym (ap (λ r. read_items_of_body events c (rest_of r)) e))
+pub since_open : (events : List Event) (c n : ℕ) (answered : List Executed) (s b : Executed) (body : List Executed) → from_begin n answered ≡ b ∷ body → read_items_since events c n (answered ++ s ∷ []) ≡ read_items_since events c n answered ++ read_items_of_body events c (s ∷ [])
+since_open events c n answered s b body e = ap (λ r. read_items_of_body events c (rest_of r)) (since_more n answered s b body e) ∙ notes_more events c body s ∙ ap (λ ns. ns ++ read_items_of_body events c (s ∷ [])) (sym (ap (λ r. read_items_of_body events c (rest_of r)) e))
 
 -- one whose read has not finished
 pub none_noted : (events : List Event) (c : ℕ) (s : Executed) → has_read events c s ≡ false → read_items_of_body events c (s ∷ []) ≡ []
@@ -131,19 +123,19 @@ none_called events c s none = by (has_read events c s)
 ---- as events come
 
 -- what was noted stays
-pub since_stay : (catalog : List Table) (events : List Event) (e : Event) (c n : ℕ) (told : List Executed) → AllByRecursion (IsAnswered catalog events c) told → read_items_since (events ++ e ∷ []) c n told ≡ read_items_since events c n told
-since_stay catalog events e c n told all = by (from_begin n told) refl
+pub since_stay : (catalog : List Table) (events : List Event) (e : Event) (c n : ℕ) (answered : List Executed) → AllByRecursion (IsAnswered catalog events c) answered → read_items_since (events ++ e ∷ []) c n answered ≡ read_items_since events c n answered
+since_stay catalog events e c n answered all = by (from_begin n answered) refl
   where
-    by : (r : List Executed) → from_begin n told ≡ r → read_items_since (events ++ e ∷ []) c n told ≡ read_items_since events c n told
+    by : (r : List Executed) → from_begin n answered ≡ r → read_items_since (events ++ e ∷ []) c n answered ≡ read_items_since events c n answered
     by [] k = ap (λ ss. read_items_of_body (events ++ e ∷ []) c (rest_of ss)) k ∙ sym (ap (λ ss. read_items_of_body events c (rest_of ss)) k)
     by (b ∷ body) k =
         ap (λ ss. read_items_of_body (events ++ e ∷ []) c (rest_of ss)) k
-        ∙ notes_stay catalog events e c body (since_all (IsAnswered catalog events c) n told b body all k)
+        ∙ notes_stay catalog events e c body (since_all (IsAnswered catalog events c) n answered b body all k)
         ∙ sym (ap (λ ss. read_items_of_body events c (rest_of ss)) k)
 
-pub commits_still : (catalog : List Table) (events : List Event) (e : Event) (c : ℕ) (told : List Executed) → AllByRecursion (IsAnswered catalog events c) told → CommitsAreCounted events c told → CommitsAreCounted (events ++ e ∷ []) c told
-commits_still catalog events e c told all k n begin body s tail since goes reads =
-    let whole : AllByRecursion (IsAnswered catalog events c) (body ++ s ∷ tail) = since_all (IsAnswered catalog events c) n told begin (body ++ s ∷ tail) all since in
+pub commits_still : (catalog : List Table) (events : List Event) (e : Event) (c : ℕ) (answered : List Executed) → AllByRecursion (IsAnswered catalog events c) answered → CommitsAreCounted events c answered → CommitsAreCounted (events ++ e ∷ []) c answered
+commits_still catalog events e c answered all k n begin body s tail since goes reads =
+    let whole : AllByRecursion (IsAnswered catalog events c) (body ++ s ∷ tail) = since_all (IsAnswered catalog events c) n answered begin (body ++ s ∷ tail) all since in
     let here : IsAnswered catalog events c s = each_middle (IsAnswered catalog events c) body tail s whole in
     subst (λ ns. CommitIsCounted ns (id_of c n) s.answer (calls_of (events ++ e ∷ []) c s)) (sym (notes_stay catalog events e c body (each_left (IsAnswered catalog events c) body (s ∷ tail) whole)))
     (subst (λ ms. CommitIsCounted (read_items_of_body events c body) (id_of c n) s.answer ms) (sym (calls_stay c events e s here.given here.is here.answered)) (k n begin body s tail since goes reads))
@@ -168,8 +160,8 @@ stays_open (s ∷ ss) pairs all =
     no_begin false f = refl
 
 -- what no statement has ended is the newest
-pub open_only : (n : ℕ) (told : List Executed) (was : Bool) (b : Executed) (rest : List Executed) → ArePaired was told → from_begin n told ≡ b ∷ rest → AllByRecursion (λ s. ends s ≡ false) rest → (n ≡ begun_in told) × (fold is_open_after was told ≡ true)
-open_only zero told was b rest pairs e all = absurd (cc)
+pub open_only : (n : ℕ) (answered : List Executed) (was : Bool) (b : Executed) (rest : List Executed) → ArePaired was answered → from_begin n answered ≡ b ∷ rest → AllByRecursion (λ s. ends s ≡ false) rest → (n ≡ begun_in answered) × (fold is_open_after was answered ≡ true)
+open_only zero answered was b rest pairs e all = absurd (cc)
 open_only (suc k) [] was b rest pairs e all = absurd (cc)
 open_only (suc k) (x ∷ xs) was b rest pairs e all = by (begins x) (k == 0) refl refl (λ h. open_only k xs (is_open_after was x) b rest pairs.1 h all) (λ h. open_only (suc k) xs (is_open_after was x) b rest pairs.1 h all) e
   where
@@ -186,7 +178,7 @@ open_only (suc k) (x ∷ xs) was b rest pairs e all = by (begins x) (k == 0) ref
     by true false t z i j h = let r = i h in (ap suc r.0, r.1)
     by false z t u i j h = j h
 
-pub paired_more : (told : List Executed) (was : Bool) (s : Executed) → ArePaired was told → (begins s ≡ true → fold is_open_after was told ≡ false) → ArePaired was (told ++ s ∷ [])
+pub paired_more : (answered : List Executed) (was : Bool) (s : Executed) → ArePaired was answered → (begins s ≡ true → fold is_open_after was answered ≡ false) → ArePaired was (answered ++ s ∷ [])
 paired_more [] was s pairs h = (h, tt)
 paired_more (x ∷ xs) was s pairs h = (pairs.0, paired_more xs (is_open_after was x) s pairs.1 h)
 
@@ -211,28 +203,28 @@ last_or (x ∷ xs) z (y ∷ body) s tail e =
     either h (inr k) = inr (k.0, ap (λ (w : Executed). w ∷ xs) h ∙ ap (λ r. y ∷ r) k.1)
 
 -- with one statement more, which is the COMMIT of the open transaction or none
-pub commits_more : (events : List Event) (c : ℕ) (told : List Executed) (z : Executed) → ArePaired false told → CommitsAreCounted events c told → (reads_commit z.text ≡ true → open_after told ≡ true → CommitIsCounted (read_items_since events c (begun_in told) told) (id_of c (begun_in told)) z.answer (calls_of events c z)) → CommitsAreCounted events c (told ++ z ∷ [])
-commits_more events c told z pairs k last n begin body s tail since goes reads = by (from_begin n told) refl
+pub commits_more : (events : List Event) (c : ℕ) (answered : List Executed) (z : Executed) → ArePaired false answered → CommitsAreCounted events c answered → (reads_commit z.text ≡ true → open_after answered ≡ true → CommitIsCounted (read_items_since events c (begun_in answered) answered) (id_of c (begun_in answered)) z.answer (calls_of events c z)) → CommitsAreCounted events c (answered ++ z ∷ [])
+commits_more events c answered z pairs k last n begin body s tail since goes reads = by (from_begin n answered) refl
   where
     none : (ys : List Executed) → ys ++ s ∷ tail ≡ [] → ⊥
     none [] h = absurd (cc)
     none (w ∷ ys) h = absurd (cc)
 
-    here : (b : Executed) (r : List Executed) → from_begin n told ≡ b ∷ r → b ≡ begin → ((r ≡ body) × (z ≡ s)) ⊎ ((front : List Executed) × (r ≡ body ++ s ∷ front)) → CommitIsCounted (read_items_of_body events c body) (id_of c n) s.answer (calls_of events c s)
+    here : (b : Executed) (r : List Executed) → from_begin n answered ≡ b ∷ r → b ≡ begin → ((r ≡ body) × (z ≡ s)) ⊎ ((front : List Executed) × (r ≡ body ++ s ∷ front)) → CommitIsCounted (read_items_of_body events c body) (id_of c n) s.answer (calls_of events c s)
     here b r e f (inr h) = k n b body s h.0 (e ∙ ap (λ x. b ∷ x) h.1) goes reads
     here b r e f (inl h) =
-        let from : from_begin n told ≡ b ∷ body = e ∙ ap (λ x. b ∷ x) h.0 in
-        let only = open_only n told false b body pairs from goes in
+        let from : from_begin n answered ≡ b ∷ body = e ∙ ap (λ x. b ∷ x) h.0 in
+        let only = open_only n answered false b body pairs from goes in
         let fits = last (ap (λ (y : Executed). reads_commit y.text) h.1 ∙ reads) only.1 in
-        let read_set : read_items_since events c (begun_in told) told ≡ read_items_of_body events c body = ap (λ i. read_items_since events c i told) (sym only.0) ∙ ap (λ x. read_items_of_body events c (rest_of x)) from in
+        let read_set : read_items_since events c (begun_in answered) answered ≡ read_items_of_body events c body = ap (λ i. read_items_since events c i answered) (sym only.0) ∙ ap (λ x. read_items_of_body events c (rest_of x)) from in
         subst (λ (y : Executed). CommitIsCounted (read_items_of_body events c body) (id_of c n) y.answer (calls_of events c y)) h.1
         (subst (λ i. CommitIsCounted (read_items_of_body events c body) (id_of c i) z.answer (calls_of events c z)) (sym only.0)
-        (subst (λ ns. CommitIsCounted ns (id_of c (begun_in told)) z.answer (calls_of events c z)) read_set fits))
+        (subst (λ ns. CommitIsCounted ns (id_of c (begun_in answered)) z.answer (calls_of events c z)) read_set fits))
 
-    by : (r : List Executed) → from_begin n told ≡ r → CommitIsCounted (read_items_of_body events c body) (id_of c n) s.answer (calls_of events c s)
-    by [] e = absurd (none body (sym (ap rest_of since) ∙ since_none n told z e))
+    by : (r : List Executed) → from_begin n answered ≡ r → CommitIsCounted (read_items_of_body events c body) (id_of c n) s.answer (calls_of events c s)
+    by [] e = absurd (none body (sym (ap rest_of since) ∙ since_none n answered z e))
     by (b ∷ r) e =
-        let whole : b ∷ (r ++ z ∷ []) ≡ begin ∷ (body ++ s ∷ tail) = sym (since_more n told z b r e) ∙ since in
+        let whole : b ∷ (r ++ z ∷ []) ≡ begin ∷ (body ++ s ∷ tail) = sym (since_more n answered z b r e) ∙ since in
         let first : b ≡ begin = cc in
         let rest : r ++ z ∷ [] ≡ body ++ s ∷ tail = cc in
         here b r e first (last_or r z body s tail rest)

@@ -3,20 +3,14 @@ use Rattle.std.proofs.Common.{◌≡◌, ◌<◌, ◌^◌, ◌⊎◌, inl, inr, 
 use Rattle.std.specs.Prelude.{if◌then◌else◌, find, Contains}
 use Rattle.std.specs.Option.{option_and_then}
 use Rattle.std.proofs.lemmas.List.Elements.{Contains-append_left, Contains-push}
-use Rattle.sdb_types.specs.declared.key.Key.{Key}
-use Rattle.sdb_types.specs.declared.record.Record.{Record}
-use Rattle.sdb_types.specs.declared.record.Reply.{Reply}
-use Rattle.sdb_types.specs.declared.txid.TxId.{TxId}
-use Rattle.sdb_schema.specs.declared.table.Table.{Table}
+use Rattle.law_answers.specs.Types.{Event, Key, Outcome, Record, Reply, Table, TxId}
 use Rattle.sdb_types.proofs.Basics.{clash, none_some, some_is}
 use Rattle.sdb_model.specs.declared.answer.Answer.TheVariants as answer
-use Rattle.sdb_model.specs.declared.event.Event.{Event}
 use Rattle.sdb_model.specs.Calls.{StoreCall, calls_of}
 use Rattle.sdb_model.specs.Causes.{ConflictsAtCommit, IsCaused, IsCommitOf}
 use Rattle.sdb_model.specs.Sql.{reads_commit}
 use Rattle.sdb_model.specs.Transactions.{Executed, client_of, commit_of, ends, from_begin, id_of, is_conflict, ordinal_of, rest_of, statements_by}
-use Rattle.sdb_commit.specs.Phases.{IsNext, ended_at}
-use Rattle.sdb_phases.specs.declared.step.Outcome.{Outcome}
+use Rattle.sdb_txn.specs.Phases.{IsNext, ended_at}
 use Rattle.sdb_phases.specs.declared.step.Outcome.TheVariants as outcome
 use Rattle.sdb_phases.specs.Commit.{Stage, Preparing, Checking, Deciding, Forward, Stopping, Back, Over, out_of_memory as out_of_memory_stage, step as commit_step}
 use Rattle.sdb_phases.specs.Work.{Work}
@@ -97,17 +91,17 @@ outcome_caused catalog events c s id outcome.Faulted commit e z = e
 outcome_caused catalog events c s id (outcome.Unknown u) commit e z =
     let b = subst (λ (i : TxId). HasFailed i (calls_of events c s)) (sym e.0) e.1 in
     record { commit = subst (IsCommitOf events c s) (sym e.0) commit; put = b.put; later = b.later; deciding = b.deciding; failed = b.failed }
-outcome_caused catalog events c s id (outcome.BadRecord key) commit e z = inl (e.1.call, e.1.found, e.1.among, e.1.shown, e.1.same, bad_is_bad id e.1.found (e.1.same ∙ e.0) e.1.bad)
+outcome_caused catalog events c s id (outcome.BadRecord key) commit e z = inl (e.1.call, e.1.found, e.1.among, e.1.observed, e.1.same, bad_is_bad id e.1.found (e.1.same ∙ e.0) e.1.bad)
 outcome_caused catalog events c s id outcome.NoMemory commit e z = tt
 
 ---- the COMMIT of a transaction
 
 -- what ends the open transaction and reads as COMMIT is its COMMIT
-pub commit_is : (events : List Event) (c n : ℕ) (told : List Executed) (w : Executed) (t : TxnAt) → n < 2 ^ 64 → statements_by c events ≡ told ++ w ∷ [] → reads_commit w.text ≡ true → ends w ≡ true → IsOpenAs c n told t → IsCommitOf events c w t.id
-commit_is events c n told w t small same commit over o = subst (IsCommitOf events c w) (sym o.id) (client_is c n small, ends_it)
+pub commit_is : (events : List Event) (c n : ℕ) (answered : List Executed) (w : Executed) (t : TxnAt) → n < 2 ^ 64 → statements_by c events ≡ answered ++ w ∷ [] → reads_commit w.text ≡ true → ends w ≡ true → IsOpenAs c n answered t → IsCommitOf events c w t.id
+commit_is events c n answered w t small same commit over o = subst (IsCommitOf events c w) (sym o.id) (client_is c n small, ends_it)
   where
     since : from_begin (ordinal_of (id_of c n)) (statements_by (client_of (id_of c n)) events) ≡ o.begin ∷ (o.body ++ w ∷ [])
-    since = ap (λ d. from_begin (ordinal_of (id_of c n)) (statements_by d events)) (client_is c n small) ∙ ap (λ k. from_begin k (statements_by c events)) (ordinal_is c n small) ∙ ap (from_begin n) same ∙ since_more n told w o.begin o.body o.since
+    since = ap (λ d. from_begin (ordinal_of (id_of c n)) (statements_by d events)) (client_is c n small) ∙ ap (λ k. from_begin k (statements_by c events)) (ordinal_is c n small) ∙ ap (from_begin n) same ∙ since_more n answered w o.begin o.body o.since
 
     ends_it : commit_of events (id_of c n) ≡ Some w
     ends_it =

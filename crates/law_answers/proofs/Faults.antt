@@ -2,20 +2,14 @@
 use Rattle.std.proofs.Common.{◌≡◌, ◌⊎◌, inl, inr, ℕ, ◌+◌, Bool, true, false, List, [], ◌∷◌, ◌++◌, Option, Some, None, refl, sym, ap, subst, ◌∙◌, arith}
 use Rattle.std.specs.Prelude.{◌==◌, ◌&&◌, if◌then◌else◌, nat_le, nat_lt, Contains, MatchBool}
 use Rattle.std.specs.List.{AllByRecursion, cons_option, enumerate_from, filter_map}
-use Rattle.sdb_types.specs.declared.record.Reply.{Reply}
+use Rattle.law_answers.specs.Types.{Act, Event, How, Move, Reply, Script, ScriptClient}
 use Rattle.sdb_types.specs.declared.record.Reply.TheVariants as reply
 use Rattle.sdb_types.specs.Replies.{is_fault, is_answered}
 use Rattle.sdb_types.proofs.Basics.{clash, none_some, some_is, append_all, one_of}
-use Rattle.sdb_model.specs.declared.event.Event.{Event}
 use Rattle.sdb_model.specs.declared.event.Event.TheVariants as event
-use Rattle.sdb_model.specs.declared.event.How.{How}
 use Rattle.sdb_model.specs.declared.event.How.TheVariants.{Seen, Lost, Discarded, Broken}
-use Rattle.sdb_model.specs.declared.script.Act.{Act}
 use Rattle.sdb_model.specs.declared.script.Act.TheVariants as act
-use Rattle.sdb_model.specs.declared.script.Move.{Move}
 use Rattle.sdb_model.specs.declared.script.Move.TheVariants as move
-use Rattle.sdb_model.specs.declared.script.Script.{Script}
-use Rattle.sdb_model.specs.declared.script.ScriptClient.{ScriptClient}
 use Rattle.sdb_model.specs.Calls.{StoreCall, calls_by, calls_of, end_of, made_by}
 use Rattle.sdb_model.specs.Counted.{is_seen}
 use Rattle.sdb_model.specs.Follows.{AreOfMoves, AreStepsOf, Follows, IsActed, IsCallOf, IsHowOfDiscard, IsHowOfLose, IsHowOfStep, IsOfMove, IsRest, IsStep, IsTakeOf, has_work, is_pending}
@@ -127,7 +121,7 @@ calls_fit c n (e ∷ es) m fits has = by (made_by c (n, e)) refl has (λ among. 
         first (inr among) = later among
 
 said_fit : (script : Script) (events : List Event) → Follows script events → (c : ℕ) (s : Executed) (m : StoreCall) → Contains (calls_of events c s) m → HowFits m.how m.reply
-said_fit script events follows c s m among = calls_fit c 1 events m (moves_fit script.clients script.moves [] events follows) (kept_in (λ (x : StoreCall). nat_lt s.taken x.at && nat_le x.at (end_of events s)) (calls_by events c) m among)
+said_fit script events follows c s m among = calls_fit c 1 events m (moves_fit script.clients script.moves [] events follows) (kept_in (λ (x : StoreCall). nat_lt s.accepted x.at && nat_le x.at (end_of events s)) (calls_by events c) m among)
 
 pub seen_no_faults : (script : Script) (events : List Event) → Follows script events → SeenAreNoFaults events
 seen_no_faults script events follows c s m has among = (said_fit script events follows c s m among).0

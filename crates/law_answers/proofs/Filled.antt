@@ -8,17 +8,11 @@ use Rattle.std.specs.FinMap.{entries, entries_sorted, find, get-entries, is_sort
 use Rattle.std.specs.FinMap.Entries.{below_all}
 use Rattle.std.proofs.lemmas.Bool.{and_parts}
 use Rattle.std.proofs.lemmas.List.Sums.{sum_by-cons, sum_by-le-sum_by}
-use Rattle.sdb_types.specs.declared.key.Key.{Key}
-use Rattle.sdb_types.specs.declared.pair.Pair.{Pair}
-use Rattle.sdb_types.specs.declared.record.Record.{Record}
+use Rattle.law_answers.specs.Types.{Access, Image, Key, Keyed, Pair, Record, Write}
 use Rattle.sdb_types.specs.Order.{key_cmp, same_key}
 use Rattle.sdb_types.proofs.Basics.{by_test, clash, none_some, truth, or_false}
 use Rattle.sdb_types.proofs.KeyOrder.{key_total}
 use Rattle.sdb_types.proofs.Keys.{same_key_exact}
-use Rattle.sdb_record.specs.declared.access.Access.{Access}
-use Rattle.sdb_record.specs.declared.access.Image.{Image}
-use Rattle.sdb_record.specs.declared.write.Keyed.{Keyed}
-use Rattle.sdb_record.specs.declared.write.Write.{Write}
 use Rattle.sdb_record.specs.Among.{is_written, write_among}
 use Rattle.sdb_exec.proofs.Laid.{by_key}
 use Rattle.sdb_model.specs.Access.{in_access}

@@ -6,20 +6,11 @@ use Rattle.std.specs.Option.{option_map_or}
 use Rattle.std.proofs.lemmas.List.{append-nil, length-map}
 use Rattle.std.proofs.lemmas.List.Elements.{filter-append}
 use Rattle.std.proofs.lemmas.List.Sums.{sum_by-append, sum_by-cons}
-use Rattle.sdb_types.specs.declared.key.Key.{Key}
-use Rattle.sdb_types.specs.declared.record.Record.{Record}
+use Rattle.law_answers.specs.Types.{Access, Answer, Doing, Event, Image, Key, Keyed, Record, Statement, Table, Write}
 use Rattle.sdb_types.proofs.Basics.{clash}
-use Rattle.sdb_record.specs.declared.access.Access.{Access}
 use Rattle.sdb_record.specs.declared.access.Access.TheVariants as access
-use Rattle.sdb_record.specs.declared.access.Image.{Image}
 use Rattle.sdb_record.specs.declared.write.Change.TheVariants as change
-use Rattle.sdb_record.specs.declared.write.Keyed.{Keyed}
-use Rattle.sdb_record.specs.declared.write.Write.{Write}
-use Rattle.sdb_schema.specs.declared.table.Table.{Table}
-use Rattle.sdb_model.specs.declared.answer.Answer.{Answer}
 use Rattle.sdb_model.specs.declared.answer.Answer.TheVariants as answer
-use Rattle.sdb_model.specs.declared.event.Event.{Event}
-use Rattle.sdb_model.specs.declared.statement.Statement.{Statement}
 use Rattle.sdb_model.specs.declared.statement.Statement.TheVariants as statement
 use Rattle.sdb_model.specs.Calls.{StoreCall, calls_of, records_read}
 use Rattle.sdb_model.specs.Causes.{may_pass, records_found, refused, rows_counted}
@@ -28,11 +19,10 @@ use Rattle.sdb_model.specs.ReadSet.{has_read, reads_rows}
 use Rattle.sdb_model.specs.Transactions.{Executed, changes_nothing, from_begin, is_effective, rest_of}
 use Rattle.sdb_exec.specs.declared.plan.PlanStep.TheVariants.{Finished}
 use Rattle.sdb_exec.specs.Plans.{Planned, answer_on, changes_on, columns_at, finished, first_unfit, put_row, step_at, step_of}
-use Rattle.sdb_read.specs.Read.{request_of}
+use Rattle.sdb_txn.specs.Read.{request_of}
 use Rattle.sdb_snapshot.specs.Reads.{ReadRecord, is_key_read, with_images, with_read_record}
 use Rattle.sdb_snapshot.specs.Seen.{Seen, nothing, overlay}
 use Rattle.sdb_snapshot.specs.Written.{with_writes}
-use Rattle.sdb_txn.specs.declared.txn.Doing.{Doing}
 use Rattle.sdb_txn.specs.declared.txn.Doing.TheVariants as doing
 use Rattle.sdb_txn.specs.Txn.{TxnAt}
 use Rattle.sdb_client.specs.Client.{given_answer, given_left, left_by_answer, with_rows_read, too_many, written}
@@ -118,9 +108,9 @@ filled_more catalog events e c body x s all =
     (subst (λ n. records_found_by events c body ≤ n) (sym (found_more (events ++ e ∷ []) c body x)) (through (records_found_by events c body) (records_found_by (events ++ e ∷ []) c body) (records_found_by (events ++ e ∷ []) c body + records_found_by (events ++ e ∷ []) c (x ∷ [])) (found_stays catalog events e c body all) (further (records_found_by (events ++ e ∷ []) c body) (records_found_by (events ++ e ∷ []) c (x ∷ [])))))
 
 -- of a transaction that does nothing
-pub filled_idle : (events : List Event) (c n : ℕ) (told : List Executed) (s begin : Executed) (body : List Executed) (t : TxnAt) → from_begin n told ≡ begin ∷ body → t.doing ≡ doing.Idle → IsFilledBy (rows_counted_by (body ++ s ∷ [])) (records_found_by events c (body ++ s ∷ [])) t.seen → IsFilled events c (rest_of (from_begin n (told ++ s ∷ []))) t
-filled_idle events c n told s begin body t since idle h =
-    subst (λ r. IsFilledIn events c (rest_of r) t.seen t.doing) (sym (since_more n told s begin body since)) (subst (IsFilledIn events c (body ++ s ∷ []) t.seen) (sym idle) h)
+pub filled_idle : (events : List Event) (c n : ℕ) (answered : List Executed) (s begin : Executed) (body : List Executed) (t : TxnAt) → from_begin n answered ≡ begin ∷ body → t.doing ≡ doing.Idle → IsFilledBy (rows_counted_by (body ++ s ∷ [])) (records_found_by events c (body ++ s ∷ [])) t.seen → IsFilled events c (rest_of (from_begin n (answered ++ s ∷ []))) t
+filled_idle events c n answered s begin body t since idle h =
+    subst (λ r. IsFilledIn events c (rest_of r) t.seen t.doing) (sym (since_more n answered s begin body since)) (subst (IsFilledIn events c (body ++ s ∷ []) t.seen) (sym idle) h)
 
 ---- what a read notes
 

@@ -6,23 +6,15 @@ use Rattle.std.specs.Option.{option_map, option_map_or}
 use Rattle.std.specs.Ordering.{is_eq}
 use Rattle.std.specs.Cmp.{tied_itself}
 use Rattle.std.specs.FinMap.{entries, entries_sorted, find as find_key, get, get-entries, get-from_entries, same_map}
-use Rattle.sdb_types.specs.declared.key.Key.{Key}
-use Rattle.sdb_types.specs.declared.pair.Pair.{Pair}
+use Rattle.law_answers.specs.Types.{Access, Answer, Change, Image, Key, Keyed, Pair, Statement, Table}
 use Rattle.sdb_types.specs.Exact.{equal_of}
 use Rattle.sdb_types.specs.Order.{key_cmp}
 use Rattle.sdb_types.proofs.Basics.{clash, none_some, some_is, truth}
 use Rattle.sdb_types.proofs.KeyOrder.{key_exact, key_total}
-use Rattle.sdb_schema.specs.declared.table.Table.{Table}
 use Rattle.sdb_schema.specs.Catalog.{is_catalog}
 use Rattle.sdb_schema.specs.Rows.{fits_table}
-use Rattle.sdb_record.specs.declared.access.Access.{Access}
-use Rattle.sdb_record.specs.declared.access.Image.{Image}
-use Rattle.sdb_record.specs.declared.write.Change.{Change}
 use Rattle.sdb_record.specs.declared.write.Change.TheVariants as change
-use Rattle.sdb_record.specs.declared.write.Keyed.{Keyed}
 use Rattle.sdb_record.specs.Rolls.{row_of_change}
-use Rattle.sdb_model.specs.declared.answer.Answer.{Answer}
-use Rattle.sdb_model.specs.declared.statement.Statement.{Statement}
 use Rattle.sdb_model.specs.declared.statement.Statement.TheVariants as statement
 use Rattle.sdb_model.specs.Access.{in_access, rows_at, with_changes, with_row}
 use Rattle.sdb_model.specs.Exec.{Tables, all_rows, entry_of_row, exec, find_table, key_of, named_table, passes, row_of_entry, table_of, with_named, with_sets}
@@ -224,9 +216,9 @@ module _ (catalog : List Table) (table : Table) (st : Statement) (s : Seen) (is 
   pub exec_at : (q : Key) → RowFits catalog q (get (tables_seen s) q) → get (exec catalog st part).1 q ≡ get (with_changes (tables_seen s) changes) q
   exec_at q fits = ap (λ (x : Answer × Tables). get x.1 q) exec_fitting ∙ laid_same changes part (tables_seen s) q (fitting_same catalog (tables_seen s) q fits)
 
-  module _ (taken : refusal_of catalog st ≡ None) (literals : has_all_literals st ≡ true) where
+  module _ (accepted : refusal_of catalog st ≡ None) (literals : has_all_literals st ≡ true) where
     left_fits : tables_are_well_typed catalog (with_changes part changes) ≡ true
-    left_fits = (answers_on catalog (plan_of table st) s (answer_on table st rows) changes is named refl taken literals (asked_gives (plan_of table st) rows None refl none) part (part_fits catalog (tables_seen s)) rows_fitting).1
+    left_fits = (answers_on catalog (plan_of table st) s (answer_on table st rows) changes is named refl accepted literals (asked_gives (plan_of table st) rows None refl none) part (part_fits catalog (tables_seen s)) rows_fitting).1
 
     -- a row that is left fits, or was there
     pub left_at_key : (q : Key) (cs : List Pair) → get (with_changes (tables_seen s) changes) q ≡ Some cs → (row_is_well_typed catalog q cs ≡ true) ⊎ (get (tables_seen s) q ≡ Some cs)

@@ -9,25 +9,17 @@ use Rattle.sdb_types.specs.Exact.{equal_of}
 use Rattle.sdb_types.specs.Order.{table_cmp}
 use Rattle.sdb_types.proofs.KeyOrder.{key_exact, table_exact}
 use Rattle.sdb_record.specs.Coordinator.{is_coordinator_table}
-use Rattle.sdb_record.specs.declared.access.Access.{Access}
+use Rattle.law_answers.specs.Types.{Access, Answer, Event, Image, Key, Keyed, PlanStep, Statement, Table}
 use Rattle.sdb_record.specs.declared.access.Access.TheVariants as access
 use Rattle.sdb_model.specs.Access.{in_access}
 use Rattle.sdb_snapshot.specs.Seen.{Seen, overlay, tables_seen}
 use Rattle.law_clients.proofs.InTables.{access_table}
-use Rattle.sdb_types.specs.declared.key.Key.{Key}
-use Rattle.sdb_record.specs.declared.access.Image.{Image}
-use Rattle.sdb_record.specs.declared.write.Keyed.{Keyed}
-use Rattle.sdb_schema.specs.declared.table.Table.{Table}
-use Rattle.sdb_model.specs.declared.answer.Answer.{Answer}
 use Rattle.sdb_model.specs.declared.answer.Answer.TheVariants as answer
-use Rattle.sdb_model.specs.declared.event.Event.{Event}
-use Rattle.sdb_model.specs.declared.statement.Statement.{Statement}
 use Rattle.sdb_model.specs.declared.statement.Statement.TheVariants as statement
 use Rattle.sdb_model.specs.Causes.{IsBadRecord, IsCaused, MayPassMost, before, is_open, refused}
 use Rattle.sdb_model.specs.Exec.{all_rows, key_of, named_table}
 use Rattle.sdb_model.specs.Sql.{Reads}
 use Rattle.sdb_model.specs.Transactions.{Executed, changes_nothing, is_conflict, is_done}
-use Rattle.sdb_exec.specs.declared.plan.PlanStep.{PlanStep}
 use Rattle.sdb_exec.specs.declared.plan.PlanStep.TheVariants.{Finished}
 use Rattle.sdb_exec.specs.Plans.{Planned, answer_on, changes_on, columns_at, finished, first_unfit, is_unfit, step_at, step_of}
 use Rattle.sdb_txn.specs.Txn.{TxnAt}
@@ -52,7 +44,7 @@ on_rows catalog events c s t statement.Vacuum rows reads named open_before = non
 
 -- what a plan that was asked gives, with no more keys than may be
 given_on : (catalog : List Table) (events : List Event) (c : ℕ) (s : Executed) (t : TxnAt) (x : PlanStep) (b : Answer) (ks : List Keyed) → (is_conflict (Some b) ≡ false → IsCaused catalog events c s b) → ((not (changes_nothing b) && too_many t ks) ≡ true → MayPassMost events c s) → x ≡ Finished b ks → is_conflict (Some (given_answer t x)) ≡ false → IsCaused catalog events c s (given_answer t x)
-given_on catalog events c s t x b ks caused full e told = subst (λ y. IsCaused catalog events c s (given_answer t y)) (sym e) (by (not (changes_nothing b) && too_many t ks) refl (subst (λ y. is_conflict (Some (given_answer t y)) ≡ false) e told))
+given_on catalog events c s t x b ks caused full e answered = subst (λ y. IsCaused catalog events c s (given_answer t y)) (sym e) (by (not (changes_nothing b) && too_many t ks) refl (subst (λ y. is_conflict (Some (given_answer t y)) ≡ false) e answered))
   where
     by : (z : Bool) → (not (changes_nothing b) && too_many t ks) ≡ z → is_conflict (Some (if z then refused 15 else b)) ≡ false → IsCaused catalog events c s (if z then refused 15 else b)
     by true many h = inr (refl, refl, full many)

@@ -4,15 +4,12 @@ use Rattle.std.specs.Prelude.{if◌then◌else◌, ◌&&◌, ◌||◌, fold, is_
 use Rattle.std.specs.List.{AllByRecursion}
 use Rattle.std.proofs.lemmas.List.{append-nil}
 use Rattle.std.proofs.lemmas.List.Sums.{fold-append}
-use Rattle.sdb_schema.specs.declared.table.Table.{Table}
-use Rattle.sdb_model.specs.declared.answer.Answer.{Answer}
-use Rattle.sdb_model.specs.declared.event.Event.{Event}
+use Rattle.law_answers.specs.Types.{Answer, Doing, Event, Table}
 use Rattle.sdb_model.specs.Calls.{calls_of, made_by}
 use Rattle.sdb_model.specs.Causes.{is_open, is_open_after, runs_vacuum}
 use Rattle.sdb_model.specs.Sql.{reads_begin, reads_commit, reads_rollback, reads_vacuum}
 use Rattle.sdb_model.specs.Transactions.{Executed, begins, ends, from_begin, is_conflict, is_done, rest_of, statements_by}
 use Rattle.sdb_exec.specs.Plans.{Planned}
-use Rattle.sdb_txn.specs.declared.txn.Doing.{Doing}
 use Rattle.sdb_txn.specs.declared.txn.Doing.TheVariants as doing
 use Rattle.sdb_txn.specs.Txn.{TxnAt}
 use Rattle.sdb_vacuum.specs.Vacuum.{VacuumAt}
@@ -53,8 +50,8 @@ opened_none was a b c (Some x) e = none_some x (sym e)
 pub waits_open : (was : Bool) (w : Executed) → w.answer ≡ None → is_open_after was w ≡ was
 waits_open was w e = opened_none was (reads_begin w.text) (reads_commit w.text) (reads_rollback w.text) w.answer e
 
-pub after_more : (told : List Executed) (s : Executed) → open_after (told ++ s ∷ []) ≡ is_open_after (open_after told) s
-after_more told s = fold-append is_open_after false told (s ∷ [])
+pub after_more : (acked : List Executed) (s : Executed) → open_after (acked ++ s ∷ []) ≡ is_open_after (open_after acked) s
+after_more acked s = fold-append is_open_after false acked (s ∷ [])
 
 -- a statement that neither begins nor ends one
 pub after_plain : (was : Bool) (s : Executed) → begins s ≡ false → (was ≡ true → ends s ≡ false) → is_open_after was s ≡ was
@@ -76,30 +73,30 @@ after_begin was s b = ap (λ x. if x then true else if ends s && is_some s.answe
 
 -- a client has a transaction open where its events say so
 pub open_now : (catalog : List Table) (events : List Event) (c : ℕ) (h : ClientAt) → Knows catalog events c h → is_open events c ≡ is_some h.txn
-open_now catalog events c h k = ap open_after k.same ∙ all_told k.waiting k.waits ∙ either h.vacuum k.stands
+open_now catalog events c h k = ap open_after k.same ∙ all_told k.waiting k.waits ∙ either h.vacuum k.agrees
   where
-    all_told : (o : Option Executed) → IfSome o (IsWaiting catalog events c (is_some h.vacuum)) → open_after (k.told ++ waiting_of o) ≡ open_after k.told
-    all_told None w = ap open_after (append-nil k.told)
-    all_told (Some w) waits = after_more k.told w ∙ waits_open (open_after k.told) w waits.unanswered
+    all_told : (o : Option Executed) → IfSome o (IsWaiting catalog events c (is_some h.vacuum)) → open_after (k.answered ++ waiting_of o) ≡ open_after k.answered
+    all_told None w = ap open_after (append-nil k.answered)
+    all_told (Some w) waits = after_more k.answered w ∙ waits_open (open_after k.answered) w waits.unanswered
 
-    by : (o : Option TxnAt) → DoingByHistory events c h.begun k.told k.waiting h.plan o → open_after k.told ≡ is_some o
+    by : (o : Option TxnAt) → DoingByHistory events c h.begun k.answered k.waiting h.plan o → open_after k.answered ≡ is_some o
     by None s = s.1
     by (Some t) s = s.0
 
-    sweeps : (w : Option Executed) (v : VacuumAt) → IsInVacuum events c k.told w h.txn v → open_after k.told ≡ is_some h.txn
-    sweeps None v s = absurd s
-    sweeps (Some w) v s = s.1 ∙ sym (ap is_some s.0)
+    vacuums : (w : Option Executed) (v : VacuumAt) → IsInVacuum events c k.answered w h.txn v → open_after k.answered ≡ is_some h.txn
+    vacuums None v s = absurd s
+    vacuums (Some w) v s = s.1 ∙ sym (ap is_some s.0)
 
-    either : (v : Option VacuumAt) → ClientByHistory events c h.begun k.told k.waiting h.plan h.txn v → open_after k.told ≡ is_some h.txn
+    either : (v : Option VacuumAt) → ClientByHistory events c h.begun k.answered k.waiting h.plan h.txn v → open_after k.answered ≡ is_some h.txn
     either None s = by h.txn s
-    either (Some v) s = sweeps k.waiting v s
+    either (Some v) s = vacuums k.waiting v s
 
 abbrev sweeping : Bool → Executed → Bool
 sweeping was s = reads_vacuum s.text && is_none s.answer
 
 -- it runs VACUUM where its events say so
 pub sweeps_now : (catalog : List Table) (events : List Event) (c : ℕ) (h : ClientAt) → Knows catalog events c h → runs_vacuum events c ≡ is_some h.vacuum
-sweeps_now catalog events c h k = ap (fold sweeping false) k.same ∙ fold-append sweeping false k.told (waiting_of k.waiting) ∙ ap (λ b. fold sweeping b (waiting_of k.waiting)) (none k.told false refl k.answered) ∙ last k.waiting k.waits (only h.vacuum k.waiting k.stands)
+sweeps_now catalog events c h k = ap (fold sweeping false) k.same ∙ fold-append sweeping false k.answered (waiting_of k.waiting) ∙ ap (λ b. fold sweeping b (waiting_of k.waiting)) (none k.answered false refl k.answered) ∙ last k.waiting k.waits (only h.vacuum k.waiting k.agrees)
   where
     not_none : (b : Bool) → (b && false) ≡ false
     not_none true = refl
@@ -113,7 +110,7 @@ sweeps_now catalog events c h k = ap (fold sweeping false) k.same ∙ fold-appen
     none (s ∷ ss) b e all = none ss (sweeping b s) (answered s all.0.given all.0.is) all.1
 
     -- one that runs VACUUM waits for a statement
-    only : (v : Option VacuumAt) (o : Option Executed) → ClientByHistory events c h.begun k.told o h.plan h.txn v → o ≡ None → is_some v ≡ false
+    only : (v : Option VacuumAt) (o : Option Executed) → ClientByHistory events c h.begun k.answered o h.plan h.txn v → o ≡ None → is_some v ≡ false
     only None o s e = refl
     only (Some v) None s e = absurd s
     only (Some v) (Some w) s e = none_some w (sym e)
@@ -131,7 +128,7 @@ sweeps_now catalog events c h k = ap (fold sweeping false) k.same ∙ fold-appen
 -- the calls of the statement that waits stay
 pub calls_wait : (catalog : List Table) (c : ℕ) (events : List Event) (e : Event) (w : Executed) → made_by c (1 + length events, e) ≡ None → w.answer ≡ None → calls_of (events ++ e ∷ []) c w ≡ calls_of events c w
 calls_wait catalog c events e w none unanswered =
-    calls_open c (events ++ e ∷ []) w (end_waiting (events ++ e ∷ []) w unanswered) ∙ later_same c events e w.taken none ∙ sym (calls_open c events w (end_waiting events w unanswered))
+    calls_open c (events ++ e ∷ []) w (end_waiting (events ++ e ∷ []) w unanswered) ∙ later_same c events e w.accepted none ∙ sym (calls_open c events w (end_waiting events w unanswered))
 
 doing_stays : (c : ℕ) (events : List Event) (e : Event) (t : TxnAt) (p : Option Planned) (w : Option Executed) (d : Doing) → ((x : Executed) → w ≡ Some x → calls_of (events ++ e ∷ []) c x ≡ calls_of events c x) → IsDoing events c t p w d → IsDoing (events ++ e ∷ []) c t p w d
 doing_stays c events e t p w doing.Idle same h = h
@@ -142,45 +139,45 @@ doing_stays c events e t p (Some w) (doing.Commit k) same h = record { text = h.
 doing_stays c events e t p None (doing.Commit k) same h = h
 doing_stays c events e t p w doing.Over same h = h
 
-noting_stays : (catalog : List Table) (c : ℕ) (events : List Event) (e : Event) (n : ℕ) (told : List Executed) (t : TxnAt) (o : IsOpenAs c n told t) (d : Doing) (w : Option Executed) → ((x : Executed) → w ≡ Some x → calls_of (events ++ e ∷ []) c x ≡ calls_of events c x) → AllByRecursion (IsAnswered catalog events c) told
-    → IsReadSetOf events c told o.body t d w → IsReadSetOf (events ++ e ∷ []) c told o.body t d w
-noting_stays catalog c events e n told t o doing.Idle w same all h = noted_still catalog events e c n told t o all t.seen h
-noting_stays catalog c events e n told t o (doing.Read a x) w same all h = noted_still catalog events e c n told t o all t.seen h
-noting_stays catalog c events e n told t o (doing.Commit k) None same all h = tt
-noting_stays catalog c events e n told t o (doing.Commit k) (Some x) same all h =
-    let read_set : read_items_of_body events c o.body ≡ read_items_of_body (events ++ e ∷ []) c o.body = sym (notes_stay catalog events e c o.body (body_answered catalog events e c n told t o all)) in
+noting_stays : (catalog : List Table) (c : ℕ) (events : List Event) (e : Event) (n : ℕ) (acked : List Executed) (t : TxnAt) (o : IsOpenAs c n acked t) (d : Doing) (w : Option Executed) → ((x : Executed) → w ≡ Some x → calls_of (events ++ e ∷ []) c x ≡ calls_of events c x) → AllByRecursion (IsAnswered catalog events c) acked
+    → IsReadSetOf events c acked o.body t d w → IsReadSetOf (events ++ e ∷ []) c acked o.body t d w
+noting_stays catalog c events e n acked t o doing.Idle w same all h = noted_still catalog events e c n acked t o all t.seen h
+noting_stays catalog c events e n acked t o (doing.Read a x) w same all h = noted_still catalog events e c n acked t o all t.seen h
+noting_stays catalog c events e n acked t o (doing.Commit k) None same all h = tt
+noting_stays catalog c events e n acked t o (doing.Commit k) (Some x) same all h =
+    let read_set : read_items_of_body events c o.body ≡ read_items_of_body (events ++ e ∷ []) c o.body = sym (notes_stay catalog events e c o.body (body_answered catalog events e c n acked t o all)) in
     (subst (λ ns. WorkBy ns k.work) read_set h.0, subst (λ ns. ChecksBy ns k.work (calls_of (events ++ e ∷ []) c x) k.stage) read_set (subst (λ ms. ChecksBy (read_items_of_body events c o.body) k.work ms k.stage) (sym (same x refl)) h.1))
-noting_stays catalog c events e n told t o doing.Over w same all h = noted_still catalog events e c n told t o all t.seen h
+noting_stays catalog c events e n acked t o doing.Over w same all h = noted_still catalog events e c n acked t o all t.seen h
 
-stands_stay : (catalog : List Table) (c : ℕ) (events : List Event) (e : Event) (n : ℕ) (told : List Executed) (w : Option Executed) (p : Option Planned) (o : Option TxnAt) → AllByRecursion (IsAnswered catalog events c) told → ((x : Executed) → w ≡ Some x → calls_of (events ++ e ∷ []) c x ≡ calls_of events c x) → DoingByHistory events c n told w p o → DoingByHistory (events ++ e ∷ []) c n told w p o
-stands_stay catalog c events e n told w p None all same s = s
-stands_stay catalog c events e n told w p (Some t) all same s = (s.0, s.1, doing_stays c events e t p w t.doing same s.2, noting_stays catalog c events e n told t s.1 t.doing w same all s.3)
+stands_stay : (catalog : List Table) (c : ℕ) (events : List Event) (e : Event) (n : ℕ) (acked : List Executed) (w : Option Executed) (p : Option Planned) (o : Option TxnAt) → AllByRecursion (IsAnswered catalog events c) acked → ((x : Executed) → w ≡ Some x → calls_of (events ++ e ∷ []) c x ≡ calls_of events c x) → DoingByHistory events c n acked w p o → DoingByHistory (events ++ e ∷ []) c n acked w p o
+stands_stay catalog c events e n acked w p None all same s = s
+stands_stay catalog c events e n acked w p (Some t) all same s = (s.0, s.1, doing_stays c events e t p w t.doing same s.2, noting_stays catalog c events e n acked t s.1 t.doing w same all s.3)
 
 -- and so does a client that runs VACUUM
-stays_on : (catalog : List Table) (c : ℕ) (events : List Event) (e : Event) (n : ℕ) (told : List Executed) (w : Option Executed) (p : Option Planned) (o : Option TxnAt) (v : Option VacuumAt) → AllByRecursion (IsAnswered catalog events c) told → ((x : Executed) → w ≡ Some x → calls_of (events ++ e ∷ []) c x ≡ calls_of events c x) → ClientByHistory events c n told w p o v → ClientByHistory (events ++ e ∷ []) c n told w p o v
-stays_on catalog c events e n told w p o None all same s = stands_stay catalog c events e n told w p o all same s
-stays_on catalog c events e n told None p o (Some v) all same s = s
-stays_on catalog c events e n told (Some w) p o (Some v) all same s = (s.0, s.1, subst (λ ms. VacuumBy ms v) (sym (same w refl)) s.2)
+stays_on : (catalog : List Table) (c : ℕ) (events : List Event) (e : Event) (n : ℕ) (acked : List Executed) (w : Option Executed) (p : Option Planned) (o : Option TxnAt) (v : Option VacuumAt) → AllByRecursion (IsAnswered catalog events c) acked → ((x : Executed) → w ≡ Some x → calls_of (events ++ e ∷ []) c x ≡ calls_of events c x) → ClientByHistory events c n acked w p o v → ClientByHistory (events ++ e ∷ []) c n acked w p o v
+stays_on catalog c events e n acked w p o None all same s = stands_stay catalog c events e n acked w p o all same s
+stays_on catalog c events e n acked None p o (Some v) all same s = s
+stays_on catalog c events e n acked (Some w) p o (Some v) all same s = (s.0, s.1, subst (λ ms. VacuumBy ms v) (sym (same w refl)) s.2)
 
 -- An event that isn't of a client, with which it says and calls nothing, leaves what is known of it.
 pub knows_still : (catalog : List Table) (c : ℕ) (events : List Event) (e : Event) (h : ClientAt) → statements_by c (events ++ e ∷ []) ≡ statements_by c events → made_by c (1 + length events, e) ≡ None → Knows catalog events c h → Knows catalog (events ++ e ∷ []) c h
 knows_still catalog c events e h nothing none k = record {
-  told = k.told;
+  answered = k.answered;
   waiting = k.waiting;
   same = nothing ∙ k.same;
-  answered = answered_stay catalog c events e k.told (inl nothing) k.answered;
+  answered = answered_stay catalog c events e k.answered (inl nothing) k.answered;
   waits = waits k.waiting k.waits;
-  moved = moved_still catalog events e c k.told k.told k.answered k.moved;
+  moved = moved_still catalog events e c k.answered k.answered k.answered k.moved;
   number = k.number;
   begun = k.begun;
   small = k.small;
-  stands = stays_on catalog c events e h.begun k.told k.waiting h.plan h.txn h.vacuum k.answered (λ x is. calls_wait catalog c events e x none (unanswered k.waiting k.waits x is)) k.stands;
-  counted = counts_stay catalog c events e k.told k.waiting h k.answered k.counted (λ x is. calls_wait catalog c events e x none (unanswered k.waiting k.waits x is));
-  filled = filled_stays catalog events e c (rest_of (from_begin h.begun k.told)) h.txn (rest_all (IsAnswered catalog events c) h.begun k.told k.answered) k.filled;
-  fits = fits_stay catalog events e c h.begun k.told h.txn k.answered k.fits;
+  agrees = stays_on catalog c events e h.begun k.answered k.waiting h.plan h.txn h.vacuum k.answered (λ x is. calls_wait catalog c events e x none (unanswered k.waiting k.waits x is)) k.agrees;
+  counted = counts_stay catalog c events e k.answered k.waiting h k.answered k.counted (λ x is. calls_wait catalog c events e x none (unanswered k.waiting k.waits x is));
+  filled = filled_stays catalog events e c (rest_of (from_begin h.begun k.answered)) h.txn (rest_all (IsAnswered catalog events c) h.begun k.answered k.answered) k.filled;
+  fits = fits_stay catalog events e c h.begun k.answered h.txn k.answered k.fits;
   stored = subst AreStoredReplies (sym (none_made c events e none)) k.stored;
-  rolled = rolls_stay catalog c events e k.told k.waiting h k.answered k.rolled (λ x is. calls_wait catalog c events e x none (unanswered k.waiting k.waits x is));
-  shows = shows_stay catalog c events e k.told k.answered h k.shows;
+  rolled = rolls_stay catalog c events e k.answered k.waiting h k.answered k.rolled (λ x is. calls_wait catalog c events e x none (unanswered k.waiting k.waits x is));
+  shows = shows_stay catalog c events e k.answered k.answered h k.shows;
 }
   where
     waits : (o : Option Executed) → IfSome o (IsWaiting catalog events c (is_some h.vacuum)) → IfSome o (IsWaiting catalog (events ++ e ∷ []) c (is_some h.vacuum))
@@ -193,11 +190,11 @@ knows_still catalog c events e h nothing none k = record {
 
 ---- one statement more of an open transaction
 
-abbrev pub open_more : (c n : ℕ) (told : List Executed) (t u : TxnAt) (s : Executed) → u.id ≡ t.id → ends s ≡ false → IsOpenAs c n told t → IsOpenAs c n (told ++ s ∷ []) u
-open_more c n told t u s same e o = record {
+abbrev pub open_more : (c n : ℕ) (acked : List Executed) (t u : TxnAt) (s : Executed) → u.id ≡ t.id → ends s ≡ false → IsOpenAs c n acked t → IsOpenAs c n (acked ++ s ∷ []) u
+open_more c n acked t u s same e o = record {
   begin = o.begin;
   body = o.body ++ s ∷ [];
-  since = since_more n told s o.begin o.body o.since;
+  since = since_more n acked s o.begin o.body o.since;
   goes_on = each_more (λ (x : Executed). ends x ≡ false) o.body s o.goes_on e;
   id = same ∙ o.id;
   client = o.client;

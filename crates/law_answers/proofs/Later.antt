@@ -3,18 +3,12 @@ use Rattle.std.proofs.Common.{◌≡◌, ◌≤◌, ◌⊎◌, inl, inr, ℕ, Bo
 use Rattle.std.specs.Prelude.{if◌then◌else◌, find, nat_lt, All, Contains}
 use Rattle.std.specs.List.{AllByRecursion, count_by}
 use Rattle.std.specs.Option.{option_and_then}
-use Rattle.sdb_types.specs.declared.txid.TxId.{TxId}
-use Rattle.sdb_types.specs.declared.key.Key.{Key}
-use Rattle.sdb_types.specs.declared.record.Record.{Record}
+use Rattle.law_answers.specs.Types.{Answer, Event, Key, Record, Statement, Table, TxId}
 use Rattle.sdb_types.specs.declared.record.Reply.TheVariants as reply
 use Rattle.sdb_types.specs.declared.record.Request.TheVariants as ask
 use Rattle.sdb_record.specs.declared.coordinator.Decision.TheVariants as decision
 use Rattle.sdb_record.specs.Coordinator.{coordinator_key_of, is_expired}
-use Rattle.sdb_schema.specs.declared.table.Table.{Table}
-use Rattle.sdb_model.specs.declared.answer.Answer.{Answer}
 use Rattle.sdb_model.specs.declared.answer.Answer.TheVariants as answer
-use Rattle.sdb_model.specs.declared.event.Event.{Event}
-use Rattle.sdb_model.specs.declared.statement.Statement.{Statement}
 use Rattle.sdb_model.specs.declared.statement.Statement.TheVariants as statement
 use Rattle.sdb_model.specs.Calls.{StoreCall, calls_after, calls_before, calls_of, decision_learned, is_of_row, is_read, records_read, records_observed}
 use Rattle.sdb_model.specs.Causes.{HasReply, IsBad, IsBusy, IsCaused, IsCommitOf, IsCounted, IsDecided, IsRejected, MayPassMost, PutsRow, is_open, removes}
@@ -66,7 +60,7 @@ commit_stays c events later s a id grows is h = (
 -- where a statement was answered within the events so far, by an event more
 record IsPast (c : ℕ) (events : List Event) (e : Event) (s : Executed) (a : Answer) : Type 0 where
   is : s.answer ≡ Some a
-  taken : s.taken ≤ length events
+  accepted : s.accepted ≤ length events
   answered : s.reached ≤ length events
   commit : (id : TxId) → IsCommitOf events c s id → IsCommitOf (events ++ e ∷ []) c s id
   passes : MayPassMost events c s → MayPassMost (events ++ e ∷ []) c s
@@ -88,7 +82,7 @@ abbrev BadIn : Key → List StoreCall → Type 0
 BadIn key calls = (m : StoreCall) × (r : Record) × Contains calls m × Contains (records_observed m.reply) r × (r.key ≡ key) × IsBad r
 
 caused_stays : (catalog : List Table) (c : ℕ) (events : List Event) (e : Event) (s : Executed) (a : Answer) → IsPast c events e s a → is_conflict (Some a) ≡ false → IsCaused catalog events c s a → IsCaused catalog (events ++ e ∷ []) c s a
-caused_stays catalog c events e s (answer.Rows rows) k t h = (h.0, h.1, h.2, ap (λ es. is_open es c) (before_same s events e k.taken) ∙ h.3)
+caused_stays catalog c events e s (answer.Rows rows) k t h = (h.0, h.1, h.2, ap (λ es. is_open es c) (before_same s events e k.accepted) ∙ h.3)
 caused_stays catalog c events e s (answer.Count n) k t h = (h.0, h.1, counted_stays c events e s h.0 n (calls_stay c events e s (answer.Count n) k.is k.answered) h.2)
 caused_stays catalog c events e s answer.Done k t h = h
 caused_stays catalog c events e s answer.Committed k t h = (h.0, k.commit h.0 h.1, subst (λ ms. IsDecided decision.Committed (decision_learned ms h.0)) (sym (calls_stay c events e s answer.Committed k.is k.answered)) h.2)
@@ -137,10 +131,10 @@ caused_stays catalog c events e s (answer.BadRecord key) k t h = by h
 caused_stays catalog c events e s (answer.Refused r) k t h = by h
   where
     by : IsCaused catalog events c s (answer.Refused r) → IsCaused catalog (events ++ e ∷ []) c s (answer.Refused r)
-    by (inl x) = inl (subst (λ es. IsRejected catalog es c s.text (answer.Refused r)) (sym (before_same s events e k.taken)) x)
+    by (inl x) = inl (subst (λ es. IsRejected catalog es c s.text (answer.Refused r)) (sym (before_same s events e k.accepted)) x)
     by (inr x) = inr (x.0, x.1, k.passes x.2)
-caused_stays catalog c events e s answer.Vacuuming k t h = subst (λ es. IsRejected catalog es c s.text answer.Vacuuming) (sym (before_same s events e k.taken)) h
-caused_stays catalog c events e s answer.OpenTransactions k t h = subst (λ es. IsRejected catalog es c s.text answer.OpenTransactions) (sym (before_same s events e k.taken)) h
+caused_stays catalog c events e s answer.Vacuuming k t h = subst (λ es. IsRejected catalog es c s.text answer.Vacuuming) (sym (before_same s events e k.accepted)) h
+caused_stays catalog c events e s answer.OpenTransactions k t h = subst (λ es. IsRejected catalog es c s.text answer.OpenTransactions) (sym (before_same s events e k.accepted)) h
 caused_stays catalog c events e s answer.NoMemory k t h = tt
 
 ---- what is so of a client's statements
@@ -149,22 +143,22 @@ answered_one : (catalog : List Table) (c : ℕ) (events : List Event) (e : Event
 answered_one catalog c events e s grows k = record {
   given = k.given;
   is = k.is;
-  taken = within_more s.taken events e k.taken;
+  accepted = within_more s.accepted events e k.accepted;
   answered = within_more s.reached events e k.answered;
-  caused = λ t. caused_stays catalog c events e s k.given (record { is = k.is; taken = k.taken; answered = k.answered; commit = λ id h. commit_stays c events (events ++ e ∷ []) s k.given id grows k.is h; passes = pass_stays c events e s k.given grows k.is; grows = grows }) t (k.caused t);
-  rejected = λ a h. k.rejected a (subst (λ es. IsRejected catalog es c s.text a) (before_same s events e k.taken) h);
+  caused = λ t. caused_stays catalog c events e s k.given (record { is = k.is; accepted = k.accepted; answered = k.answered; commit = λ id h. commit_stays c events (events ++ e ∷ []) s k.given id grows k.is h; passes = pass_stays c events e s k.given grows k.is; grows = grows }) t (k.caused t);
+  rejected = λ a h. k.rejected a (subst (λ es. IsRejected catalog es c s.text a) (before_same s events e k.accepted) h);
 }
 
 pub answered_stay : (catalog : List Table) (c : ℕ) (events : List Event) (e : Event) (ss : List Executed) → Grows (statements_by c events) (statements_by c (events ++ e ∷ [])) → AllByRecursion (IsAnswered catalog events c) ss → AllByRecursion (IsAnswered catalog (events ++ e ∷ []) c) ss
 answered_stay catalog c events e [] grows all = tt
 answered_stay catalog c events e (s ∷ ss) grows all = (answered_one catalog c events e s grows all.0, answered_stay catalog c events e ss grows all.1)
 
-pub waiting_stays : (catalog : List Table) (c : ℕ) (events : List Event) (e : Event) (sweeps : Bool) (w : Executed) → IsWaiting catalog events c sweeps w → IsWaiting catalog (events ++ e ∷ []) c sweeps w
-waiting_stays catalog c events e sweeps w k = record {
+pub waiting_stays : (catalog : List Table) (c : ℕ) (events : List Event) (e : Event) (vacuums : Bool) (w : Executed) → IsWaiting catalog events c vacuums w → IsWaiting catalog (events ++ e ∷ []) c vacuums w
+waiting_stays catalog c events e vacuums w k = record {
   unanswered = k.unanswered;
-  taken = within_more w.taken events e k.taken;
+  accepted = within_more w.accepted events e k.accepted;
   begin = k.begin;
   vacuum = k.vacuum;
-  opened = ap (λ es. is_open es c) (before_same w events e k.taken) ∙ k.opened;
-  stays = λ a h. k.stays a (subst (λ es. IsRejected catalog es c w.text a) (before_same w events e k.taken) h);
+  opened = ap (λ es. is_open es c) (before_same w events e k.accepted) ∙ k.opened;
+  stays = λ a h. k.stays a (subst (λ es. IsRejected catalog es c w.text a) (before_same w events e k.accepted) h);
 }

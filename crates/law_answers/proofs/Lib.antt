@@ -36,3 +36,13 @@ pub mod ShowsGiven
 pub mod ShowsTurn
 pub mod ShowsWhole
 pub mod Faults
+pub mod PathLists
+pub mod PathCalls
+pub mod PathRows
+pub mod Touches
+pub mod Goes
+pub mod Steps
+pub mod PathConflicts
+pub mod Course
+pub mod Laws
+pub mod Recoveries

@@ -4,12 +4,8 @@ use Rattle.std.specs.Prelude.{IfSome, Contains, is_some}
 use Rattle.std.specs.List.{AllByRecursion}
 use Rattle.std.specs.Option.{option_map_or}
 use Rattle.std.proofs.lemmas.List.Elements.{Contains-append_left, Contains-append_right, Contains-push}
-use Rattle.sdb_types.specs.declared.key.Key.{Key}
+use Rattle.law_answers.specs.Types.{Answer, Doing, Event, Key, Statement, Table}
 use Rattle.sdb_types.proofs.Basics.{clash, none_some}
-use Rattle.sdb_schema.specs.declared.table.Table.{Table}
-use Rattle.sdb_model.specs.declared.answer.Answer.{Answer}
-use Rattle.sdb_model.specs.declared.event.Event.{Event}
-use Rattle.sdb_model.specs.declared.statement.Statement.{Statement}
 use Rattle.sdb_model.specs.Access.{in_access}
 use Rattle.sdb_model.specs.Calls.{calls_of, records_read}
 use Rattle.sdb_model.specs.Causes.{MeetsMisfit, is_misfit}
@@ -19,7 +15,6 @@ use Rattle.sdb_model.specs.Reads.{access_of}
 use Rattle.sdb_model.specs.Sql.{Reads}
 use Rattle.sdb_model.specs.Transactions.{Executed, client_of, ends, from_begin, id_of, ordinal_of, rest_of, statements_by, through_end}
 use Rattle.sdb_snapshot.specs.Seen.{Seen, nothing}
-use Rattle.sdb_txn.specs.declared.txn.Doing.{Doing}
 use Rattle.sdb_txn.specs.declared.txn.Doing.TheVariants as doing
 use Rattle.sdb_txn.specs.Txn.{TxnAt}
 use Rattle.law_clients.specs.Fitting.{row_is_well_typed}
@@ -53,9 +48,9 @@ module _ (catalog : List Table) (events : List Event) (c : ℕ) where
   fits_more body s v sees = sees_by catalog events events c body (body ++ s ∷ []) v (λ key m. misfit_more body s key m) sees
 
   -- a transaction that does nothing
-  pub fits_idle : (n : ℕ) (told : List Executed) (s begin : Executed) (body : List Executed) (t : TxnAt) → from_begin n told ≡ begin ∷ body → t.doing ≡ doing.Idle → SeesFitOrRead catalog events c (body ++ s ∷ []) t.seen → IsFitOrReadTxn catalog events c (rest_of (from_begin n (told ++ s ∷ []))) t
-  fits_idle n told s begin body t since idle h =
-      subst (λ r. SeesFitOrReadIn catalog events c (rest_of r) t.seen t.doing) (sym (since_more n told s begin body since)) (subst (SeesFitOrReadIn catalog events c (body ++ s ∷ []) t.seen) (sym idle) h)
+  pub fits_idle : (n : ℕ) (answered : List Executed) (s begin : Executed) (body : List Executed) (t : TxnAt) → from_begin n answered ≡ begin ∷ body → t.doing ≡ doing.Idle → SeesFitOrRead catalog events c (body ++ s ∷ []) t.seen → IsFitOrReadTxn catalog events c (rest_of (from_begin n (answered ++ s ∷ []))) t
+  fits_idle n answered s begin body t since idle h =
+      subst (λ r. SeesFitOrReadIn catalog events c (rest_of r) t.seen t.doing) (sym (since_more n answered s begin body since)) (subst (SeesFitOrReadIn catalog events c (body ++ s ∷ []) t.seen) (sym idle) h)
 
 ---- one event more
 
@@ -83,9 +78,9 @@ module _ (catalog : List Table) (events : List Event) (e : Event) (c : ℕ) wher
   in_still body v (doing.Commit k) all h = tt
   in_still body v doing.Over all h = fits_still body v all h
 
-  pub fits_stay : (n : ℕ) (told : List Executed) (o : Option TxnAt) → AllByRecursion (IsAnswered catalog events c) told → IfSome o (IsFitOrReadTxn catalog events c (rest_of (from_begin n told))) → IfSome o (IsFitOrReadTxn catalog (events ++ e ∷ []) c (rest_of (from_begin n told)))
-  fits_stay n told None all h = tt
-  fits_stay n told (Some t) all h = in_still (rest_of (from_begin n told)) t.seen t.doing (rest_all (IsAnswered catalog events c) n told all) h
+  pub fits_stay : (n : ℕ) (answered : List Executed) (o : Option TxnAt) → AllByRecursion (IsAnswered catalog events c) answered → IfSome o (IsFitOrReadTxn catalog events c (rest_of (from_begin n answered))) → IfSome o (IsFitOrReadTxn catalog (events ++ e ∷ []) c (rest_of (from_begin n answered)))
+  fits_stay n answered None all h = tt
+  fits_stay n answered (Some t) all h = in_still (rest_of (from_begin n answered)) t.seen t.doing (rest_all (IsAnswered catalog events c) n answered all) h
 
 ---- the cause of an answer
 
@@ -137,9 +132,9 @@ meets_stays catalog c events e s a key grows is h = record {
 
 -- The last statement of a client meets a row that doesn't fit where it reads at its key, and it or one before it of its open transaction
 -- read the row.
-pub meets_now : (catalog : List Table) (c n : ℕ) (events : List Event) (told : List Executed) (begin s : Executed) (body : List Executed) (st : Statement) (table : Table) (key : Key) → n < 2 ^ 64 → statements_by c events ≡ told ++ s ∷ [] → from_begin n told ≡ begin ∷ body → AllByRecursion (λ x. ends x ≡ false) body
+pub meets_now : (catalog : List Table) (c n : ℕ) (events : List Event) (answered : List Executed) (begin s : Executed) (body : List Executed) (st : Statement) (table : Table) (key : Key) → n < 2 ^ 64 → statements_by c events ≡ answered ++ s ∷ [] → from_begin n answered ≡ begin ∷ body → AllByRecursion (λ x. ends x ≡ false) body
     → Reads s.text st → named_table catalog st ≡ Some table → in_access (access_of table st) key ≡ true → WasMisfit catalog events c (body ++ s ∷ []) key → MeetsMisfit catalog events c s key
-meets_now catalog c n events told begin s body st table key small same since goes_on reads named inside m = record {
+meets_now catalog c n events answered begin s body st table key small same since goes_on reads named inside m = record {
   id = id_of c n;
   statement = st;
   table = table;
@@ -147,9 +142,9 @@ meets_now catalog c n events told begin s body st table key small same since goe
   call = m.call;
   found = m.found;
   within = (
-    in_last c n events told begin s body small same since goes_on s (Contains-append_right body (s ∷ []) s (Contains-push [] s)),
-    in_last c n events told begin s body small same since goes_on m.reader m.among,
-    each_in (λ (b : Executed). b.taken ≤ s.taken) (body ++ s ∷ []) m.reader (each_more (λ (b : Executed). b.taken ≤ s.taken) body s (below body (since_all (λ (b : Executed). b.taken < s.taken) n told begin body (taken_before c events told s same) since)) (itself s.taken)) m.among,
+    in_last c n events answered begin s body small same since goes_on s (Contains-append_right body (s ∷ []) s (Contains-push [] s)),
+    in_last c n events answered begin s body small same since goes_on m.reader m.among,
+    each_in (λ (b : Executed). b.accepted ≤ s.accepted) (body ++ s ∷ []) m.reader (each_more (λ (b : Executed). b.accepted ≤ s.accepted) body s (below body (since_all (λ (b : Executed). b.accepted < s.accepted) n answered begin body (taken_before c events answered s same) since)) (itself s.accepted)) m.among,
   );
   over = (reads, named, inside);
   finished = m.finished;
@@ -160,9 +155,9 @@ meets_now catalog c n events told begin s body st table key small same since goe
     itself : (k : ℕ) → k ≤ k
     itself k = omega arith
 
-    lower : (k : ℕ) → k < s.taken → k ≤ s.taken
+    lower : (k : ℕ) → k < s.accepted → k ≤ s.accepted
     lower k l = omega arith
 
-    below : (ss : List Executed) → AllByRecursion (λ (b : Executed). b.taken < s.taken) ss → AllByRecursion (λ (b : Executed). b.taken ≤ s.taken) ss
+    below : (ss : List Executed) → AllByRecursion (λ (b : Executed). b.accepted < s.accepted) ss → AllByRecursion (λ (b : Executed). b.accepted ≤ s.accepted) ss
     below [] all = tt
-    below (x ∷ xs) all = (lower x.taken all.0, below xs all.1)
+    below (x ∷ xs) all = (lower x.accepted all.0, below xs all.1)

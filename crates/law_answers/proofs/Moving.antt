@@ -7,13 +7,9 @@ use Rattle.std.specs.Ordering.{is_eq}
 use Rattle.std.specs.declared.cmp.Ordering.TheVariants.{Less}
 use Rattle.std.proofs.lemmas.Bool.{and_parts}
 use Rattle.std.proofs.lemmas.List.{append-nil}
-use Rattle.sdb_types.specs.declared.txid.TxId.{TxId}
-use Rattle.sdb_types.specs.declared.key.Key.{Key}
-use Rattle.sdb_types.specs.declared.record.Record.{Record}
-use Rattle.sdb_types.specs.declared.record.Reply.{Reply}
+use Rattle.law_answers.specs.Types.{Access, Key, Read, Record, Reply, Scan, Span, TxId, Write}
 use Rattle.sdb_types.specs.declared.record.Reply.TheVariants as reply
 use Rattle.sdb_types.specs.declared.record.Request.TheVariants as ask
-use Rattle.sdb_types.specs.declared.record.Span.{Span}
 use Rattle.sdb_types.specs.declared.record.State.TheVariants as state
 use Rattle.sdb_types.specs.Columns.{column}
 use Rattle.sdb_types.specs.Contents.{CanAnswer, holds, in_span, is_version, rise, starts_after, tx_id, record_among}
@@ -21,11 +17,8 @@ use Rattle.sdb_types.specs.Order.{key_cmp, same_key}
 use Rattle.sdb_types.proofs.Basics.{by_test, clash, less_of, all_each as each_any, itself, either}
 use Rattle.sdb_types.proofs.KeyOrder.{key_total}
 use Rattle.sdb_types.proofs.Keys.{same_key_self, same_key_exact, same_key_is, same_key_of}
-use Rattle.sdb_read.specs.Read.{request_of}
-use Rattle.sdb_record.specs.declared.access.Access.{Access}
+use Rattle.sdb_txn.specs.Read.{request_of}
 use Rattle.sdb_record.specs.declared.access.Access.TheVariants as access
-use Rattle.sdb_record.specs.declared.access.Read.{Read}
-use Rattle.sdb_record.specs.declared.access.Scan.{Scan}
 use Rattle.sdb_record.specs.Meta.{id_in}
 use Rattle.sdb_record.specs.Moved.{IsChanged, condition_of, same_version, version_of}
 use Rattle.sdb_record.proofs.ImageLaws.{version-writer}
@@ -36,7 +29,6 @@ use Rattle.sdb_snapshot.specs.Reads as snapshot
 use Rattle.sdb_snapshot.specs.Reads.{base_at, differs, has_changed, is_key_read, record_read_at}
 use Rattle.sdb_snapshot.specs.Seen.{Seen}
 use Rattle.law_clients.specs.Reads.{IsFoundOk, IsReadOk, is_found, was_found, was_read}
-use Rattle.sdb_record.specs.declared.write.Write.{Write}
 use Rattle.sdb_snapshot.specs.Sets.{IsSetInvariant}
 use Rattle.law_clients.proofs.Lists.{each_both}
 use Rattle.sdb_txn.specs.Txn.{TxnAt, work_of}
@@ -99,17 +91,17 @@ scan_found calls k (x ∷ es) all r = by (same_key k x.0.key) refl (scan_found c
     by false e ih = ih ∙ there x.1 all.0.key e
 
 pub scan_shows : (calls : List StoreCall) (span : Span) (images : List Record) (k : Key) (h : HasRead (ask.Scan span) calls images []) → (rows : List Record) × (h.first.reply ≡ reply.Rows rows) × (option_and_then (meaning_of calls) (record_among rows k) ≡ record_among images k)
-scan_shows calls span images k h = by h.first.reply refl h.can h.told
+scan_shows calls span images k h = by h.first.reply refl h.can h.answered
   where
     by : (r : Reply) → h.first.reply ≡ r → CanAnswer (ask.Scan span) r → IsRows r → (rows : List Record) × (h.first.reply ≡ reply.Rows rows) × (option_and_then (meaning_of calls) (record_among rows k) ≡ record_among images k)
-    by (reply.Rows rows) e can told =
+    by (reply.Rows rows) e can answered =
         let same : rows ≡ map (λ x. x.0) h.steps = ap records_read (sym e) ∙ h.rows ∙ append-nil (map (λ x. x.0) h.steps) in
         (rows, e, ap (λ rs. option_and_then (meaning_of calls) (record_among rs k)) same ∙ scan_found calls k h.steps h.settled (subst (λ rs. rise rs ≡ true) same (and_parts (rise rows) _ can).0) ∙ ap (λ is. record_among is k) (sym h.images_are))
-    by (reply.Found found) e can told = absurd can
-    by reply.Applied e can told = absurd told
-    by (reply.NotMet found) e can told = absurd told
-    by reply.Fault e can told = absurd told
-    by reply.NoMemory e can told = absurd told
+    by (reply.Found found) e can answered = absurd can
+    by reply.Applied e can answered = absurd answered
+    by (reply.NotMet found) e can answered = absurd answered
+    by reply.Fault e can answered = absurd answered
+    by reply.NoMemory e can answered = absurd answered
 
 ---- versions
 
@@ -167,20 +159,20 @@ scan_at read_set ns (x ∷ xs) q has ok e = by (in_span x.span q && is_found x q
     by false t ih k = ih k
 
 pub noted_at : (read_set : List ReadItem) (s : Seen) (q : Key) → SeenBy read_set s → IsTold s → is_key_read s.read_set q ≡ true → IsReadAt read_set q (version_of (base_at s.read_set q))
-noted_at read_set s q by_notes told e = by (either (was_read s.reads q) (was_found s.scans q) (told.as_read q e))
+noted_at read_set s q by_notes answered e = by (either (was_read s.reads q) (was_found s.scans q) (answered.as_read q e))
   where
     by : (was_read s.reads q ≡ true) ⊎ (was_found s.scans q ≡ true) → IsReadAt read_set q (version_of (base_at s.read_set q))
-    by (inl k) = read_at read_set s.read_set s.reads q by_notes.reads told.reads k
-    by (inr k) = scan_at read_set s.read_set s.scans q by_notes.scans told.found k
+    by (inl k) = read_at read_set s.read_set s.reads q by_notes.reads answered.reads k
+    by (inr k) = scan_at read_set s.read_set s.scans q by_notes.scans answered.found k
 
 -- a key at which a scan differs has moved
 pub differs_moved : (read_set : List ReadItem) (s : Seen) (images : List Record) (k : Key) → SeenBy read_set s → IsTold s → differs s.read_set images k ≡ true → HasChanged read_set k (record_among images k)
-differs_moved read_set s images k by_notes told e = by (record_read_at s.read_set k) refl e
+differs_moved read_set s images k by_notes answered e = by (record_read_at s.read_set k) refl e
   where
     by : (o : Option (Option Record)) → record_read_at s.read_set k ≡ o → has_changed o (record_among images k) ≡ true → HasChanged read_set k (record_among images k)
     by None n t = clash (sym t)
     by (Some as_read) n t =
-        let at = noted_at read_set s k by_notes told (ap is_some n) in
+        let at = noted_at read_set s k by_notes answered (ap is_some n) in
         let base : base_at s.read_set k ≡ as_read = ap (λ o. option_and_then (λ f. f) o) n in
         (at.item, version_of as_read, at.among, at.as_read ∙ ap (λ f. Some (version_of f)) base, has_moved_is as_read (record_among images k) t)
 
@@ -196,15 +188,15 @@ changed_scan calls read_set t (access.Scan span) images key found h ok in_set mo
       h.request,
       shows.1,
       moved.inside,
-      moved.stands ∙ sym shows.2,
-      subst (HasChanged read_set key) (sym moved.stands) (differs_moved read_set t.seen images key in_set ok moved.moved),
+      moved.agrees ∙ sym shows.2,
+      subst (HasChanged read_set key) (sym moved.agrees) (differs_moved read_set t.seen images key in_set ok moved.moved),
     )
 
 ---- what a COMMIT takes
 
 -- what its COMMIT goes by: what is noted, the bases of what is written, and scans in the order of keys
 pub record IsTaken (s : Seen) : Type 0 where
-  pub told : IsTold s
+  pub answered : IsTold s
   pub kept : IsSetInvariant s.read_set s.writes
   pub rises : AllByRecursion (λ x. reads_rise x.found ≡ true) s.scans
 
@@ -212,7 +204,7 @@ pub work_by : (read_set : List ReadItem) (t : TxnAt) (now : ℤ) → SeenBy read
 work_by read_set t now s k = record {
   reads = s.reads;
   scans = each_both (λ (x : Scan). Contains read_set (SpanRead x) × (list_all (λ r. in_span x.span r.key) x.found ≡ true)) (λ (x : Scan). reads_rise x.found ≡ true) (λ (x : Scan). Contains read_set (SpanRead x) × (list_all (λ r. in_span x.span r.key) x.found ≡ true) × (reads_rise x.found ≡ true)) t.seen.scans (λ x a b. (a.0, a.1, b)) s.scans k.rises;
-  writes = each_any (λ (w : Write). (is_key_read t.seen.read_set w.key ≡ true) × (w.base ≡ base_at t.seen.read_set w.key)) (λ (w : Write). IsReadAt read_set w.key (version_of w.base)) t.seen.writes (λ w h. subst (λ (o : Option Record). IsReadAt read_set w.key (version_of o)) (sym h.1) (noted_at read_set t.seen w.key s k.told h.0)) k.kept.based;
+  writes = each_any (λ (w : Write). (is_key_read t.seen.read_set w.key ≡ true) × (w.base ≡ base_at t.seen.read_set w.key)) (λ (w : Write). IsReadAt read_set w.key (version_of w.base)) t.seen.writes (λ w h. subst (λ (o : Option Record). IsReadAt read_set w.key (version_of o)) (sym h.1) (noted_at read_set t.seen w.key s k.answered h.0)) k.kept.based;
   valid = k.kept.valid;
 }
 

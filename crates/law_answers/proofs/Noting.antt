@@ -7,15 +7,9 @@ use Rattle.std.proofs.lemmas.List.Concat.{flat_map-append}
 use Rattle.std.proofs.lemmas.List.Elements.{Contains-append_left, filter-append}
 use Rattle.std.proofs.lemmas.List.Sums.{take_while-cons}
 use Rattle.std.proofs.lemmas.Nat.{div-mul-add, mod-mul-add}
-use Rattle.sdb_types.specs.declared.key.Key.{Key}
-use Rattle.sdb_types.specs.declared.record.Record.{Record}
+use Rattle.law_answers.specs.Types.{Answer, Event, Key, Read, Record, Scan, Table}
 use Rattle.sdb_types.specs.Contents.{in_span}
-use Rattle.sdb_schema.specs.declared.table.Table.{Table}
-use Rattle.sdb_record.specs.declared.access.Read.{Read}
-use Rattle.sdb_record.specs.declared.access.Scan.{Scan}
-use Rattle.sdb_model.specs.declared.answer.Answer.{Answer}
 use Rattle.sdb_model.specs.declared.answer.Answer.TheVariants as answer
-use Rattle.sdb_model.specs.declared.event.Event.{Event}
 use Rattle.sdb_model.specs.Calls.{calls_of}
 use Rattle.sdb_model.specs.ReadSet.{KeyRead, ReadItem, SpanRead, read_set_of, read_items, has_read}
 use Rattle.sdb_model.specs.Sql.{reads_commit}
@@ -120,9 +114,9 @@ seen_same read_set s u r x h = record {
 
 ---- an open transaction
 
-module _ (catalog : List Table) (events : List Event) (e : Event) (c n : ℕ) (told : List Executed) (t : TxnAt) (o : IsOpenAs c n told t) (all : AllByRecursion (IsAnswered catalog events c) told) where
+module _ (catalog : List Table) (events : List Event) (e : Event) (c n : ℕ) (answered : List Executed) (t : TxnAt) (o : IsOpenAs c n answered t) (all : AllByRecursion (IsAnswered catalog events c) answered) where
   pub body_answered : AllByRecursion (IsAnswered catalog events c) o.body
-  body_answered = since_all (IsAnswered catalog events c) n told o.begin o.body all o.since
+  body_answered = since_all (IsAnswered catalog events c) n answered o.begin o.body all o.since
 
   pub noted_still : (s : Seen) → SeenBy (read_items_of_body events c o.body) s → SeenBy (read_items_of_body (events ++ e ∷ []) c o.body) s
   noted_still s h = subst (λ ns. SeenBy ns s) (sym (notes_stay catalog events e c o.body body_answered)) h
@@ -143,9 +137,9 @@ pub each_middle : (P : Executed → Type 0) (xs ys : List Executed) (y : Execute
 each_middle P [] ys y all = all.0
 each_middle P (x ∷ xs) ys y all = each_middle P xs ys y all.1
 
-moves_still : (catalog : List Table) (events : List Event) (e : Event) (c : ℕ) (told later : List Executed) (s : Executed) (key : Key) (found : Option Record) (m : IsChangedIn events c told s key found) (tail : List Executed) → AllByRecursion (IsAnswered catalog events c) told → from_begin m.n later ≡ m.begin ∷ (m.body ++ s ∷ tail)
+moves_still : (catalog : List Table) (events : List Event) (e : Event) (c : ℕ) (answered later : List Executed) (s : Executed) (key : Key) (found : Option Record) (m : IsChangedIn events c answered s key found) (tail : List Executed) → AllByRecursion (IsAnswered catalog events c) answered → from_begin m.n later ≡ m.begin ∷ (m.body ++ s ∷ tail)
     → IsChangedIn (events ++ e ∷ []) c later s key found
-moves_still catalog events e c told later s key found m tail all since = record {
+moves_still catalog events e c answered later s key found m tail all since = record {
   n = m.n;
   begin = m.begin;
   body = m.body;
@@ -159,30 +153,30 @@ moves_still catalog events e c told later s key found m tail all since = record 
 }
   where
     whole : AllByRecursion (IsAnswered catalog events c) (m.body ++ s ∷ m.tail)
-    whole = since_all (IsAnswered catalog events c) m.n told m.begin (m.body ++ s ∷ m.tail) all m.since
+    whole = since_all (IsAnswered catalog events c) m.n answered m.begin (m.body ++ s ∷ m.tail) all m.since
 
     here : IsAnswered catalog events c s
     here = each_middle (IsAnswered catalog events c) m.body m.tail s whole
 
-pub moved_still : (catalog : List Table) (events : List Event) (e : Event) (c : ℕ) (told ss : List Executed) → AllByRecursion (IsAnswered catalog events c) told → AreChanged events c told ss → AreChanged (events ++ e ∷ []) c told ss
-moved_still catalog events e c told [] all m = tt
-moved_still catalog events e c told (s ∷ ss) all m = ((λ key found is. let x = m.0 key found is in moves_still catalog events e c told told s key found x x.tail all x.since), moved_still catalog events e c told ss all m.1)
+pub moved_still : (catalog : List Table) (events : List Event) (e : Event) (c : ℕ) (answered ss : List Executed) → AllByRecursion (IsAnswered catalog events c) answered → AreChanged events c answered ss → AreChanged (events ++ e ∷ []) c answered ss
+moved_still catalog events e c answered [] all m = tt
+moved_still catalog events e c answered (s ∷ ss) all m = ((λ key found is. let x = m.0 key found is in moves_still catalog events e c answered answered s key found x x.tail all x.since), moved_still catalog events e c answered ss all m.1)
 
-pub moved_more : (catalog : List Table) (events : List Event) (e : Event) (c : ℕ) (told ss : List Executed) (y : Executed) → AllByRecursion (IsAnswered catalog events c) told → AreChanged events c told ss → AreChanged (events ++ e ∷ []) c (told ++ y ∷ []) ss
-moved_more catalog events e c told [] y all m = tt
-moved_more catalog events e c told (s ∷ ss) y all m = (
-  (λ key found is. let x = m.0 key found is in moves_still catalog events e c told (told ++ y ∷ []) s key found x (x.tail ++ y ∷ []) all (since_more x.n told y x.begin (x.body ++ s ∷ x.tail) x.since ∙ ap (λ r. x.begin ∷ r) (append_assoc x.body (s ∷ x.tail) (y ∷ [])))),
-  moved_more catalog events e c told ss y all m.1,
+pub moved_more : (catalog : List Table) (events : List Event) (e : Event) (c : ℕ) (answered ss : List Executed) (y : Executed) → AllByRecursion (IsAnswered catalog events c) answered → AreChanged events c answered ss → AreChanged (events ++ e ∷ []) c (answered ++ y ∷ []) ss
+moved_more catalog events e c answered [] y all m = tt
+moved_more catalog events e c answered (s ∷ ss) y all m = (
+  (λ key found is. let x = m.0 key found is in moves_still catalog events e c answered (answered ++ y ∷ []) s key found x (x.tail ++ y ∷ []) all (since_more x.n answered y x.begin (x.body ++ s ∷ x.tail) x.since ∙ ap (λ r. x.begin ∷ r) (append_assoc x.body (s ∷ x.tail) (y ∷ [])))),
+  moved_more catalog events e c answered ss y all m.1,
 )
 
 -- an answer that is no Conflict has not moved
-pub unmoved : (events : List Event) (c : ℕ) (told : List Executed) (s : Executed) (b : Answer) → s.answer ≡ Some b → is_conflict (Some b) ≡ false → (key : Key) (found : Option Record) → s.answer ≡ Some (answer.Conflict key found) → IsChangedIn events c told s key found
-unmoved events c told s b is f key found e = clash (sym (ap is_conflict (sym is ∙ e)) ∙ f)
+pub unmoved : (events : List Event) (c : ℕ) (answered : List Executed) (s : Executed) (b : Answer) → s.answer ≡ Some b → is_conflict (Some b) ≡ false → (key : Key) (found : Option Record) → s.answer ≡ Some (answer.Conflict key found) → IsChangedIn events c answered s key found
+unmoved events c answered s b is f key found e = clash (sym (ap is_conflict (sym is ∙ e)) ∙ f)
 
 -- all of a client's, with one statement more
-pub moved_all : (catalog : List Table) (events : List Event) (e : Event) (c : ℕ) (told : List Executed) (y : Executed) → AllByRecursion (IsAnswered catalog events c) told → AreChanged events c told told
-    → ((key : Key) (found : Option Record) → y.answer ≡ Some (answer.Conflict key found) → IsChangedIn (events ++ e ∷ []) c (told ++ y ∷ []) y key found)
-    → AreChanged (events ++ e ∷ []) c (told ++ y ∷ []) (told ++ y ∷ [])
-moved_all catalog events e c told y all m last =
-    each_more (λ s. (key : Key) (found : Option Record) → s.answer ≡ Some (answer.Conflict key found) → IsChangedIn (events ++ e ∷ []) c (told ++ y ∷ []) s key found) told y
-    (moved_more catalog events e c told told y all m) last
+pub moved_all : (catalog : List Table) (events : List Event) (e : Event) (c : ℕ) (answered : List Executed) (y : Executed) → AllByRecursion (IsAnswered catalog events c) answered → AreChanged events c answered answered
+    → ((key : Key) (found : Option Record) → y.answer ≡ Some (answer.Conflict key found) → IsChangedIn (events ++ e ∷ []) c (answered ++ y ∷ []) y key found)
+    → AreChanged (events ++ e ∷ []) c (answered ++ y ∷ []) (answered ++ y ∷ [])
+moved_all catalog events e c answered y all m last =
+    each_more (λ s. (key : Key) (found : Option Record) → s.answer ≡ Some (answer.Conflict key found) → IsChangedIn (events ++ e ∷ []) c (answered ++ y ∷ []) s key found) answered y
+    (moved_more catalog events e c answered answered y all m) last

@@ -7,11 +7,8 @@ use Rattle.std.proofs.lemmas.Bool.Decides.{nat_tests}
 use Rattle.std.proofs.lemmas.List.{append-nil}
 use Rattle.std.proofs.lemmas.List.Elements.{Contains-append_left, Contains-append_right, Contains-push, Contains-push_cases, filter-append}
 use Rattle.std.proofs.lemmas.List.Sums.{sum_by-append, sum_by-le-sum_by, take_while-cons}
-use Rattle.sdb_types.specs.declared.txid.TxId.{TxId}
-use Rattle.sdb_model.specs.declared.answer.Answer.{Answer}
-use Rattle.sdb_model.specs.declared.event.Event.{Event}
+use Rattle.law_answers.specs.Types.{Answer, Event, Statement, TxId}
 use Rattle.sdb_model.specs.declared.event.Event.TheVariants as event
-use Rattle.sdb_model.specs.declared.statement.Statement.{Statement}
 use Rattle.sdb_model.specs.declared.statement.Statement.TheVariants as statement
 use Rattle.sdb_model.specs.Calls.{StoreCall, calls_by, calls_of, made_by, records_read}
 use Rattle.sdb_model.specs.Causes.{IsIn, MayPassMost, body_before, finished_before, may_pass, records_found, rows_counted, counted_by}
@@ -25,29 +22,29 @@ use Rattle.law_answers.proofs.Lists.{each_in, filter_same, since_more, since_non
 use Rattle.law_answers.proofs.Noting.{client_is, each_last, ordinal_is, rest_all, since_all, take_open}
 use Rattle.law_clients.proofs.Lists.{each_more}
 
----- statements are taken one after the other
+---- statements are accepted one after the other
 
 abbrev Rises : List Executed → Type 0
 Rises [] = Unit {0}
-Rises (s ∷ ss) = AllByRecursion (λ t. s.taken < t.taken) ss × Rises ss
+Rises (s ∷ ss) = AllByRecursion (λ t. s.accepted < t.accepted) ss × Rises ss
 
 abbrev AreBelow : ℕ → List Executed → Type 0
-AreBelow n ss = AllByRecursion (λ s. s.taken < n) ss
+AreBelow n ss = AllByRecursion (λ s. s.accepted < n) ss
 
 below_more : (n : ℕ) (ss : List Executed) → AreBelow n ss → AreBelow (n + 1) ss
 below_more n [] all = tt
-below_more n (s ∷ ss) all = (up s.taken all.0, below_more n ss all.1)
+below_more n (s ∷ ss) all = (up s.accepted all.0, below_more n ss all.1)
   where
     up : (k : ℕ) → k < n → k < n + 1
     up k l = omega arith
 
--- one that is taken now goes last
-rises_taken : (ss : List Executed) (x : Executed) → Rises ss → AreBelow x.taken ss → Rises (ss ++ x ∷ [])
+-- one that is accepted now goes last
+rises_taken : (ss : List Executed) (x : Executed) → Rises ss → AreBelow x.accepted ss → Rises (ss ++ x ∷ [])
 rises_taken [] x r all = (tt, tt)
-rises_taken (s ∷ ss) x r all = (each_more (λ (t : Executed). s.taken < t.taken) ss x r.0 all.0, rises_taken ss x r.1 all.1)
+rises_taken (s ∷ ss) x r all = (each_more (λ (t : Executed). s.accepted < t.accepted) ss x r.0 all.0, rises_taken ss x r.1 all.1)
 
--- an answer leaves what was taken when
-answer_all : (P : ℕ → Type 0) (ss : List Executed) (n : ℕ) (a : Answer) → AllByRecursion (λ s. P s.taken) ss → AllByRecursion (λ s. P s.taken) (with_answer ss n a)
+-- an answer leaves what was accepted when
+answer_all : (P : ℕ → Type 0) (ss : List Executed) (n : ℕ) (a : Answer) → AllByRecursion (λ s. P s.accepted) ss → AllByRecursion (λ s. P s.accepted) (with_answer ss n a)
 answer_all P [] n a all = tt
 answer_all P (s ∷ []) n a all = (all.0, tt)
 answer_all P (s ∷ t ∷ ss) n a all = (all.0, answer_all P (t ∷ ss) n a all.1)
@@ -55,10 +52,10 @@ answer_all P (s ∷ t ∷ ss) n a all = (all.0, answer_all P (t ∷ ss) n a all.
 rises_answered : (ss : List Executed) (n : ℕ) (a : Answer) → Rises ss → Rises (with_answer ss n a)
 rises_answered [] n a r = tt
 rises_answered (s ∷ []) n a r = (tt, tt)
-rises_answered (s ∷ t ∷ ss) n a r = (answer_all (λ k. s.taken < k) (t ∷ ss) n a r.0, rises_answered (t ∷ ss) n a r.1)
+rises_answered (s ∷ t ∷ ss) n a r = (answer_all (λ k. s.accepted < k) (t ∷ ss) n a r.0, rises_answered (t ∷ ss) n a r.1)
 
 abbrev said_at : ℕ → List ℕ → Option Answer → Executed
-said_at n text a = record { taken = n; text = text; answer = a; reached = n }
+said_at n text a = record { accepted = n; text = text; answer = a; reached = n }
 
 rises_one : (c n : ℕ) (ss : List Executed) (e : Event) → Rises ss → AreBelow n ss → Rises (statements_after c ss (n, e)) × AreBelow (n + 1) (statements_after c ss (n, e))
 rises_one c n ss (event.Take d text a) r all = by (d == c)
@@ -67,7 +64,7 @@ rises_one c n ss (event.Take d text a) r all = by (d == c)
     last = omega arith
 
     by : (b : Bool) → Rises (if b then ss ++ said_at n text a ∷ [] else ss) × AreBelow (n + 1) (if b then ss ++ said_at n text a ∷ [] else ss)
-    by true = (rises_taken ss (said_at n text a) r all, each_more (λ (s : Executed). s.taken < n + 1) ss (said_at n text a) (below_more n ss all) last)
+    by true = (rises_taken ss (said_at n text a) r all, each_more (λ (s : Executed). s.accepted < n + 1) ss (said_at n text a) (below_more n ss all) last)
     by false = (r, below_more n ss all)
 rises_one c n ss (event.Call d store q how reply None) r all = (r, below_more n ss all)
 rises_one c n ss (event.Call d store q how reply (Some a)) r all = by (d == c)
@@ -84,12 +81,12 @@ rises_all c n [] ss r all = r
 rises_all c n (e ∷ es) ss r all = let x = rises_one c n ss e r all in rises_all c (n + 1) es (statements_after c ss (n, e)) x.0 x.1
 
 -- each before the last one
-pub taken_before : (c : ℕ) (events : List Event) (told : List Executed) (s : Executed) → statements_by c events ≡ told ++ s ∷ [] → AllByRecursion (λ b. b.taken < s.taken) told
-taken_before c events told s e = by told (subst Rises e (rises_all c 1 events [] tt tt))
+pub taken_before : (c : ℕ) (events : List Event) (answered : List Executed) (s : Executed) → statements_by c events ≡ answered ++ s ∷ [] → AllByRecursion (λ b. b.accepted < s.accepted) answered
+taken_before c events answered s e = by answered (subst Rises e (rises_all c 1 events [] tt tt))
   where
-    by : (ss : List Executed) → Rises (ss ++ s ∷ []) → AllByRecursion (λ b. b.taken < s.taken) ss
+    by : (ss : List Executed) → Rises (ss ++ s ∷ []) → AllByRecursion (λ b. b.accepted < s.accepted) ss
     by [] r = tt
-    by (x ∷ ss) r = (each_last (λ t. x.taken < t.taken) ss s r.0, by ss r.1)
+    by (x ∷ ss) r = (each_last (λ t. x.accepted < t.accepted) ss s r.0, by ss r.1)
 
 ---- statements reach an event that came
 
@@ -214,13 +211,13 @@ since_adds F n ss x none adds = by (from_begin n ss) refl
 
 -- those of the statements before a statement that a test takes, by what the client said
 abbrev before_in : (Executed → Bool) → ℕ → Executed → List Executed → List Executed
-before_in t n s ss = filter (λ b. nat_lt b.taken s.taken) (filter t (take_while (λ x. not (ends x)) (rest_of (from_begin n ss))))
+before_in t n s ss = filter (λ b. nat_lt b.accepted s.accepted) (filter t (take_while (λ x. not (ends x)) (rest_of (from_begin n ss))))
 
 abbrev kept : (Executed → Bool) → Executed → List Executed → List Executed
-kept t s ss = filter (λ b. nat_lt b.taken s.taken) (filter t ss)
+kept t s ss = filter (λ b. nat_lt b.accepted s.accepted) (filter t ss)
 
 kept_append : (t : Executed → Bool) (s : Executed) (xs ys : List Executed) → kept t s (xs ++ ys) ≡ kept t s xs ++ kept t s ys
-kept_append t s xs ys = ap (filter (λ b. nat_lt b.taken s.taken)) (filter-append t xs ys) ∙ filter-append (λ b. nat_lt b.taken s.taken) (filter t xs) (filter t ys)
+kept_append t s xs ys = ap (filter (λ b. nat_lt b.accepted s.accepted)) (filter-append t xs ys) ∙ filter-append (λ b. nat_lt b.accepted s.accepted) (filter t xs) (filter t ys)
 
 sum_front : (f : Executed → ℕ) (xs ys : List Executed) → sum_by f xs ≤ sum_by f (xs ++ ys)
 sum_front f xs ys = subst (λ n. sum_by f xs ≤ n) (sym (sum_by-append f xs ys)) (more (sum_by f xs) (sum_by f ys))
@@ -237,13 +234,13 @@ before_more t f n s ss x =
     let a = open_more n ss x in
     subst (λ ts. sum_by f (before_in t n s ss) ≤ sum_by f ts) (sym (ap (kept t s) a.2 ∙ kept_append t s (take_while (λ s. not (ends s)) (rest_of (from_begin n ss))) a.0)) (sum_front f (before_in t n s ss) (kept t s a.0))
 
--- one that was taken later doesn't count
-before_apart : (t : Executed → Bool) (f : Executed → ℕ) (n : ℕ) (s : Executed) (ss : List Executed) (x : Executed) → nat_lt x.taken s.taken ≡ false → sum_by f (before_in t n s (ss ++ x ∷ [])) ≡ sum_by f (before_in t n s ss)
+-- one that was accepted later doesn't count
+before_apart : (t : Executed → Bool) (f : Executed → ℕ) (n : ℕ) (s : Executed) (ss : List Executed) (x : Executed) → nat_lt x.accepted s.accepted ≡ false → sum_by f (before_in t n s (ss ++ x ∷ [])) ≡ sum_by f (before_in t n s ss)
 before_apart t f n s ss x later =
     let a = open_more n ss x in
     ap (sum_by f) (ap (kept t s) a.2 ∙ kept_append t s (take_while (λ s. not (ends s)) (rest_of (from_begin n ss))) a.0 ∙ ap (λ ys. before_in t n s ss ++ ys) (none a.0 a.1) ∙ append-nil (before_in t n s ss))
   where
-    one : (b : Bool) → filter (λ b. nat_lt b.taken s.taken) (if b then x ∷ [] else []) ≡ []
+    one : (b : Bool) → filter (λ b. nat_lt b.accepted s.accepted) (if b then x ∷ [] else []) ≡ []
     one true = ap (λ b. if b then x ∷ [] else []) later
     one false = refl
 
@@ -266,7 +263,7 @@ apart_last front w s a none is has = by (Contains-push_cases front w s has)
     by (inr e) = absurd (none_some a (sym none ∙ ap (λ (x : Executed). x.answer) e ∙ is))
 
 -- as its client's statements grow, no less was counted and found before it
-before_grows : (t : Executed → Bool) (f : Executed → ℕ) (n : ℕ) (s : Executed) (ss ts : List Executed) → ((front : List Executed) (w : Executed) → ss ≡ front ++ w ∷ [] → w.answer ≡ None → nat_lt w.taken s.taken ≡ false) → Grows ss ts → sum_by f (before_in t n s ss) ≤ sum_by f (before_in t n s ts)
+before_grows : (t : Executed → Bool) (f : Executed → ℕ) (n : ℕ) (s : Executed) (ss ts : List Executed) → ((front : List Executed) (w : Executed) → ss ≡ front ++ w ∷ [] → w.answer ≡ None → nat_lt w.accepted s.accepted ≡ false) → Grows ss ts → sum_by f (before_in t n s ss) ≤ sum_by f (before_in t n s ts)
 before_grows t f n s ss ts later (inl e) = subst (λ xs. sum_by f (before_in t n s ss) ≤ sum_by f (before_in t n s xs)) (sym e) (least (sum_by f (before_in t n s ss)))
 before_grows t f n s ss ts later (inr (inl (x, e))) = subst (λ xs. sum_by f (before_in t n s ss) ≤ sum_by f (before_in t n s xs)) (sym e) (before_more t f n s ss x)
 before_grows t f n s ss ts later (inr (inr (front, w, x, e, none, g))) =
@@ -318,18 +315,18 @@ calls_grow c events e b = by b.answer refl
   where
     by : (o : Option Answer) → b.answer ≡ o → (more : List StoreCall) × (calls_of (events ++ e ∷ []) c b ≡ calls_of events c b ++ more)
     by (Some a) is = (
-      filter (λ m. nat_lt b.taken m.at && nat_le m.at b.reached) (call_in c events e),
-      ap (λ n. filter (λ m. nat_lt b.taken m.at && nat_le m.at n) (calls_by (events ++ e ∷ []) c)) (end_answered (events ++ e ∷ []) b a is)
-          ∙ ap (filter (λ m. nat_lt b.taken m.at && nat_le m.at b.reached)) (made_more c events e)
-          ∙ filter-append (λ m. nat_lt b.taken m.at && nat_le m.at b.reached) (calls_by events c) (call_in c events e)
-          ∙ ap (λ n. filter (λ m. nat_lt b.taken m.at && nat_le m.at n) (calls_by events c) ++ filter (λ m. nat_lt b.taken m.at && nat_le m.at b.reached) (call_in c events e)) (sym (end_answered events b a is)),
+      filter (λ m. nat_lt b.accepted m.at && nat_le m.at b.reached) (call_in c events e),
+      ap (λ n. filter (λ m. nat_lt b.accepted m.at && nat_le m.at n) (calls_by (events ++ e ∷ []) c)) (end_answered (events ++ e ∷ []) b a is)
+          ∙ ap (filter (λ m. nat_lt b.accepted m.at && nat_le m.at b.reached)) (made_more c events e)
+          ∙ filter-append (λ m. nat_lt b.accepted m.at && nat_le m.at b.reached) (calls_by events c) (call_in c events e)
+          ∙ ap (λ n. filter (λ m. nat_lt b.accepted m.at && nat_le m.at n) (calls_by events c) ++ filter (λ m. nat_lt b.accepted m.at && nat_le m.at b.reached) (call_in c events e)) (sym (end_answered events b a is)),
     )
     by None is = (
-      filter (λ m. nat_lt b.taken m.at) (call_in c events e),
+      filter (λ m. nat_lt b.accepted m.at) (call_in c events e),
       calls_open c (events ++ e ∷ []) b (end_waiting (events ++ e ∷ []) b is)
-          ∙ ap (filter (λ m. nat_lt b.taken m.at)) (made_more c events e)
-          ∙ filter-append (λ m. nat_lt b.taken m.at) (calls_by events c) (call_in c events e)
-          ∙ ap (λ ms. ms ++ filter (λ m. nat_lt b.taken m.at) (call_in c events e)) (sym (calls_open c events b (end_waiting events b is))),
+          ∙ ap (filter (λ m. nat_lt b.accepted m.at)) (made_more c events e)
+          ∙ filter-append (λ m. nat_lt b.accepted m.at) (calls_by events c) (call_in c events e)
+          ∙ ap (λ ms. ms ++ filter (λ m. nat_lt b.accepted m.at) (call_in c events e)) (sym (calls_open c events b (end_waiting events b is))),
     )
 
 abbrev pub records_in : StoreCall → ℕ
@@ -388,10 +385,10 @@ pass_stays c events e s a grows is h = record {
     grows_id : Grows (statements_by (client_of h.id) events) (statements_by (client_of h.id) (events ++ e ∷ []))
     grows_id = subst (λ d. Grows (statements_by d events) (statements_by d (events ++ e ∷ []))) (sym h.within.0) grows
 
-    -- one that waits was taken later
-    waits_later : (front : List Executed) (w : Executed) → statements_by (client_of h.id) events ≡ front ++ w ∷ [] → w.answer ≡ None → nat_lt w.taken s.taken ≡ false
+    -- one that waits was accepted later
+    waits_later : (front : List Executed) (w : Executed) → statements_by (client_of h.id) events ≡ front ++ w ∷ [] → w.answer ≡ None → nat_lt w.accepted s.accepted ≡ false
     waits_later front w same none =
-        later w.taken s.taken (each_in (λ b. b.taken < w.taken) (through_end (rest_of (from_begin (ordinal_of h.id) front))) s (part_all (λ b. b.taken < w.taken) (ordinal_of h.id) front (taken_before (client_of h.id) events front w same)) (in_front (ordinal_of h.id) front w s a none is (subst (λ ss. Contains (through_end (rest_of (from_begin (ordinal_of h.id) ss))) s) same h.within.1)))
+        later w.accepted s.accepted (each_in (λ b. b.accepted < w.accepted) (through_end (rest_of (from_begin (ordinal_of h.id) front))) s (part_all (λ b. b.accepted < w.accepted) (ordinal_of h.id) front (taken_before (client_of h.id) events front w same)) (in_front (ordinal_of h.id) front w s a none is (subst (λ ss. Contains (through_end (rest_of (from_begin (ordinal_of h.id) ss))) s) same h.within.1)))
       where
         later : (m n : ℕ) → n < m → nat_lt m n ≡ false
         later m n l = grind (arith, nat_tests)
@@ -402,7 +399,7 @@ pass_stays c events e s a grows is h = record {
     -- whose reads have finished stays
     same_before : finished_before events h.id s ≡ before_in (has_read (events ++ e ∷ []) (client_of h.id)) (ordinal_of h.id) s (statements_by (client_of h.id) events)
     same_before =
-        ap (filter (λ b. nat_lt b.taken s.taken))
+        ap (filter (λ b. nat_lt b.accepted s.accepted))
         (filter_same (has_read events (client_of h.id)) (has_read (events ++ e ∷ []) (client_of h.id)) (statements_inside events h.id)
         (while_all (λ b. has_read events (client_of h.id) b ≡ has_read (events ++ e ∷ []) (client_of h.id) b) (λ x. not (ends x)) (rest_of (from_begin (ordinal_of h.id) (statements_by (client_of h.id) events)))
         (rest_all (λ b. has_read events (client_of h.id) b ≡ has_read (events ++ e ∷ []) (client_of h.id) b) (ordinal_of h.id) (statements_by (client_of h.id) events)
@@ -428,22 +425,22 @@ through_last s [] all = by (ends s)
     by false = refl
 through_last s (x ∷ xs) all = ap (λ b. if b then x ∷ [] else x ∷ through_end (xs ++ s ∷ [])) all.0 ∙ ap (λ r. x ∷ r) (through_last s xs all.1)
 
-since_last : (c n : ℕ) (events : List Event) (told : List Executed) (begin s : Executed) (body : List Executed) → n < 2 ^ 64 → statements_by c events ≡ told ++ s ∷ [] → from_begin n told ≡ begin ∷ body → from_begin (ordinal_of (id_of c n)) (statements_by (client_of (id_of c n)) events) ≡ begin ∷ (body ++ s ∷ [])
-since_last c n events told begin s body small same since =
-    ap (λ d. from_begin (ordinal_of (id_of c n)) (statements_by d events)) (client_is c n small) ∙ ap (λ k. from_begin k (statements_by c events)) (ordinal_is c n small) ∙ ap (from_begin n) same ∙ since_more n told s begin body since
+since_last : (c n : ℕ) (events : List Event) (answered : List Executed) (begin s : Executed) (body : List Executed) → n < 2 ^ 64 → statements_by c events ≡ answered ++ s ∷ [] → from_begin n answered ≡ begin ∷ body → from_begin (ordinal_of (id_of c n)) (statements_by (client_of (id_of c n)) events) ≡ begin ∷ (body ++ s ∷ [])
+since_last c n events answered begin s body small same since =
+    ap (λ d. from_begin (ordinal_of (id_of c n)) (statements_by d events)) (client_is c n small) ∙ ap (λ k. from_begin k (statements_by c events)) (ordinal_is c n small) ∙ ap (from_begin n) same ∙ since_more n answered s begin body since
 
 -- the last statement of a client, and each before it, is one of its open transaction
-pub in_last : (c n : ℕ) (events : List Event) (told : List Executed) (begin s : Executed) (body : List Executed) → n < 2 ^ 64 → statements_by c events ≡ told ++ s ∷ [] → from_begin n told ≡ begin ∷ body → AllByRecursion (λ x. ends x ≡ false) body → (x : Executed) → Contains (body ++ s ∷ []) x → IsIn events c x (id_of c n)
-in_last c n events told begin s body small same since goes_on x has =
-    (client_is c n small, subst (λ ss. Contains (through_end (rest_of ss)) x) (sym (since_last c n events told begin s body small same since)) (subst (λ ss. Contains ss x) (sym (through_last s body goes_on)) has))
+pub in_last : (c n : ℕ) (events : List Event) (answered : List Executed) (begin s : Executed) (body : List Executed) → n < 2 ^ 64 → statements_by c events ≡ answered ++ s ∷ [] → from_begin n answered ≡ begin ∷ body → AllByRecursion (λ x. ends x ≡ false) body → (x : Executed) → Contains (body ++ s ∷ []) x → IsIn events c x (id_of c n)
+in_last c n events answered begin s body small same since goes_on x has =
+    (client_is c n small, subst (λ ss. Contains (through_end (rest_of ss)) x) (sym (since_last c n events answered begin s body small same since)) (subst (λ ss. Contains ss x) (sym (through_last s body goes_on)) has))
 
 -- One that its client said last, in a transaction whose statements before it are these, may pass the most where these counted and found so.
-pub pass_now : (c n : ℕ) (events : List Event) (told : List Executed) (begin s : Executed) (body : List Executed) (st : Statement) → n < 2 ^ 64 → statements_by c events ≡ told ++ s ∷ [] → from_begin n told ≡ begin ∷ body → AllByRecursion (λ x. ends x ≡ false) body → Reads s.text st
+pub pass_now : (c n : ℕ) (events : List Event) (answered : List Executed) (begin s : Executed) (body : List Executed) (st : Statement) → n < 2 ^ 64 → statements_by c events ≡ answered ++ s ∷ [] → from_begin n answered ≡ begin ∷ body → AllByRecursion (λ x. ends x ≡ false) body → Reads s.text st
     → may_pass (rows_counted_by body) (records_found_by events c body + records_found (calls_of events c s)) st ≡ true → MayPassMost events c s
-pass_now c n events told begin s body st small same since goes_on reads past = record {
+pass_now c n events answered begin s body st small same since goes_on reads past = record {
   id = id_of c n;
   statement = st;
-  within = in_last c n events told begin s body small same since goes_on s (Contains-append_right body (s ∷ []) s (Contains-push [] s));
+  within = in_last c n events answered begin s body small same since goes_on s (Contains-append_right body (s ∷ []) s (Contains-push [] s));
   read = reads;
   past = passes_more (rows_counted_by body) (sum_by (λ b. rows_counted b.answer) (body_before events (id_of c n) s)) (records_found_by events c body + records_found (calls_of events c s)) (sum_by (λ b. records_found (calls_of events c b)) (finished_before events (id_of c n) s) + records_found (calls_of events c s)) st (grown is_effective (λ b. rows_counted b.answer)) (plus (records_found_by events c body) (sum_by (λ b. records_found (calls_of events c b)) (finished_before events (id_of c n) s)) (records_found (calls_of events c s)) (subst (λ d. records_found_by events c body ≤ sum_by (λ b. records_found (calls_of events c b)) (before_in (has_read events d) (ordinal_of (id_of c n)) s (statements_by (client_of (id_of c n)) events))) (sym (client_is c n small)) (grown (has_read events c) (λ b. records_found (calls_of events c b))))) past;
 }
@@ -451,24 +448,24 @@ pass_now c n events told begin s body st small same since goes_on reads past = r
     plus : (a b x : ℕ) → a ≤ b → a + x ≤ b + x
     plus a b x l = omega arith
 
-    -- all of the body was taken before it
-    none_dropped : (t : Executed → Bool) (xs : List Executed) → AllByRecursion (λ b. b.taken < s.taken) xs → kept t s xs ≡ filter t xs
+    -- all of the body was accepted before it
+    none_dropped : (t : Executed → Bool) (xs : List Executed) → AllByRecursion (λ b. b.accepted < s.accepted) xs → kept t s xs ≡ filter t xs
     none_dropped t [] all = refl
     none_dropped t (x ∷ xs) all = by (t x) (none_dropped t xs all.1)
       where
         below : (a b : ℕ) → a < b → nat_lt a b ≡ true
         below a b l = grind (arith, nat_tests)
 
-        by : (b : Bool) → kept t s xs ≡ filter t xs → filter (λ b. nat_lt b.taken s.taken) (if b then x ∷ filter t xs else filter t xs) ≡ (if b then x ∷ filter t xs else filter t xs)
-        by true ih = ap (λ b. if b then x ∷ kept t s xs else kept t s xs) (below x.taken s.taken all.0) ∙ ap (λ r. x ∷ r) ih
+        by : (b : Bool) → kept t s xs ≡ filter t xs → filter (λ b. nat_lt b.accepted s.accepted) (if b then x ∷ filter t xs else filter t xs) ≡ (if b then x ∷ filter t xs else filter t xs)
+        by true ih = ap (λ b. if b then x ∷ kept t s xs else kept t s xs) (below x.accepted s.accepted all.0) ∙ ap (λ r. x ∷ r) ih
         by false ih = ih
 
     before_is : (t : Executed → Bool) → before_in t (ordinal_of (id_of c n)) s (statements_by (client_of (id_of c n)) events) ≡ filter t body ++ kept t s (take_while (λ x. not (ends x)) (s ∷ []))
     before_is t =
-        ap (λ ss. kept t s (take_while (λ x. not (ends x)) (rest_of ss))) (since_last c n events told begin s body small same since)
+        ap (λ ss. kept t s (take_while (λ x. not (ends x)) (rest_of ss))) (since_last c n events answered begin s body small same since)
         ∙ ap (kept t s) (take_open body (s ∷ []) goes_on)
         ∙ kept_append t s body (take_while (λ x. not (ends x)) (s ∷ []))
-        ∙ ap (λ r. r ++ kept t s (take_while (λ x. not (ends x)) (s ∷ []))) (none_dropped t body (since_all (λ b. b.taken < s.taken) n told begin body (taken_before c events told s same) since))
+        ∙ ap (λ r. r ++ kept t s (take_while (λ x. not (ends x)) (s ∷ []))) (none_dropped t body (since_all (λ b. b.accepted < s.accepted) n answered begin body (taken_before c events answered s same) since))
 
     grown : (t : Executed → Bool) (f : Executed → ℕ) → sum_by f (filter t body) ≤ sum_by f (before_in t (ordinal_of (id_of c n)) s (statements_by (client_of (id_of c n)) events))
     grown t f = subst (λ ss. sum_by f (filter t body) ≤ sum_by f ss) (sym (before_is t)) (sum_front f (filter t body) (kept t s (take_while (λ x. not (ends x)) (s ∷ []))))

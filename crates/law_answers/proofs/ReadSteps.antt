@@ -5,44 +5,31 @@ use Rattle.std.specs.List.{AllByRecursion, list_all, list_any}
 use Rattle.std.specs.Ordering.{is_eq}
 use Rattle.std.proofs.lemmas.Bool.{and_parts}
 use Rattle.std.proofs.lemmas.List.Elements.{All-contains_itself, Contains-append_left, Contains-push, recursion_from_All}
-use Rattle.sdb_types.specs.declared.key.Key.{Key}
-use Rattle.sdb_types.specs.declared.txid.TxId.{TxId}
-use Rattle.sdb_types.specs.declared.key.TableName.{TableName}
-use Rattle.sdb_types.specs.declared.pair.Pair.{Pair}
-use Rattle.sdb_types.specs.declared.record.Record.{Record}
-use Rattle.sdb_types.specs.declared.record.Reply.{Reply}
+use Rattle.law_answers.specs.Types.{Access, Decided, Event, Key, Meta, Pair, Record, RecoverPhase, RecoverStep, Reply, Request, Span, TableName, TxId}
 use Rattle.sdb_types.specs.declared.record.Reply.TheVariants as reply
-use Rattle.sdb_types.specs.declared.record.Request.{Request}
-use Rattle.sdb_types.specs.declared.record.Span.{Span}
 use Rattle.sdb_types.specs.declared.record.State.TheVariants as state
 use Rattle.sdb_types.specs.Contents.{CanAnswer, are_rows_of, in_span, rise}
 use Rattle.sdb_types.specs.Exact.{equal_of}
 use Rattle.sdb_types.specs.Order.{table_cmp}
 use Rattle.sdb_types.proofs.Basics.{by_test, clash, some_is}
 use Rattle.sdb_types.proofs.KeyOrder.{table_exact}
-use Rattle.sdb_record.specs.declared.access.Access.{Access}
 use Rattle.sdb_record.specs.declared.access.Access.TheVariants as access
-use Rattle.sdb_record.specs.declared.coordinator.Decided.{Decided}
 use Rattle.sdb_record.specs.declared.coordinator.Decision.TheVariants as decision
-use Rattle.sdb_record.specs.declared.meta.Meta.{Meta}
 use Rattle.sdb_record.specs.Coordinator.{coordinator_key_of, decision_in, is_coordinator_table, is_expired}
 use Rattle.sdb_record.specs.Meta.{checked, checked_before, checked_part, is_committed, is_in, is_misnamed, is_transactional, is_unresolved, moment_in, refuse, with_before}
 use Rattle.sdb_record.specs.Parts.{before_part, is_before_pair}
-use Rattle.sdb_record.proofs.Fine.{refuse-ok, taken}
+use Rattle.sdb_record.proofs.Fine.{refuse-ok, accepted}
 use Rattle.sdb_record.proofs.ImageLaws.{row-key}
-use Rattle.sdb_model.specs.declared.event.Event.{Event}
 use Rattle.sdb_model.specs.Calls.{StoreCall, calls_of, clock_at, is_read, records_read, records_observed}
 use Rattle.sdb_model.specs.Causes.{HasReply, IsBusy}
 use Rattle.sdb_model.specs.Events.{table_asked}
 use Rattle.sdb_model.specs.ReadSet.{reads_rows}
 use Rattle.sdb_model.specs.Transactions.{Executed}
-use Rattle.sdb_phases.specs.declared.step.RecoverPhase.{RecoverPhase}
 use Rattle.sdb_phases.specs.declared.step.RecoverPhase.TheVariants as phase
-use Rattle.sdb_phases.specs.declared.step.RecoverStep.{RecoverStep}
 use Rattle.sdb_phases.specs.declared.step.RecoverStep.TheVariants as steps
 use Rattle.sdb_phases.specs.Recover.{recover_next, recover_request_at, roll_to, undecided}
 use Rattle.sdb_phases.specs.Work.{abort_of, look_of}
-use Rattle.sdb_read.specs.Read.{Asking, Bad, Ended, Firm, Kind, Open, ReadStage, Resolving, answered, kind_of, opened, read_pending_at, read_step, request_of, resolved, settle, settle_one}
+use Rattle.sdb_txn.specs.Read.{Asking, Bad, Ended, Firm, Kind, Open, ReadStage, Resolving, answered, kind_of, opened, read_pending_at, read_step, request_of, resolved, settle, settle_one}
 use Rattle.law_clients.proofs.Meta.{meta_of}
 use Rattle.law_clients.proofs.InTables.{access_table}
 use Rattle.law_answers.specs.Commits.{IsBadRow, ObservesBad}
@@ -93,7 +80,7 @@ final_moment ps m y h = by (list_any is_before_pair ps) h
     by false k = let e : m ≡ y = cc in ap (λ (x : Meta). x.prepared_at) e
 
 pub prepared_moment : (r : Record) (m : Meta) → checked r.columns ≡ Ok m → moment_in r.columns (codes "tx_prepared_at") ≡ Some m.prepared_at
-prepared_moment r m says = let t = taken r.columns m says in t.1.says.prepared_at ∙ ap Some (final_moment r.columns t.0 m t.2)
+prepared_moment r m says = let t = accepted r.columns m says in t.1.says.prepared_at ∙ ap Some (final_moment r.columns t.0 m t.2)
 
 pub shown_read : (r : Reply) (x : Record) → Contains (records_read r) x → Contains (records_observed r) x
 shown_read (reply.Found None) x h = h
@@ -156,7 +143,7 @@ module _ (events : List Event) (calls : List StoreCall) (m : StoreCall) (older :
       by : (x : Kind) → kind_of r ≡ x → LedBy events more (settle (images ++ r ∷ []) left) → LedBy events more (settle_one x images r left (settle (images ++ r ∷ []) left))
       by Firm e rest = rest
       by (Open meta) e rest = record { found = f; is_open = e; phase = tt }
-      by Bad e rest = record { call = f.read; found = r; among = f.among; shown = shown_read f.read.reply r f.found.0; same = refl; bad = bad (bad_is r e); place = inr (rows_read f.read f.reads f.of_data, f.found.0) }
+      by Bad e rest = record { call = f.read; found = r; among = f.among; observed = shown_read f.read.reply r f.found.0; same = refl; bad = bad (bad_is r e); place = inr (rows_read f.read f.reads f.of_data, f.found.0) }
 
   ---- the rows
 
@@ -221,10 +208,10 @@ module _ (events : List Event) (calls : List StoreCall) (m : StoreCall) (older :
         by false h = busy_is e f h
 
     rolled_is : (row : Record) → row.key ≡ coordinator_key_of meta.id → records_observed m.reply ≡ row ∷ [] → ComesTo (roll_to meta (decision_in row))
-    rolled_is row same shown = by (decision_in row) refl
+    rolled_is row same observed = by (decision_in row) refl
       where
         by : (o : Result Decided (List ℕ)) → decision_in row ≡ o → ComesTo (roll_to meta o)
-        by (Err name) e = shows_bad_row meta.id calls m row name shown same e
+        by (Err name) e = shows_bad_row meta.id calls m row name observed same e
         by (Ok d) e = elim d.decision as (λ x. ComesTo (elim x [ decision.Committed ↦ (phase.Forward d.created_at, steps.More) | decision.Aborted ↦ (phase.Back, steps.More) ])) [ decision.Committed ↦ tt | decision.Aborted ↦ tt ]
 
     can_at : (q : Request) (r : Reply) → m.request ≡ q → m.reply ≡ r → CanAnswer m.request m.reply → CanAnswer q r

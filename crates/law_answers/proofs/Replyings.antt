@@ -3,21 +3,11 @@ use Rattle.std.proofs.Common.{◌≡◌, ◌≤◌, ◌<◌, ◌^◌, ◌+◌, i
 use Rattle.std.specs.Prelude.{◌&&◌, ◌||◌, is_some, IfSome, nat_le, nat_lt}
 use Rattle.std.specs.List.{AllByRecursion, count_by}
 use Rattle.std.proofs.lemmas.List.{append-nil}
-use Rattle.sdb_types.specs.declared.key.Key.{Key}
-use Rattle.sdb_types.specs.declared.key.TableName.{TableName}
-use Rattle.sdb_types.specs.declared.record.Record.{Record}
-use Rattle.sdb_types.specs.declared.record.Request.{Request}
-use Rattle.sdb_types.specs.declared.txid.TxId.{TxId}
+use Rattle.law_answers.specs.Types.{Access, Answer, Doing, Event, Key, Next, Outcome, Read, Record, Request, Table, TableName, TxId, VacuumStep, Write}
 use Rattle.sdb_types.proofs.Basics.{clash, some_is, all_each as each_any, length_more, id_fits}
-use Rattle.sdb_record.specs.declared.access.Access.{Access}
-use Rattle.sdb_record.specs.declared.access.Read.{Read}
-use Rattle.sdb_record.specs.declared.write.Write.{Write}
 use Rattle.sdb_record.specs.Meta.{is_moment}
-use Rattle.sdb_schema.specs.declared.table.Table.{Table}
 use Rattle.sdb_schema.specs.Catalog.{is_catalog}
-use Rattle.sdb_model.specs.declared.answer.Answer.{Answer}
 use Rattle.sdb_model.specs.declared.answer.Answer.TheVariants as answer
-use Rattle.sdb_model.specs.declared.event.Event.{Event}
 use Rattle.sdb_model.specs.Calls.{StoreCall, calls_of, clock_at, calls_by, end_of, is_stored_reply}
 use Rattle.law_clients.proofs.Finishing.{given_finishes}
 use Rattle.sdb_model.specs.Access.{in_access}
@@ -29,22 +19,18 @@ use Rattle.law_clients.proofs.Taken.{other_no_commit}
 use Rattle.sdb_model.specs.Sql.{Reads, reads_commit, reads_rollback, reads_vacuum}
 use Rattle.sdb_model.specs.Transactions.{Executed, begins, changes_nothing, ends, from_begin, id_of, is_conflict, is_done, rest_of, statements_by}
 use Rattle.sdb_exec.specs.Plans.{Planned, changes_on, first_unfit}
-use Rattle.sdb_commit.specs.Phases.{CommitAt, IsNext, ended_at}
-use Rattle.sdb_phases.specs.declared.step.Outcome.{Outcome}
+use Rattle.sdb_txn.specs.Phases.{CommitAt, IsNext, ended_at}
 use Rattle.sdb_phases.specs.Commit.{Stage, Over, pending as commit_pending, step as commit_step}
 use Rattle.sdb_phases.specs.Work.{Work}
-use Rattle.sdb_read.specs.declared.read.ReadStep.TheVariants as step
-use Rattle.sdb_read.specs.Read.{Asking, Ended, ReadAt, ReadStage, Resolving, read_pending_at, read_result, read_step, request_of}
+use Rattle.sdb_txn.specs.declared.read.ReadStep.TheVariants as step
+use Rattle.sdb_txn.specs.Read.{Asking, Ended, ReadAt, ReadStage, Resolving, read_pending_at, read_result, read_step, request_of}
 use Rattle.sdb_model.specs.ReadSet.{ReadItem, has_read, read_items, read_finished}
 use Rattle.sdb_snapshot.specs.Sets.{WereRead}
 use Rattle.sdb_snapshot.specs.Seen.{overlay}
 use Rattle.sdb_txn.specs.declared.progress.Progress.TheVariants as progress
-use Rattle.sdb_txn.specs.declared.txn.Doing.{Doing}
 use Rattle.sdb_txn.specs.declared.txn.Doing.TheVariants as doing
 use Rattle.sdb_txn.specs.Txn.{IsCommitting as GoesOn, TxnAt, idle, pending_in, progress_of}
-use Rattle.sdb_client.specs.declared.next.Next.{Next}
 use Rattle.sdb_client.specs.declared.next.Next.TheVariants as next
-use Rattle.sdb_vacuum.specs.declared.work.VacuumStep.{VacuumStep}
 use Rattle.sdb_vacuum.specs.declared.work.VacuumStep.TheVariants as vacuuming
 use Rattle.sdb_vacuum.specs.Vacuum.{Gives, VacuumAt, vacuum_step}
 use Rattle.sdb_client.specs.Client.{CallPost, ClientAt as Client, CommitNext, RowsReadPost, IsChangedAt, NextPost, OpenTxnPost, ReplyPost, StagePost, VacuumPost, after, answer_in, answer_of, given_answer, given_left, gives, holding, next_of, with_rows_read, pending_by, pending_of, resting, too_many, vacuum_left}
@@ -138,7 +124,7 @@ module _ (catalog : List Table) (events : List Event) (states : ℕ → ClientSt
   so_id = id_of c h.begun
 
   abbrev so_noted : List ReadItem
-  so_noted = read_items_since events c h.begun k.told
+  so_noted = read_items_since events c h.begun k.answered
 
   data_table : (t : TableName) → is_some (find_table catalog t) ≡ true → IsDataTable t
   data_table t listed = apart (record { table = t; partition = []; clustering = [] }) listed
@@ -156,17 +142,17 @@ module _ (catalog : List Table) (events : List Event) (states : ℕ → ClientSt
     waits : IsWaiting catalog events c (is_some h.vacuum) w
     waits = subst (λ (o : Option Executed). IfSome o (IsWaiting catalog events c (is_some h.vacuum))) waiting k.waits
 
-    said_told : statements_by c events ≡ k.told ++ w ∷ []
-    said_told = k.same ∙ ap (λ o. k.told ++ waiting_of o) waiting
+    said_told : statements_by c events ≡ k.answered ++ w ∷ []
+    said_told = k.same ∙ ap (λ o. k.answered ++ waiting_of o) waiting
 
-    calls_before_it : ms ≡ later_calls events c w.taken
+    calls_before_it : ms ≡ later_calls events c w.accepted
     calls_before_it = calls_open c events w (end_waiting events w waits.unanswered)
 
     older : AllByRecursion (λ x. x.at < made.at) ms
-    older = subst (AllByRecursion (λ x. x.at < made.at)) (sym calls_before_it) (later_within c events w.taken)
+    older = subst (AllByRecursion (λ x. x.at < made.at)) (sym calls_before_it) (later_within c events w.accepted)
 
-    later_one : (result : Option Answer) → later_calls (E result) c w.taken ≡ ms ++ made ∷ []
-    later_one result = later_more c events (call_event y result) w.taken made waits.taken refl (own_made c events y.store y.request y.how y.reply result) ∙ ap (λ xs. xs ++ made ∷ []) (sym calls_before_it)
+    later_one : (result : Option Answer) → later_calls (E result) c w.accepted ≡ ms ++ made ∷ []
+    later_one result = later_more c events (call_event y result) w.accepted made waits.accepted refl (own_made c events y.store y.request y.how y.reply result) ∙ ap (λ xs. xs ++ made ∷ []) (sym calls_before_it)
 
     calls_on : calls_of (E None) c w ≡ ms ++ made ∷ []
     calls_on = calls_open c (E None) w (end_waiting (E None) w waits.unanswered) ∙ later_one None
@@ -177,14 +163,14 @@ module _ (catalog : List Table) (events : List Event) (states : ℕ → ClientSt
     calls_done : (b : Answer) → calls_of (E (Some b)) c (done b) ≡ ms ++ made ∷ []
     calls_done b = calls_open c (E (Some b)) (done b) (end_answered (E (Some b)) (done b) b refl ∙ sym (long (Some b))) ∙ later_one (Some b)
 
-    said_done : (b : Answer) → statements_by c (E (Some b)) ≡ k.told ++ done b ∷ []
-    said_done b = call_said c events y.store y.request y.how y.reply b k.told w said_told
+    said_done : (b : Answer) → statements_by c (E (Some b)) ≡ k.answered ++ done b ∷ []
+    said_done b = call_said c events y.store y.request y.how y.reply b k.answered w said_told
 
     begins_none : (b : Answer) → begins (done b) ≡ false
     begins_none b = ap (λ x. x && is_done (Some b)) waits.begin
 
-    begun_done : (b : Answer) → h.begun ≡ begun_in (k.told ++ done b ∷ [])
-    begun_done b = k.begun ∙ sym (begun_same k.told (done b) (begins_none b))
+    begun_done : (b : Answer) → h.begun ≡ begun_in (k.answered ++ done b ∷ [])
+    begun_done b = k.begun ∙ sym (begun_same k.answered (done b) (begins_none b))
 
     -- its calls are counted, and with this one
     counted_now : WaitCounted catalog w.text so_id so_noted ms h.vacuum h.txn
@@ -202,78 +188,78 @@ module _ (catalog : List Table) (events : List Event) (states : ℕ → ClientSt
 
     -- what its calls come to where it is answered, and what its transaction has then noted
     abbrev CountsThen : Answer → Client → Type 0
-    CountsThen b d = (reads_commit w.text ≡ true → CommitIsCounted so_noted so_id (Some b) (ms ++ made ∷ [])) × ReadByTxn (read_items_since (E (Some b)) c d.begun (k.told ++ done b ∷ [])) d.txn
+    CountsThen b d = (reads_commit w.text ≡ true → CommitIsCounted so_noted so_id (Some b) (ms ++ made ∷ [])) × ReadByTxn (read_items_since (E (Some b)) c d.begun (k.answered ++ done b ∷ [])) d.txn
 
     -- it is answered
-    answers : (b : Answer) (d : Client) → (is_conflict (Some b) ≡ false → IsCaused catalog (E (Some b)) c (done b) b) → ((key : Key) (found : Option Record) → Some b ≡ Some (answer.Conflict key found) → IsChangedIn (E (Some b)) c (k.told ++ done b ∷ []) (done b) key found) → d.number ≡ h.number → d.begun ≡ h.begun → ClientByHistory (E (Some b)) c d.begun (k.told ++ done b ∷ []) None d.plan d.txn d.vacuum → CountsThen b d → IfSome d.txn (IsFilled (E (Some b)) c (rest_of (from_begin d.begun (k.told ++ done b ∷ [])))) → IfSome d.txn (IsFitOrReadTxn catalog (E (Some b)) c (rest_of (from_begin d.begun (k.told ++ done b ∷ [])))) → RollsThen b → ShowsNext catalog (E (Some b)) c k.told (done b) b d → So (Some b) d
-    answers b d caused moves number begun stands counts filled fits rolls shows = record {
-      told = k.told ++ done b ∷ [];
+    answers : (b : Answer) (d : Client) → (is_conflict (Some b) ≡ false → IsCaused catalog (E (Some b)) c (done b) b) → ((key : Key) (found : Option Record) → Some b ≡ Some (answer.Conflict key found) → IsChangedIn (E (Some b)) c (k.answered ++ done b ∷ []) (done b) key found) → d.number ≡ h.number → d.begun ≡ h.begun → ClientByHistory (E (Some b)) c d.begun (k.answered ++ done b ∷ []) None d.plan d.txn d.vacuum → CountsThen b d → IfSome d.txn (IsFilled (E (Some b)) c (rest_of (from_begin d.begun (k.answered ++ done b ∷ [])))) → IfSome d.txn (IsFitOrReadTxn catalog (E (Some b)) c (rest_of (from_begin d.begun (k.answered ++ done b ∷ [])))) → RollsThen b → ShowsNext catalog (E (Some b)) c k.answered (done b) b d → So (Some b) d
+    answers b d caused moves number begun agrees counts filled fits rolls shows = record {
+      answered = k.answered ++ done b ∷ [];
       waiting = None;
-      same = said_done b ∙ sym (append-nil (k.told ++ done b ∷ []));
-      answered = each_more (IsAnswered catalog (E (Some b)) c) k.told (done b) (answered_stay catalog c events (call_event y (Some b)) k.told (inr (inr (k.told, w, done b, said_told, waits.unanswered, said_done b))) k.answered) (record {
+      same = said_done b ∙ sym (append-nil (k.answered ++ done b ∷ []));
+      answered = each_more (IsAnswered catalog (E (Some b)) c) k.answered (done b) (answered_stay catalog c events (call_event y (Some b)) k.answered (inr (inr (k.answered, w, done b, said_told, waits.unanswered, said_done b))) k.answered) (record {
         given = b;
         is = refl;
-        taken = within_more w.taken events (call_event y (Some b)) waits.taken;
+        accepted = within_more w.accepted events (call_event y (Some b)) waits.accepted;
         answered = last (long (Some b));
         caused = caused;
-        rejected = λ a t. absurd (waits.stays a (subst (λ es. IsRejected catalog es c w.text a) (before_same w events (call_event y (Some b)) waits.taken) t));
+        rejected = λ a t. absurd (waits.stays a (subst (λ es. IsRejected catalog es c w.text a) (before_same w events (call_event y (Some b)) waits.accepted) t));
       });
       waits = tt;
-      moved = moved_all catalog events (call_event y (Some b)) c k.told (done b) k.answered k.moved moves;
+      moved = moved_all catalog events (call_event y (Some b)) c k.answered (done b) k.answered k.moved moves;
       number = number ∙ k.number;
       begun = begun ∙ begun_done b;
       small = subst (λ n. n < 2 ^ 64) (sym begun) k.small;
-      stands = stands;
-      counted = counts_end catalog c events (call_event y (Some b)) k.told k.waiting h k.answered k.counted (done b) d (ms ++ made ∷ []) k.begun (calls_done b) counted_then (λ t. clash (sym t ∙ begins_none b)) (λ t opened. counts.0 t) counts.1;
+      agrees = agrees;
+      counted = counts_end catalog c events (call_event y (Some b)) k.answered k.waiting h k.answered k.counted (done b) d (ms ++ made ∷ []) k.begun (calls_done b) counted_then (λ t. clash (sym t ∙ begins_none b)) (λ t opened. counts.0 t) counts.1;
       filled = filled;
       fits = fits;
       stored = all_stored (Some b);
-      rolled = rolls_end catalog c events (call_event y (Some b)) k.told k.waiting h k.answered k.rolled (done b) d (ms ++ made ∷ []) (calls_done b) (λ read. rolls read);
-      shows = shows_end catalog c events (call_event y (Some b)) k.told k.answered h k.shows k.counted.paired (done b) b d refl shows;
+      rolled = rolls_end catalog c events (call_event y (Some b)) k.answered k.waiting h k.answered k.rolled (done b) d (ms ++ made ∷ []) (calls_done b) (λ read. rolls read);
+      shows = shows_end catalog c events (call_event y (Some b)) k.answered k.answered h k.shows k.counted.paired (done b) b d refl shows;
     }
       where
         last : length (E (Some b)) ≡ 1 + length events → 1 + length events ≤ length (E (Some b))
         last e = omega arith
 
     -- it goes on
-    goes_on : (d : Client) → d.number ≡ h.number → d.begun ≡ h.begun → is_some d.vacuum ≡ is_some h.vacuum → ClientByHistory (E None) c d.begun k.told (Some w) d.plan d.txn d.vacuum → ReadByTxn so_noted d.txn × WaitCounted catalog w.text so_id so_noted (ms ++ made ∷ []) d.vacuum d.txn → IfSome d.txn (IsFilled (E None) c (rest_of (from_begin d.begun k.told))) → IfSome d.txn (IsFitOrReadTxn catalog (E None) c (rest_of (from_begin d.begun k.told))) → WaitRolls (E None) (reads_vacuum w.text) (ms ++ made ∷ []) d.vacuum d.txn → (ViewBy catalog events c k.told h → IfSome d.txn (IsViewOf catalog (E None) c (rest_of (from_begin d.begun k.told)))) → So None d
-    goes_on d number begun sweeps stands counts filled fits rolls sees = record {
-      told = k.told;
+    goes_on : (d : Client) → d.number ≡ h.number → d.begun ≡ h.begun → is_some d.vacuum ≡ is_some h.vacuum → ClientByHistory (E None) c d.begun k.answered (Some w) d.plan d.txn d.vacuum → ReadByTxn so_noted d.txn × WaitCounted catalog w.text so_id so_noted (ms ++ made ∷ []) d.vacuum d.txn → IfSome d.txn (IsFilled (E None) c (rest_of (from_begin d.begun k.answered))) → IfSome d.txn (IsFitOrReadTxn catalog (E None) c (rest_of (from_begin d.begun k.answered))) → WaitRolls (E None) (reads_vacuum w.text) (ms ++ made ∷ []) d.vacuum d.txn → (ViewBy catalog events c k.answered h → IfSome d.txn (IsViewOf catalog (E None) c (rest_of (from_begin d.begun k.answered)))) → So None d
+    goes_on d number begun vacuums agrees counts filled fits rolls sees = record {
+      answered = k.answered;
       waiting = Some w;
       same = silent_said c events y.store y.request y.how y.reply ∙ said_told;
-      answered = answered_stay catalog c events (call_event y None) k.told (inl (silent_said c events y.store y.request y.how y.reply)) k.answered;
-      waits = subst (λ b. IsWaiting catalog (E None) c b w) (sym sweeps) (waiting_stays catalog c events (call_event y None) (is_some h.vacuum) w waits);
-      moved = moved_still catalog events (call_event y None) c k.told k.told k.answered k.moved;
+      answered = answered_stay catalog c events (call_event y None) k.answered (inl (silent_said c events y.store y.request y.how y.reply)) k.answered;
+      waits = subst (λ b. IsWaiting catalog (E None) c b w) (sym vacuums) (waiting_stays catalog c events (call_event y None) (is_some h.vacuum) w waits);
+      moved = moved_still catalog events (call_event y None) c k.answered k.answered k.answered k.moved;
       number = number ∙ k.number;
       begun = begun ∙ k.begun;
       small = subst (λ n. n < 2 ^ 64) (sym begun) k.small;
-      stands = stands;
-      counted = counts_on catalog c events (call_event y None) k.told k.waiting h k.answered k.counted w d (ms ++ made ∷ []) begun calls_on counts.0 counts.1;
+      agrees = agrees;
+      counted = counts_on catalog c events (call_event y None) k.answered k.waiting h k.answered k.counted w d (ms ++ made ∷ []) begun calls_on counts.0 counts.1;
       filled = filled;
       fits = fits;
       stored = all_stored None;
-      rolled = rolls_on catalog c events (call_event y None) k.told k.waiting h k.answered k.rolled w d (ms ++ made ∷ []) calls_on rolls;
-      shows = shows_further catalog c events (call_event y None) k.told k.answered h k.shows d sees;
+      rolled = rolls_on catalog c events (call_event y None) k.answered k.waiting h k.answered k.rolled w d (ms ++ made ∷ []) calls_on rolls;
+      shows = shows_further catalog c events (call_event y None) k.answered k.answered h k.shows d sees;
     }
 
     calls_stored : (b : Answer) → AreStoredReplies (calls_of (E (Some b)) c (done b))
-    calls_stored b = each_kept (λ (m : StoreCall). is_stored_reply m.reply ≡ true) (λ m. nat_lt (done b).taken m.at && nat_le m.at (end_of (E (Some b)) (done b))) (calls_by (E (Some b)) c) (all_stored (Some b))
+    calls_stored b = each_kept (λ (m : StoreCall). is_stored_reply m.reply ≡ true) (λ m. nat_lt (done b).accepted m.at && nat_le m.at (end_of (E (Some b)) (done b))) (calls_by (E (Some b)) c) (all_stored (Some b))
 
-    -- what isn't taken as a record of a transaction is of no form of records
+    -- what isn't accepted as a record of a transaction is of no form of records
     bad_caused : (key : Key) → ObservesBad (ms ++ made ∷ []) key → IsBadRecord catalog (E (Some (answer.BadRecord key))) c (done (answer.BadRecord key)) key
     bad_caused key b =
         let g : ObservesBad (calls_of (E (Some (answer.BadRecord key))) c (done (answer.BadRecord key))) key = subst (λ cs. ObservesBad cs key) (sym (calls_done (answer.BadRecord key))) b in
-        inl (g.call, g.found, g.among, g.shown, g.same, shown_bad (calls_of (E (Some (answer.BadRecord key))) c (done (answer.BadRecord key))) key (calls_stored (answer.BadRecord key)) g)
+        inl (g.call, g.found, g.among, g.observed, g.same, shown_bad (calls_of (E (Some (answer.BadRecord key))) c (done (answer.BadRecord key))) key (calls_stored (answer.BadRecord key)) g)
 
     ---- where it is then
 
     module _ (t : TxnAt) (some : h.txn ≡ Some t) (free : h.vacuum ≡ None) where
-      stands_open : DoingByHistory events c h.begun k.told k.waiting h.plan (Some t)
-      stands_open = subst (DoingByHistory events c h.begun k.told k.waiting h.plan) some (subst (ClientByHistory events c h.begun k.told k.waiting h.plan h.txn) free k.stands)
+      stands_open : DoingByHistory events c h.begun k.answered k.waiting h.plan (Some t)
+      stands_open = subst (DoingByHistory events c h.begun k.answered k.waiting h.plan) some (subst (ClientByHistory events c h.begun k.answered k.waiting h.plan h.txn) free k.agrees)
 
       -- it runs no VACUUM
-      stands_free : (result : Option Answer) (n : ℕ) (told : List Executed) (v : Option Executed) (p : Option Planned) (o : Option TxnAt) → DoingByHistory (E result) c n told v p o → ClientByHistory (E result) c n told v p o h.vacuum
-      stands_free result n told v p o = subst (ClientByHistory (E result) c n told v p o) (sym free)
+      stands_free : (result : Option Answer) (n : ℕ) (answered : List Executed) (v : Option Executed) (p : Option Planned) (o : Option TxnAt) → DoingByHistory (E result) c n answered v p o → ClientByHistory (E result) c n answered v p o h.vacuum
+      stands_free result n answered v p o = subst (ClientByHistory (E result) c n answered v p o) (sym free)
 
       waits_open : (cs : List StoreCall) (o : Option TxnAt) → OpenCounted w.text so_id so_noted cs o → WaitCounted catalog w.text so_id so_noted cs h.vacuum o
       waits_open cs o = subst (λ v. WaitCounted catalog w.text so_id so_noted cs v o) (sym free)
@@ -288,35 +274,35 @@ module _ (catalog : List Table) (events : List Event) (states : ℕ → ClientSt
       open_noted = subst (ReadByTxn so_noted) some k.counted.as_read
 
       -- one that notes nothing
-      notes_as_before : (b : Answer) → read_finished (ms ++ made ∷ []) b ≡ false → read_items_since (E (Some b)) c h.begun (k.told ++ done b ∷ []) ≡ so_noted
-      notes_as_before b unfinished = since_same (E (Some b)) c h.begun k.told (done b) (none_noted (E (Some b)) c (done b) (ap (λ cs. read_finished cs b) (calls_done b) ∙ unfinished)) ∙ since_stay catalog events (call_event y (Some b)) c h.begun k.told k.answered
+      notes_as_before : (b : Answer) → read_finished (ms ++ made ∷ []) b ≡ false → read_items_since (E (Some b)) c h.begun (k.answered ++ done b ∷ []) ≡ so_noted
+      notes_as_before b unfinished = since_same (E (Some b)) c h.begun k.answered (done b) (none_noted (E (Some b)) c (done b) (ap (λ cs. read_finished cs b) (calls_done b) ∙ unfinished)) ∙ since_stay catalog events (call_event y (Some b)) c h.begun k.answered k.answered
 
       -- an answer that is no Conflict
-      stays : (b : Answer) → is_conflict (Some b) ≡ false → (key : Key) (found : Option Record) → Some b ≡ Some (answer.Conflict key found) → IsChangedIn (E (Some b)) c (k.told ++ done b ∷ []) (done b) key found
-      stays b f = unmoved (E (Some b)) c (k.told ++ done b ∷ []) (done b) b refl f
+      stays : (b : Answer) → is_conflict (Some b) ≡ false → (key : Key) (found : Option Record) → Some b ≡ Some (answer.Conflict key found) → IsChangedIn (E (Some b)) c (k.answered ++ done b ∷ []) (done b) key found
+      stays b f = unmoved (E (Some b)) c (k.answered ++ done b ∷ []) (done b) b refl f
 
       -- the transaction stays open, and does nothing
-      held : (b : Answer) (u : TxnAt) → IsMiddle b → reads_commit w.text ≡ false → u.id ≡ t.id → u.doing ≡ doing.Idle → SeenBy (read_items_of_body (E (Some b)) c (stands_open.1.body ++ done b ∷ [])) u.seen → ClientByHistory (E (Some b)) c h.begun (k.told ++ done b ∷ []) None None (Some u) h.vacuum
-      held b u m no_commit same idles as_read = stands_free (Some b) h.begun (k.told ++ done b ∷ []) None None (Some u) (
-        after_more k.told (done b) ∙ ap (λ x. is_open_after x (done b)) stands_open.0 ∙ after_plain true (done b) (begins_none b) (λ e. middle_ends (done b) b refl m no_commit),
-        open_more c h.begun k.told t u (done b) same (middle_ends (done b) b refl m no_commit) stands_open.1,
+      held : (b : Answer) (u : TxnAt) → IsMiddle b → reads_commit w.text ≡ false → u.id ≡ t.id → u.doing ≡ doing.Idle → SeenBy (read_items_of_body (E (Some b)) c (stands_open.1.body ++ done b ∷ [])) u.seen → ClientByHistory (E (Some b)) c h.begun (k.answered ++ done b ∷ []) None None (Some u) h.vacuum
+      held b u m no_commit same idles as_read = stands_free (Some b) h.begun (k.answered ++ done b ∷ []) None None (Some u) (
+        after_more k.answered (done b) ∙ ap (λ x. is_open_after x (done b)) stands_open.0 ∙ after_plain true (done b) (begins_none b) (λ e. middle_ends (done b) b refl m no_commit),
+        open_more c h.begun k.answered t u (done b) same (middle_ends (done b) b refl m no_commit) stands_open.1,
         subst (IsDoing (E (Some b)) c u None None) (sym idles) refl,
-        subst (λ d. IsReadSetOf (E (Some b)) c (k.told ++ done b ∷ []) (stands_open.1.body ++ done b ∷ []) u d None) (sym idles) as_read,
+        subst (λ d. IsReadSetOf (E (Some b)) c (k.answered ++ done b ∷ []) (stands_open.1.body ++ done b ∷ []) u d None) (sym idles) as_read,
       )
 
       -- it ends
-      ended : (b : Answer) → ends (done b) ≡ true → ClientByHistory (E (Some b)) c h.begun (k.told ++ done b ∷ []) None None None h.vacuum
-      ended b over = stands_free (Some b) h.begun (k.told ++ done b ∷ []) None None None (refl, after_more k.told (done b) ∙ after_end (open_after k.told) (done b) b (begins_none b) over refl)
+      ended : (b : Answer) → ends (done b) ≡ true → ClientByHistory (E (Some b)) c h.begun (k.answered ++ done b ∷ []) None None None h.vacuum
+      ended b over = stands_free (Some b) h.begun (k.answered ++ done b ∷ []) None None None (refl, after_more k.answered (done b) ∙ after_end (open_after k.answered) (done b) b (begins_none b) over refl)
 
       -- it goes on, with the statement
-      further : (u : TxnAt) (p : Option Planned) → u.id ≡ t.id → IsDoing (E None) c u p (Some w) u.doing → IsReadSetOf (E None) c k.told stands_open.1.body u u.doing (Some w) → ClientByHistory (E None) c h.begun k.told (Some w) p (Some u) h.vacuum
-      further u p same does as_read = stands_free None h.begun k.told (Some w) p (Some u) (stands_open.0, record { begin = stands_open.1.begin; body = stands_open.1.body; since = stands_open.1.since; goes_on = stands_open.1.goes_on; id = same ∙ stands_open.1.id; client = stands_open.1.client }, does, as_read)
+      further : (u : TxnAt) (p : Option Planned) → u.id ≡ t.id → IsDoing (E None) c u p (Some w) u.doing → IsReadSetOf (E None) c k.answered stands_open.1.body u u.doing (Some w) → ClientByHistory (E None) c h.begun k.answered (Some w) p (Some u) h.vacuum
+      further u p same does as_read = stands_free None h.begun k.answered (Some w) p (Some u) (stands_open.0, record { begin = stands_open.1.begin; body = stands_open.1.body; since = stands_open.1.since; goes_on = stands_open.1.goes_on; id = same ∙ stands_open.1.id; client = stands_open.1.client }, does, as_read)
 
       pends_txn : pending_of h.txn ≡ Some y.request
       pends_txn = subst (λ (v : Option VacuumAt). pending_by v h.txn ≡ Some y.request) free called.waiting.pending
 
       open_before : (b : Answer) → is_open (before (done b) (E (Some b))) c ≡ true
-      open_before b = ap (λ es. is_open es c) (before_same w events (call_event y (Some b)) waits.taken) ∙ waits.opened ∙ ap (λ o. not (is_some o)) free
+      open_before b = ap (λ es. is_open es c) (before_same w events (call_event y (Some b)) waits.accepted) ∙ waits.opened ∙ ap (λ o. not (is_some o)) free
 
       ---- a read
 
@@ -341,32 +327,32 @@ module _ (catalog : List Table) (events : List Event) (states : ℕ → ClientSt
             subst (λ (q : Request). read_pending_at q x.stage ≡ Some y.request) asked.request read
 
         noting_now : SeenBy (read_items_of_body events c stands_open.1.body) t.seen
-        noting_now = subst (λ d. IsReadSetOf events c k.told stands_open.1.body t d k.waiting) reads stands_open.3
+        noting_now = subst (λ d. IsReadSetOf events c k.answered stands_open.1.body t d k.waiting) reads stands_open.3
 
-        filled_reading : IsFilledBy (rows_counted_by (rest_of (from_begin h.begun k.told))) (records_found_by events c (rest_of (from_begin h.begun k.told))) t.seen
-        filled_reading = subst (IsFilledIn events c (rest_of (from_begin h.begun k.told)) t.seen) reads (subst (λ (o : Option TxnAt). IfSome o (IsFilled events c (rest_of (from_begin h.begun k.told)))) some k.filled)
+        filled_reading : IsFilledBy (rows_counted_by (rest_of (from_begin h.begun k.answered))) (records_found_by events c (rest_of (from_begin h.begun k.answered))) t.seen
+        filled_reading = subst (IsFilledIn events c (rest_of (from_begin h.begun k.answered)) t.seen) reads (subst (λ (o : Option TxnAt). IfSome o (IsFilled events c (rest_of (from_begin h.begun k.answered)))) some k.filled)
 
         filled_now : IsFilledBy (rows_counted_by stands_open.1.body) (records_found_by events c stands_open.1.body) t.seen
         filled_now = subst (λ r. IsFilledBy (rows_counted_by (rest_of r)) (records_found_by events c (rest_of r)) t.seen) stands_open.1.since filled_reading
 
         body_answered : AllByRecursion (IsAnswered catalog events c) stands_open.1.body
-        body_answered = since_all (IsAnswered catalog events c) h.begun k.told stands_open.1.begin stands_open.1.body k.answered stands_open.1.since
+        body_answered = since_all (IsAnswered catalog events c) h.begun k.answered stands_open.1.begin stands_open.1.body k.answered stands_open.1.since
 
         -- what it sees fits, or a statement before read it
-        fit_reading : (result : Option Answer) → SeesFitOrRead catalog (E result) c (rest_of (from_begin h.begun k.told)) t.seen
+        fit_reading : (result : Option Answer) → SeesFitOrRead catalog (E result) c (rest_of (from_begin h.begun k.answered)) t.seen
         fit_reading result =
-            subst (SeesFitOrReadIn catalog (E result) c (rest_of (from_begin h.begun k.told)) t.seen) reads
-            (subst (λ (o : Option TxnAt). IfSome o (IsFitOrReadTxn catalog (E result) c (rest_of (from_begin h.begun k.told)))) some (fits_stay catalog events (call_event y result) c h.begun k.told h.txn k.answered k.fits))
+            subst (SeesFitOrReadIn catalog (E result) c (rest_of (from_begin h.begun k.answered)) t.seen) reads
+            (subst (λ (o : Option TxnAt). IfSome o (IsFitOrReadTxn catalog (E result) c (rest_of (from_begin h.begun k.answered)))) some (fits_stay catalog events (call_event y result) c h.begun k.answered h.txn k.answered k.fits))
 
         fit_now : (result : Option Answer) → SeesFitOrRead catalog (E result) c stands_open.1.body t.seen
         fit_now result = subst (λ r. SeesFitOrRead catalog (E result) c (rest_of r) t.seen) stands_open.1.since (fit_reading result)
 
         -- what it sees it has
-        sees_reading : (result : Option Answer) → ViewBy catalog events c k.told h → SeesOwn catalog (E result) c (rest_of (from_begin h.begun k.told)) t.seen
-        sees_reading result z = subst (SeesOwnIn catalog (E result) c (rest_of (from_begin h.begun k.told)) t.seen) reads (showing_stays catalog events (call_event y result) c h.begun k.told (Some t) k.answered (subst (λ (o : Option TxnAt). IfSome o (IsViewOf catalog events c (rest_of (from_begin h.begun k.told)))) some z.sees_own))
+        sees_reading : (result : Option Answer) → ViewBy catalog events c k.answered h → SeesOwn catalog (E result) c (rest_of (from_begin h.begun k.answered)) t.seen
+        sees_reading result z = subst (SeesOwnIn catalog (E result) c (rest_of (from_begin h.begun k.answered)) t.seen) reads (showing_stays catalog events (call_event y result) c h.begun k.answered (Some t) k.answered (subst (λ (o : Option TxnAt). IfSome o (IsViewOf catalog events c (rest_of (from_begin h.begun k.answered)))) some z.sees_own))
 
         sees_now : SeesOwn catalog events c stands_open.1.body t.seen
-        sees_now = subst (λ r. SeesOwn catalog events c (rest_of r) t.seen) stands_open.1.since (subst (SeesOwnIn catalog events c (rest_of (from_begin h.begun k.told)) t.seen) reads (subst (λ (o : Option TxnAt). IfSome o (IsViewOf catalog events c (rest_of (from_begin h.begun k.told)))) some k.shows.sees_own))
+        sees_now = subst (λ r. SeesOwn catalog events c (rest_of r) t.seen) stands_open.1.since (subst (SeesOwnIn catalog events c (rest_of (from_begin h.begun k.answered)) t.seen) reads (subst (λ (o : Option TxnAt). IfSome o (IsViewOf catalog events c (rest_of (from_begin h.begun k.answered)))) some k.shows.sees_own))
 
         listed : find_table catalog p.table.name ≡ Some p.table
         listed = found_itself catalog (table_of p.statement) p.table asked.named
@@ -379,8 +365,8 @@ module _ (catalog : List Table) (events : List Event) (states : ℕ → ClientSt
         open_at (Resolving images rec meta q left) i = i.is_open
         open_at (Ended s) i = absurd i
 
-        shown : StageObserves x.request (ms ++ made ∷ []) (read_step x.stage y.now y.reply)
-        shown = shows_on x.request ms made y.now called.moment a x.stage asked.request (open_at x.stage is.stage) is.shows (subst (λ (q : Request). read_pending_at q x.stage ≡ Some made.request) (sym asked.request) pends) called.can
+        observed : StageObserves x.request (ms ++ made ∷ []) (read_step x.stage y.now y.reply)
+        observed = shows_on x.request ms made y.now called.moment a x.stage asked.request (open_at x.stage is.stage) is.shows (subst (λ (q : Request). read_pending_at q x.stage ≡ Some made.request) (sym asked.request) pends) called.can
 
         leads : (result : Option Answer) → LedBy (E result) (ms ++ made ∷ []) (read_step x.stage y.now y.reply)
         leads result = reads_on (E result) ms made older y.now (clock_now result) a x.stage own (leaves x.stage read_in.stage) is.stage pends called.can
@@ -411,11 +397,11 @@ module _ (catalog : List Table) (events : List Event) (states : ℕ → ClientSt
         fails : (b : Answer) → changes_nothing b ≡ true → read_finished (ms ++ made ∷ []) b ≡ false → IsMiddle b → (is_conflict (Some b) ≡ false → IsCaused catalog (E (Some b)) c (done b) b) → Left (next.Answer b) (idle t)
         fails b nothing unfinished m caused =
             answers b (holding h (idle t)) caused (stays b m.agrees) refl refl
-            (held b (idle t) m is.inner.commit refl refl (noted_more catalog events (call_event y (Some b)) c h.begun k.told t stands_open.1 k.answered (done b) t.seen t.seen refl refl noting_now))
+            (held b (idle t) m is.inner.commit refl refl (noted_more catalog events (call_event y (Some b)) c h.begun k.answered t stands_open.1 k.answered (done b) t.seen t.seen refl refl noting_now))
             (no_fit b, subst (λ ns. ReadItemsAre ns t.seen.reads t.seen.scans) (sym (notes_as_before b unfinished)) read_so)
-            (filled_idle (E (Some b)) c h.begun k.told (done b) stands_open.1.begin stands_open.1.body (idle t) stands_open.1.since refl (filled_more catalog events (call_event y (Some b)) c stands_open.1.body (done b) t.seen body_answered filled_now))
-            (fits_idle catalog (E (Some b)) c h.begun k.told (done b) stands_open.1.begin stands_open.1.body (idle t) stands_open.1.since refl (fits_more catalog (E (Some b)) c stands_open.1.body (done b) t.seen (fit_now (Some b)))) (λ z. clash (sym z ∙ unfinished))
-            (next_same catalog c events (call_event y (Some b)) k.told k.answered h.begun stands_open.1.begin stands_open.1.body stands_open.1.since t.seen sees_now (done b) b (idle t) refl nothing refl refl)
+            (filled_idle (E (Some b)) c h.begun k.answered (done b) stands_open.1.begin stands_open.1.body (idle t) stands_open.1.since refl (filled_more catalog events (call_event y (Some b)) c stands_open.1.body (done b) t.seen body_answered filled_now))
+            (fits_idle catalog (E (Some b)) c h.begun k.answered (done b) stands_open.1.begin stands_open.1.body (idle t) stands_open.1.since refl (fits_more catalog (E (Some b)) c stands_open.1.body (done b) t.seen (fit_now (Some b)))) (λ z. clash (sym z ∙ unfinished))
+            (next_same catalog c events (call_event y (Some b)) k.answered k.answered h.begun stands_open.1.begin stands_open.1.body stands_open.1.since t.seen sees_now (done b) b (idle t) refl nothing refl refl)
 
         reads_further : (s : ReadStage) → ReadsBy (ms ++ made ∷ []) s → StageObserves x.request (ms ++ made ∷ []) s → ReadCounted (ms ++ made ∷ []) s → ReadRolls (E None) (reads_vacuum w.text) (ms ++ made ∷ []) s → Left next.Call (record t { doing = doing.Read a (record x { stage = s }) })
         reads_further s i j n r =
@@ -423,14 +409,14 @@ module _ (catalog : List Table) (events : List Event) (states : ℕ → ClientSt
             (further (record t { doing = doing.Read a (record x { stage = s }) }) h.plan refl
             (subst (λ (o : Option Planned). IsDoing (E None) c (record t { doing = doing.Read a (record x { stage = s }) }) o (Some w) (doing.Read a (record x { stage = s }))) (sym plan)
             (record { text = is.text; inner = is.inner; stage = subst (λ cs. ReadsBy cs s) (sym calls_on) i; shows = subst (λ cs. StageObserves x.request cs s) (sym calls_on) j }))
-            (noted_still catalog events (call_event y None) c h.begun k.told t stands_open.1 k.answered t.seen noting_now))
+            (noted_still catalog events (call_event y None) c h.begun k.answered t stands_open.1 k.answered t.seen noting_now))
             (read_so, waits_open (ms ++ made ∷ []) (Some (record t { doing = doing.Read a (record x { stage = s }) })) (is.inner.commit, n))
-            (filled_stays catalog events (call_event y None) c (rest_of (from_begin h.begun k.told)) (Some (record t { doing = doing.Read a (record x { stage = s }) })) (rest_all (IsAnswered catalog events c) h.begun k.told k.answered) filled_reading)
+            (filled_stays catalog events (call_event y None) c (rest_of (from_begin h.begun k.answered)) (Some (record t { doing = doing.Read a (record x { stage = s }) })) (rest_all (IsAnswered catalog events c) h.begun k.answered k.answered) filled_reading)
             (fit_reading None) (rolls_open (Some (record t { doing = doing.Read a (record x { stage = s }) })) r) (sees_reading None)
 
         -- the read, where it is done
         was_read : (images : List Record) → read_step x.stage y.now y.reply ≡ Ended (step.Images images) → HasRead (request_of a) (ms ++ made ∷ []) images []
-        was_read images e = subst (λ (q : Request). HasRead q (ms ++ made ∷ []) images []) asked.request (subst (StageObserves x.request (ms ++ made ∷ [])) e shown)
+        was_read images e = subst (λ (q : Request). HasRead q (ms ++ made ∷ []) images []) asked.request (subst (StageObserves x.request (ms ++ made ∷ [])) e observed)
 
         -- the answer that its plan then gives, by which the read has finished
         abbrev seen_then : List Record → TxnAt
@@ -458,20 +444,20 @@ module _ (catalog : List Table) (events : List Event) (states : ℕ → ClientSt
         noted_then images e =
             let z : Answer = given_then images in
             let same = left_reads (seen_then images) (gives p a (seen_then images)) in
-            let front : SeenBy (read_items_of_body (E (Some z)) c stands_open.1.body) t.seen = noted_still catalog events (call_event y (Some z)) c h.begun k.told t stands_open.1 k.answered t.seen noting_now in
+            let front : SeenBy (read_items_of_body (E (Some z)) c stands_open.1.body) t.seen = noted_still catalog events (call_event y (Some z)) c h.begun k.answered t stands_open.1 k.answered t.seen noting_now in
             let now_seen : SeenBy (read_items_of_body (E (Some z)) c stands_open.1.body ++ read_items (ms ++ made ∷ [])) (seen_then images).seen = read_noted a (ms ++ made ∷ []) images (read_items_of_body (E (Some z)) c stands_open.1.body) t (was_read images e) own front in
             let whole : read_items_of_body (E (Some z)) c (stands_open.1.body ++ done z ∷ []) ≡ read_items_of_body (E (Some z)) c stands_open.1.body ++ read_items (ms ++ made ∷ []) = notes_more (E (Some z)) c stands_open.1.body (done z) ∙ ap (λ ns. read_items_of_body (E (Some z)) c stands_open.1.body ++ ns) (items_last images e) in
             subst (λ ns. SeenBy ns (left_then images).seen) (sym whole) (seen_same (read_items_of_body (E (Some z)) c stands_open.1.body ++ read_items (ms ++ made ∷ [])) (seen_then images).seen (left_then images).seen same.0 same.1 now_seen)
 
         -- and as what that is counted
-        told_noted : (images : List Record) → read_step x.stage y.now y.reply ≡ Ended (step.Images images) → ReadByDoing (read_items_since (E (Some (given_then images))) c h.begun (k.told ++ done (given_then images) ∷ [])) (left_then images).seen (left_then images).doing
+        told_noted : (images : List Record) → read_step x.stage y.now y.reply ≡ Ended (step.Images images) → ReadByDoing (read_items_since (E (Some (given_then images))) c h.begun (k.answered ++ done (given_then images) ∷ [])) (left_then images).seen (left_then images).doing
         told_noted images e =
             let z : Answer = given_then images in
             let u : TxnAt = left_then images in
             let same = left_reads (seen_then images) (gives p a (seen_then images)) in
             let now_so : ReadItemsAre (so_noted ++ read_items (ms ++ made ∷ [])) (seen_then images).seen.reads (seen_then images).seen.scans = noted_read a (ms ++ made ∷ []) images so_noted t (was_read images e) own read_so in
-            let whole : read_items_since (E (Some z)) c h.begun (k.told ++ done z ∷ []) ≡ so_noted ++ read_items (ms ++ made ∷ []) =
-            since_open (E (Some z)) c h.begun k.told (done z) stands_open.1.begin stands_open.1.body stands_open.1.since ∙ ap (λ ns. ns ++ read_items_of_body (E (Some z)) c (done z ∷ [])) (since_stay catalog events (call_event y (Some z)) c h.begun k.told k.answered) ∙ ap (λ ns. so_noted ++ ns) (items_last images e) in
+            let whole : read_items_since (E (Some z)) c h.begun (k.answered ++ done z ∷ []) ≡ so_noted ++ read_items (ms ++ made ∷ []) =
+            since_open (E (Some z)) c h.begun k.answered (done z) stands_open.1.begin stands_open.1.body stands_open.1.since ∙ ap (λ ns. ns ++ read_items_of_body (E (Some z)) c (done z ∷ [])) (since_stay catalog events (call_event y (Some z)) c h.begun k.answered k.answered) ∙ ap (λ ns. so_noted ++ ns) (items_last images e) in
             subst (λ ns. ReadByDoing ns u.seen u.doing) (sym whole) (notes_idle (so_noted ++ read_items (ms ++ made ∷ [])) u.seen u.doing (left_rests images) (subst (λ rs. ReadItemsAre (so_noted ++ read_items (ms ++ made ∷ [])) rs u.seen.scans) (sym same.0) (subst (ReadItemsAre (so_noted ++ read_items (ms ++ made ∷ [])) (seen_then images).seen.reads) (sym same.1) now_so)))
 
         -- with the images no more is noted than found
@@ -484,7 +470,7 @@ module _ (catalog : List Table) (events : List Event) (states : ℕ → ClientSt
         -- the changes may be too many
         passes_then : (images : List Record) → read_step x.stage y.now y.reply ≡ Ended (step.Images images) → (b : Answer) → too_many (with_rows_read t a images) (changes_on p.table p.statement (overlay a (with_rows_read t a images).seen)) ≡ true → MayPassMost (E (Some b)) c (done b)
         passes_then images e b many =
-            pass_now c h.begun (E (Some b)) k.told stands_open.1.begin (done b) stands_open.1.body p.statement k.small (said_done b) stands_open.1.since stands_open.1.goes_on is.text
+            pass_now c h.begun (E (Some b)) k.answered stands_open.1.begin (done b) stands_open.1.body p.statement k.small (said_done b) stands_open.1.since stands_open.1.goes_on is.text
             (passes_given (rows_counted_by stands_open.1.body) (records_found_by (E (Some b)) c stands_open.1.body + records_found (calls_of (E (Some b)) c (done b))) (with_rows_read t a images) a p.table p.statement
             (filled_found catalog events (call_event y (Some b)) c stands_open.1.body (records_found (ms ++ made ∷ [])) (records_found (calls_of (E (Some b)) c (done b))) (with_rows_read t a images).seen body_answered (found_done b) (filled_with images e)) many)
 
@@ -498,33 +484,33 @@ module _ (catalog : List Table) (events : List Event) (states : ℕ → ClientSt
         misfit_caused : (images : List Record) → read_step x.stage y.now y.reply ≡ Ended (step.Images images) → (key : Key) → first_unfit p.table (overlay a (seen_then images).seen) ≡ Some key → IsBadRecord catalog (E (Some (given_then images))) c (done (given_then images)) key
         misfit_caused images e key f =
             let m = was_misfit catalog p a listed of_table (E (Some (given_then images))) c (stands_open.1.body ++ done (given_then images) ∷ []) (seen_then images).seen key (fit_then images e) f in
-            inr (meets_now catalog c h.begun (E (Some (given_then images))) k.told stands_open.1.begin (done (given_then images)) stands_open.1.body p.statement p.table key k.small (said_done (given_then images)) stands_open.1.since stands_open.1.goes_on is.text asked.named
+            inr (meets_now catalog c h.begun (E (Some (given_then images))) k.answered stands_open.1.begin (done (given_then images)) stands_open.1.body p.statement p.table key k.small (said_done (given_then images)) stands_open.1.since stands_open.1.goes_on is.text asked.named
             (subst (λ (z : Access). in_access z key ≡ true) asked.access m.0) m.1)
 
         -- what it shows, and what its transaction then sees
-        shows_then : (images : List Record) → read_step x.stage y.now y.reply ≡ Ended (step.Images images) → ShowsNext catalog (E (Some (given_then images))) c k.told (done (given_then images)) (given_then images) (holding h (left_then images))
+        shows_then : (images : List Record) → read_step x.stage y.now y.reply ≡ Ended (step.Images images) → ShowsNext catalog (E (Some (given_then images))) c k.answered (done (given_then images)) (given_then images) (holding h (left_then images))
         shows_then images e =
-            read_next catalog c events (call_event y (Some (given_then images))) k.told k.answered h.begun stands_open.1.begin stands_open.1.body stands_open.1.since k.begun t sees_now (sound free t a x some reads).1 (done (given_then images)) p a (ms ++ made ∷ []) images (calls_done (given_then images)) (was_read images e) is_fine is.text (waits.vacuum ∙ ap is_some free) asked.named asked.asked asked.access refl
+            read_next catalog c events (call_event y (Some (given_then images))) k.answered k.answered h.begun stands_open.1.begin stands_open.1.body stands_open.1.since k.begun t sees_now (sound free t a x some reads).1 (done (given_then images)) p a (ms ++ made ∷ []) images (calls_done (given_then images)) (was_read images e) is_fine is.text (waits.vacuum ∙ ap is_some free) asked.named asked.asked asked.access refl
             (finished images e)
 
-        tells : (images : List Record) → read_step x.stage y.now y.reply ≡ Ended (step.Images images) → Left (next.Answer (given_then images)) (left_then images)
-        tells images e =
+        is_known : (images : List Record) → read_step x.stage y.now y.reply ≡ Ended (step.Images images) → Left (next.Answer (given_then images)) (left_then images)
+        is_known images e =
             let v : TxnAt = seen_then images in
             let b : Answer = given_then images in
             let m = given_middle p (overlay a v.seen) v in
             answers b (holding h (left_then images)) (given_caused catalog (E (Some b)) c (done b) p (overlay a v.seen) v is.text asked.named asked.asked (open_before b) (misfit_caused images e) (passes_then images e b)) (stays b m.agrees) refl refl
             (held b (left_then images) m is.inner.commit (left_id v (gives p a v) ∙ noting_id t a images) (left_rests images) (noted_then images e))
             (no_fit b, told_noted images e)
-            (filled_idle (E (Some b)) c h.begun k.told (done b) stands_open.1.begin stands_open.1.body (left_then images) stands_open.1.since (left_rests images)
+            (filled_idle (E (Some b)) c h.begun k.answered (done b) stands_open.1.begin stands_open.1.body (left_then images) stands_open.1.since (left_rests images)
             (filled_given catalog events (call_event y (Some b)) c stands_open.1.body (done b) p (overlay a v.seen) v (records_found (ms ++ made ∷ [])) body_answered refl (finished images e) (found_done b) (filled_with images e)))
-            (fits_idle catalog (E (Some b)) c h.begun k.told (done b) stands_open.1.begin stands_open.1.body (left_then images) stands_open.1.since (left_rests images)
-            (given_fits catalog p a listed of_table is_fine asked.named asked.asked asked.taken asked.literals asked.access (E (Some b)) c (stands_open.1.body ++ done b ∷ []) v (fit_then images e)))
+            (fits_idle catalog (E (Some b)) c h.begun k.answered (done b) stands_open.1.begin stands_open.1.body (left_then images) stands_open.1.since (left_rests images)
+            (given_fits catalog p a listed of_table is_fine asked.named asked.asked asked.accepted asked.literals asked.access (E (Some b)) c (stands_open.1.body ++ done b ∷ []) v (fit_then images e)))
             (λ z. subst (ReadRolls (E (Some b)) (reads_vacuum w.text) (ms ++ made ∷ [])) e (rolled_read (Some b))) (shows_then images e)
 
         -- a key that was read differs
         moved_now : (images : List Record) (key : Key) (found : Option Record) → read_step x.stage y.now y.reply ≡ Ended (step.Images images) → IsChangedAt t a images key found → ends (done (answer.Conflict key found)) ≡ true
             → (other : Key) (others : Option Record) → Some (answer.Conflict key found) ≡ Some (answer.Conflict other others)
-            → IsChangedIn (E (Some (answer.Conflict key found))) c (k.told ++ done (answer.Conflict key found) ∷ []) (done (answer.Conflict key found)) other others
+            → IsChangedIn (E (Some (answer.Conflict key found))) c (k.answered ++ done (answer.Conflict key found) ∷ []) (done (answer.Conflict key found)) other others
         moved_now images key found e moved over other others same =
             let b : Answer = answer.Conflict key found in
             let here : ChangesAtScan (ms ++ made ∷ []) (read_items_of_body events c stands_open.1.body) key found = changed_scan (ms ++ made ∷ []) (read_items_of_body events c stands_open.1.body) t a images key found (was_read images e) (sound free t a x some reads).0 noting_now moved in
@@ -535,25 +521,25 @@ module _ (catalog : List Table) (events : List Event) (states : ℕ → ClientSt
               begin = stands_open.1.begin;
               body = stands_open.1.body;
               tail = [];
-              since = since_more h.begun k.told (done b) stands_open.1.begin stands_open.1.body stands_open.1.since;
+              since = since_more h.begun k.answered (done b) stands_open.1.begin stands_open.1.body stands_open.1.since;
               goes_on = stands_open.1.goes_on;
               over = over;
               small = k.small;
-              why = subst (λ v. ChangesBy v (id_of c h.begun) (calls_of (E (Some b)) c (done b)) (read_items_of_body (E (Some b)) c stands_open.1.body) other others) (sym is.inner.commit) (subst (λ ns. ChangesAtScan (calls_of (E (Some b)) c (done b)) ns other others) (sym (notes_stay catalog events (call_event y (Some b)) c stands_open.1.body (since_all (IsAnswered catalog events c) h.begun k.told stands_open.1.begin stands_open.1.body k.answered stands_open.1.since)))
+              why = subst (λ v. ChangesBy v (id_of c h.begun) (calls_of (E (Some b)) c (done b)) (read_items_of_body (E (Some b)) c stands_open.1.body) other others) (sym is.inner.commit) (subst (λ ns. ChangesAtScan (calls_of (E (Some b)) c (done b)) ns other others) (sym (notes_stay catalog events (call_event y (Some b)) c stands_open.1.body (since_all (IsAnswered catalog events c) h.begun k.answered stands_open.1.begin stands_open.1.body k.answered stands_open.1.since)))
                   (subst (λ cs. ChangesAtScan cs (read_items_of_body events c stands_open.1.body) other others) (sym (calls_done b))
                   (subst (λ (z : Key). ChangesAtScan (ms ++ made ∷ []) (read_items_of_body events c stands_open.1.body) z others) keys (subst (λ (z : Option Record). ChangesAtScan (ms ++ made ∷ []) (read_items_of_body events c stands_open.1.body) key z) founds here))));
             }
 
         images_case : (images : List Record) → read_step x.stage y.now y.reply ≡ Ended (step.Images images) → (n : Next) (u : TxnAt) → RowsReadPost t p a images n u → Left n u
-        images_case images ends_at (next.Answer z) u e = as_left (next.Answer z) (next.Answer (given_then images)) u _ (ap next.Answer e.1) e.2 (tells images ends_at)
+        images_case images ends_at (next.Answer z) u e = as_left (next.Answer z) (next.Answer (given_then images)) u _ (ap next.Answer e.1) e.2 (is_known images ends_at)
         images_case images ends_at (next.End (answer.Conflict key found)) u e =
             let over : ends (done (answer.Conflict key found)) ≡ true = ap (λ b. b || true || (reads_rollback w.text && false)) is.inner.commit in
             answers (answer.Conflict key found) (resting h) (λ z. clash z) (moved_now images key found ends_at e over) refl refl (ended (answer.Conflict key found) over) (no_fit (answer.Conflict key found), tt) tt tt (λ z. clash (sym z)) ((λ was. tt), tt)
         images_case images ends_at n u e = absurd e
 
         stage_case : (s : ReadStage) → read_step x.stage y.now y.reply ≡ s → (n : Next) (u : TxnAt) → StagePost t p a x s (read_result s) n u → Left n u
-        stage_case Asking e n u z = as_left n next.Call u _ z.0 z.1 (reads_further Asking tt (subst (StageObserves x.request (ms ++ made ∷ [])) e shown) (subst (ReadCounted (ms ++ made ∷ [])) e counted_read) (subst (ReadRolls (E None) (reads_vacuum w.text) (ms ++ made ∷ [])) e (rolled_read None)))
-        stage_case (Resolving images rec meta q left) e n u z = as_left n next.Call u _ z.0 z.1 (reads_further (Resolving images rec meta q left) (subst (LedBy (E None) (ms ++ made ∷ [])) e (leads None)) (subst (StageObserves x.request (ms ++ made ∷ [])) e shown) (subst (ReadCounted (ms ++ made ∷ [])) e counted_read) (subst (ReadRolls (E None) (reads_vacuum w.text) (ms ++ made ∷ [])) e (rolled_read None)))
+        stage_case Asking e n u z = as_left n next.Call u _ z.0 z.1 (reads_further Asking tt (subst (StageObserves x.request (ms ++ made ∷ [])) e observed) (subst (ReadCounted (ms ++ made ∷ [])) e counted_read) (subst (ReadRolls (E None) (reads_vacuum w.text) (ms ++ made ∷ [])) e (rolled_read None)))
+        stage_case (Resolving images rec meta q left) e n u z = as_left n next.Call u _ z.0 z.1 (reads_further (Resolving images rec meta q left) (subst (LedBy (E None) (ms ++ made ∷ [])) e (leads None)) (subst (StageObserves x.request (ms ++ made ∷ [])) e observed) (subst (ReadCounted (ms ++ made ∷ [])) e counted_read) (subst (ReadRolls (E None) (reads_vacuum w.text) (ms ++ made ∷ [])) e (rolled_read None)))
         stage_case (Ended step.More) e n u z = absurd (subst (LedBy (E None) (ms ++ made ∷ [])) e (leads None))
         stage_case (Ended (step.Images images)) e n u z = images_case images e n u z
         stage_case (Ended (step.Busy key id at)) e n u z =
@@ -571,7 +557,7 @@ module _ (catalog : List Table) (events : List Event) (states : ℕ → ClientSt
         read_case n u z =
             by_next n
             (λ e. as_left n (next.Answer answer.NoMemory) u (idle t) e (z.memory e) (fails answer.NoMemory refl refl (record { undone = refl; agrees = refl }) (λ g. tt)))
-            (λ e. stage_case (read_step x.stage y.now y.reply) refl n u (z.told e))
+            (λ e. stage_case (read_step x.stage y.now y.reply) refl n u (z.answered e))
 
       ---- a COMMIT
 
@@ -615,24 +601,24 @@ module _ (catalog : List Table) (events : List Event) (states : ℕ → ClientSt
         over_done b = ap (λ z. z || is_conflict (Some b) || (reads_rollback w.text && is_done (Some b))) is.text
 
         commit_done : (b : Answer) → IsCommitOf (E (Some b)) c (done b) j.work.id
-        commit_done b = subst (IsCommitOf (E (Some b)) c (done b)) (sym is.same) (commit_is (E (Some b)) c h.begun k.told (done b) t k.small (said_done b) is.text (over_done b) stands_open.1)
+        commit_done b = subst (IsCommitOf (E (Some b)) c (done b)) (sym is.same) (commit_is (E (Some b)) c h.begun k.answered (done b) t k.small (said_done b) is.text (over_done b) stands_open.1)
 
         -- why it ends so
         end_caused : (a : Outcome) → EndsBy j.work.id (ms ++ made ∷ []) a → is_conflict (Some (answer_of_outcome a)) ≡ false → IsCaused catalog (E (Some (answer_of_outcome a))) c (done (answer_of_outcome a)) (answer_of_outcome a)
         end_caused a e = outcome_caused catalog (E (Some (answer_of_outcome a))) c (done (answer_of_outcome a)) j.work.id a (commit_done (answer_of_outcome a)) (subst (λ cs. EndsBy j.work.id cs a) (sym (calls_done (answer_of_outcome a))) e)
 
-        -- an end of the transaction, of which a COMMIT's cause is told elsewhere
+        -- an end of the transaction, of which a COMMIT's cause is answered elsewhere
         checks_now : WorkBy (read_items_of_body events c stands_open.1.body) j.work × ChecksBy (read_items_of_body events c stands_open.1.body) j.work ms j.stage
-        checks_now = subst (λ d. IsReadSetOf events c k.told stands_open.1.body t d (Some w)) commits (subst (λ v. IsReadSetOf events c k.told stands_open.1.body t t.doing v) waiting stands_open.3)
+        checks_now = subst (λ d. IsReadSetOf events c k.answered stands_open.1.body t d (Some w)) commits (subst (λ v. IsReadSetOf events c k.answered stands_open.1.body t t.doing v) waiting stands_open.3)
 
         checks_then : WorkBy (read_items_of_body events c stands_open.1.body) j.work × ChecksBy (read_items_of_body events c stands_open.1.body) j.work (ms ++ made ∷ []) then_at
         checks_then = let z = checks_now in (z.0, checks_on j.work (read_items_of_body events c stands_open.1.body) z.0 ms made j.stage z.1 pends_commit called.can)
 
         body_notes : (result : Option Answer) → read_items_of_body events c stands_open.1.body ≡ read_items_of_body (E result) c stands_open.1.body
-        body_notes result = sym (notes_stay catalog events (call_event y result) c stands_open.1.body (since_all (IsAnswered catalog events c) h.begun k.told stands_open.1.begin stands_open.1.body k.answered stands_open.1.since))
+        body_notes result = sym (notes_stay catalog events (call_event y result) c stands_open.1.body (since_all (IsAnswered catalog events c) h.begun k.answered stands_open.1.begin stands_open.1.body k.answered stands_open.1.since))
 
         ends_moved : (a : Outcome) → then_at ≡ Over a → (key : Key) (found : Option Record) → Some (answer_of_outcome a) ≡ Some (answer.Conflict key found)
-            → IsChangedIn (E (Some (answer_of_outcome a))) c (k.told ++ done (answer_of_outcome a) ∷ []) (done (answer_of_outcome a)) key found
+            → IsChangedIn (E (Some (answer_of_outcome a))) c (k.answered ++ done (answer_of_outcome a) ∷ []) (done (answer_of_outcome a)) key found
         ends_moved a at_end key found e =
             let b : Answer = answer_of_outcome a in
             let ended_by : ConflictBy (read_items_of_body events c stands_open.1.body) j.work (ms ++ made ∷ []) a = subst (ChecksBy (read_items_of_body events c stands_open.1.body) j.work (ms ++ made ∷ [])) at_end checks_then.1 in
@@ -642,7 +628,7 @@ module _ (catalog : List Table) (events : List Event) (states : ℕ → ClientSt
               begin = stands_open.1.begin;
               body = stands_open.1.body;
               tail = [];
-              since = since_more h.begun k.told (done b) stands_open.1.begin stands_open.1.body stands_open.1.since;
+              since = since_more h.begun k.answered (done b) stands_open.1.begin stands_open.1.body stands_open.1.since;
               goes_on = stands_open.1.goes_on;
               over = over_done b;
               small = k.small;
@@ -656,19 +642,19 @@ module _ (catalog : List Table) (events : List Event) (states : ℕ → ClientSt
         is_over a e =
             answers (answer_of_outcome a) (resting h) (end_caused a (subst (StageByCalls j.work (ms ++ made ∷ [])) e then_stands)) (ends_moved a e) refl refl (ended (answer_of_outcome a) (over_done (answer_of_outcome a)))
             (λ z. subst (λ (i : TxId). CommitIsCounted so_noted i (Some (answer_of_outcome a)) (ms ++ made ∷ [])) commit_so.1 (commit_over so_noted j.work (ms ++ made ∷ []) a (subst (CommitCounted so_noted j.work (ms ++ made ∷ [])) e counted_commit) (subst (StageByCalls j.work (ms ++ made ∷ [])) e then_stands)), tt) tt tt (λ z. clash (sym z ∙ outcome_rows j.work.id (ms ++ made ∷ []) a (subst (StageByCalls j.work (ms ++ made ∷ [])) e then_stands)))
-            ((λ was. outcome_tells catalog (E (Some (answer_of_outcome a))) c (rest_of (from_begin (begun_in k.told) k.told)) (done (answer_of_outcome a)) a), tt)
+            ((λ was. outcome_tells catalog (E (Some (answer_of_outcome a))) c (rest_of (from_begin (begun_in k.answered) k.answered)) (done (answer_of_outcome a)) a), tt)
 
         commits_on : (u : TxnAt) (m : CommitAt) → u.id ≡ t.id → u.doing ≡ doing.Commit m → m.work ≡ j.work → StageByCalls j.work (ms ++ made ∷ []) m.stage → ((ns : List ReadItem) → ChecksBy ns j.work (ms ++ made ∷ []) then_at → ChecksBy ns j.work (ms ++ made ∷ []) m.stage) → CommitCounted so_noted j.work (ms ++ made ∷ []) m.stage → So None (record h { txn = Some u })
-        commits_on u m same does work stands checked counts =
+        commits_on u m same does work agrees checked counts =
             goes_on (record h { txn = Some u }) refl refl refl
             (further u h.plan same
             (subst (IsDoing (E None) c u h.plan (Some w)) (sym does) (record {
               text = is.text;
               same = ap (λ (z : Work). z.id) work ∙ is.same ∙ sym same;
               moment = subst (λ (z : Work). is_moment z.now ≡ true) (sym work) is.moment;
-              stage = subst (λ (z : Work). StageByCalls z (calls_of (E None) c w) m.stage) (sym work) (subst (λ cs. StageByCalls j.work cs m.stage) (sym calls_on) stands);
+              stage = subst (λ (z : Work). StageByCalls z (calls_of (E None) c w) m.stage) (sym work) (subst (λ cs. StageByCalls j.work cs m.stage) (sym calls_on) agrees);
             }))
-            (subst (λ d. IsReadSetOf (E None) c k.told stands_open.1.body u d (Some w)) (sym does) (
+            (subst (λ d. IsReadSetOf (E None) c k.answered stands_open.1.body u d (Some w)) (sym does) (
             let z = checks_then in (
               subst (λ (v : Work). WorkBy (read_items_of_body (E None) c stands_open.1.body) v) (sym work) (subst (λ ns. WorkBy ns j.work) (body_notes None) z.0),
               subst (λ (v : Work). ChecksBy (read_items_of_body (E None) c stands_open.1.body) v (calls_of (E None) c w) m.stage) (sym work)
@@ -679,7 +665,7 @@ module _ (catalog : List Table) (events : List Event) (states : ℕ → ClientSt
               waits_open (ms ++ made ∷ []) (Some u) (subst (DoingCounted w.text so_id so_noted (ms ++ made ∷ [])) (sym does)
                   (is.text, ap (λ (z : Work). z.id) work ∙ commit_so.1, subst (λ (z : Work). AllByRecursion IsWrite z.writes) (sym work) commit_so.2, subst (λ (z : Work). CommitCounted so_noted z (ms ++ made ∷ []) m.stage) (sym work) counts)),
             )
-            (subst (IsFilledIn (E None) c (rest_of (from_begin h.begun k.told)) u.seen) (sym does) tt) (subst (SeesFitOrReadIn catalog (E None) c (rest_of (from_begin h.begun k.told)) u.seen) (sym does) tt) (rolls_open (Some u) (subst (DoingRolls (E None) (reads_vacuum w.text) (ms ++ made ∷ [])) (sym does) tt)) (λ z. subst (SeesOwnIn catalog (E None) c (rest_of (from_begin h.begun k.told)) u.seen) (sym does) tt)
+            (subst (IsFilledIn (E None) c (rest_of (from_begin h.begun k.answered)) u.seen) (sym does) tt) (subst (SeesFitOrReadIn catalog (E None) c (rest_of (from_begin h.begun k.answered)) u.seen) (sym does) tt) (rolls_open (Some u) (subst (DoingRolls (E None) (reads_vacuum w.text) (ms ++ made ∷ [])) (sym does) tt)) (λ z. subst (SeesOwnIn catalog (E None) c (rest_of (from_begin h.begun k.answered)) u.seen) (sym does) tt)
 
         by_stage : (m : Stage) → IsNext j.work j.stage y.reply m → StageByCalls j.work (ms ++ made ∷ []) m
         by_stage m z = next_by (StageByCalls j.work (ms ++ made ∷ [])) j.work j.stage y.reply m z then_stands (starved_stands j.work (ms ++ made ∷ []) then_at then_stands)
@@ -701,13 +687,13 @@ module _ (catalog : List Table) (events : List Event) (states : ℕ → ClientSt
           where
             by_end : (o : Option Outcome) → ended_at then_at ≡ o → Led n u
             by_end None e =
-                let more : z.progress ≡ progress.More = z.told.answer ∙ ap progress_of e in
-                subst (λ (x : Next). Led x u) (sym (z.next ∙ ap next_of more)) (by_doing u u.doing z.told.same refl (z.told.next more))
-            by_end (Some a) e = subst (λ (x : Next). Led x u) (sym (z.next ∙ ap next_of (z.told.answer ∙ ap progress_of e) ∙ told_end a)) (is_over a (ended_is then_at a e))
+                let more : z.progress ≡ progress.More = z.answered.answer ∙ ap progress_of e in
+                subst (λ (x : Next). Led x u) (sym (z.next ∙ ap next_of more)) (by_doing u u.doing z.answered.same refl (z.answered.next more))
+            by_end (Some a) e = subst (λ (x : Next). Led x u) (sym (z.next ∙ ap next_of (z.answered.answer ∙ ap progress_of e) ∙ told_end a)) (is_over a (ended_is then_at a e))
 
     ---- a VACUUM
 
-    module _ (v : VacuumAt) (runs : h.vacuum ≡ Some v) (is : IsInVacuum events c k.told (Some w) h.txn v) where
+    module _ (v : VacuumAt) (runs : h.vacuum ≡ Some v) (is : IsInVacuum events c k.answered (Some w) h.txn v) where
       reads_it : Reads w.text statement.Vacuum
       reads_it = (vacuum_read w.text).0 (waits.vacuum ∙ ap is_some runs)
 
@@ -731,15 +717,15 @@ module _ (catalog : List Table) (events : List Event) (states : ℕ → ClientSt
 
       -- another call is pending
       sweeps_on : (left : VacuumAt) → VacuumBy (ms ++ made ∷ []) left → VacuumIsCounted catalog (ms ++ made ∷ []) left → VacuumRolls (E None) (reads_vacuum w.text) (ms ++ made ∷ []) left.stage → So None (record h { vacuum = Some left })
-      sweeps_on left by counts rolls = goes_on (record h { vacuum = Some left }) refl refl (sym (ap is_some runs)) (is.0, is.1, subst (λ cs. VacuumBy cs left) (sym calls_on) by) (k.counted.as_read, counts) (subst (λ (o : Option TxnAt). IfSome o (IsFilled (E None) c (rest_of (from_begin h.begun k.told)))) (sym is.0) tt) (subst (λ (o : Option TxnAt). IfSome o (IsFitOrReadTxn catalog (E None) c (rest_of (from_begin h.begun k.told)))) (sym is.0) tt) rolls (λ z. subst (λ (o : Option TxnAt). IfSome o (IsViewOf catalog (E None) c (rest_of (from_begin h.begun k.told)))) (sym is.0) tt)
+      sweeps_on left by counts rolls = goes_on (record h { vacuum = Some left }) refl refl (sym (ap is_some runs)) (is.0, is.1, subst (λ cs. VacuumBy cs left) (sym calls_on) by) (k.counted.as_read, counts) (subst (λ (o : Option TxnAt). IfSome o (IsFilled (E None) c (rest_of (from_begin h.begun k.answered)))) (sym is.0) tt) (subst (λ (o : Option TxnAt). IfSome o (IsFitOrReadTxn catalog (E None) c (rest_of (from_begin h.begun k.answered)))) (sym is.0) tt) rolls (λ z. subst (λ (o : Option TxnAt). IfSome o (IsViewOf catalog (E None) c (rest_of (from_begin h.begun k.answered)))) (sym is.0) tt)
 
       -- it is answered
       sweep_ends : (b : Answer) → IsMiddle b → (is_conflict (Some b) ≡ false → IsCaused catalog (E (Some b)) c (done b) b) → RollsThen b → So (Some b) (record h { vacuum = None })
       sweep_ends b m caused rolls =
-          answers b (record h { vacuum = None }) caused (unmoved (E (Some b)) c (k.told ++ done b ∷ []) (done b) b refl m.agrees) refl refl
-          (subst (DoingByHistory (E (Some b)) c h.begun (k.told ++ done b ∷ []) None h.plan) (sym is.0) (refl, after_more k.told (done b) ∙ ap (λ x. is_open_after x (done b)) is.1 ∙ after_plain false (done b) (begins_none b) (λ e. clash (sym e))))
-          (λ e. clash (sym e ∙ no_commit), subst (ReadByTxn (read_items_since (E (Some b)) c h.begun (k.told ++ done b ∷ []))) (sym is.0) tt)
-          (subst (λ (o : Option TxnAt). IfSome o (IsFilled (E (Some b)) c (rest_of (from_begin h.begun (k.told ++ done b ∷ []))))) (sym is.0) tt) (subst (λ (o : Option TxnAt). IfSome o (IsFitOrReadTxn catalog (E (Some b)) c (rest_of (from_begin h.begun (k.told ++ done b ∷ []))))) (sym is.0) tt) rolls ((λ was. clash (sym was ∙ is.1)), subst (λ (o : Option TxnAt). IfSome o (IsViewOf catalog (E (Some b)) c (rest_of (from_begin h.begun (k.told ++ done b ∷ []))))) (sym is.0) tt)
+          answers b (record h { vacuum = None }) caused (unmoved (E (Some b)) c (k.answered ++ done b ∷ []) (done b) b refl m.agrees) refl refl
+          (subst (DoingByHistory (E (Some b)) c h.begun (k.answered ++ done b ∷ []) None h.plan) (sym is.0) (refl, after_more k.answered (done b) ∙ ap (λ x. is_open_after x (done b)) is.1 ∙ after_plain false (done b) (begins_none b) (λ e. clash (sym e))))
+          (λ e. clash (sym e ∙ no_commit), subst (ReadByTxn (read_items_since (E (Some b)) c h.begun (k.answered ++ done b ∷ []))) (sym is.0) tt)
+          (subst (λ (o : Option TxnAt). IfSome o (IsFilled (E (Some b)) c (rest_of (from_begin h.begun (k.answered ++ done b ∷ []))))) (sym is.0) tt) (subst (λ (o : Option TxnAt). IfSome o (IsFitOrReadTxn catalog (E (Some b)) c (rest_of (from_begin h.begun (k.answered ++ done b ∷ []))))) (sym is.0) tt) rolls ((λ was. clash (sym was ∙ is.1)), subst (λ (o : Option TxnAt). IfSome o (IsViewOf catalog (E (Some b)) c (rest_of (from_begin h.begun (k.answered ++ done b ∷ []))))) (sym is.0) tt)
 
       as_swept : (r result : Option Answer) (x o : Option VacuumAt) → result ≡ r → o ≡ x → So r (record h { vacuum = x }) → So result (record h { vacuum = o })
       as_swept r result x o e f g = subst (λ (z : Option Answer). So z (record h { vacuum = o })) (sym e) (subst (λ (z : Option VacuumAt). So r (record h { vacuum = z })) (sym f) g)
@@ -760,7 +746,7 @@ module _ (catalog : List Table) (events : List Event) (states : ℕ → ClientSt
       sweeps_told vacuuming.NoMemory left result o g a e = as_swept (Some answer.NoMemory) result None o a e (sweep_ends answer.NoMemory (record { undone = refl; agrees = refl }) (λ t. tt) (λ z. clash (sym z)))
 
       sweeps_case : (result : Option Answer) (o : Option VacuumAt) → VacuumPost v y.reply y.now result o → So result (record h { vacuum = o })
-      sweeps_case result o z = sweeps_told z.step z.left result o z.told z.answer z.goes
+      sweeps_case result o z = sweeps_told z.step z.left result o z.answered z.answer z.goes
 
   ---- whatever it does
 
@@ -774,18 +760,18 @@ module _ (catalog : List Table) (events : List Event) (states : ℕ → ClientSt
   next_case t doing.Idle o v n u free some does plan waiting asked is z = absurd z
   next_case t doing.Over o v n u free some does plan waiting asked is z = absurd z
 
-  txn_case : (o : Option TxnAt) (result : Option Answer) (d : Client) → h.vacuum ≡ None → h.txn ≡ o → IsUsingTxn catalog o h.plan → DoingByHistory events c h.begun k.told k.waiting h.plan o → OpenTxnPost h o y.reply y.now result d → So result d
+  txn_case : (o : Option TxnAt) (result : Option Answer) (d : Client) → h.vacuum ≡ None → h.txn ≡ o → IsUsingTxn catalog o h.plan → DoingByHistory events c h.begun k.answered k.waiting h.plan o → OpenTxnPost h o y.reply y.now result d → So result d
   txn_case None result d free e fitted is z = absurd z
   txn_case (Some t) result d free e fitted is z =
-      subst (λ (r : Option Answer). So r d) (sym z.answer) (subst (λ (x : Client). So (answer_in z.next) x) (sym z.client) (next_case t t.doing h.plan k.waiting z.next z.left free e refl refl refl fitted is.2 z.told))
+      subst (λ (r : Option Answer). So r d) (sym z.answer) (subst (λ (x : Client). So (answer_in z.next) x) (sym z.client) (next_case t t.doing h.plan k.waiting z.next z.left free e refl refl refl fitted is.2 z.answered))
 
-  sweep_case : (v : VacuumAt) (o : Option Executed) (result : Option Answer) (d : Client) → h.vacuum ≡ Some v → k.waiting ≡ o → IsInVacuum events c k.told o h.txn v → VacuumPost v y.reply y.now result d.vacuum → d ≡ record h { vacuum = d.vacuum } → So result d
+  sweep_case : (v : VacuumAt) (o : Option Executed) (result : Option Answer) (d : Client) → h.vacuum ≡ Some v → k.waiting ≡ o → IsInVacuum events c k.answered o h.txn v → VacuumPost v y.reply y.now result d.vacuum → d ≡ record h { vacuum = d.vacuum } → So result d
   sweep_case v None result d runs waiting is z same = absurd is
   sweep_case v (Some w) result d runs waiting is z same = subst (λ (x : Client). So result x) (sym same) (sweeps_case w waiting v runs is result d.vacuum z)
 
   vacuum_case : (o : Option VacuumAt) (result : Option Answer) (d : Client) → h.vacuum ≡ o → ReplyPost h o y.reply y.now result d → So result d
-  vacuum_case None result d free z = txn_case h.txn result d free refl (subst (λ (o : Option VacuumAt). IsFittedBy catalog o h) free called.waiting.fitted) (subst (ClientByHistory events c h.begun k.told k.waiting h.plan h.txn) free k.stands) z
-  vacuum_case (Some v) result d runs z = sweep_case v k.waiting result d runs refl (subst (ClientByHistory events c h.begun k.told k.waiting h.plan h.txn) runs k.stands) z.0 z.1
+  vacuum_case None result d free z = txn_case h.txn result d free refl (subst (λ (o : Option VacuumAt). IsFittedBy catalog o h) free called.waiting.fitted) (subst (ClientByHistory events c h.begun k.answered k.waiting h.plan h.txn) free k.agrees) z
+  vacuum_case (Some v) result d runs z = sweep_case v k.waiting result d runs refl (subst (ClientByHistory events c h.begun k.answered k.waiting h.plan h.txn) runs k.agrees) z.0 z.1
 
   pub replies_known : (result : Option Answer) (d : Client) → ReplyPost h h.vacuum y.reply y.now result d → So result d
   replies_known result d z = vacuum_case h.vacuum result d refl z

@@ -5,40 +5,29 @@ use Rattle.std.specs.List.{AllByRecursion}
 use Rattle.std.specs.Option.{option_map}
 use Rattle.std.specs.Result.{result_ok}
 use Rattle.std.proofs.lemmas.List.Elements.{Contains-push, Contains-push_cases}
-use Rattle.sdb_types.specs.declared.txid.TxId.{TxId}
+use Rattle.law_answers.specs.Types.{Decided, Decision, Event, Meta, Record, RecoverPhase, RecoverStep, Reply, Request, Span, TxId, VacuumStep}
 use Rattle.sdb_types.specs.declared.record.Condition.TheVariants as condition
-use Rattle.sdb_types.specs.declared.record.Record.{Record}
-use Rattle.sdb_types.specs.declared.record.Reply.{Reply}
 use Rattle.sdb_types.specs.declared.record.Reply.TheVariants as reply
-use Rattle.sdb_types.specs.declared.record.Request.{Request}
 use Rattle.sdb_types.specs.declared.record.Request.TheVariants as ask
-use Rattle.sdb_types.specs.declared.record.Span.{Span}
 use Rattle.sdb_types.specs.declared.record.State.TheVariants as state
 use Rattle.sdb_types.proofs.Basics.{clash, none_some, some_is, one_of}
-use Rattle.sdb_record.specs.declared.coordinator.Decided.{Decided}
-use Rattle.sdb_record.specs.declared.coordinator.Decision.{Decision}
 use Rattle.sdb_record.specs.declared.coordinator.Decision.TheVariants as decision
-use Rattle.sdb_record.specs.declared.meta.Meta.{Meta}
 use Rattle.sdb_record.specs.Coordinator.{coordinator_key_of, coordinator_row_of, decision_in, is_expired}
 use Rattle.sdb_record.specs.Meta.{checked, id_in, is_moment, is_unresolved}
 use Rattle.sdb_record.specs.Parts.{before_record}
 use Rattle.sdb_record.specs.Rolls.{back_to, forward_record, is_tombstone, undo}
 use Rattle.sdb_record.proofs.ImageLaws.{row-decision, row-key}
-use Rattle.sdb_model.specs.declared.event.Event.{Event}
 use Rattle.sdb_model.specs.Calls.{StoreCall, clock_at, decision_in_reply, is_of_row, is_read, records_read}
 use Rattle.sdb_model.specs.Causes.{IsEarly}
 use Rattle.sdb_model.specs.Counted.{request_of_back, roll_by}
 use Rattle.sdb_model.specs.Counted as counted
 use Rattle.sdb_model.specs.ReadSet.{reads_rows}
-use Rattle.sdb_phases.specs.declared.step.RecoverPhase.{RecoverPhase}
 use Rattle.sdb_phases.specs.declared.step.RecoverPhase.TheVariants as phase
-use Rattle.sdb_phases.specs.declared.step.RecoverStep.{RecoverStep}
 use Rattle.sdb_phases.specs.declared.step.RecoverStep.TheVariants as steps
 use Rattle.sdb_phases.specs.Recover.{recover_back, recover_forward, recover_next, recover_request_at, roll_to, is_as_found, undecided}
 use Rattle.sdb_phases.specs.Work.{abort_of, look_of}
-use Rattle.sdb_read.specs.Read.{Asking, Bad, Ended, Firm, Kind, Open, ReadStage, Resolving, answered, kind_of, read_pending_at, read_step, resolved, settle, settle_one}
+use Rattle.sdb_txn.specs.Read.{Asking, Bad, Ended, Firm, Kind, Open, ReadStage, Resolving, answered, kind_of, read_pending_at, read_step, resolved, settle, settle_one}
 use Rattle.law_clients.proofs.Meta.{meta_of}
-use Rattle.sdb_vacuum.specs.declared.work.VacuumStep.{VacuumStep}
 use Rattle.sdb_vacuum.specs.declared.work.VacuumStep.TheVariants as vacuuming
 use Rattle.sdb_vacuum.specs.Vacuum as vacuum
 use Rattle.sdb_vacuum.specs.Vacuum.{First, Malformed, Nothing, Tombstone, Unresolved, VacuumAt, VacuumStage, first_of, first_one, next_of_row, with_call, next_table, pending_at, removal_answered, step_at, tombstone_or}
@@ -48,7 +37,7 @@ use Rattle.law_answers.proofs.Rows.{after_last, after_more, asks_row, shown_is}
 use Rattle.law_clients.proofs.Meanings.{state_says}
 use Rattle.law_answers.proofs.Showing.{firm_is, look_rows, undo_unread, unread_rows}
 use Rattle.sdb_types.specs.Replies.{is_answered}
-use Rattle.sdb_read.proofs.Images.{held_of}
+use Rattle.sdb_txn.proofs.Images.{held_of}
 
 ---- what rolls a record
 
@@ -77,11 +66,11 @@ recovery_unread rec meta phase.Ended m e = none_some m.request e
 
 ---- one call more
 
-module _ (events : List Event) (sweeps : Bool) (calls : List StoreCall) (m : StoreCall) (older : AllByRecursion (λ x. x.at < m.at) calls) where
+module _ (events : List Event) (vacuums : Bool) (calls : List StoreCall) (m : StoreCall) (older : AllByRecursion (λ x. x.at < m.at) calls) where
   abbrev more : List StoreCall
   more = calls ++ m ∷ []
 
-  dealt_stays : (read : StoreCall) (r : Record) → IsDealtWith events sweeps calls read r → IsDealtWith events sweeps more read r
+  dealt_stays : (read : StoreCall) (r : Record) → IsDealtWith events vacuums calls read r → IsDealtWith events vacuums more read r
   dealt_stays read r (inl h) = inl (record {
     id = h.id;
     state = h.state;
@@ -96,54 +85,54 @@ module _ (events : List Event) (sweeps : Bool) (calls : List StoreCall) (m : Sto
   dealt_stays read r (inr (id, at, is, h)) = inr (id, at, is, record { asked = h.asked; unresolved = h.unresolved; asks = (after_more id calls m older read.at h.asked h.asks.0, h.asks.1, h.asks.2); early = h.early })
 
   -- a call that reads no rows
-  but_stays : (left : List Record) → reads_rows m ≡ false → RolledBut events sweeps calls left → RolledBut events sweeps more left
+  but_stays : (left : List Record) → reads_rows m ≡ false → RolledBut events vacuums calls left → RolledBut events vacuums more left
   but_stays left f h x r has reads found open_still = by (Contains-push_cases calls m x has)
     where
-      kept : Contains left r ⊎ IsDealtWith events sweeps calls x r → Contains left r ⊎ IsDealtWith events sweeps more x r
+      kept : Contains left r ⊎ IsDealtWith events vacuums calls x r → Contains left r ⊎ IsDealtWith events vacuums more x r
       kept (inl k) = inl k
       kept (inr d) = inr (dealt_stays x r d)
 
-      by : Contains calls x ⊎ (m ≡ x) → Contains left r ⊎ IsDealtWith events sweeps more x r
+      by : Contains calls x ⊎ (m ≡ x) → Contains left r ⊎ IsDealtWith events vacuums more x r
       by (inl k) = kept (h x r k reads found open_still)
       by (inr e) = clash (sym reads ∙ ap (λ (y : StoreCall). reads_rows y) (sym e) ∙ f)
 
   -- one that does
-  rows_add : (q : Reply) → m.reply ≡ q → RolledBut events sweeps calls [] → RolledBut events sweeps more (records_read q)
+  rows_add : (q : Reply) → m.reply ≡ q → RolledBut events vacuums calls [] → RolledBut events vacuums more (records_read q)
   rows_add q is h x r has reads found open_still = by (Contains-push_cases calls m x has)
     where
-      kept : Contains [] r ⊎ IsDealtWith events sweeps calls x r → Contains (records_read q) r ⊎ IsDealtWith events sweeps more x r
+      kept : Contains [] r ⊎ IsDealtWith events vacuums calls x r → Contains (records_read q) r ⊎ IsDealtWith events vacuums more x r
       kept (inl k) = absurd (omega (arith, k.1))
       kept (inr d) = inr (dealt_stays x r d)
 
-      by : Contains calls x ⊎ (m ≡ x) → Contains (records_read q) r ⊎ IsDealtWith events sweeps more x r
+      by : Contains calls x ⊎ (m ≡ x) → Contains (records_read q) r ⊎ IsDealtWith events vacuums more x r
       by (inl k) = kept (h x r k reads found open_still)
       by (inr e) = inl (subst (λ (y : Reply). Contains (records_read y) r) is (subst (λ (y : StoreCall). Contains (records_read y.reply) r) (sym e) found))
 
   -- one of the records that were left is dealt with
-  one_dealt : (r : Record) (left : List Record) → (is_unresolved r ≡ true → (x : StoreCall) → Contains more x → reads_rows x ≡ true → IsDealtWith events sweeps more x r) → RolledBut events sweeps more (r ∷ left) → RolledBut events sweeps more left
+  one_dealt : (r : Record) (left : List Record) → (is_unresolved r ≡ true → (x : StoreCall) → Contains more x → reads_rows x ≡ true → IsDealtWith events vacuums more x r) → RolledBut events vacuums more (r ∷ left) → RolledBut events vacuums more left
   one_dealt r left deals h x y has reads found open_still = by (h x y has reads found open_still)
     where
-      first : (r ≡ y) ⊎ Contains left y → Contains left y ⊎ IsDealtWith events sweeps more x y
-      first (inl e) = inr (subst (λ (z : Record). IsDealtWith events sweeps more x z) e (deals (subst (λ (z : Record). is_unresolved z ≡ true) (sym e) open_still) x has reads))
+      first : (r ≡ y) ⊎ Contains left y → Contains left y ⊎ IsDealtWith events vacuums more x y
+      first (inl e) = inr (subst (λ (z : Record). IsDealtWith events vacuums more x z) e (deals (subst (λ (z : Record). is_unresolved z ≡ true) (sym e) open_still) x has reads))
       first (inr k) = inl k
 
-      by : Contains (r ∷ left) y ⊎ IsDealtWith events sweeps more x y → Contains left y ⊎ IsDealtWith events sweeps more x y
+      by : Contains (r ∷ left) y ⊎ IsDealtWith events vacuums more x y → Contains left y ⊎ IsDealtWith events vacuums more x y
       by (inl k) = first (one_of r y left k)
       by (inr d) = inr d
 
-  firm_dealt : (r : Record) (left : List Record) → kind_of r ≡ Firm → RolledBut events sweeps more (r ∷ left) → RolledBut events sweeps more left
+  firm_dealt : (r : Record) (left : List Record) → kind_of r ≡ Firm → RolledBut events vacuums more (r ∷ left) → RolledBut events vacuums more left
   firm_dealt r left e h = one_dealt r left (λ u x has reads. clash (sym (firm_is r e) ∙ held_of r u)) h
 
-  settle_rolls : (images left : List Record) → RolledBut events sweeps more left → ReadRolls events sweeps more (settle images left)
+  settle_rolls : (images left : List Record) → RolledBut events vacuums more left → ReadRolls events vacuums more (settle images left)
   settle_rolls images [] h = h
   settle_rolls images (r ∷ left) h = by (kind_of r) refl (λ k. settle_rolls (images ++ r ∷ []) left (firm_dealt r left k h))
     where
-      by : (x : Kind) → kind_of r ≡ x → (kind_of r ≡ Firm → ReadRolls events sweeps more (settle (images ++ r ∷ []) left)) → ReadRolls events sweeps more (settle_one x images r left (settle (images ++ r ∷ []) left))
+      by : (x : Kind) → kind_of r ≡ x → (kind_of r ≡ Firm → ReadRolls events vacuums more (settle (images ++ r ∷ []) left)) → ReadRolls events vacuums more (settle_one x images r left (settle (images ++ r ∷ []) left))
       by Firm e rest = rest e
       by (Open meta) e rest = (h, e, tt)
       by Bad e rest = tt
 
-  answered_rolls : (q : Reply) → RolledBut events sweeps more (records_read q) → ReadRolls events sweeps more (answered q)
+  answered_rolls : (q : Reply) → RolledBut events vacuums more (records_read q) → ReadRolls events vacuums more (answered q)
   answered_rolls (reply.Found None) h = h
   answered_rolls (reply.Found (Some row)) h = settle_rolls [] (row ∷ []) h
   answered_rolls (reply.Rows rows) h = settle_rolls [] rows h
@@ -182,7 +171,7 @@ module _ (events : List Event) (sweeps : Bool) (calls : List StoreCall) (m : Sto
     ComesTo (x, steps.NoMemory) = Unit {0}
 
     looked_now : (d : Decided) → reads_rows m ≡ false → is_of_row meta.id m.request ≡ true → decision_in_reply m.request m.reply ≡ Some d → HasLooked more meta.id d
-    looked_now d f t e = record { look = m; among = Contains-push calls m; shown = shown_is meta.id m (Some d) t e; later = λ read has reads. after_last meta.id calls m older read (old f read has reads) }
+    looked_now d f t e = record { look = m; among = Contains-push calls m; observed = shown_is meta.id m (Some d) t e; later = λ read has reads. after_last meta.id calls m older read (old f read has reads) }
 
     rolled_comes : (row : Record) → reads_rows m ≡ false → is_of_row meta.id m.request ≡ true → decision_in_reply m.request m.reply ≡ result_ok (decision_in row) → ComesTo (roll_to meta (decision_in row))
     rolled_comes row f t executed = by (decision_in row) refl
@@ -262,7 +251,7 @@ module _ (events : List Event) (sweeps : Bool) (calls : List StoreCall) (m : Sto
       look = h.look;
       roll = m;
       writer = ((meta_of rec meta unresolved says).writer, state_says rec meta says);
-      looks = (after_more meta.id calls m older read.at h.look (h.later read has reads), h.shown);
+      looks = (after_more meta.id calls m older read.at h.look (h.later read has reads), h.observed);
       rolls = (after_last meta.id calls m older h.look h.among, e);
       answered = a;
     }
@@ -296,10 +285,10 @@ module _ (events : List Event) (sweeps : Bool) (calls : List StoreCall) (m : Sto
     recovered_comes phase.Ended p e = absurd (cc)
 
     -- it was rolled
-    rec_dealt : (left : List Record) → reads_rows m ≡ false → OfReads (λ read. IsRolledBy more read rec) → RolledBut events sweeps calls (rec ∷ left) → RolledBut events sweeps more left
+    rec_dealt : (left : List Record) → reads_rows m ≡ false → OfReads (λ read. IsRolledBy more read rec) → RolledBut events vacuums calls (rec ∷ left) → RolledBut events vacuums more left
     rec_dealt left f c h = one_dealt rec left (λ u x has reads. inl (c x (old f x has reads) reads)) (but_stays (rec ∷ left) f h)
 
-    resolved_rolls : (images left : List Record) → reads_rows m ≡ false → RolledBut events sweeps calls (rec ∷ left) → (n : RecoverPhase × RecoverStep) → ComesTo n → ReadRolls events sweeps more (resolved images rec meta left n)
+    resolved_rolls : (images left : List Record) → reads_rows m ≡ false → RolledBut events vacuums calls (rec ∷ left) → (n : RecoverPhase × RecoverStep) → ComesTo n → ReadRolls events vacuums more (resolved images rec meta left n)
     resolved_rolls images left f h (x, steps.More) c = (but_stays (rec ∷ left) f h, is_open, c)
     resolved_rolls images left f h (x, steps.Image None) c = settle_rolls images left (rec_dealt left f c h)
     resolved_rolls images left f h (x, steps.Image (Some b)) c = settle_rolls (images ++ b ∷ []) left (rec_dealt left f c h)
@@ -308,7 +297,7 @@ module _ (events : List Event) (sweeps : Bool) (calls : List StoreCall) (m : Sto
     resolved_rolls images left f h (x, steps.BadRecord key) c = tt
     resolved_rolls images left f h (x, steps.NoMemory) c = tt
 
-  pub read_rolls : (now : ℤ) → clock_at events m.at ≡ now → is_moment now ≡ true → (q : Request) (s : ReadStage) → ReadRolls events sweeps calls s → read_pending_at q s ≡ Some m.request → ReadRolls events sweeps more (read_step s now m.reply)
+  pub read_rolls : (now : ℤ) → clock_at events m.at ≡ now → is_moment now ≡ true → (q : Request) (s : ReadStage) → ReadRolls events vacuums calls s → read_pending_at q s ≡ Some m.request → ReadRolls events vacuums more (read_step s now m.reply)
   read_rolls now clock moment q Asking h e = answered_rolls m.reply (rows_add m.reply refl h)
   read_rolls now clock moment q (Resolving images rec meta p left) h e =
       resolved_rolls now clock moment rec meta h.1 images left (recovery_unread rec meta p m e) h.0 (recover_next rec meta p now m.reply) (recovered_comes now clock moment rec meta h.1 p h.2 e)
@@ -318,21 +307,21 @@ module _ (events : List Event) (sweeps : Bool) (calls : List StoreCall) (m : Sto
 
   -- what rows come to
   abbrev FirstRolls : First → Type 0
-  FirstRolls Nothing = RolledBut events sweeps more []
-  FirstRolls (Tombstone b left) = RolledBut events sweeps more left
-  FirstRolls (Unresolved r meta left) = RolledBut events sweeps more (r ∷ left) × (kind_of r ≡ Open meta)
+  FirstRolls Nothing = RolledBut events vacuums more []
+  FirstRolls (Tombstone b left) = RolledBut events vacuums more left
+  FirstRolls (Unresolved r meta left) = RolledBut events vacuums more (r ∷ left) × (kind_of r ≡ Open meta)
   FirstRolls (Malformed key) = Unit {0}
 
   -- where a step leads
   abbrev pub SweepsTo : VacuumStep → VacuumAt → Type 0
-  SweepsTo vacuuming.More v = VacuumRolls events sweeps (calls ++ m ∷ []) v.stage
-  SweepsTo (vacuuming.Count n) v = RolledBut events sweeps (calls ++ m ∷ []) []
+  SweepsTo vacuuming.More v = VacuumRolls events vacuums (calls ++ m ∷ []) v.stage
+  SweepsTo (vacuuming.Count n) v = RolledBut events vacuums (calls ++ m ∷ []) []
   SweepsTo s v = Unit {0}
 
   abbrev Sweeps : VacuumAt × VacuumStep → Type 0
   Sweeps x = SweepsTo x.1 x.0
 
-  first_rolls : (left : List Record) → RolledBut events sweeps more left → FirstRolls (first_of left)
+  first_rolls : (left : List Record) → RolledBut events vacuums more left → FirstRolls (first_of left)
   first_rolls [] h = h
   first_rolls (r ∷ left) h = by (kind_of r) refl (λ k. first_rolls left (firm_dealt r left k h))
     where
@@ -345,7 +334,7 @@ module _ (events : List Event) (sweeps : Bool) (calls : List StoreCall) (m : Sto
       by (Open meta) e rest = (h, e)
       by Bad e rest = tt
 
-  next_sweeps : (ss : List Span) (n : ℕ) → RolledBut events sweeps more [] → Sweeps (next_table ss n)
+  next_sweeps : (ss : List Span) (n : ℕ) → RolledBut events vacuums more [] → Sweeps (next_table ss n)
   next_sweeps [] n h = h
   next_sweeps (s ∷ ss) n h = h
 
@@ -355,10 +344,10 @@ module _ (events : List Event) (sweeps : Bool) (calls : List StoreCall) (m : Sto
   going_sweeps ss n (Unresolved r meta left) h = (h.0, h.1, tt)
   going_sweeps ss n (Malformed key) h = tt
 
-  on_sweeps : (ss : List Span) (n : ℕ) (left : List Record) → RolledBut events sweeps more left → Sweeps (next_of_row ss n (first_of left))
+  on_sweeps : (ss : List Span) (n : ℕ) (left : List Record) → RolledBut events vacuums more left → Sweeps (next_of_row ss n (first_of left))
   on_sweeps ss n left h = going_sweeps ss n (first_of left) (first_rolls left h)
 
-  answered_sweeps : (ss : List Span) (n : ℕ) (r : Reply) → RolledBut events sweeps more (records_read r) → Sweeps (vacuum.answered ss n r)
+  answered_sweeps : (ss : List Span) (n : ℕ) (r : Reply) → RolledBut events vacuums more (records_read r) → Sweeps (vacuum.answered ss n r)
   answered_sweeps ss n (reply.Rows rows) h = on_sweeps ss n rows h
   answered_sweeps ss n (reply.Found found) h = tt
   answered_sweeps ss n reply.Applied h = tt
@@ -366,14 +355,14 @@ module _ (events : List Event) (sweeps : Bool) (calls : List StoreCall) (m : Sto
   answered_sweeps ss n reply.Fault h = tt
   answered_sweeps ss n reply.NoMemory h = tt
 
-  image_sweeps : (ss : List Span) (n : ℕ) (left : List Record) (b : Record) → RolledBut events sweeps more left → Sweeps (tombstone_or ss n left b)
+  image_sweeps : (ss : List Span) (n : ℕ) (left : List Record) (b : Record) → RolledBut events vacuums more left → Sweeps (tombstone_or ss n left b)
   image_sweeps ss n left b h = by (is_tombstone b)
     where
       by : (t : Bool) → Sweeps (if t then with_call ss n (vacuum.Removing b left) else next_of_row ss n (first_of left))
       by true = h
       by false = on_sweeps ss n left h
 
-  resolved_sweeps : (now : ℤ) (clock : clock_at events m.at ≡ now) (moment : is_moment now ≡ true) (rec : Record) (meta : Meta) (is_open : kind_of rec ≡ Open meta) → sweeps ≡ true → (ss : List Span) (n : ℕ) (left : List Record) → reads_rows m ≡ false → RolledBut events sweeps calls (rec ∷ left) → (x : RecoverPhase × RecoverStep) → ComesTo now clock moment rec meta is_open x → Sweeps (vacuum.resolved ss n rec meta left x)
+  resolved_sweeps : (now : ℤ) (clock : clock_at events m.at ≡ now) (moment : is_moment now ≡ true) (rec : Record) (meta : Meta) (is_open : kind_of rec ≡ Open meta) → vacuums ≡ true → (ss : List Span) (n : ℕ) (left : List Record) → reads_rows m ≡ false → RolledBut events vacuums calls (rec ∷ left) → (x : RecoverPhase × RecoverStep) → ComesTo now clock moment rec meta is_open x → Sweeps (vacuum.resolved ss n rec meta left x)
   resolved_sweeps now clock moment rec meta is_open is ss n left f h (p, steps.More) c = (but_stays (rec ∷ left) f h, is_open, c)
   resolved_sweeps now clock moment rec meta is_open is ss n left f h (p, steps.Image None) c = on_sweeps ss n left (rec_dealt now clock moment rec meta is_open left f c h)
   resolved_sweeps now clock moment rec meta is_open is ss n left f h (p, steps.Image (Some b)) c = image_sweeps ss n left b (rec_dealt now clock moment rec meta is_open left f c h)
@@ -382,7 +371,7 @@ module _ (events : List Event) (sweeps : Bool) (calls : List StoreCall) (m : Sto
   resolved_sweeps now clock moment rec meta is_open is ss n left f h (p, steps.BadRecord key) c = tt
   resolved_sweeps now clock moment rec meta is_open is ss n left f h (p, steps.NoMemory) c = tt
 
-  removal_sweeps : (ss : List Span) (n : ℕ) (left : List Record) (r : Reply) → RolledBut events sweeps more left → Sweeps (removal_answered ss n left r)
+  removal_sweeps : (ss : List Span) (n : ℕ) (left : List Record) (r : Reply) → RolledBut events vacuums more left → Sweeps (removal_answered ss n left r)
   removal_sweeps ss n left reply.Applied h = on_sweeps ss (n + 1) left h
   removal_sweeps ss n left (reply.NotMet found) h = on_sweeps ss n left h
   removal_sweeps ss n left (reply.Found found) h = tt
@@ -394,7 +383,7 @@ module _ (events : List Event) (sweeps : Bool) (calls : List StoreCall) (m : Sto
   asks_unread b None e = none_some m.request e
   asks_unread b (Some id) e = unread_rows m (ap is_read (sym (some_is (ask.DeleteIf b.key (condition.Version id state.Committed)) m.request e)))
 
-  pub sweep_rolls : (now : ℤ) → clock_at events m.at ≡ now → is_moment now ≡ true → sweeps ≡ true → (ss : List Span) (n : ℕ) (s : VacuumStage) → VacuumRolls events sweeps calls s → pending_at s ≡ Some m.request → Sweeps (step_at ss n s now m.reply)
+  pub sweep_rolls : (now : ℤ) → clock_at events m.at ≡ now → is_moment now ≡ true → vacuums ≡ true → (ss : List Span) (n : ℕ) (s : VacuumStage) → VacuumRolls events vacuums calls s → pending_at s ≡ Some m.request → Sweeps (step_at ss n s now m.reply)
   sweep_rolls now clock moment is ss n (vacuum.Scanning span) h e = answered_sweeps ss n m.reply (rows_add m.reply refl h)
   sweep_rolls now clock moment is ss n (vacuum.Resolving rec meta p left) h e =
       resolved_sweeps now clock moment rec meta h.1 is ss n left (recovery_unread rec meta p m e) h.0 (recover_next rec meta p now m.reply) (recovered_comes now clock moment rec meta h.1 p h.2 e)

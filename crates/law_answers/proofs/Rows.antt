@@ -10,17 +10,11 @@ use Rattle.std.proofs.lemmas.Bool.{and_parts}
 use Rattle.std.proofs.lemmas.Bool.Decides.{nat_tests}
 use Rattle.std.proofs.lemmas.List.{append-nil}
 use Rattle.std.proofs.lemmas.List.Elements.{All-from_recursion, Contains-append_left, Contains-push, filter-append}
-use Rattle.sdb_types.specs.declared.txid.TxId.{TxId}
-use Rattle.sdb_types.specs.declared.key.Key.{Key}
-use Rattle.sdb_types.specs.declared.record.Record.{Record}
-use Rattle.sdb_types.specs.declared.record.Reply.{Reply}
-use Rattle.sdb_types.specs.declared.record.Request.{Request}
+use Rattle.law_answers.specs.Types.{Decided, Decision, Key, Record, Reply, Request, TxId}
 use Rattle.sdb_types.specs.Exact.{equal_of}
 use Rattle.sdb_types.specs.Order.{key_cmp}
 use Rattle.sdb_types.proofs.Basics.{by_test, clash, none_some, all_each as each_any}
 use Rattle.sdb_types.proofs.KeyOrder.{key_exact, key_total}
-use Rattle.sdb_record.specs.declared.coordinator.Decided.{Decided}
-use Rattle.sdb_record.specs.declared.coordinator.Decision.{Decision}
 use Rattle.sdb_record.specs.declared.coordinator.Decision.TheVariants as decision
 use Rattle.sdb_record.specs.Coordinator.{coordinator_key_of, decision_in, is_coordinator_table}
 use Rattle.sdb_record.specs.Meta.{checked, is_transactional}
@@ -166,10 +160,10 @@ pub bad_is_bad : (id : TxId) (row : Record) → row.key ≡ coordinator_key_of i
 bad_is_bad id row same h = bad_of_row row (ap (λ (k : Key). is_coordinator_table k.table) same ∙ coordinators id) h
 
 pub shows_bad_row : (id : TxId) (calls : List StoreCall) (m : StoreCall) (row : Record) (name : List ℕ) → records_observed m.reply ≡ row ∷ [] → row.key ≡ coordinator_key_of id → decision_in row ≡ Err name → ObservesBad (calls ++ m ∷ []) (coordinator_key_of id)
-shows_bad_row id calls m row name shown same e = record { call = m; found = row; among = Contains-push calls m; shown = subst (λ rs. Contains rs row) (sym shown) (Contains-push [] row); same = same; bad = bad_row id row name same e; place = inl (ap (λ (k : Key). is_coordinator_table k.table) same ∙ coordinators id) }
+shows_bad_row id calls m row name observed same e = record { call = m; found = row; among = Contains-push calls m; observed = subst (λ rs. Contains rs row) (sym observed) (Contains-push [] row); same = same; bad = bad_row id row name same e; place = inl (ap (λ (k : Key). is_coordinator_table k.table) same ∙ coordinators id) }
 
 pub bad_stays : (calls : List StoreCall) (m : StoreCall) (key : Key) → ObservesBad calls key → ObservesBad (calls ++ m ∷ []) key
-bad_stays calls m key h = record { call = h.call; found = h.found; among = Contains-append_left calls (m ∷ []) h.call h.among; shown = h.shown; same = h.same; bad = h.bad; place = h.place }
+bad_stays calls m key h = record { call = h.call; found = h.found; among = Contains-append_left calls (m ∷ []) h.call h.among; observed = h.observed; same = h.same; bad = h.bad; place = h.place }
 
 -- what all that a filter keeps pass, each that passes the filter does
 each_filtered : (p q : StoreCall → Bool) (ms : List StoreCall) → list_all q (filter p ms) ≡ true → AllByRecursion (λ (m : StoreCall). p m ≡ true → q m ≡ true) ms

@@ -6,20 +6,13 @@ use Rattle.std.specs.Option.{option_and_then, option_map}
 use Rattle.std.proofs.lemmas.Bool.{and_parts}
 use Rattle.std.proofs.lemmas.List.{append-nil}
 use Rattle.std.proofs.lemmas.List.Elements.{Contains-append_left, Contains-append_right, Contains-push}
-use Rattle.sdb_types.specs.declared.key.Key.{Key}
-use Rattle.sdb_types.specs.declared.record.Record.{Record}
-use Rattle.sdb_types.specs.declared.record.Reply.{Reply}
+use Rattle.law_answers.specs.Types.{Access, Key, Read, Record, Reply, Request, Scan, Span}
 use Rattle.sdb_types.specs.declared.record.Reply.TheVariants as reply
-use Rattle.sdb_types.specs.declared.record.Request.{Request}
 use Rattle.sdb_types.specs.declared.record.Request.TheVariants as ask
-use Rattle.sdb_types.specs.declared.record.Span.{Span}
 use Rattle.sdb_types.specs.declared.record.State.TheVariants as state
 use Rattle.sdb_types.specs.Contents.{CanAnswer, in_span, rise}
 use Rattle.sdb_types.proofs.Basics.{clash, all_each as each_any, one_of}
-use Rattle.sdb_record.specs.declared.access.Access.{Access}
 use Rattle.sdb_record.specs.declared.access.Access.TheVariants as access
-use Rattle.sdb_record.specs.declared.access.Read.{Read}
-use Rattle.sdb_record.specs.declared.access.Scan.{Scan}
 use Rattle.sdb_record.specs.Coordinator.{is_coordinator_table}
 use Rattle.sdb_record.specs.Meta.{is_in, is_transactional}
 use Rattle.sdb_record.specs.Moved.{version_of}
@@ -28,7 +21,7 @@ use Rattle.sdb_model.specs.Events.{table_asked}
 use Rattle.sdb_model.specs.ReadSet.{KeyRead, ReadItem, SpanRead, finds_transactional, meaning_of, read_item_of, read_items, read_of, reads_of, reads_rows}
 use Rattle.sdb_model.specs.DirtyReads.{IsMeantBy}
 use Rattle.law_clients.proofs.Meanings.{meaning_rolled, meaning_settled}
-use Rattle.sdb_read.specs.Read.{request_of}
+use Rattle.sdb_txn.specs.Read.{request_of}
 use Rattle.sdb_snapshot.specs.Reads as snapshot
 use Rattle.law_clients.proofs.InTables.{access_table}
 use Rattle.sdb_client.specs.Client.{with_rows_read}
@@ -53,7 +46,7 @@ settled_meant calls e h loose = by h.by
   where
     by : ((is_in state.Committed e.0.columns ≡ true) × (e.1 ≡ Some e.0)) ⊎ IsRolledAs calls e.0 e.1 → IsMeantBy calls e.0
     by (inl k) = clash (sym k.0 ∙ loose)
-    by (inr k) = record { id = k.id; decided = k.decided; look = k.shown.call; writer = k.writer; looks = (k.shown.among, k.shown.shown); means = settled_means calls e h ∙ k.image }
+    by (inr k) = record { id = k.id; decided = k.decided; look = k.observed.call; writer = k.writer; looks = (k.observed.among, k.observed.observed); means = settled_means calls e h ∙ k.image }
 
 meant_among : (calls : List StoreCall) (es : List (Record × Option Record)) (r : Record) → AllByRecursion (IsSettledAs calls) es → Contains (map (λ e. e.0) es) r → is_in state.Committed r.columns ≡ false → IsMeantBy calls r
 meant_among calls [] r all has loose = absurd (omega (arith, has.1))
@@ -126,16 +119,16 @@ module _ (calls : List StoreCall) where
   got_image (x ∷ y ∷ es) (Some r) all e = absurd (cc)
 
   pub got_note : (key : Key) (images : List Record) (h : HasRead (ask.Get key) calls images []) → IsDataTable key.table → Contains (read_items calls) (KeyRead (record { key = key; version = version_of (slice_get images 0) }))
-  got_note key images h is = subst (λ ns. Contains ns (KeyRead (record { key = key; version = version_of (slice_get images 0) }))) (sym (read_notes (access.Get key) calls images [] h is ∙ by h.first.reply refl h.can h.told)) (Contains-push [] (KeyRead (record { key = key; version = version_of (slice_get images 0) })))
+  got_note key images h is = subst (λ ns. Contains ns (KeyRead (record { key = key; version = version_of (slice_get images 0) }))) (sym (read_notes (access.Get key) calls images [] h is ∙ by h.first.reply refl h.can h.answered)) (Contains-push [] (KeyRead (record { key = key; version = version_of (slice_get images 0) })))
     where
       by : (r : Reply) → h.first.reply ≡ r → CanAnswer (ask.Get key) r → IsRows r → cons_option (read_item_of calls (ask.Get key) r) [] ≡ KeyRead (record { key = key; version = version_of (slice_get images 0) }) ∷ []
-      by (reply.Found found) e can told =
+      by (reply.Found found) e can answered =
           ap (λ (o : Option Record). KeyRead (record { key = key; version = version_of o }) ∷ []) (got_image h.steps found h.settled (ap records_read (sym e) ∙ h.rows ∙ append-nil (map (λ e. e.0) h.steps)) ∙ ap (λ is. slice_get is 0) (sym h.images_are))
-      by (reply.Rows rows) e can told = absurd can
-      by reply.Applied e can told = absurd told
-      by (reply.NotMet found) e can told = absurd told
-      by reply.Fault e can told = absurd told
-      by reply.NoMemory e can told = absurd told
+      by (reply.Rows rows) e can answered = absurd can
+      by reply.Applied e can answered = absurd answered
+      by (reply.NotMet found) e can answered = absurd answered
+      by reply.Fault e can answered = absurd answered
+      by reply.NoMemory e can answered = absurd answered
 
   ---- a scan
 
@@ -152,17 +145,17 @@ module _ (calls : List StoreCall) where
       by (Some b) k = ap (λ (z : Key). record { key = z; version = version_of (Some b) } ∷ snapshot.reads_of (filter_map (λ (e : Record × Option Record). e.1) es)) (sym k)
 
   pub scan_note : (span : Span) (images : List Record) (h : HasRead (ask.Scan span) calls images []) → IsDataTable span.table → Contains (read_items calls) (SpanRead (record { span = span; found = snapshot.reads_of images }))
-  scan_note span images h is = subst (λ ns. Contains ns (SpanRead (record { span = span; found = snapshot.reads_of images }))) (sym (read_notes (access.Scan span) calls images [] h is ∙ by h.first.reply refl h.can h.told)) (Contains-push [] (SpanRead (record { span = span; found = snapshot.reads_of images })))
+  scan_note span images h is = subst (λ ns. Contains ns (SpanRead (record { span = span; found = snapshot.reads_of images }))) (sym (read_notes (access.Scan span) calls images [] h is ∙ by h.first.reply refl h.can h.answered)) (Contains-push [] (SpanRead (record { span = span; found = snapshot.reads_of images })))
     where
       by : (r : Reply) → h.first.reply ≡ r → CanAnswer (ask.Scan span) r → IsRows r → cons_option (read_item_of calls (ask.Scan span) r) [] ≡ SpanRead (record { span = span; found = snapshot.reads_of images }) ∷ []
-      by (reply.Rows rows) e can told =
+      by (reply.Rows rows) e can answered =
           ap (λ rs. SpanRead (record { span = span; found = rs }) ∷ [])
           (ap (reads_of calls) (ap records_read (sym e) ∙ h.rows ∙ append-nil (map (λ e. e.0) h.steps)) ∙ scan_images h.steps h.settled ∙ ap snapshot.reads_of (sym h.images_are))
-      by (reply.Found found) e can told = absurd can
-      by reply.Applied e can told = absurd told
-      by (reply.NotMet found) e can told = absurd told
-      by reply.Fault e can told = absurd told
-      by reply.NoMemory e can told = absurd told
+      by (reply.Found found) e can answered = absurd can
+      by reply.Applied e can answered = absurd answered
+      by (reply.NotMet found) e can answered = absurd answered
+      by reply.Fault e can answered = absurd answered
+      by reply.NoMemory e can answered = absurd answered
 
 ---- in the words of a transaction
 
@@ -183,18 +176,18 @@ settled_keys calls [] all = tt
 settled_keys calls (x ∷ es) all = (all.0.key, settled_keys calls es all.1)
 
 scan_lies : (calls : List StoreCall) (span : Span) (images : List Record) (h : HasRead (ask.Scan span) calls images []) → list_all (λ (r : Read). in_span span r.key) (snapshot.reads_of images) ≡ true
-scan_lies calls span images h = by h.first.reply refl h.can h.told
+scan_lies calls span images h = by h.first.reply refl h.can h.answered
   where
     by : (r : Reply) → h.first.reply ≡ r → CanAnswer (ask.Scan span) r → IsRows r → list_all (λ (r : Read). in_span span r.key) (snapshot.reads_of images) ≡ true
-    by (reply.Rows rows) e can told =
+    by (reply.Rows rows) e can answered =
         let same : rows ≡ map (λ x. x.0) h.steps = ap records_read (sym e) ∙ h.rows ∙ append-nil (map (λ x. x.0) h.steps) in
         ap (λ is. list_all (λ (r : Read). in_span span r.key) (snapshot.reads_of is)) h.images_are
         ∙ scan_inside span h.steps (settled_keys calls h.steps h.settled) (subst (λ rs. list_all (λ (r : Record). in_span span r.key) rs ≡ true) same (and_parts (rise rows) (list_all (λ (r : Record). in_span span r.key) rows) can).1)
-    by (reply.Found found) e can told = absurd can
-    by reply.Applied e can told = absurd told
-    by (reply.NotMet found) e can told = absurd told
-    by reply.Fault e can told = absurd told
-    by reply.NoMemory e can told = absurd told
+    by (reply.Found found) e can answered = absurd can
+    by reply.Applied e can answered = absurd answered
+    by (reply.NotMet found) e can answered = absurd answered
+    by reply.Fault e can answered = absurd answered
+    by reply.NoMemory e can answered = absurd answered
 
 -- what a read found is noted with what was
 pub read_noted : (a : Access) (calls : List StoreCall) (images : List Record) (read_set : List ReadItem) (t : TxnAt) → HasRead (request_of a) calls images [] → IsDataTable (access_table a) → SeenBy read_set t.seen → SeenBy (read_set ++ read_items calls) (with_rows_read t a images).seen

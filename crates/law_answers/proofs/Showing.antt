@@ -5,22 +5,13 @@ use Rattle.std.specs.List.{AllByRecursion, filter_map}
 use Rattle.std.specs.Result.{result_ok}
 use Rattle.std.proofs.lemmas.List.{append-nil}
 use Rattle.std.proofs.lemmas.List.Elements.{Contains-append_left, Contains-push, filter_map-append}
-use Rattle.sdb_types.specs.declared.txid.TxId.{TxId}
-use Rattle.sdb_types.specs.declared.key.Key.{Key}
-use Rattle.sdb_types.specs.declared.record.Condition.{Condition}
-use Rattle.sdb_types.specs.declared.record.Record.{Record}
-use Rattle.sdb_types.specs.declared.record.Reply.{Reply}
+use Rattle.law_answers.specs.Types.{Access, Condition, Decided, Decision, Key, Meta, Record, RecoverPhase, RecoverStep, Reply, Request, TxId}
 use Rattle.sdb_types.specs.declared.record.Reply.TheVariants as reply
-use Rattle.sdb_types.specs.declared.record.Request.{Request}
 use Rattle.sdb_types.specs.declared.record.State.TheVariants as state
 use Rattle.sdb_types.specs.Contents.{CanAnswer, rise, starts_after}
 use Rattle.sdb_types.proofs.Basics.{and_parts, some_is, all_each as each_any}
-use Rattle.sdb_record.specs.declared.access.Access.{Access}
 use Rattle.sdb_record.specs.declared.access.Access.TheVariants as access
-use Rattle.sdb_record.specs.declared.coordinator.Decided.{Decided}
-use Rattle.sdb_record.specs.declared.coordinator.Decision.{Decision}
 use Rattle.sdb_record.specs.declared.coordinator.Decision.TheVariants as decision
-use Rattle.sdb_record.specs.declared.meta.Meta.{Meta}
 use Rattle.sdb_record.specs.Coordinator.{coordinator_key_of, coordinator_row_of, decision_in, is_coordinator_table, is_expired}
 use Rattle.sdb_record.specs.Meta.{checked, id_in, is_in, is_moment, is_transactional, is_unresolved}
 use Rattle.sdb_record.specs.Parts.{before_record}
@@ -30,13 +21,11 @@ use Rattle.sdb_record.proofs.RollLaws.{forward-key}
 use Rattle.sdb_model.specs.Calls.{StoreCall, decision_in_reply, is_of_row, is_read, records_read}
 use Rattle.sdb_model.specs.Events.{table_asked}
 use Rattle.sdb_model.specs.ReadSet.{condition_asked, reads_rows, rolls}
-use Rattle.sdb_phases.specs.declared.step.RecoverPhase.{RecoverPhase}
 use Rattle.sdb_phases.specs.declared.step.RecoverPhase.TheVariants as phase
-use Rattle.sdb_phases.specs.declared.step.RecoverStep.{RecoverStep}
 use Rattle.sdb_phases.specs.declared.step.RecoverStep.TheVariants as steps
 use Rattle.sdb_phases.specs.Recover.{recover_back, recover_forward, recover_next, recover_request_at, roll_to, is_as_found, undecided}
 use Rattle.sdb_phases.specs.Work.{abort_of, look_of}
-use Rattle.sdb_read.specs.Read.{Asking, Bad, Ended, Firm, Kind, Open, ReadStage, Resolving, answered, kind_of, opened, read_pending_at, read_step, request_of, resolved, settle, settle_one}
+use Rattle.sdb_txn.specs.Read.{Asking, Bad, Ended, Firm, Kind, Open, ReadStage, Resolving, answered, kind_of, opened, read_pending_at, read_step, request_of, resolved, settle, settle_one}
 use Rattle.law_clients.proofs.Lists.{each_more}
 use Rattle.law_clients.proofs.Meta.{meta_of}
 use Rattle.law_answers.specs.Changes.{HasRead, HasObserved, IsRolledAs, IsRows, IsSettledAs, PhaseObserves, StageObserves}
@@ -45,7 +34,7 @@ use Rattle.law_answers.proofs.Rows.{asks_row, shown_is}
 use Rattle.law_clients.specs.Calls.{IsUnrolled}
 use Rattle.law_clients.proofs.Meanings.{IsRollTo, abort_rolls_none, back_rolls_to, before_key, each_of, find_last, find_more, forward_rolls_to, look_rolls_none, read_unrolled, rolls_none_after, unrolled_more}
 use Rattle.law_clients.proofs.Noting.{coordinators}
-use Rattle.sdb_read.proofs.Images.{held_of}
+use Rattle.sdb_txn.proofs.Images.{held_of}
 
 pub firm_is : (r : Record) → kind_of r ≡ Firm → is_in state.Committed r.columns ≡ true
 firm_is r e = by (is_transactional r) (is_in state.Committed r.columns) (checked r.columns) refl e
@@ -79,14 +68,14 @@ undo_unread c k None = refl
 undo_unread c k (Some b) = refl
 
 shown_stays : (calls : List StoreCall) (m : StoreCall) (id : TxId) (d : Decided) → HasObserved calls id d → HasObserved (calls ++ m ∷ []) id d
-shown_stays calls m id d h = record { call = h.call; among = Contains-append_left calls (m ∷ []) h.call h.among; shown = h.shown }
+shown_stays calls m id d h = record { call = h.call; among = Contains-append_left calls (m ∷ []) h.call h.among; observed = h.observed }
 
 settled_stay : (calls : List StoreCall) (m : StoreCall) (es : List (Record × Option Record)) → AllByRecursion (IsSettledAs calls) es → AllByRecursion (IsSettledAs (calls ++ m ∷ [])) es
 settled_stay calls m es all = each_any (IsSettledAs calls) (IsSettledAs (calls ++ m ∷ [])) es (λ e h. record { key = h.key; by = by e h.by }) all
   where
     by : (e : Record × Option Record) → ((is_in state.Committed e.0.columns ≡ true) × (e.1 ≡ Some e.0)) ⊎ IsRolledAs calls e.0 e.1 → ((is_in state.Committed e.0.columns ≡ true) × (e.1 ≡ Some e.0)) ⊎ IsRolledAs (calls ++ m ∷ []) e.0 e.1
     by e (inl h) = inl h
-    by e (inr h) = inr (record { id = h.id; decided = h.decided; roll = h.roll; open_still = h.open_still; writer = h.writer; shown = shown_stays calls m h.id h.decided h.shown; image = h.image; rolled = find_more (rolls e.0) calls (m ∷ []) h.roll h.rolled; puts = h.puts })
+    by e (inr h) = inr (record { id = h.id; decided = h.decided; roll = h.roll; open_still = h.open_still; writer = h.writer; observed = shown_stays calls m h.id h.decided h.observed; image = h.image; rolled = find_more (rolls e.0) calls (m ∷ []) h.roll h.rolled; puts = h.puts })
 
 map_more : (es : List (Record × Option Record)) (e : Record × Option Record) (left : List Record) → map (λ x. x.0) (es ++ e ∷ []) ++ left ≡ map (λ x. x.0) es ++ e.0 ∷ left
 map_more [] e left = refl
@@ -101,7 +90,7 @@ module _ (q : Request) (calls : List StoreCall) where
     calls_are = h.calls_are;
     request = h.request;
     can = h.can;
-    told = h.told;
+    answered = h.answered;
     others = h.others;
     steps = h.steps ++ (r, o) ∷ [];
     settled = each_more (IsSettledAs calls) h.steps (r, o) h.settled s;
@@ -132,18 +121,18 @@ module _ (q : Request) (calls : List StoreCall) (m : StoreCall) (now : ℤ) (mom
   ---- the rows
 
   asked_now : (a : Access) → q ≡ request_of a → calls ≡ [] → m.request ≡ q → CanAnswer q m.reply → IsRows m.reply → (rows : List Record) → records_read m.reply ≡ rows → rise rows ≡ true → HasRead q more [] rows
-  asked_now a is none e can told rows shown rises = record {
+  asked_now a is none e can acked rows observed rises = record {
     first = m;
     rest = [];
     calls_are = ap (λ ms. ms ++ m ∷ []) none;
     request = e;
     can = can;
-    told = told;
+    answered = acked;
     others = tt;
     steps = [];
     settled = tt;
     transactional = tt;
-    rows = shown;
+    rows = observed;
     images_are = refl;
     unrolled = subst (λ ms. AllByRecursion (IsUnrolled (ms ++ m ∷ [])) rows) (sym none) (read_unrolled m rows (plainly a (e ∙ is)));
     rises = rises;
@@ -176,7 +165,7 @@ module _ (q : Request) (calls : List StoreCall) (m : StoreCall) (now : ℤ) (mom
     calls_are = ap (λ ms. ms ++ m ∷ []) h.calls_are;
     request = h.request;
     can = h.can;
-    told = h.told;
+    answered = h.answered;
     others = each_more (λ (x : StoreCall). reads_rows x ≡ false) h.rest m h.others f;
     steps = h.steps;
     settled = settled_stay calls m h.steps h.settled;
@@ -220,7 +209,7 @@ module _ (q : Request) (calls : List StoreCall) (m : StoreCall) (now : ℤ) (mom
       calls_are = ap (λ ms. ms ++ m ∷ []) h.calls_are;
       request = h.request;
       can = h.can;
-      told = h.told;
+      answered = h.answered;
       others = each_more (λ (x : StoreCall). reads_rows x ≡ false) h.rest m h.others f;
       steps = h.steps ++ (rec, o) ∷ [];
       settled = each_more (IsSettledAs more) h.steps (rec, o) (settled_stay calls m h.steps h.settled) s;
@@ -232,7 +221,7 @@ module _ (q : Request) (calls : List StoreCall) (m : StoreCall) (now : ℤ) (mom
     }
 
     shown_now : (d : Decided) → is_of_row meta.id m.request ≡ true → decision_in_reply m.request m.reply ≡ Some d → HasObserved more meta.id d
-    shown_now d t e = record { call = m; among = Contains-push calls m; shown = shown_is meta.id m (Some d) t e }
+    shown_now d t e = record { call = m; among = Contains-push calls m; observed = shown_is meta.id m (Some d) t e }
 
     rolled_shows : (row : Record) → reads_rows m ≡ false → NoneRolled → is_of_row meta.id m.request ≡ true → decision_in_reply m.request m.reply ≡ result_ok (decision_in row) → ComesTo (roll_to meta (decision_in row))
     rolled_shows row f none t executed = by (decision_in row) refl
@@ -319,7 +308,7 @@ module _ (q : Request) (calls : List StoreCall) (m : StoreCall) (now : ℤ) (mom
             roll = m;
             open_still = held_of rec unresolved;
             writer = writer;
-            shown = shown_stays calls m meta.id p.0 p.1;
+            observed = shown_stays calls m meta.id p.0 p.1;
             image = ap (λ x. Some (forward_record rec x)) (sym p.3) ∙ sym (image_is rec p.0 decision.Committed p.2);
             rolled = find_last (rolls rec) calls m h.unrolled.0 roll.rolls_it;
             puts = roll.puts;
@@ -337,7 +326,7 @@ module _ (q : Request) (calls : List StoreCall) (m : StoreCall) (now : ℤ) (mom
             roll = m;
             open_still = held_of rec unresolved;
             writer = writer;
-            shown = shown_stays calls m meta.id p.0 p.1;
+            observed = shown_stays calls m meta.id p.0 p.1;
             image = sym (image_is rec p.0 decision.Aborted p.2);
             rolled = find_last (rolls rec) calls m h.unrolled.0 roll.rolls_it;
             puts = roll.puts;

@@ -6,16 +6,9 @@ use Rattle.std.specs.Option.{option_map_or}
 use Rattle.std.proofs.lemmas.List.{append-nil, append_assoc}
 use Rattle.std.proofs.lemmas.List.Elements.{filter-append}
 use Rattle.std.proofs.lemmas.List.Sums.{fold-append}
-use Rattle.sdb_types.specs.declared.key.Key.{Key}
-use Rattle.sdb_types.specs.declared.pair.Pair.{Pair}
-use Rattle.sdb_types.specs.declared.value.Value.{Value}
+use Rattle.law_answers.specs.Types.{Answer, Event, Image, Key, Pair, Statement, Table, Value}
 use Rattle.sdb_types.proofs.Basics.{clash, all_each as each_any}
-use Rattle.sdb_record.specs.declared.access.Image.{Image}
-use Rattle.sdb_schema.specs.declared.table.Table.{Table}
-use Rattle.sdb_model.specs.declared.answer.Answer.{Answer}
 use Rattle.sdb_model.specs.declared.answer.Answer.TheVariants as answer
-use Rattle.sdb_model.specs.declared.event.Event.{Event}
-use Rattle.sdb_model.specs.declared.statement.Statement.{Statement}
 use Rattle.sdb_model.specs.Calls.{StoreCall, calls_of}
 use Rattle.sdb_model.specs.ReadSet.{has_finished}
 use Rattle.sdb_model.specs.DirtyReads.{StartsWith, WasFound, row_left}
@@ -53,11 +46,11 @@ effective_by s b t is e = ap (λ (o : Option Answer). not (option_map_or changes
 module _ (catalog : List Table) (events : List Event) (c : ℕ) where
   -- what a transaction has it has before the next statement
   pub has_before : (body : List Executed) (s : Executed) (key : Key) (row : Option (List Pair)) → HasAfter catalog events c body key row → HasBefore catalog events c body s key row
-  has_before body s key row h = record { first = h.first; earlier = h.earlier; changing = h.changing; sts = h.sts; base = h.base; parts = h.parts; begins = starts_more h.first s h.changing h.begins; shown = h.shown; read = h.read; made = h.made }
+  has_before body s key row h = record { first = h.first; earlier = h.earlier; changing = h.changing; sts = h.sts; base = h.base; parts = h.parts; begins = starts_more h.first s h.changing h.begins; observed = h.observed; read = h.read; made = h.made }
 
   -- what the statement itself was shown
   pub has_shown : (body : List Executed) (s : Executed) (key : Key) (row : Option (List Pair)) → FoundFor catalog events c s key row → HasBefore catalog events c body s key row
-  has_shown body s key row f = record { first = s; earlier = body; changing = []; sts = []; base = row; parts = sym (append-nil body); begins = refl; shown = f; read = tt; made = refl }
+  has_shown body s key row f = record { first = s; earlier = body; changing = []; sts = []; base = row; parts = sym (append-nil body); begins = refl; observed = f; read = tt; made = refl }
 
   -- and what the statement then leaves
   pub has_next : (body : List Executed) (s : Executed) (key : Key) (row left : Option (List Pair)) (st : Statement) → is_effective s ≡ true → Reads s.text st → row_left catalog st key row ≡ left → HasBefore catalog events c body s key row → HasAfter catalog events c (body ++ s ∷ []) key left
@@ -69,7 +62,7 @@ module _ (catalog : List Table) (events : List Event) (c : ℕ) where
     base = h.base;
     parts = ap (λ xs. xs ++ s ∷ []) h.parts ∙ append_assoc h.earlier h.changing (s ∷ []);
     begins = h.begins;
-    shown = h.shown;
+    observed = h.observed;
     read = subst (λ xs. AreRead xs (h.sts ++ st ∷ [])) (sym (effective_more h.changing s e)) (read_more (filter is_effective h.changing) h.sts s st h.read reads);
     made = sym leaves ∙ ap (row_left catalog st key) h.made ∙ sym (fold-append (λ r x. row_left catalog x key r) h.base h.sts (st ∷ []));
   }
@@ -84,7 +77,7 @@ module _ (catalog : List Table) (events : List Event) (c : ℕ) where
     base = h.base;
     parts = ap (λ xs. xs ++ s ∷ []) h.parts ∙ append_assoc h.earlier h.changing (s ∷ []);
     begins = starts_more h.first s h.changing h.begins;
-    shown = h.shown;
+    observed = h.observed;
     read = subst (λ xs. AreRead xs h.sts) (sym (effective_same h.changing s e)) h.read;
     made = h.made;
   }
@@ -99,7 +92,7 @@ module _ (catalog : List Table) (events : List Event) (c : ℕ) where
     base = h.base;
     parts = ap (λ xs. xs ++ s ∷ []) h.parts ∙ append_assoc h.earlier h.changing (s ∷ []);
     begins = h.begins;
-    shown = h.shown;
+    observed = h.observed;
     read = subst (λ xs. AreRead xs h.sts) (sym (effective_same h.changing s e)) h.read;
     made = h.made;
   }
@@ -146,19 +139,19 @@ module _ (catalog : List Table) (events : List Event) (e : Event) (c : ℕ) wher
   stay_changing body earlier changing all parts = each_changing Stays body earlier changing parts (stay_all body all)
 
   found_still : (s : Executed) (key : Key) (row : Option (List Pair)) → Stays s → FoundFor catalog events c s key row → FoundFor catalog E c s key row
-  found_still s key row same f = record { told = ap (λ ms. has_finished ms s) same ∙ f.told; no_vacuum = f.no_vacuum; table = f.table; found = subst (λ (ms : List StoreCall). WasFound ms key row) (sym same) f.found }
+  found_still s key row same f = record { answered = ap (λ ms. has_finished ms s) same ∙ f.answered; no_vacuum = f.no_vacuum; table = f.table; found = subst (λ (ms : List StoreCall). WasFound ms key row) (sym same) f.found }
 
   before_still : (body : List Executed) (s : Executed) (key : Key) (row : Option (List Pair)) → AllByRecursion (IsAnswered catalog events c) body → Stays s → HasBefore catalog events c body s key row → HasBefore catalog E c body s key row
-  before_still body s key row all same h = record { first = h.first; earlier = h.earlier; changing = h.changing; sts = h.sts; base = h.base; parts = h.parts; begins = h.begins; shown = found_still h.first key h.base (first_so Stays h.changing s h.first h.begins (stay_changing body h.earlier h.changing all h.parts) same) h.shown; read = h.read; made = h.made }
+  before_still body s key row all same h = record { first = h.first; earlier = h.earlier; changing = h.changing; sts = h.sts; base = h.base; parts = h.parts; begins = h.begins; observed = found_still h.first key h.base (first_so Stays h.changing s h.first h.begins (stay_changing body h.earlier h.changing all h.parts) same) h.observed; read = h.read; made = h.made }
 
   after_still : (body : List Executed) (key : Key) (row : Option (List Pair)) → AllByRecursion (IsAnswered catalog events c) body → HasAfter catalog events c body key row → HasAfter catalog E c body key row
-  after_still body key row all h = record { first = h.first; earlier = h.earlier; changing = h.changing; sts = h.sts; base = h.base; parts = h.parts; begins = h.begins; shown = found_still h.first key h.base (first_front Stays h.changing h.first h.begins (stay_changing body h.earlier h.changing all h.parts)) h.shown; read = h.read; made = h.made }
+  after_still body key row all h = record { first = h.first; earlier = h.earlier; changing = h.changing; sts = h.sts; base = h.base; parts = h.parts; begins = h.begins; observed = found_still h.first key h.base (first_front Stays h.changing h.first h.begins (stay_changing body h.earlier h.changing all h.parts)) h.observed; read = h.read; made = h.made }
 
   pub sees_still : (body : List Executed) (v : Seen) → AllByRecursion (IsAnswered catalog events c) body → SeesOwn catalog events c body v → SeesOwn catalog E c body v
   sees_still body v all sees key as_read fits = after_still body key _ all (sees key as_read fits)
 
   rows_still : (body : List Executed) (s : Executed) (rows : List (List Value)) → AllByRecursion (IsAnswered catalog events c) body → Stays s → GivesRows catalog events c body s rows → GivesRows catalog E c body s rows
-  rows_still body s rows all same (t, select, images, reads, found, shown, own) = (t, select, images, reads, found, shown, each_any (λ (r : Image). HasBefore catalog events c body s r.key (Some r.columns)) (λ (r : Image). HasBefore catalog E c body s r.key (Some r.columns)) images (λ r h. before_still body s r.key (Some r.columns) all same h) own)
+  rows_still body s rows all same (t, select, images, reads, found, observed, own) = (t, select, images, reads, found, observed, each_any (λ (r : Image). HasBefore catalog events c body s r.key (Some r.columns)) (λ (r : Image). HasBefore catalog E c body s r.key (Some r.columns)) images (λ r h. before_still body s r.key (Some r.columns) all same h) own)
 
   pub tells_still : (body : List Executed) (s : Executed) (a : Answer) → AllByRecursion (IsAnswered catalog events c) body → Stays s → GivesOwn catalog events c body s a → GivesOwn catalog E c body s a
   tells_still body s (answer.Rows rows) all same h = rows_still body s rows all same h

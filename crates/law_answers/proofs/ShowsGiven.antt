@@ -1,23 +1,15 @@
 -- A statement that is answered from the rows that its transaction sees shows rows that it has, and leaves such.
 use Rattle.std.proofs.Common.{◌≡◌, ◌⊎◌, inl, inr, ℕ, Bool, true, false, not, List, [], ◌∷◌, ◌++◌, Option, Some, None, refl, sym, ap, subst, ◌∙◌}
 use Rattle.std.specs.Prelude.{if◌then◌else◌, ◌&&◌, is_some}
-use Rattle.sdb_types.specs.declared.key.Key.{Key}
-use Rattle.sdb_types.specs.declared.pair.Pair.{Pair}
+use Rattle.law_answers.specs.Types.{Access, Answer, Event, Image, Key, Keyed, Pair, PlanStep, Table}
 use Rattle.sdb_types.proofs.Basics.{all_each as each_any}
-use Rattle.sdb_record.specs.declared.access.Access.{Access}
-use Rattle.sdb_record.specs.declared.access.Image.{Image}
-use Rattle.sdb_record.specs.declared.write.Keyed.{Keyed}
-use Rattle.sdb_schema.specs.declared.table.Table.{Table}
 use Rattle.sdb_schema.specs.Catalog.{is_catalog}
-use Rattle.sdb_model.specs.declared.answer.Answer.{Answer}
 use Rattle.sdb_model.specs.declared.answer.Answer.TheVariants as answer
-use Rattle.sdb_model.specs.declared.event.Event.{Event}
 use Rattle.sdb_model.specs.Causes.{refused}
 use Rattle.sdb_model.specs.Access.{in_access}
 use Rattle.sdb_model.specs.Exec.{named_table, table_of}
 use Rattle.sdb_model.specs.Sql.{Reads}
 use Rattle.sdb_model.specs.Transactions.{Executed, changes_nothing, from_begin, rest_of}
-use Rattle.sdb_exec.specs.declared.plan.PlanStep.{PlanStep}
 use Rattle.sdb_exec.specs.declared.plan.PlanStep.TheVariants.{Finished}
 use Rattle.sdb_exec.specs.Plans.{Planned, answer_on, changes_on, first_unfit}
 use Rattle.sdb_model.specs.Reads.{access_of}
@@ -139,10 +131,10 @@ module _ (catalog : List Table) (events : List Event) (c : ℕ) (body : List Exe
       by (inr (none, inr h)) = subst (λ (u : TxnAt). SeesOwn catalog events c (body ++ s ∷ []) u.seen) (sym h.2) (sees_written h.0 none)
 
 -- A statement that is answered so shows rows that its transaction has, and the transaction goes on with such.
-pub next_given : (catalog : List Table) (events : List Event) (c n : ℕ) (told : List Executed) (s begin : Executed) (body : List Executed) (p : Planned) (a : Access) (v : TxnAt) → from_begin n told ≡ begin ∷ body → n ≡ begun_in told → is_catalog catalog ≡ true → Reads s.text p.statement → named_table catalog p.statement ≡ Some p.table → p.asked ≡ true → a ≡ access_of p.table p.statement
+pub next_given : (catalog : List Table) (events : List Event) (c n : ℕ) (acked : List Executed) (s begin : Executed) (body : List Executed) (p : Planned) (a : Access) (v : TxnAt) → from_begin n acked ≡ begin ∷ body → n ≡ begun_in acked → is_catalog catalog ≡ true → Reads s.text p.statement → named_table catalog p.statement ≡ Some p.table → p.asked ≡ true → a ≡ access_of p.table p.statement
     → s.answer ≡ Some (given_answer v (gives p a v)) → (given_left v (gives p a v)).doing ≡ doing.Idle → WereRead v.seen.read_set v.seen.writes → ((key : Key) → is_key_read v.seen.read_set key ≡ true → fits_if_any catalog key (row_seen v.seen.read_set v.seen.writes key) ≡ true → HasBefore catalog events c body s key (row_seen v.seen.read_set v.seen.writes key))
-    → (open_after told ≡ true → GivesOwn catalog events c (rest_of (from_begin (begun_in told) told)) s (given_answer v (gives p a v))) × IsViewOf catalog events c (rest_of (from_begin n (told ++ s ∷ []))) (given_left v (gives p a v))
-next_given catalog events c n told s begin body p a v since number is reads named asked access_is answered idles kept now = (
-  λ opened. subst (λ r. GivesOwn catalog events c r s (given_answer v (gives p a v))) (sym (ap (λ i. rest_of (from_begin i told)) (sym number) ∙ ap rest_of since)) (tells_given catalog events c body s p a is reads named asked access_is v answered now kept),
-  showing_idle catalog events c n told s begin body (given_left v (gives p a v)) since idles (sees_given catalog events c body s p a is reads named asked access_is v answered now),
+    → (open_after acked ≡ true → GivesOwn catalog events c (rest_of (from_begin (begun_in acked) acked)) s (given_answer v (gives p a v))) × IsViewOf catalog events c (rest_of (from_begin n (acked ++ s ∷ []))) (given_left v (gives p a v))
+next_given catalog events c n acked s begin body p a v since number is reads named asked access_is answered idles kept now = (
+  λ opened. subst (λ r. GivesOwn catalog events c r s (given_answer v (gives p a v))) (sym (ap (λ i. rest_of (from_begin i acked)) (sym number) ∙ ap rest_of since)) (tells_given catalog events c body s p a is reads named asked access_is v answered now kept),
+  showing_idle catalog events c n acked s begin body (given_left v (gives p a v)) since idles (sees_given catalog events c body s p a is reads named asked access_is v answered now),
 )

@@ -6,25 +6,17 @@ use Rattle.std.specs.Option.{option_map}
 use Rattle.std.specs.Ordering.{is_eq}
 use Rattle.std.proofs.lemmas.List.{append-nil}
 use Rattle.std.proofs.lemmas.List.Elements.{Contains-push}
-use Rattle.sdb_types.specs.declared.key.Key.{Key}
-use Rattle.sdb_types.specs.declared.pair.Pair.{Pair}
-use Rattle.sdb_types.specs.declared.record.Record.{Record}
-use Rattle.sdb_types.specs.declared.record.Reply.{Reply}
+use Rattle.law_answers.specs.Types.{Access, Event, Key, Pair, Record, Reply, Request, Table, Write}
 use Rattle.sdb_types.specs.declared.record.Reply.TheVariants as reply
-use Rattle.sdb_types.specs.declared.record.Request.{Request}
 use Rattle.sdb_types.specs.declared.record.Request.TheVariants as ask
 use Rattle.sdb_types.specs.Contents.{CanAnswer, record_among}
 use Rattle.sdb_types.proofs.Basics.{clash, none_some, some_is, or_else}
 use Rattle.sdb_types.proofs.KeyOrder.{key_total}
 use Rattle.sdb_types.specs.Order.{same_key}
 use Rattle.sdb_types.proofs.Keys.{same_key_exact}
-use Rattle.sdb_keyed.specs.Entries.{value_at}
-use Rattle.sdb_record.specs.declared.access.Access.{Access}
+use Rattle.sdb_snapshot.specs.Entries.{value_at}
 use Rattle.sdb_record.specs.declared.access.Access.TheVariants as access
-use Rattle.sdb_record.specs.declared.write.Write.{Write}
 use Rattle.sdb_record.specs.Among.{is_written, write_among}
-use Rattle.sdb_schema.specs.declared.table.Table.{Table}
-use Rattle.sdb_model.specs.declared.event.Event.{Event}
 use Rattle.sdb_model.specs.Access.{in_access}
 use Rattle.sdb_model.specs.Calls.{StoreCall, calls_of, records_read}
 use Rattle.sdb_model.specs.Explained.{IsTableKey, Observes}
@@ -32,7 +24,7 @@ use Rattle.sdb_model.specs.ReadSet.{has_read}
 use Rattle.sdb_model.specs.DirtyReads.{WasFound}
 use Rattle.sdb_model.specs.Sql.{reads_vacuum}
 use Rattle.sdb_model.specs.Transactions.{Executed}
-use Rattle.sdb_read.specs.Read.{request_of}
+use Rattle.sdb_txn.specs.Read.{request_of}
 use Rattle.sdb_snapshot.specs.Sets.{WereRead}
 use Rattle.sdb_snapshot.specs.Reads.{base_at, is_key_read}
 use Rattle.sdb_snapshot.specs.Rows.{row_found}
@@ -57,22 +49,22 @@ shows_it m q r key found e f h = subst (λ (x : Request). Observes x m.reply key
 
 -- a get found a record, or none
 got_by : (calls : List StoreCall) (k : Key) (images : List Record) (h : HasRead (ask.Get k) calls images []) → WasFound calls k (row_found (slice_get images 0))
-got_by calls k images h = by h.first.reply refl h.can h.told
+got_by calls k images h = by h.first.reply refl h.can h.answered
   where
     by : (r : Reply) → h.first.reply ≡ r → CanAnswer (ask.Get k) r → IsRows r → WasFound calls k (row_found (slice_get images 0))
-    by (reply.Found found) e can told = record {
+    by (reply.Found found) e can answered = record {
       call = h.first;
       found = found;
       among = first_in h.first h.rest calls h.calls_are;
       shows = shows_it h.first (ask.Get k) (reply.Found found) k found h.request e (refl, refl);
-      stands = ap row_found (ap (λ is. slice_get is 0) h.images_are ∙ sym (got_image calls h.steps found h.settled (ap records_read (sym e) ∙ h.rows ∙ append-nil (map (λ x. x.0) h.steps))));
+      agrees = ap row_found (ap (λ is. slice_get is 0) h.images_are ∙ sym (got_image calls h.steps found h.settled (ap records_read (sym e) ∙ h.rows ∙ append-nil (map (λ x. x.0) h.steps))));
       meant = found_meant calls (ask.Get k) images h found (λ r is. subst (λ (x : Reply). Contains (records_read x) r) (sym (e ∙ ap reply.Found is)) (Contains-push [] r));
     }
-    by (reply.Rows rows) e can told = absurd can
-    by reply.Applied e can told = absurd told
-    by (reply.NotMet found) e can told = absurd told
-    by reply.Fault e can told = absurd told
-    by reply.NoMemory e can told = absurd told
+    by (reply.Rows rows) e can answered = absurd can
+    by reply.Applied e can answered = absurd answered
+    by (reply.NotMet found) e can answered = absurd answered
+    by reply.Fault e can answered = absurd answered
+    by reply.NoMemory e can answered = absurd answered
 
 -- what a read found at a key that it noted
 found_by : (calls : List StoreCall) (a : Access) (images : List Record) (h : HasRead (request_of a) calls images []) → (q : Key) (o : Option Record) → found_new a images q ≡ Some o → WasFound calls q (row_found o)
@@ -92,7 +84,7 @@ found_by calls (access.Scan span) images h q o e = by (record_among images q) re
           found = record_among shows.0 q;
           among = first_in h.first h.rest calls h.calls_are;
           shows = shows_it h.first (ask.Scan span) (reply.Rows shows.0) q (record_among shows.0 q) h.request shows.1 (r.inside, refl);
-          stands = ap row_found (sym (shows.2 ∙ s));
+          agrees = ap row_found (sym (shows.2 ∙ s));
           meant = found_meant calls (ask.Scan span) images h (record_among shows.0 q) (λ x is. subst (λ (y : Reply). Contains (records_read y) x) (sym shows.1) (among_found shows.0 q x is));
         }
 
@@ -136,7 +128,7 @@ kept_now t a images kept q written = some (value_at t.seen.read_set q) (kept q (
     some (Some x) h e = ap is_some e
 
 module _ (catalog : List Table) (events : List Event) (c : ℕ) (body : List Executed) (s : Executed) (a : Access) (t : TxnAt) (images : List Record) (h : HasRead (request_of a) (calls_of events c s) images []) (kept : WereRead t.seen.read_set t.seen.writes) (sees : SeesOwn catalog events c body t.seen)
-    (no_vacuum : reads_vacuum s.text ≡ false) (tables : (q : Key) → in_access a q ≡ true → IsTableKey catalog q) (told : has_read events c s ≡ true) (key : Key) where
+    (no_vacuum : reads_vacuum s.text ≡ false) (tables : (q : Key) → in_access a q ≡ true → IsTableKey catalog q) (answered : has_read events c s ≡ true) (key : Key) where
   abbrev Has : Option (List Pair) → Type 0
   Has row = HasBefore catalog events c body s key row
 
@@ -152,5 +144,5 @@ module _ (catalog : List Table) (events : List Event) (c : ℕ) (body : List Exe
           subst Has (sym same) (has_before catalog events c body s key (row_seen t.seen.read_set t.seen.writes key) (sees key (ap is_some e) (ap (fits_if_any catalog key) (sym same) ∙ fits)))
       by None (Some o) e f =
           subst Has (sym (row_now t a images key ∙ ap (λ z. row_with (write_among t.seen.writes key) (at_note (or_else z (found_new a images key)))) e ∙ ap (λ z. row_with (write_among t.seen.writes key) (at_note z)) f ∙ ap (λ w. row_with w o) (unwritten t.seen key kept (ap is_some e))))
-          (has_shown catalog events c body s key (row_found o) (record { told = told; no_vacuum = no_vacuum; table = tables key (new_inside (calls_of events c s) a images h key o f); found = found_by (calls_of events c s) a images h key o f }))
+          (has_shown catalog events c body s key (row_found o) (record { answered = answered; no_vacuum = no_vacuum; table = tables key (new_inside (calls_of events c s) a images h key o f); found = found_by (calls_of events c s) a images h key o f }))
       by None None e f = clash (sym (sym (ap is_some (noted_now t a images key ∙ ap (λ z. or_else z (found_new a images key)) e ∙ f)) ∙ as_read))

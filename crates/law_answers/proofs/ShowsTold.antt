@@ -2,12 +2,9 @@
 use Rattle.std.proofs.Common.{◌≡◌, ◌⊎◌, inl, inr, ℕ, true, false, List, [], ◌∷◌, ◌++◌, Option, Some, None, refl, sym, ap, subst, ◌∙◌}
 use Rattle.std.specs.Prelude.{IfSome}
 use Rattle.std.specs.List.{AllByRecursion}
-use Rattle.sdb_schema.specs.declared.table.Table.{Table}
-use Rattle.sdb_model.specs.declared.answer.Answer.{Answer}
-use Rattle.sdb_model.specs.declared.event.Event.{Event}
+use Rattle.law_answers.specs.Types.{Answer, Doing, Event, Table}
 use Rattle.sdb_model.specs.Transactions.{Executed, changes_nothing, from_begin, rest_of}
 use Rattle.sdb_snapshot.specs.Seen.{Seen}
-use Rattle.sdb_txn.specs.declared.txn.Doing.{Doing}
 use Rattle.sdb_txn.specs.declared.txn.Doing.TheVariants as doing
 use Rattle.sdb_txn.specs.Txn.{TxnAt}
 use Rattle.sdb_client.specs.Client.{ClientAt}
@@ -23,43 +20,43 @@ use Rattle.law_answers.proofs.Shows.{effective_by, sees_same, sees_still, tells_
 
 ---- statements that were answered
 
-own_still : (catalog : List Table) (events : List Event) (e : Event) (c : ℕ) (told : List Executed) → AllByRecursion (IsAnswered catalog events c) told → AllGiveOwn catalog events c told → AllGiveOwn catalog (events ++ e ∷ []) c told
-own_still catalog events e c told all k n begin body s tail a since goes is =
-    let whole : AllByRecursion (IsAnswered catalog events c) (body ++ s ∷ tail) = since_all (IsAnswered catalog events c) n told begin (body ++ s ∷ tail) all since in
+own_still : (catalog : List Table) (events : List Event) (e : Event) (c : ℕ) (answered : List Executed) → AllByRecursion (IsAnswered catalog events c) answered → AllGiveOwn catalog events c answered → AllGiveOwn catalog (events ++ e ∷ []) c answered
+own_still catalog events e c answered all k n begin body s tail a since goes is =
+    let whole : AllByRecursion (IsAnswered catalog events c) (body ++ s ∷ tail) = since_all (IsAnswered catalog events c) n answered begin (body ++ s ∷ tail) all since in
     let here : IsAnswered catalog events c s = each_middle (IsAnswered catalog events c) body tail s whole in
     tells_still catalog events e c body s a (each_left (IsAnswered catalog events c) body (s ∷ tail) whole) (calls_stay c events e s here.given here.is here.answered) (k n begin body s tail a since goes is)
 
 -- what the statements since the newest BEGIN are followed by
 abbrev pub GivesLast : List Table → List Event → ℕ → List Executed → Executed → Type 0
-GivesLast catalog events c told z = (a : Answer) → z.answer ≡ Some a → open_after told ≡ true → GivesOwn catalog events c (rest_of (from_begin (begun_in told) told)) z a
+GivesLast catalog events c answered z = (a : Answer) → z.answer ≡ Some a → open_after answered ≡ true → GivesOwn catalog events c (rest_of (from_begin (begun_in answered) answered)) z a
 
 -- with one statement more, which is of the open transaction or of none
-pub own_more : (catalog : List Table) (events : List Event) (c : ℕ) (told : List Executed) (z : Executed) → ArePaired false told → AllGiveOwn catalog events c told → GivesLast catalog events c told z → AllGiveOwn catalog events c (told ++ z ∷ [])
-own_more catalog events c told z pairs k last n begin body s tail a since goes is = by (from_begin n told) refl
+pub own_more : (catalog : List Table) (events : List Event) (c : ℕ) (answered : List Executed) (z : Executed) → ArePaired false answered → AllGiveOwn catalog events c answered → GivesLast catalog events c answered z → AllGiveOwn catalog events c (answered ++ z ∷ [])
+own_more catalog events c answered z pairs k last n begin body s tail a since goes is = by (from_begin n answered) refl
   where
     none : (ys : List Executed) → ys ++ s ∷ tail ≡ [] → ⊥
     none [] h = absurd (cc)
     none (w ∷ ys) h = absurd (cc)
 
-    here : (b : Executed) (r : List Executed) → from_begin n told ≡ b ∷ r → b ≡ begin → ((r ≡ body) × (z ≡ s)) ⊎ ((front : List Executed) × (r ≡ body ++ s ∷ front)) → GivesOwn catalog events c body s a
+    here : (b : Executed) (r : List Executed) → from_begin n answered ≡ b ∷ r → b ≡ begin → ((r ≡ body) × (z ≡ s)) ⊎ ((front : List Executed) × (r ≡ body ++ s ∷ front)) → GivesOwn catalog events c body s a
     here b r e f (inr h) = k n b body s h.0 a (e ∙ ap (λ x. b ∷ x) h.1) goes is
     here b r e f (inl h) =
-        let from : from_begin n told ≡ b ∷ body = e ∙ ap (λ x. b ∷ x) h.0 in
-        let only = open_only n told false b body pairs from goes in
-        let rest : rest_of (from_begin (begun_in told) told) ≡ body = ap (λ i. rest_of (from_begin i told)) (sym only.0) ∙ ap rest_of from in
+        let from : from_begin n answered ≡ b ∷ body = e ∙ ap (λ x. b ∷ x) h.0 in
+        let only = open_only n answered false b body pairs from goes in
+        let rest : rest_of (from_begin (begun_in answered) answered) ≡ body = ap (λ i. rest_of (from_begin i answered)) (sym only.0) ∙ ap rest_of from in
         subst (λ (y : Executed). GivesOwn catalog events c body y a) h.1 (subst (λ (r : List Executed). GivesOwn catalog events c r z a) rest (last a (ap (λ (y : Executed). y.answer) h.1 ∙ is) only.1))
 
-    by : (r : List Executed) → from_begin n told ≡ r → GivesOwn catalog events c body s a
-    by [] e = absurd (none body (sym (ap rest_of since) ∙ since_none n told z e))
+    by : (r : List Executed) → from_begin n answered ≡ r → GivesOwn catalog events c body s a
+    by [] e = absurd (none body (sym (ap rest_of since) ∙ since_none n answered z e))
     by (b ∷ r) e =
-        let whole : b ∷ (r ++ z ∷ []) ≡ begin ∷ (body ++ s ∷ tail) = sym (since_more n told z b r e) ∙ since in
+        let whole : b ∷ (r ++ z ∷ []) ≡ begin ∷ (body ++ s ∷ tail) = sym (since_more n answered z b r e) ∙ since in
         let first : b ≡ begin = cc in
         let rest : r ++ z ∷ [] ≡ body ++ s ∷ tail = cc in
         here b r e first (last_or r z body s tail rest)
 
 -- one that has no answer shows nothing
-pub own_waits : (catalog : List Table) (events : List Event) (c : ℕ) (told : List Executed) (z : Executed) → z.answer ≡ None → ArePaired false told → AllGiveOwn catalog events c told → AllGiveOwn catalog events c (told ++ z ∷ [])
-own_waits catalog events c told z none pairs k = own_more catalog events c told z pairs k (λ a is opened. absurd (let e : ◌≡◌ {A = Option Answer} None (Some a) = sym none ∙ is in cc))
+pub own_waits : (catalog : List Table) (events : List Event) (c : ℕ) (answered : List Executed) (z : Executed) → z.answer ≡ None → ArePaired false answered → AllGiveOwn catalog events c answered → AllGiveOwn catalog events c (answered ++ z ∷ [])
+own_waits catalog events c answered z none pairs k = own_more catalog events c answered z pairs k (λ a is opened. absurd (let e : ◌≡◌ {A = Option Answer} None (Some a) = sym none ∙ is in cc))
 
 ---- an open transaction
 
@@ -69,48 +66,48 @@ in_still catalog events e c body v (doing.Read a x) all h = sees_still catalog e
 in_still catalog events e c body v (doing.Commit k) all h = tt
 in_still catalog events e c body v doing.Over all h = sees_still catalog events e c body v all h
 
-pub showing_stays : (catalog : List Table) (events : List Event) (e : Event) (c n : ℕ) (told : List Executed) (o : Option TxnAt) → AllByRecursion (IsAnswered catalog events c) told → IfSome o (IsViewOf catalog events c (rest_of (from_begin n told))) → IfSome o (IsViewOf catalog (events ++ e ∷ []) c (rest_of (from_begin n told)))
-showing_stays catalog events e c n told None all h = tt
-showing_stays catalog events e c n told (Some t) all h = in_still catalog events e c (rest_of (from_begin n told)) t.seen t.doing (rest_all (IsAnswered catalog events c) n told all) h
+pub showing_stays : (catalog : List Table) (events : List Event) (e : Event) (c n : ℕ) (answered : List Executed) (o : Option TxnAt) → AllByRecursion (IsAnswered catalog events c) answered → IfSome o (IsViewOf catalog events c (rest_of (from_begin n answered))) → IfSome o (IsViewOf catalog (events ++ e ∷ []) c (rest_of (from_begin n answered)))
+showing_stays catalog events e c n answered None all h = tt
+showing_stays catalog events e c n answered (Some t) all h = in_still catalog events e c (rest_of (from_begin n answered)) t.seen t.doing (rest_all (IsAnswered catalog events c) n answered all) h
 
 -- of a transaction that does nothing
-pub showing_idle : (catalog : List Table) (events : List Event) (c n : ℕ) (told : List Executed) (s begin : Executed) (body : List Executed) (t : TxnAt) → from_begin n told ≡ begin ∷ body → t.doing ≡ doing.Idle → SeesOwn catalog events c (body ++ s ∷ []) t.seen → IsViewOf catalog events c (rest_of (from_begin n (told ++ s ∷ []))) t
-showing_idle catalog events c n told s begin body t since idle h =
-    subst (λ r. SeesOwnIn catalog events c (rest_of r) t.seen t.doing) (sym (since_more n told s begin body since)) (subst (SeesOwnIn catalog events c (body ++ s ∷ []) t.seen) (sym idle) h)
+pub showing_idle : (catalog : List Table) (events : List Event) (c n : ℕ) (answered : List Executed) (s begin : Executed) (body : List Executed) (t : TxnAt) → from_begin n answered ≡ begin ∷ body → t.doing ≡ doing.Idle → SeesOwn catalog events c (body ++ s ∷ []) t.seen → IsViewOf catalog events c (rest_of (from_begin n (answered ++ s ∷ []))) t
+showing_idle catalog events c n answered s begin body t since idle h =
+    subst (λ r. SeesOwnIn catalog events c (rest_of r) t.seen t.doing) (sym (since_more n answered s begin body since)) (subst (SeesOwnIn catalog events c (body ++ s ∷ []) t.seen) (sym idle) h)
 
 ---- as events come
 
 -- what is to be so of a statement that is answered, and of the client that this leaves
 abbrev pub ShowsNext : List Table → List Event → ℕ → List Executed → Executed → Answer → ClientAt → Type 0
-ShowsNext catalog events c told z b d = (open_after told ≡ true → GivesOwn catalog events c (rest_of (from_begin (begun_in told) told)) z b) × IfSome d.txn (IsViewOf catalog events c (rest_of (from_begin d.begun (told ++ z ∷ []))))
+ShowsNext catalog events c answered z b d = (open_after answered ≡ true → GivesOwn catalog events c (rest_of (from_begin (begun_in answered) answered)) z b) × IfSome d.txn (IsViewOf catalog events c (rest_of (from_begin d.begun (answered ++ z ∷ []))))
 
-module _ (catalog : List Table) (c : ℕ) (events : List Event) (e : Event) (told : List Executed) (all : AllByRecursion (IsAnswered catalog events c) told) where
+module _ (catalog : List Table) (c : ℕ) (events : List Event) (e : Event) (answered : List Executed) (all : AllByRecursion (IsAnswered catalog events c) answered) where
   abbrev E : List Event
   E = events ++ e ∷ []
 
-  module _ (h : ClientAt) (k : ViewBy catalog events c told h) where
+  module _ (h : ClientAt) (k : ViewBy catalog events c answered h) where
     -- where the client goes on with what it saw
-    pub shows_further : (d : ClientAt) → (ViewBy catalog events c told h → IfSome d.txn (IsViewOf catalog E c (rest_of (from_begin d.begun told)))) → ViewBy catalog E c told d
-    shows_further d sees = record { told_own = own_still catalog events e c told all k.told_own; sees_own = sees k }
+    pub shows_further : (d : ClientAt) → (ViewBy catalog events c answered h → IfSome d.txn (IsViewOf catalog E c (rest_of (from_begin d.begun answered)))) → ViewBy catalog E c answered d
+    shows_further d sees = record { told_own = own_still catalog events e c answered all k.told_own; sees_own = sees k }
 
-    pub shows_stay : ViewBy catalog E c told h
-    shows_stay = shows_further h (λ x. showing_stays catalog events e c h.begun told h.txn all x.sees_own)
+    pub shows_stay : ViewBy catalog E c answered h
+    shows_stay = shows_further h (λ x. showing_stays catalog events e c h.begun answered h.txn all x.sees_own)
 
     -- where a statement is answered
-    pub shows_end : ArePaired false told → (z : Executed) (b : Answer) (d : ClientAt) → z.answer ≡ Some b → ShowsNext catalog E c told z b d → ViewBy catalog E c (told ++ z ∷ []) d
+    pub shows_end : ArePaired false answered → (z : Executed) (b : Answer) (d : ClientAt) → z.answer ≡ Some b → ShowsNext catalog E c answered z b d → ViewBy catalog E c (answered ++ z ∷ []) d
     shows_end pairs z b d is next = record {
-      told_own = own_more catalog E c told z pairs (own_still catalog events e c told all k.told_own) (λ a has opened. subst (GivesOwn catalog E c (rest_of (from_begin (begun_in told) told)) z) (some_is b a (sym is ∙ has)) (next.0 opened));
+      told_own = own_more catalog E c answered z pairs (own_still catalog events e c answered all k.told_own) (λ a has opened. subst (GivesOwn catalog E c (rest_of (from_begin (begun_in answered) answered)) z) (some_is b a (sym is ∙ has)) (next.0 opened));
       sees_own = next.1;
     }
 
-  module _ (n : ℕ) (begin : Executed) (body : List Executed) (since : from_begin n told ≡ begin ∷ body) (v : Seen) (sees : SeesOwn catalog events c body v) (z : Executed) where
+  module _ (n : ℕ) (begin : Executed) (body : List Executed) (since : from_begin n answered ≡ begin ∷ body) (v : Seen) (sees : SeesOwn catalog events c body v) (z : Executed) where
     -- what the open transaction saw before
     pub sees_then : SeesOwn catalog E c body v
-    sees_then = sees_still catalog events e c body v (since_all (IsAnswered catalog events c) n told begin body all since) sees
+    sees_then = sees_still catalog events e c body v (since_all (IsAnswered catalog events c) n answered begin body all since) sees
 
     -- a statement that changes nothing leaves that
-    pub next_same : (b : Answer) (t : TxnAt) → z.answer ≡ Some b → changes_nothing b ≡ true → t.doing ≡ doing.Idle → t.seen ≡ v → (open_after told ≡ true → GivesOwn catalog E c (rest_of (from_begin (begun_in told) told)) z b) × IsViewOf catalog E c (rest_of (from_begin n (told ++ z ∷ []))) t
+    pub next_same : (b : Answer) (t : TxnAt) → z.answer ≡ Some b → changes_nothing b ≡ true → t.doing ≡ doing.Idle → t.seen ≡ v → (open_after answered ≡ true → GivesOwn catalog E c (rest_of (from_begin (begun_in answered) answered)) z b) × IsViewOf catalog E c (rest_of (from_begin n (answered ++ z ∷ []))) t
     next_same b t is nothing idle same = (
-      λ opened. tells_none catalog E c (rest_of (from_begin (begun_in told) told)) z b nothing,
-      showing_idle catalog E c n told z begin body t since idle (subst (SeesOwn catalog E c (body ++ z ∷ [])) (sym same) (sees_same catalog E c body z v (effective_by z b true is nothing) sees_then)),
+      λ opened. tells_none catalog E c (rest_of (from_begin (begun_in answered) answered)) z b nothing,
+      showing_idle catalog E c n answered z begin body t since idle (subst (SeesOwn catalog E c (body ++ z ∷ [])) (sym same) (sees_same catalog E c body z v (effective_by z b true is nothing) sees_then)),
     )

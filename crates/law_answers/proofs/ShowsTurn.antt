@@ -2,11 +2,8 @@
 use Rattle.std.proofs.Common.{◌≡◌, ℕ, true, false, List, [], ◌∷◌, ◌++◌, Some, sym, ap, subst, ◌∙◌}
 use Rattle.std.specs.Prelude.{is_some}
 use Rattle.std.specs.List.{AllByRecursion}
-use Rattle.sdb_types.specs.declared.record.Record.{Record}
-use Rattle.sdb_record.specs.declared.access.Access.{Access}
-use Rattle.sdb_schema.specs.declared.table.Table.{Table}
+use Rattle.law_answers.specs.Types.{Access, Event, Record, Table}
 use Rattle.sdb_schema.specs.Catalog.{is_catalog}
-use Rattle.sdb_model.specs.declared.event.Event.{Event}
 use Rattle.sdb_model.specs.Calls.{StoreCall, calls_of}
 use Rattle.sdb_model.specs.Exec.{named_table, table_of}
 use Rattle.sdb_model.specs.ReadSet.{has_read}
@@ -14,7 +11,7 @@ use Rattle.sdb_model.specs.Sql.{Reads, reads_vacuum}
 use Rattle.sdb_model.specs.Transactions.{Executed, from_begin, rest_of}
 use Rattle.sdb_exec.specs.Plans.{Planned}
 use Rattle.sdb_model.specs.Reads.{access_of}
-use Rattle.sdb_read.specs.Read.{request_of}
+use Rattle.sdb_txn.specs.Read.{request_of}
 use Rattle.sdb_snapshot.specs.Sets.{WereRead}
 use Rattle.law_clients.proofs.InTables.{access_table, own_table}
 use Rattle.law_clients.proofs.RowsFit.{found_itself}
@@ -30,7 +27,7 @@ use Rattle.law_answers.proofs.Takings.{left_idle}
 use Rattle.law_answers.proofs.Unfit.{table_at}
 use Rattle.sdb_client.proofs.Calls.{noting_idle}
 
-module _ (catalog : List Table) (c : ℕ) (events : List Event) (e : Event) (told : List Executed) (all : AllByRecursion (IsAnswered catalog events c) told) (n : ℕ) (begin : Executed) (body : List Executed) (since : from_begin n told ≡ begin ∷ body) (number : n ≡ begun_in told)
+module _ (catalog : List Table) (c : ℕ) (events : List Event) (e : Event) (acked : List Executed) (all : AllByRecursion (IsAnswered catalog events c) acked) (n : ℕ) (begin : Executed) (body : List Executed) (since : from_begin n acked ≡ begin ∷ body) (number : n ≡ begun_in acked)
     (t : TxnAt) (sees : SeesOwn catalog events c body t.seen) (kept : WereRead t.seen.read_set t.seen.writes) (z : Executed) (p : Planned) (a : Access) (calls : List StoreCall) (images : List Record) (are : calls_of (events ++ e ∷ []) c z ≡ calls) (h : HasRead (request_of a) calls images []) where
   abbrev E : List Event
   E = events ++ e ∷ []
@@ -39,9 +36,9 @@ module _ (catalog : List Table) (c : ℕ) (events : List Event) (e : Event) (tol
   v = with_rows_read t a images
 
   pub read_next : is_catalog catalog ≡ true → Reads z.text p.statement → reads_vacuum z.text ≡ false → named_table catalog p.statement ≡ Some p.table → p.asked ≡ true → a ≡ access_of p.table p.statement → z.answer ≡ Some (given_answer v (gives p a v)) → has_read E c z ≡ true
-      → (open_after told ≡ true → GivesOwn catalog E c (rest_of (from_begin (begun_in told) told)) z (given_answer v (gives p a v))) × IsViewOf catalog E c (rest_of (from_begin n (told ++ z ∷ []))) (given_left v (gives p a v))
+      → (open_after acked ≡ true → GivesOwn catalog E c (rest_of (from_begin (begun_in acked) acked)) z (given_answer v (gives p a v))) × IsViewOf catalog E c (rest_of (from_begin n (acked ++ z ∷ []))) (given_left v (gives p a v))
   read_next is reads no_vacuum named asked access_is answered finished =
-      let before : SeesOwn catalog E c body t.seen = sees_then catalog c events e told all n begin body since t.seen sees z in
-      next_given catalog E c n told z begin body p a v since number is reads named asked access_is answered (left_idle v (gives p a v) (noting_idle t a images)) (kept_now t a images kept)
+      let before : SeesOwn catalog E c body t.seen = sees_then catalog c events e acked all n begin body since t.seen sees z in
+      next_given catalog E c n acked z begin body p a v since number is reads named asked access_is answered (left_idle v (gives p a v) (noting_idle t a images)) (kept_now t a images kept)
       (now_has catalog E c body z a t images (subst (λ cs. HasRead (request_of a) cs images []) (sym are) h) kept before no_vacuum
       (λ q inside. ap is_some (table_at catalog p a (found_itself catalog (table_of p.statement) p.table named) (ap access_table access_is ∙ own_table p.table p.statement) q inside)) finished)

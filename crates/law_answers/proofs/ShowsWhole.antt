@@ -4,15 +4,9 @@ use Rattle.std.specs.Prelude.{if◌then◌else◌, is_some, IfSome, Contains}
 use Rattle.std.specs.List.{AllByRecursion}
 use Rattle.std.proofs.lemmas.List.{append-nil}
 use Rattle.std.proofs.lemmas.List.Elements.{All-contains_itself, recursion_from_All}
-use Rattle.sdb_types.specs.declared.txid.TxId.{TxId}
-use Rattle.sdb_types.specs.declared.key.Key.{Key}
+use Rattle.law_answers.specs.Types.{Answer, Event, Image, Key, Pair, Table, TxId}
 use Rattle.sdb_types.proofs.Basics.{all_each as each_any, one_of}
-use Rattle.sdb_types.specs.declared.pair.Pair.{Pair}
-use Rattle.sdb_record.specs.declared.access.Image.{Image}
-use Rattle.sdb_schema.specs.declared.table.Table.{Table}
-use Rattle.sdb_model.specs.declared.answer.Answer.{Answer}
 use Rattle.sdb_model.specs.declared.answer.Answer.TheVariants as answer
-use Rattle.sdb_model.specs.declared.event.Event.{Event}
 use Rattle.sdb_model.specs.DirtyReads.{AnswersHaveRows, HasRow, AnswersAreOf}
 use Rattle.sdb_model.specs.ReadSet.{has_read}
 use Rattle.sdb_model.specs.Transactions.{Executed, client_of, ends, from_begin, ordinal_of, rest_of, statements_by, statements_of, through_end}
@@ -71,20 +65,20 @@ module _ (catalog : List Table) (events : List Event) (c : ℕ) (id : TxId) (cli
     base = h.base;
     parts = statements ∙ ap (λ xs. xs ++ s ∷ post) h.parts;
     begins = h.begins;
-    finished = subst (λ d. has_read events d h.first ≡ true) (sym client) h.shown.told;
-    shown = (first_so (Contains (statements_by c events)) h.changing s h.first h.begins (each_changing (Contains (statements_by c events)) body h.earlier h.changing h.parts among) last, h.shown);
+    finished = subst (λ d. has_read events d h.first ≡ true) (sym client) h.observed.answered;
+    observed = (first_so (Contains (statements_by c events)) h.changing s h.first h.begins (each_changing (Contains (statements_by c events)) body h.earlier h.changing h.parts among) last, h.observed);
     read = h.read;
     made = h.made;
   }
 
   shows_own : (a : Answer) → s.answer ≡ Some a → GivesOwn catalog events c body s a → AnswersAreOf catalog (WasRead catalog events c) events id s a
-  shows_own (answer.Rows rows) is (t, select, images, reads, found, shown, own) = (
+  shows_own (answer.Rows rows) is (t, select, images, reads, found, observed, own) = (
     t,
     select,
     images,
     reads,
     found,
-    shown,
+    observed,
     each_any (λ (r : Image). HasBefore catalog events c body s r.key (Some r.columns)) (λ (r : Image). HasRow catalog (WasRead catalog events c) events id s r.key (Some r.columns)) images (λ r h. row_own r.key (Some r.columns) h) own,
   )
   shows_own (answer.Duplicate key) is h = (h.0, row_own key (Some h.0) h.1)
@@ -99,9 +93,9 @@ module _ (catalog : List Table) (events : List Event) (now : ℤ) (states : ℕ 
   all_own : AllGiveOwn catalog events c (statements_by c events)
   all_own = subst (AllGiveOwn catalog events c) (sym k.same) (by k.waiting k.waits)
     where
-      by : (o : Option Executed) → IfSome o (IsWaiting catalog events c (is_some (states c).client.vacuum)) → AllGiveOwn catalog events c (k.told ++ waiting_of o)
-      by None w = subst (AllGiveOwn catalog events c) (sym (append-nil k.told)) k.shows.told_own
-      by (Some w) waits = own_waits catalog events c k.told w waits.unanswered k.counted.paired k.shows.told_own
+      by : (o : Option Executed) → IfSome o (IsWaiting catalog events c (is_some (states c).client.vacuum)) → AllGiveOwn catalog events c (k.answered ++ waiting_of o)
+      by None w = subst (AllGiveOwn catalog events c) (sym (append-nil k.answered)) k.shows.told_own
+      by (Some w) waits = own_waits catalog events c k.answered w waits.unanswered k.counted.paired k.shows.told_own
 
   all_said : AllByRecursion (Contains (statements_by c events)) (statements_by c events)
   all_said = recursion_from_All (Contains (statements_by c events)) (statements_by c events) (All-contains_itself (statements_by c events))
@@ -131,4 +125,4 @@ rows_shown catalog events now states ex c id s a is has answered = rows_own cata
 
 -- So each answer of a run shows own rows.
 pub answers_own : (catalog : List Table) (events : List Event) → RowsAreOwn catalog events → AnswersHaveRows catalog (WasRead catalog events) events
-answers_own catalog events shown id s a has is = shown (client_of id) id s a refl has is
+answers_own catalog events observed id s a has is = observed (client_of id) id s a refl has is

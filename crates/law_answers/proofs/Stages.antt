@@ -5,22 +5,13 @@ use Rattle.std.specs.List.{AllByRecursion}
 use Rattle.std.specs.Option.{option_and_then, option_map}
 use Rattle.std.specs.Result.{result_ok}
 use Rattle.std.proofs.lemmas.List.Elements.{Contains-append_left, Contains-push}
-use Rattle.sdb_types.specs.declared.txid.TxId.{TxId}
-use Rattle.sdb_types.specs.declared.key.Key.{Key}
+use Rattle.law_answers.specs.Types.{Check, DecideStep, Decided, Decision, Key, Outcome, Read, Record, Reply, Request, Scan, TxId, Write}
 use Rattle.sdb_types.specs.declared.record.Condition.TheVariants as condition
-use Rattle.sdb_types.specs.declared.record.Record.{Record}
-use Rattle.sdb_types.specs.declared.record.Reply.{Reply}
 use Rattle.sdb_types.specs.declared.record.Reply.TheVariants as reply
-use Rattle.sdb_types.specs.declared.record.Request.{Request}
 use Rattle.sdb_types.specs.declared.record.Request.TheVariants as ask
 use Rattle.sdb_types.specs.Contents.{CanAnswer}
 use Rattle.sdb_types.proofs.Basics.{clash, none_some, some_is, all_each as each_any, append_all as each_append}
-use Rattle.sdb_record.specs.declared.access.Read.{Read}
-use Rattle.sdb_record.specs.declared.access.Scan.{Scan}
-use Rattle.sdb_record.specs.declared.coordinator.Decided.{Decided}
-use Rattle.sdb_record.specs.declared.coordinator.Decision.{Decision}
 use Rattle.sdb_record.specs.declared.coordinator.Decision.TheVariants as decision
-use Rattle.sdb_record.specs.declared.write.Write.{Write}
 use Rattle.sdb_record.specs.Coordinator.{coordinator_key_of, coordinator_row_of, decision_in}
 use Rattle.sdb_record.specs.Meta.{is_moment}
 use Rattle.sdb_record.specs.Rolls.{IsBaseOf, IsWrite, undo}
@@ -29,11 +20,8 @@ use Rattle.sdb_record.proofs.TakenLaws.{prepared-key}
 use Rattle.sdb_record.specs.Among.{is_written}
 use Rattle.sdb_model.specs.Calls.{StoreCall, decision_learned, decision_in_reply, is_of_row, key_asked, put_by, records_observed, record_at_key}
 use Rattle.sdb_model.specs.Causes.{HasReply, IsDecided, PutsRow}
-use Rattle.sdb_phases.specs.declared.check.Check.{Check}
 use Rattle.sdb_phases.specs.declared.step.DecidePhase.TheVariants as phase
-use Rattle.sdb_phases.specs.declared.step.DecideStep.{DecideStep}
 use Rattle.sdb_phases.specs.declared.step.DecideStep.TheVariants as decide
-use Rattle.sdb_phases.specs.declared.step.Outcome.{Outcome}
 use Rattle.sdb_phases.specs.declared.step.Outcome.TheVariants as outcome
 use Rattle.sdb_phases.specs.Checks.{check_of_read, check_of_scan, checks, difference_in}
 use Rattle.sdb_phases.specs.Commit.{Stage, Preparing, Checking, Deciding, Forward, Stopping, Back, Over, after_abort, after_check, after_prepare, back, checking, decided, forward, pending, preparing, out_of_memory, out_of_memory_answer, step}
@@ -178,14 +166,14 @@ module _ (p : Work) (is : IsOfData p) where
     -- a row was found or not met, of the transaction's key, and is followed
     followed_is : (aborted : DecideStep) (row : Record) → is_of_row p.id m.request ≡ true → row.key ≡ coordinator_key_of p.id → records_observed m.reply ≡ row ∷ [] → decision_in_reply m.request m.reply ≡ result_ok (decision_in row) → decision_learned calls p.id ≡ None
         → ((d : Decided) → decision_in row ≡ Ok d → d.decision ≡ decision.Aborted → StageByCalls p more (decided p (phase.Ended, aborted))) → StageByCalls p more (decided p (phase.Ended, step_of_row p.id aborted (decision_in row)))
-    followed_is aborted row t same shown executed none given = by (decision_in row) refl
+    followed_is aborted row t same observed executed none given = by (decision_in row) refl
       where
         by_decision : (d : Decided) (w : Decision) → decision_in row ≡ Ok d → d.decision ≡ w → StageByCalls p more (decided p (phase.Ended, elim w [ decision.Committed ↦ decide.Committed | decision.Aborted ↦ aborted ]))
         by_decision d decision.Committed e w = forward_is 0 (subst (IsDecided decision.Committed) (sym (learned_now p.id calls m (Some d) none (shown_is p.id m (Some d) t (executed ∙ ap result_ok e)))) w)
         by_decision d decision.Aborted e w = given d e w
 
         by : (v : Result Decided (List ℕ)) → decision_in row ≡ v → StageByCalls p more (decided p (phase.Ended, step_of_row p.id aborted v))
-        by (Err name) e = (refl, shows_bad_row p.id calls m row name shown same e)
+        by (Err name) e = (refl, shows_bad_row p.id calls m row name observed same e)
         by (Ok d) e = by_decision d d.decision e refl
 
     -- it is given up where none before has put ABORTED

@@ -5,39 +5,27 @@ use Rattle.std.specs.List.{AllByRecursion, count_by}
 use Rattle.std.specs.Option.{option_map}
 use Rattle.std.proofs.lemmas.List.Elements.{Contains-append_left}
 use Rattle.std.proofs.lemmas.List.Sums.{fold-append}
-use Rattle.sdb_types.specs.declared.txid.TxId.{TxId}
-use Rattle.sdb_types.specs.declared.key.Key.{Key}
-use Rattle.sdb_types.specs.declared.record.Record.{Record}
-use Rattle.sdb_types.specs.declared.record.Reply.{Reply}
+use Rattle.law_answers.specs.Types.{Event, Key, Meta, Record, RecoverPhase, RecoverStep, Reply, Request, Span, State, Table, TxId, VacuumStep}
 use Rattle.sdb_types.specs.declared.record.Reply.TheVariants as reply
-use Rattle.sdb_types.specs.declared.record.Request.{Request}
 use Rattle.sdb_types.specs.declared.record.Request.TheVariants as ask
-use Rattle.sdb_types.specs.declared.record.Span.{Span}
 use Rattle.sdb_types.specs.declared.record.Condition.TheVariants as condition
-use Rattle.sdb_types.specs.declared.record.State.{State}
 use Rattle.sdb_types.specs.declared.record.State.TheVariants as state
 use Rattle.sdb_types.specs.Contents.{CanAnswer}
 use Rattle.sdb_types.proofs.Basics.{all_each as each_any, clash, none_some, some_is}
 use Rattle.sdb_record.specs.declared.access.Access.TheVariants as access
-use Rattle.sdb_record.specs.declared.meta.Meta.{Meta}
 use Rattle.sdb_record.specs.Coordinator.{decision_in, is_coordinator_table}
 use Rattle.sdb_record.specs.Meta.{id_in, is_committed, is_transactional}
 use Rattle.sdb_record.specs.Parts.{before_record}
 use Rattle.sdb_record.specs.Rolls.{is_tombstone, undo}
-use Rattle.sdb_schema.specs.declared.table.Table.{Table}
-use Rattle.sdb_model.specs.declared.event.Event.{Event}
 use Rattle.sdb_model.specs.Exec.{find_table}
 use Rattle.sdb_model.specs.Tables.{is_data}
 use Rattle.law_clients.specs.About.{IsIn, IsVacuumStageIn}
 use Rattle.sdb_model.specs.Calls.{StoreCall, clock_at, is_removal}
 use Rattle.sdb_model.specs.Causes.{HasReply, removes}
-use Rattle.sdb_phases.specs.declared.step.RecoverPhase.{RecoverPhase}
 use Rattle.sdb_phases.specs.declared.step.RecoverPhase.TheVariants as phase
-use Rattle.sdb_phases.specs.declared.step.RecoverStep.{RecoverStep}
 use Rattle.sdb_phases.specs.declared.step.RecoverStep.TheVariants as steps
 use Rattle.sdb_phases.specs.Recover.{recover_next, recover_request_at, is_as_found}
-use Rattle.sdb_read.specs.Read.{Bad, Firm, Kind, Open, kind_of}
-use Rattle.sdb_vacuum.specs.declared.work.VacuumStep.{VacuumStep}
+use Rattle.sdb_txn.specs.Read.{Bad, Firm, Kind, Open, kind_of}
 use Rattle.sdb_vacuum.specs.declared.work.VacuumStep.TheVariants as step
 use Rattle.sdb_vacuum.specs.Vacuum.{First, Malformed, Nothing, Over, Removing, Resolving, Scanning, Tombstone, Unresolved, VacuumAt, VacuumStage, answered, first_of, first_one, with_call, next_of_row, next_table, pending_at, removal_answered, resolved, step_at, tombstone_or}
 use Rattle.law_answers.specs.Commits.{IsBadRow, ObservesBad}
@@ -154,7 +142,7 @@ module _ (events : List Event) (calls : List StoreCall) (m : StoreCall) (older :
       by : (x : Kind) → kind_of r ≡ x → FirstBy now_calls (first_of left) → FirstBy now_calls (first_one x r left (first_of left))
       by Firm e h = here (is_tombstone r) h
       by (Open meta) e h = record { found = f; is_open = e; phase = tt }
-      by Bad e h = record { call = f.read; found = r; among = f.among; shown = shown_read f.read.reply r f.found.0; same = refl; bad = bad (bad_is r e); place = inr (rows_read f.read f.reads f.of_data, f.found.0) }
+      by Bad e h = record { call = f.read; found = r; among = f.among; observed = shown_read f.read.reply r f.found.0; same = refl; bad = bad (bad_is r e); place = inr (rows_read f.read f.reads f.of_data, f.found.0) }
 
   next_led : (ss : List Span) (n : ℕ) → n ≡ count_by removes now_calls → SweepLed (next_table ss n)
   next_led [] n e = (tt, e)

@@ -7,14 +7,10 @@ use Rattle.std.proofs.lemmas.Bool.Decides.{nat_tests}
 use Rattle.std.proofs.lemmas.List.{append-nil}
 use Rattle.sdb_record.specs.Coordinator.{is_coordinator_table}
 use Rattle.sdb_record.specs.Meta.{is_moment}
-use Rattle.sdb_schema.specs.declared.table.Table.{Table}
+use Rattle.law_answers.specs.Types.{Answer, Doing, Event, Key, PlanStep, Refusal, Statement, Table, TxId}
 use Rattle.sdb_schema.specs.Catalog.{is_catalog}
-use Rattle.sdb_model.specs.declared.answer.Answer.{Answer}
 use Rattle.sdb_model.specs.declared.answer.Answer.TheVariants as answer
-use Rattle.sdb_model.specs.declared.answer.Refusal.{Refusal}
-use Rattle.sdb_model.specs.declared.event.Event.{Event}
 use Rattle.sdb_model.specs.declared.event.Event.TheVariants as event
-use Rattle.sdb_model.specs.declared.statement.Statement.{Statement}
 use Rattle.sdb_model.specs.declared.statement.Statement.TheVariants as statement
 use Rattle.sdb_model.specs.Calls.{StoreCall, calls_by, calls_of, end_of}
 use Rattle.sdb_model.specs.Causes.{IsBadRecord, IsCaused, IsRejected, MayPassMost, NeedsTransaction, SomeClient, before, is_open, is_open_after, records_found, refused, removes, runs_vacuum}
@@ -25,12 +21,10 @@ use Rattle.sdb_model.specs.Sql.{Reads, reads_begin, reads_commit, reads_rollback
 use Rattle.sdb_model.specs.Transactions.{Executed, begins, changes_nothing, ends, from_begin, id_of, is_conflict, is_done, rest_of, statements_by}
 use Rattle.sdb_sqltext.proofs.Clauses.{not_both, one_refusal, one_statement}
 use Rattle.sdb_sqltext.proofs.OneWord.{begin_read, commit_read, rollback_read, vacuum_read}
-use Rattle.sdb_exec.specs.declared.plan.PlanStep.{PlanStep}
 use Rattle.sdb_exec.specs.declared.plan.PlanStep.TheVariants.{Finished, Read as Wants}
 use Rattle.sdb_exec.specs.Plans.{Planned, changes_on, first_unfit}
 use Rattle.sdb_model.specs.Reads.{access_of}
 use Rattle.sdb_phases.specs.Commit.{preparing}
-use Rattle.sdb_txn.specs.declared.txn.Doing.{Doing}
 use Rattle.sdb_txn.specs.declared.txn.Doing.TheVariants as doing
 use Rattle.sdb_txn.specs.Txn.{TxnAt, begun, committing, reading, work_of}
 use Rattle.sdb_vacuum.specs.Vacuum.{begun as begins_sweep}
@@ -43,7 +37,6 @@ use Rattle.law_clients.proofs.Finishing.{given_finishes}
 use Rattle.law_clients.proofs.InTables.{access_table, own_table}
 use Rattle.law_clients.proofs.RowsFit.{found_itself}
 use Rattle.law_clients.proofs.Whole.{by_memory, literals_read, other_no_rollback}
-use Rattle.sdb_types.specs.declared.key.Key.{Key}
 use Rattle.law_clients.specs.History.{executed_of_take, waiting_of}
 use Rattle.law_clients.proofs.Lists.{each_more}
 use Rattle.sdb_types.proofs.Basics.{by_test, clash, none_some, some_is, length_more}
@@ -82,7 +75,6 @@ use Rattle.sdb_model.specs.Causes.{IsDecided}
 use Rattle.sdb_model.specs.ReadSet.{ReadItem, has_read, read_finished}
 use Rattle.sdb_model.specs.Transactions.{rest_of}
 use Rattle.sdb_record.specs.declared.coordinator.Decision.TheVariants as decision
-use Rattle.sdb_types.specs.declared.txid.TxId.{TxId}
 use Rattle.std.proofs.lemmas.Bool.{and_parts}
 use Rattle.law_clients.proofs.Answered.{take_said}
 use Rattle.sdb_model.specs.Tables.{is_data}
@@ -147,7 +139,7 @@ taken_ends c events text (Some a) = end_answered (events ++ event.Take c text (S
     plus : (n : ℕ) → 1 + n ≡ n + 1
     plus n = omega arith
 
--- a statement that is taken has made no call
+-- a statement that is accepted has made no call
 pub none_yet : (c : ℕ) (events : List Event) (text : List ℕ) (result : Option Answer) → calls_of (events ++ event.Take c text result ∷ []) c (executed_of_take events text result) ≡ []
 none_yet c events text result =
     calls_open c (events ++ event.Take c text result ∷ []) (executed_of_take events text result) (taken_ends c events text result)
@@ -178,8 +170,8 @@ module _ (q : Taking) (events : List Event) (states : ℕ → ClientState) (ex :
   abbrev pub Turned : Option Answer → Type 0
   Turned result = (b : Answer) → IsRejected q.catalog events c text b → (result ≡ Some b) ⊎ (result ≡ Some answer.NoMemory)
 
-  stands_free : DoingByHistory events c h.begun k.told k.waiting h.plan h.txn
-  stands_free = subst (ClientByHistory events c h.begun k.told k.waiting h.plan h.txn) ready.idle.free k.stands
+  stands_free : DoingByHistory events c h.begun k.answered k.waiting h.plan h.txn
+  stands_free = subst (ClientByHistory events c h.begun k.answered k.waiting h.plan h.txn) ready.idle.free k.agrees
 
   waits_none : k.waiting ≡ None
   waits_none = by h.txn stands_free ready.idle.still
@@ -187,12 +179,12 @@ module _ (q : Taking) (events : List Event) (states : ℕ → ClientState) (ex :
       by_doing : (t : TxnAt) (d : Doing) → d ≡ doing.Idle → IsDoing events c t h.plan k.waiting d → k.waiting ≡ None
       by_doing t d e s = subst (IsDoing events c t h.plan k.waiting) e s
 
-      by : (o : Option TxnAt) → DoingByHistory events c h.begun k.told k.waiting h.plan o → IfSome o (λ t. t.doing ≡ doing.Idle) → k.waiting ≡ None
+      by : (o : Option TxnAt) → DoingByHistory events c h.begun k.answered k.waiting h.plan o → IfSome o (λ t. t.doing ≡ doing.Idle) → k.waiting ≡ None
       by None s i = s.0
       by (Some t) s i = by_doing t t.doing i s.2
 
-  said_told : statements_by c events ≡ k.told
-  said_told = k.same ∙ ap (λ o. k.told ++ waiting_of o) waits_none ∙ append-nil k.told
+  said_told : statements_by c events ≡ k.answered
+  said_told = k.same ∙ ap (λ o. k.answered ++ waiting_of o) waits_none ∙ append-nil k.answered
 
   opened : (d : ℕ) → is_open events d ≡ is_some (states d).client.txn
   opened d = open_now q.catalog events d (states d).client (ex.each d)
@@ -329,8 +321,8 @@ module _ (q : Taking) (events : List Event) (states : ℕ → ClientState) (ex :
   by_turning b = subst (λ es. IsRejected q.catalog es c text b) (sym (before_taken events (event.Take c text (Some b)) text (Some b)))
 
   -- a BEGIN is answered Done where no transaction is open
-  pairs_once : (b : Answer) → Turned (Some b) → begins (one (Some b)) ≡ true → open_after k.told ≡ false
-  pairs_once b turned begins_it = by_test (open_after k.told) (λ t. absurd (undone (turned (refused 4) (inr (inl ((begin_read text).0 both.0, ap open_after said_told ∙ t, refl)))))) (λ f. f)
+  pairs_once : (b : Answer) → Turned (Some b) → begins (one (Some b)) ≡ true → open_after k.answered ≡ false
+  pairs_once b turned begins_it = by_test (open_after k.answered) (λ t. absurd (undone (turned (refused 4) (inr (inl ((begin_read text).0 both.0, ap open_after said_told ∙ t, refl)))))) (λ f. f)
     where
       both : (reads_begin text ≡ true) × (is_done (Some b) ≡ true)
       both = and_parts (reads_begin text) (is_done (Some b)) begins_it
@@ -340,8 +332,8 @@ module _ (q : Taking) (events : List Event) (states : ℕ → ClientState) (ex :
       undone (inr e) = clash (sym both.1 ∙ ap is_done e)
 
   -- one that makes no call isn't answered Committed
-  fits_once : (b : Answer) → Caused b → reads_commit text ≡ true → open_after k.told ≡ true → CommitIsCounted (read_items_since events c h.begun k.told) (id_of c h.begun) (Some b) []
-  fits_once b caused reads opened = commit_none (read_items_since events c h.begun k.told) (id_of c h.begun) (Some b) (λ e. absurd (uncommitted (some_is b answer.Committed e)))
+  fits_once : (b : Answer) → Caused b → reads_commit text ≡ true → open_after k.answered ≡ true → CommitIsCounted (read_items_since events c h.begun k.answered) (id_of c h.begun) (Some b) []
+  fits_once b caused reads opened = commit_none (read_items_since events c h.begun k.answered) (id_of c h.begun) (Some b) (λ e. absurd (uncommitted (some_is b answer.Committed e)))
     where
       undecided : (calls : List StoreCall) (id : TxId) → calls ≡ [] → IsDecided decision.Committed (decision_learned calls id) → ⊥
       undecided calls id none h = subst (λ ms. IsDecided decision.Committed (decision_learned ms id)) none h
@@ -353,41 +345,41 @@ module _ (q : Taking) (events : List Event) (states : ℕ → ClientState) (ex :
 
   -- what its transaction has then noted
   abbrev NotedThen : Option Answer → Client → Type 0
-  NotedThen result d = ReadByTxn (read_items_since (E result) c d.begun (k.told ++ one result ∷ [])) d.txn
+  NotedThen result d = ReadByTxn (read_items_since (E result) c d.begun (k.answered ++ one result ∷ [])) d.txn
 
   -- it is answered at once
-  at_once : (b : Answer) (d : Client) → is_conflict (Some b) ≡ false → Caused b → Turned (Some b) → d.number ≡ h.number → d.begun ≡ begun_in (k.told ++ one (Some b) ∷ []) → d.begun < 2 ^ 64
-      → ClientByHistory (E (Some b)) c d.begun (k.told ++ one (Some b) ∷ []) None d.plan d.txn d.vacuum → NotedThen (Some b) d → IfSome d.txn (IsFilled (E (Some b)) c (rest_of (from_begin d.begun (k.told ++ one (Some b) ∷ [])))) → IfSome d.txn (IsFitOrReadTxn q.catalog (E (Some b)) c (rest_of (from_begin d.begun (k.told ++ one (Some b) ∷ [])))) → ShowsNext q.catalog (E (Some b)) c k.told (one (Some b)) b d → So (Some b) d
-  at_once b d agrees caused turned number begun small stands as_read filled fits shows = record {
-    told = k.told ++ one (Some b) ∷ [];
+  at_once : (b : Answer) (d : Client) → is_conflict (Some b) ≡ false → Caused b → Turned (Some b) → d.number ≡ h.number → d.begun ≡ begun_in (k.answered ++ one (Some b) ∷ []) → d.begun < 2 ^ 64
+      → ClientByHistory (E (Some b)) c d.begun (k.answered ++ one (Some b) ∷ []) None d.plan d.txn d.vacuum → NotedThen (Some b) d → IfSome d.txn (IsFilled (E (Some b)) c (rest_of (from_begin d.begun (k.answered ++ one (Some b) ∷ [])))) → IfSome d.txn (IsFitOrReadTxn q.catalog (E (Some b)) c (rest_of (from_begin d.begun (k.answered ++ one (Some b) ∷ [])))) → ShowsNext q.catalog (E (Some b)) c k.answered (one (Some b)) b d → So (Some b) d
+  at_once b d agrees caused turned number begun small agreed as_read filled fits shows = record {
+    answered = k.answered ++ one (Some b) ∷ [];
     waiting = None;
-    same = said_more ∙ sym (append-nil (k.told ++ one (Some b) ∷ []));
-    answered = each_more (IsAnswered q.catalog (E (Some b)) c) k.told (one (Some b)) (answered_stay q.catalog c events (event.Take c text (Some b)) k.told (inr (inl (one (Some b), said_now))) k.answered) (record {
+    same = said_more ∙ sym (append-nil (k.answered ++ one (Some b) ∷ []));
+    answered = each_more (IsAnswered q.catalog (E (Some b)) c) k.answered (one (Some b)) (answered_stay q.catalog c events (event.Take c text (Some b)) k.answered (inr (inl (one (Some b), said_now))) k.answered) (record {
       given = b;
       is = refl;
-      taken = within_now (Some b);
+      accepted = within_now (Some b);
       answered = within_now (Some b);
       caused = caused;
       rejected = λ a t. (refl, turned a (away (Some b) a t));
     });
     waits = tt;
-    moved = moved_all q.catalog events (event.Take c text (Some b)) c k.told (one (Some b)) k.answered k.moved (unmoved (E (Some b)) c (k.told ++ one (Some b) ∷ []) (one (Some b)) b refl agrees);
+    moved = moved_all q.catalog events (event.Take c text (Some b)) c k.answered (one (Some b)) k.answered k.moved (unmoved (E (Some b)) c (k.answered ++ one (Some b) ∷ []) (one (Some b)) b refl agrees);
     number = number ∙ k.number;
     begun = begun;
     small = small;
-    stands = stands;
-    counted = counts_end q.catalog c events (event.Take c text (Some b)) k.told k.waiting h k.answered k.counted (one (Some b)) d [] k.begun (none_yet c events text (Some b)) (none_counted q.catalog text [] refl) (pairs_once b turned) (fits_once b caused) as_read;
+    agrees = agreed;
+    counted = counts_end q.catalog c events (event.Take c text (Some b)) k.answered k.waiting h k.answered k.counted (one (Some b)) d [] k.begun (none_yet c events text (Some b)) (none_counted q.catalog text [] refl) (pairs_once b turned) (fits_once b caused) as_read;
     filled = filled;
     fits = fits;
     stored = still_stored (Some b);
-    rolled = rolls_end q.catalog c events (event.Take c text (Some b)) k.told k.waiting h k.answered k.rolled (one (Some b)) d [] (none_yet c events text (Some b)) (λ read. none_found (E (Some b)) (reads_vacuum text));
-    shows = shows_end q.catalog c events (event.Take c text (Some b)) k.told k.answered h k.shows k.counted.paired (one (Some b)) b d refl shows;
+    rolled = rolls_end q.catalog c events (event.Take c text (Some b)) k.answered k.waiting h k.answered k.rolled (one (Some b)) d [] (none_yet c events text (Some b)) (λ read. none_found (E (Some b)) (reads_vacuum text));
+    shows = shows_end q.catalog c events (event.Take c text (Some b)) k.answered k.answered h k.shows k.counted.paired (one (Some b)) b d refl shows;
   }
     where
       said_now : statements_by c (E (Some b)) ≡ statements_by c events ++ one (Some b) ∷ []
       said_now = take_said c events text (Some b)
 
-      said_more : statements_by c (E (Some b)) ≡ k.told ++ one (Some b) ∷ []
+      said_more : statements_by c (E (Some b)) ≡ k.answered ++ one (Some b) ∷ []
       said_more = said_now ∙ ap (λ ss. ss ++ one (Some b) ∷ []) said_told
 
   -- what its transaction has noted so far
@@ -395,39 +387,39 @@ module _ (q : Taking) (events : List Event) (states : ℕ → ClientState) (ex :
   so_id = id_of c h.begun
 
   abbrev so_noted : List ReadItem
-  so_noted = read_items_since events c h.begun k.told
+  so_noted = read_items_since events c h.begun k.answered
 
   -- what it then sees
   abbrev SeesThen : Client → Type 0
-  SeesThen d = ViewBy q.catalog events c k.told h → IfSome d.txn (IsViewOf q.catalog (E None) c (rest_of (from_begin d.begun k.told)))
+  SeesThen d = ViewBy q.catalog events c k.answered h → IfSome d.txn (IsViewOf q.catalog (E None) c (rest_of (from_begin d.begun k.answered)))
 
   -- it waits
   waits : (d : Client) → Turned None → reads_begin text ≡ false → reads_vacuum text ≡ is_some d.vacuum → is_some h.txn ≡ not (is_some d.vacuum) → d.number ≡ h.number → d.begun ≡ h.begun
-      → ClientByHistory (E None) c d.begun k.told (Some (one None)) d.plan d.txn d.vacuum → ReadByTxn so_noted d.txn × WaitCounted q.catalog text so_id so_noted [] d.vacuum d.txn → IfSome d.txn (IsFilled (E None) c (rest_of (from_begin d.begun k.told))) → IfSome d.txn (IsFitOrReadTxn q.catalog (E None) c (rest_of (from_begin d.begun k.told))) → WaitRolls (E None) (reads_vacuum text) [] d.vacuum d.txn → SeesThen d → So None d
-  waits d turned no_begin sweeps open_txn number begun stands begins_counted filled fits rolls sees = record {
-    told = k.told;
+      → ClientByHistory (E None) c d.begun k.answered (Some (one None)) d.plan d.txn d.vacuum → ReadByTxn so_noted d.txn × WaitCounted q.catalog text so_id so_noted [] d.vacuum d.txn → IfSome d.txn (IsFilled (E None) c (rest_of (from_begin d.begun k.answered))) → IfSome d.txn (IsFitOrReadTxn q.catalog (E None) c (rest_of (from_begin d.begun k.answered))) → WaitRolls (E None) (reads_vacuum text) [] d.vacuum d.txn → SeesThen d → So None d
+  waits d turned no_begin vacuums open_txn number begun agreed begins_counted filled fits rolls sees = record {
+    answered = k.answered;
     waiting = Some (one None);
     same = take_said c events text None ∙ ap (λ ss. ss ++ one None ∷ []) said_told;
-    answered = answered_stay q.catalog c events (event.Take c text None) k.told (inr (inl (one None, take_said c events text None))) k.answered;
+    answered = answered_stay q.catalog c events (event.Take c text None) k.answered (inr (inl (one None, take_said c events text None))) k.answered;
     waits = record {
       unanswered = refl;
-      taken = within_now None;
+      accepted = within_now None;
       begin = no_begin;
-      vacuum = sweeps;
+      vacuum = vacuums;
       opened = ap (λ es. is_open es c) (before_taken events (event.Take c text None) text None) ∙ opened c ∙ open_txn;
       stays = λ a t. none (turned a (away None a t));
     };
-    moved = moved_still q.catalog events (event.Take c text None) c k.told k.told k.answered k.moved;
+    moved = moved_still q.catalog events (event.Take c text None) c k.answered k.answered k.answered k.moved;
     number = number ∙ k.number;
     begun = begun ∙ k.begun;
     small = subst (λ n. n < 2 ^ 64) (sym begun) k.small;
-    stands = stands;
-    counted = counts_on q.catalog c events (event.Take c text None) k.told k.waiting h k.answered k.counted (one None) d [] begun (none_yet c events text None) begins_counted.0 begins_counted.1;
+    agrees = agreed;
+    counted = counts_on q.catalog c events (event.Take c text None) k.answered k.waiting h k.answered k.counted (one None) d [] begun (none_yet c events text None) begins_counted.0 begins_counted.1;
     filled = filled;
     fits = fits;
     stored = still_stored None;
-    rolled = rolls_on q.catalog c events (event.Take c text None) k.told k.waiting h k.answered k.rolled (one None) d [] (none_yet c events text None) rolls;
-    shows = shows_further q.catalog c events (event.Take c text None) k.told k.answered h k.shows d sees;
+    rolled = rolls_on q.catalog c events (event.Take c text None) k.answered k.waiting h k.answered k.rolled (one None) d [] (none_yet c events text None) rolls;
+    shows = shows_further q.catalog c events (event.Take c text None) k.answered k.answered h k.shows d sees;
   }
     where
       none : {b : Answer} → (◌≡◌ {A = Option Answer} None (Some b)) ⊎ (◌≡◌ {A = Option Answer} None (Some answer.NoMemory)) → ⊥
@@ -436,110 +428,110 @@ module _ (q : Taking) (events : List Event) (states : ℕ → ClientState) (ex :
 
   -- and its transaction is open
   waits_open : (d : Client) → Turned None → reads_begin text ≡ false → reads_vacuum text ≡ false → is_some h.txn ≡ true → d.number ≡ h.number → d.begun ≡ h.begun → d.vacuum ≡ h.vacuum
-      → DoingByHistory (E None) c d.begun k.told (Some (one None)) d.plan d.txn → ReadByTxn so_noted d.txn × OpenCounted text so_id so_noted [] d.txn → IfSome d.txn (IsFilled (E None) c (rest_of (from_begin d.begun k.told))) → IfSome d.txn (IsFitOrReadTxn q.catalog (E None) c (rest_of (from_begin d.begun k.told))) → WaitRolls (E None) (reads_vacuum text) [] None d.txn → SeesThen d → So None d
-  waits_open d turned no_begin no_vacuum open_txn number begun same stands begins_counted filled fits rolls sees =
+      → DoingByHistory (E None) c d.begun k.answered (Some (one None)) d.plan d.txn → ReadByTxn so_noted d.txn × OpenCounted text so_id so_noted [] d.txn → IfSome d.txn (IsFilled (E None) c (rest_of (from_begin d.begun k.answered))) → IfSome d.txn (IsFitOrReadTxn q.catalog (E None) c (rest_of (from_begin d.begun k.answered))) → WaitRolls (E None) (reads_vacuum text) [] None d.txn → SeesThen d → So None d
+  waits_open d turned no_begin no_vacuum open_txn number begun same agreed begins_counted filled fits rolls sees =
       let free : d.vacuum ≡ None = same ∙ ready.idle.free in
-      waits d turned no_begin (no_vacuum ∙ sym (ap is_some free)) (open_txn ∙ sym (ap (λ o. not (is_some o)) free)) number begun (subst (ClientByHistory (E None) c d.begun k.told (Some (one None)) d.plan d.txn) (sym free) stands) (begins_counted.0, subst (λ v. WaitCounted q.catalog text so_id so_noted [] v d.txn) (sym free) begins_counted.1) filled fits (subst (λ v. WaitRolls (E None) (reads_vacuum text) [] v d.txn) (sym free) rolls) sees
+      waits d turned no_begin (no_vacuum ∙ sym (ap is_some free)) (open_txn ∙ sym (ap (λ o. not (is_some o)) free)) number begun (subst (ClientByHistory (E None) c d.begun k.answered (Some (one None)) d.plan d.txn) (sym free) agreed) (begins_counted.0, subst (λ v. WaitCounted q.catalog text so_id so_noted [] v d.txn) (sym free) begins_counted.1) filled fits (subst (λ v. WaitRolls (E None) (reads_vacuum text) [] v d.txn) (sym free) rolls) sees
 
   ---- where it is then
 
   -- it runs no VACUUM
-  on_free : (result : Option Answer) (n : ℕ) (told : List Executed) (w : Option Executed) (p : Option Planned) (o : Option TxnAt) → DoingByHistory (E result) c n told w p o → ClientByHistory (E result) c n told w p o h.vacuum
-  on_free result n told w p o = subst (ClientByHistory (E result) c n told w p o) (sym ready.idle.free)
+  on_free : (result : Option Answer) (n : ℕ) (answered : List Executed) (w : Option Executed) (p : Option Planned) (o : Option TxnAt) → DoingByHistory (E result) c n answered w p o → ClientByHistory (E result) c n answered w p o h.vacuum
+  on_free result n answered w p o = subst (ClientByHistory (E result) c n answered w p o) (sym ready.idle.free)
 
-  begun_plain : (b : Answer) → is_done (Some b) ≡ false → h.begun ≡ begun_in (k.told ++ one (Some b) ∷ [])
-  begun_plain b d = k.begun ∙ sym (begun_same k.told (one (Some b)) (undone_begins (one (Some b)) b refl d))
+  begun_plain : (b : Answer) → is_done (Some b) ≡ false → h.begun ≡ begun_in (k.answered ++ one (Some b) ∷ [])
+  begun_plain b d = k.begun ∙ sym (begun_same k.answered (one (Some b)) (undone_begins (one (Some b)) b refl d))
 
-  stands_none : (b : Answer) (p : Option Planned) → is_done (Some b) ≡ false → open_after k.told ≡ false → DoingByHistory (E (Some b)) c h.begun (k.told ++ one (Some b) ∷ []) None p None
-  stands_none b p d f = (refl, after_more k.told (one (Some b)) ∙ ap (λ w. is_open_after w (one (Some b))) f ∙ after_plain false (one (Some b)) (undone_begins (one (Some b)) b refl d) (λ e. clash (sym e)))
+  stands_none : (b : Answer) (p : Option Planned) → is_done (Some b) ≡ false → open_after k.answered ≡ false → DoingByHistory (E (Some b)) c h.begun (k.answered ++ one (Some b) ∷ []) None p None
+  stands_none b p d f = (refl, after_more k.answered (one (Some b)) ∙ ap (λ w. is_open_after w (one (Some b))) f ∙ after_plain false (one (Some b)) (undone_begins (one (Some b)) b refl d) (λ e. clash (sym e)))
 
   -- the open transaction, which does nothing, goes on
-  stands_held : (b : Answer) (p : Option Planned) (t u : TxnAt) → IsMiddle b → reads_commit text ≡ false → u.id ≡ t.id → u.doing ≡ doing.Idle → open_after k.told ≡ true → (o : IsOpenAs c h.begun k.told t) → SeenBy (read_items_of_body events c o.body) t.seen → u.seen.reads ≡ t.seen.reads → u.seen.scans ≡ t.seen.scans → DoingByHistory (E (Some b)) c h.begun (k.told ++ one (Some b) ∷ []) None p (Some u)
+  stands_held : (b : Answer) (p : Option Planned) (t u : TxnAt) → IsMiddle b → reads_commit text ≡ false → u.id ≡ t.id → u.doing ≡ doing.Idle → open_after k.answered ≡ true → (o : IsOpenAs c h.begun k.answered t) → SeenBy (read_items_of_body events c o.body) t.seen → u.seen.reads ≡ t.seen.reads → u.seen.scans ≡ t.seen.scans → DoingByHistory (E (Some b)) c h.begun (k.answered ++ one (Some b) ∷ []) None p (Some u)
   stands_held b p t u m no_commit same idle is o noting r x = (
-    after_more k.told (one (Some b)) ∙ ap (λ w. is_open_after w (one (Some b))) is ∙ after_plain true (one (Some b)) (undone_begins (one (Some b)) b refl m.undone) (λ e. middle_ends (one (Some b)) b refl m no_commit),
-    open_more c h.begun k.told t u (one (Some b)) same (middle_ends (one (Some b)) b refl m no_commit) o,
+    after_more k.answered (one (Some b)) ∙ ap (λ w. is_open_after w (one (Some b))) is ∙ after_plain true (one (Some b)) (undone_begins (one (Some b)) b refl m.undone) (λ e. middle_ends (one (Some b)) b refl m no_commit),
+    open_more c h.begun k.answered t u (one (Some b)) same (middle_ends (one (Some b)) b refl m no_commit) o,
     subst (IsDoing (E (Some b)) c u p None) (sym idle) refl,
-    subst (λ d. IsReadSetOf (E (Some b)) c (k.told ++ one (Some b) ∷ []) (o.body ++ one (Some b) ∷ []) u d None) (sym idle) (noted_more q.catalog events (event.Take c text (Some b)) c h.begun k.told t o k.answered (one (Some b)) t.seen u.seen r x noting),
+    subst (λ d. IsReadSetOf (E (Some b)) c (k.answered ++ one (Some b) ∷ []) (o.body ++ one (Some b) ∷ []) u d None) (sym idle) (noted_more q.catalog events (event.Take c text (Some b)) c h.begun k.answered t o k.answered (one (Some b)) t.seen u.seen r x noting),
   )
 
   idle_of : (t : TxnAt) → h.txn ≡ Some t → t.doing ≡ doing.Idle
   idle_of t e = subst (λ (o : Option TxnAt). IfSome o (λ u. u.doing ≡ doing.Idle)) e ready.idle.still
 
-  stands_open : (t : TxnAt) → h.txn ≡ Some t → (open_after k.told ≡ true) × (o : IsOpenAs c h.begun k.told t) × SeenBy (read_items_of_body events c o.body) t.seen
-  stands_open t e = let s = subst (DoingByHistory events c h.begun k.told k.waiting h.plan) e stands_free in (s.0, s.1, subst (λ d. IsReadSetOf events c k.told s.1.body t d k.waiting) (idle_of t e) s.3)
+  stands_open : (t : TxnAt) → h.txn ≡ Some t → (open_after k.answered ≡ true) × (o : IsOpenAs c h.begun k.answered t) × SeenBy (read_items_of_body events c o.body) t.seen
+  stands_open t e = let s = subst (DoingByHistory events c h.begun k.answered k.waiting h.plan) e stands_free in (s.0, s.1, subst (λ d. IsReadSetOf events c k.answered s.1.body t d k.waiting) (idle_of t e) s.3)
 
   noted_open : (t : TxnAt) → h.txn ≡ Some t → ReadItemsAre so_noted t.seen.reads t.seen.scans
   noted_open t e = idle_noted so_noted t.seen t.doing (idle_of t e) (subst (ReadByTxn so_noted) e k.counted.as_read)
 
   -- it makes no call, and notes nothing
-  noted_at_once : (result : Option Answer) → read_items_since (E result) c h.begun (k.told ++ one result ∷ []) ≡ so_noted
-  noted_at_once result = since_same (E result) c h.begun k.told (one result) (none_called (E result) c (one result) (none_yet c events text result)) ∙ since_stay q.catalog events (event.Take c text result) c h.begun k.told k.answered
+  noted_at_once : (result : Option Answer) → read_items_since (E result) c h.begun (k.answered ++ one result ∷ []) ≡ so_noted
+  noted_at_once result = since_same (E result) c h.begun k.answered (one result) (none_called (E result) c (one result) (none_yet c events text result)) ∙ since_stay q.catalog events (event.Take c text result) c h.begun k.answered k.answered
 
   -- no more keys are written than rows counted
   filled_open : (t : TxnAt) (e : h.txn ≡ Some t) → IsFilledBy (rows_counted_by (stands_open t e).1.body) (records_found_by events c (stands_open t e).1.body) t.seen
   filled_open t e =
-      let s : IsFilledIn events c (rest_of (from_begin h.begun k.told)) t.seen t.doing = subst (λ (o : Option TxnAt). IfSome o (IsFilled events c (rest_of (from_begin h.begun k.told)))) e k.filled in
-      subst (λ r. IsFilledIn events c (rest_of r) t.seen doing.Idle) (stands_open t e).1.since (subst (IsFilledIn events c (rest_of (from_begin h.begun k.told)) t.seen) (idle_of t e) s)
+      let s : IsFilledIn events c (rest_of (from_begin h.begun k.answered)) t.seen t.doing = subst (λ (o : Option TxnAt). IfSome o (IsFilled events c (rest_of (from_begin h.begun k.answered)))) e k.filled in
+      subst (λ r. IsFilledIn events c (rest_of r) t.seen doing.Idle) (stands_open t e).1.since (subst (IsFilledIn events c (rest_of (from_begin h.begun k.answered)) t.seen) (idle_of t e) s)
 
-  filled_reading : (t : TxnAt) → h.txn ≡ Some t → IsFilledBy (rows_counted_by (rest_of (from_begin h.begun k.told))) (records_found_by (E None) c (rest_of (from_begin h.begun k.told))) t.seen
-  filled_reading t e = subst (IsFilledIn (E None) c (rest_of (from_begin h.begun k.told)) t.seen) (idle_of t e) (filled_stays q.catalog events (event.Take c text None) c (rest_of (from_begin h.begun k.told)) (Some t) (rest_all (IsAnswered q.catalog events c) h.begun k.told k.answered) (subst (λ (o : Option TxnAt). IfSome o (IsFilled events c (rest_of (from_begin h.begun k.told)))) e k.filled))
+  filled_reading : (t : TxnAt) → h.txn ≡ Some t → IsFilledBy (rows_counted_by (rest_of (from_begin h.begun k.answered))) (records_found_by (E None) c (rest_of (from_begin h.begun k.answered))) t.seen
+  filled_reading t e = subst (IsFilledIn (E None) c (rest_of (from_begin h.begun k.answered)) t.seen) (idle_of t e) (filled_stays q.catalog events (event.Take c text None) c (rest_of (from_begin h.begun k.answered)) (Some t) (rest_all (IsAnswered q.catalog events c) h.begun k.answered k.answered) (subst (λ (o : Option TxnAt). IfSome o (IsFilled events c (rest_of (from_begin h.begun k.answered)))) e k.filled))
 
   -- its statements were answered
   body_open : (t : TxnAt) (e : h.txn ≡ Some t) → AllByRecursion (IsAnswered q.catalog events c) (stands_open t e).1.body
-  body_open t e = let o = (stands_open t e).1 in since_all (IsAnswered q.catalog events c) h.begun k.told o.begin o.body k.answered o.since
+  body_open t e = let o = (stands_open t e).1 in since_all (IsAnswered q.catalog events c) h.begun k.answered o.begin o.body k.answered o.since
 
   -- what it sees fits, or one of them read it
-  fit_stays : (result : Option Answer) → IfSome h.txn (IsFitOrReadTxn q.catalog (E result) c (rest_of (from_begin h.begun k.told)))
-  fit_stays result = fits_stay q.catalog events (event.Take c text result) c h.begun k.told h.txn k.answered k.fits
+  fit_stays : (result : Option Answer) → IfSome h.txn (IsFitOrReadTxn q.catalog (E result) c (rest_of (from_begin h.begun k.answered)))
+  fit_stays result = fits_stay q.catalog events (event.Take c text result) c h.begun k.answered h.txn k.answered k.fits
 
-  fit_reading : (t : TxnAt) → h.txn ≡ Some t → SeesFitOrRead q.catalog (E None) c (rest_of (from_begin h.begun k.told)) t.seen
-  fit_reading t e = subst (SeesFitOrReadIn q.catalog (E None) c (rest_of (from_begin h.begun k.told)) t.seen) (idle_of t e) (subst (λ (o : Option TxnAt). IfSome o (IsFitOrReadTxn q.catalog (E None) c (rest_of (from_begin h.begun k.told)))) e (fit_stays None))
+  fit_reading : (t : TxnAt) → h.txn ≡ Some t → SeesFitOrRead q.catalog (E None) c (rest_of (from_begin h.begun k.answered)) t.seen
+  fit_reading t e = subst (SeesFitOrReadIn q.catalog (E None) c (rest_of (from_begin h.begun k.answered)) t.seen) (idle_of t e) (subst (λ (o : Option TxnAt). IfSome o (IsFitOrReadTxn q.catalog (E None) c (rest_of (from_begin h.begun k.answered)))) e (fit_stays None))
 
   fit_more : (b : Answer) (t : TxnAt) (e : h.txn ≡ Some t) → SeesFitOrRead q.catalog (E (Some b)) c ((stands_open t e).1.body ++ one (Some b) ∷ []) t.seen
   fit_more b t e =
-      let s : SeesFitOrReadIn q.catalog (E (Some b)) c (rest_of (from_begin h.begun k.told)) t.seen t.doing = subst (λ (o : Option TxnAt). IfSome o (IsFitOrReadTxn q.catalog (E (Some b)) c (rest_of (from_begin h.begun k.told)))) e (fit_stays (Some b)) in
+      let s : SeesFitOrReadIn q.catalog (E (Some b)) c (rest_of (from_begin h.begun k.answered)) t.seen t.doing = subst (λ (o : Option TxnAt). IfSome o (IsFitOrReadTxn q.catalog (E (Some b)) c (rest_of (from_begin h.begun k.answered)))) e (fit_stays (Some b)) in
       fits_more q.catalog (E (Some b)) c (stands_open t e).1.body (one (Some b)) t.seen
-      (subst (λ r. SeesFitOrReadIn q.catalog (E (Some b)) c (rest_of r) t.seen doing.Idle) (stands_open t e).1.since (subst (SeesFitOrReadIn q.catalog (E (Some b)) c (rest_of (from_begin h.begun k.told)) t.seen) (idle_of t e) s))
+      (subst (λ r. SeesFitOrReadIn q.catalog (E (Some b)) c (rest_of r) t.seen doing.Idle) (stands_open t e).1.since (subst (SeesFitOrReadIn q.catalog (E (Some b)) c (rest_of (from_begin h.begun k.answered)) t.seen) (idle_of t e) s))
 
   -- what it sees it has
   sees_open : (t : TxnAt) (e : h.txn ≡ Some t) → SeesOwn q.catalog events c (stands_open t e).1.body t.seen
   sees_open t e =
-      let s : SeesOwnIn q.catalog events c (rest_of (from_begin h.begun k.told)) t.seen t.doing = subst (λ (o : Option TxnAt). IfSome o (IsViewOf q.catalog events c (rest_of (from_begin h.begun k.told)))) e k.shows.sees_own in
-      subst (λ r. SeesOwnIn q.catalog events c (rest_of r) t.seen doing.Idle) (stands_open t e).1.since (subst (SeesOwnIn q.catalog events c (rest_of (from_begin h.begun k.told)) t.seen) (idle_of t e) s)
+      let s : SeesOwnIn q.catalog events c (rest_of (from_begin h.begun k.answered)) t.seen t.doing = subst (λ (o : Option TxnAt). IfSome o (IsViewOf q.catalog events c (rest_of (from_begin h.begun k.answered)))) e k.shows.sees_own in
+      subst (λ r. SeesOwnIn q.catalog events c (rest_of r) t.seen doing.Idle) (stands_open t e).1.since (subst (SeesOwnIn q.catalog events c (rest_of (from_begin h.begun k.answered)) t.seen) (idle_of t e) s)
 
-  sees_reading : (t : TxnAt) → h.txn ≡ Some t → ViewBy q.catalog events c k.told h → SeesOwn q.catalog (E None) c (rest_of (from_begin h.begun k.told)) t.seen
-  sees_reading t e x = subst (SeesOwnIn q.catalog (E None) c (rest_of (from_begin h.begun k.told)) t.seen) (idle_of t e) (showing_stays q.catalog events (event.Take c text None) c h.begun k.told (Some t) k.answered (subst (λ (o : Option TxnAt). IfSome o (IsViewOf q.catalog events c (rest_of (from_begin h.begun k.told)))) e x.sees_own))
+  sees_reading : (t : TxnAt) → h.txn ≡ Some t → ViewBy q.catalog events c k.answered h → SeesOwn q.catalog (E None) c (rest_of (from_begin h.begun k.answered)) t.seen
+  sees_reading t e x = subst (SeesOwnIn q.catalog (E None) c (rest_of (from_begin h.begun k.answered)) t.seen) (idle_of t e) (showing_stays q.catalog events (event.Take c text None) c h.begun k.answered (Some t) k.answered (subst (λ (o : Option TxnAt). IfSome o (IsViewOf q.catalog events c (rest_of (from_begin h.begun k.answered)))) e x.sees_own))
 
   -- what it said then
-  said_then : (b : Answer) → statements_by c (E (Some b)) ≡ k.told ++ one (Some b) ∷ []
+  said_then : (b : Answer) → statements_by c (E (Some b)) ≡ k.answered ++ one (Some b) ∷ []
   said_then b = take_said c events text (Some b) ∙ ap (λ ss. ss ++ one (Some b) ∷ []) said_told
 
-  stands_closed : h.txn ≡ None → open_after k.told ≡ false
-  stands_closed e = (subst (DoingByHistory events c h.begun k.told k.waiting h.plan) e stands_free).1
+  stands_closed : h.txn ≡ None → open_after k.answered ≡ false
+  stands_closed e = (subst (DoingByHistory events c h.begun k.answered k.waiting h.plan) e stands_free).1
 
   -- as it was
   same : (b : Answer) → IsMiddle b → (is_some h.txn ≡ true → reads_commit text ≡ false) → (is_some h.txn ≡ true → changes_nothing b ≡ true) → Caused b → Turned (Some b) → So (Some b) h
-  same b m no_commit idles caused turned = at_once b h m.agrees caused turned refl (begun_plain b m.undone) k.small (on_free (Some b) h.begun (k.told ++ one (Some b) ∷ []) None h.plan h.txn (by h.txn refl)) (subst (λ ns. ReadByTxn ns h.txn) (sym (noted_at_once (Some b))) k.counted.as_read) (filled_by h.txn refl) (fits_by h.txn refl) (shows_by h.txn refl)
+  same b m no_commit idles caused turned = at_once b h m.agrees caused turned refl (begun_plain b m.undone) k.small (on_free (Some b) h.begun (k.answered ++ one (Some b) ∷ []) None h.plan h.txn (by h.txn refl)) (subst (λ ns. ReadByTxn ns h.txn) (sym (noted_at_once (Some b))) k.counted.as_read) (filled_by h.txn refl) (fits_by h.txn refl) (shows_by h.txn refl)
     where
-      by : (o : Option TxnAt) → h.txn ≡ o → DoingByHistory (E (Some b)) c h.begun (k.told ++ one (Some b) ∷ []) None h.plan o
+      by : (o : Option TxnAt) → h.txn ≡ o → DoingByHistory (E (Some b)) c h.begun (k.answered ++ one (Some b) ∷ []) None h.plan o
       by None e = stands_none b h.plan m.undone (stands_closed e)
       by (Some t) e = let s = stands_open t e in stands_held b h.plan t t m (no_commit (ap is_some e)) refl (idle_of t e) s.0 s.1 s.2 refl refl
 
-      filled_by : (o : Option TxnAt) → h.txn ≡ o → IfSome o (IsFilled (E (Some b)) c (rest_of (from_begin h.begun (k.told ++ one (Some b) ∷ []))))
+      filled_by : (o : Option TxnAt) → h.txn ≡ o → IfSome o (IsFilled (E (Some b)) c (rest_of (from_begin h.begun (k.answered ++ one (Some b) ∷ []))))
       filled_by None e = tt
       filled_by (Some t) e =
           let o = (stands_open t e).1 in
-          filled_idle (E (Some b)) c h.begun k.told (one (Some b)) o.begin o.body t o.since (idle_of t e) (filled_more q.catalog events (event.Take c text (Some b)) c o.body (one (Some b)) t.seen (body_open t e) (filled_open t e))
+          filled_idle (E (Some b)) c h.begun k.answered (one (Some b)) o.begin o.body t o.since (idle_of t e) (filled_more q.catalog events (event.Take c text (Some b)) c o.body (one (Some b)) t.seen (body_open t e) (filled_open t e))
 
-      fits_by : (o : Option TxnAt) → h.txn ≡ o → IfSome o (IsFitOrReadTxn q.catalog (E (Some b)) c (rest_of (from_begin h.begun (k.told ++ one (Some b) ∷ []))))
+      fits_by : (o : Option TxnAt) → h.txn ≡ o → IfSome o (IsFitOrReadTxn q.catalog (E (Some b)) c (rest_of (from_begin h.begun (k.answered ++ one (Some b) ∷ []))))
       fits_by None e = tt
-      fits_by (Some t) e = let o = (stands_open t e).1 in fits_idle q.catalog (E (Some b)) c h.begun k.told (one (Some b)) o.begin o.body t o.since (idle_of t e) (fit_more b t e)
+      fits_by (Some t) e = let o = (stands_open t e).1 in fits_idle q.catalog (E (Some b)) c h.begun k.answered (one (Some b)) o.begin o.body t o.since (idle_of t e) (fit_more b t e)
 
-      shows_by : (o : Option TxnAt) → h.txn ≡ o → (open_after k.told ≡ true → GivesOwn q.catalog (E (Some b)) c (rest_of (from_begin (begun_in k.told) k.told)) (one (Some b)) b) × IfSome o (IsViewOf q.catalog (E (Some b)) c (rest_of (from_begin h.begun (k.told ++ one (Some b) ∷ []))))
+      shows_by : (o : Option TxnAt) → h.txn ≡ o → (open_after k.answered ≡ true → GivesOwn q.catalog (E (Some b)) c (rest_of (from_begin (begun_in k.answered) k.answered)) (one (Some b)) b) × IfSome o (IsViewOf q.catalog (E (Some b)) c (rest_of (from_begin h.begun (k.answered ++ one (Some b) ∷ []))))
       shows_by None e = ((λ opens. clash (sym opens ∙ stands_closed e)), tt)
       shows_by (Some t) e =
           let o = (stands_open t e).1 in
-          next_same q.catalog c events (event.Take c text (Some b)) k.told k.answered h.begun o.begin o.body o.since t.seen (sees_open t e) (one (Some b)) b t refl (idles (ap is_some e)) (idle_of t e) refl
+          next_same q.catalog c events (event.Take c text (Some b)) k.answered k.answered h.begun o.begin o.body o.since t.seen (sees_open t e) (one (Some b)) b t refl (idles (ap is_some e)) (idle_of t e) refl
 
   as_told : (b : Answer) (result : Option Answer) (d : Client) → IsMiddle b → (is_some h.txn ≡ true → reads_commit text ≡ false) → (is_some h.txn ≡ true → changes_nothing b ≡ true) → IsAnsweredAtOnce h b result d → Caused b → Turned result → So result d
   as_told b result d m no_commit idles x caused turned = as_so (Some b) result h d x.answer x.same (same b m no_commit idles caused (subst Turned x.answer turned))
@@ -558,8 +550,8 @@ module _ (q : Taking) (events : List Event) (states : ℕ → ClientState) (ex :
 
   -- ended with its transaction
   at_end : (b : Answer) → is_conflict (Some b) ≡ false → Caused b → Turned (Some b) → begins (one (Some b)) ≡ false → ends (one (Some b)) ≡ true → ((body : List Executed) → GivesOwn q.catalog (E (Some b)) c body (one (Some b)) b) → So (Some b) (resting h)
-  at_end b agrees caused turned no_begin over tells =
-      at_once b (resting h) agrees caused turned refl (k.begun ∙ sym (begun_same k.told (one (Some b)) no_begin)) k.small (on_free (Some b) h.begun (k.told ++ one (Some b) ∷ []) None None None (refl, after_more k.told (one (Some b)) ∙ after_end (open_after k.told) (one (Some b)) b no_begin over refl)) tt tt tt ((λ opens. tells (rest_of (from_begin (begun_in k.told) k.told))), tt)
+  at_end b agrees caused turned no_begin over is_known =
+      at_once b (resting h) agrees caused turned refl (k.begun ∙ sym (begun_same k.answered (one (Some b)) no_begin)) k.small (on_free (Some b) h.begun (k.answered ++ one (Some b) ∷ []) None None None (refl, after_more k.answered (one (Some b)) ∙ after_end (open_after k.answered) (one (Some b)) b no_begin over refl)) tt tt tt ((λ opens. is_known (rest_of (from_begin (begun_in k.answered) k.answered))), tt)
 
   begin_case : (o : Option TxnAt) (result : Option Answer) (d : Client) → h.txn ≡ o → Reads text statement.Begin → d.begun < 2 ^ 64 → Turned result → BeginPost q.gate q.fresh h o result d → So result d
   begin_case (Some t) result d e reads few turned x = as_refused (record { kind = 4; place = 0 }) result d (λ z. other_no_commit text statement.Begin reads (λ y. cc)) x (inr (inl (reads, opened c ∙ ap is_some e, refl))) turned
@@ -571,11 +563,11 @@ module _ (q : Taking) (events : List Event) (states : ℕ → ClientState) (ex :
       ids : (n : ℕ) → n + 1 ≡ suc n
       ids n = omega arith
 
-      opens : IsOpenAs c (h.begun + 1) (k.told ++ one (Some answer.Done) ∷ []) (begun (next_id h))
+      opens : IsOpenAs c (h.begun + 1) (k.answered ++ one (Some answer.Done) ∷ []) (begun (next_id h))
       opens = record {
         begin = one (Some answer.Done);
         body = [];
-        since = ap (λ n. from_begin n (k.told ++ one (Some answer.Done) ∷ [])) (ap (λ n. n + 1) k.begun ∙ ids (begun_in k.told)) ∙ since_new k.told (one (Some answer.Done)) begun_now;
+        since = ap (λ n. from_begin n (k.answered ++ one (Some answer.Done) ∷ [])) (ap (λ n. n + 1) k.begun ∙ ids (begun_in k.answered)) ∙ since_new k.answered (one (Some answer.Done)) begun_now;
         goes_on = tt;
         id = ap (λ n. id_of n (h.begun + 1)) k.number;
         client = ready.small;
@@ -583,13 +575,13 @@ module _ (q : Taking) (events : List Event) (states : ℕ → ClientState) (ex :
 
       by : (b : Bool) → q.gate.vacuum_runs ≡ b → GatePost b q.fresh h result d → So result d
       by true f y =
-          let other : SomeInVacuum states c = gate.sweeps f in
+          let other : SomeInVacuum states c = gate.vacuums f in
           as_told answer.Vacuuming result d (record { undone = refl; agrees = refl }) (λ z. other_no_commit text statement.Begin reads (λ w. cc)) (λ z. clash (sym z ∙ ap is_some e)) y (λ z. by_turning answer.Vacuuming (inr (inr (inr (inr (inl (reads, opened c ∙ ap is_some e, (other.0, ex.stopped other.0 ∙ other.2, sweeping other.0 ∙ other.3), refl))))))) turned
       by false f y =
           as_so (Some answer.Done) result (with_begun h (next_id h)) d y.0 (y.1 ∙ ap (with_begun h) numbered)
-          (at_once answer.Done (with_begun h (next_id h)) refl (λ z. inl reads) (subst Turned y.0 turned) refl (ap (λ n. n + 1) k.begun ∙ sym (begun_more k.told (one (Some answer.Done)) begun_now)) (subst (λ (x : Client). x.begun < 2 ^ 64) (y.1 ∙ ap (with_begun h) numbered) few)
-          (after_more k.told (one (Some answer.Done)) ∙ after_begin (open_after k.told) (one (Some answer.Done)) begun_now, opens, refl, record { reads = tt; scans = tt }) (subst (λ ss. ReadItemsAre (read_items_of_body (E (Some answer.Done)) c (rest_of ss)) [] []) (sym opens.since) (record { reads = refl; scans = refl }))
-          (filled_nothing (rows_counted_by (rest_of (from_begin (h.begun + 1) (k.told ++ one (Some answer.Done) ∷ [])))) (records_found_by (E (Some answer.Done)) c (rest_of (from_begin (h.begun + 1) (k.told ++ one (Some answer.Done) ∷ []))))) (fit_nothing q.catalog (E (Some answer.Done)) c (rest_of (from_begin (h.begun + 1) (k.told ++ one (Some answer.Done) ∷ [])))) ((λ was. tt), (λ key as_read fits. clash (sym as_read))))
+          (at_once answer.Done (with_begun h (next_id h)) refl (λ z. inl reads) (subst Turned y.0 turned) refl (ap (λ n. n + 1) k.begun ∙ sym (begun_more k.answered (one (Some answer.Done)) begun_now)) (subst (λ (x : Client). x.begun < 2 ^ 64) (y.1 ∙ ap (with_begun h) numbered) few)
+          (after_more k.answered (one (Some answer.Done)) ∙ after_begin (open_after k.answered) (one (Some answer.Done)) begun_now, opens, refl, record { reads = tt; scans = tt }) (subst (λ ss. ReadItemsAre (read_items_of_body (E (Some answer.Done)) c (rest_of ss)) [] []) (sym opens.since) (record { reads = refl; scans = refl }))
+          (filled_nothing (rows_counted_by (rest_of (from_begin (h.begun + 1) (k.answered ++ one (Some answer.Done) ∷ [])))) (records_found_by (E (Some answer.Done)) c (rest_of (from_begin (h.begun + 1) (k.answered ++ one (Some answer.Done) ∷ []))))) (fit_nothing q.catalog (E (Some answer.Done)) c (rest_of (from_begin (h.begun + 1) (k.answered ++ one (Some answer.Done) ∷ [])))) ((λ was. tt), (λ key as_read fits. clash (sym as_read))))
 
   commit_case : (o : Option TxnAt) (result : Option Answer) (d : Client) → h.txn ≡ o → Reads text statement.Commit → Turned result → CommitStartPost q.now h o result d → So result d
   commit_case None result d e reads turned x = as_refused (record { kind = 5; place = 0 }) result d (λ z. clash (sym z ∙ ap is_some e)) x (outside statement.Commit reads ((λ y. cc), (λ y. cc)) e) turned
@@ -600,7 +592,7 @@ module _ (q : Taking) (events : List Event) (states : ℕ → ClientState) (ex :
         s.0,
         record { begin = s.1.begin; body = s.1.body; since = s.1.since; goes_on = s.1.goes_on; id = s.1.id; client = s.1.client },
         record { text = (commit_read text).1 reads; same = refl; moment = moment; stage = subst (λ ms. StageByCalls (work_of t q.now) ms (preparing (work_of t q.now) 0)) (sym (none_yet c events text None)) (begins_standing (work_of t q.now)) },
-        let seen : SeenBy (read_items_of_body (E None) c s.1.body) t.seen = noted_still q.catalog events (event.Take c text None) c h.begun k.told t s.1 k.answered t.seen s.2 in
+        let seen : SeenBy (read_items_of_body (E None) c s.1.body) t.seen = noted_still q.catalog events (event.Take c text None) c h.begun k.answered t s.1 k.answered t.seen s.2 in
             (work_by (read_items_of_body (E None) c s.1.body) t q.now seen (sound t e), subst (λ ms. ChecksBy (read_items_of_body (E None) c s.1.body) (work_of t q.now) ms (preparing (work_of t q.now) 0)) (sym (none_yet c events text None)) (begins_checked (read_items_of_body (E None) c s.1.body) (work_of t q.now))),
       ) (noted_open t e, ((commit_read text).1 reads, s.1.id, (sound t e).kept.valid, commit_begins so_noted (work_of t q.now))) tt tt tt (λ z. tt))
 
@@ -640,19 +632,19 @@ module _ (q : Taking) (events : List Event) (states : ℕ → ClientState) (ex :
         shut,
         stands_closed shut,
         (sym (ap (count_by removes) (none_yet c events text None)), tt),
-      ) (k.counted.as_read, subst (λ (catalog : List Table). VacuumIsCounted catalog [] (begins_sweep (t ∷ ts))) of_it (sweep_begins t ts)) (subst (λ (o : Option TxnAt). IfSome o (IsFilled (E None) c (rest_of (from_begin h.begun k.told)))) (sym shut) tt) (subst (λ (o : Option TxnAt). IfSome o (IsFitOrReadTxn q.catalog (E None) c (rest_of (from_begin h.begun k.told)))) (sym shut) tt) (none_found (E None) (reads_vacuum text)) (λ z. subst (λ (o : Option TxnAt). IfSome o (IsViewOf q.catalog (E None) c (rest_of (from_begin h.begun k.told)))) (sym shut) tt))
+      ) (k.counted.as_read, subst (λ (catalog : List Table). VacuumIsCounted catalog [] (begins_sweep (t ∷ ts))) of_it (sweep_begins t ts)) (subst (λ (o : Option TxnAt). IfSome o (IsFilled (E None) c (rest_of (from_begin h.begun k.answered)))) (sym shut) tt) (subst (λ (o : Option TxnAt). IfSome o (IsFitOrReadTxn q.catalog (E None) c (rest_of (from_begin h.begun k.answered)))) (sym shut) tt) (none_found (E None) (reads_vacuum text)) (λ z. subst (λ (o : Option TxnAt). IfSome o (IsViewOf q.catalog (E None) c (rest_of (from_begin h.begun k.answered)))) (sym shut) tt))
 
   abbrev given_now : Table → Statement → TxnAt → Answer
   given_now table st t = given_answer t (gives (plan_of table st) (access_of table st) t)
 
   rows_case : (st : Statement) (t : TxnAt) (result : Option Answer) (d : Client) (table : Table) → h.txn ≡ Some t → Reads text st → IsInner text → reads_vacuum text ≡ false → refusal_of q.catalog st ≡ None → named_table q.catalog st ≡ Some table → Turned result
       → RowsPost (plan_of table st) (access_of table st) h t result d → So result d
-  rows_case st t result d table e reads inner no_sweep taken named turned x =
+  rows_case st t result d table e reads inner no_sweep accepted named turned x =
       by_test (is_covered t.seen (access_of table st))
       (λ b. let r = x.known b in as_so (Some (given_answer t (gives (plan_of table st) (access_of table st) t))) result (holding h (given_left t (gives (plan_of table st) (access_of table st) t))) d r.0 r.1 (known (subst Turned r.0 turned)))
       (λ b. let r = x.unknown b in as_so None result (record h { txn = Some (reading t (access_of table st)); plan = Some (plan_of table st) }) d r.0 r.1 (unknown (subst Turned r.0 turned)))
     where
-      s : (open_after k.told ≡ true) × (o : IsOpenAs c h.begun k.told t) × SeenBy (read_items_of_body events c o.body) t.seen
+      s : (open_after k.answered ≡ true) × (o : IsOpenAs c h.begun k.answered t) × SeenBy (read_items_of_body events c o.body) t.seen
       s = stands_open t e
 
       idle : t.doing ≡ doing.Idle
@@ -684,36 +676,36 @@ module _ (q : Taking) (events : List Event) (states : ℕ → ClientState) (ex :
       -- the changes may be too many
       passes : too_many t (changes_on table st (overlay (access_of table st) t.seen)) ≡ true → MayPassMost (E (Some (given_now table st t))) c (one (Some (given_now table st t)))
       passes many =
-          pass_now c h.begun (E (Some (given_now table st t))) k.told s.1.begin (one (Some (given_now table st t))) s.1.body st k.small (said_then (given_now table st t)) s.1.since s.1.goes_on reads
+          pass_now c h.begun (E (Some (given_now table st t))) k.answered s.1.begin (one (Some (given_now table st t))) s.1.body st k.small (said_then (given_now table st t)) s.1.since s.1.goes_on reads
           (passes_given (rows_counted_by s.1.body) (records_found_by (E (Some (given_now table st t))) c s.1.body + records_found (calls_of (E (Some (given_now table st t))) c (one (Some (given_now table st t))))) t (access_of table st) table st (filled_found q.catalog events (event.Take c text (Some (given_now table st t))) c s.1.body 0 (records_found (calls_of (E (Some (given_now table st t))) c (one (Some (given_now table st t))))) t.seen (body_open t e) (zero_least (records_found (calls_of (E (Some (given_now table st t))) c (one (Some (given_now table st t)))))) filled_now) many)
 
-      left_filled : IsFilled (E (Some (given_now table st t))) c (rest_of (from_begin h.begun (k.told ++ one (Some (given_now table st t)) ∷ []))) (given_left t (gives (plan_of table st) (access_of table st) t))
+      left_filled : IsFilled (E (Some (given_now table st t))) c (rest_of (from_begin h.begun (k.answered ++ one (Some (given_now table st t)) ∷ []))) (given_left t (gives (plan_of table st) (access_of table st) t))
       left_filled =
-          filled_idle (E (Some (given_now table st t))) c h.begun k.told (one (Some (given_now table st t))) s.1.begin s.1.body (given_left t (gives (plan_of table st) (access_of table st) t)) s.1.since (left_idle t (gives (plan_of table st) (access_of table st) t) idle)
+          filled_idle (E (Some (given_now table st t))) c h.begun k.answered (one (Some (given_now table st t))) s.1.begin s.1.body (given_left t (gives (plan_of table st) (access_of table st) t)) s.1.since (left_idle t (gives (plan_of table st) (access_of table st) t) idle)
           (filled_given q.catalog events (event.Take c text (Some (given_now table st t))) c s.1.body (one (Some (given_now table st t))) (plan_of table st) (overlay (access_of table st) t.seen) t 0 (body_open t e) refl finished (zero_least (records_found (calls_of (E (Some (given_now table st t))) c (one (Some (given_now table st t)))))) filled_now)
 
-      left_fits : IsFitOrReadTxn q.catalog (E (Some (given_now table st t))) c (rest_of (from_begin h.begun (k.told ++ one (Some (given_now table st t)) ∷ []))) (given_left t (gives (plan_of table st) (access_of table st) t))
+      left_fits : IsFitOrReadTxn q.catalog (E (Some (given_now table st t))) c (rest_of (from_begin h.begun (k.answered ++ one (Some (given_now table st t)) ∷ []))) (given_left t (gives (plan_of table st) (access_of table st) t))
       left_fits =
-          fits_idle q.catalog (E (Some (given_now table st t))) c h.begun k.told (one (Some (given_now table st t))) s.1.begin s.1.body (given_left t (gives (plan_of table st) (access_of table st) t)) s.1.since (left_idle t (gives (plan_of table st) (access_of table st) t) idle)
-          (given_fits q.catalog (plan_of table st) (access_of table st) listed (own_table table st) is named refl taken (literals_read text st reads) refl (E (Some (given_now table st t))) c (s.1.body ++ one (Some (given_now table st t)) ∷ []) t (fit_more (given_now table st t) t e))
+          fits_idle q.catalog (E (Some (given_now table st t))) c h.begun k.answered (one (Some (given_now table st t))) s.1.begin s.1.body (given_left t (gives (plan_of table st) (access_of table st) t)) s.1.since (left_idle t (gives (plan_of table st) (access_of table st) t) idle)
+          (given_fits q.catalog (plan_of table st) (access_of table st) listed (own_table table st) is named refl accepted (literals_read text st reads) refl (E (Some (given_now table st t))) c (s.1.body ++ one (Some (given_now table st t)) ∷ []) t (fit_more (given_now table st t) t e))
 
       -- a row that doesn't fit was read by a statement before
       misfit_caused : (key : Key) → first_unfit table (overlay (access_of table st) t.seen) ≡ Some key → IsBadRecord q.catalog (E (Some (given_now table st t))) c (one (Some (given_now table st t))) key
       misfit_caused key f =
           let m = was_misfit q.catalog (plan_of table st) (access_of table st) listed (own_table table st) (E (Some (given_now table st t))) c (s.1.body ++ one (Some (given_now table st t)) ∷ []) t.seen key (fit_more (given_now table st t) t e) f in
-          inr (meets_now q.catalog c h.begun (E (Some (given_now table st t))) k.told s.1.begin (one (Some (given_now table st t))) s.1.body st table key k.small (said_then (given_now table st t)) s.1.since s.1.goes_on reads named m.0 m.1)
+          inr (meets_now q.catalog c h.begun (E (Some (given_now table st t))) k.answered s.1.begin (one (Some (given_now table st t))) s.1.body st table key k.small (said_then (given_now table st t)) s.1.since s.1.goes_on reads named m.0 m.1)
 
-      shows_known : ShowsNext q.catalog (E (Some (given_now table st t))) c k.told (one (Some (given_now table st t))) (given_now table st t) (holding h (given_left t (gives (plan_of table st) (access_of table st) t)))
+      shows_known : ShowsNext q.catalog (E (Some (given_now table st t))) c k.answered (one (Some (given_now table st t))) (given_now table st t) (holding h (given_left t (gives (plan_of table st) (access_of table st) t)))
       shows_known =
-          let before : SeesOwn q.catalog (E (Some (given_now table st t))) c s.1.body t.seen = sees_then q.catalog c events (event.Take c text (Some (given_now table st t))) k.told k.answered h.begun s.1.begin s.1.body s.1.since t.seen (sees_open t e) (one (Some (given_now table st t))) in
-          next_given q.catalog (E (Some (given_now table st t))) c h.begun k.told (one (Some (given_now table st t))) s.1.begin s.1.body (plan_of table st) (access_of table st) t s.1.since k.begun is reads named refl refl refl (left_idle t (gives (plan_of table st) (access_of table st) t) idle) (sound t e).kept.read
+          let before : SeesOwn q.catalog (E (Some (given_now table st t))) c s.1.body t.seen = sees_then q.catalog c events (event.Take c text (Some (given_now table st t))) k.answered k.answered h.begun s.1.begin s.1.body s.1.since t.seen (sees_open t e) (one (Some (given_now table st t))) in
+          next_given q.catalog (E (Some (given_now table st t))) c h.begun k.answered (one (Some (given_now table st t))) s.1.begin s.1.body (plan_of table st) (access_of table st) t s.1.since k.begun is reads named refl refl refl (left_idle t (gives (plan_of table st) (access_of table st) t) idle) (sound t e).kept.read
           (λ key as_read fits. has_before q.catalog (E (Some (given_now table st t))) c s.1.body (one (Some (given_now table st t))) key (row_seen t.seen.read_set t.seen.writes key) (before key as_read fits))
 
       known : Turned (Some (given_answer t (gives (plan_of table st) (access_of table st) t))) → So (Some (given_answer t (gives (plan_of table st) (access_of table st) t))) (holding h (given_left t (gives (plan_of table st) (access_of table st) t)))
       known turned =
           let m = given_middle (plan_of table st) (overlay (access_of table st) t.seen) t in
           at_once (given_answer t (gives (plan_of table st) (access_of table st) t)) (holding h (given_left t (gives (plan_of table st) (access_of table st) t))) m.agrees (given_caused q.catalog (E (Some (given_answer t (gives (plan_of table st) (access_of table st) t)))) c (one (Some (given_answer t (gives (plan_of table st) (access_of table st) t)))) (plan_of table st) (overlay (access_of table st) t.seen) t reads named refl open_before misfit_caused passes) turned refl (begun_plain (given_answer t (gives (plan_of table st) (access_of table st) t)) m.undone) k.small
-          (on_free (Some (given_answer t (gives (plan_of table st) (access_of table st) t))) h.begun (k.told ++ one (Some (given_answer t (gives (plan_of table st) (access_of table st) t))) ∷ []) None None (Some (given_left t (gives (plan_of table st) (access_of table st) t))) (stands_held (given_answer t (gives (plan_of table st) (access_of table st) t)) None t (given_left t (gives (plan_of table st) (access_of table st) t)) m inner.commit (left_id t (gives (plan_of table st) (access_of table st) t)) (left_idle t (gives (plan_of table st) (access_of table st) t) idle) s.0 s.1 s.2 (left_reads t (gives (plan_of table st) (access_of table st) t)).0 (left_reads t (gives (plan_of table st) (access_of table st) t)).1))
+          (on_free (Some (given_answer t (gives (plan_of table st) (access_of table st) t))) h.begun (k.answered ++ one (Some (given_answer t (gives (plan_of table st) (access_of table st) t))) ∷ []) None None (Some (given_left t (gives (plan_of table st) (access_of table st) t))) (stands_held (given_answer t (gives (plan_of table st) (access_of table st) t)) None t (given_left t (gives (plan_of table st) (access_of table st) t)) m inner.commit (left_id t (gives (plan_of table st) (access_of table st) t)) (left_idle t (gives (plan_of table st) (access_of table st) t) idle) s.0 s.1 s.2 (left_reads t (gives (plan_of table st) (access_of table st) t)).0 (left_reads t (gives (plan_of table st) (access_of table st) t)).1))
           (known_noted (given_left t (gives (plan_of table st) (access_of table st) t)) (left_reads t (gives (plan_of table st) (access_of table st) t)) (left_idle t (gives (plan_of table st) (access_of table st) t) idle)) left_filled left_fits shows_known
 
       unknown : Turned None → So None (record h { txn = Some (reading t (access_of table st)); plan = Some (plan_of table st) })
@@ -722,15 +714,15 @@ module _ (q : Taking) (events : List Event) (states : ℕ → ClientState) (ex :
             s.0,
             record { begin = s.1.begin; body = s.1.body; since = s.1.since; goes_on = s.1.goes_on; id = s.1.id; client = s.1.client },
             record { text = reads; inner = inner; stage = tt; shows = none_yet c events text None },
-            noted_still q.catalog events (event.Take c text None) c h.begun k.told t s.1 k.answered t.seen s.2,
+            noted_still q.catalog events (event.Take c text None) c h.begun k.answered t s.1 k.answered t.seen s.2,
           ) (noted_open t e, (inner.commit, refl)) (filled_reading t e) (fit_reading t e) (none_found (E None) (reads_vacuum text)) (sees_reading t e)
 
   table_case : (st : Statement) (t : TxnAt) (result : Option Answer) (d : Client) → h.txn ≡ Some t → Reads text st → IsInner text → reads_vacuum text ≡ false → is_some (table_of st) ≡ true → Turned result → TablePost q.catalog st h t result d → So result d
   table_case st t result d e reads inner no_sweep on turned x = by_refusal (refusal_of q.catalog st) refl
     where
       by_table : (o : Option Table) → refusal_of q.catalog st ≡ None → named_table q.catalog st ≡ o → So result d
-      by_table (Some table) taken named = rows_case st t result d table e reads inner no_sweep taken named turned (x.reads table taken named)
-      by_table None taken named = absurd (let y : Some (record { kind = 6; place = 0 }) ≡ None = sym (ap (λ (o : Option Table). refusal_by o st) named) ∙ taken in cc)
+      by_table (Some table) accepted named = rows_case st t result d table e reads inner no_sweep accepted named turned (x.reads table accepted named)
+      by_table None accepted named = absurd (let y : Some (record { kind = 6; place = 0 }) ≡ None = sym (ap (λ (o : Option Table). refusal_by o st) named) ∙ accepted in cc)
 
       by_refusal : (o : Option Refusal) → refusal_of q.catalog st ≡ o → So result d
       by_refusal (Some r) f = as_refused r result d (λ z. inner.commit) (x.refused r f) (inr (inr (inr (inl (st, r, reads, opened c ∙ ap is_some e, on, f, refl))))) turned
@@ -772,4 +764,4 @@ module _ (q : Taking) (events : List Event) (states : ℕ → ClientState) (ex :
   takes_known result d few x =
       by_memory result
       (λ e. as_so (Some answer.NoMemory) result (out_of_memory text h) d e (x.memory e) so_starved)
-      (λ n. text_case result d few (turned_told result d (x.told n)) (x.told n))
+      (λ n. text_case result d few (turned_told result d (x.answered n)) (x.answered n))

@@ -10,10 +10,7 @@ use Rattle.std.specs.FinMap.{get}
 use Rattle.std.proofs.lemmas.Bool.{and_parts}
 use Rattle.std.proofs.lemmas.List.{append-nil}
 use Rattle.std.proofs.lemmas.List.Elements.{Contains-append_left, Contains-append_right, Contains-push}
-use Rattle.sdb_types.specs.declared.key.Key.{Key}
-use Rattle.sdb_types.specs.declared.pair.Pair.{Pair}
-use Rattle.sdb_types.specs.declared.record.Record.{Record}
-use Rattle.sdb_types.specs.declared.record.Reply.{Reply}
+use Rattle.law_answers.specs.Types.{Access, Event, Image, Key, Keyed, Meta, Pair, Record, Reply, Table, Write}
 use Rattle.sdb_types.specs.declared.record.Reply.TheVariants as reply
 use Rattle.sdb_types.specs.Contents.{CanAnswer, in_span, rise, record_among}
 use Rattle.sdb_types.specs.Exact.{equal_of}
@@ -21,22 +18,15 @@ use Rattle.sdb_types.specs.Order.{key_cmp, same_key}
 use Rattle.sdb_types.proofs.Basics.{by_test, clash, none_some, some_is, or_else}
 use Rattle.sdb_types.proofs.KeyOrder.{key_exact, key_total}
 use Rattle.sdb_types.proofs.Keys.{same_key_exact}
-use Rattle.sdb_keyed.specs.Entries.{value_at}
-use Rattle.sdb_record.specs.declared.access.Access.{Access}
+use Rattle.sdb_snapshot.specs.Entries.{value_at}
 use Rattle.sdb_record.specs.declared.access.Access.TheVariants as access
-use Rattle.sdb_record.specs.declared.access.Image.{Image}
-use Rattle.sdb_record.specs.declared.meta.Meta.{Meta}
-use Rattle.sdb_record.specs.declared.write.Keyed.{Keyed}
-use Rattle.sdb_record.specs.declared.write.Write.{Write}
 use Rattle.sdb_record.specs.Coordinator.{decision_in, is_coordinator_table}
 use Rattle.sdb_record.specs.Meta.{checked, is_transactional}
 use Rattle.sdb_record.specs.Parts.{are_stored}
 use Rattle.sdb_record.specs.Rolls.{row_of_image}
 use Rattle.sdb_record.specs.Among.{write_among}
-use Rattle.sdb_schema.specs.declared.table.Table.{Table}
 use Rattle.sdb_schema.specs.Catalog.{is_catalog}
 use Rattle.sdb_schema.specs.Rows.{fits_table}
-use Rattle.sdb_model.specs.declared.event.Event.{Event}
 use Rattle.sdb_model.specs.Access.{in_access, with_changes}
 use Rattle.sdb_model.specs.Calls.{StoreCall, calls_of, records_read, records_observed, is_stored_reply}
 use Rattle.sdb_model.specs.Causes.{IsBad, is_well_typed, is_misfit}
@@ -47,7 +37,7 @@ use Rattle.sdb_model.specs.Transactions.{Executed, changes_nothing}
 use Rattle.sdb_exec.specs.declared.plan.PlanStep.TheVariants.{Finished}
 use Rattle.sdb_exec.specs.Plans.{Planned, answer_on, changes_on, first_unfit, has_all_literals, is_unfit, step_of}
 use Rattle.sdb_model.specs.Reads.{access_of}
-use Rattle.sdb_read.specs.Read.{request_of}
+use Rattle.sdb_txn.specs.Read.{request_of}
 use Rattle.sdb_snapshot.specs.Reads.{base_at}
 use Rattle.sdb_snapshot.specs.Rows.{tables_of_reads}
 use Rattle.sdb_snapshot.specs.Seen.{Seen, overlay, row_seen, row_with, tables_seen}
@@ -93,7 +83,7 @@ stored_one (r ∷ rs) h = let parts = and_parts (are_stored r.columns) (list_all
 
 -- one that calls show
 pub shown_bad : (calls : List StoreCall) (key : Key) → AreStoredReplies calls → (b : ObservesBad calls key) → IsBad b.found
-shown_bad calls key stored b = bad_stored b.found (each_in (λ (r : Record). are_stored r.columns ≡ true) (records_observed b.call.reply) b.found (stored_one (records_observed b.call.reply) (each_in (λ (m : StoreCall). is_stored_reply m.reply ≡ true) calls b.call stored b.among)) b.shown) b.bad
+shown_bad calls key stored b = bad_stored b.found (each_in (λ (r : Record). are_stored r.columns ≡ true) (records_observed b.call.reply) b.found (stored_one (records_observed b.call.reply) (each_in (λ (m : StoreCall). is_stored_reply m.reply ≡ true) calls b.call stored b.among)) b.observed) b.bad
 
 -- the row of a key with changes written is what they leave of the rows that were seen
 pub row_written : (s : Seen) (ks : List Keyed) (q : Key) → row_seen s.read_set (with_writes s.read_set s.writes ks) q ≡ get (with_changes (tables_seen s) ks) q
@@ -171,19 +161,19 @@ found_step q (x ∷ es) b h = by x.1 refl (λ k. found_step q es b k) h
 
 -- what a read was answered lies at its keys
 rows_inside : (a : Access) (r : Reply) → CanAnswer (request_of a) r → IsRows r → AllByRecursion (λ (x : Record). in_access a x.key ≡ true) (records_read r)
-rows_inside (access.Get k) (reply.Found None) can told = tt
-rows_inside (access.Get k) (reply.Found (Some x)) can told = (ap is_eq (ap (key_cmp k) can ∙ tied_itself key_total k), tt)
-rows_inside (access.Get k) (reply.Rows rows) can told = absurd can
-rows_inside (access.Scan span) (reply.Rows rows) can told = each rows (and_parts (rise rows) (list_all (λ (r : Record). in_span span r.key) rows) can).1
+rows_inside (access.Get k) (reply.Found None) can answered = tt
+rows_inside (access.Get k) (reply.Found (Some x)) can answered = (ap is_eq (ap (key_cmp k) can ∙ tied_itself key_total k), tt)
+rows_inside (access.Get k) (reply.Rows rows) can answered = absurd can
+rows_inside (access.Scan span) (reply.Rows rows) can answered = each rows (and_parts (rise rows) (list_all (λ (r : Record). in_span span r.key) rows) can).1
   where
     each : (rs : List Record) → list_all (λ (r : Record). in_span span r.key) rs ≡ true → AllByRecursion (λ (x : Record). in_span span x.key ≡ true) rs
     each [] h = tt
     each (x ∷ rs) h = let parts = and_parts (in_span span x.key) (list_all (λ (r : Record). in_span span r.key) rs) h in (parts.0, each rs parts.1)
-rows_inside (access.Scan span) (reply.Found found) can told = absurd can
-rows_inside a reply.Applied can told = absurd told
-rows_inside a (reply.NotMet found) can told = absurd told
-rows_inside a reply.Fault can told = absurd told
-rows_inside a reply.NoMemory can told = absurd told
+rows_inside (access.Scan span) (reply.Found found) can answered = absurd can
+rows_inside a reply.Applied can answered = absurd answered
+rows_inside a (reply.NotMet found) can answered = absurd answered
+rows_inside a reply.Fault can answered = absurd answered
+rows_inside a reply.NoMemory can answered = absurd answered
 
 step_in : (es : List (Record × Option Record)) (e : Record × Option Record) → Contains es e → Contains (map (λ (x : Record × Option Record). x.0) es) e.0
 step_in es e has = each_in (λ (x : Record × Option Record). Contains (map (λ (y : Record × Option Record). y.0) es) x.0) es e (all es) has
@@ -200,7 +190,7 @@ step_in es e has = each_in (λ (x : Record × Option Record). Contains (map (λ 
 pub record IsReadAt (calls : List StoreCall) (first : StoreCall) (a : Access) (q : Key) (b : Record) : Type 0 where
   pub found : Record
   pub settled : IsSettledAs calls (found, Some b)
-  pub shown : Contains (records_read first.reply) found
+  pub observed : Contains (records_read first.reply) found
   pub key : found.key ≡ q
   pub inside : in_access a q ≡ true
 
@@ -209,13 +199,13 @@ module _ (calls : List StoreCall) (a : Access) (images : List Record) (h : HasRe
   step_shown b s = subst (λ rs. Contains rs s.step.0) (sym (h.rows ∙ append-nil (map (λ (x : Record × Option Record). x.0) h.steps))) (step_in h.steps s.step s.among)
 
   step_inside : (b : Record) (s : IsStepAt h.steps b) → in_access a s.step.0.key ≡ true
-  step_inside b s = each_in (λ (x : Record). in_access a x.key ≡ true) (records_read h.first.reply) s.step.0 (rows_inside a h.first.reply h.can h.told) (step_shown b s)
+  step_inside b s = each_in (λ (x : Record). in_access a x.key ≡ true) (records_read h.first.reply) s.step.0 (rows_inside a h.first.reply h.can h.answered) (step_shown b s)
 
   step_settled : (b : Record) (s : IsStepAt h.steps b) → IsSettledAs calls (s.step.0, Some b)
   step_settled b s = subst (λ (o : Option Record). IsSettledAs calls (s.step.0, o)) s.image (each_in (IsSettledAs calls) h.steps s.step h.settled s.among)
 
   read_by : (q : Key) (b : Record) (s : IsStepAt h.steps b) → s.step.0.key ≡ q → IsReadAt calls h.first a q b
-  read_by q b s e = record { found = s.step.0; settled = step_settled b s; shown = step_shown b s; key = e; inside = subst (λ (k : Key). in_access a k ≡ true) e (step_inside b s) }
+  read_by q b s e = record { found = s.step.0; settled = step_settled b s; observed = step_shown b s; key = e; inside = subst (λ (k : Key). in_access a k ≡ true) e (step_inside b s) }
 
 pub new_read : (calls : List StoreCall) (a : Access) (images : List Record) (h : HasRead (request_of a) calls images []) (q : Key) (b : Record) → found_new a images q ≡ Some (Some b) → IsReadAt calls h.first a q b
 new_read calls (access.Get k) images h q b e = by (same_key q k) refl e
@@ -296,7 +286,7 @@ module _ (catalog : List Table) (p : Planned) (a : Access) (listed : find_table 
     misfit_new q cs b f g unfit =
         let r : IsReadAt calls h.first a q b = new_read calls a images h q b f in (
           r.found,
-          r.shown,
+          r.observed,
           r.key,
           ap (λ (k : Key). not (is_coordinator_table k.table) && option_map_or (λ columns. not (is_well_typed catalog k columns)) (option_and_then row_of_image (meaning_of calls r.found)) false) r.key
               ∙ ap (λ x. not (is_coordinator_table x) && option_map_or (λ columns. not (is_well_typed catalog q columns)) (option_and_then row_of_image (meaning_of calls r.found)) false) (inside_access a q r.inside)
@@ -331,7 +321,7 @@ module _ (catalog : List Table) (p : Planned) (a : Access) (listed : find_table 
             by_test (row_is_well_typed catalog q cs) (λ y. inl y) (λ n. inr (ap is_some (table_at q r.inside), read b e f n))
 
   -- and so does what it writes
-  module _ (is : is_catalog catalog ≡ true) (named : named_table catalog p.statement ≡ Some p.table) (asked : p.asked ≡ true) (taken : refusal_of catalog p.statement ≡ None) (literals : has_all_literals p.statement ≡ true) (access_is : a ≡ access_of p.table p.statement) (events : List Event) (c : ℕ) (body : List Executed) (v : TxnAt) (sees : SeesFitOrRead catalog events c body v.seen) where
+  module _ (is : is_catalog catalog ≡ true) (named : named_table catalog p.statement ≡ Some p.table) (asked : p.asked ≡ true) (accepted : refusal_of catalog p.statement ≡ None) (literals : has_all_literals p.statement ≡ true) (access_is : a ≡ access_of p.table p.statement) (events : List Event) (c : ℕ) (body : List Executed) (v : TxnAt) (sees : SeesFitOrRead catalog events c body v.seen) where
     abbrev rows : List Image
     rows = overlay (access_of p.table p.statement) v.seen
 
@@ -339,7 +329,7 @@ module _ (catalog : List Table) (p : Planned) (a : Access) (listed : find_table 
     Sees u = SeesFitOrRead catalog events c body u.seen
 
     written_fits : first_unfit p.table rows ≡ None → Sees (written v (changes_on p.table p.statement rows))
-    written_fits none q cs found = by (left_at_key catalog p.table p.statement v.seen is named none taken literals q cs (sym (row_written v.seen (changes_on p.table p.statement rows) q) ∙ found))
+    written_fits none q cs found = by (left_at_key catalog p.table p.statement v.seen is named none accepted literals q cs (sym (row_written v.seen (changes_on p.table p.statement rows) q) ∙ found))
       where
         by : (row_is_well_typed catalog q cs ≡ true) ⊎ (get (tables_seen v.seen) q ≡ Some cs) → (row_is_well_typed catalog q cs ≡ true) ⊎ ((is_some (find_table catalog q.table) ≡ true) × WasMisfit catalog events c body q)
         by (inl fits) = inl fits

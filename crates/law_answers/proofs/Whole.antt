@@ -6,18 +6,11 @@ use Rattle.std.specs.Option.{option_and_then}
 use Rattle.std.proofs.lemmas.Bool.{eqb-false, eqb-true, ne_eqb}
 use Rattle.std.proofs.lemmas.List.{append-nil, append_assoc}
 use Rattle.std.proofs.lemmas.List.Elements.{Contains-append_cases, Contains-append_right, Contains-push, Contains-push_cases}
-use Rattle.sdb_types.specs.declared.key.Key.{Key}
-use Rattle.sdb_types.specs.declared.record.Record.{Record}
-use Rattle.sdb_types.specs.declared.record.Reply.{Reply}
-use Rattle.sdb_types.specs.declared.record.Request.{Request}
+use Rattle.law_answers.specs.Types.{Access, Answer, Event, How, Key, Record, Reply, Request, Table}
 use Rattle.sdb_record.specs.Meta.{is_moment}
-use Rattle.sdb_schema.specs.declared.table.Table.{Table}
 use Rattle.sdb_schema.specs.Catalog.{is_catalog}
-use Rattle.sdb_model.specs.declared.answer.Answer.{Answer}
 use Rattle.sdb_model.specs.declared.answer.Answer.TheVariants as answer
-use Rattle.sdb_model.specs.declared.event.Event.{Event}
 use Rattle.sdb_model.specs.declared.event.Event.TheVariants as event
-use Rattle.sdb_model.specs.declared.event.How.{How}
 use Rattle.sdb_model.specs.Rows.{Name}
 use Rattle.sdb_model.specs.Calls.{calls_of, made_by, is_stored_reply}
 use Rattle.sdb_model.specs.ReadSet.{read_set_of}
@@ -37,8 +30,7 @@ use Rattle.law_clients.specs.System.{ClientCall, ClientOk, Open, Reading, call_e
 use Rattle.law_clients.specs.Reads.{IsScanOk}
 use Rattle.sdb_validate.specs.Rescan.{reads_rise}
 use Rattle.law_clients.specs.Invariant.{RunInvariant}
-use Rattle.sdb_read.specs.Read.{ReadAt}
-use Rattle.sdb_record.specs.declared.access.Access.{Access}
+use Rattle.sdb_txn.specs.Read.{ReadAt}
 use Rattle.sdb_txn.specs.declared.txn.Doing.TheVariants as doing
 use Rattle.sdb_txn.specs.Txn.{TxnAt}
 use Rattle.sdb_types.proofs.Basics.{none_some, some_is, all_each as each_any, or_false, itself}
@@ -111,7 +103,7 @@ module _ (catalog : List Table) (events : List Event) (e : Event) (states : ℕ 
 
 -- what an open transaction has read and written is what its COMMIT goes by
 going_taken : (catalog : List Table) (fit : Tables → Bool) (es : List Event) (states : ℕ → ClientState) (g : RunInvariant catalog fit es (system_of states) (doing_of states)) (c : ℕ) → IsReady states c → (t : TxnAt) → (states c).client.txn ≡ Some t → IsTaken t.seen
-going_taken catalog fit es states g c ready t some = record { told = record { reads = ok.1.reads; found = ok.1.found; as_read = ok.1.as_read }; kept = ok.1.kept; rises = each_any (IsScanOk g.past) (λ x. reads_rise x.found ≡ true) t.seen.scans (λ x h. h.0) ok.1.scans }
+going_taken catalog fit es states g c ready t some = record { answered = record { reads = ok.1.reads; found = ok.1.found; as_read = ok.1.as_read }; kept = ok.1.kept; rises = each_any (IsScanOk g.past) (λ x. reads_rise x.found ≡ true) t.seen.scans (λ x h. h.0) ok.1.scans }
   where
     idle : t.doing ≡ doing.Idle
     idle = subst (λ (o : Option TxnAt). IfSome o (λ u. u.doing ≡ doing.Idle)) some ready.idle.still
@@ -213,12 +205,12 @@ starts_all catalog states fresh = record {
     none_told c n begin body s tail a since goes is = absurd (let e : [] ≡ begin ∷ (body ++ s ∷ tail) = sym (none_begins n) ∙ since in cc)
 
     nothing : (c : ℕ) → Knows catalog [] c (nothing_done c)
-    nothing c = record { told = []; waiting = None; same = refl; answered = tt; waits = tt; moved = tt; number = refl; begun = refl; small = positive; stands = (refl, refl); counted = record { answered = tt; commits = no_commits c; paired = tt; as_read = tt; waits = tt }; filled = tt; fits = tt; stored = tt; rolled = record { answered = tt; waits = tt }; shows = record { told_own = none_told c; sees_own = tt } }
+    nothing c = record { answered = []; waiting = None; same = refl; answered = tt; waits = tt; moved = tt; number = refl; begun = refl; small = positive; agrees = (refl, refl); counted = record { answered = tt; commits = no_commits c; paired = tt; as_read = tt; waits = tt }; filled = tt; fits = tt; stored = tt; rolled = record { answered = tt; waits = tt }; shows = record { told_own = none_told c; sees_own = tt } }
 
 ---- what follows
 
 answered_said : (catalog : List Table) (events : List Event) (c : ℕ) (h : Client) (k : Knows catalog events c h) (s : Executed) → Contains (statements_by c events) s → IsAnswered catalog events c s ⊎ IsWaiting catalog events c (is_some h.vacuum) s
-answered_said catalog events c h k s has = either (Contains-append_cases k.told (waiting_of k.waiting) s (subst (λ ss. Contains ss s) k.same has))
+answered_said catalog events c h k s has = either (Contains-append_cases k.answered (waiting_of k.waiting) s (subst (λ ss. Contains ss s) k.same has))
   where
     last : (o : Option Executed) → IfSome o (IsWaiting catalog events c (is_some h.vacuum)) → Contains (waiting_of o) s → IsWaiting catalog events c (is_some h.vacuum) s
     last None w x = absurd (none x)
@@ -234,8 +226,8 @@ answered_said catalog events c h k s has = either (Contains-append_cases k.told 
         only (inl y) = absurd (none y)
         only (inr e) = subst (IsWaiting catalog events c (is_some h.vacuum)) e waits
 
-    either : Contains k.told s ⊎ Contains (waiting_of k.waiting) s → IsAnswered catalog events c s ⊎ IsWaiting catalog events c (is_some h.vacuum) s
-    either (inl x) = inl (each_in (IsAnswered catalog events c) k.told s k.answered x)
+    either : Contains k.answered s ⊎ Contains (waiting_of k.waiting) s → IsAnswered catalog events c s ⊎ IsWaiting catalog events c (is_some h.vacuum) s
+    either (inl x) = inl (each_in (IsAnswered catalog events c) k.answered s k.answered x)
     either (inr x) = inr (last k.waiting k.waits x)
 
 ---- scans that were answered Conflict
@@ -248,14 +240,14 @@ through_last : (body : List Executed) (s : Executed) (tail : List Executed) → 
 through_last [] s tail all over = ap (λ b. if b then s ∷ [] else s ∷ through_end tail) over
 through_last (x ∷ xs) s tail all over = ap (λ b. if b then x ∷ [] else x ∷ through_end (xs ++ s ∷ tail)) all.0 ∙ ap (λ r. x ∷ r) (through_last xs s tail all.1 over)
 
-module _ (catalog : List Table) (events : List Event) (c : ℕ) (h : Client) (k : Knows catalog events c h) (s : Executed) (key : Key) (found : Option Record) (m : IsChangedIn events c k.told s key found) where
+module _ (catalog : List Table) (events : List Event) (c : ℕ) (h : Client) (k : Knows catalog events c h) (s : Executed) (key : Key) (found : Option Record) (m : IsChangedIn events c k.answered s key found) where
   -- since its BEGIN, with the statement that waits
   since_all_said : (tail : List Executed) × (from_begin m.n (statements_by c events) ≡ m.begin ∷ (m.body ++ s ∷ tail))
   since_all_said = by k.waiting (ap (from_begin m.n) k.same)
     where
-      by : (o : Option Executed) → from_begin m.n (statements_by c events) ≡ from_begin m.n (k.told ++ waiting_of o) → (tail : List Executed) × (from_begin m.n (statements_by c events) ≡ m.begin ∷ (m.body ++ s ∷ tail))
-      by None e = (m.tail, e ∙ ap (from_begin m.n) (append-nil k.told) ∙ m.since)
-      by (Some w) e = (m.tail ++ w ∷ [], e ∙ since_more m.n k.told w m.begin (m.body ++ s ∷ m.tail) m.since ∙ ap (λ r. m.begin ∷ r) (append_assoc m.body (s ∷ m.tail) (w ∷ [])))
+      by : (o : Option Executed) → from_begin m.n (statements_by c events) ≡ from_begin m.n (k.answered ++ waiting_of o) → (tail : List Executed) × (from_begin m.n (statements_by c events) ≡ m.begin ∷ (m.body ++ s ∷ tail))
+      by None e = (m.tail, e ∙ ap (from_begin m.n) (append-nil k.answered) ∙ m.since)
+      by (Some w) e = (m.tail ++ w ∷ [], e ∙ since_more m.n k.answered w m.begin (m.body ++ s ∷ m.tail) m.since ∙ ap (λ r. m.begin ∷ r) (append_assoc m.body (s ∷ m.tail) (w ∷ [])))
 
   noted_is : read_set_of events (id_of c m.n) ≡ read_items_of_body events c m.body
   noted_is =
@@ -288,7 +280,7 @@ module _ (catalog : List Table) (events : List Event) (c : ℕ) (h : Client) (k 
   moved_is = moved_by (reads_commit s.text) refl m.why
 
 scans_moved : (catalog : List Table) (events : List Event) (now : ℤ) (states : ℕ → ClientState) → CauseInvariant catalog events now states → (c : ℕ) (s : Executed) (key : Key) (found : Option Record) → Contains (statements_by c events) s → s.answer ≡ Some (answer.Conflict key found) → IsConflict events c s key found
-scans_moved catalog events now states ex c s key found has is = by (answered_or (Contains-append_cases k.told (waiting_of k.waiting) s (subst (λ ss. Contains ss s) k.same has)))
+scans_moved catalog events now states ex c s key found has is = by (answered_or (Contains-append_cases k.answered (waiting_of k.waiting) s (subst (λ ss. Contains ss s) k.same has)))
   where
     k : Knows catalog events c (states c).client
     k = ex.each c
@@ -301,12 +293,12 @@ scans_moved catalog events now states ex c s key found has is = by (answered_or 
         only (inl y) = absurd (omega (arith, y.1))
         only (inr e) = none_some (answer.Conflict key found) (sym waits.unanswered ∙ ap (λ (y : Executed). y.answer) e ∙ is)
 
-    answered_or : Contains k.told s ⊎ Contains (waiting_of k.waiting) s → Contains k.told s
+    answered_or : Contains k.answered s ⊎ Contains (waiting_of k.waiting) s → Contains k.answered s
     answered_or (inl x) = x
     answered_or (inr x) = absurd (unanswered k.waiting k.waits x)
 
-    by : Contains k.told s → IsConflict events c s key found
-    by x = moved_is catalog events c (states c).client k s key found (each_in (λ y. (z : Key) (f : Option Record) → y.answer ≡ Some (answer.Conflict z f) → IsChangedIn events c k.told y z f) k.told s k.moved x key found is)
+    by : Contains k.answered s → IsConflict events c s key found
+    by x = moved_is catalog events c (states c).client k s key found (each_in (λ y. (z : Key) (f : Option Record) → y.answer ≡ Some (answer.Conflict z f) → IsChangedIn events c k.answered y z f) k.answered s k.moved x key found is)
 
 ---- all answers
 
@@ -323,7 +315,7 @@ explained catalog events now states ex = record {
   };
   counted = calls_counted catalog events now states ex;
   rolled = records_rolled catalog events now states ex;
-  shown = rows_shown catalog events now states ex;
+  observed = rows_shown catalog events now states ex;
 }
   where
     caused_by : (c : ℕ) (s : Executed) (a : Answer) → s.answer ≡ Some a → is_conflict (Some a) ≡ false → IsAnswered catalog events c s ⊎ IsWaiting catalog events c (is_some (states c).client.vacuum) s → IsCaused catalog events c s a
@@ -332,6 +324,6 @@ explained catalog events now states ex = record {
         subst (IsCaused catalog events c s) same (k.caused (ap (λ (x : Answer). is_conflict (Some x)) same ∙ plain))
     caused_by c s a is plain (inr w) = none_some a (sym w.unanswered ∙ is)
 
-    turned_by : (c : ℕ) (s : Executed) (a : Answer) → IsRejected catalog (before s events) c s.text a → IsAnswered catalog events c s ⊎ IsWaiting catalog events c (is_some (states c).client.vacuum) s → (s.reached ≡ s.taken) × ((s.answer ≡ Some a) ⊎ (s.answer ≡ Some answer.NoMemory))
+    turned_by : (c : ℕ) (s : Executed) (a : Answer) → IsRejected catalog (before s events) c s.text a → IsAnswered catalog events c s ⊎ IsWaiting catalog events c (is_some (states c).client.vacuum) s → (s.reached ≡ s.accepted) × ((s.answer ≡ Some a) ⊎ (s.answer ≡ Some answer.NoMemory))
     turned_by c s a away (inl k) = k.rejected a away
     turned_by c s a away (inr w) = absurd (w.stays a away)

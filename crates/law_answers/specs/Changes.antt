@@ -2,35 +2,25 @@
 use Rattle.std.specs.Prelude.{◌≡◌, ◌⊎◌, ◌<◌, ◌^◌, ℕ, Bool, true, false, List, [], ◌∷◌, ◌++◌, map, filter, find, Option, Some, IfSome, Contains}
 use Rattle.std.specs.List.{AllByRecursion, filter_map, flat_map, list_all}
 use Rattle.std.specs.Option.{option_and_then}
-use Rattle.sdb_types.specs.declared.txid.TxId.{TxId}
-use Rattle.sdb_types.specs.declared.record.Record.{Record}
-use Rattle.sdb_types.specs.declared.record.Reply.{Reply}
+use Rattle.law_answers.specs.Types.{Decided, Decision, Event, Key, ReadStep, Record, RecoverPhase, Reply, Request, Span, TxId}
 use Rattle.sdb_types.specs.declared.record.Reply.TheVariants as reply
-use Rattle.sdb_types.specs.declared.record.Request.{Request}
 use Rattle.sdb_types.specs.declared.record.Request.TheVariants as ask
-use Rattle.sdb_types.specs.declared.record.Span.{Span}
 use Rattle.sdb_types.specs.declared.record.State.TheVariants as state
-use Rattle.sdb_types.specs.declared.key.Key.{Key}
 use Rattle.sdb_types.specs.Contents.{CanAnswer, in_span, record_among, rise}
-use Rattle.sdb_record.specs.declared.coordinator.Decided.{Decided}
-use Rattle.sdb_record.specs.declared.coordinator.Decision.{Decision}
 use Rattle.sdb_record.specs.declared.coordinator.Decision.TheVariants as decision
 use Rattle.sdb_record.specs.Meta.{id_in, is_in, is_moment, is_transactional}
 use Rattle.sdb_record.specs.Moved.{version_of}
 use Rattle.sdb_record.specs.Rolls.{IsWrite, image_under}
-use Rattle.sdb_model.specs.declared.event.Event.{Event}
 use Rattle.sdb_model.specs.Calls.{StoreCall, calls_of, decision_observed, put_by, records_read}
 use Rattle.sdb_model.specs.ReadSet.{KeyRead, ReadItem, SpanRead, meaning_of, read_items, reads_rows, rolls, version_read, has_read}
 use Rattle.sdb_model.specs.Transactions.{Executed, ends, from_begin, id_of}
 use Rattle.sdb_model.specs.declared.answer.Answer.TheVariants as answer
 use Rattle.sdb_model.specs.Causes.{ConflictsAtCommit, HasChanged}
 use Rattle.sdb_model.specs.Sql.{reads_commit}
-use Rattle.sdb_phases.specs.declared.step.RecoverPhase.{RecoverPhase}
 use Rattle.sdb_phases.specs.declared.step.RecoverPhase.TheVariants as phase
 use Rattle.sdb_phases.specs.Work.{Work}
-use Rattle.sdb_read.specs.declared.read.ReadStep.{ReadStep}
-use Rattle.sdb_read.specs.declared.read.ReadStep.TheVariants as step
-use Rattle.sdb_read.specs.Read.{Asking, Ended, ReadStage, Resolving}
+use Rattle.sdb_txn.specs.declared.read.ReadStep.TheVariants as step
+use Rattle.sdb_txn.specs.Read.{Asking, Ended, ReadStage, Resolving}
 use Rattle.sdb_snapshot.specs.Seen.{Seen}
 use Rattle.law_clients.specs.Calls.{IsUnrolled}
 use Rattle.sdb_validate.specs.Rescan.{reads_rise}
@@ -39,7 +29,7 @@ use Rattle.sdb_validate.specs.Rescan.{reads_rise}
 pub record HasObserved (calls : List StoreCall) (id : TxId) (d : Decided) : Type 0 where
   pub call : StoreCall
   pub among : Contains calls call
-  pub shown : decision_observed id call ≡ Some d
+  pub observed : decision_observed id call ≡ Some d
 
 -- A record was rolled: by a decision that a call showed on its transaction, and the call that rolled it put what this makes of it.
 pub record IsRolledAs (calls : List StoreCall) (r : Record) (o : Option Record) : Type 0 where
@@ -48,7 +38,7 @@ pub record IsRolledAs (calls : List StoreCall) (r : Record) (o : Option Record) 
   pub roll : StoreCall
   pub open_still : is_in state.Committed r.columns ≡ false
   pub writer : id_in r.columns ≡ Some id
-  pub shown : HasObserved calls id decided
+  pub observed : HasObserved calls id decided
   pub image : o ≡ image_under r (Some decided)
   pub rolled : find (rolls r) calls ≡ Some roll
   pub puts : put_by roll.request ≡ o
@@ -83,7 +73,7 @@ pub record HasRead (q : Request) (calls : List StoreCall) (images left : List Re
   pub calls_are : calls ≡ first ∷ rest
   pub request : first.request ≡ q
   pub can : CanAnswer q first.reply
-  pub told : IsRows first.reply
+  pub answered : IsRows first.reply
   pub others : AllByRecursion (λ m. reads_rows m ≡ false) rest
   pub steps : List (Record × Option Record)
   pub settled : AllByRecursion (IsSettledAs calls) steps
@@ -141,12 +131,12 @@ ChangesBy true id calls read_set key found = ConflictsAtCommit calls read_set id
 ChangesBy false id calls read_set key found = ChangesAtScan calls read_set key found
 
 -- A statement that was answered Conflict ended its transaction, and had found a change.
-pub record IsChangedIn (events : List Event) (c : ℕ) (told : List Executed) (s : Executed) (key : Key) (found : Option Record) : Type 0 where
+pub record IsChangedIn (events : List Event) (c : ℕ) (answered : List Executed) (s : Executed) (key : Key) (found : Option Record) : Type 0 where
   pub n : ℕ
   pub begin : Executed
   pub body : List Executed
   pub tail : List Executed
-  pub since : from_begin n told ≡ begin ∷ (body ++ s ∷ tail)
+  pub since : from_begin n answered ≡ begin ∷ (body ++ s ∷ tail)
   pub goes_on : AllByRecursion (λ x. ends x ≡ false) body
   pub over : ends s ≡ true
   pub small : n < 2 ^ 64
@@ -154,4 +144,4 @@ pub record IsChangedIn (events : List Event) (c : ℕ) (told : List Executed) (s
 
 -- each of these statements that was answered Conflict did so
 abbrev pub AreChanged : List Event → ℕ → List Executed → List Executed → Type 0
-AreChanged events c told ss = AllByRecursion (λ s. (key : Key) (found : Option Record) → s.answer ≡ Some (answer.Conflict key found) → IsChangedIn events c told s key found) ss
+AreChanged events c answered ss = AllByRecursion (λ s. (key : Key) (found : Option Record) → s.answer ≡ Some (answer.Conflict key found) → IsChangedIn events c answered s key found) ss

@@ -1,9 +1,7 @@
 -- The stage of a COMMIT by its calls so far, and why it ends so.
 use Rattle.std.specs.Prelude.{◌≡◌, ◌⊎◌, ℕ, true, false, List, None, Err, MatchBool, Contains, All}
 use Rattle.std.specs.List.{AllByRecursion}
-use Rattle.sdb_types.specs.declared.txid.TxId.{TxId}
-use Rattle.sdb_types.specs.declared.key.Key.{Key}
-use Rattle.sdb_types.specs.declared.record.Record.{Record}
+use Rattle.law_answers.specs.Types.{Key, Outcome, Record, TxId}
 use Rattle.sdb_types.specs.declared.record.Reply.TheVariants as reply
 use Rattle.sdb_record.specs.declared.coordinator.Decision.TheVariants as decision
 use Rattle.sdb_record.specs.Coordinator.{coordinator_key_of, decision_in, is_coordinator_table}
@@ -12,7 +10,6 @@ use Rattle.sdb_model.specs.Calls.{StoreCall, calls_after, calls_before, decision
 use Rattle.sdb_model.specs.Causes.{HasReply, IsDecided, PutsRow}
 use Rattle.sdb_model.specs.ReadSet.{reads_rows}
 use Rattle.sdb_phases.specs.declared.step.DecidePhase.TheVariants as phase
-use Rattle.sdb_phases.specs.declared.step.Outcome.{Outcome}
 use Rattle.sdb_phases.specs.declared.step.Outcome.TheVariants as outcome
 use Rattle.sdb_phases.specs.Work.{Work}
 use Rattle.sdb_phases.specs.Commit.{Stage, Preparing, Checking, Deciding, Forward, Stopping, Back, Over}
@@ -61,7 +58,7 @@ pub record ObservesBad (calls : List StoreCall) (key : Key) : Type 0 where
   pub call : StoreCall
   pub found : Record
   pub among : Contains calls call
-  pub shown : Contains (records_observed call.reply) found
+  pub observed : Contains (records_observed call.reply) found
   pub same : found.key ≡ key
   pub bad : IsBadRow found
   pub place : (is_coordinator_table found.key.table ≡ true) ⊎ ((reads_rows call ≡ true) × Contains (records_read call.reply) found)

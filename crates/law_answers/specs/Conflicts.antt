@@ -1,13 +1,11 @@
 -- What a COMMIT has prepared and checked by its calls so far, and why it ends with a conflict.
 use Rattle.std.specs.Prelude.{◌≡◌, ◌<◌, ℕ, true, List, length, Some, Contains, slice_get}
 use Rattle.std.specs.List.{AllByRecursion}
-use Rattle.sdb_types.specs.declared.key.Key.{Key}
-use Rattle.sdb_record.specs.declared.write.Write.{Write}
+use Rattle.law_answers.specs.Types.{Key, Outcome, Write}
 use Rattle.sdb_record.specs.Among.{is_written}
 use Rattle.sdb_model.specs.Calls.{StoreCall}
 use Rattle.sdb_model.specs.Causes.{ConflictsAtCommit, prepares_key}
 use Rattle.sdb_model.specs.ReadSet.{ReadItem}
-use Rattle.sdb_phases.specs.declared.step.Outcome.{Outcome}
 use Rattle.sdb_phases.specs.declared.step.Outcome.TheVariants as outcome
 use Rattle.sdb_phases.specs.Commit.{Stage, Preparing, Checking, Deciding, Forward, Stopping, Back, Over}
 use Rattle.sdb_phases.specs.Work.{Work, prepare_of}

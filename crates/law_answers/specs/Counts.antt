@@ -1,35 +1,25 @@
 -- How many calls a statement has made: against the unresolved records that its reads found, or against what a COMMIT is to make.
 use Rattle.std.specs.Prelude.{◌≡◌, ◌≢◌, ◌≤◌, ◌<◌, ◌+◌, ◌*◌, ℕ, Bool, true, false, List, [], ◌∷◌, ◌++◌, filter, length, map, take, Option, Some, None, IfSome, Contains}
 use Rattle.std.specs.List.{AllByRecursion, count_by}
-use Rattle.sdb_types.specs.declared.key.Key.{Key}
-use Rattle.sdb_types.specs.declared.record.Record.{Record}
-use Rattle.sdb_types.specs.declared.txid.TxId.{TxId}
-use Rattle.sdb_record.specs.declared.access.Read.{Read}
-use Rattle.sdb_record.specs.declared.access.Scan.{Scan}
+use Rattle.law_answers.specs.Types.{Answer, DecidePhase, Doing, Event, Key, Read, Record, RecoverPhase, Scan, Table, TxId}
 use Rattle.sdb_record.specs.Meta.{is_unresolved}
 use Rattle.sdb_record.specs.Rolls.{IsWrite}
-use Rattle.sdb_schema.specs.declared.table.Table.{Table}
-use Rattle.sdb_model.specs.declared.answer.Answer.{Answer}
 use Rattle.sdb_model.specs.declared.answer.Answer.TheVariants as answer
-use Rattle.sdb_model.specs.declared.event.Event.{Event}
 use Rattle.sdb_model.specs.Calls.{StoreCall, calls_of}
 use Rattle.sdb_model.specs.Causes.{is_open_after}
 use Rattle.sdb_model.specs.Counted.{IsReadCounted, IsVacuumCounted, is_checked_get, is_scan, is_seen, prepares_in, removals_in, unresolved_in}
 use Rattle.sdb_model.specs.ReadSet.{KeyRead, ReadItem, SpanRead, read_set_of}
 use Rattle.sdb_model.specs.Sql.{reads_commit, reads_vacuum}
 use Rattle.sdb_model.specs.Transactions.{Executed, begins, client_of, commit_of, ends, from_begin, id_of, rest_of, statements_by}
-use Rattle.sdb_phases.specs.declared.step.DecidePhase.{DecidePhase}
 use Rattle.sdb_phases.specs.declared.step.DecidePhase.TheVariants as decide
 use Rattle.sdb_phases.specs.declared.step.Outcome.TheVariants as outcome
 use Rattle.law_answers.specs.Commits.{PutsOutOfMemory}
-use Rattle.sdb_phases.specs.declared.step.RecoverPhase.{RecoverPhase}
 use Rattle.sdb_phases.specs.declared.step.RecoverPhase.TheVariants as phase
 use Rattle.sdb_phases.specs.Checks.{checks}
 use Rattle.sdb_phases.specs.Commit.{Back, Checking, Deciding, Forward, Over, Preparing, Stage, Stopping}
 use Rattle.sdb_phases.specs.Work.{Work, prepares}
-use Rattle.sdb_read.specs.Read.{Asking, Ended, ReadStage, Resolving}
+use Rattle.sdb_txn.specs.Read.{Asking, Ended, ReadStage, Resolving}
 use Rattle.sdb_snapshot.specs.Seen.{Seen}
-use Rattle.sdb_txn.specs.declared.txn.Doing.{Doing}
 use Rattle.sdb_txn.specs.declared.txn.Doing.TheVariants as doing
 use Rattle.sdb_txn.specs.Txn.{TxnAt}
 use Rattle.sdb_vacuum.specs.Vacuum as vacuum
@@ -138,7 +128,7 @@ pub record IsCountedBy (catalog : List Table) (text : List ℕ) (calls : List St
 
 -- what the statements since the BEGIN of a transaction have read
 abbrev pub read_items_since : List Event → ℕ → ℕ → List Executed → List ReadItem
-read_items_since events c n told = read_items_of_body events c (rest_of (from_begin n told))
+read_items_since events c n answered = read_items_of_body events c (rest_of (from_begin n answered))
 
 -- what an open transaction has read, by what it does
 abbrev pub ReadByDoing : List ReadItem → Seen → Doing → Type 0
@@ -164,22 +154,22 @@ abbrev pub WaitCounted : List Table → List ℕ → TxId → List ReadItem → 
 WaitCounted catalog text id read_set calls None o = OpenCounted text id read_set calls o
 WaitCounted catalog text id read_set calls (Some v) o = VacuumIsCounted catalog calls v
 
--- Each BEGIN that was answered Done was taken where no transaction was open.
+-- Each BEGIN that was answered Done was accepted where no transaction was open.
 abbrev pub ArePaired : Bool → List Executed → Type 0
 ArePaired was [] = Unit {0}
 ArePaired was (s ∷ ss) = (begins s ≡ true → was ≡ false) × ArePaired (is_open_after was s) ss
 
 -- each COMMIT that ended a transaction fits what that has read
 abbrev pub CommitsAreCounted : List Event → ℕ → List Executed → Type 0
-CommitsAreCounted events c told = (n : ℕ) (begin : Executed) (body : List Executed) (s : Executed) (tail : List Executed) → from_begin n told ≡ begin ∷ (body ++ s ∷ tail) → AllByRecursion (λ x. ends x ≡ false) body → reads_commit s.text ≡ true → CommitIsCounted (read_items_of_body events c body) (id_of c n) s.answer (calls_of events c s)
+CommitsAreCounted events c answered = (n : ℕ) (begin : Executed) (body : List Executed) (s : Executed) (tail : List Executed) → from_begin n answered ≡ begin ∷ (body ++ s ∷ tail) → AllByRecursion (λ x. ends x ≡ false) body → reads_commit s.text ≡ true → CommitIsCounted (read_items_of_body events c body) (id_of c n) s.answer (calls_of events c s)
 
 -- The calls of the statements that were answered, and of the one that waits.
-pub record CountsBy (catalog : List Table) (events : List Event) (c : ℕ) (told : List Executed) (waiting : Option Executed) (h : ClientAt) : Type 0 where
-  pub answered : AllByRecursion (λ s. IsCountedBy catalog s.text (calls_of events c s)) told
-  pub commits : CommitsAreCounted events c told
-  pub paired : ArePaired false told
-  pub as_read : ReadByTxn (read_items_since events c h.begun told) h.txn
-  pub waits : IfSome waiting (λ w. WaitCounted catalog w.text (id_of c h.begun) (read_items_since events c h.begun told) (calls_of events c w) h.vacuum h.txn)
+pub record CountsBy (catalog : List Table) (events : List Event) (c : ℕ) (answered : List Executed) (waiting : Option Executed) (h : ClientAt) : Type 0 where
+  pub answered : AllByRecursion (λ s. IsCountedBy catalog s.text (calls_of events c s)) answered
+  pub commits : CommitsAreCounted events c answered
+  pub paired : ArePaired false answered
+  pub as_read : ReadByTxn (read_items_since events c h.begun answered) h.txn
+  pub waits : IfSome waiting (λ w. WaitCounted catalog w.text (id_of c h.begun) (read_items_since events c h.begun answered) (calls_of events c w) h.vacuum h.txn)
 
 -- The calls of all statements are counted, those of a COMMIT by what its transaction has read.
 pub record CallsAreCounted (catalog : List Table) (events : List Event) : Type 0 where

@@ -1,14 +1,13 @@
 -- How many keys an open transaction has written, and how many records it has read: no more than its statements counted and found.
 use Rattle.std.specs.Prelude.{ℕ, ◌≤◌, List, filter, length, sum_by, is_some}
 use Rattle.std.specs.List.{count_by}
-use Rattle.sdb_model.specs.declared.event.Event.{Event}
+use Rattle.law_answers.specs.Types.{Doing, Event}
 use Rattle.sdb_model.specs.Calls.{calls_of}
 use Rattle.sdb_model.specs.Causes.{records_found, rows_counted}
 use Rattle.sdb_model.specs.ReadSet.{has_read}
 use Rattle.sdb_model.specs.Transactions.{Executed, is_effective}
 use Rattle.sdb_snapshot.specs.Reads.{ReadRecord}
 use Rattle.sdb_snapshot.specs.Seen.{Seen}
-use Rattle.sdb_txn.specs.declared.txn.Doing.{Doing}
 use Rattle.sdb_txn.specs.declared.txn.Doing.TheVariants as doing
 use Rattle.sdb_txn.specs.Txn.{TxnAt}
 
@@ -29,7 +28,7 @@ pub record IsFilledBy (counted found : ℕ) (s : Seen) : Type 0 where
   pub writes : length s.writes ≤ counted
   pub read_set : records_read_in s.read_set ≤ found
 
--- This holds of a transaction whose COMMIT is not taken yet.
+-- This holds of a transaction whose COMMIT is not accepted yet.
 abbrev pub IsFilledIn : List Event → ℕ → List Executed → Seen → Doing → Type 0
 IsFilledIn events c body s (doing.Commit k) = Unit {0}
 IsFilledIn events c body s d = IsFilledBy (rows_counted_by body) (records_found_by events c body) s

@@ -2,10 +2,8 @@
 -- so, and what the calls of the statement that waits determine of the client's state.
 use Rattle.std.specs.Prelude.{◌≡◌, ◌≢◌, ◌⊎◌, ◌<◌, ◌≤◌, ◌^◌, ℕ, suc, ℤ, not, if◌then◌else◌, Bool, true, false, List, [], ◌∷◌, ◌++◌, length, fold, Option, Some, None, IfSome, is_some}
 use Rattle.std.specs.List.{AllByRecursion}
-use Rattle.sdb_schema.specs.declared.table.Table.{Table}
-use Rattle.sdb_model.specs.declared.answer.Answer.{Answer}
+use Rattle.law_answers.specs.Types.{Answer, Doing, Event, Gate, Table}
 use Rattle.sdb_model.specs.declared.answer.Answer.TheVariants as answer
-use Rattle.sdb_model.specs.declared.event.Event.{Event}
 use Rattle.sdb_model.specs.Calls.{calls_by, calls_of, clock_at}
 use Rattle.sdb_model.specs.Causes.{AreCaused, IsCaused, IsRejected, before, is_open, is_open_after}
 use Rattle.sdb_model.specs.Follows.{has_stopped}
@@ -14,14 +12,12 @@ use Rattle.sdb_model.specs.Transactions.{Executed, begins, ends, from_begin, id_
 use Rattle.sdb_exec.specs.Plans.{Planned}
 use Rattle.law_protocol.specs.History.{at}
 use Rattle.sdb_record.specs.Meta.{is_moment}
-use Rattle.sdb_commit.specs.Phases.{CommitAt}
-use Rattle.sdb_read.specs.Read.{ReadAt}
-use Rattle.sdb_txn.specs.declared.txn.Doing.{Doing}
+use Rattle.sdb_txn.specs.Phases.{CommitAt}
+use Rattle.sdb_txn.specs.Read.{ReadAt}
 use Rattle.sdb_txn.specs.declared.txn.Doing.TheVariants as doing
 use Rattle.sdb_txn.specs.Txn.{TxnAt}
 use Rattle.sdb_vacuum.specs.Vacuum.{VacuumAt}
 use Rattle.sdb_client.specs.Client.{ClientAt}
-use Rattle.sdb_client.specs.declared.gate.Gate.{Gate}
 use Rattle.law_clients.specs.Invariant.{IsInner}
 use Rattle.law_clients.specs.States.{ClientState}
 use Rattle.law_clients.specs.History.{waiting_of}
@@ -43,19 +39,19 @@ use Rattle.law_answers.specs.Unfit.{IsFitOrReadTxn, AreStoredReplies}
 pub record IsAnswered (catalog : List Table) (events : List Event) (c : ℕ) (s : Executed) : Type 0 where
   pub given : Answer
   pub is : s.answer ≡ Some given
-  pub taken : s.taken ≤ length events
+  pub accepted : s.accepted ≤ length events
   pub answered : s.reached ≤ length events
   pub caused : is_conflict (Some given) ≡ false → IsCaused catalog events c s given
-  pub rejected : (a : Answer) → IsRejected catalog (before s events) c s.text a → (s.reached ≡ s.taken) × ((s.answer ≡ Some a) ⊎ (s.answer ≡ Some answer.NoMemory))
+  pub rejected : (a : Answer) → IsRejected catalog (before s events) c s.text a → (s.reached ≡ s.accepted) × ((s.answer ≡ Some a) ⊎ (s.answer ≡ Some answer.NoMemory))
 
--- A statement that waits for its answer: it is a VACUUM that was taken outside of transactions, or its transaction was open when it was
--- taken, and it was not to be turned away.
-pub record IsWaiting (catalog : List Table) (events : List Event) (c : ℕ) (sweeps : Bool) (w : Executed) : Type 0 where
+-- A statement that waits for its answer: it is a VACUUM that was accepted outside of transactions, or its transaction was open when it was
+-- accepted, and it was not to be turned away.
+pub record IsWaiting (catalog : List Table) (events : List Event) (c : ℕ) (vacuums : Bool) (w : Executed) : Type 0 where
   pub unanswered : w.answer ≡ None
-  pub taken : w.taken ≤ length events
+  pub accepted : w.accepted ≤ length events
   pub begin : reads_begin w.text ≡ false
-  pub vacuum : reads_vacuum w.text ≡ sweeps
-  pub opened : is_open (before w events) c ≡ not sweeps
+  pub vacuum : reads_vacuum w.text ≡ vacuums
+  pub opened : is_open (before w events) c ≡ not vacuums
   pub stays : (a : Answer) → IsRejected catalog (before w events) c w.text a → ⊥
 
 -- how many transactions began
@@ -65,13 +61,13 @@ begun_in (s ∷ ss) = if begins s then suc (begun_in ss) else begun_in ss
 
 -- a client has a transaction open after its statements
 abbrev pub open_after : List Executed → Bool
-open_after told = fold is_open_after false told
+open_after answered = fold is_open_after false answered
 
 -- The client's transaction of that ordinal is open, under its id: none of its statements since its BEGIN ended it.
-pub record IsOpenAs (c n : ℕ) (told : List Executed) (t : TxnAt) : Type 0 where
+pub record IsOpenAs (c n : ℕ) (answered : List Executed) (t : TxnAt) : Type 0 where
   pub begin : Executed
   pub body : List Executed
-  pub since : from_begin n told ≡ begin ∷ body
+  pub since : from_begin n answered ≡ begin ∷ body
   pub goes_on : AllByRecursion (λ s. ends s ≡ false) body
   pub id : t.id ≡ id_of c n
   pub client : c < 2 ^ 64
@@ -99,44 +95,44 @@ IsDoing events c t p w d = ⊥
 
 -- The read set of the statements is what the transaction has read, and what its COMMIT takes, prepares and checks.
 abbrev pub IsReadSetOf : List Event → ℕ → List Executed → List Executed → TxnAt → Doing → Option Executed → Type 0
-IsReadSetOf events c told body t (doing.Commit k) None = Unit {0}
-IsReadSetOf events c told body t (doing.Commit k) (Some w) =
+IsReadSetOf events c answered body t (doing.Commit k) None = Unit {0}
+IsReadSetOf events c answered body t (doing.Commit k) (Some w) =
     WorkBy (read_items_of_body events c body) k.work × ChecksBy (read_items_of_body events c body) k.work (calls_of events c w) k.stage
-IsReadSetOf events c told body t d w = SeenBy (read_items_of_body events c body) t.seen
+IsReadSetOf events c answered body t d w = SeenBy (read_items_of_body events c body) t.seen
 
 -- where a client is, by its statements
 abbrev pub DoingByHistory : List Event → ℕ → ℕ → List Executed → Option Executed → Option Planned → Option TxnAt → Type 0
-DoingByHistory events c n told w p None = (w ≡ None) × (open_after told ≡ false)
-DoingByHistory events c n told w p (Some t) = (open_after told ≡ true) × (o : IsOpenAs c n told t) × IsDoing events c t p w t.doing × IsReadSetOf events c told o.body t t.doing w
+DoingByHistory events c n answered w p None = (w ≡ None) × (open_after answered ≡ false)
+DoingByHistory events c n answered w p (Some t) = (open_after answered ≡ true) × (o : IsOpenAs c n answered t) × IsDoing events c t p w t.doing × IsReadSetOf events c answered o.body t t.doing w
 
 -- it is a VACUUM, which is where its calls say
 abbrev pub IsInVacuum : List Event → ℕ → List Executed → Option Executed → Option TxnAt → VacuumAt → Type 0
-IsInVacuum events c told None o v = ⊥
-IsInVacuum events c told (Some w) o v = (o ≡ None) × (open_after told ≡ false) × VacuumBy (calls_of events c w) v
+IsInVacuum events c answered None o v = ⊥
+IsInVacuum events c answered (Some w) o v = (o ≡ None) × (open_after answered ≡ false) × VacuumBy (calls_of events c w) v
 
 -- by the VACUUM that it runs, or else its open transaction
 abbrev pub ClientByHistory : List Event → ℕ → ℕ → List Executed → Option Executed → Option Planned → Option TxnAt → Option VacuumAt → Type 0
-ClientByHistory events c n told w p o None = DoingByHistory events c n told w p o
-ClientByHistory events c n told w p o (Some v) = IsInVacuum events c told w o v
+ClientByHistory events c n answered w p o None = DoingByHistory events c n answered w p o
+ClientByHistory events c n answered w p o (Some v) = IsInVacuum events c answered w o v
 
 -- What holds of a client: its statements with their answers, and its state.
 pub record Knows (catalog : List Table) (events : List Event) (c : ℕ) (h : ClientAt) : Type 0 where
-  pub told : List Executed
+  pub answered : List Executed
   pub waiting : Option Executed
-  pub same : statements_by c events ≡ told ++ waiting_of waiting
-  pub answered : AllByRecursion (IsAnswered catalog events c) told
+  pub same : statements_by c events ≡ answered ++ waiting_of waiting
+  pub answered : AllByRecursion (IsAnswered catalog events c) answered
   pub waits : IfSome waiting (IsWaiting catalog events c (is_some h.vacuum))
-  pub moved : AreChanged events c told told
+  pub moved : AreChanged events c answered answered
   pub number : h.number ≡ c
-  pub begun : h.begun ≡ begun_in told
+  pub begun : h.begun ≡ begun_in answered
   pub small : h.begun < 2 ^ 64
-  pub stands : ClientByHistory events c h.begun told waiting h.plan h.txn h.vacuum
-  pub counted : CountsBy catalog events c told waiting h
-  pub filled : IfSome h.txn (IsFilled events c (rest_of (from_begin h.begun told)))
-  pub fits : IfSome h.txn (IsFitOrReadTxn catalog events c (rest_of (from_begin h.begun told)))
+  pub agrees : ClientByHistory events c h.begun answered waiting h.plan h.txn h.vacuum
+  pub counted : CountsBy catalog events c answered waiting h
+  pub filled : IfSome h.txn (IsFilled events c (rest_of (from_begin h.begun answered)))
+  pub fits : IfSome h.txn (IsFitOrReadTxn catalog events c (rest_of (from_begin h.begun answered)))
   pub stored : AreStoredReplies (calls_by events c)
-  pub rolled : RollsBy events c told waiting h
-  pub shows : ViewBy catalog events c told h
+  pub rolled : RollsBy events c answered waiting h
+  pub shows : ViewBy catalog events c answered h
 
 ---- all clients
 
@@ -168,7 +164,7 @@ SomeInVacuum states c = (d : ℕ) × (d ≢ c) × ((states d).stopped ≡ false)
 
 -- A gate says what the other clients do: whether one that hasn't stopped runs VACUUM, and whether one has a transaction open.
 pub record IsGate (states : ℕ → ClientState) (c : ℕ) (g : Gate) : Type 0 where
-  pub sweeps : g.vacuum_runs ≡ true → SomeInVacuum states c
+  pub vacuums : g.vacuum_runs ≡ true → SomeInVacuum states c
   pub rests : g.vacuum_runs ≡ false → NoneInVacuum states c
   pub some : g.open_elsewhere ≡ true → SomeElsewhere states c
   pub none : g.open_elsewhere ≡ false → NoneElsewhere states c
@@ -181,4 +177,4 @@ pub record AnswersHaveCauses (catalog : List Table) (events : List Event) : Type
   pub caused : AreCaused catalog events
   pub counted : CallsAreCounted catalog events
   pub rolled : RecordsAreRolled events
-  pub shown : RowsAreOwn catalog events
+  pub observed : RowsAreOwn catalog events

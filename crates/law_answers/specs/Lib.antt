@@ -1,3 +1,4 @@
+pub mod Types
 pub mod Commits
 pub mod Reads
 pub mod Vacuums
@@ -10,3 +11,6 @@ pub mod Unfit
 pub mod Rolled
 pub mod Views
 pub mod Turns
+pub mod Paths
+pub mod Ends
+pub mod Recoveries

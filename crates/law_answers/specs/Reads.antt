@@ -1,20 +1,14 @@
 -- The stage of a read by the calls of its statement, and why it ends so.
 use Rattle.std.specs.Prelude.{◌≡◌, ℤ, true, false, List, ◌∷◌, Contains}
 use Rattle.std.specs.List.{AllByRecursion}
-use Rattle.sdb_types.specs.declared.txid.TxId.{TxId}
-use Rattle.sdb_types.specs.declared.key.Key.{Key}
-use Rattle.sdb_types.specs.declared.record.Record.{Record}
-use Rattle.sdb_record.specs.declared.meta.Meta.{Meta}
+use Rattle.law_answers.specs.Types.{Event, Key, Meta, ReadStep, Record, RecoverPhase, TxId}
 use Rattle.sdb_record.specs.Coordinator.{is_coordinator_table}
-use Rattle.sdb_model.specs.declared.event.Event.{Event}
 use Rattle.sdb_model.specs.Calls.{StoreCall, is_read, records_read}
 use Rattle.sdb_model.specs.Causes.{HasReply, IsEarly}
 use Rattle.sdb_model.specs.Events.{table_asked}
-use Rattle.sdb_phases.specs.declared.step.RecoverPhase.{RecoverPhase}
 use Rattle.sdb_phases.specs.declared.step.RecoverPhase.TheVariants as phase
-use Rattle.sdb_read.specs.declared.read.ReadStep.{ReadStep}
-use Rattle.sdb_read.specs.declared.read.ReadStep.TheVariants as step
-use Rattle.sdb_read.specs.Read.{Asking, Ended, Open, ReadStage, Resolving, kind_of}
+use Rattle.sdb_txn.specs.declared.read.ReadStep.TheVariants as step
+use Rattle.sdb_txn.specs.Read.{Asking, Ended, Open, ReadStage, Resolving, kind_of}
 use Rattle.law_answers.specs.Commits.{ObservesBad}
 use Rattle.sdb_types.specs.Replies.{is_fault}
 

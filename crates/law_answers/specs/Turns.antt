@@ -1,8 +1,6 @@
 -- Turns of clients, and the cause invariant after them.
 use Rattle.std.specs.Prelude.{◌≡◌, ℕ, ℤ, Bool, List, true}
-use Rattle.sdb_schema.specs.declared.table.Table.{Table}
-use Rattle.sdb_model.specs.declared.event.Event.{Event}
-use Rattle.sdb_model.specs.declared.script.Script.{Script}
+use Rattle.law_answers.specs.Types.{Event, Script, Table}
 use Rattle.sdb_model.specs.Exec.{Tables}
 use Rattle.sdb_model.specs.Follows.{Follows}
 use Rattle.law_clients.specs.Invariant.{RunInvariant}
@@ -24,9 +22,9 @@ pub record CauseInvariantAt : Type 0 where
 pub record AreReached (catalog : List Table) (states : ℕ → ClientState) : Type 0 where
   pub events : List Event
   pub fit : Tables → Bool
-  pub going : RunInvariant catalog fit events (system_of states) (doing_of states)
+  pub running : RunInvariant catalog fit events (system_of states) (doing_of states)
 
--- A text is taken by a client of these, where the gate says what the others do.
+-- A text is accepted by a client of these, where the gate says what the others do.
 pub record IsGatedTake (t : TextExecuted) : Type 0 where
   pub gate : IsGate t.states t.client t.q.gate
   pub reached : AreReached t.q.catalog t.states

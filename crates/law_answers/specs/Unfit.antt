@@ -3,12 +3,7 @@
 use Rattle.std.specs.Prelude.{◌≡◌, ◌⊎◌, ℕ, Bool, true, List, filter, Option, Some, is_some, Contains}
 use Rattle.std.specs.List.{AllByRecursion}
 use Rattle.std.specs.Option.{option_map_or}
-use Rattle.sdb_types.specs.declared.key.Key.{Key}
-use Rattle.sdb_types.specs.declared.pair.Pair.{Pair}
-use Rattle.sdb_schema.specs.declared.table.Table.{Table}
-use Rattle.sdb_types.specs.declared.record.Record.{Record}
-use Rattle.sdb_record.specs.declared.access.Image.{Image}
-use Rattle.sdb_model.specs.declared.event.Event.{Event}
+use Rattle.law_answers.specs.Types.{Doing, Event, Image, Key, Pair, Record, Table}
 use Rattle.sdb_model.specs.Calls.{StoreCall, calls_of, is_stored_reply, records_read}
 use Rattle.sdb_model.specs.Causes.{is_misfit}
 use Rattle.sdb_model.specs.Exec.{Tables, all_rows, find_table, tables_of_rows}
@@ -16,7 +11,6 @@ use Rattle.sdb_model.specs.ReadSet.{has_read, reads_rows}
 use Rattle.sdb_model.specs.Transactions.{Executed}
 use Rattle.sdb_snapshot.specs.Seen.{Seen, row_seen}
 use Rattle.law_clients.specs.Fitting.{row_is_well_typed}
-use Rattle.sdb_txn.specs.declared.txn.Doing.{Doing}
 use Rattle.sdb_txn.specs.declared.txn.Doing.TheVariants as doing
 use Rattle.sdb_txn.specs.Txn.{TxnAt}
 
@@ -38,7 +32,7 @@ pub record WasMisfit (catalog : List Table) (events : List Event) (c : ℕ) (bod
 abbrev pub SeesFitOrRead : List Table → List Event → ℕ → List Executed → Seen → Type 0
 SeesFitOrRead catalog events c body s = (q : Key) (cs : List Pair) → row_seen s.read_set s.writes q ≡ Some cs → (row_is_well_typed catalog q cs ≡ true) ⊎ ((is_some (find_table catalog q.table) ≡ true) × WasMisfit catalog events c body q)
 
--- This holds of a transaction whose COMMIT is not taken yet.
+-- This holds of a transaction whose COMMIT is not accepted yet.
 abbrev pub SeesFitOrReadIn : List Table → List Event → ℕ → List Executed → Seen → Doing → Type 0
 SeesFitOrReadIn catalog events c body s (doing.Commit k) = Unit {0}
 SeesFitOrReadIn catalog events c body s d = SeesFitOrRead catalog events c body s

@@ -1,17 +1,8 @@
 -- Which rows a transaction has, by what its statements so far observed, and by what they made of it.
 use Rattle.std.specs.Prelude.{◌≡◌, ℕ, true, false, List, [], ◌∷◌, ◌++◌, map, filter, fold, Option, Some, IfSome, Contains}
 use Rattle.std.specs.List.{AllByRecursion}
-use Rattle.sdb_types.specs.declared.txid.TxId.{TxId}
-use Rattle.sdb_types.specs.declared.key.Key.{Key}
-use Rattle.sdb_types.specs.declared.pair.Pair.{Pair}
-use Rattle.sdb_types.specs.declared.value.Value.{Value}
-use Rattle.sdb_record.specs.declared.access.Image.{Image}
-use Rattle.sdb_schema.specs.declared.table.Table.{Table}
-use Rattle.sdb_model.specs.declared.answer.Answer.{Answer}
+use Rattle.law_answers.specs.Types.{Answer, Doing, Event, Image, Key, Pair, Select, Statement, Table, TxId, Value}
 use Rattle.sdb_model.specs.declared.answer.Answer.TheVariants as answer
-use Rattle.sdb_model.specs.declared.event.Event.{Event}
-use Rattle.sdb_model.specs.declared.statement.Select.{Select}
-use Rattle.sdb_model.specs.declared.statement.Statement.{Statement}
 use Rattle.sdb_model.specs.declared.statement.Statement.TheVariants as statement
 use Rattle.sdb_model.specs.Exec.{find_table, projected}
 use Rattle.sdb_model.specs.Explained.{IsTableKey}
@@ -22,7 +13,6 @@ use Rattle.sdb_model.specs.Serial.{AreRead}
 use Rattle.sdb_model.specs.Transactions.{Executed, client_of, ends, from_begin, is_effective, rest_of, statements_by, statements_of}
 use Rattle.sdb_snapshot.specs.Reads.{is_key_read}
 use Rattle.sdb_snapshot.specs.Seen.{Seen, row_seen}
-use Rattle.sdb_txn.specs.declared.txn.Doing.{Doing}
 use Rattle.sdb_txn.specs.declared.txn.Doing.TheVariants as doing
 use Rattle.sdb_txn.specs.Txn.{TxnAt}
 use Rattle.sdb_client.specs.Client.{ClientAt}
@@ -32,7 +22,7 @@ use Rattle.law_answers.specs.Unfit.{fits_if_any}
 
 -- A statement that is no VACUUM has finished its read, and its calls showed a row at a key of a table of the catalog.
 pub record FoundFor (catalog : List Table) (events : List Event) (c : ℕ) (s : Executed) (key : Key) (row : Option (List Pair)) : Type 0 where
-  pub told : has_read events c s ≡ true
+  pub answered : has_read events c s ≡ true
   pub no_vacuum : reads_vacuum s.text ≡ false
   pub table : IsTableKey catalog key
   pub found : FoundBy events c s key row
@@ -51,7 +41,7 @@ pub record HasBefore (catalog : List Table) (events : List Event) (c : ℕ) (bod
   pub base : Option (List Pair)
   pub parts : body ≡ earlier ++ changing
   pub begins : StartsWith first (changing ++ s ∷ [])
-  pub shown : FoundFor catalog events c first key base
+  pub observed : FoundFor catalog events c first key base
   pub read : AreRead (filter is_effective changing) sts
   pub made : row ≡ fold (λ r st. row_left catalog st key r) base sts
 
@@ -64,7 +54,7 @@ pub record HasAfter (catalog : List Table) (events : List Event) (c : ℕ) (body
   pub base : Option (List Pair)
   pub parts : body ≡ earlier ++ changing
   pub begins : StartsWith first changing
-  pub shown : FoundFor catalog events c first key base
+  pub observed : FoundFor catalog events c first key base
   pub read : AreRead (filter is_effective changing) sts
   pub made : row ≡ fold (λ r st. row_left catalog st key r) base sts
 
@@ -87,7 +77,7 @@ GivesOwn catalog events c body s a = Unit {0}
 
 -- This holds of each statement of each transaction, up to the one that ended it.
 abbrev pub AllGiveOwn : List Table → List Event → ℕ → List Executed → Type 0
-AllGiveOwn catalog events c told = (n : ℕ) (begin : Executed) (body : List Executed) (s : Executed) (tail : List Executed) (a : Answer) → from_begin n told ≡ begin ∷ (body ++ s ∷ tail) → AllByRecursion (λ x. ends x ≡ false) body → s.answer ≡ Some a → GivesOwn catalog events c body s a
+AllGiveOwn catalog events c answered = (n : ℕ) (begin : Executed) (body : List Executed) (s : Executed) (tail : List Executed) (a : Answer) → from_begin n answered ≡ begin ∷ (body ++ s ∷ tail) → AllByRecursion (λ x. ends x ≡ false) body → s.answer ≡ Some a → GivesOwn catalog events c body s a
 
 ---- an open transaction
 
@@ -95,7 +85,7 @@ AllGiveOwn catalog events c told = (n : ℕ) (begin : Executed) (body : List Exe
 abbrev pub SeesOwn : List Table → List Event → ℕ → List Executed → Seen → Type 0
 SeesOwn catalog events c body s = (key : Key) → is_key_read s.read_set key ≡ true → fits_if_any catalog key (row_seen s.read_set s.writes key) ≡ true → HasAfter catalog events c body key (row_seen s.read_set s.writes key)
 
--- This holds of a transaction whose COMMIT is not taken yet.
+-- This holds of a transaction whose COMMIT is not accepted yet.
 abbrev pub SeesOwnIn : List Table → List Event → ℕ → List Executed → Seen → Doing → Type 0
 SeesOwnIn catalog events c body s (doing.Commit k) = Unit {0}
 SeesOwnIn catalog events c body s d = SeesOwn catalog events c body s
@@ -104,9 +94,9 @@ abbrev pub IsViewOf : List Table → List Event → ℕ → List Executed → Tx
 IsViewOf catalog events c body t = SeesOwnIn catalog events c body t.seen t.doing
 
 -- What a client's statements were answered, and what its open transaction sees.
-pub record ViewBy (catalog : List Table) (events : List Event) (c : ℕ) (told : List Executed) (h : ClientAt) : Type 0 where
-  pub told_own : AllGiveOwn catalog events c told
-  pub sees_own : IfSome h.txn (IsViewOf catalog events c (rest_of (from_begin h.begun told)))
+pub record ViewBy (catalog : List Table) (events : List Event) (c : ℕ) (answered : List Executed) (h : ClientAt) : Type 0 where
+  pub told_own : AllGiveOwn catalog events c answered
+  pub sees_own : IfSome h.txn (IsViewOf catalog events c (rest_of (from_begin h.begun answered)))
 
 ---- what follows of the events
 

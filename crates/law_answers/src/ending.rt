@@ -1,7 +1,6 @@
 //! What holds before any event, and what follows at the end.
 ghost use Rattle.std.specs.Prelude.{◌≡◌, [], ℕ, ℤ, pos, false, List};
-ghost use Rattle.sdb_schema.specs.declared.table.Table.{Table};
-ghost use Rattle.sdb_model.specs.declared.event.Event.{Event};
+ghost use Rattle.law_answers.specs.Types.{Event, Table};
 ghost use Rattle.sdb_client.specs.Client.{nothing_done};
 ghost use Rattle.law_clients.specs.States.{ClientState};
 ghost use Rattle.sdb_model.specs.Counted.{AreCounted, AreResolved};

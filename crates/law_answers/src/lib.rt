@@ -4,6 +4,8 @@
 #![tactic(auto)]
 
 pub mod clock;
+pub mod commit_paths;
 pub mod ending;
+pub mod recovery_paths;
 pub mod replies;
 pub mod texts;

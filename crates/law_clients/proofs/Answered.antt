@@ -1,19 +1,15 @@
--- Statements that are taken and answered keep a client's story.
+-- Statements that are accepted and answered keep a client's story.
 use Rattle.std.proofs.Common.{◌≡◌, ◌≢◌, ◌<◌, ◌+◌, ◌*◌, ◌^◌, ℕ, zero, suc, true, false, List, [], ◌∷◌, ◌++◌, length, Option, Some, None, refl, sym, ap, subst, ◌∙◌, arith, ◌⊎◌, inl, inr}
 use Rattle.std.specs.Prelude.{if◌then◌else◌, ◌&&◌, ◌||◌}
 use Rattle.std.specs.Option.{option_map_or}
 use Rattle.std.proofs.lemmas.List.{append-nil}
 use Rattle.std.proofs.lemmas.Bool.Decides.{nat_tests}
-use Rattle.sdb_model.specs.declared.answer.Answer.{Answer}
+use Rattle.law_clients.specs.Types.{Answer, Event, How, Reply, Request}
 use Rattle.sdb_model.specs.declared.answer.Answer.TheVariants as answer
-use Rattle.sdb_model.specs.declared.event.Event.{Event}
 use Rattle.sdb_model.specs.declared.event.Event.TheVariants as event
-use Rattle.sdb_model.specs.declared.event.How.{How}
 use Rattle.sdb_model.specs.Rows.{Name}
 use Rattle.sdb_model.specs.Sql.{reads_commit, reads_rollback}
 use Rattle.sdb_model.specs.Transactions.{Executed, statements_by, with_answer, begins, ends, is_conflict, is_done}
-use Rattle.sdb_types.specs.declared.record.Reply.{Reply}
-use Rattle.sdb_types.specs.declared.record.Request.{Request}
 use Rattle.law_protocol.specs.History.{Begins, Takes, ProtocolState, state_after_event}
 use Rattle.law_protocol.specs.Lawful.{Labelled, answer_of, is_denial, protocol_state, labelled_with}
 use Rattle.law_clients.specs.System.{SystemAt, Has}
@@ -36,7 +32,7 @@ none_waits x w = ap (λ o. (saids_of x.whole ++ statements_in x.rest) ++ waiting
 pub take_said : (c : ℕ) (events : List Event) (text : List ℕ) (a : Option Answer) → statements_by c (events ++ event.Take c text a ∷ []) ≡ statements_by c events ++ executed_of_take events text a ∷ []
 take_said c events text a = said_more c events (event.Take c text a) ∙ ap (λ t. if t then statements_by c events ++ executed_of_take events text a ∷ [] else statements_by c events) (itself c)
 
--- A statement that is answered as it is taken.
+-- A statement that is answered as it is accepted.
 pub said_at_once : (events : List Event) (past : List Labelled) (sys : SystemAt) (c : ℕ) (x : ClientHistory) (q : Labelled) (text : List ℕ) (a : Answer) → HistoryInvariant events past sys c x → x.waiting ≡ None → q.event ≡ event.Take c text (Some a) → IsAnswerOf events c x q (executed_of_take events text (Some a))
 said_at_once events past sys c x q text a story none e = record {
   executed = ap (λ y. statements_by c (events ++ y ∷ [])) e ∙ take_said c events text (Some a) ∙ ap (λ ss. ss ++ executed_of_take events text (Some a) ∷ []) (story.same ∙ none_waits x none);
@@ -45,7 +41,7 @@ said_at_once events past sys c x q text a story none e = record {
   waited = λ w h. none_some w (sym none ∙ h);
 }
 
-pub answer_last : (front : List Executed) (w : Executed) (n : ℕ) (a : Answer) → with_answer (front ++ w ∷ []) n a ≡ front ++ record { taken = w.taken; text = w.text; answer = Some a; reached = n } ∷ []
+pub answer_last : (front : List Executed) (w : Executed) (n : ℕ) (a : Answer) → with_answer (front ++ w ∷ []) n a ≡ front ++ record { accepted = w.accepted; text = w.text; answer = Some a; reached = n } ∷ []
 answer_last [] w n a = refl
 answer_last (s ∷ []) w n a = refl
 answer_last (s ∷ t ∷ ss) w n a = ap (λ r. s ∷ r) (answer_last (t ∷ ss) w n a)
@@ -60,7 +56,7 @@ said_later events past sys c x q w store ask how r a story waits e = record {
       ∙ answer_last (saids_of x.whole ++ statements_in x.rest) w (1 + length events) a;
   answer = ap answer_of e;
   answered = plus_one (length events);
-  waited = λ v h. let same = some_is w v (sym waits ∙ h) in (ap (λ (y : Executed). y.text) same, ap (λ (y : Executed). y.taken) same);
+  waited = λ v h. let same = some_is w v (sym waits ∙ h) in (ap (λ (y : Executed). y.text) same, ap (λ (y : Executed). y.accepted) same);
 }
 
 settled_same : (events : List Event) (c : ℕ) (x : ClientHistory) (q : Labelled) (s : Executed) → IsAnswerOf events c x q s → statements_by c (events ++ q.event ∷ []) ≡ all_statements (with_answered x s)
@@ -77,9 +73,9 @@ numbers_apart c j k n e = n (same c j k e)
 less_apart : (j k : ℕ) → j < k → j ≢ k
 less_apart j k l e = absurd (omega (arith, e))
 
----- a statement that is taken
+---- a statement that is accepted
 
--- A statement is taken and waits; it plays no part.
+-- A statement is accepted and waits; it plays no part.
 pub story_asks : (events : List Event) (past : List Labelled) (sys next : SystemAt) (c : ℕ) (x : ClientHistory) (q : Labelled) (text : List ℕ) → HistoryInvariant events past sys c x → x.waiting ≡ None → q.event ≡ event.Take c text None → IsCounted q.action → IsApart past c q.action → KeepsTxns c sys next
     → HistoryInvariant (events ++ q.event ∷ []) (q ∷ past) next c (with_waiting x (executed_of_take events text None))
 story_asks events past sys next c x q text story none e counts apart keeps = record {
@@ -97,12 +93,12 @@ story_asks events past sys next c x q text story none e counts apart keeps = rec
   where
     opened : (r : Rest) → (IsOpened r → SameOf (number c (length x.whole)) (protocol_state past) (protocol_state (q ∷ past))) → OpenFiled past c x r → OpenFiled (q ∷ past) c (with_waiting x (executed_of_take events text None)) r
     opened (Closed gap) s ok = tt
-    opened (Opened gap b body) s ok = ((s tt).begun ∙ ok.0, λ h. let w = ok.1 (sym (s tt).taken ∙ h) in none_some w.0 (sym none ∙ w.1))
+    opened (Opened gap b body) s ok = ((s tt).begun ∙ ok.0, λ h. let w = ok.1 (sym (s tt).accepted ∙ h) in none_some w.0 (sym none ∙ w.1))
 
 takes_at : (h : ProtocolState) (t : ℕ) → (state_after_event h (Takes t)).taken_at t ≡ h.now + 1
 takes_at h t = grind (arith, nat_tests)
 
--- The COMMIT of the open transaction is taken and waits.
+-- The COMMIT of the open transaction is accepted and waits.
 pub story_takes : (events : List Event) (past : List Labelled) (sys next : SystemAt) (c : ℕ) (x : ClientHistory) (text : List ℕ) → HistoryInvariant events past sys c x → x.waiting ≡ None → reads_commit text ≡ true → KeepsTxns c sys next
     → HistoryInvariant (events ++ event.Take c text None ∷ []) (labelled_with (Takes (number c (length x.whole))) (event.Take c text None) ∷ past) next c (with_waiting x (executed_of_take events text None))
 story_takes events past sys next c x text story none commit keeps = record {
@@ -181,7 +177,7 @@ story_answers events past sys next c x q s story is may plain counts apart keeps
         (keeps.begun ∙ story.count ∙ ap (λ r. length x.whole + begun_in r) e)
         (λ k l. alive k (subst (λ r. k < length x.whole + begun_in r) (sym e) l))
         filed
-        (same.begun ∙ open_ok.0, λ h. let w = open_ok.1 (sym same.taken ∙ h) in clash (sym (commit_ends s (ap reads_commit (is.waited w.0 w.1).0 ∙ w.2)) ∙ o))
+        (same.begun ∙ open_ok.0, λ h. let w = open_ok.1 (sym same.accepted ∙ h) in clash (sym (commit_ends s (ap reads_commit (is.waited w.0 w.1).0 ∙ w.2)) ∙ o))
         (λ u h. (tt, (story.hold u (keeps.hold u h)).1))
       where
         same : SameOf (number c (length x.whole)) (protocol_state past) (protocol_state (q ∷ past))
@@ -191,7 +187,7 @@ begins_at : (h : ProtocolState) (t c : ℕ) → (state_after_event h (Begins t c
 begins_at h t c = grind (arith, nat_tests)
 
 -- A BEGIN is answered Done where no transaction is open.
-pub story_begins : (events : List Event) (past : List Labelled) (sys next : SystemAt) (c : ℕ) (x : ClientHistory) (gap : List Executed) (text : List ℕ) → HistoryInvariant events past sys c x → x.waiting ≡ None → x.rest ≡ Closed gap → begins (executed_of_take events text (Some answer.Done)) ≡ true → c < 2 ^ 64 → suc (length x.whole) < 2 ^ 64 → (protocol_state past).taken (number c (length x.whole)) ≡ false → BeginsHold c sys next (number c (length x.whole))
+pub story_begins : (events : List Event) (past : List Labelled) (sys next : SystemAt) (c : ℕ) (x : ClientHistory) (gap : List Executed) (text : List ℕ) → HistoryInvariant events past sys c x → x.waiting ≡ None → x.rest ≡ Closed gap → begins (executed_of_take events text (Some answer.Done)) ≡ true → c < 2 ^ 64 → suc (length x.whole) < 2 ^ 64 → (protocol_state past).accepted (number c (length x.whole)) ≡ false → BeginsHold c sys next (number c (length x.whole))
     → HistoryInvariant (events ++ event.Take c text (Some answer.Done) ∷ []) (labelled_with (Begins (number c (length x.whole)) c) (event.Take c text (Some answer.Done)) ∷ past) next c (with_answered x (executed_of_take events text (Some answer.Done)))
 story_begins events past sys next c x gap text story none e starts client ordinal fresh hold = settles events past sys next c x q s (record { whole = x.whole; rest = Opened gap s [] }) story (said_at_once events past sys c x q text answer.Done story none refl) tt may
     (ap (λ r. settle x.whole r s) e ∙ ap (λ b. if b then record { whole = x.whole; rest = Opened gap s [] } else record { whole = x.whole; rest = Closed (gap ++ s ∷ []) }) starts)
@@ -241,7 +237,7 @@ story_begins events past sys next c x gap text story none e starts client ordina
         positive : (n : ℕ) → n + 1 ≡ 0 → ⊥
         positive n z = omega (arith, z)
 
-    untaken : (protocol_state (q ∷ past)).taken t ≡ true → ⊥
+    untaken : (protocol_state (q ∷ past)).accepted t ≡ true → ⊥
     untaken h = clash (sym h ∙ fresh)
 
 ---- an answer that ends a transaction
@@ -299,9 +295,9 @@ story_ends events past sys next c x q s gap b body story e is plain over ends_it
     last : IsFiledAt (q ∷ past) t f
     last = record {
       begun = same.begun ∙ open_ok.0;
-      taken = λ h. let w = open_ok.1 (sym same.taken ∙ h) in (ap reads_commit (is.waited w.0 w.1).0 ∙ w.2, (is.waited w.0 w.1).1 ∙ w.3 ∙ sym same.taken_at);
-      told = λ a. inl (is.answer ∙ a, ends_it, is.answered ∙ sym (length_of events story.now));
-      denied = λ a statements_by denial h. inl (ap (λ o. option_map_or is_denial o false) (is.answer ∙ statements_by) ∙ denial, ends_it, sym same.taken ∙ h);
+      accepted = λ h. let w = open_ok.1 (sym same.accepted ∙ h) in (ap reads_commit (is.waited w.0 w.1).0 ∙ w.2, (is.waited w.0 w.1).1 ∙ w.3 ∙ sym same.taken_at);
+      answered = λ a. inl (is.answer ∙ a, ends_it, is.answered ∙ sym (length_of events story.now));
+      denied = λ a statements_by denial h. inl (ap (λ o. option_map_or is_denial o false) (is.answer ∙ statements_by) ∙ denial, ends_it, sym same.accepted ∙ h);
       unknown = names;
     }
       where

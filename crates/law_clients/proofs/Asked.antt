@@ -1,25 +1,17 @@
 -- A client that takes a statement which reads keeps what ties the events to the clients.
 use Rattle.std.proofs.Common.{◌≡◌, ℕ, true, false, List, [], ◌∷◌, ◌++◌, Option, Some, None, refl, sym, ap, subst, ◌∙◌}
 use Rattle.std.specs.Prelude.{is_some}
-use Rattle.sdb_types.specs.declared.key.Key.{Key}
-use Rattle.sdb_record.specs.declared.access.Access.{Access}
+use Rattle.law_clients.specs.Types.{Access, Answer, Event, Image, Key, Keyed, PlanStep, Statement, Table}
 use Rattle.sdb_record.specs.declared.access.Access.TheVariants as access
-use Rattle.sdb_record.specs.declared.access.Image.{Image}
-use Rattle.sdb_record.specs.declared.write.Keyed.{Keyed}
-use Rattle.sdb_schema.specs.declared.table.Table.{Table}
 use Rattle.sdb_schema.specs.Catalog.{is_catalog}
-use Rattle.sdb_model.specs.declared.answer.Answer.{Answer}
 use Rattle.sdb_model.specs.declared.answer.Answer.TheVariants as answer
-use Rattle.sdb_model.specs.declared.event.Event.{Event}
 use Rattle.sdb_model.specs.declared.event.Event.TheVariants as event
-use Rattle.sdb_model.specs.declared.statement.Statement.{Statement}
 use Rattle.sdb_model.specs.declared.statement.Statement.TheVariants as statement
 use Rattle.sdb_model.specs.Causes.{refused}
 use Rattle.sdb_model.specs.Exec.{key_of, named_table}
 use Rattle.sdb_model.specs.Refused.{refusal_by, refusal_of}
 use Rattle.sdb_model.specs.Sql.{Reads, reads_commit}
 use Rattle.sdb_model.specs.Transactions.{changes_nothing, is_answered_from_rows}
-use Rattle.sdb_exec.specs.declared.plan.PlanStep.{PlanStep}
 use Rattle.sdb_exec.specs.declared.plan.PlanStep.TheVariants.{Finished}
 use Rattle.sdb_exec.specs.Plans.{Planned, answer_on, changes_on, columns_at, first_unfit, has_all_literals, step_of}
 use Rattle.sdb_model.specs.Reads.{access_of}
@@ -68,7 +60,7 @@ from_rows t statement.Vacuum rows h = absurd (cc)
 pub record IsAsked (catalog : List Table) (text : List ℕ) (st : Statement) (table : Table) : Type 0 where
   pub is : is_catalog catalog ≡ true
   pub named : named_table catalog st ≡ Some table
-  pub taken : refusal_of catalog st ≡ None
+  pub accepted : refusal_of catalog st ≡ None
   pub literals : has_all_literals st ≡ true
   pub reads : Reads text st
   pub no_commit : reads_commit text ≡ false
@@ -88,7 +80,7 @@ module _ (catalog : List Table) (events : List Event) (states : ℕ → ClientSt
   taken_so b = events ++ event.Take c text b ∷ []
 
   valid : IsValidPlan p
-  valid = record { asked = refl; table = named_is_table catalog st table k.is k.named; taken = sym (ap (λ (o : Option Table). refusal_by o st) k.named) ∙ k.taken; literals = k.literals }
+  valid = record { asked = refl; table = named_is_table catalog st table k.is k.named; accepted = sym (ap (λ (o : Option Table). refusal_by o st) k.named) ∙ k.accepted; literals = k.literals }
 
   here : (system_of states).clients c ≡ Open t.id t.seen
   here = at_open catalog (tables_are_well_typed catalog) events states g c ready t some
@@ -110,7 +102,7 @@ module _ (catalog : List Table) (events : List Event) (states : ℕ → ClientSt
       moved catalog (tables_are_well_typed catalog) states c (holding now (written t ks)) (taken_so (Some b)) ready.idle.free refl
       (subst (λ (x : ClientAt). RunInvariant catalog (tables_are_well_typed catalog) (taken_so (Some b)) (with_client (system_of states) c x) (at (doing_of states) c None)) (sym by_doing)
       (going_answers catalog (tables_are_well_typed catalog) events (system_of states) (doing_of states) g c t.id t.seen here text b st a ks rows k.no_commit k.reads (covered_is t.seen a covered)
-      (answers_on catalog p t.seen b ks k.is k.named refl k.taken k.literals step) changes))
+      (answers_on catalog p t.seen b ks k.is k.named refl k.accepted k.literals step) changes))
     where
       by_doing : abstract_txn (Some (written t ks)) ≡ Open t.id (with_written t.seen ks)
       by_doing = rw idle refl

@@ -87,8 +87,8 @@ other_begun h t c u n = grind (arith, nat_tests)
 
 pub begin_turn : (plan : ℕ → Plan) (past : List Labelled) (sys : SystemAt) (c : ℕ) (text : List ℕ) → IsInState plan past sys c Resting → IsBegin sys c text → NoneRunVacuum sys
     → SystemOk plan (begin_labelled sys c text ∷ past) (with_begun sys c (Open (next_id sys c) nothing))
-begin_turn plan past sys c text stands begin none = record {
-  lawful = (ok.lawful, may, λ a. absurd (told a), λ a executed denial u ends. absurd (cc (ends)));
+begin_turn plan past sys c text agrees begin none = record {
+  lawful = (ok.lawful, may, λ a. absurd (answered a), λ a executed denial u ends. absurd (cc (ends)));
   each = λ d. with_here sys c x (ClientOk plan (q ∷ past)) d (opens, seen_nothing (q ∷ past)) (λ apart. client_later plan past d q (sys.clients d) (others_spared plan past c d q (sys.clients d) apart refl may (λ u ends. absurd (cc (ends))) (ok.each d)) (ok.each d));
   opened = λ u o. opened u o (test_of u t);
   gate = λ d s. absurd (clash (sym (with_here sys c x (λ e y. is_in_vacuum y ≡ false) d refl (λ apart. none d)) ∙ s));
@@ -96,7 +96,7 @@ begin_turn plan past sys c text stands begin none = record {
 }
   where
     ok : SystemOk plan past sys
-    ok = stands.ok
+    ok = agrees.ok
 
     t : ℕ
     t = (next_id sys c).0
@@ -110,8 +110,8 @@ begin_turn plan past sys c text stands begin none = record {
     clash : false ≡ true → ⊥
     clash e = cc
 
-    told : ◌≡◌ {A = Option Rattle.sdb_model.specs.declared.answer.Answer.Answer} (Some answer.Done) (Some answer.Committed) → ⊥
-    told e = absurd (cc)
+    answered : ◌≡◌ {A = Option Rattle.sdb_model.specs.declared.answer.Answer.Answer} (Some answer.Done) (Some answer.Committed) → ⊥
+    answered e = absurd (cc)
 
     fresh : (protocol_state past).begun t ≡ 0
     fresh = unused plan past sys c ok begin.ordinal
@@ -120,12 +120,12 @@ begin_turn plan past sys c text stands begin none = record {
     may = record { text = text; begin = begin.reads; take = refl; fresh = fresh; fits = fits c (sys.begun c + 1) begin.client begin.ordinal }
 
     opens : OpenOk (protocol_state (q ∷ past)) c t
-    opens = let executed = in_turn plan past t ok.lawful in let none = executed.taken fresh in record {
+    opens = let executed = in_turn plan past t ok.lawful in let none = executed.accepted fresh in record {
       fits = fits c (sys.begun c + 1) begin.client begin.ordinal;
       begun = here_begun (protocol_state past) t c;
       owner = here_owner (protocol_state past) t c;
       is_open = here_open (protocol_state past) t c;
-      goes_on = subst (ClientOk plan past c) stands.at (ok.each c);
+      goes_on = subst (ClientOk plan past c) agrees.at (ok.each c);
       fresh = none;
       stage = executed.stage none;
       unasked = λ k. executed.asked k none;
@@ -134,7 +134,7 @@ begin_turn plan past sys c text stands begin none = record {
 
     held : (u : ℕ) → (((protocol_state past).stopped ((protocol_state past).owner u) ≡ true) ⊎ Has (sys.clients ((protocol_state past).owner u)) u) → ((protocol_state past).stopped ((protocol_state past).owner u) ≡ true) ⊎ Has ((with_client sys c x).clients ((protocol_state past).owner u)) u
     held u (inl s) = inl s
-    held u (inr h) = with_here sys c x (λ d y. Has (sys.clients d) u → ((protocol_state past).stopped d ≡ true) ⊎ Has y u) ((protocol_state past).owner u) (λ h. absurd (subst (λ y. Has y u) stands.at h)) (λ apart h. inr h) h
+    held u (inr h) = with_here sys c x (λ d y. Has (sys.clients d) u → ((protocol_state past).stopped d ≡ true) ⊎ Has y u) ((protocol_state past).owner u) (λ h. absurd (subst (λ y. Has y u) agrees.at h)) (λ apart h. inr h) h
 
     opened : (u : ℕ) → (protocol_state (q ∷ past)).is_open u ≡ true → (((u ≡ t) × ((u == t) ≡ true)) ⊎ ((u ≢ t) × ((u == t) ≡ false))) → ((protocol_state (q ∷ past)).stopped ((protocol_state (q ∷ past)).owner u) ≡ true) ⊎ Has ((with_client sys c x).clients ((protocol_state (q ∷ past)).owner u)) u
     opened u o (inl e) = inr (subst (λ d. Has ((with_client sys c x).clients d) u) (sym (ap (protocol_state (q ∷ past)).owner e.0 ∙ here_owner (protocol_state past) t c)) (here (sym e.0)))
@@ -188,16 +188,16 @@ begin_turn plan past sys c text stands begin none = record {
 pub begins : (plan : ℕ → Plan) → SystemOk plan [] idle
 begins plan = record { lawful = tt; each = λ c. refl; opened = λ u o. absurd (cc (o)); gate = λ c s. absurd (cc (s)); ids = λ t b. absurd (b refl) }
 
--- A transaction whose COMMIT was taken has begun.
-pub taken_begun : (plan : ℕ → Plan) (past : List Labelled) (sys : SystemAt) (t : ℕ) → SystemOk plan past sys → (protocol_state past).taken t ≡ true → 0 < t % 2 ^ 64
-taken_begun plan past sys t ok taken = by (zero_or ((protocol_state past).begun t))
+-- A transaction whose COMMIT was accepted has begun.
+pub taken_begun : (plan : ℕ → Plan) (past : List Labelled) (sys : SystemAt) (t : ℕ) → SystemOk plan past sys → (protocol_state past).accepted t ≡ true → 0 < t % 2 ^ 64
+taken_begun plan past sys t ok accepted = by (zero_or ((protocol_state past).begun t))
   where
     clash : true ≡ false → ⊥
     clash e = cc
 
     by : ((protocol_state past).begun t ≡ 0) ⊎ ((protocol_state past).begun t ≢ 0) → 0 < t % 2 ^ 64
-    by (inl z) = absurd (clash (sym taken ∙ (in_turn plan past t ok.lawful).taken z))
+    by (inl z) = absurd (clash (sym accepted ∙ (in_turn plan past t ok.lawful).accepted z))
     by (inr n) = (ok.ids t n).ordinal
 
-pub untaken : (plan : ℕ → Plan) (past : List Labelled) (sys : SystemAt) (c : ℕ) → SystemOk plan past sys → sys.begun c + 1 < 2 ^ 64 → (protocol_state past).taken (next_id sys c).0 ≡ false
-untaken plan past sys c ok small = (in_turn plan past (next_id sys c).0 ok.lawful).taken (unused plan past sys c ok small)
+pub untaken : (plan : ℕ → Plan) (past : List Labelled) (sys : SystemAt) (c : ℕ) → SystemOk plan past sys → sys.begun c + 1 < 2 ^ 64 → (protocol_state past).accepted (next_id sys c).0 ≡ false
+untaken plan past sys c ok small = (in_turn plan past (next_id sys c).0 ok.lawful).accepted (unused plan past sys c ok small)

@@ -5,23 +5,14 @@ use Rattle.std.specs.List.{AllByRecursion}
 use Rattle.std.specs.Option.{option_and_then}
 use Rattle.std.specs.FinMap.{get}
 use Rattle.std.specs.Ordering.{is_eq}
-use Rattle.sdb_types.specs.declared.key.Key.{Key}
-use Rattle.sdb_types.specs.declared.record.Record.{Record}
-use Rattle.sdb_types.specs.declared.record.Span.{Span}
+use Rattle.law_clients.specs.Types.{Access, Answer, Key, Keyed, Read, Record, Scan, Span, Statement, Table}
 use Rattle.sdb_types.specs.Order.{key_cmp, same_key}
 use Rattle.sdb_types.specs.Contents.{in_span}
 use Rattle.sdb_types.proofs.KeyOrder.{key_exact}
 use Rattle.sdb_types.proofs.Keys.{same_key_exact}
-use Rattle.sdb_keyed.specs.Entries.{value_at}
-use Rattle.sdb_record.specs.declared.access.Access.{Access}
+use Rattle.sdb_snapshot.specs.Entries.{value_at}
 use Rattle.sdb_record.specs.declared.access.Access.TheVariants as access
-use Rattle.sdb_record.specs.declared.access.Read.{Read}
-use Rattle.sdb_record.specs.declared.access.Scan.{Scan}
-use Rattle.sdb_record.specs.declared.write.Keyed.{Keyed}
 use Rattle.sdb_record.specs.Moved.{version_of}
-use Rattle.sdb_schema.specs.declared.table.Table.{Table}
-use Rattle.sdb_model.specs.declared.answer.Answer.{Answer}
-use Rattle.sdb_model.specs.declared.statement.Statement.{Statement}
 use Rattle.sdb_model.specs.Exec.{Tables, exec}
 use Rattle.sdb_model.specs.Access.{rows_at, with_changes}
 use Rattle.sdb_model.specs.Serial.{run_body}
@@ -65,8 +56,8 @@ noted_tells past s d q ok all n = by (was_read s.reads q) refl (ok.as_read q n)
 
 -- in a span that was scanned
 span_tells : (s : Seen) (d : Tables) (span : Span) (q : Key) (xs : List Scan) → (is_key_read s.read_set q ≡ true → row_found (base_at s.read_set q) ≡ get d q) → in_span span q ≡ true → AllByRecursion (ScanAgrees s d) xs → AllByRecursion (IsFoundOk s.read_set) xs → is_scanned xs span ≡ true → row_found (base_at s.read_set q) ≡ get d q
-span_tells s d span q [] told inside all ok h = absurd (cc (h))
-span_tells s d span q (x ∷ xs) told inside all ok h = by (same_span x.span span) refl h (λ e. span_tells s d span q xs told inside all.1 ok.1 e)
+span_tells s d span q [] answered inside all ok h = absurd (cc (h))
+span_tells s d span q (x ∷ xs) answered inside all ok h = by (same_span x.span span) refl h (λ e. span_tells s d span q xs answered inside all.1 ok.1 e)
   where
     clash : true ≡ false → ⊥
     clash e = cc
@@ -77,7 +68,7 @@ span_tells s d span q (x ∷ xs) told inside all ok h = by (same_span x.span spa
 
     at : (o : Option (Option Record)) → in_span x.span q ≡ true → record_read_at s.read_set q ≡ o → row_found (base_at s.read_set q) ≡ get d q
     at None i n = ap (λ o. row_found (option_and_then (λ (found : Option Record). found) o)) n ∙ sym (unfound (is_found x q) refl i n)
-    at (Some found) i n = told (ap is_some n)
+    at (Some found) i n = answered (ap is_some n)
 
     by : (b : Bool) → same_span x.span span ≡ b → (b || is_scanned xs span) ≡ true → (is_scanned xs span ≡ true → row_found (base_at s.read_set q) ≡ get d q) → row_found (base_at s.read_set q) ≡ get d q
     by true t e ih = at (record_read_at s.read_set q) (subst (λ (y : Span). in_span y q ≡ true) (sym ((Rattle.sdb_types.specs.Exactness.span_is_exact x.span span).0 t)) inside) refl

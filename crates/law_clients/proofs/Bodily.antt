@@ -4,9 +4,7 @@ use Rattle.std.specs.Prelude.{Contains, ◌↔◌, filter, if◌then◌else◌}
 use Rattle.std.specs.List.{AllByRecursion, flat_map}
 use Rattle.std.proofs.lemmas.List.Concat.{flat_map-append}
 use Rattle.std.proofs.lemmas.List.Elements.{Contains-append_left, Contains-push, filter-append}
-use Rattle.sdb_types.specs.declared.record.Record.{Record}
-use Rattle.sdb_record.specs.declared.access.Access.{Access}
-use Rattle.sdb_model.specs.declared.event.Event.{Event}
+use Rattle.law_clients.specs.Types.{Access, Event, Record}
 use Rattle.sdb_model.specs.Calls.{calls_of}
 use Rattle.sdb_model.specs.ReadSet.{ReadItem, KeyRead, SpanRead, has_finished, has_read, read_set_of, read_items}
 use Rattle.sdb_model.specs.Transactions.{Executed, client_of, statements_inside}

@@ -3,35 +3,24 @@ use Rattle.std.proofs.Common.{◌≡◌, ◌≢◌, ℕ, ℤ, Bool, true, false,
 use Rattle.std.specs.Prelude.{if◌then◌else◌}
 use Rattle.std.specs.List.{AllByRecursion, list_all}
 use Rattle.std.specs.Option.{option_map}
-use Rattle.sdb_types.specs.declared.txid.TxId.{TxId}
-use Rattle.sdb_types.specs.declared.record.Record.{Record}
-use Rattle.sdb_types.specs.declared.record.Span.{Span}
-use Rattle.sdb_types.specs.declared.record.Reply.{Reply}
+use Rattle.law_clients.specs.Types.{Access, Answer, Event, How, Meta, Record, RecoverPhase, RecoverStep, Reply, Request, Span, TxId}
 use Rattle.sdb_types.specs.declared.record.Reply.TheVariants as reply
-use Rattle.sdb_types.specs.declared.record.Request.{Request}
 use Rattle.sdb_types.specs.declared.record.Request.TheVariants as ask
 use Rattle.sdb_types.specs.declared.record.Condition.TheVariants as condition
 use Rattle.sdb_types.specs.declared.record.State.TheVariants as state
 use Rattle.sdb_types.specs.Contents.{CanAnswer, in_span, rise}
 use Rattle.sdb_types.proofs.Bools.{and_first, and_second}
-use Rattle.sdb_record.specs.declared.access.Access.{Access}
 use Rattle.sdb_record.specs.declared.access.Access.TheVariants as access
-use Rattle.sdb_record.specs.declared.meta.Meta.{Meta}
 use Rattle.sdb_record.specs.Meta.{id_in, is_moment}
 use Rattle.sdb_record.specs.Rolls.{is_tombstone, remove_request}
-use Rattle.sdb_model.specs.declared.answer.Answer.{Answer}
 use Rattle.sdb_model.specs.declared.answer.Answer.TheVariants as answer
-use Rattle.sdb_model.specs.declared.event.Event.{Event}
 use Rattle.sdb_model.specs.declared.event.Event.TheVariants as event
-use Rattle.sdb_model.specs.declared.event.How.{How}
 use Rattle.sdb_model.specs.Rows.{Name}
 use Rattle.law_protocol.specs.Plan.{Plan}
 use Rattle.law_protocol.specs.History as laws
 use Rattle.law_protocol.specs.History.{Action, Other, Removes}
 use Rattle.law_protocol.specs.Lawful.{Labelled, IsEnabled, protocol_state, is_quiet, labelled_with, ends_with}
-use Rattle.sdb_phases.specs.declared.step.RecoverStep.{RecoverStep}
 use Rattle.sdb_phases.specs.declared.step.RecoverStep.TheVariants as steps
-use Rattle.sdb_phases.specs.declared.step.RecoverPhase.{RecoverPhase}
 use Rattle.sdb_phases.specs.declared.step.RecoverPhase.TheVariants as phase
 use Rattle.sdb_phases.specs.Recover.{recover_next, recover_request_at}
 use Rattle.sdb_snapshot.specs.Seen.{Seen}
@@ -41,7 +30,7 @@ use Rattle.law_clients.specs.ReadAt.{AreKinds, IsKind, ReadAt, Asking, Resolving
 use Rattle.law_clients.specs.Vacuum as vacuum
 use Rattle.law_clients.specs.Vacuum.{VacuumModel, VacuumModelOk, remove_or, removes_action, vacuum_rows, vacuum_one, vacuum_resolved, vacuum_removed, vacuum_scanned, vacuum_call, vacuum_action, vacuum_model_step}
 use Rattle.law_clients.specs.System.{Reading, RunsVacuum, Resting, ClientOk, Has, is_in_vacuum, Gate, SystemAt, SystemOk, with_client, ClientCall, call_event, IsReplyTo, IsInState}
-use Rattle.law_clients.proofs.Foreign.{IsForeign, IsForeignEvent, StopsNot, open_later, going}
+use Rattle.law_clients.proofs.Foreign.{IsForeign, IsForeignEvent, StopsNot, open_later, running}
 use Rattle.law_clients.proofs.Reading.{recover_lawful}
 use Rattle.law_clients.proofs.Clients.{BeginsNone, turned}
 use Rattle.law_clients.proofs.Commit.{no_start, not_open}
@@ -49,7 +38,7 @@ use Rattle.law_clients.proofs.Meta.{meta_of}
 use Rattle.law_clients.proofs.Rows.{rise_is, inside_each, rows_left, read_kept, recover_kept, image_after, left_later}
 use Rattle.law_clients.proofs.Seen.{seen_later}
 use Rattle.sdb_types.proofs.Basics.{some_is, all_each as each_any}
-use Rattle.sdb_read.specs.Read.{request_of, Kind, Firm, Open, Bad}
+use Rattle.sdb_txn.specs.Read.{request_of, Kind, Firm, Open, Bad}
 use Rattle.sdb_model.specs.Tables.{is_data}
 
 ---- parts of a recovery
@@ -133,15 +122,15 @@ read_may plan past a c Failed store q how r answered ok asked = absurd (cc)
 pub read_turn : (kind : Record → Kind) (plan : ℕ → Plan) (past : List Labelled) (sys : SystemAt) (x : ClientCall) (id : TxId) (seen : Seen) (a : Access) (s : ReadAt) (answered : Option Answer)
     → AreKinds kind → IsInState plan past sys x.client (Reading id seen a s) → IsReplyTo (read_pending a s) x → answered ≢ Some answer.Committed
     → SystemOk plan (labelled_with (read_action s x.reply) (call_event x answered) ∷ past) (with_client sys x.client (Reading id seen a (read_step kind s x.now x.reply)))
-read_turn kind plan past sys x id seen a s answered kinds stands reply other = turned plan past sys c one (Reading id seen a (read_step kind s x.now r)) stands.ok (record {
+read_turn kind plan past sys x id seen a s answered kinds agrees reply other = turned plan past sys c one (Reading id seen a (read_step kind s x.now r)) agrees.ok (record {
   by = refl;
   may = read_may plan past a c s x.store x.request x.how r answered known.3 reply.asked;
   ends = λ u n. absurd (cc (n));
   begins = apart_begins (read_action s r) (read_apart s r);
-  tells = λ e. absurd (other e);
+  is_known = λ e. absurd (other e);
   denies = λ x executed denial u n. absurd (cc (n));
   knows = (open_later past one c id.0 (apart_event id.0 c (read_action s r) e (read_apart s r)) known.0, seen_later past one seen known.1, known.2, read_kept kind past a c s x.now x.store x.request x.how r answered kinds known.2 known.3 reply.asked reply.can reply.moment);
-  holds = λ u h o. inr (subst (λ x. Has x u) stands.at h);
+  holds = λ u h o. inr (subst (λ x. Has x u) agrees.at h);
   starts = no_start (Reading id seen a (read_step kind s x.now r)) refl;
 })
   where
@@ -158,21 +147,21 @@ read_turn kind plan past sys x id seen a s answered kinds stands reply other = t
     one = labelled_with (read_action s r) e
 
     known : OpenOk (protocol_state past) c id.0 × SeenOk past seen × IsOfData a × ReadOk past a s
-    known = subst (ClientOk plan past c) stands.at (stands.ok.each c)
+    known = subst (ClientOk plan past c) agrees.at (agrees.ok.each c)
 
 -- An answer to the last call of a read may end the transaction.
 pub read_ends_turn : (plan : ℕ → Plan) (past : List Labelled) (sys : SystemAt) (x : ClientCall) (id : TxId) (seen : Seen) (a : Access) (s : ReadAt) (answered : Option Answer)
     → IsInState plan past sys x.client (Reading id seen a s) → IsReplyTo (read_pending a s) x → answered ≢ Some answer.Committed
     → SystemOk plan (ends_with id.0 (read_action s x.reply) (call_event x answered) ∷ past) (with_client sys x.client Resting)
-read_ends_turn plan past sys x id seen a s answered stands reply other = turned plan past sys c one Resting stands.ok (record {
+read_ends_turn plan past sys x id seen a s answered agrees reply other = turned plan past sys c one Resting agrees.ok (record {
   by = refl;
   may = read_may plan past a c s x.store x.request x.how r answered known.3 reply.asked;
   ends = λ u n. subst (λ t. (protocol_state past).owner t ≡ c) (some_is id.0 u n) known.0.owner;
   begins = apart_begins (read_action s r) (read_apart s r);
-  tells = λ e. absurd (other e);
-  denies = λ x executed denial u n taken. absurd (clash (sym taken ∙ ap (protocol_state past).taken (sym (some_is id.0 u n)) ∙ known.0.fresh));
-  knows = going past one c (apart_goes c (read_action s r) (read_apart s r)) ∙ known.0.goes_on;
-  holds = λ u h o. absurd (not_open (protocol_state past) (read_action s r) id.0 u (subst (λ x. Has x u) stands.at h) o);
+  is_known = λ e. absurd (other e);
+  denies = λ x executed denial u n accepted. absurd (clash (sym accepted ∙ ap (protocol_state past).accepted (sym (some_is id.0 u n)) ∙ known.0.fresh));
+  knows = running past one c (apart_goes c (read_action s r) (read_apart s r)) ∙ known.0.goes_on;
+  holds = λ u h o. absurd (not_open (protocol_state past) (read_action s r) id.0 u (subst (λ x. Has x u) agrees.at h) o);
   starts = no_start Resting refl;
 })
   where
@@ -189,7 +178,7 @@ read_ends_turn plan past sys x id seen a s answered stands reply other = turned 
     clash e = cc
 
     known : OpenOk (protocol_state past) c id.0 × SeenOk past seen × IsOfData a × ReadOk past a s
-    known = subst (ClientOk plan past c) stands.at (stands.ok.each c)
+    known = subst (ClientOk plan past c) agrees.at (agrees.ok.each c)
 
 ---- VACUUM
 
@@ -240,7 +229,7 @@ sweep_ok kind past (r ∷ left) kinds l = by (kind r) (kinds r) (sweep_ok kind p
   where
     by : (x : Kind) → IsKind r x → VacuumModelOk past (vacuum_rows kind left) → VacuumModelOk past (vacuum_one x r left (vacuum_rows kind left))
     by Firm k rest = remove_ok past r left (vacuum_rows kind left) (Rattle.law_protocol.specs.Lawful.Itself l.0.0 refl k.1, k.0, k.1) l.0.1 l.1 rest
-    by (Open meta) k rest = (record { of = meta_of r meta k.0 k.1; unresolved = k.0; shown = l.0.0; outside = l.0.1; phase = tt }, l.1)
+    by (Open meta) k rest = (record { of = meta_of r meta k.0 k.1; unresolved = k.0; observed = l.0.0; outside = l.0.1; phase = tt }, l.1)
     by Bad k rest = tt
 
 scanned_ok : (kind : Record → Kind) (past : List Labelled) (c : ℕ) (span : Span) (store : Name) (how : How) (r : Reply) (answered : Option Answer) → AreKinds kind → IsOfData (access.Scan span) → CanAnswer (ask.Scan span) r → VacuumModelOk (labelled_with Other (event.Call c store (ask.Scan span) how r answered) ∷ past) (vacuum_scanned kind r)
@@ -295,16 +284,16 @@ sweep_kept kind past c vacuum.Between now store q how r answered kinds ok asked 
 pub vacuum_turn : (kind : Record → Kind) (plan : ℕ → Plan) (past : List Labelled) (sys : SystemAt) (x : ClientCall) (v : VacuumModel) (answered : Option Answer)
     → AreKinds kind → IsInState plan past sys x.client (RunsVacuum v) → IsReplyTo (vacuum_call v) x → answered ≢ Some answer.Committed
     → SystemOk plan (labelled_with (vacuum_action v x.reply) (call_event x answered) ∷ past) (with_client sys x.client (RunsVacuum (vacuum_model_step kind v x.now x.reply)))
-vacuum_turn kind plan past sys x v answered kinds stands reply other = turned plan past sys c one (RunsVacuum (vacuum_model_step kind v x.now r)) stands.ok (record {
+vacuum_turn kind plan past sys x v answered kinds agrees reply other = turned plan past sys c one (RunsVacuum (vacuum_model_step kind v x.now r)) agrees.ok (record {
   by = refl;
-  may = sweep_may plan past c v x.store x.request x.how r answered (stands.ok.gate c (ap is_in_vacuum stands.at)) known.1 reply.asked;
+  may = sweep_may plan past c v x.store x.request x.how r answered (agrees.ok.gate c (ap is_in_vacuum agrees.at)) known.1 reply.asked;
   ends = λ u n. absurd (cc (n));
   begins = apart_begins (vacuum_action v r) (sweep_apart v r);
-  tells = λ e. absurd (other e);
+  is_known = λ e. absurd (other e);
   denies = λ x executed denial u n. absurd (cc (n));
-  knows = (going past one c (apart_goes c (vacuum_action v r) (sweep_apart v r)) ∙ known.0, sweep_kept kind past c v x.now x.store x.request x.how r answered kinds known.1 reply.asked reply.can reply.moment);
-  holds = λ u h o. absurd (subst (λ x. Has x u) stands.at h);
-  starts = λ t. ap is_in_vacuum stands.at;
+  knows = (running past one c (apart_goes c (vacuum_action v r) (sweep_apart v r)) ∙ known.0, sweep_kept kind past c v x.now x.store x.request x.how r answered kinds known.1 reply.asked reply.can reply.moment);
+  holds = λ u h o. absurd (subst (λ x. Has x u) agrees.at h);
+  starts = λ t. ap is_in_vacuum agrees.at;
 })
   where
     c : ℕ
@@ -317,4 +306,4 @@ vacuum_turn kind plan past sys x v answered kinds stands reply other = turned pl
     one = labelled_with (vacuum_action v r) (call_event x answered)
 
     known : ((protocol_state past).stopped c ≡ false) × VacuumModelOk past v
-    known = subst (ClientOk plan past c) stands.at (stands.ok.each c)
+    known = subst (ClientOk plan past c) agrees.at (agrees.ok.each c)

@@ -5,17 +5,14 @@ use Rattle.std.specs.List.{AllByRecursion, list_all}
 use Rattle.std.proofs.lemmas.List.{append-nil}
 use Rattle.std.proofs.lemmas.List.Elements.{filter-append}
 use Rattle.std.proofs.lemmas.List.Folds.{list_all-append}
-use Rattle.sdb_types.specs.declared.record.Record.{Record}
-use Rattle.sdb_types.specs.declared.record.Reply.{Reply}
+use Rattle.law_clients.specs.Types.{Access, Record, Reply, Request}
 use Rattle.sdb_types.specs.declared.record.Reply.TheVariants as reply
-use Rattle.sdb_types.specs.declared.record.Request.{Request}
-use Rattle.sdb_record.specs.declared.access.Access.{Access}
 use Rattle.sdb_record.specs.Coordinator.{is_coordinator_table}
 use Rattle.sdb_record.specs.Meta.{is_transactional}
 use Rattle.sdb_model.specs.Calls.{StoreCall, is_read, records_read}
 use Rattle.sdb_model.specs.Events.{table_asked}
 use Rattle.sdb_model.specs.ReadSet.{finds_transactional, reads_rows}
-use Rattle.sdb_read.specs.Read.{request_of}
+use Rattle.sdb_txn.specs.Read.{request_of}
 use Rattle.law_clients.specs.ReadAt.{ReadAt, Asking, Resolving, Done, Failed, read_pending}
 use Rattle.law_clients.specs.Calls.{AsksRows, HasUnchecked, IsMade, ReadMade, RowsMade, rows_left, rows_of}
 use Rattle.law_clients.proofs.Noting.{none_kept, reads_it}

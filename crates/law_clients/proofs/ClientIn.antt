@@ -1,38 +1,26 @@
 -- A client stays on tables of the catalog, whatever it takes and is answered.
 use Rattle.std.proofs.Common.{◌≡◌, ℕ, ℤ, Bool, true, false, cond, ◌||◌, List, [], ◌∷◌, Option, Some, None, IfSome, Ok, Err, refl, sym, ap, subst, ◌∙◌}
 use Rattle.std.specs.Prelude.{is_some}
-use Rattle.sdb_types.specs.declared.record.Record.{Record}
-use Rattle.sdb_types.specs.declared.record.Reply.{Reply}
-use Rattle.sdb_types.specs.declared.record.Request.{Request}
+use Rattle.law_clients.specs.Types.{Access, Answer, Doing, Next, PlanStep, Progress, Record, Refusal, Reply, Request, Statement, Table, VacuumStep}
 use Rattle.sdb_types.specs.Contents.{CanAnswer}
-use Rattle.sdb_record.specs.declared.access.Access.{Access}
 use Rattle.sdb_record.specs.declared.access.Access.TheVariants as access
-use Rattle.sdb_schema.specs.declared.table.Table.{Table}
-use Rattle.sdb_model.specs.declared.answer.Answer.{Answer}
 use Rattle.sdb_model.specs.declared.answer.Answer.TheVariants as answer
-use Rattle.sdb_model.specs.declared.answer.Refusal.{Refusal}
-use Rattle.sdb_model.specs.declared.statement.Statement.{Statement}
 use Rattle.sdb_model.specs.declared.statement.Statement.TheVariants as statement
 use Rattle.sdb_model.specs.Exec.{find_table, named_table, table_of}
 use Rattle.sdb_model.specs.Refused.{refusal_by, refusal_of}
 use Rattle.sdb_model.specs.Sql.{reads_commit}
 use Rattle.sdb_model.specs.Transactions.{changes_nothing}
-use Rattle.sdb_exec.specs.declared.plan.PlanStep.{PlanStep}
 use Rattle.sdb_exec.specs.declared.plan.PlanStep.TheVariants.{Finished, Read as Wants}
 use Rattle.sdb_exec.specs.Plans.{Planned}
 use Rattle.sdb_model.specs.Reads.{access_of}
-use Rattle.sdb_commit.specs.Phases.{CommitAt, IsNext}
-use Rattle.sdb_read.specs.declared.read.ReadStep.TheVariants as step
-use Rattle.sdb_read.specs.Read.{Asking, Ended, ReadAt, ReadStage, Resolving, read_pending_at, read_result, read_step, request_of}
-use Rattle.sdb_txn.specs.declared.progress.Progress.{Progress}
+use Rattle.sdb_txn.specs.Phases.{CommitAt, IsNext}
+use Rattle.sdb_txn.specs.declared.read.ReadStep.TheVariants as step
+use Rattle.sdb_txn.specs.Read.{Asking, Ended, ReadAt, ReadStage, Resolving, read_pending_at, read_result, read_step, request_of}
 use Rattle.sdb_txn.specs.declared.progress.Progress.TheVariants as progress
-use Rattle.sdb_txn.specs.declared.txn.Doing.{Doing}
 use Rattle.sdb_txn.specs.declared.txn.Doing.TheVariants as doing
 use Rattle.sdb_txn.specs.Txn.{IsCommitting, TxnAt, idle, pending_in}
-use Rattle.sdb_vacuum.specs.declared.work.VacuumStep.{VacuumStep}
 use Rattle.sdb_vacuum.specs.declared.work.VacuumStep.TheVariants as vacuuming
 use Rattle.sdb_vacuum.specs.Vacuum.{Gives, VacuumAt, begun, vacuum_step}
-use Rattle.sdb_client.specs.declared.next.Next.{Next}
 use Rattle.sdb_client.specs.declared.next.Next.TheVariants as next
 use Rattle.sdb_client.specs.Client.{AskPost, BeginPost, CallPost, ClientAt as Client, CommitNext, CommitStartPost, GatePost, RowsReadPost, IsIdle, IsAnsweredAtOnce, NextPost, OpenTxnPost, ReplyPost, RollbackPost, RowsPost, StagePost, StatementPost, TablePost, Taking, TextPost, VacuumStartPost, after, client_pending, given_answer, given_left, gives, holding, is_covered, next_of, with_rows_read, pending_by, pending_of, plan_of, resting, out_of_memory, vacuum_left, written, TextStep}
 use Rattle.law_clients.specs.About.{AreRecordsIn, IsDoingIn, IsListed, IsOfTables, IsReadIn, IsSeenIn, IsStageIn, IsVacuumIn, IsWorkIn}
@@ -76,7 +64,7 @@ module _ (catalog : List Table) where
       by true = h
       by false = (h.0, written_in catalog t.seen ks g h.1)
 
-  ---- a text that is taken
+  ---- a text that is accepted
 
   same_in : (c d : Client) (a : Answer) (result : Option Answer) → IsAnsweredAtOnce c a result d → Of c → Of d
   same_in c d a result h k = subst Of (sym h.same) k
@@ -116,15 +104,15 @@ module _ (catalog : List Table) where
     table_in st t e k = by_refusal (refusal_of q.catalog st) refl
       where
         by_table : (o : Option Table) → refusal_of q.catalog st ≡ None → named_table q.catalog st ≡ o → Of d
-        by_table (Some table) taken named =
+        by_table (Some table) accepted named =
             let found : find_table q.catalog table.name ≡ Some table = found_itself q.catalog (table_of st) table named in
             let listed : IsListed catalog table.name = subst (λ (ts : List Table). IsListed ts table.name) here (ap (λ (o : Option Table). is_some o) found) in
-            rows_in st t table e listed (k.reads table taken named)
-        by_table None taken named = absurd (let no : Some (record { kind = 6; place = 0 }) ≡ None = sym (ap (λ (o : Option Table). refusal_by o st) named) ∙ taken in cc)
+            rows_in st t table e listed (k.reads table accepted named)
+        by_table None accepted named = absurd (let no : Some (record { kind = 6; place = 0 }) ≡ None = sym (ap (λ (o : Option Table). refusal_by o st) named) ∙ accepted in cc)
 
         by_refusal : (o : Option Refusal) → refusal_of q.catalog st ≡ o → Of d
-        by_refusal (Some r) taken = same_in c d _ result (k.refused r taken) h
-        by_refusal None taken = by_table (named_table q.catalog st) taken refl
+        by_refusal (Some r) accepted = same_in c d _ result (k.refused r accepted) h
+        by_refusal None accepted = by_table (named_table q.catalog st) accepted refl
 
     ask_in : (st : Statement) (o : Option TxnAt) → c.txn ≡ o → AskPost q.catalog st c o result d → Of d
     ask_in st None e k = same_in c d _ result k h
@@ -148,7 +136,7 @@ module _ (catalog : List Table) where
   starved_in : (text : List ℕ) (c : Client) → Of c → Of (out_of_memory text c)
   starved_in text c h = elim (reads_commit text) as (λ b. Of (cond b (resting c) c)) [ true ↦ rests_in c h.vacuum | false ↦ h ]
 
-  ---- a reply that is taken
+  ---- a reply that is accepted
 
   -- the transaction after a call
   abbrev IsAfterIn : Next → TxnAt → Option Planned → Type 0
@@ -196,12 +184,12 @@ module _ (catalog : List Table) where
     stage_so n (Ended step.NoMemory) i h = absurd h
 
     call_so : (n : Next) (r : Reply) (now : ℤ) → IsStageIn catalog (read_step x.stage now r) → CallPost t p a x r now n u → IsAfterIn n u (Some p)
-    call_so next.Call r now i h = stage_so next.Call (read_step x.stage now r) i (h.told (λ e. cc))
+    call_so next.Call r now i h = stage_so next.Call (read_step x.stage now r) i (h.answered (λ e. cc))
     call_so (next.End z) r now i h = tt
     call_so (next.Answer z) r now i h =
         by_memory (Some z)
         (λ e. let same : z ≡ answer.NoMemory = cc in idle_so (next.Answer z) z (refl, h.memory (ap (λ (y : Answer). next.Answer y) same)))
-        (λ other. stage_so (next.Answer z) (read_step x.stage now r) i (h.told (λ e. other (let same : z ≡ answer.NoMemory = cc in ap (λ (y : Answer). Some y) same))))
+        (λ other. stage_so (next.Answer z) (read_step x.stage now r) i (h.answered (λ e. other (let same : z ≡ answer.NoMemory = cc in ap (λ (y : Answer). Some y) same))))
 
   committing_so : (k : CommitAt) (u : TxnAt) (P : CommitAt → Type 0) (o : Doing) → ((j : CommitAt) → P j → j.work ≡ k.work) → IsWorkIn catalog k.work → IsCommitting o P → IsDoingIn catalog u.seen o None
   committing_so k u P doing.Idle f h i = absurd i
@@ -216,7 +204,7 @@ module _ (catalog : List Table) where
   commit_so t u k r n h c = by_progress c.progress refl c.next
     where
       by_progress : (p : Progress) → c.progress ≡ p → n ≡ next_of p → IsAfterIn n u None
-      by_progress progress.More e m = subst (λ (y : Next). IsAfterIn y u None) (sym m) (committing_so k u (λ (j : CommitAt). (j.work ≡ k.work) × IsNext k.work k.stage r j.stage) u.doing (λ j i. i.0) h (c.told.next e))
+      by_progress progress.More e m = subst (λ (y : Next). IsAfterIn y u None) (sym m) (committing_so k u (λ (j : CommitAt). (j.work ≡ k.work) × IsNext k.work k.stage r j.stage) u.doing (λ j i. i.0) h (c.answered.next e))
       by_progress (progress.Rows rows) e m = ends_so n _ u m
       by_progress (progress.Busy key id at) e m = ends_so n _ u m
       by_progress progress.Faulted e m = ends_so n _ u m
@@ -248,17 +236,17 @@ module _ (catalog : List Table) where
   swept_so v w vacuuming.NoMemory r now g h = tt
 
   pub replies_in : (c d : Client) (q : Request) (r : Reply) (now : ℤ) (result : Option Answer) → client_pending c ≡ Some q → CanAnswer q r → Of c → ReplyPost c c.vacuum r now result d → Of d
-  replies_in c d q r now result asked can h told = by_vacuum c.vacuum refl asked told
+  replies_in c d q r now result asked can h answered = by_vacuum c.vacuum refl asked answered
     where
       by_txn : (o : Option TxnAt) → c.txn ≡ o → pending_of o ≡ Some q → OpenTxnPost c o r now result d → Of d
       by_txn None e pends k = absurd k
-      by_txn (Some t) e pends k = subst Of (sym k.client) (after_in c k.next k.left h.vacuum (next_so t k.left t.doing c.plan q r now k.next (open_in c t e h) pends can k.told))
+      by_txn (Some t) e pends k = subst Of (sym k.client) (after_in c k.next k.left h.vacuum (next_so t k.left t.doing c.plan q r now k.next (open_in c t e h) pends can k.answered))
 
       by_vacuum : (v : Option VacuumAt) → c.vacuum ≡ v → pending_by v c.txn ≡ Some q → ReplyPost c v r now result d → Of d
       by_vacuum None e pends k = by_txn c.txn refl pends k
       by_vacuum (Some v) e pends k =
           let is : IsVacuumIn catalog v = subst (λ (o : Option VacuumAt). IfSome o (IsVacuumIn catalog)) e h.vacuum in
-          let left = swept_so v k.0.left k.0.step r now k.0.told (swept_in catalog v.spans v.removed v.stage q now r is.0 is.1 pends can) in
+          let left = swept_so v k.0.left k.0.step r now k.0.answered (swept_in catalog v.spans v.removed v.stage q now r is.0 is.1 pends can) in
           subst Of (sym k.1) (record { txn = h.txn; vacuum = subst (λ (o : Option VacuumAt). IfSome o (IsVacuumIn catalog)) (sym k.0.goes) left })
 
   ---- the call that is pending
@@ -285,4 +273,4 @@ pub takes_in : (q : Taking) (text : List ℕ) (c d : Client) (result : Option An
 takes_in q text c d result waits h k =
     by_memory result
     (λ e. subst (IsOfTables q.catalog) (sym (k.memory e)) (starved_in q.catalog text c h))
-    (λ n. text_in q.catalog q refl c d result waits h text (k.told n))
+    (λ n. text_in q.catalog q refl c d result waits h text (k.answered n))

@@ -2,17 +2,13 @@
 use Rattle.std.proofs.Common.{◌≡◌, ◌≢◌, ℕ, Bool, true, false, List, ◌∷◌, Option, Some, None, refl, sym, ap, subst, ◌∙◌, arith, ◌⊎◌, inl, inr}
 use Rattle.std.specs.Prelude.{◌==◌, if◌then◌else◌}
 use Rattle.std.proofs.lemmas.Bool.Decides.{nat_tests}
-use Rattle.sdb_types.specs.declared.record.Record.{Record}
-use Rattle.sdb_record.specs.declared.access.Access.{Access}
+use Rattle.law_clients.specs.Types.{Access, Answer, Meta, Record, RecoverPhase}
 use Rattle.sdb_record.specs.declared.coordinator.Decision.TheVariants as decision
-use Rattle.sdb_record.specs.declared.meta.Meta.{Meta}
-use Rattle.sdb_model.specs.declared.answer.Answer.{Answer}
 use Rattle.sdb_model.specs.declared.answer.Answer.TheVariants as answer
 use Rattle.law_protocol.specs.Plan.{Plan}
 use Rattle.law_protocol.specs.History as laws
 use Rattle.law_protocol.specs.History.{Action, Begins, ProtocolState, state_after_event, state_after}
 use Rattle.law_protocol.specs.Lawful.{Labelled, IsEnabled, MayAnswer, MayDeny, protocol_state, ended, answer_of, is_denial}
-use Rattle.sdb_phases.specs.declared.step.RecoverPhase.{RecoverPhase}
 use Rattle.sdb_phases.specs.declared.step.RecoverPhase.TheVariants as recovering
 use Rattle.law_clients.specs.Reader.{RecoverOk, PhaseOk}
 use Rattle.law_clients.specs.ReadAt.{ReadAt, Asking, Resolving, Done, Failed, ReadOk}
@@ -20,7 +16,7 @@ use Rattle.law_clients.specs.Vacuum as vacuum
 use Rattle.law_clients.specs.Vacuum.{VacuumModel, VacuumModelOk}
 use Rattle.law_clients.specs.System.{ClientAt, Resting, Open, Reading, Committing, RunsVacuum, Stopped, ClientOk, Has, is_in_vacuum, Gate, SystemAt, SystemOk, with_client, IsBy}
 use Rattle.law_clients.proofs.Kept.{row_later}
-use Rattle.law_clients.proofs.Foreign.{IsForeignEvent, StopsNot, commit_later, open_later, foreign, goes_on, going, dead_stays}
+use Rattle.law_clients.proofs.Foreign.{IsForeignEvent, StopsNot, commit_later, open_later, foreign, goes_on, running, dead_stays}
 use Rattle.law_clients.proofs.Rows.{images_later, image_later, left_later}
 use Rattle.law_clients.proofs.Seen.{seen_later}
 use Rattle.law_protocol.proofs.Seen.{open_before as open_ended}
@@ -28,7 +24,7 @@ use Rattle.law_protocol.proofs.Seen.{open_before as open_ended}
 ---- what a client knows stays
 
 pub recover_later : (past : List Labelled) (q : Labelled) (rec : Record) (meta : Meta) (p : RecoverPhase) → RecoverOk past rec meta p → RecoverOk (q ∷ past) rec meta p
-recover_later past q rec meta p ok = record { of = ok.of; unresolved = ok.unresolved; shown = inr ok.shown; outside = ok.outside; phase = by p ok.phase }
+recover_later past q rec meta p ok = record { of = ok.of; unresolved = ok.unresolved; observed = inr ok.observed; outside = ok.outside; phase = by p ok.phase }
   where
     gone : (o : Option ℕ) → (protocol_state past).dead meta.id.0 ≡ true → (ended (state_after_event (protocol_state past) q.action) o).dead meta.id.0 ≡ true
     gone None d = dead_stays meta.id.0 0 (protocol_state past) q.action d
@@ -62,12 +58,12 @@ pub record Spares (d : ℕ) (x : ClientAt) (q : Labelled) : Type 0 where
 
 -- Such an event leaves what the client knows.
 pub client_later : (plan : ℕ → Plan) (past : List Labelled) (d : ℕ) (q : Labelled) (x : ClientAt) → Spares d x q → ClientOk plan past d x → ClientOk plan (q ∷ past) d x
-client_later plan past d q Resting f ok = going past q d f.goes_on ∙ ok
+client_later plan past d q Resting f ok = running past q d f.goes_on ∙ ok
 client_later plan past d q (Open id seen) f ok = (open_later past q d id.0 (f.parts id.0 refl) ok.0, seen_later past q seen ok.1)
 client_later plan past d q (Reading id seen a r) f ok = (open_later past q d id.0 (f.parts id.0 refl) ok.0, seen_later past q seen ok.1, ok.2, read_later past q a r ok.3)
 client_later plan past d q (Committing p s) f ok = commit_later plan past q d p s (f.parts p.id.0 refl) ok
-client_later plan past d q (RunsVacuum v) f ok = (going past q d f.goes_on ∙ ok.0, sweep_later past q v ok.1)
-client_later plan past d q Stopped f ok = going past q d f.goes_on ∙ ok
+client_later plan past d q (RunsVacuum v) f ok = (running past q d f.goes_on ∙ ok.0, sweep_later past q v ok.1)
+client_later plan past d q Stopped f ok = running past q d f.goes_on ∙ ok
 
 -- a client's open transaction is its own, and has begun
 pub has_owner : (plan : ℕ → Plan) (past : List Labelled) (d t : ℕ) (x : ClientAt) → ClientOk plan past d x → Has x t → ((protocol_state past).owner t ≡ d) × ((protocol_state past).begun t ≢ 0)
@@ -147,7 +143,7 @@ pub record Turn (plan : ℕ → Plan) (past : List Labelled) (sys : SystemAt) (c
   pub may : IsEnabled plan past q.event q.action
   pub ends : (u : ℕ) → q.ends ≡ Some u → (protocol_state past).owner u ≡ c
   pub begins : BeginsNone q.action
-  pub tells : answer_of q.event ≡ Some answer.Committed → MayAnswer plan past q
+  pub is_known : answer_of q.event ≡ Some answer.Committed → MayAnswer plan past q
   pub denies : (a : Answer) → answer_of q.event ≡ Some a → is_denial a ≡ true → MayDeny past q
   pub knows : ClientOk plan (q ∷ past) c x
   pub holds : (u : ℕ) → Has (sys.clients c) u → (protocol_state (q ∷ past)).is_open u ≡ true → ((protocol_state (q ∷ past)).stopped c ≡ true) ⊎ Has x u
@@ -163,7 +159,7 @@ with_here sys c x P d here there = on (d == c) refl
 -- Then all is so of all clients.
 pub turned : (plan : ℕ → Plan) (past : List Labelled) (sys : SystemAt) (c : ℕ) (q : Labelled) (x : ClientAt) → SystemOk plan past sys → Turn plan past sys c q x → SystemOk plan (q ∷ past) (with_client sys c x)
 turned plan past sys c q x ok t = record {
-  lawful = (ok.lawful, t.may, t.tells, t.denies);
+  lawful = (ok.lawful, t.may, t.is_known, t.denies);
   each = λ d. with_here sys c x (ClientOk plan (q ∷ past)) d t.knows (λ apart. client_later plan past d q (sys.clients d) (others_spared plan past c d q (sys.clients d) apart t.by t.may t.ends (ok.each d)) (ok.each d));
   opened = λ u o. subst (λ d. ((protocol_state (q ∷ past)).stopped d ≡ true) ⊎ Has ((with_client sys c x).clients d) u) (sym (go.owner u)) (opened u o (ok.opened u (go.is_open u o)));
   gate = λ d s. gate_goes (protocol_state past) (protocol_state (q ∷ past)) go (with_here sys c x (λ e y. is_in_vacuum y ≡ true → Gate (protocol_state past)) d (λ s. ok.gate c (t.starts s)) (λ apart s. ok.gate d s) s);

@@ -4,27 +4,18 @@ use Rattle.std.specs.Prelude.{slice_get, nat_lt, if◌then◌else◌}
 use Rattle.std.specs.Option.{option_map}
 use Rattle.std.proofs.lemmas.Option.{slice_get-map, slice_get_within}
 use Rattle.std.proofs.lemmas.Bool.Decides.{nat_tests}
-use Rattle.sdb_types.specs.declared.key.Key.{Key}
-use Rattle.sdb_types.specs.declared.record.Record.{Record}
-use Rattle.sdb_types.specs.declared.record.Reply.{Reply}
+use Rattle.law_clients.specs.Types.{Answer, Check, Event, How, Key, Outcome, Record, Reply, Request, Write}
 use Rattle.sdb_types.specs.declared.record.Reply.TheVariants as reply
-use Rattle.sdb_types.specs.declared.record.Request.{Request}
 use Rattle.sdb_types.specs.declared.record.Request.TheVariants as ask
 use Rattle.sdb_types.specs.Contents.{CanAnswer}
 use Rattle.sdb_record.specs.declared.coordinator.Decision.TheVariants as decision
-use Rattle.sdb_record.specs.declared.write.Write.{Write}
-use Rattle.sdb_model.specs.declared.answer.Answer.{Answer}
 use Rattle.sdb_model.specs.declared.answer.Answer.TheVariants as answer
-use Rattle.sdb_model.specs.declared.event.Event.{Event}
 use Rattle.sdb_model.specs.declared.event.Event.TheVariants as event
-use Rattle.sdb_model.specs.declared.event.How.{How}
 use Rattle.sdb_model.specs.Rows.{Name}
 use Rattle.law_protocol.specs.Plan.{Plan}
 use Rattle.law_protocol.specs.History.{Action, Other, Prepares, Checks, Decides, Aborts, Rolls, ProtocolState, state_after_event, state_after}
 use Rattle.law_protocol.specs.History as laws
 use Rattle.law_protocol.specs.Lawful.{Labelled, protocol_state, ack_of, is_quiet, InCommit, IsKnownCommitted, IsKnownAborted, IsBadRow, IsEnabled, MayAnswer, MayDeny, is_denial, labelled_with}
-use Rattle.sdb_phases.specs.declared.check.Check.{Check}
-use Rattle.sdb_phases.specs.declared.step.Outcome.{Outcome}
 use Rattle.sdb_phases.specs.declared.step.Outcome.TheVariants as outcome
 use Rattle.sdb_phases.specs.declared.step.ValidateStep.TheVariants as validate
 use Rattle.sdb_phases.specs.declared.step.DecidePhase.TheVariants as phase
@@ -166,15 +157,15 @@ call_role p (Back a n i) r = by (slice_get p.writes i)
 call_role p (Over a) r = tt
 
 pub within_kept : (h : ProtocolState) (c t : ℕ) (r : Action) → IsCallRole r → InCommit h c t → InCommit (state_after_event h r) c t
-within_kept h c t Other f ok = record { taken = ok.taken; is_open = ok.is_open; owner = ok.owner; goes_on = ok.goes_on }
+within_kept h c t Other f ok = record { accepted = ok.accepted; is_open = ok.is_open; owner = ok.owner; goes_on = ok.goes_on }
 within_kept h c t (laws.Begins u d) f ok = absurd f
 within_kept h c t (laws.Takes u) f ok = absurd f
-within_kept h c t (Prepares u k word) f ok = record { taken = ok.taken; is_open = ok.is_open; owner = ok.owner; goes_on = ok.goes_on }
-within_kept h c t (Checks u i) f ok = record { taken = ok.taken; is_open = ok.is_open; owner = ok.owner; goes_on = ok.goes_on }
-within_kept h c t (Decides u word) f ok = record { taken = ok.taken; is_open = ok.is_open; owner = ok.owner; goes_on = ok.goes_on }
-within_kept h c t (Aborts u m word) f ok = record { taken = ok.taken; is_open = ok.is_open; owner = ok.owner; goes_on = ok.goes_on }
-within_kept h c t (Rolls u k d) f ok = record { taken = ok.taken; is_open = ok.is_open; owner = ok.owner; goes_on = ok.goes_on }
-within_kept h c t (laws.Removes k u) f ok = record { taken = ok.taken; is_open = ok.is_open; owner = ok.owner; goes_on = ok.goes_on }
+within_kept h c t (Prepares u k word) f ok = record { accepted = ok.accepted; is_open = ok.is_open; owner = ok.owner; goes_on = ok.goes_on }
+within_kept h c t (Checks u i) f ok = record { accepted = ok.accepted; is_open = ok.is_open; owner = ok.owner; goes_on = ok.goes_on }
+within_kept h c t (Decides u word) f ok = record { accepted = ok.accepted; is_open = ok.is_open; owner = ok.owner; goes_on = ok.goes_on }
+within_kept h c t (Aborts u m word) f ok = record { accepted = ok.accepted; is_open = ok.is_open; owner = ok.owner; goes_on = ok.goes_on }
+within_kept h c t (Rolls u k d) f ok = record { accepted = ok.accepted; is_open = ok.is_open; owner = ok.owner; goes_on = ok.goes_on }
+within_kept h c t (laws.Removes k u) f ok = record { accepted = ok.accepted; is_open = ok.is_open; owner = ok.owner; goes_on = ok.goes_on }
 within_kept h c t (laws.Ends u) f ok = absurd f
 within_kept h c t (laws.Stops d) f ok = absurd f
 
@@ -193,30 +184,30 @@ begun_kept h t (laws.Stops d) f b = absurd f
 
 -- what is known when an answer ends the transaction
 known_ended : (plan : ℕ → Plan) (past : List Labelled) (e : Event) (action : Action) (t u : ℕ) (m : ℤ) → IsKnownCommitted plan (labelled_with action e ∷ past) t m → IsKnownCommitted plan (record { event = e; action = action; ends = Some u } ∷ past) t m
-known_ended plan past e action t u m (inl x) = inl (record { row = x.row; shown = x.shown; key = x.key; says = x.says })
+known_ended plan past e action t u m (inl x) = inl (record { row = x.row; observed = x.observed; key = x.key; says = x.says })
 known_ended plan past e action t u m (inr (inl x)) = inr (inl x)
-known_ended plan past e action t u m (inr (inr x)) = inr (inr (x.0, (x.1.0, record { row = x.1.1.row; shown = x.1.1.shown; key = x.1.1.key; says = x.1.1.says }), x.2))
+known_ended plan past e action t u m (inr (inr x)) = inr (inr (x.0, (x.1.0, record { row = x.1.1.row; observed = x.1.1.observed; key = x.1.1.key; says = x.1.1.says }), x.2))
 
 denied_ended : (past : List Labelled) (e : Event) (action : Action) (t u : ℕ) → (IsKnownAborted (labelled_with action e ∷ past) t ⊎ ((protocol_state (labelled_with action e ∷ past)).risked t ≡ false) ⊎ IsBadRow (labelled_with action e ∷ past) t) → (IsKnownAborted (record { event = e; action = action; ends = Some u } ∷ past) t ⊎ ((protocol_state (record { event = e; action = action; ends = Some u } ∷ past)).risked t ≡ false) ⊎ IsBadRow (record { event = e; action = action; ends = Some u } ∷ past) t)
-denied_ended past e action t u (inl (inl x)) = inl (inl (x.0, record { row = x.1.row; shown = x.1.shown; key = x.1.key; says = x.1.says }))
+denied_ended past e action t u (inl (inl x)) = inl (inl (x.0, record { row = x.1.row; observed = x.1.observed; key = x.1.key; says = x.1.says }))
 denied_ended past e action t u (inl (inr x)) = inl (inr x)
 denied_ended past e action t u (inr (inl r)) = inr (inl r)
-denied_ended past e action t u (inr (inr b)) = inr (inr (record { row = b.row; shown = b.shown; key = b.key; bad = b.bad }))
+denied_ended past e action t u (inr (inr b)) = inr (inr (record { row = b.row; observed = b.observed; key = b.key; bad = b.bad }))
 
-told_at : (plan : ℕ → Plan) (past : List Labelled) (p : Work) (e : Event) (action : Action) (s : Stage) → (protocol_state past).taken p.id.0 ≡ true → StageOk plan (labelled_with action e ∷ past) p s → answer_at s ≡ Some answer.Committed → MayAnswer plan past (record { event = e; action = action; ends = ending_at p.id.0 s })
-told_at plan past p e action (Over outcome.Committed) taken ok a = record { t = p.id.0; ends = refl; taken = taken; moment = p.now; known = known_ended plan past e action p.id.0 p.id.0 p.now ok }
-told_at plan past p e action (Over (outcome.Conflict key found)) taken ok a = absurd (cc)
-told_at plan past p e action (Over (outcome.Expired id)) taken ok a = absurd (cc)
-told_at plan past p e action (Over outcome.Faulted) taken ok a = absurd (cc)
-told_at plan past p e action (Over (outcome.Unknown id)) taken ok a = absurd (cc)
-told_at plan past p e action (Over (outcome.BadRecord key)) taken ok a = absurd (cc)
-told_at plan past p e action (Over outcome.NoMemory) taken ok a = absurd (cc)
-told_at plan past p e action (Preparing i) taken ok a = some_none answer.Committed a
-told_at plan past p e action (Checking i) taken ok a = some_none answer.Committed a
-told_at plan past p e action (Deciding d) taken ok a = some_none answer.Committed a
-told_at plan past p e action (Forward i) taken ok a = some_none answer.Committed a
-told_at plan past p e action (Stopping b n) taken ok a = some_none answer.Committed a
-told_at plan past p e action (Back b n i) taken ok a = some_none answer.Committed a
+told_at : (plan : ℕ → Plan) (past : List Labelled) (p : Work) (e : Event) (action : Action) (s : Stage) → (protocol_state past).accepted p.id.0 ≡ true → StageOk plan (labelled_with action e ∷ past) p s → answer_at s ≡ Some answer.Committed → MayAnswer plan past (record { event = e; action = action; ends = ending_at p.id.0 s })
+told_at plan past p e action (Over outcome.Committed) accepted ok a = record { t = p.id.0; ends = refl; accepted = accepted; moment = p.now; known = known_ended plan past e action p.id.0 p.id.0 p.now ok }
+told_at plan past p e action (Over (outcome.Conflict key found)) accepted ok a = absurd (cc)
+told_at plan past p e action (Over (outcome.Expired id)) accepted ok a = absurd (cc)
+told_at plan past p e action (Over outcome.Faulted) accepted ok a = absurd (cc)
+told_at plan past p e action (Over (outcome.Unknown id)) accepted ok a = absurd (cc)
+told_at plan past p e action (Over (outcome.BadRecord key)) accepted ok a = absurd (cc)
+told_at plan past p e action (Over outcome.NoMemory) accepted ok a = absurd (cc)
+told_at plan past p e action (Preparing i) accepted ok a = some_none answer.Committed a
+told_at plan past p e action (Checking i) accepted ok a = some_none answer.Committed a
+told_at plan past p e action (Deciding d) accepted ok a = some_none answer.Committed a
+told_at plan past p e action (Forward i) accepted ok a = some_none answer.Committed a
+told_at plan past p e action (Stopping b n) accepted ok a = some_none answer.Committed a
+told_at plan past p e action (Back b n i) accepted ok a = some_none answer.Committed a
 
 over_why : (plan : ℕ → Plan) (past : List Labelled) (p : Work) (o : Outcome) → is_denial (answer_of_outcome o) ≡ true → OverOk plan past p o → IsKnownAborted past p.id.0 ⊎ ((protocol_state past).risked p.id.0 ≡ false) ⊎ IsBadRow past p.id.0
 over_why plan past p outcome.Committed d ok = absurd (cc)
@@ -228,28 +219,28 @@ over_why plan past p (outcome.BadRecord key) d ok = ok
 over_why plan past p outcome.NoMemory d ok = ok
 
 denied_at : (plan : ℕ → Plan) (past : List Labelled) (p : Work) (e : Event) (action : Action) (s : Stage) (a : Answer) → StageOk plan (labelled_with action e ∷ past) p s → answer_at s ≡ Some a → is_denial a ≡ true → MayDeny past (record { event = e; action = action; ends = ending_at p.id.0 s })
-denied_at plan past p e action (Over o) a ok executed denial u ends taken = subst (λ t. IsKnownAborted (record { event = e; action = action; ends = Some p.id.0 } ∷ past) t ⊎ ((protocol_state (record { event = e; action = action; ends = Some p.id.0 } ∷ past)).risked t ≡ false) ⊎ IsBadRow (record { event = e; action = action; ends = Some p.id.0 } ∷ past) t) (some_is p.id.0 u ends) (denied_ended past e action p.id.0 p.id.0 (over_why plan (labelled_with action e ∷ past) p o (ap is_denial (some_is (answer_of_outcome o) a executed) ∙ denial) ok))
-denied_at plan past p e action (Preparing i) a ok executed denial u ends taken = some_none a executed
-denied_at plan past p e action (Checking i) a ok executed denial u ends taken = some_none a executed
-denied_at plan past p e action (Deciding d) a ok executed denial u ends taken = some_none a executed
-denied_at plan past p e action (Forward i) a ok executed denial u ends taken = some_none a executed
-denied_at plan past p e action (Stopping b n) a ok executed denial u ends taken = some_none a executed
-denied_at plan past p e action (Back b n i) a ok executed denial u ends taken = some_none a executed
+denied_at plan past p e action (Over o) a ok executed denial u ends accepted = subst (λ t. IsKnownAborted (record { event = e; action = action; ends = Some p.id.0 } ∷ past) t ⊎ ((protocol_state (record { event = e; action = action; ends = Some p.id.0 } ∷ past)).risked t ≡ false) ⊎ IsBadRow (record { event = e; action = action; ends = Some p.id.0 } ∷ past) t) (some_is p.id.0 u ends) (denied_ended past e action p.id.0 p.id.0 (over_why plan (labelled_with action e ∷ past) p o (ap is_denial (some_is (answer_of_outcome o) a executed) ∙ denial) ok))
+denied_at plan past p e action (Preparing i) a ok executed denial u ends accepted = some_none a executed
+denied_at plan past p e action (Checking i) a ok executed denial u ends accepted = some_none a executed
+denied_at plan past p e action (Deciding d) a ok executed denial u ends accepted = some_none a executed
+denied_at plan past p e action (Forward i) a ok executed denial u ends accepted = some_none a executed
+denied_at plan past p e action (Stopping b n) a ok executed denial u ends accepted = some_none a executed
+denied_at plan past p e action (Back b n i) a ok executed denial u ends accepted = some_none a executed
 
 left_ok : (plan : ℕ → Plan) (past : List Labelled) (c : ℕ) (p : Work) (s : Stage) (e : Event) (action : Action) (n : Stage) → CommitOk plan past c p s → IsCallRole action → StageOk plan (labelled_with action e ∷ past) p n → ClientOk plan (record { event = e; action = action; ends = ending_at p.id.0 n } ∷ past) c (commit_left p n)
 left_ok plan past c p s e action n ok call now = by n now
   where
-    stands : (n : Stage) → StageOk plan (labelled_with action e ∷ past) p n → CommitOk plan (labelled_with action e ∷ past) c p n
-    stands n now = record { work = ok.work; within = within_kept (protocol_state past) c p.id.0 action call ok.within; begun = begun_kept (protocol_state past) p.id.0 action call ok.begun; planned = ok.planned; stage = now }
+    agrees : (n : Stage) → StageOk plan (labelled_with action e ∷ past) p n → CommitOk plan (labelled_with action e ∷ past) c p n
+    agrees n now = record { work = ok.work; within = within_kept (protocol_state past) c p.id.0 action call ok.within; begun = begun_kept (protocol_state past) p.id.0 action call ok.begun; planned = ok.planned; stage = now }
 
     by : (n : Stage) → StageOk plan (labelled_with action e ∷ past) p n → ClientOk plan (record { event = e; action = action; ends = ending_at p.id.0 n } ∷ past) c (commit_left p n)
     by (Over a) now = (within_kept (protocol_state past) c p.id.0 action call ok.within).goes_on
-    by (Preparing i) now = stands (Preparing i) now
-    by (Checking i) now = stands (Checking i) now
-    by (Deciding d) now = stands (Deciding d) now
-    by (Forward i) now = stands (Forward i) now
-    by (Stopping b n) now = stands (Stopping b n) now
-    by (Back b n i) now = stands (Back b n i) now
+    by (Preparing i) now = agrees (Preparing i) now
+    by (Checking i) now = agrees (Checking i) now
+    by (Deciding d) now = agrees (Deciding d) now
+    by (Forward i) now = agrees (Forward i) now
+    by (Stopping b n) now = agrees (Stopping b n) now
+    by (Back b n i) now = agrees (Back b n i) now
 
 ---- the turn
 
@@ -293,15 +284,15 @@ not_open h action t u e o = clash (sym (closed (state_after_event h action) t u 
 
 pub commit_turn : (plan : ℕ → Plan) (past : List Labelled) (sys : SystemAt) (x : ClientCall) (p : Work) (s : Stage) → IsInState plan past sys x.client (Committing p s) → IsReplyTo (pending p s) x
     → SystemOk plan (commit_labelled p s x ∷ past) (with_client sys x.client (commit_left p (step p s x.reply)))
-commit_turn plan past sys x p s stands reply = turned plan past sys c (commit_labelled p s x) (commit_left p (step p s r)) ok (record {
+commit_turn plan past sys x p s agrees reply = turned plan past sys c (commit_labelled p s x) (commit_left p (step p s r)) ok (record {
   by = refl;
   may = may;
   ends = λ u e. owned (step p s r) u e;
   begins = begins_none (action_of p s r) (call_role p s r);
-  tells = told_at plan past p e (action_of p s r) (step p s r) here.within.taken now;
+  is_known = told_at plan past p e (action_of p s r) (step p s r) here.within.accepted now;
   denies = λ a executed denial. denied_at plan past p e (action_of p s r) (step p s r) a now executed denial;
   knows = left_ok plan past c p s e (action_of p s r) (step p s r) here (call_role p s r) now;
-  holds = λ u h o. holds u (subst (λ y. Has y u) stands.at h) (step p s r) o;
+  holds = λ u h o. holds u (subst (λ y. Has y u) agrees.at h) (step p s r) o;
   starts = no_start (commit_left p (step p s r)) (no_sweep p (step p s r));
 })
   where
@@ -312,13 +303,13 @@ commit_turn plan past sys x p s stands reply = turned plan past sys c (commit_la
     r = x.reply
 
     ok : SystemOk plan past sys
-    ok = stands.ok
+    ok = agrees.ok
 
     e : Event
     e = call_event x (answer_at (step p s r))
 
     here : CommitOk plan past c p s
-    here = subst (ClientOk plan past c) stands.at (ok.each c)
+    here = subst (ClientOk plan past c) agrees.at (ok.each c)
 
     may : IsEnabled plan past e (action_of p s r)
     may = own_play plan past c p s x.store x.request x.how r (answer_at (step p s r)) here reply.asked reply.can
@@ -374,7 +365,7 @@ starved_stage plan past p (Back a n i) ok = (ok.0, ok.1, starved_lost a ok.2, ok
 starved_stage plan past p (Over a) ok = starved_over plan past p a ok
 
 pub starved_commit : (plan : ℕ → Plan) (past : List Labelled) (sys : SystemAt) (c : ℕ) (p : Work) (s : Stage) → IsInState plan past sys c (Committing p s) → SystemOk plan past (with_client sys c (Committing p (out_of_memory s)))
-starved_commit plan past sys c p s stands = moved plan past sys c (Committing p (out_of_memory s)) stands.ok (record { work = here.work; within = here.within; begun = here.begun; planned = here.planned; stage = starved_stage plan past p s here.stage }) (λ u h. subst (λ x. Has x u) stands.at h) (λ t. no_start (Committing p (out_of_memory s)) refl t)
+starved_commit plan past sys c p s agrees = moved plan past sys c (Committing p (out_of_memory s)) agrees.ok (record { work = here.work; within = here.within; begun = here.begun; planned = here.planned; stage = starved_stage plan past p s here.stage }) (λ u h. subst (λ x. Has x u) agrees.at h) (λ t. no_start (Committing p (out_of_memory s)) refl t)
   where
     here : CommitOk plan past c p s
-    here = subst (ClientOk plan past c) stands.at (stands.ok.each c)
+    here = subst (ClientOk plan past c) agrees.at (agrees.ok.each c)

@@ -2,13 +2,7 @@
 use Rattle.std.proofs.Common.{◌≡◌, ◌<◌, ◌^◌, ℕ, Bool, true, false, List, [], ◌∷◌, map, Some, None, refl, sym, ap, subst, ◌∙◌}
 use Rattle.std.specs.Prelude.{All, is_some, if◌then◌else◌}
 use Rattle.std.specs.FinMap.{get, empty}
-use Rattle.sdb_schema.specs.declared.table.Table.{Table}
-use Rattle.sdb_model.specs.declared.answer.Answer.{Answer}
-use Rattle.sdb_model.specs.declared.event.Event.{Event}
-use Rattle.sdb_model.specs.declared.event.Point.{Point}
-use Rattle.sdb_model.specs.declared.event.TableDump.{TableDump}
-use Rattle.sdb_types.specs.declared.place.Place.{Place}
-use Rattle.sdb_model.specs.declared.statement.Statement.{Statement}
+use Rattle.law_clients.specs.Types.{Answer, Event, Place, Point, Statement, Table, TableDump}
 use Rattle.sdb_model.specs.Events.{StoreContents}
 use Rattle.sdb_model.specs.Exec.{Tables, find_table}
 use Rattle.sdb_model.specs.Images.{row_at}
@@ -32,21 +26,21 @@ bodies_read catalog fit plan events past ran (p ∷ ps) all = (all.0.1.read, bod
 -- and their answers
 answers_are : (catalog : List Table) (fit : Tables → Bool) (plan : ℕ → Plan) (events : List Event) (past : List Labelled) (ran : ℕ → Execution) (order : List Point) → AllBodiesExecuted catalog fit plan events past ran (ordinals_of order) → map (answers_given events) order ≡ map (map Some) (map (λ t. (ran t).answers) (ordinals_of order))
 answers_are catalog fit plan events past ran [] all = refl
-answers_are catalog fit plan events past ran (p ∷ ps) all = ap (λ x. x ∷ map (answers_given events) ps) all.0.1.told ∙ ap (λ xs. map Some (ran p.id.0).answers ∷ xs) (answers_are catalog fit plan events past ran ps all.1)
+answers_are catalog fit plan events past ran (p ∷ ps) all = ap (λ x. x ∷ map (answers_given events) ps) all.0.1.answered ∙ ap (λ xs. map Some (ran p.id.0).answers ∷ xs) (answers_are catalog fit plan events past ran ps all.1)
 
 -- the rows that are shown are all
-images_are : (catalog : List Table) (fit : Tables → Bool) (places : List Place) (shelves : List StoreContents) (e : Tables) → IsFitting catalog fit → fit e ≡ true → ContainsTables places shelves e → AreImages catalog places shelves e
-images_are catalog fit places shelves e fitting f shows k = by (is_some (find_table catalog k.table)) refl
+images_are : (catalog : List Table) (fit : Tables → Bool) (places : List Place) (store_contents : List StoreContents) (e : Tables) → IsFitting catalog fit → fit e ≡ true → ContainsTables places store_contents e → AreImages catalog places store_contents e
+images_are catalog fit places store_contents e fitting f shows k = by (is_some (find_table catalog k.table)) refl
   where
-    by : (b : Bool) → is_some (find_table catalog k.table) ≡ b → get e k ≡ (if b then row_at places shelves k else None)
+    by : (b : Bool) → is_some (find_table catalog k.table) ≡ b → get e k ≡ (if b then row_at places store_contents k else None)
     by true t = sym (shows k (fitting.apart k t))
     by false t = fitting.inside e k f t
 
 -- An order that keeps real time among transactions keeps it as clients see it.
-clients_see : (places : List Place) (events : List Event) (shelves : List StoreContents) (order : List Point) → TransactionsInRealTime places events shelves order → CommittedIsOwned places events shelves → RespectsRealTime places events shelves order
-clients_see places events shelves order real owned client s within told late fits recorded m n at began less =
-    let r = owned client s within told in
-    (r.id, r.commit, real r.id late r.fits fits s r.commit told recorded m n at began less)
+clients_see : (places : List Place) (events : List Event) (store_contents : List StoreContents) (order : List Point) → TransactionsInRealTime places events store_contents order → CommittedIsOwned places events store_contents → RespectsRealTime places events store_contents order
+clients_see places events store_contents order real owned client s within answered late fits recorded m n at began less =
+    let r = owned client s within answered in
+    (r.id, r.commit, real r.id late r.fits fits s r.commit answered recorded m n at began less)
 
 pub run_told : (catalog : List Table) (fit : Tables → Bool) (plan : ℕ → Plan) (places : List Place) (opening : List StoreContents) (labelled : List Labelled) (ss : List (List StoreContents)) (ran : ℕ → Execution) (order : List Point)
     → IsRunOf plan places opening (newest_first labelled) ss → IsFaithful (events_of labelled) (newest_first labelled) → IsOrder places (events_of labelled) (closing opening ss) order → All (λ (p : Point). p.id.0 < 2 ^ 128) order → IsFitting catalog fit → AllBodiesExecuted catalog fit plan (events_of labelled) (newest_first labelled) ran (ordinals_of order)

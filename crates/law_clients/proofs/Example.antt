@@ -2,16 +2,14 @@
 use Rattle.std.proofs.Common.{◌≡◌, ℕ, true, List, [], ◌∷◌, Option, Some, None, refl, subst, arith}
 use Rattle.std.specs.Prelude.{pos, codes}
 use Rattle.std.specs.Ordering.{is_eq}
-use Rattle.std.specs.declared.cmp.Ordering.{Ordering}
+use Rattle.law_clients.specs.Types.{Answer, Ordering, Record}
 use Rattle.std.specs.declared.cmp.Ordering.TheVariants.{Less, Equal, Greater}
 use Rattle.std.proofs.lemmas.Bool.Decides.{nat_tests}
-use Rattle.sdb_types.specs.declared.record.Record.{Record}
 use Rattle.sdb_types.specs.declared.record.Request.TheVariants as ask
 use Rattle.sdb_types.specs.declared.record.Reply.TheVariants as reply
 use Rattle.sdb_types.specs.Order.{key_cmp, same_key}
 use Rattle.sdb_types.proofs.KeyOrder.{key_exact}
 use Rattle.sdb_record.specs.declared.access.Access.TheVariants as access
-use Rattle.sdb_model.specs.declared.answer.Answer.{Answer}
 use Rattle.sdb_model.specs.declared.answer.Answer.TheVariants as answer
 use Rattle.sdb_model.specs.declared.event.Event.TheVariants as event
 use Rattle.law_protocol.specs.History.{Other, ProtocolState, Decides, Yes, state_after_event}
@@ -34,13 +32,13 @@ use Rattle.law_clients.proofs.Calls.{read_turn}
 use Rattle.law_clients.proofs.Commit.{commit_turn}
 use Rattle.law_clients.proofs.Quiet.{quiet_turn, asks, read_set, writes}
 use Rattle.law_clients.proofs.Take.{take_turn}
-use Rattle.sdb_read.specs.Read.{Kind, Bad}
+use Rattle.sdb_txn.specs.Read.{Kind, Bad}
 use Rattle.sdb_model.specs.Tables.{is_data}
 
 abbrev plans : ℕ → Plan
 plans t = no_plan
 
--- no row is taken for a record here
+-- no row is accepted for a record here
 abbrev no_kind : Record → Kind
 no_kind r = Bad
 
@@ -62,7 +60,7 @@ past1 = begin_labelled idle 1 (codes "BEGIN") ∷ []
 begun : SystemOk plans past1 sys1
 begun = begin_turn plans [] idle 1 (codes "BEGIN") (record { ok = begins plans; at = refl }) (record { reads = begin_begins; client = omega arith; ordinal = omega arith }) (λ d. refl)
 
--- INSERT is taken, and its key is read
+-- INSERT is accepted, and its key is read
 abbrev past2 : List Labelled
 past2 = labelled_with Other (event.Take 1 (codes "INSERT") None) ∷ past1
 
@@ -104,7 +102,7 @@ inserted_fits = ((refl, refl), tt)
 row_written : SystemOk plans past3 sys5
 row_written = writes plans past3 sys4 1 first_id read_once inserted (record { ok = key_noted; at = refl }) inserted_fits
 
--- COMMIT is taken, its prepare is applied, and COMMITTED is put
+-- COMMIT is accepted, its prepare is applied, and COMMITTED is put
 abbrev plans2 : ℕ → Plan
 plans2 = with_plan plans first_work
 

@@ -5,10 +5,8 @@ use Rattle.std.specs.List.{AllByRecursion}
 use Rattle.std.proofs.lemmas.List.Elements.{All-contains, All-from_recursion}
 use Rattle.std.specs.Option.{option_map, option_map_or, option_and_then}
 use Rattle.std.proofs.lemmas.Bool.Decides.{nat_tests}
-use Rattle.sdb_types.specs.declared.txid.TxId.{TxId}
-use Rattle.sdb_model.specs.declared.answer.Answer.{Answer}
+use Rattle.law_clients.specs.Types.{Answer, Event, TxId}
 use Rattle.sdb_model.specs.declared.answer.Answer.TheVariants as answer
-use Rattle.sdb_model.specs.declared.event.Event.{Event}
 use Rattle.sdb_model.specs.Sql.{reads_begin, reads_commit, reads_rollback}
 use Rattle.sdb_model.specs.Transactions.{Executed, statements_by, begun, commit_of, client_of, begins, ends, is_conflict, is_done}
 use Rattle.law_protocol.specs.Lawful.{Labelled, id, is_denial, protocol_state}
@@ -32,9 +30,9 @@ beyond (f ∷ fs) (suc k) e = more (length fs) k (beyond fs k e)
 -- what is wanted of one transaction
 pub record Says (events : List Event) (past : List Labelled) (t : ℕ) : Type 0 where
   pub begun : (n : ℕ) → begun events (id t) ≡ Some n → (protocol_state past).begun t ≡ n
-  pub taken : (protocol_state past).taken t ≡ true → option_map_or (λ s. s.taken) (commit_of events (id t)) 0 ≡ (protocol_state past).taken_at t
-  pub told : (s : Executed) → commit_of events (id t) ≡ Some s → s.answer ≡ Some answer.Committed → IsAnsweredCommittedAt past t s.reached
-  pub denied : (s : Executed) (a : Answer) → commit_of events (id t) ≡ Some s → s.answer ≡ Some a → is_denial a ≡ true → (protocol_state past).taken t ≡ true → IsDenied past t
+  pub accepted : (protocol_state past).accepted t ≡ true → option_map_or (λ s. s.accepted) (commit_of events (id t)) 0 ≡ (protocol_state past).taken_at t
+  pub answered : (s : Executed) → commit_of events (id t) ≡ Some s → s.answer ≡ Some answer.Committed → IsAnsweredCommittedAt past t s.reached
+  pub denied : (s : Executed) (a : Answer) → commit_of events (id t) ≡ Some s → s.answer ≡ Some a → is_denial a ≡ true → (protocol_state past).accepted t ≡ true → IsDenied past t
   pub unknown : (s : Executed) (u : TxId) → commit_of events (id t) ≡ Some s → s.answer ≡ Some (answer.Unknown u) → u ≡ id t
 
 commit_is : (s x : Executed) → commit_in s ≡ Some x → s ≡ x
@@ -44,22 +42,22 @@ commit_is s x e = by (reads_commit s.text) e
     by true e = some_is s x e
     by false e = none_some x e
 
-finished_says : (events : List Event) (past : List Labelled) (t : ℕ) (f : Finished) → begun events (id t) ≡ Some f.begin.taken → commit_of events (id t) ≡ commit_in f.last → IsFiledAt past t f → Says events past t
+finished_says : (events : List Event) (past : List Labelled) (t : ℕ) (f : Finished) → begun events (id t) ≡ Some f.begin.accepted → commit_of events (id t) ≡ commit_in f.last → IsFiledAt past t f → Says events past t
 finished_says events past t f began commit filed = record {
-  begun = λ n e. filed.begun ∙ some_is f.begin.taken n (sym began ∙ e);
-  taken = λ h. let x = filed.taken h in ap (λ o. option_map_or (λ (s : Executed). s.taken) o 0) (commit ∙ ap (λ b. if b then Some f.last else None) x.0) ∙ x.1;
-  told = λ s e a. let same = commit_is f.last s (sym commit ∙ e) in subst (λ (x : Executed). IsAnsweredCommittedAt past t x.reached) same (filed.told (ap (λ (x : Executed). x.answer) same ∙ a));
-  denied = λ s a e statements_by denial taken. filed.denied a (ap (λ (x : Executed). x.answer) (commit_is f.last s (sym commit ∙ e)) ∙ statements_by) denial taken;
+  begun = λ n e. filed.begun ∙ some_is f.begin.accepted n (sym began ∙ e);
+  accepted = λ h. let x = filed.accepted h in ap (λ o. option_map_or (λ (s : Executed). s.accepted) o 0) (commit ∙ ap (λ b. if b then Some f.last else None) x.0) ∙ x.1;
+  answered = λ s e a. let same = commit_is f.last s (sym commit ∙ e) in subst (λ (x : Executed). IsAnsweredCommittedAt past t x.reached) same (filed.answered (ap (λ (x : Executed). x.answer) same ∙ a));
+  denied = λ s a e statements_by denial accepted. filed.denied a (ap (λ (x : Executed). x.answer) (commit_is f.last s (sym commit ∙ e)) ∙ statements_by) denial accepted;
   unknown = λ s u e a. filed.unknown u (ap (λ (x : Executed). x.answer) (commit_is f.last s (sym commit ∙ e)) ∙ a);
 }
 
 -- one that began, or did not, and has no COMMIT
-silent_says : (events : List Event) (past : List Labelled) (t : ℕ) → ((n : ℕ) → begun events (id t) ≡ Some n → (protocol_state past).begun t ≡ n) → commit_of events (id t) ≡ None → ((protocol_state past).taken t ≡ true → ⊥) → Says events past t
+silent_says : (events : List Event) (past : List Labelled) (t : ℕ) → ((n : ℕ) → begun events (id t) ≡ Some n → (protocol_state past).begun t ≡ n) → commit_of events (id t) ≡ None → ((protocol_state past).accepted t ≡ true → ⊥) → Says events past t
 silent_says events past t began commit untaken = record {
   begun = began;
-  taken = λ h. absurd (untaken h);
-  told = λ s e a. none_some s (sym commit ∙ e);
-  denied = λ s a e statements_by denial taken. none_some s (sym commit ∙ e);
+  accepted = λ h. absurd (untaken h);
+  answered = λ s e a. none_some s (sym commit ∙ e);
+  denied = λ s a e statements_by denial accepted. none_some s (sym commit ∙ e);
   unknown = λ s u e a. none_some s (sym commit ∙ e);
 }
 
@@ -76,15 +74,15 @@ says_at events past t k x ordinal same = by (txn_ended_at x.whole k) refl
     open_at gap b body rest none (inl e) =
         let o = open_is events (id t) x.whole gap b body (x.same ∙ ap (λ r. saids_of x.whole ++ statements_in r) rest) (ordinal ∙ ap suc e) x.ok (subst IsRest rest x.rest_ok) in
         let here = subst (λ n. IsOpenAt past n b) (ap (number (t / 2 ^ 64)) (sym e) ∙ same) (x.is_open gap b body rest) in
-        silent_says events past t (λ n h. here.begun ∙ some_is b.taken n (sym o.0 ∙ h)) o.1 (λ h. clash (sym h ∙ here.untaken))
+        silent_says events past t (λ n h. here.begun ∙ some_is b.accepted n (sym o.0 ∙ h)) o.1 (λ h. clash (sym h ∙ here.untaken))
     open_at gap b body rest none (inr l) =
         let o = Rattle.law_clients.proofs.Places.past_is events (id t) x.whole gap b body k (x.same ∙ ap (λ r. saids_of x.whole ++ statements_in r) rest) ordinal l x.ok (subst IsRest rest x.rest_ok) in
-        silent_says events past t (λ n h. none_some n (sym o.0 ∙ h)) o.1 (λ h. x.none k (small t k ordinal) none (subst (λ m. (protocol_state past).taken m ≡ true) (sym same) h))
+        silent_says events past t (λ n h. none_some n (sym o.0 ∙ h)) o.1 (λ h. x.none k (small t k ordinal) none (subst (λ m. (protocol_state past).accepted m ≡ true) (sym same) h))
 
     rest_at : (r : Rest) → x.rest ≡ r → txn_ended_at x.whole k ≡ None → Says events past t
     rest_at (Closed gap) rest none =
         let o = none_is events (id t) x.whole gap k (x.same ∙ ap (λ r. saids_of x.whole ++ statements_in r) rest) ordinal (beyond x.whole k none) x.ok (subst IsRest rest x.rest_ok) in
-        silent_says events past t (λ n h. none_some n (sym o.0 ∙ h)) o.1 (λ h. x.none k (small t k ordinal) none (subst (λ m. (protocol_state past).taken m ≡ true) (sym same) h))
+        silent_says events past t (λ n h. none_some n (sym o.0 ∙ h)) o.1 (λ h. x.none k (small t k ordinal) none (subst (λ m. (protocol_state past).accepted m ≡ true) (sym same) h))
     rest_at (Opened gap b body) rest none = open_at gap b body rest none (side k (length x.whole) (beyond x.whole k none))
       where
         side : (k n : ℕ) → n ≤ k → (k ≡ n) ⊎ (n < k)
@@ -97,20 +95,20 @@ says_at events past t k x ordinal same = by (txn_ended_at x.whole k) refl
     by None at = rest_at x.rest refl at
 
 -- an ordinal of none
-no_ordinal : (events : List Event) (past : List Labelled) (t : ℕ) → t % 2 ^ 64 ≡ 0 → ((protocol_state past).taken t ≡ true → ⊥) → Says events past t
+no_ordinal : (events : List Event) (past : List Labelled) (t : ℕ) → t % 2 ^ 64 ≡ 0 → ((protocol_state past).accepted t ≡ true → ⊥) → Says events past t
 no_ordinal events past t ordinal untaken = silent_says events past t
-    (λ n h. none_some n (sym (ap (λ m. option_map (λ (s : Executed). s.taken) (Rattle.sdb_model.specs.Transactions.first_of (Rattle.sdb_model.specs.Transactions.from_begin m (statements_by (t / 2 ^ 64) events)))) ordinal) ∙ h))
+    (λ n h. none_some n (sym (ap (λ m. option_map (λ (s : Executed). s.accepted) (Rattle.sdb_model.specs.Transactions.first_of (Rattle.sdb_model.specs.Transactions.from_begin m (statements_by (t / 2 ^ 64) events)))) ordinal) ∙ h))
     (ap (λ m. option_and_then commit_in (Rattle.std.specs.Prelude.find Rattle.sdb_model.specs.Transactions.ends (Rattle.sdb_model.specs.Transactions.rest_of (Rattle.sdb_model.specs.Transactions.from_begin m (statements_by (t / 2 ^ 64) events))))) ordinal)
     untaken
 
-pub says : (events : List Event) (past : List Labelled) (t : ℕ) → ((c : ℕ) → Filed c events past) → ((c : ℕ) → (protocol_state past).taken (c * 2 ^ 64) ≡ true → ⊥) → Says events past t
+pub says : (events : List Event) (past : List Labelled) (t : ℕ) → ((c : ℕ) → Filed c events past) → ((c : ℕ) → (protocol_state past).accepted (c * 2 ^ 64) ≡ true → ⊥) → Says events past t
 says events past t filed first = by (t % 2 ^ 64) refl
   where
     whole : (t o : ℕ) → t % 2 ^ 64 ≡ o → t / 2 ^ 64 * 2 ^ 64 + o ≡ t
     whole t o e = omega (arith, e)
 
     by : (o : ℕ) → t % 2 ^ 64 ≡ o → Says events past t
-    by zero e = no_ordinal events past t e (λ h. first (t / 2 ^ 64) (subst (λ m. (protocol_state past).taken m ≡ true) (sym (zero_is t (whole t 0 e))) h))
+    by zero e = no_ordinal events past t e (λ h. first (t / 2 ^ 64) (subst (λ m. (protocol_state past).accepted m ≡ true) (sym (zero_is t (whole t 0 e))) h))
       where
         zero_is : (t : ℕ) → t / 2 ^ 64 * 2 ^ 64 + 0 ≡ t → t / 2 ^ 64 * 2 ^ 64 ≡ t
         zero_is t e = omega (arith, e)
@@ -175,12 +173,12 @@ all_owned : (events : List Event) (past : List Labelled) (c : ℕ) (s : Executed
 all_owned events past c s x within = All-contains (IsOwned events c) (statements_by c events) s (All-from_recursion (IsOwned events c) (statements_by c events) (subst (AllByRecursion (IsOwned events c)) (sym x.same) (each_append (IsOwned events c) (saids_of x.whole) (statements_in x.rest) (whole_owned events c x.whole x.ok (last_owned events past c x)) (rest_owned events c x.rest x.rest_ok)))) within
 
 -- Where each client's story is filed, the parts that are played are those that the texts tell.
-pub faithful : (events : List Event) (past : List Labelled) → ((c : ℕ) → Filed c events past) → ((c : ℕ) → (protocol_state past).taken (c * 2 ^ 64) ≡ true → ⊥) → IsFaithful events past
+pub faithful : (events : List Event) (past : List Labelled) → ((c : ℕ) → Filed c events past) → ((c : ℕ) → (protocol_state past).accepted (c * 2 ^ 64) ≡ true → ⊥) → IsFaithful events past
 faithful events past filed first = record {
   begun = λ t n fits e. (says events past t filed first).begun n e;
-  taken = λ t h. (says events past t filed first).taken h;
-  told = λ t s fits e a. (says events past t filed first).told s e a;
-  denied = λ t s a fits e statements_by denial taken. (says events past t filed first).denied s a e statements_by denial taken;
+  accepted = λ t h. (says events past t filed first).accepted h;
+  answered = λ t s fits e a. (says events past t filed first).answered s e a;
+  denied = λ t s a fits e statements_by denial accepted. (says events past t filed first).denied s a e statements_by denial accepted;
   owned = λ c s within a. all_owned events past c s (filed c) within a;
   unknown = λ t s u e a. (says events past t filed first).unknown s u e a;
 }

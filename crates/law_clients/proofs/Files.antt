@@ -21,9 +21,9 @@ use Rattle.law_clients.proofs.Tellings.{within}
 use Rattle.law_clients.proofs.Answered.{commit_ends, one_more}
 use Rattle.sdb_types.proofs.Basics.{clash, none_some, some_is, false_by as not_true}
 
--- a COMMIT was taken of none but those that have begun
-pub taken_counts : (plan : ℕ → Plan) (past : List Labelled) (sys : SystemAt) (c k : ℕ) → SystemOk plan past sys → suc k < 2 ^ 64 → (protocol_state past).taken (number c k) ≡ true → k < sys.begun c
-taken_counts plan past sys c k ok small taken = by ((protocol_state past).begun (number c k)) refl
+-- a COMMIT was accepted of none but those that have begun
+pub taken_counts : (plan : ℕ → Plan) (past : List Labelled) (sys : SystemAt) (c k : ℕ) → SystemOk plan past sys → suc k < 2 ^ 64 → (protocol_state past).accepted (number c k) ≡ true → k < sys.begun c
+taken_counts plan past sys c k ok small accepted = by ((protocol_state past).begun (number c k)) refl
   where
     half : (c n : ℕ) → n < 2 ^ 64 → (c * 2 ^ 64 + n) / 2 ^ 64 ≡ c
     half c n l = omega arith
@@ -38,10 +38,10 @@ taken_counts plan past sys c k ok small taken = by ((protocol_state past).begun 
     positive n e = absurd (omega (arith, e))
 
     by : (n : ℕ) → (protocol_state past).begun (number c k) ≡ n → k < sys.begun c
-    by zero e = clash (sym taken ∙ (in_turn plan past (number c k) ok.lawful).taken e)
+    by zero e = clash (sym accepted ∙ (in_turn plan past (number c k) ok.lawful).accepted e)
     by (suc n) e = less k (sys.begun c) (subst (λ m. m ≤ sys.begun c) (rest c (suc k) small) (subst (λ d. number c k % 2 ^ 64 ≤ sys.begun d) (half c (suc k) small) (ok.ids (number c k) (λ z. positive n (sym e ∙ z))).most))
 
--- what there is of a story where nothing waits, and the open transaction's COMMIT was not taken
+-- what there is of a story where nothing waits, and the open transaction's COMMIT was not accepted
 files : (plan : ℕ → Plan) (events : List Event) (past : List Labelled) (sys : SystemAt) (c : ℕ) (x : ClientHistory) (t : Story) → SystemOk plan past sys → HistoryInvariant events past sys c x → statements_by c events ≡ all_of t → IsWellFormedStory t → length t.whole + begun_in t.rest ≡ count_of x
     → ((k : ℕ) (f : Finished) → txn_ended_at t.whole k ≡ Some f → IsFiledAt past (number c k) f) → ((gap : List Executed) (b : Executed) (body : List Executed) → t.rest ≡ Opened gap b body → IsOpenAt past (number c (length t.whole)) b) → Filed c events past
 files plan events past sys c x t ok story same is count filed opened = record {
@@ -53,15 +53,15 @@ files plan events past sys c x t ok story same is count filed opened = record {
   filed = filed;
   fits = λ k f e. let h = story.alive k (subst (λ n. k < n) count (within t.whole k f (begun_in t.rest) e)) in (h.client, h.ordinal);
   is_open = opened;
-  none = λ k small none taken. by k t.rest refl none taken (subst (λ n. k < n) (story.count ∙ sym count) (taken_counts plan past sys c k ok small taken));
+  none = λ k small none accepted. by k t.rest refl none accepted (subst (λ n. k < n) (story.count ∙ sym count) (taken_counts plan past sys c k ok small accepted));
 }
   where
-    by : (k : ℕ) (r : Rest) → t.rest ≡ r → txn_ended_at t.whole k ≡ None → (protocol_state past).taken (number c k) ≡ true → k < length t.whole + begun_in t.rest → ⊥
-    by k (Closed gap) e none taken l = none_left k (length t.whole) (beyond t.whole k none) (subst (λ r. k < length t.whole + begun_in r) e l)
+    by : (k : ℕ) (r : Rest) → t.rest ≡ r → txn_ended_at t.whole k ≡ None → (protocol_state past).accepted (number c k) ≡ true → k < length t.whole + begun_in t.rest → ⊥
+    by k (Closed gap) e none accepted l = none_left k (length t.whole) (beyond t.whole k none) (subst (λ r. k < length t.whole + begun_in r) e l)
       where
         none_left : (k n : ℕ) → n ≤ k → k < n + 0 → ⊥
         none_left k n a b = omega arith
-    by k (Opened gap b body) e none taken l = clash (sym (subst (λ j. (protocol_state past).taken (number c j) ≡ true) (one_left k (length t.whole) (beyond t.whole k none) (subst (λ r. k < length t.whole + begun_in r) e l)) taken) ∙ (opened gap b body e).untaken)
+    by k (Opened gap b body) e none accepted l = clash (sym (subst (λ j. (protocol_state past).accepted (number c j) ≡ true) (one_left k (length t.whole) (beyond t.whole k none) (subst (λ r. k < length t.whole + begun_in r) e l)) accepted) ∙ (opened gap b body e).untaken)
       where
         one_left : (k n : ℕ) → n ≤ k → k < n + 1 → k ≡ n
         one_left k n a b = omega arith
@@ -102,9 +102,9 @@ story_files plan events past sys c x ok story = by x.waiting refl
     is_with : (w : Executed) → x.waiting ≡ Some w → IsWellFormedStory (settle x.whole x.rest w)
     is_with w e = story_kept x.whole x.rest w story.ok story.rest_ok (unanswered_comes x.rest w (waited w e))
 
-    -- the open transaction's COMMIT was not taken, where none waits
+    -- the open transaction's COMMIT was not accepted, where none waits
     untaken : (gap : List Executed) (b : Executed) (body : List Executed) → x.rest ≡ Opened gap b body → ((s : Executed) → x.waiting ≡ Some s → reads_commit s.text ≡ true → ⊥) → IsOpenAt past (number c (length x.whole)) b
-    untaken gap b body e none = let o = open_part gap b body e in record { begun = o.0; untaken = not_true ((protocol_state past).taken (number c (length x.whole))) (λ h. let w = o.1 h in none w.0 w.1 w.2) }
+    untaken gap b body e none = let o = open_part gap b body e in record { begun = o.0; untaken = not_true ((protocol_state past).accepted (number c (length x.whole))) (λ h. let w = o.1 h in none w.0 w.1 w.2) }
 
     opened_is : (r : Rest) (gap g : List Executed) (b d : Executed) (body e : List Executed) → Opened gap b body ≡ Opened g d e → b ≡ d
     opened_is r gap g b d body e h = cc
@@ -131,8 +131,8 @@ story_files plan events past sys c x ok story = by x.waiting refl
         last : IsFiledAt past (number c (length x.whole)) f
         last = record {
           begun = part.0;
-          taken = λ h. let v = part.1 h in let same = some_is v.0 w (sym v.1 ∙ e) in (subst (λ (y : Executed). reads_commit y.text ≡ true) same v.2, sym (ap (λ (y : Executed). y.taken) same) ∙ v.3);
-          told = λ a. none_some answer.Committed (sym (waited w e) ∙ a);
+          accepted = λ h. let v = part.1 h in let same = some_is v.0 w (sym v.1 ∙ e) in (subst (λ (y : Executed). reads_commit y.text ≡ true) same v.2, sym (ap (λ (y : Executed). y.accepted) same) ∙ v.3);
+          answered = λ a. none_some answer.Committed (sym (waited w e) ∙ a);
           denied = λ a statements_by denial h. none_some a (sym (waited w e) ∙ statements_by);
           unknown = λ u a. none_some (answer.Unknown u) (sym (waited w e) ∙ a);
         }
@@ -178,9 +178,9 @@ story_starts c = record {
     none : (k : ℕ) → k < 0 + 0 → ⊥
     none k l = omega arith
 
--- No transaction of ordinal 0 was taken.
-no_first : (plan : ℕ → Plan) (past : List Labelled) (sys : SystemAt) (c : ℕ) → SystemOk plan past sys → (protocol_state past).taken (c * 2 ^ 64) ≡ true → ⊥
-no_first plan past sys c ok taken = never (c * 2 ^ 64 % 2 ^ 64) (rest c) (taken_begun plan past sys (c * 2 ^ 64) ok taken)
+-- No transaction of ordinal 0 was accepted.
+no_first : (plan : ℕ → Plan) (past : List Labelled) (sys : SystemAt) (c : ℕ) → SystemOk plan past sys → (protocol_state past).accepted (c * 2 ^ 64) ≡ true → ⊥
+no_first plan past sys c ok accepted = never (c * 2 ^ 64 % 2 ^ 64) (rest c) (taken_begun plan past sys (c * 2 ^ 64) ok accepted)
   where
     rest : (c : ℕ) → c * 2 ^ 64 % 2 ^ 64 ≡ 0
     rest c = omega arith
@@ -188,5 +188,5 @@ no_first plan past sys c ok taken = never (c * 2 ^ 64 % 2 ^ 64) (rest c) (taken_
     never : (n : ℕ) → n ≡ 0 → 0 < n → ⊥
     never n e l = omega (arith, e)
 
-pub clients_faithful : (plan : ℕ → Plan) (events : List Event) (past : List Labelled) (sys : SystemAt) (told : ℕ → ClientHistory) → SystemOk plan past sys → ((c : ℕ) → HistoryInvariant events past sys c (told c)) → IsFaithful events past
-clients_faithful plan events past sys told ok stories = faithful events past (λ c. story_files plan events past sys c (told c) ok (stories c)) (λ c taken. no_first plan past sys c ok taken)
+pub clients_faithful : (plan : ℕ → Plan) (events : List Event) (past : List Labelled) (sys : SystemAt) (answered : ℕ → ClientHistory) → SystemOk plan past sys → ((c : ℕ) → HistoryInvariant events past sys c (answered c)) → IsFaithful events past
+clients_faithful plan events past sys answered ok stories = faithful events past (λ c. story_files plan events past sys c (answered c) ok (stories c)) (λ c accepted. no_first plan past sys c ok accepted)

@@ -4,25 +4,15 @@ use Rattle.std.specs.Prelude.{◌&&◌, if◌then◌else◌, filter, find, is_ok
 use Rattle.std.specs.List.{AllByRecursion, list_all}
 use Rattle.std.specs.Option.{option_map}
 use Rattle.std.proofs.lemmas.Bool.{and_parts}
-use Rattle.sdb_types.specs.declared.key.Key.{Key}
-use Rattle.sdb_types.specs.declared.record.Record.{Record}
-use Rattle.sdb_types.specs.declared.record.Reply.{Reply}
+use Rattle.law_clients.specs.Types.{Access, Answer, Decided, Decision, Image, Key, Meta, Record, RecoverPhase, RecoverStep, Reply, Statement, Table}
 use Rattle.sdb_types.specs.declared.record.Reply.TheVariants as reply
 use Rattle.sdb_types.specs.declared.record.State.TheVariants as state
 use Rattle.sdb_record.specs.Parts.{are_stored}
 use Rattle.sdb_types.proofs.Basics.{clash, none_some, some_is}
-use Rattle.sdb_record.specs.declared.access.Access.{Access}
-use Rattle.sdb_record.specs.declared.access.Image.{Image}
-use Rattle.sdb_record.specs.declared.coordinator.Decided.{Decided}
-use Rattle.sdb_record.specs.declared.coordinator.Decision.{Decision}
 use Rattle.sdb_record.specs.declared.coordinator.Decision.TheVariants as decision
-use Rattle.sdb_record.specs.declared.meta.Meta.{Meta}
 use Rattle.sdb_record.specs.Coordinator.{coordinator_key_of, decision_in, is_coordinator_table, is_expired}
 use Rattle.sdb_record.specs.Meta.{checked, is_in, is_transactional}
-use Rattle.sdb_schema.specs.declared.table.Table.{Table}
-use Rattle.sdb_model.specs.declared.answer.Answer.{Answer}
 use Rattle.sdb_model.specs.declared.answer.Answer.TheVariants as answer
-use Rattle.sdb_model.specs.declared.statement.Statement.{Statement}
 use Rattle.sdb_model.specs.declared.statement.Statement.TheVariants as statement
 use Rattle.sdb_model.specs.Access.{in_access}
 use Rattle.sdb_model.specs.Calls.{StoreCall}
@@ -31,13 +21,11 @@ use Rattle.sdb_model.specs.Exec.{all_rows, key_of}
 use Rattle.sdb_model.specs.ReadSet.{finds_transactional, read_finished}
 use Rattle.sdb_model.specs.Transactions.{changes_nothing}
 use Rattle.sdb_exec.specs.Plans.{Planned, answer_on, changes_on, columns_at, finished, first_unfit, is_unfit, step_at, step_of}
-use Rattle.sdb_phases.specs.declared.step.RecoverPhase.{RecoverPhase}
 use Rattle.sdb_phases.specs.declared.step.RecoverPhase.TheVariants as phase
-use Rattle.sdb_phases.specs.declared.step.RecoverStep.{RecoverStep}
 use Rattle.sdb_phases.specs.declared.step.RecoverStep.TheVariants as steps
 use Rattle.sdb_phases.specs.Recover.{recover_next, roll_to, undecided}
-use Rattle.sdb_read.specs.declared.read.ReadStep.TheVariants as step
-use Rattle.sdb_read.specs.Read.{Kind, Firm, Open, Bad, ReadStage, Asking, Resolving, Ended, answered, kind_of, opened, read_step, resolved, settle, settle_one}
+use Rattle.sdb_txn.specs.declared.read.ReadStep.TheVariants as step
+use Rattle.sdb_txn.specs.Read.{Kind, Firm, Open, Bad, ReadStage, Asking, Resolving, Ended, answered, kind_of, opened, read_step, resolved, settle, settle_one}
 use Rattle.sdb_snapshot.specs.Seen.{Seen, overlay, tables_seen}
 use Rattle.sdb_txn.specs.Txn.{TxnAt}
 use Rattle.sdb_client.specs.Client.{given_answer, too_many}
@@ -91,11 +79,11 @@ answer_finishes ms t statement.Rollback rows = refl
 answer_finishes ms t statement.Vacuum rows = refl
 
 pub misfit_finishes : (ms : List StoreCall) (key : Key) → is_coordinator_table key.table ≡ false → finds_transactional ms ≡ true → read_finished ms (answer.BadRecord key) ≡ true
-misfit_finishes ms key apart taken = ap (λ b. not b && finds_transactional ms) apart ∙ taken
+misfit_finishes ms key apart accepted = ap (λ b. not b && finds_transactional ms) apart ∙ accepted
 
 -- Where a plan was asked for its rows, the read of its statement has finished by what it is answered on them.
 pub given_finishes : (ms : List StoreCall) (p : Planned) (rows : List Image) (t : TxnAt) → p.asked ≡ true → ((key : Key) → first_unfit p.table rows ≡ Some key → is_coordinator_table key.table ≡ false) → finds_transactional ms ≡ true → read_finished ms (given_answer t (step_of p rows)) ≡ true
-given_finishes ms p rows t asked apart taken = ap (λ b. read_finished ms (given_answer t (step_at b p.table p.statement rows))) asked ∙ by (first_unfit p.table rows) refl
+given_finishes ms p rows t asked apart accepted = ap (λ b. read_finished ms (given_answer t (step_at b p.table p.statement rows))) asked ∙ by (first_unfit p.table rows) refl
   where
     on_rows : (z : Bool) → read_finished ms (if z then refused 15 else answer_on p.table p.statement rows) ≡ true
     on_rows true = refl
@@ -103,16 +91,16 @@ given_finishes ms p rows t asked apart taken = ap (λ b. read_finished ms (given
 
     by : (o : Option Key) → first_unfit p.table rows ≡ o → read_finished ms (given_answer t (finished p.table p.statement rows o)) ≡ true
     by None e = on_rows (not (changes_nothing (answer_on p.table p.statement rows)) && too_many t (changes_on p.table p.statement rows))
-    by (Some key) e = misfit_finishes ms key (apart key e) taken
+    by (Some key) e = misfit_finishes ms key (apart key e) accepted
 
 ---- reads that find a bad record
 
 kind_apart : (r : Record) → is_transactional r ≡ true → kind_of r ≡ Bad → ⊥
-kind_apart r taken e = by_firm (is_in state.Committed r.columns) (sym (ap (λ b. if b then (if is_in state.Committed r.columns then Firm else opened (checked r.columns)) else Bad) taken) ∙ e)
+kind_apart r accepted e = by_firm (is_in state.Committed r.columns) (sym (ap (λ b. if b then (if is_in state.Committed r.columns then Firm else opened (checked r.columns)) else Bad) accepted) ∙ e)
   where
     by_checked : (x : Result Meta (List ℕ)) → checked r.columns ≡ x → opened x ≡ Bad → ⊥
     by_checked (Ok meta) k h = absurd (cc)
-    by_checked (Err column) k h = clash (sym (and_parts (are_stored r.columns) (is_ok (checked r.columns)) taken).1 ∙ ap is_ok k)
+    by_checked (Err column) k h = clash (sym (and_parts (are_stored r.columns) (is_ok (checked r.columns)) accepted).1 ∙ ap is_ok k)
 
     by_firm : (b : Bool) → (if b then Firm else opened (checked r.columns)) ≡ Bad → ⊥
     by_firm true h = absurd (cc)
@@ -123,13 +111,13 @@ settle_bad images [] key e = absurd (cc)
 settle_bad images (r ∷ left) key e = by (is_transactional r) refl (λ h. settle_bad (images ++ r ∷ []) left key h)
   where
     by_kind : is_transactional r ≡ true → (k : Kind) → kind_of r ≡ k → (settle (images ++ r ∷ []) left ≡ Ended (step.BadRecord key) → HasUnchecked left) → settle_one k images r left (settle (images ++ r ∷ []) left) ≡ Ended (step.BadRecord key) → HasUnchecked left
-    by_kind taken Firm is rest h = rest h
-    by_kind taken (Open meta) is rest h = absurd (cc)
-    by_kind taken Bad is rest h = absurd (kind_apart r taken is)
+    by_kind accepted Firm is rest h = rest h
+    by_kind accepted (Open meta) is rest h = absurd (cc)
+    by_kind accepted Bad is rest h = absurd (kind_apart r accepted is)
 
     by : (b : Bool) → is_transactional r ≡ b → (settle (images ++ r ∷ []) left ≡ Ended (step.BadRecord key) → HasUnchecked left) → list_all is_transactional (r ∷ left) ≡ false
-    by false taken rest = ap (λ b. b && list_all is_transactional left) taken
-    by true taken rest = ap (λ b. b && list_all is_transactional left) taken ∙ by_kind taken (kind_of r) refl rest e
+    by false accepted rest = ap (λ b. b && list_all is_transactional left) accepted
+    by true accepted rest = ap (λ b. b && list_all is_transactional left) accepted ∙ by_kind accepted (kind_of r) refl rest e
 
 -- a row that is followed is bad by itself
 row_bad : (meta : Meta) (d : Result Decided (List ℕ)) (key : Key) → (roll_to meta d).1 ≡ steps.BadRecord key → is_coordinator_table key.table ≡ true

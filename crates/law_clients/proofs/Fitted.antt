@@ -1,16 +1,9 @@
 -- Whatever a client takes and whatever reply it gets, what it reads then is of a statement that the catalog takes.
 use Rattle.std.proofs.Common.{◌≡◌, ◌≢◌, ℕ, ℤ, Bool, true, false, ◌||◌, List, [], ◌∷◌, Option, Some, None, Ok, Err, refl, sym, ap, subst, ◌∙◌, inl, inr}
 use Rattle.std.specs.Prelude.{IfSome, is_some}
-use Rattle.sdb_types.specs.declared.record.Reply.{Reply}
-use Rattle.sdb_types.specs.declared.record.Span.{Span}
-use Rattle.sdb_record.specs.declared.access.Access.{Access}
+use Rattle.law_clients.specs.Types.{Access, Answer, Doing, Next, Progress, ReadStep, Record, Refusal, Reply, Span, Statement, Table, VacuumStep}
 use Rattle.sdb_record.specs.declared.access.Access.TheVariants as access
-use Rattle.sdb_schema.specs.declared.table.Table.{Table}
-use Rattle.sdb_types.specs.declared.record.Record.{Record}
-use Rattle.sdb_model.specs.declared.answer.Answer.{Answer}
 use Rattle.sdb_model.specs.declared.answer.Answer.TheVariants as answer
-use Rattle.sdb_model.specs.declared.answer.Refusal.{Refusal}
-use Rattle.sdb_model.specs.declared.statement.Statement.{Statement}
 use Rattle.sdb_model.specs.declared.statement.Statement.TheVariants as statement
 use Rattle.sdb_model.specs.Causes.{refused}
 use Rattle.sdb_model.specs.Exec.{named_table}
@@ -19,19 +12,14 @@ use Rattle.sdb_model.specs.Sql.{Reads, reads_commit}
 use Rattle.sdb_exec.specs.Plans.{Planned}
 use Rattle.sdb_model.specs.Reads.{access_of}
 use Rattle.sdb_phases.specs.Commit.{preparing}
-use Rattle.sdb_read.specs.declared.read.ReadStep.{ReadStep}
-use Rattle.sdb_read.specs.declared.read.ReadStep.TheVariants as step
-use Rattle.sdb_read.specs.Read.{ReadAt, ReadStage, read_result, read_step}
-use Rattle.sdb_commit.specs.Phases.{CommitAt, IsNext}
-use Rattle.sdb_txn.specs.declared.progress.Progress.{Progress}
+use Rattle.sdb_txn.specs.declared.read.ReadStep.TheVariants as step
+use Rattle.sdb_txn.specs.Read.{ReadAt, ReadStage, read_result, read_step}
+use Rattle.sdb_txn.specs.Phases.{CommitAt, IsNext}
 use Rattle.sdb_txn.specs.declared.progress.Progress.TheVariants as progress
-use Rattle.sdb_txn.specs.declared.txn.Doing.{Doing}
 use Rattle.sdb_txn.specs.declared.txn.Doing.TheVariants as doing
 use Rattle.sdb_txn.specs.Txn.{CommitPost, IsCommitting, TxnAt, committing, idle as idle_of, work_of}
-use Rattle.sdb_vacuum.specs.declared.work.VacuumStep.{VacuumStep}
 use Rattle.sdb_vacuum.specs.declared.work.VacuumStep.TheVariants as vacuuming
 use Rattle.sdb_vacuum.specs.Vacuum.{Gives, VacuumAt, begun, vacuum_step}
-use Rattle.sdb_client.specs.declared.next.Next.{Next}
 use Rattle.sdb_client.specs.declared.next.Next.TheVariants as next
 use Rattle.sdb_client.specs.Client.{AskPost, BeginPost, CallPost, ClientAt as Client, CommitNext, CommitStartPost, GatePost, RowsReadPost, IsIdle, IsAnsweredAtOnce, NextPost, OpenTxnPost, ReplyPost, RollbackPost, RowsPost, StagePost, StatementPost, VacuumPost, TablePost, Taking, TextPost, VacuumStartPost, after, answer_in, answer_of, gives, holding, is_covered, next_of, with_rows_read, plan_of, resting, out_of_memory, vacuum_left, with_begun, TextStep}
 use Rattle.law_clients.specs.About.{AreListed, IsListed}
@@ -141,11 +129,11 @@ module _ (q : Taking) (text : List ℕ) (c : Client) (is_idle : IsIdle c) (fitte
       })
 
   rows_case : (st : Statement) (t : TxnAt) (result : Option Answer) (d : Client) (table : Table) → c.txn ≡ Some t → Reads text st → refusal_of q.catalog st ≡ None → named_table q.catalog st ≡ Some table → RowsPost (plan_of table st) (access_of table st) c t result d → After result d
-  rows_case st t result d table e reads taken named h =
+  rows_case st t result d table e reads accepted named h =
       by_test (is_covered t.seen (access_of table st))
       (λ b. let r = h.known b in as_so q.catalog c _ result _ d r.0 r.1 (so_left q.catalog c _ _ is_idle.free (left_idle t (gives (plan_of table st) (access_of table st) t) idle)))
       (λ b. let r = h.unknown b in as_so q.catalog c None result _ d r.0 r.1
-      (so_reads q.catalog c t (plan_of table st) (access_of table st) _ (Some (plan_of table st)) is_idle.free refl (record { named = named; asked = refl; taken = taken; literals = literals_read text st reads; access = refl; request = refl })))
+      (so_reads q.catalog c t (plan_of table st) (access_of table st) _ (Some (plan_of table st)) is_idle.free refl (record { named = named; asked = refl; accepted = accepted; literals = literals_read text st reads; access = refl; request = refl })))
     where
       idle : t.doing ≡ doing.Idle
       idle = subst (λ (o : Option TxnAt). IfSome o (λ u. u.doing ≡ doing.Idle)) e is_idle.still
@@ -154,8 +142,8 @@ module _ (q : Taking) (text : List ℕ) (c : Client) (is_idle : IsIdle c) (fitte
   table_case st t result d e reads h = by_refusal (refusal_of q.catalog st) refl
     where
       by_table : (o : Option Table) → refusal_of q.catalog st ≡ None → named_table q.catalog st ≡ o → After result d
-      by_table (Some table) taken named = rows_case st t result d table e reads taken named (h.reads table taken named)
-      by_table None taken named = absurd (let k : Some (record { kind = 6; place = 0 }) ≡ None = sym (ap (λ (o : Option Table). refusal_by o st) named) ∙ taken in cc)
+      by_table (Some table) accepted named = rows_case st t result d table e reads accepted named (h.reads table accepted named)
+      by_table None accepted named = absurd (let k : Some (record { kind = 6; place = 0 }) ≡ None = sym (ap (λ (o : Option Table). refusal_by o st) named) ∙ accepted in cc)
 
       by_refusal : (o : Option Refusal) → refusal_of q.catalog st ≡ o → After result d
       by_refusal (Some r) k = as_told (answer.Refused r) result d (h.refused r k)
@@ -184,7 +172,7 @@ module _ (q : Taking) (text : List ℕ) (c : Client) (is_idle : IsIdle c) (fitte
   so_starved = by_test (reads_commit text) (λ b. rw b (so_ended q.catalog c answer.NoMemory is_idle.free)) (λ b. rw b (so_same q.catalog c answer.NoMemory is_idle fitted))
 
   pub takes_fitted : (result : Option Answer) (d : Client) → TextStep q text c result d → After result d
-  takes_fitted result d h = by_memory result (λ e. as_so q.catalog c (Some answer.NoMemory) result (out_of_memory text c) d e (h.memory e) so_starved) (λ n. text_case result d (h.told n))
+  takes_fitted result d h = by_memory result (λ e. as_so q.catalog c (Some answer.NoMemory) result (out_of_memory text c) d e (h.memory e) so_starved) (λ n. text_case result d (h.answered n))
 
 ---- replies
 
@@ -221,7 +209,7 @@ module _ (catalog : List Table) (c : Client) (free : c.vacuum ≡ None) where
     stage_case : (s : ReadStage) (e : ReadStep) (n : Next) (u : TxnAt) → StagePost t p a x s e n u → Left n u
     stage_case s step.More n u h =
         as_next n next.Call u _ h.0 h.1
-        (so_reads catalog c t p a (record x { stage = s }) c.plan free plan (record { named = asked.named; asked = asked.asked; taken = asked.taken; literals = asked.literals; access = asked.access; request = asked.request }))
+        (so_reads catalog c t p a (record x { stage = s }) c.plan free plan (record { named = asked.named; asked = asked.asked; accepted = asked.accepted; literals = asked.literals; access = asked.access; request = asked.request }))
     stage_case s (step.Images images) n u h = images_case images n u h
     stage_case s (step.Busy key id at) n u h = as_next n _ u (idle_of t) h.0 h.1 (so_left catalog c (answer.Busy key id at) (idle_of t) free refl)
     stage_case s step.Faulted n u h = as_next n _ u (idle_of t) h.0 h.1 (so_left catalog c answer.Faulted (idle_of t) free refl)
@@ -232,7 +220,7 @@ module _ (catalog : List Table) (c : Client) (free : c.vacuum ≡ None) where
     call_case r now n u h =
         by_next n
         (λ e. as_next n (next.Answer answer.NoMemory) u (idle_of t) e (h.memory e) (so_left catalog c answer.NoMemory (idle_of t) free refl))
-        (λ e. stage_case (read_step x.stage now r) (read_result (read_step x.stage now r)) n u (h.told e))
+        (λ e. stage_case (read_step x.stage now r) (read_result (read_step x.stage now r)) n u (h.answered e))
 
   -- a COMMIT
   module _ (t : TxnAt) (k : CommitAt) (r : Reply) (none : c.plan ≡ None) where
@@ -255,7 +243,7 @@ module _ (catalog : List Table) (c : Client) (free : c.vacuum ≡ None) where
     told_case (progress.Unknown id) u h = so_ended catalog c _ free
 
     commit_next : (n : Next) (u : TxnAt) → CommitNext t k r n u → Left n u
-    commit_next n u h = as_next n (next_of h.progress) u u h.next refl (told_case h.progress u h.told)
+    commit_next n u h = as_next n (next_of h.progress) u u h.next refl (told_case h.progress u h.answered)
 
   next_case : (t : TxnAt) (d : Doing) (o : Option Planned) (r : Reply) (now : ℤ) (n : Next) (u : TxnAt) → c.plan ≡ o → IsUsing catalog d o → NextPost t d o r now n u → Left n u
   next_case t (doing.Read a x) (Some p) r now n u plan asked h = call_case t p a x plan asked r now n u h
@@ -267,7 +255,7 @@ module _ (catalog : List Table) (c : Client) (free : c.vacuum ≡ None) where
 
   txn_case : (o : Option TxnAt) (r : Reply) (now : ℤ) (result : Option Answer) (d : Client) → IsUsingTxn catalog o c.plan → OpenTxnPost c o r now result d → IsAfter catalog c result d
   txn_case None r now result d fitted h = absurd h
-  txn_case (Some t) r now result d fitted h = as_so catalog c (answer_in h.next) result (after c h.next h.left) d h.answer h.client (next_case t t.doing c.plan r now h.next h.left refl fitted h.told)
+  txn_case (Some t) r now result d fitted h = as_so catalog c (answer_in h.next) result (after c h.next h.left) d h.answer h.client (next_case t t.doing c.plan r now h.next h.left refl fitted h.answered)
 
 -- a VACUUM
 module _ (catalog : List Table) (c : Client) (v : VacuumAt) (none : c.txn ≡ None) (free : c.plan ≡ None) (listed : AreListed catalog v.spans) where
@@ -292,7 +280,7 @@ module _ (catalog : List Table) (c : Client) (v : VacuumAt) (none : c.txn ≡ No
 
   sweep_case : (r : Reply) (now : ℤ) (result : Option Answer) (d : Client) → VacuumPost v r now result d.vacuum → d ≡ record c { vacuum = d.vacuum } → IsAfter catalog c result d
   sweep_case r now result d h is =
-      as_so catalog c (answer_of h.step) result (record c { vacuum = vacuum_left h.step h.left }) d h.answer (is ∙ ap (λ (o : Option VacuumAt). record c { vacuum = o }) h.goes) (swept_case h.step h.left r now h.told)
+      as_so catalog c (answer_of h.step) result (record c { vacuum = vacuum_left h.step h.left }) d h.answer (is ∙ ap (λ (o : Option VacuumAt). record c { vacuum = o }) h.goes) (swept_case h.step h.left r now h.answered)
 
 pub replies_fitted : (catalog : List Table) (c : Client) (r : Reply) (now : ℤ) (result : Option Answer) (d : Client) → IsFitted catalog c → ReplyPost c c.vacuum r now result d → IsAfter catalog c result d
 replies_fitted catalog c r now result d fitted h = by c.vacuum refl fitted h

@@ -1,12 +1,9 @@
 -- What a COMMIT knows stays so while other clients' events come.
 use Rattle.std.proofs.Common.{◌≡◌, ◌≢◌, ℕ, ℤ, true, false, List, ◌∷◌, length, Option, Some, None, refl, sym, ap, subst, ◌∙◌, arith, ◌⊎◌, inl, inr}
 use Rattle.std.proofs.lemmas.Bool.Decides.{nat_tests}
-use Rattle.sdb_types.specs.declared.key.Key.{Key}
-use Rattle.sdb_types.specs.declared.record.Reply.{Reply}
-use Rattle.sdb_types.specs.declared.record.Request.{Request}
+use Rattle.law_clients.specs.Types.{Event, Key, Outcome, Reply, Request}
 use Rattle.sdb_types.proofs.Keys.{tests}
 use Rattle.sdb_record.specs.declared.coordinator.Decision.TheVariants as decision
-use Rattle.sdb_model.specs.declared.event.Event.{Event}
 use Rattle.sdb_model.specs.declared.event.Event.TheVariants as event
 use Rattle.law_protocol.specs.Plan.{Plan}
 use Rattle.law_protocol.specs.History.{Action, Other, Begins, Takes, Prepares, Checks, Decides, Aborts, Rolls, Removes, Ends, Stops, ProtocolState, state_after_event, state_after}
@@ -16,7 +13,6 @@ use Rattle.sdb_phases.specs.Work.{Work}
 use Rattle.sdb_phases.specs.Checks.{checks}
 use Rattle.sdb_phases.specs.declared.step.DecidePhase.TheVariants as phase
 use Rattle.sdb_phases.specs.Commit.{Stage, Preparing, Checking, Deciding, Forward, Stopping, Back, Over}
-use Rattle.sdb_phases.specs.declared.step.Outcome.{Outcome}
 use Rattle.sdb_phases.specs.declared.step.Outcome.TheVariants as outcome
 use Rattle.law_clients.specs.Owner.{CommitOk, StageOk, OverOk, AreAcknowledged, AskedTo, UnaskedFrom, CheckedTo}
 use Rattle.law_clients.specs.System.{IsBy}
@@ -42,8 +38,8 @@ StopsNot c r = Unit {0}
 going_same : (c : ℕ) (h : ProtocolState) (r : Action) → StopsNot c r → (state_after_event h r).stopped c ≡ h.stopped c
 going_same c h r f = grind (arith, nat_tests)
 
-pub going : (past : List Labelled) (q : Labelled) (c : ℕ) → StopsNot c q.action → (protocol_state (q ∷ past)).stopped c ≡ (protocol_state past).stopped c
-going past q c f = by q.ends
+pub running : (past : List Labelled) (q : Labelled) (c : ℕ) → StopsNot c q.action → (protocol_state (q ∷ past)).stopped c ≡ (protocol_state past).stopped c
+running past q c f = by q.ends
   where
     by : (o : Option ℕ) → (ended (state_after_event (protocol_state past) q.action) o).stopped c ≡ (protocol_state past).stopped c
     by None = going_same c (protocol_state past) q.action f
@@ -55,10 +51,10 @@ pub record SameFor (t c : ℕ) (h v : ProtocolState) : Type 0 where
   pub owner : v.owner t ≡ h.owner t
   pub is_open : v.is_open t ≡ h.is_open t
   pub stopped : v.stopped c ≡ h.stopped c
-  pub taken : v.taken t ≡ h.taken t
+  pub accepted : v.accepted t ≡ h.accepted t
   pub stage : v.stage t ≡ h.stage t
   pub asked : (k : Key) → v.asked t k ≡ h.asked t k
-  pub told : (k : Key) → v.told t k ≡ h.told t k
+  pub answered : (k : Key) → v.answered t k ≡ h.answered t k
   pub checked : (i : ℕ) → v.checked t i ≡ h.checked t i
   pub risked : v.risked t ≡ h.risked t
   pub won : h.won t ≡ true → v.won t ≡ true
@@ -77,7 +73,7 @@ open_same t c h r f = grind (arith, nat_tests)
 stopped_same : (t c : ℕ) (h : ProtocolState) (r : Action) → IsForeign t c r → (state_after_event h r).stopped c ≡ h.stopped c
 stopped_same t c h r f = grind (arith, nat_tests)
 
-taken_same : (t c : ℕ) (h : ProtocolState) (r : Action) → IsForeign t c r → (state_after_event h r).taken t ≡ h.taken t
+taken_same : (t c : ℕ) (h : ProtocolState) (r : Action) → IsForeign t c r → (state_after_event h r).accepted t ≡ h.accepted t
 taken_same t c h r f = grind (arith, nat_tests)
 
 stage_same : (t c : ℕ) (h : ProtocolState) (r : Action) → IsForeign t c r → (state_after_event h r).stage t ≡ h.stage t
@@ -86,7 +82,7 @@ stage_same t c h r f = grind (arith, nat_tests)
 asked_same : (t c : ℕ) (h : ProtocolState) (r : Action) (k : Key) → IsForeign t c r → (state_after_event h r).asked t k ≡ h.asked t k
 asked_same t c h r k f = grind (arith, tests)
 
-told_same : (t c : ℕ) (h : ProtocolState) (r : Action) (k : Key) → IsForeign t c r → (state_after_event h r).told t k ≡ h.told t k
+told_same : (t c : ℕ) (h : ProtocolState) (r : Action) (k : Key) → IsForeign t c r → (state_after_event h r).answered t k ≡ h.answered t k
 told_same t c h r k f = grind (arith, tests)
 
 checked_same : (t c : ℕ) (h : ProtocolState) (r : Action) (i : ℕ) → IsForeign t c r → (state_after_event h r).checked t i ≡ h.checked t i
@@ -110,10 +106,10 @@ same_for t c h r f = record {
   owner = owner_same t c h r f;
   is_open = open_same t c h r f;
   stopped = stopped_same t c h r f;
-  taken = taken_same t c h r f;
+  accepted = taken_same t c h r f;
   stage = stage_same t c h r f;
   asked = λ k. asked_same t c h r k f;
-  told = λ k. told_same t c h r k f;
+  answered = λ k. told_same t c h r k f;
   checked = λ i. checked_same t c h r i f;
   risked = risked_same t c h r f;
   won = won_stays t c h r;
@@ -130,10 +126,10 @@ closed_same t c h u ne = record {
   owner = refl;
   is_open = closed_open t u h ne;
   stopped = refl;
-  taken = refl;
+  accepted = refl;
   stage = refl;
   asked = λ k. refl;
-  told = λ k. refl;
+  answered = λ k. refl;
   checked = λ i. refl;
   risked = refl;
   won = λ x. x;
@@ -147,10 +143,10 @@ then_same t c h v w a b = record {
   owner = b.owner ∙ a.owner;
   is_open = b.is_open ∙ a.is_open;
   stopped = b.stopped ∙ a.stopped;
-  taken = b.taken ∙ a.taken;
+  accepted = b.accepted ∙ a.accepted;
   stage = b.stage ∙ a.stage;
   asked = λ k. b.asked k ∙ a.asked k;
-  told = λ k. b.told k ∙ a.told k;
+  answered = λ k. b.answered k ∙ a.answered k;
   checked = λ i. b.checked i ∙ a.checked i;
   risked = b.risked ∙ a.risked;
   won = λ x. b.won (a.won x);
@@ -175,7 +171,7 @@ event_same t c past q f = by q.ends refl
 known_later : (plan : ℕ → Plan) (past : List Labelled) (q : Labelled) (t c : ℕ) (m : ℤ) → SameFor t c (protocol_state past) (protocol_state (q ∷ past)) → IsKnownCommitted plan past t m → IsKnownCommitted plan (q ∷ past) t m
 known_later plan past q t c m s (inl x) = inl (row_later q past t decision.Committed m x)
 known_later plan past q t c m s (inr (inl x)) = inr (inl (s.won x.0, x.1))
-known_later plan past q t c m s (inr (inr x)) = inr (inr (s.taken ∙ x.0, (x.1.0, row_later q past t decision.Committed x.1.0 x.1.1), x.2))
+known_later plan past q t c m s (inr (inr x)) = inr (inr (s.accepted ∙ x.0, (x.1.0, row_later q past t decision.Committed x.1.0 x.1.1), x.2))
 
 aborted_later : (past : List Labelled) (q : Labelled) (t c : ℕ) → SameFor t c (protocol_state past) (protocol_state (q ∷ past)) → IsKnownAborted past t → IsKnownAborted (q ∷ past) t
 aborted_later past q t c s (inl x) = inl (x.0, row_later q past t decision.Aborted x.0 x.1)
@@ -185,7 +181,7 @@ aborted_later past q t c s (inr (inr m)) = inr (inr (s.met m.0, s.risked ∙ m.1
 ---- the whole
 
 told_later : (p : Work) (c i : ℕ) (h v : ProtocolState) → SameFor p.id.0 c h v → AreAcknowledged h p i → AreAcknowledged v p i
-told_later p c i h v s told j w l at = s.told w.key ∙ told j w l at
+told_later p c i h v s answered j w l at = s.answered w.key ∙ answered j w l at
 
 asked_later : (p : Work) (c i : ℕ) (h v : ProtocolState) → SameFor p.id.0 c h v → AskedTo h p i → AskedTo v p i
 asked_later p c i h v s asked j w l at = s.asked w.key ∙ asked j w l at
@@ -199,7 +195,7 @@ checked_later p c i h v s checked j l = s.checked j ∙ checked j l
 why_later : (past : List Labelled) (q : Labelled) (t c : ℕ) → SameFor t c (protocol_state past) (protocol_state (q ∷ past)) → (IsKnownAborted past t ⊎ ((protocol_state past).risked t ≡ false) ⊎ IsBadRow past t) → (IsKnownAborted (q ∷ past) t ⊎ ((protocol_state (q ∷ past)).risked t ≡ false) ⊎ IsBadRow (q ∷ past) t)
 why_later past q t c s (inl a) = inl (aborted_later past q t c s a)
 why_later past q t c s (inr (inl r)) = inr (inl (s.risked ∙ r))
-why_later past q t c s (inr (inr b)) = inr (inr (record { row = b.row; shown = inr b.shown; key = b.key; bad = b.bad }))
+why_later past q t c s (inr (inr b)) = inr (inr (record { row = b.row; observed = inr b.observed; key = b.key; bad = b.bad }))
 
 over_later : (plan : ℕ → Plan) (past : List Labelled) (q : Labelled) (p : Work) (a : Outcome) (c : ℕ) → SameFor p.id.0 c (protocol_state past) (protocol_state (q ∷ past)) → OverOk plan past p a → OverOk plan (q ∷ past) p a
 over_later plan past q p outcome.Committed c s k = known_later plan past q p.id.0 c p.now s k
@@ -224,7 +220,7 @@ stage_later plan past q c p (Back a n i) f ok = (asked_later p c n (protocol_sta
 stage_later plan past q c p (Over a) f ok = over_later plan past q p a c f ok
 
 within_later : (t c : ℕ) (h v : ProtocolState) → SameFor t c h v → InCommit h c t → InCommit v c t
-within_later t c h v s ok = record { taken = s.taken ∙ ok.taken; is_open = s.is_open ∙ ok.is_open; owner = s.owner ∙ ok.owner; goes_on = s.stopped ∙ ok.goes_on }
+within_later t c h v s ok = record { accepted = s.accepted ∙ ok.accepted; is_open = s.is_open ∙ ok.is_open; owner = s.owner ∙ ok.owner; goes_on = s.stopped ∙ ok.goes_on }
 
 -- Another client's event leaves a COMMIT as it was.
 pub commit_later : (plan : ℕ → Plan) (past : List Labelled) (q : Labelled) (c : ℕ) (p : Work) (s : Stage) → IsForeignEvent p.id.0 c q → CommitOk plan past c p s → CommitOk plan (q ∷ past) c p s
@@ -280,7 +276,7 @@ open_later past q c t f ok = let same = event_same t c past q f in record {
   owner = same.owner ∙ ok.owner;
   is_open = same.is_open ∙ ok.is_open;
   goes_on = same.stopped ∙ ok.goes_on;
-  fresh = same.taken ∙ ok.fresh;
+  fresh = same.accepted ∙ ok.fresh;
   stage = same.stage ∙ ok.stage;
   unasked = λ k. same.asked k ∙ ok.unasked k;
   safe = same.risked ∙ ok.safe;

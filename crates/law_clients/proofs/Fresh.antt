@@ -1,49 +1,48 @@
 -- Of a transaction that has not begun nothing is said.
 use Rattle.std.proofs.Common.{◌≡◌, ℕ, true, false, List, [], ◌∷◌, Option, Some, None, refl, arith}
 use Rattle.std.proofs.lemmas.Bool.Decides.{nat_tests}
-use Rattle.sdb_types.specs.declared.key.Key.{Key}
+use Rattle.law_clients.specs.Types.{Event, Key}
 use Rattle.sdb_types.proofs.Keys.{tests}
-use Rattle.sdb_model.specs.declared.event.Event.{Event}
 use Rattle.law_protocol.specs.Plan.{Plan}
 use Rattle.law_protocol.specs.History as laws
 use Rattle.law_protocol.specs.History.{Action, Other, Begins, Takes, Prepares, Checks, Decides, Aborts, Rolls, Removes, Ends, Stops, ProtocolState, state_after_event, state_after}
 use Rattle.law_protocol.specs.Lawful.{Labelled, IsLawful, IsEnabled, protocol_state, ended}
 use Rattle.law_protocol.proofs.Seen.{closed_still}
 
--- a transaction is open, and its COMMIT is taken, only after it has begun; and its calls come only after its COMMIT was taken
+-- a transaction is open, and its COMMIT is accepted, only after it has begun; and its calls come only after its COMMIT was accepted
 pub record InTurn (h : ProtocolState) (t : ℕ) : Type 0 where
   pub is_open : h.begun t ≡ 0 → h.is_open t ≡ false
-  pub taken : h.begun t ≡ 0 → h.taken t ≡ false
-  pub stage : h.taken t ≡ false → h.stage t ≡ laws.Preparing
-  pub asked : (k : Key) → h.taken t ≡ false → h.asked t k ≡ false
-  pub risked : h.taken t ≡ false → h.risked t ≡ false
+  pub accepted : h.begun t ≡ 0 → h.accepted t ≡ false
+  pub stage : h.accepted t ≡ false → h.stage t ≡ laws.Preparing
+  pub asked : (k : Key) → h.accepted t ≡ false → h.asked t k ≡ false
+  pub risked : h.accepted t ≡ false → h.risked t ≡ false
 
 abbrev IsAfter : ProtocolState → Action → Type 0
 IsAfter h (Takes t) = h.is_open t ≡ true
-IsAfter h (Prepares t k word) = h.taken t ≡ true
-IsAfter h (Checks t i) = h.taken t ≡ true
-IsAfter h (Decides t word) = h.taken t ≡ true
+IsAfter h (Prepares t k word) = h.accepted t ≡ true
+IsAfter h (Checks t i) = h.accepted t ≡ true
+IsAfter h (Decides t word) = h.accepted t ≡ true
 IsAfter h r = Unit {0}
 
 open_kept : (h : ProtocolState) (r : Action) (t : ℕ) → (h.begun t ≡ 0 → h.is_open t ≡ false) → (state_after_event h r).begun t ≡ 0 → (state_after_event h r).is_open t ≡ false
 open_kept h r t u b = grind (arith, nat_tests)
 
-taken_kept : (h : ProtocolState) (r : Action) (t : ℕ) → IsAfter h r → (h.begun t ≡ 0 → h.is_open t ≡ false) → (h.begun t ≡ 0 → h.taken t ≡ false) → (state_after_event h r).begun t ≡ 0 → (state_after_event h r).taken t ≡ false
+taken_kept : (h : ProtocolState) (r : Action) (t : ℕ) → IsAfter h r → (h.begun t ≡ 0 → h.is_open t ≡ false) → (h.begun t ≡ 0 → h.accepted t ≡ false) → (state_after_event h r).begun t ≡ 0 → (state_after_event h r).accepted t ≡ false
 taken_kept h r t a o u b = grind (arith, nat_tests)
 
-stage_kept : (h : ProtocolState) (r : Action) (t : ℕ) → IsAfter h r → (h.taken t ≡ false → h.stage t ≡ laws.Preparing) → (state_after_event h r).taken t ≡ false → (state_after_event h r).stage t ≡ laws.Preparing
+stage_kept : (h : ProtocolState) (r : Action) (t : ℕ) → IsAfter h r → (h.accepted t ≡ false → h.stage t ≡ laws.Preparing) → (state_after_event h r).accepted t ≡ false → (state_after_event h r).stage t ≡ laws.Preparing
 stage_kept h r t a u f = grind (arith, nat_tests)
 
-asked_kept : (h : ProtocolState) (r : Action) (t : ℕ) (k : Key) → IsAfter h r → (h.taken t ≡ false → h.asked t k ≡ false) → (state_after_event h r).taken t ≡ false → (state_after_event h r).asked t k ≡ false
+asked_kept : (h : ProtocolState) (r : Action) (t : ℕ) (k : Key) → IsAfter h r → (h.accepted t ≡ false → h.asked t k ≡ false) → (state_after_event h r).accepted t ≡ false → (state_after_event h r).asked t k ≡ false
 asked_kept h r t k a u f = grind (arith, tests)
 
-risked_kept : (h : ProtocolState) (r : Action) (t : ℕ) → IsAfter h r → (h.taken t ≡ false → h.risked t ≡ false) → (state_after_event h r).taken t ≡ false → (state_after_event h r).risked t ≡ false
+risked_kept : (h : ProtocolState) (r : Action) (t : ℕ) → IsAfter h r → (h.accepted t ≡ false → h.risked t ≡ false) → (state_after_event h r).accepted t ≡ false → (state_after_event h r).risked t ≡ false
 risked_kept h r t a u f = grind (arith, nat_tests)
 
 turn_kept : (h : ProtocolState) (r : Action) (t : ℕ) → IsAfter h r → InTurn h t → InTurn (state_after_event h r) t
 turn_kept h r t a u = record {
   is_open = open_kept h r t u.is_open;
-  taken = taken_kept h r t a u.is_open u.taken;
+  accepted = taken_kept h r t a u.is_open u.accepted;
   stage = stage_kept h r t a u.stage;
   asked = λ k. asked_kept h r t k a (u.asked k);
   risked = risked_kept h r t a u.risked;
@@ -51,15 +50,15 @@ turn_kept h r t a u = record {
 
 -- and so does the end of a transaction
 turn_closed : (h : ProtocolState) (u t : ℕ) → InTurn h t → InTurn (state_after h (Ends u)) t
-turn_closed h u t one = record { is_open = λ b. closed_still h.is_open u t (one.is_open b); taken = one.taken; stage = one.stage; asked = one.asked; risked = one.risked }
+turn_closed h u t one = record { is_open = λ b. closed_still h.is_open u t (one.is_open b); accepted = one.accepted; stage = one.stage; asked = one.asked; risked = one.risked }
 
 after_played : (plan : ℕ → Plan) (past : List Labelled) (e : Event) (r : Action) → IsEnabled plan past e r → IsAfter (protocol_state past) r
 after_played plan past e Other m = tt
 after_played plan past e (Begins t c) m = tt
 after_played plan past e (Takes t) m = m.is_open
-after_played plan past e (Prepares t k word) m = m.within.taken
-after_played plan past e (Checks t i) m = m.within.taken
-after_played plan past e (Decides t word) m = m.within.taken
+after_played plan past e (Prepares t k word) m = m.within.accepted
+after_played plan past e (Checks t i) m = m.within.accepted
+after_played plan past e (Decides t word) m = m.within.accepted
 after_played plan past e (Aborts t n word) m = tt
 after_played plan past e (Rolls t k d) m = tt
 after_played plan past e (Removes k t) m = tt
@@ -67,7 +66,7 @@ after_played plan past e (Ends t) m = tt
 after_played plan past e (Stops c) m = tt
 
 pub in_turn : (plan : ℕ → Plan) (past : List Labelled) (t : ℕ) → IsLawful plan past → InTurn (protocol_state past) t
-in_turn plan [] t l = record { is_open = λ b. refl; taken = λ b. refl; stage = λ f. refl; asked = λ k f. refl; risked = λ f. refl }
+in_turn plan [] t l = record { is_open = λ b. refl; accepted = λ b. refl; stage = λ f. refl; asked = λ k f. refl; risked = λ f. refl }
 in_turn plan (p ∷ past) t l = by p.ends (turn_kept (protocol_state past) p.action t (after_played plan past p.event p.action l.1) (in_turn plan past t l.0))
   where
     by : (o : Option ℕ) → InTurn (state_after_event (protocol_state past) p.action) t → InTurn (ended (state_after_event (protocol_state past) p.action) o) t

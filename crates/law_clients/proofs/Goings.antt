@@ -2,9 +2,7 @@
 use Rattle.std.proofs.Common.{◌≡◌, ◌≢◌, ℕ, Bool, true, false, List, [], ◌∷◌, ◌++◌, ◌+◌, length, Option, Some, refl, sym, ap, ◌∙◌, subst, arith}
 use Rattle.std.specs.Prelude.{◌==◌, fold, if◌then◌else◌}
 use Rattle.std.proofs.lemmas.Bool.Decides.{nat_tests}
-use Rattle.sdb_schema.specs.declared.table.Table.{Table}
-use Rattle.sdb_model.specs.declared.event.Event.{Event}
-use Rattle.sdb_model.specs.declared.statement.Statement.{Statement}
+use Rattle.law_clients.specs.Types.{Event, Statement, Table}
 use Rattle.sdb_model.specs.Exec.{Tables}
 use Rattle.sdb_model.specs.Transactions.{Executed}
 use Rattle.law_protocol.specs.Explained.{events_of, newest_first}
@@ -44,7 +42,7 @@ inside_later catalog fit past q inside r ok = record { seen = seen_later past q 
 pub ran_later : (catalog : List Table) (fit : Tables → Bool) (plan next : ℕ → Plan) (past : List Labelled) (q : Labelled) (t : ℕ) (inside : List Executed) (r : Execution) → SamePlans plan next past → SameOf t (protocol_state past) (protocol_state (q ∷ past)) → RanOk catalog fit plan past t inside r → RanOk catalog fit next (q ∷ past) t inside r
 ran_later catalog fit plan next past q t inside r same s ok = record {
   inside = inside_later catalog fit past q inside r ok.inside;
-  planned = λ h. let was : (protocol_state past).taken t ≡ true = sym s.taken ∙ h in sym (same t was) ∙ ok.planned was;
+  planned = λ h. let was : (protocol_state past).accepted t ≡ true = sym s.accepted ∙ h in sym (same t was) ∙ ok.planned was;
 }
 
 ---- the transactions of a client, later
@@ -85,12 +83,12 @@ turned catalog fit events sys next doing g c d q t = record {
   plan = t.plan;
   labelled = g.labelled ++ q ∷ [];
   past = q ∷ g.past;
-  told = with_history g.told c t.x;
+  answered = with_history g.answered c t.x;
   ran = at g.ran c t.ran;
   same = ap (λ es. es ++ q.event ∷ []) g.same ∙ sym (events_more g.labelled q);
   turned = ap (λ ps. q ∷ ps) g.turned ∙ sym (newest_more g.labelled q);
   system = t.system;
-  stories = stories_turn t.plan events g.past sys next c q g.told t.x t.system t.by t.others g.stories t.story;
+  stories = stories_turn t.plan events g.past sys next c q g.answered t.x t.system t.by t.others g.stories t.story;
   clients = λ e. on e (e == c) refl;
   as_read = λ e. noted_on e (e == c) refl;
 }
@@ -101,16 +99,16 @@ turned catalog fit events sys next doing g c d q t = record {
     isnt : (e c : ℕ) → (e == c) ≡ false → e ≢ c
     isnt e c h k = absurd (grind (arith, nat_tests))
 
-    other : (e : ℕ) → e ≢ c → ClientInvariant catalog fit t.plan (q ∷ g.past) e (doing e) (next.clients e) (g.told e) (g.ran e)
+    other : (e : ℕ) → e ≢ c → ClientInvariant catalog fit t.plan (q ∷ g.past) e (doing e) (next.clients e) (g.answered e) (g.ran e)
     other e n =
         let was = g.clients e in
-        let kept = kept_apart catalog fit g.plan t.plan events g.past sys q e (g.told e) (g.ran e) t.same (g.stories e) (others_apart t.plan g.past e c q (λ h. n (sym h)) t.by t.system.lawful.1) was.ended was.opened in
-        record { ended = kept.0; opened = kept.1; hand = subst (IsOpenOf (doing e) (g.told e) (g.ran e (length (g.told e).whole))) (sym (t.others.clients e n)) was.hand }
+        let kept = kept_apart catalog fit g.plan t.plan events g.past sys q e (g.answered e) (g.ran e) t.same (g.stories e) (others_apart t.plan g.past e c q (λ h. n (sym h)) t.by t.system.lawful.1) was.ended was.opened in
+        record { ended = kept.0; opened = kept.1; next_state = subst (IsOpenOf (doing e) (g.answered e) (g.ran e (length (g.answered e).whole))) (sym (t.others.clients e n)) was.next_state }
 
-    on : (e : ℕ) (b : Bool) → (e == c) ≡ b → ClientInvariant catalog fit t.plan (q ∷ g.past) e (if b then d else doing e) (next.clients e) (if b then t.x else g.told e) (if b then t.ran else g.ran e)
+    on : (e : ℕ) (b : Bool) → (e == c) ≡ b → ClientInvariant catalog fit t.plan (q ∷ g.past) e (if b then d else doing e) (next.clients e) (if b then t.x else g.answered e) (if b then t.ran else g.ran e)
     on e true h = subst (λ z. ClientInvariant catalog fit t.plan (q ∷ g.past) z d (next.clients z) t.x t.ran) (is e c h) t.own
     on e false h = other e (isnt e c h)
 
-    noted_on : (e : ℕ) (b : Bool) → (e == c) ≡ b → ReadSetsOfClient (events ++ q.event ∷ []) e (next.clients e) (if b then t.x else g.told e) (if b then t.ran else g.ran e)
+    noted_on : (e : ℕ) (b : Bool) → (e == c) ≡ b → ReadSetsOfClient (events ++ q.event ∷ []) e (next.clients e) (if b then t.x else g.answered e) (if b then t.ran else g.ran e)
     noted_on e true h = subst (λ z. ReadSetsOfClient (events ++ q.event ∷ []) z (next.clients z) t.x t.ran) (is e c h) t.as_read
-    noted_on e false h = subst (λ z. ReadSetsOfClient (events ++ q.event ∷ []) e z (g.told e) (g.ran e)) (sym (t.others.clients e (isnt e c h))) (noted_stays events e q.event (sys.clients e) (g.told e) (g.ran e) (other_call e c (1 + length events) q.event (λ k. isnt e c h (sym k)) t.by) (g.as_read e))
+    noted_on e false h = subst (λ z. ReadSetsOfClient (events ++ q.event ∷ []) e z (g.answered e) (g.ran e)) (sym (t.others.clients e (isnt e c h))) (noted_stays events e q.event (sys.clients e) (g.answered e) (g.ran e) (other_call e c (1 + length events) q.event (λ k. isnt e c h (sym k)) t.by) (g.as_read e))

@@ -2,9 +2,7 @@
 use Rattle.std.proofs.Common.{◌≡◌, ◌≢◌, ◌+◌, ℕ, Bool, true, false, List, [], ◌∷◌, ◌++◌, map, Some, refl, sym, ap, subst, ◌∙◌, arith}
 use Rattle.std.specs.Prelude.{◌==◌, if◌then◌else◌, filter}
 use Rattle.std.proofs.lemmas.Bool.Decides.{nat_tests}
-use Rattle.sdb_model.specs.declared.answer.Answer.{Answer}
-use Rattle.sdb_model.specs.declared.event.Event.{Event}
-use Rattle.sdb_model.specs.declared.statement.Statement.{Statement}
+use Rattle.law_clients.specs.Types.{Answer, Event, Statement}
 use Rattle.sdb_model.specs.Sql.{Reads}
 use Rattle.sdb_model.specs.Serial.{AreRead}
 use Rattle.sdb_model.specs.Transactions.{Executed, body, is_effective}
@@ -43,8 +41,8 @@ other_story plan events past sys next c d q x ok by others apart story =
     (others_silent events d c q.event (λ e. apart (sym e)) by)
 
 -- Where a turn leaves all so of all clients, and its own client's story goes on, all stories go on.
-pub stories_turn : (plan : ℕ → Plan) (events : List Event) (past : List Labelled) (sys next : SystemAt) (c : ℕ) (q : Labelled) (told : ℕ → ClientHistory) (x : ClientHistory) → SystemOk plan (q ∷ past) next → IsBy c q.event → OthersUnchanged c sys next → AllStories events past sys told → HistoryStep events past q next c x → AllStories (events ++ q.event ∷ []) (q ∷ past) next (with_history told c x)
-stories_turn plan events past sys next c q told x ok by others stories own d = on (d == c) refl
+pub stories_turn : (plan : ℕ → Plan) (events : List Event) (past : List Labelled) (sys next : SystemAt) (c : ℕ) (q : Labelled) (answered : ℕ → ClientHistory) (x : ClientHistory) → SystemOk plan (q ∷ past) next → IsBy c q.event → OthersUnchanged c sys next → AllStories events past sys answered → HistoryStep events past q next c x → AllStories (events ++ q.event ∷ []) (q ∷ past) next (with_history answered c x)
+stories_turn plan events past sys next c q answered x ok by others stories own d = on (d == c) refl
   where
     same : (d c : ℕ) → (d == c) ≡ true → c ≡ d
     same d c t = grind (arith, nat_tests)
@@ -52,9 +50,9 @@ stories_turn plan events past sys next c q told x ok by others stories own d = o
     apart : (d c : ℕ) → (d == c) ≡ false → d ≢ c
     apart d c f e = absurd (grind (arith, nat_tests))
 
-    on : (b : Bool) → (d == c) ≡ b → HistoryInvariant (events ++ q.event ∷ []) (q ∷ past) next d (if b then x else told d)
+    on : (b : Bool) → (d == c) ≡ b → HistoryInvariant (events ++ q.event ∷ []) (q ∷ past) next d (if b then x else answered d)
     on true t = subst (λ y. HistoryInvariant (events ++ q.event ∷ []) (q ∷ past) next y x) (same d c t) own
-    on false f = other_story plan events past sys next c d q (told d) ok by others (apart d c f) (stories d)
+    on false f = other_story plan events past sys next c d q (answered d) ok by others (apart d c f) (stories d)
 
 -- with one client standing elsewhere, or with a transaction more of it
 pub client_stands : (sys : SystemAt) (c : ℕ) (x : ClientAt) → OthersUnchanged c sys (with_client sys c x)
@@ -84,7 +82,7 @@ read_more (x ∷ ss) (b ∷ bs) s statement all here = (all.0, read_more ss bs s
 
 -- A statement that changed nothing adds nothing.
 pub said_nothing_more : (ss : List Executed) (s : Executed) (r : Execution) → BodyExecuted ss r → is_effective s ≡ false → BodyExecuted (ss ++ s ∷ []) r
-said_nothing_more ss s r ok idle = record { read = subst (λ xs. AreRead xs r.body) (sym same) ok.read; told = ap (map (λ (x : Executed). x.answer)) same ∙ ok.told }
+said_nothing_more ss s r ok idle = record { read = subst (λ xs. AreRead xs r.body) (sym same) ok.read; answered = ap (map (λ (x : Executed). x.answer)) same ∙ ok.answered }
   where
     same : filter is_effective (ss ++ s ∷ []) ≡ filter is_effective ss
     same = filter_more ss s ∙ ap (λ b. filter is_effective ss ++ (if b then s ∷ [] else [])) idle ∙ no_more (filter is_effective ss)
@@ -93,7 +91,7 @@ said_nothing_more ss s r ok idle = record { read = subst (λ xs. AreRead xs r.bo
 pub said_one_more : (ss : List Executed) (s : Executed) (r next : Execution) (statement : Statement) (a : Answer) → BodyExecuted ss r → is_effective s ≡ true → Reads s.text statement → s.answer ≡ Some a → next.body ≡ r.body ++ statement ∷ [] → next.answers ≡ r.answers ++ a ∷ [] → BodyExecuted (ss ++ s ∷ []) next
 said_one_more ss s r next statement a ok effective reads answer body answers = record {
   read = subst (AreRead (filter is_effective (ss ++ s ∷ []))) (sym body) (subst (λ xs. AreRead xs (r.body ++ statement ∷ [])) (sym same) (read_more (filter is_effective ss) r.body s statement ok.read reads));
-  told = ap (map (λ (x : Executed). x.answer)) same ∙ told_more (λ (x : Executed). x.answer) (filter is_effective ss) s ∙ ap (λ xs. xs ++ s.answer ∷ []) ok.told ∙ ap (λ o. map Some r.answers ++ o ∷ []) answer ∙ sym (told_more Some r.answers a) ∙ ap (map Some) (sym answers);
+  answered = ap (map (λ (x : Executed). x.answer)) same ∙ told_more (λ (x : Executed). x.answer) (filter is_effective ss) s ∙ ap (λ xs. xs ++ s.answer ∷ []) ok.answered ∙ ap (λ o. map Some r.answers ++ o ∷ []) answer ∙ sym (told_more Some r.answers a) ∙ ap (map Some) (sym answers);
 }
   where
     same : filter is_effective (ss ++ s ∷ []) ≡ filter is_effective ss ++ s ∷ []
@@ -101,4 +99,4 @@ said_one_more ss s r next statement a ok effective reads answer body answers = r
 
 -- What was said inside of a transaction is said of its body.
 pub body_is_said : (events : List Event) (t : ℕ) (ss : List Executed) (r : Execution) → body events (id t) ≡ filter is_effective ss → BodyExecuted ss r → BodyIsExecuted events t r
-body_is_said events t ss r is ok = record { read = subst (λ xs. AreRead xs r.body) (sym is) ok.read; told = ap (map (λ (x : Executed). x.answer)) is ∙ ok.told }
+body_is_said events t ss r is ok = record { read = subst (λ xs. AreRead xs r.body) (sym is) ok.read; answered = ap (map (λ (x : Executed). x.answer)) is ∙ ok.answered }

@@ -5,36 +5,18 @@ use Rattle.std.specs.Option.{option_and_then, option_map}
 use Rattle.std.specs.List.{AllByRecursion, list_all}
 use Rattle.std.specs.Ordering.{is_eq}
 use Rattle.std.proofs.lemmas.Bool.{and_parts}
-use Rattle.sdb_types.specs.declared.key.Key.{Key}
-use Rattle.sdb_types.specs.declared.key.TableName.{TableName}
-use Rattle.sdb_types.specs.declared.pair.Pair.{Pair}
-use Rattle.sdb_types.specs.declared.value.Value.{Value}
-use Rattle.sdb_types.specs.declared.txid.TxId.{TxId}
-use Rattle.sdb_types.specs.declared.record.Condition.{Condition}
-use Rattle.sdb_types.specs.declared.record.Record.{Record}
-use Rattle.sdb_types.specs.declared.record.Reply.{Reply}
+use Rattle.law_clients.specs.Types.{Access, Check, Condition, Decided, Decision, Image, Key, Keyed, Meta, Pair, PlanStep, Read, Record, RecoverPhase, RecoverStep, Reply, Request, Scan, Span, Statement, Table, TableName, Test, TxId, VacuumStep, Value, Write}
 use Rattle.sdb_types.specs.declared.record.Reply.TheVariants as reply
-use Rattle.sdb_types.specs.declared.record.Request.{Request}
 use Rattle.sdb_types.specs.declared.record.Request.TheVariants as ask
 use Rattle.sdb_types.specs.declared.record.Condition.TheVariants as condition
 use Rattle.sdb_types.specs.declared.record.State.TheVariants as state
-use Rattle.sdb_types.specs.declared.record.Span.{Span}
 use Rattle.sdb_types.specs.Contents.{CanAnswer, are_rows_of, in_span, rise}
 use Rattle.sdb_types.specs.Order.{table_cmp, same_key}
 use Rattle.sdb_types.proofs.KeyOrder.{key_exact, table_exact}
-use Rattle.sdb_keyed.specs.Entries.{value_at}
-use Rattle.sdb_record.specs.declared.access.Access.{Access}
+use Rattle.sdb_snapshot.specs.Entries.{value_at}
 use Rattle.sdb_record.specs.declared.access.Access.TheVariants as access
-use Rattle.sdb_record.specs.declared.access.Image.{Image}
-use Rattle.sdb_record.specs.declared.access.Read.{Read}
-use Rattle.sdb_record.specs.declared.access.Scan.{Scan}
-use Rattle.sdb_record.specs.declared.coordinator.Decided.{Decided}
-use Rattle.sdb_record.specs.declared.coordinator.Decision.{Decision}
 use Rattle.sdb_record.specs.declared.coordinator.Decision.TheVariants as decision
-use Rattle.sdb_record.specs.declared.meta.Meta.{Meta}
 use Rattle.sdb_record.specs.declared.write.Change.TheVariants as change
-use Rattle.sdb_record.specs.declared.write.Keyed.{Keyed}
-use Rattle.sdb_record.specs.declared.write.Write.{Write}
 use Rattle.sdb_record.specs.Coordinator.{coordinator_key_of, coordinator_row_of, coordinator_table, decision_in, is_coordinator_table, is_expired}
 use Rattle.sdb_record.specs.Moved.{version_of}
 use Rattle.sdb_record.specs.Parts.{before_part, before_record, record_with}
@@ -43,33 +25,25 @@ use Rattle.sdb_record.specs.Rolls.{forward_record, is_tombstone, prepared_record
 use Rattle.sdb_record.proofs.RollLaws.{forward-key}
 use Rattle.sdb_record.proofs.TakenLaws.{prepared-key}
 use Rattle.sdb_record.specs.Among.{is_written}
-use Rattle.sdb_schema.specs.declared.table.Table.{Table}
-use Rattle.sdb_model.specs.declared.statement.Statement.{Statement}
-use Rattle.sdb_model.specs.declared.statement.Test.{Test}
 use Rattle.sdb_model.specs.declared.statement.Statement.TheVariants as statement
 use Rattle.sdb_model.specs.Access.{in_access}
 use Rattle.sdb_model.specs.Events.{table_asked}
 use Rattle.sdb_model.specs.Exec.{all_rows, find_table, key_of, passes, with_named, with_sets}
 use Rattle.sdb_model.specs.Rows.{order_names}
-use Rattle.sdb_exec.specs.declared.plan.PlanStep.{PlanStep}
 use Rattle.sdb_exec.specs.declared.plan.PlanStep.TheVariants.{Finished, Read as Wants}
 use Rattle.sdb_exec.specs.Plans.{Planned, changes_on, columns_at, finished, first_unfit, put_row, step_at, step_of}
 use Rattle.sdb_model.specs.Reads.{access_by, access_for, access_of, all_fixed}
-use Rattle.sdb_phases.specs.declared.check.Check.{Check}
 use Rattle.sdb_phases.specs.declared.step.DecidePhase.TheVariants as decides
-use Rattle.sdb_phases.specs.declared.step.RecoverStep.{RecoverStep}
 use Rattle.sdb_phases.specs.declared.step.RecoverStep.TheVariants as steps
-use Rattle.sdb_phases.specs.declared.step.RecoverPhase.{RecoverPhase}
 use Rattle.sdb_phases.specs.declared.step.RecoverPhase.TheVariants as recover
 use Rattle.sdb_phases.specs.Checks.{check_of_read, check_of_scan, checks}
 use Rattle.sdb_phases.specs.Commit.{Stage, Preparing, Checking, Deciding, Forward, Stopping, Back, Over, pending}
 use Rattle.sdb_phases.specs.Recover.{recover_back, recover_forward, recover_next, recover_request_at, roll_to, is_as_found, undecided}
 use Rattle.sdb_phases.specs.Work.{Work, abort_of, back_of, backs, decide_of, forward_of, forwards, look_of, prepare_of, prepares, is_as_prepared}
-use Rattle.sdb_read.specs.Read.{Asking, Bad, Ended, Firm, Kind, Open, ReadStage, Resolving, answered, kind_of, read_pending_at, read_step, request_of, resolved, settle, settle_one}
+use Rattle.sdb_txn.specs.Read.{Asking, Bad, Ended, Firm, Kind, Open, ReadStage, Resolving, answered, kind_of, read_pending_at, read_step, request_of, resolved, settle, settle_one}
 use Rattle.sdb_snapshot.specs.Reads.{ReadRecord, base_at, is_key_read, reads_of, with_images, with_read_record}
 use Rattle.sdb_snapshot.specs.Seen.{Seen, overlay, tables_seen, with_get, with_scan, with_written}
 use Rattle.sdb_snapshot.specs.Written.{with_change_of, with_write, with_writes, write_of}
-use Rattle.sdb_vacuum.specs.declared.work.VacuumStep.{VacuumStep}
 use Rattle.sdb_vacuum.specs.Vacuum.{First, Malformed, Nothing, Over as Ends, Removing, Resolving as Resolves, Scanning as Scans, Tombstone, Unresolved, VacuumAt, VacuumStage, answered as sweep_answered, first_of, first_one, with_call, next_of_row, next_table, pending_at, removal_answered, resolved as sweep_resolved, step_at as swept_at, tombstone_or}
 use Rattle.law_clients.specs.About.{AreListed, AreReadItemsIn, AreRecordsIn, AreWritesIn, IsIn, IsListed, IsRecordIn, IsSeenIn, IsStageIn, IsVacuumStageIn, IsVacuumIn, IsWorkIn}
 use Rattle.sdb_types.specs.Exact.{equal_of}

@@ -1,27 +1,15 @@
 -- Each call of a client, over what ties the events to the clients.
 use Rattle.std.proofs.Common.{◌≡◌, ◌≤◌, inl, ℕ, ℤ, Bool, true, false, List, [], ◌∷◌, ◌++◌, length, Option, Some, None, IfSome, refl, sym, ap, ◌∙◌, subst}
 use Rattle.std.specs.Prelude.{◌&&◌, ◌||◌}
-use Rattle.sdb_types.specs.declared.record.Record.{Record}
-use Rattle.sdb_types.specs.declared.record.Reply.{Reply}
-use Rattle.sdb_types.specs.declared.record.Request.{Request}
-use Rattle.sdb_types.specs.declared.record.Span.{Span}
-use Rattle.sdb_types.specs.declared.txid.TxId.{TxId}
-use Rattle.sdb_record.specs.declared.access.Access.{Access}
+use Rattle.law_clients.specs.Types.{Access, Answer, Event, How, Keyed, Outcome, Record, Reply, Request, Span, Statement, Table, TxId}
 use Rattle.sdb_record.specs.declared.access.Access.TheVariants as access
-use Rattle.sdb_record.specs.declared.write.Keyed.{Keyed}
-use Rattle.sdb_schema.specs.declared.table.Table.{Table}
-use Rattle.sdb_model.specs.declared.answer.Answer.{Answer}
 use Rattle.sdb_model.specs.declared.answer.Answer.TheVariants as answer
-use Rattle.sdb_model.specs.declared.event.Event.{Event}
-use Rattle.sdb_model.specs.declared.event.How.{How}
 use Rattle.sdb_model.specs.Rows.{Name}
-use Rattle.sdb_model.specs.declared.statement.Statement.{Statement}
 use Rattle.sdb_model.specs.Exec.{Tables}
 use Rattle.sdb_model.specs.Sql.{Reads, reads_begin, reads_commit, reads_rollback}
 use Rattle.sdb_model.specs.Transactions.{Executed, begins, changes_nothing, ends, is_answered_from_rows, is_conflict, is_done, statements_by}
 use Rattle.law_protocol.specs.History.{at}
 use Rattle.law_protocol.specs.Lawful.{Labelled, id, protocol_state, ends_with, labelled_with}
-use Rattle.sdb_phases.specs.declared.step.Outcome.{Outcome}
 use Rattle.sdb_phases.specs.declared.step.Outcome.TheVariants as outcome
 use Rattle.sdb_phases.specs.Work.{Work}
 use Rattle.sdb_phases.specs.Commit.{Stage, Preparing, Checking, Deciding, Forward, Stopping, Back, Over, pending, step}
@@ -57,7 +45,7 @@ use Rattle.law_clients.proofs.InvariantTurns as one
 use Rattle.law_clients.proofs.Small.{committing_as, running_as, twice, waiting_as}
 use Rattle.law_clients.proofs.InvariantOwn.{IsPlainRole, closed_as, commit_plain, goes_gap, goes_over, gone, opened_as, over, plain_apart, plain_counts, read_plain, sweep_plain}
 use Rattle.sdb_types.proofs.Basics.{clash, some_is, and_false as no_second}
-use Rattle.sdb_read.specs.Read.{Kind}
+use Rattle.sdb_txn.specs.Read.{Kind}
 
 ---- one client
 
@@ -77,8 +65,8 @@ module _ (catalog : List Table) (fit : Tables → Bool) (events : List Event) (s
   story : HistoryInvariant events g.past sys c x
   story = one.story catalog fit events sys doing g c
 
-  stands : (y : ClientAt) → sys.clients c ≡ y → IsInState g.plan g.past sys c y
-  stands = one.stands catalog fit events sys doing g c
+  agrees : (y : ClientAt) → sys.clients c ≡ y → IsInState g.plan g.past sys c y
+  agrees = one.agrees catalog fit events sys doing g c
 
   hand_at : (y : ClientAt) → sys.clients c ≡ y → IsOpenOf (doing c) x (ran n) y
   hand_at = one.hand_at catalog fit events sys doing g c
@@ -128,7 +116,7 @@ module _ (catalog : List Table) (fit : Tables → Bool) (events : List Event) (s
       GoesTo t = RunInvariant catalog fit (events ++ call_event y (answer_at t) ∷ []) (with_client sys c (commit_left p t)) (at doing c None)
 
       system_at : (t : Stage) → after ≡ t → SystemOk g.plan (played_at t ∷ g.past) (with_client sys c (commit_left p t))
-      system_at t e = subst (λ t. SystemOk g.plan (played_at t ∷ g.past) (with_client sys c (commit_left p t))) e (commit_turn g.plan g.past sys y p s (stands (Committing p s) at_commit) asked)
+      system_at t e = subst (λ t. SystemOk g.plan (played_at t ∷ g.past) (with_client sys c (commit_left p t))) e (commit_turn g.plan g.past sys y p s (agrees (Committing p s) at_commit) asked)
 
       -- it makes a further call
       more : (t : Stage) → after ≡ t → answer_at t ≡ None → ending_at p.id.0 t ≡ None → commit_left p t ≡ Committing p t → GoesTo t
@@ -141,7 +129,7 @@ module _ (catalog : List Table) (fit : Tables → Bool) (events : List Event) (s
         by = refl;
         others = client_stands sys c (commit_left p t);
         story = story_stays events g.past sys (with_client sys c (commit_left p t)) c x q story (plain_counts q.action plain) (plain_apart g.past c q.action plain) (keeps (Committing p s) (commit_left p t) at_commit (λ u h. subst (λ w. Has w u) left h)) call_silent;
-        own = record { ended = (kept q plain).0; opened = (kept q plain).1; hand = subst (IsOpenOf None x (ran n)) (sym (here (commit_left p t) ∙ left)) held_then };
+        own = record { ended = (kept q plain).0; opened = (kept q plain).1; next_state = subst (IsOpenOf None x (ran n)) (sym (here (commit_left p t) ∙ left)) held_then };
         as_read = noted_elsewhere events c q.event (sys.clients c) x ran (g.as_read c) ((with_client sys c (commit_left p t)).clients c) (subst (IsMadeSince (events ++ q.event ∷ []) c x.waiting) (sym (here (commit_left p t))) (commit_made (events ++ q.event ∷ []) c x.waiting p t));
       }))
         where
@@ -230,8 +218,8 @@ module _ (catalog : List Table) (fit : Tables → Bool) (events : List Event) (s
       read_id : i.0 ≡ number c n
       read_id = (story.hold i.0 (subst (λ w. Has w i.0) (sym at_read) refl)).1
 
-      read_untaken : (protocol_state g.past).taken (number c n) ≡ false
-      read_untaken = ap (protocol_state g.past).taken (sym read_id) ∙ (client_at (Reading i seen a s) at_read).0.fresh
+      read_untaken : (protocol_state g.past).accepted (number c n) ≡ false
+      read_untaken = ap (protocol_state g.past).accepted (sym read_id) ∙ (client_at (Reading i seen a s) at_read).0.fresh
 
       abbrev next_read : ReadAt
       next_read = read_step kind s now reply
@@ -246,13 +234,13 @@ module _ (catalog : List Table) (fit : Tables → Bool) (events : List Event) (s
         x = x;
         ran = ran;
         same = same;
-        system = read_turn kind g.plan g.past sys y i seen a s None kinds (stands (Reading i seen a s) at_read) asked (λ e. none_some e);
+        system = read_turn kind g.plan g.past sys y i seen a s None kinds (agrees (Reading i seen a s) at_read) asked (λ e. none_some e);
         by = refl;
         others = client_stands sys c (Reading i seen a next_read);
         story = story_stays events g.past sys (with_client sys c (Reading i seen a next_read)) c x q story (plain_counts q.action plain) (plain_apart g.past c q.action plain) (keeps (Reading i seen a s) (Reading i seen a next_read) at_read (λ u h. h)) call_silent;
-        own = record { ended = (kept q plain).0; opened = (kept q plain).1; hand = subst (IsOpenOf (doing c) x (ran n)) (sym (here (Reading i seen a next_read))) held_then_read };
+        own = record { ended = (kept q plain).0; opened = (kept q plain).1; next_state = subst (IsOpenOf (doing c) x (ran n)) (sym (here (Reading i seen a next_read))) held_then_read };
         as_read = noted_elsewhere events c q.event (sys.clients c) x ran (g.as_read c) ((with_client sys c (Reading i seen a next_read)).clients c) (subst (IsMadeSince (events ++ q.event ∷ []) c x.waiting) (sym (here (Reading i seen a next_read)))
-            (made_reads kind events c x.waiting i seen a s store request how reply now None kinds (g.as_read c).taken made_then asked.asked asked.can));
+            (made_reads kind events c x.waiting i seen a s store request how reply now None kinds (g.as_read c).accepted made_then asked.asked asked.can));
       })
         where
           none_some : ◌≡◌ {A = Option Answer} None (Some answer.Committed) → ⊥
@@ -279,19 +267,19 @@ module _ (catalog : List Table) (fit : Tables → Bool) (events : List Event) (s
         is_said_read = said_later events g.past sys c x answered_q w.0 store request how reply b story w.1 refl
 
         system_read : IsMild b → SystemOk g.plan (answered_q ∷ g.past) (with_client sys c (Reading i seen a next_read))
-        system_read m = read_turn kind g.plan g.past sys y i seen a s (Some b) kinds (stands (Reading i seen a s) at_read) asked (uncommitted (Some b) b refl m)
+        system_read m = read_turn kind g.plan g.past sys y i seen a s (Some b) kinds (agrees (Reading i seen a s) at_read) asked (uncommitted (Some b) b refl m)
 
         stands_read : IsMild b → IsInState g.plan (answered_q ∷ g.past) (with_client sys c (Reading i seen a next_read)) c (Reading i seen a next_read)
         stands_read m = record { ok = system_read m; at = here (Reading i seen a next_read) }
 
-        taken_before : w.0.taken ≤ length events
-        taken_before = subst (λ o. IfSome o (λ (w : Executed). w.taken ≤ length events)) w.1 (g.as_read c).taken
+        taken_before : w.0.accepted ≤ length events
+        taken_before = subst (λ o. IfSome o (λ (w : Executed). w.accepted ≤ length events)) w.1 (g.as_read c).accepted
 
-        made_before : ReadMade (calls_since events c w.0.taken) a s
+        made_before : ReadMade (calls_since events c w.0.accepted) a s
         made_before = subst (λ o. IsMadeSince events c o (Reading i seen a s)) w.1 made_then
 
-        made_now : ReadMade (calls_since (events ++ answered_q.event ∷ []) c w.0.taken) a next_read
-        made_now = since_read kind events c w.0.taken a s store request how reply now (Some b) kinds taken_before made_before asked.asked asked.can
+        made_now : ReadMade (calls_since (events ++ answered_q.event ∷ []) c w.0.accepted) a next_read
+        made_now = since_read kind events c w.0.accepted a s store request how reply now (Some b) kinds taken_before made_before asked.asked asked.can
 
         inside_then : InsideOk catalog fit (answered_q ∷ g.past) (opened_as x.rest held_then_read.0).2 (ran n)
         inside_then = (open_ran answered_q (read_plain s reply) (opened_as x.rest held_then_read.0).0 (opened_as x.rest held_then_read.0).1 (opened_as x.rest held_then_read.0).2 (opened_as x.rest held_then_read.0).3).inside
@@ -305,7 +293,7 @@ module _ (catalog : List Table) (fit : Tables → Bool) (events : List Event) (s
           body_noted = body_read (answered_q ∷ g.past) catalog fit (ran n).body (ran n).answers seen a images (subst (SeenOk (answered_q ∷ g.past)) held_then_read.2 inside_then.seen) (subst (BodyOk catalog fit (ran n).body (ran n).answers) held_then_read.2 inside_then.body)
 
           notes_done : FinishesOn a images b → RecordsRead (events ++ answered_q.event ∷ []) c s_now a images
-          notes_done finishes = notes_read events c answered_q.event s_now b a images (refl, refl) refl finishes (client_at (Reading i seen a s) at_read).2 (subst (ReadMade (calls_since (events ++ answered_q.event ∷ []) c w.0.taken) a) done made_now)
+          notes_done finishes = notes_read events c answered_q.event s_now b a images (refl, refl) refl finishes (client_at (Reading i seen a s) at_read).2 (subst (ReadMade (calls_since (events ++ answered_q.event ∷ []) c w.0.accepted) a) done made_now)
 
         -- as one that changes nothing, whose read has not finished
         pub going_fails : changes_nothing b ≡ true → ((ms : List StoreCall) (m : StoreCall) → ReadMade ms a s → IsMade m request reply → read_finished (ms ++ m ∷ []) b ≡ false) → RunInvariant catalog fit (events ++ call_event y (Some b) ∷ []) (with_client sys c (Open i seen)) (at doing c None)
@@ -319,7 +307,7 @@ module _ (catalog : List Table) (fit : Tables → Bool) (events : List Event) (s
           others = client_stands sys c (Open i seen);
           story = one.inside_story catalog fit events sys doing g c answered_q plain s_now b refl m w.3.commit is_said_read held_then_read.0 i seen (Reading i seen a s) at_read (λ u h. h) seen;
           own = one.idle_own catalog fit events sys doing g c answered_q plain s_now b refl m w.3.commit is_said_read held_then_read.0 i seen (Reading i seen a s) at_read (λ u h. h) idle held_then_read.2;
-          as_read = one.idle_noted catalog fit events sys doing g c answered_q plain s_now b refl m w.3.commit is_said_read held_then_read.0 i seen (Reading i seen a s) at_read (λ u h. h) (inl (notes_unfinished events c store request how reply s_now b (refl, refl) refl taken_before (λ m. unfinished (calls_since events c w.0.taken) m made_before)));
+          as_read = one.idle_noted catalog fit events sys doing g c answered_q plain s_now b refl m w.3.commit is_said_read held_then_read.0 i seen (Reading i seen a s) at_read (λ u h. h) (inl (notes_unfinished events c store request how reply s_now b (refl, refl) refl taken_before (λ m. unfinished (calls_since events c w.0.accepted) m made_before)));
         })
           where
             m : IsMild b
@@ -400,7 +388,7 @@ module _ (catalog : List Table) (fit : Tables → Bool) (events : List Event) (s
           x = with_answered x s_now;
           ran = ran;
           same = same;
-          system = read_ends_turn g.plan g.past sys y i seen a s (Some b) (stands (Reading i seen a s) at_read) asked (λ e. other (some_is b answer.Committed e));
+          system = read_ends_turn g.plan g.past sys y i seen a s (Some b) (agrees (Reading i seen a s) at_read) asked (λ e. other (some_is b answer.Committed e));
           by = refl;
           others = client_stands sys c Resting;
           story = story_ends events g.past sys (with_client sys c Resting) c x q s_now parts.0 parts.1 parts.2 story parts.3 (said_later events g.past sys c x q w.0 store request how reply b story w.1 refl) begins_no over_now (ap Some read_id) (λ u e. clash (sym conflict ∙ ap is_conflict e)) (plain_counts q.action plain) (plain_apart g.past c q.action plain) (record { begun = refl; hold = λ u h. subst (λ z. Has z u) (here Resting) h });
@@ -439,20 +427,20 @@ module _ (catalog : List Table) (fit : Tables → Bool) (events : List Event) (s
       abbrev next_sweep : VacuumModel
       next_sweep = vacuum_model_step kind v now reply
 
-      abbrev swept : Option Answer → Labelled
-      swept a = labelled_with (vacuum_action v reply) (call_event y a)
+      abbrev vacuumed : Option Answer → Labelled
+      vacuumed a = labelled_with (vacuum_action v reply) (call_event y a)
 
-      system_swept : (a : Option Answer) → (a ≡ Some answer.Committed → ⊥) → SystemOk g.plan (swept a ∷ g.past) (with_client sys c (RunsVacuum next_sweep))
-      system_swept a other = vacuum_turn kind g.plan g.past sys y v a kinds (stands (RunsVacuum v) at_sweep) asked other
+      system_swept : (a : Option Answer) → (a ≡ Some answer.Committed → ⊥) → SystemOk g.plan (vacuumed a ∷ g.past) (with_client sys c (RunsVacuum next_sweep))
+      system_swept a other = vacuum_turn kind g.plan g.past sys y v a kinds (agrees (RunsVacuum v) at_sweep) asked other
 
-      stands_swept : (a : Option Answer) → (a ≡ Some answer.Committed → ⊥) → IsInState g.plan (swept a ∷ g.past) (with_client sys c (RunsVacuum next_sweep)) c (RunsVacuum next_sweep)
+      stands_swept : (a : Option Answer) → (a ≡ Some answer.Committed → ⊥) → IsInState g.plan (vacuumed a ∷ g.past) (with_client sys c (RunsVacuum next_sweep)) c (RunsVacuum next_sweep)
       stands_swept a other = record { ok = system_swept a other; at = here (RunsVacuum next_sweep) }
 
       none_some_swept : ◌≡◌ {A = Option Answer} None (Some answer.Committed) → ⊥
       none_some_swept e = cc
 
       -- it goes on, and makes a further call, wherever it then is
-      swept_on : (w : VacuumModel) → SystemOk g.plan (swept None ∷ g.past) (with_client sys c (RunsVacuum w)) → RunInvariant catalog fit (events ++ call_event y None ∷ []) (with_client sys c (RunsVacuum w)) (at doing c None)
+      swept_on : (w : VacuumModel) → SystemOk g.plan (vacuumed None ∷ g.past) (with_client sys c (RunsVacuum w)) → RunInvariant catalog fit (events ++ call_event y None ∷ []) (with_client sys c (RunsVacuum w)) (at doing c None)
       swept_on w system = turned catalog fit events sys (with_client sys c (RunsVacuum w)) doing g c None q (record {
         plan = g.plan;
         x = x;
@@ -462,12 +450,12 @@ module _ (catalog : List Table) (fit : Tables → Bool) (events : List Event) (s
         by = refl;
         others = client_stands sys c (RunsVacuum w);
         story = story_stays events g.past sys (with_client sys c (RunsVacuum w)) c x q story (plain_counts q.action plain) (plain_apart g.past c q.action plain) (keeps (RunsVacuum v) (RunsVacuum w) at_sweep (λ u h. h)) call_silent;
-        own = record { ended = (kept q plain).0; opened = (kept q plain).1; hand = subst (IsOpenOf None x (ran n)) (sym (here (RunsVacuum w))) held_then_sweep };
+        own = record { ended = (kept q plain).0; opened = (kept q plain).1; next_state = subst (IsOpenOf None x (ran n)) (sym (here (RunsVacuum w))) held_then_sweep };
         as_read = noted_elsewhere events c q.event (sys.clients c) x ran (g.as_read c) ((with_client sys c (RunsVacuum w)).clients c) (subst (IsMadeSince (events ++ q.event ∷ []) c x.waiting) (sym (here (RunsVacuum w))) tt);
       })
         where
           q : Labelled
-          q = swept None
+          q = vacuumed None
 
           plain : IsPlainRole q.action
           plain = sweep_plain v reply
@@ -478,7 +466,7 @@ module _ (catalog : List Table) (fit : Tables → Bool) (events : List Event) (s
 
       -- with a further table
       pub going_scans : (span : Span) → IsOfData (access.Scan span) → RunInvariant catalog fit (events ++ call_event y None ∷ []) (with_client sys c (RunsVacuum (Scanning span))) (at doing c None)
-      going_scans span tables = swept_on (Scanning span) (subst (SystemOk g.plan (swept None ∷ g.past)) (twice sys c (RunsVacuum next_sweep) (RunsVacuum (Scanning span))) (sweep_goes g.plan (swept None ∷ g.past) (with_client sys c (RunsVacuum next_sweep)) c next_sweep span (stands_swept None none_some_swept) tables))
+      going_scans span tables = swept_on (Scanning span) (subst (SystemOk g.plan (vacuumed None ∷ g.past)) (twice sys c (RunsVacuum next_sweep) (RunsVacuum (Scanning span))) (sweep_goes g.plan (vacuumed None ∷ g.past) (with_client sys c (RunsVacuum next_sweep)) c next_sweep span (stands_swept None none_some_swept) tables))
 
       -- it is answered
       pub going_swept : (b : Answer) → IsMild b → RunInvariant catalog fit (events ++ call_event y (Some b) ∷ []) (with_client sys c Resting) (at doing c None)
@@ -496,7 +484,7 @@ module _ (catalog : List Table) (fit : Tables → Bool) (events : List Event) (s
       })
         where
           q : Labelled
-          q = swept (Some b)
+          q = vacuumed (Some b)
 
           plain : IsPlainRole q.action
           plain = sweep_plain v reply

@@ -5,14 +5,8 @@ use Rattle.std.specs.List.{AllByRecursion}
 use Rattle.std.proofs.lemmas.List.{append_assoc}
 use Rattle.std.proofs.lemmas.Nat.{div-add-mod'}
 use Rattle.sdb_record.specs.Coordinator.{coordinator_key_of}
-use Rattle.sdb_schema.specs.declared.table.Table.{Table}
+use Rattle.law_clients.specs.Types.{Event, Place, Point, Script, Statement, Table, TableDump}
 use Rattle.sdb_model.specs.declared.answer.Answer.TheVariants as answer
-use Rattle.sdb_model.specs.declared.event.Event.{Event}
-use Rattle.sdb_model.specs.declared.event.Point.{Point}
-use Rattle.sdb_model.specs.declared.event.TableDump.{TableDump}
-use Rattle.sdb_types.specs.declared.place.Place.{Place}
-use Rattle.sdb_model.specs.declared.script.Script.{Script}
-use Rattle.sdb_model.specs.declared.statement.Statement.{Statement}
 use Rattle.sdb_model.specs.Events.{IsTrace, StoreContents}
 use Rattle.sdb_model.specs.Exec.{Tables}
 use Rattle.sdb_model.specs.Follows.{Follows}
@@ -49,10 +43,10 @@ use Rattle.law_clients.specs.ReadSets.{ReadSetInside, ReadSetOpened}
 use Rattle.law_clients.proofs.InvariantOwn.{finished, over}
 use Rattle.sdb_types.proofs.Basics.{none_some, and_false as no_second}
 
----- a recorded transaction's COMMIT was taken
+---- a recorded transaction's COMMIT was accepted
 
-taken_of : (plan : ℕ → Plan) (places : List Place) (opening : List StoreContents) (past : List Labelled) (ss : List (List StoreContents)) (t : ℕ) → IsRunOf plan places opening past ss → t < 2 ^ 128 → Recorded places (closing opening ss) (id t) → (protocol_state past).taken t ≡ true
-taken_of plan places opening past ss t run fits recorded = by ((protocol_state past).taken t) refl
+taken_of : (plan : ℕ → Plan) (places : List Place) (opening : List StoreContents) (past : List Labelled) (ss : List (List StoreContents)) (t : ℕ) → IsRunOf plan places opening past ss → t < 2 ^ 128 → Recorded places (closing opening ss) (id t) → (protocol_state past).accepted t ≡ true
+taken_of plan places opening past ss t run fits recorded = by ((protocol_state past).accepted t) refl
   where
     w : History
     w = history plan places opening past ss
@@ -60,9 +54,9 @@ taken_of plan places opening past ss t run fits recorded = by ((protocol_state p
     row : w.row t ≡ Some Committed
     row = recorded_row plan places w past (closing opening ss) t (whole_of plan places opening past ss run) fits recorded
 
-    by : (b : Bool) → (protocol_state past).taken t ≡ b → b ≡ true
+    by : (b : Bool) → (protocol_state past).accepted t ≡ b → b ≡ true
     by true e = refl
-    by false e = absurd (((whole_of plan places opening past ss run).all.one.taken t (coordinator_key_of (id t)) 0 (ap (λ (x : Rattle.law_protocol.specs.History.ProtocolState). x.taken t) (sym (whole_of plan places opening past ss run).knows.talks) ∙ e)).4 row)
+    by false e = absurd (((whole_of plan places opening past ss run).all.one.accepted t (coordinator_key_of (id t)) 0 (ap (λ (x : Rattle.law_protocol.specs.History.ProtocolState). x.accepted t) (sym (whole_of plan places opening past ss run).knows.talks) ∙ e)).4 row)
 
 ---- what it ran
 
@@ -78,33 +72,33 @@ pub record Ran (catalog : List Table) (fit : Tables → Bool) (plan : ℕ → Pl
   pub as_read : ReadSetInside events (client_of (id t)) inside r.seen
 
 module _ (catalog : List Table) (fit : Tables → Bool) (events : List Event) (sys : SystemAt) (doing : ℕ → Option Statement) (g : RunInvariant catalog fit events sys doing) where
-  -- of a client's transaction whose COMMIT was taken
-  ran_by : (c k : ℕ) → client_of (id (number c k)) ≡ c → ordinal_of (id (number c k)) ≡ suc k → suc k < 2 ^ 64 → (protocol_state g.past).taken (number c k) ≡ true → Ran catalog fit g.plan events g.past (number c k) (g.ran c k)
-  ran_by c k client ordinal small taken = by (txn_ended_at x.whole k) refl
+  -- of a client's transaction whose COMMIT was accepted
+  ran_by : (c k : ℕ) → client_of (id (number c k)) ≡ c → ordinal_of (id (number c k)) ≡ suc k → suc k < 2 ^ 64 → (protocol_state g.past).accepted (number c k) ≡ true → Ran catalog fit g.plan events g.past (number c k) (g.ran c k)
+  ran_by c k client ordinal small accepted = by (txn_ended_at x.whole k) refl
     where
       x : ClientHistory
-      x = g.told c
+      x = g.answered c
 
       story : HistoryInvariant events g.past sys c x
       story = g.stories c
 
       counts : k < count_of x
-      counts = subst (λ m. k < m) story.count (taken_counts g.plan g.past sys c k g.system small taken)
+      counts = subst (λ m. k < m) story.count (taken_counts g.plan g.past sys c k g.system small accepted)
 
-      told : (whole : List Finished) (more : List Executed) → statements_by c events ≡ saids_of whole ++ more → statements_by (client_of (id (number c k))) events ≡ saids_of whole ++ more
-      told whole more e = ap (λ d. statements_by d events) client ∙ e
+      answered : (whole : List Finished) (more : List Executed) → statements_by c events ≡ saids_of whole ++ more → statements_by (client_of (id (number c k))) events ≡ saids_of whole ++ more
+      answered whole more e = ap (λ d. statements_by d events) client ∙ e
 
       -- it is the one that is open, and its COMMIT waits
       in_hand : (gap : List Executed) (b : Executed) (inside : List Executed) → x.rest ≡ Opened gap b inside → k ≡ length x.whole → Ran catalog fit g.plan events g.past (number c k) (g.ran c k)
       in_hand gap b inside e at = record {
         inside = inside;
-        body = finished_inside events (id (number c k)) (x.whole ++ f ∷ []) [] (length x.whole) f (told (x.whole ++ f ∷ []) [] all) (ordinal ∙ ap suc at) kept.whole (last_at x.whole f);
+        body = finished_inside events (id (number c k)) (x.whole ++ f ∷ []) [] (length x.whole) f (answered (x.whole ++ f ∷ []) [] all) (ordinal ∙ ap suc at) kept.whole (last_at x.whole f);
         ok = subst (λ j. RanOk catalog fit g.plan g.past (number c j) inside (g.ran c j)) (sym at) (subst (λ r. OpenedOk catalog fit g.plan g.past (number c (length x.whole)) r (g.ran c (length x.whole))) e (g.clients c).opened);
         as_read = subst (λ d. ReadSetInside events d inside (g.ran c k).seen) (sym client) (subst (λ j. ReadSetInside events c inside (g.ran c j).seen) (sym at) (subst (λ r. ReadSetOpened events c r (g.ran c (length x.whole))) e (g.as_read c).opened));
       }
         where
-          w : (w : Executed) × (x.waiting ≡ Some w) × (reads_commit w.text ≡ true) × (w.taken ≡ (protocol_state g.past).taken_at (number c (length x.whole)))
-          w = (subst (OpenFiled g.past c x) e story.opened).1 (ap (λ j. (protocol_state g.past).taken (number c j)) (sym at) ∙ taken)
+          w : (w : Executed) × (x.waiting ≡ Some w) × (reads_commit w.text ≡ true) × (w.accepted ≡ (protocol_state g.past).taken_at (number c (length x.whole)))
+          w = (subst (OpenFiled g.past c x) e story.opened).1 (ap (λ j. (protocol_state g.past).accepted (number c j)) (sym at) ∙ accepted)
 
           f : Finished
           f = finished gap b inside w.0
@@ -140,7 +134,7 @@ module _ (catalog : List Table) (fit : Tables → Bool) (events : List Event) (s
       by : (o : Option Finished) → txn_ended_at x.whole k ≡ o → Ran catalog fit g.plan events g.past (number c k) (g.ran c k)
       by (Some f) e = record {
         inside = f.body;
-        body = finished_inside events (id (number c k)) x.whole (statements_in x.rest ++ waiting_of x.waiting) k f (told x.whole (statements_in x.rest ++ waiting_of x.waiting) (story.same ∙ append_assoc (saids_of x.whole) (statements_in x.rest) (waiting_of x.waiting))) ordinal story.ok e;
+        body = finished_inside events (id (number c k)) x.whole (statements_in x.rest ++ waiting_of x.waiting) k f (answered x.whole (statements_in x.rest ++ waiting_of x.waiting) (story.same ∙ append_assoc (saids_of x.whole) (statements_in x.rest) (waiting_of x.waiting))) ordinal story.ok e;
         ok = (g.clients c).ended k f e;
         as_read = subst (λ d. ReadSetInside events d f.body (g.ran c k).seen) (sym client) ((g.as_read c).ended k f e);
       }
@@ -150,14 +144,14 @@ module _ (catalog : List Table) (fit : Tables → Bool) (events : List Event) (s
   abbrev pub ran_of : ℕ → Execution
   ran_of t = g.ran (t / 2 ^ 64) (t % 2 ^ 64 - 1)
 
-  ran_at : (t : ℕ) → (protocol_state g.past).taken t ≡ true → Ran catalog fit g.plan events g.past t (ran_of t)
-  ran_at t taken = subst (λ u. Ran catalog fit g.plan events g.past u (ran_of t)) whole (ran_by (t / 2 ^ 64) (t % 2 ^ 64 - 1) (ap (λ u. u / 2 ^ 64) whole) (ap (λ u. u % 2 ^ 64) whole ∙ ordinal) (subst (λ m. m < 2 ^ 64) ordinal (small t)) (ap (protocol_state g.past).taken whole ∙ taken))
+  ran_at : (t : ℕ) → (protocol_state g.past).accepted t ≡ true → Ran catalog fit g.plan events g.past t (ran_of t)
+  ran_at t accepted = subst (λ u. Ran catalog fit g.plan events g.past u (ran_of t)) whole (ran_by (t / 2 ^ 64) (t % 2 ^ 64 - 1) (ap (λ u. u / 2 ^ 64) whole) (ap (λ u. u % 2 ^ 64) whole ∙ ordinal) (subst (λ m. m < 2 ^ 64) ordinal (small t)) (ap (protocol_state g.past).accepted whole ∙ accepted))
     where
       positive : (m : ℕ) → 0 < m → m ≡ suc (m - 1)
       positive m l = omega (arith, l)
 
       ordinal : t % 2 ^ 64 ≡ suc (t % 2 ^ 64 - 1)
-      ordinal = positive (t % 2 ^ 64) (taken_begun g.plan g.past sys t g.system taken)
+      ordinal = positive (t % 2 ^ 64) (taken_begun g.plan g.past sys t g.system accepted)
 
       small : (m : ℕ) → m % 2 ^ 64 < 2 ^ 64
       small m = omega arith
@@ -165,16 +159,16 @@ module _ (catalog : List Table) (fit : Tables → Bool) (events : List Event) (s
       whole : number (t / 2 ^ 64) (t % 2 ^ 64 - 1) ≡ t
       whole = ap (λ m. t / 2 ^ 64 * 2 ^ 64 + m) (sym ordinal) ∙ div-add-mod' t (2 ^ 64)
 
-  done : (t : ℕ) → (protocol_state g.past).taken t ≡ true → ExecutionOk catalog fit g.plan g.past t (ran_of t) × BodyIsExecuted events t (ran_of t)
-  done t taken =
-      let r = ran_at t taken in
-      (record { seen = r.ok.inside.seen; planned = r.ok.planned taken; body = r.ok.inside.body }, body_is_said events t r.inside (ran_of t) (ap (filter is_effective) r.body) r.ok.inside.executed)
+  done : (t : ℕ) → (protocol_state g.past).accepted t ≡ true → ExecutionOk catalog fit g.plan g.past t (ran_of t) × BodyIsExecuted events t (ran_of t)
+  done t accepted =
+      let r = ran_at t accepted in
+      (record { seen = r.ok.inside.seen; planned = r.ok.planned accepted; body = r.ok.inside.body }, body_is_said events t r.inside (ran_of t) (ap (filter is_effective) r.body) r.ok.inside.executed)
 
   -- the plans' notes are what the statements noted
   pub going_is_noted : AreReadSets g.plan events g.past
-  going_is_noted = are_noted g.plan events g.past (λ t. work_of (id t) (ran_of t).now (ran_of t).seen) (λ t taken.
-      let r = ran_at t taken in
-      noted_whole g.plan events (client_of (id t)) t (ran_of t).now r.inside (ran_of t).seen refl r.body (r.ok.planned taken) r.as_read.as_read)
+  going_is_noted = are_noted g.plan events g.past (λ t. work_of (id t) (ran_of t).now (ran_of t).seen) (λ t accepted.
+      let r = ran_at t accepted in
+      noted_whole g.plan events (client_of (id t)) t (ran_of t).now r.inside (ran_of t).seen refl r.body (r.ok.planned accepted) r.as_read.as_read)
 
 ---- points
 
@@ -209,8 +203,8 @@ going_is_run script fit events sys doing opening end moments order fitting g fol
     run : IsRunOf g.plan script.places opening g.past (newest_first moments)
     run = subst (λ ps. IsRunOf g.plan script.places opening ps (newest_first moments)) (sym g.turned) (record { empty = empty; lawful = subst (Rattle.law_protocol.specs.Lawful.IsLawful g.plan) g.turned g.system.lawful; traced = turned.0 })
 
-    taken : All (λ (p : Point). (protocol_state g.past).taken p.id.0 ≡ true) order
-    taken k d l =
+    accepted : All (λ (p : Point). (protocol_state g.past).accepted p.id.0 ≡ true) order
+    accepted k d l =
         let p : Point = slice_index_or order k d in
         let among : Contains (map (λ (q : Point). q.id) order) p.id = (k, subst (λ m. k < m) (sym (length_ids order)) l, index_map order k d p l) in
         let recorded : Recorded script.places end p.id = (ordered.recorded p.id (small k d l)).0 among in
@@ -220,11 +214,11 @@ going_is_run script fit events sys doing opening end moments order fitting g fol
     linked = record {
       plan = g.plan;
       sys = sys;
-      told = g.told;
+      answered = g.answered;
       ran = ran_of script.catalog fit events sys doing g;
       system = subst (λ ps. Rattle.law_clients.specs.System.SystemOk g.plan ps sys) g.turned g.system;
-      stories = subst (λ ps. Rattle.law_clients.specs.History.AllStories (events_of g.labelled) ps sys g.told) g.turned (subst (λ es. Rattle.law_clients.specs.History.AllStories es g.past sys g.told) g.same g.stories);
+      stories = subst (λ ps. Rattle.law_clients.specs.History.AllStories (events_of g.labelled) ps sys g.answered) g.turned (subst (λ es. Rattle.law_clients.specs.History.AllStories es g.past sys g.answered) g.same g.stories);
       bodies = subst (λ ps. Rattle.law_clients.specs.Left.AllBodiesExecuted script.catalog fit g.plan (events_of g.labelled) ps (ran_of script.catalog fit events sys doing g) (ordinals_of order)) g.turned (subst (λ es. Rattle.law_clients.specs.Left.AllBodiesExecuted script.catalog fit g.plan es g.past (ran_of script.catalog fit events sys doing g) (ordinals_of order)) g.same
           (all_ids (λ t. ExecutionOk script.catalog fit g.plan g.past t (ran_of script.catalog fit events sys doing g t) × BodyIsExecuted events t (ran_of script.catalog fit events sys doing g t)) order
-          (all_by (λ (p : Point). ExecutionOk script.catalog fit g.plan g.past p.id.0 (ran_of script.catalog fit events sys doing g p.id.0) × BodyIsExecuted events p.id.0 (ran_of script.catalog fit events sys doing g p.id.0)) order (λ k d l. done script.catalog fit events sys doing g (slice_index_or order k d).id.0 (taken k d l)))));
+          (all_by (λ (p : Point). ExecutionOk script.catalog fit g.plan g.past p.id.0 (ran_of script.catalog fit events sys doing g p.id.0) × BodyIsExecuted events p.id.0 (ran_of script.catalog fit events sys doing g p.id.0)) order (λ k d l. done script.catalog fit events sys doing g (slice_index_or order k d).id.0 (accepted k d l)))));
     }

@@ -2,14 +2,8 @@
 use Rattle.std.proofs.Common.{◌≡◌, ◌<◌, ◌+◌, ℕ, Bool, true, false, List, [], ◌∷◌, ◌++◌, length, Option, Some, None, refl, sym, ap, ◌∙◌, subst, arith, ◌⊎◌, inl, inr}
 use Rattle.std.specs.Prelude.{◌==◌, if◌then◌else◌}
 use Rattle.std.proofs.lemmas.Bool.Decides.{nat_tests}
-use Rattle.sdb_types.specs.declared.record.Record.{Record}
-use Rattle.sdb_types.specs.declared.txid.TxId.{TxId}
+use Rattle.law_clients.specs.Types.{Meta, Record, RecoverPhase, Reply, Statement, Table, TxId, Write}
 use Rattle.sdb_record.specs.Meta.{id_in}
-use Rattle.sdb_types.specs.declared.record.Reply.{Reply}
-use Rattle.sdb_record.specs.declared.meta.Meta.{Meta}
-use Rattle.sdb_record.specs.declared.write.Write.{Write}
-use Rattle.sdb_schema.specs.declared.table.Table.{Table}
-use Rattle.sdb_model.specs.declared.statement.Statement.{Statement}
 use Rattle.sdb_model.specs.Exec.{Tables}
 use Rattle.sdb_model.specs.Transactions.{Executed, begins, ends}
 use Rattle.law_protocol.specs.History as laws
@@ -17,7 +11,6 @@ use Rattle.law_protocol.specs.History.{Action, Other, at}
 use Rattle.law_protocol.specs.Lawful.{Labelled}
 use Rattle.law_protocol.specs.Plan.{Plan}
 use Rattle.sdb_phases.specs.declared.step.DecidePhase.TheVariants as decide
-use Rattle.sdb_phases.specs.declared.step.RecoverPhase.{RecoverPhase}
 use Rattle.sdb_phases.specs.declared.step.RecoverPhase.TheVariants as phase
 use Rattle.sdb_phases.specs.Work.{Work}
 use Rattle.sdb_phases.specs.Commit.{Stage, Preparing, Checking, Deciding, Forward, Stopping, Back, Over}
@@ -193,19 +186,19 @@ module _ (catalog : List Table) (fit : Tables → Bool) (plan : ℕ → Plan) (p
   -- its open transaction has run this, and one statement more was said inside of it
   pub goes_inside : (s : Executed) (gap : List Executed) (b : Executed) (body : List Executed) (r : Execution) → x.rest ≡ Opened gap b body → ends s ≡ false → EndedOk catalog fit plan past c x.whole ran
       → RanOk catalog fit plan past (number c (length x.whole)) (body ++ s ∷ []) r → IsOpenOf d (telling_of (inside x gap b body s)) r y → ClientInvariant catalog fit plan past c d y (with_answered x s) (at ran (length x.whole) r)
-  goes_inside s gap b body r e n ended ok hand = subst (λ z. ClientInvariant catalog fit plan past c d y z (at ran (length x.whole) r)) (sym (settled_inside x s gap b body e n)) (record {
+  goes_inside s gap b body r e n ended ok next_state = subst (λ z. ClientInvariant catalog fit plan past c d y z (at ran (length x.whole) r)) (sym (settled_inside x s gap b body e n)) (record {
     ended = ended_at catalog fit plan past c x.whole ran r ended;
     opened = subst (RanOk catalog fit plan past (number c (length x.whole)) (body ++ s ∷ [])) (sym (ran_here ran (length x.whole) r)) ok;
-    hand = subst (λ z. IsOpenOf d (telling_of (inside x gap b body s)) z y) (sym (ran_here ran (length x.whole) r)) hand;
+    next_state = subst (λ z. IsOpenOf d (telling_of (inside x gap b body s)) z y) (sym (ran_here ran (length x.whole) r)) next_state;
   })
 
   -- its open transaction has ended
   pub goes_over : (s : Executed) (gap : List Executed) (b : Executed) (body : List Executed) → x.rest ≡ Opened gap b body → ends s ≡ true → EndedOk catalog fit plan past c x.whole ran
       → RanOk catalog fit plan past (number c (length x.whole)) body (ran (length x.whole)) → ((r : Execution) → IsOpenOf d (telling_of (over x gap b body s)) r y) → ClientInvariant catalog fit plan past c d y (with_answered x s) ran
-  goes_over s gap b body e n ended ok hand = subst (λ z. ClientInvariant catalog fit plan past c d y z ran) (sym (settled_over x s gap b body e n)) (record {
+  goes_over s gap b body e n ended ok next_state = subst (λ z. ClientInvariant catalog fit plan past c d y z ran) (sym (settled_over x s gap b body e n)) (record {
     ended = λ k f h. by k f (one_more x.whole (finished gap b body s) k f h);
     opened = tt;
-    hand = hand (ran (length (x.whole ++ finished gap b body s ∷ [])));
+    next_state = next_state (ran (length (x.whole ++ finished gap b body s ∷ [])));
   })
     where
       by : (k : ℕ) (f : Finished) → (txn_ended_at x.whole k ≡ Some f) ⊎ ((k ≡ length x.whole) × (f ≡ finished gap b body s)) → RanOk catalog fit plan past (number c k) f.body (ran k)
@@ -214,12 +207,12 @@ module _ (catalog : List Table) (fit : Tables → Bool) (plan : ℕ → Plan) (p
 
   -- one statement more was said outside
   pub goes_gap : (s : Executed) (gap : List Executed) → x.rest ≡ Closed gap → begins s ≡ false → EndedOk catalog fit plan past c x.whole ran → IsOpenOf d (telling_of (gone x gap s)) (ran (length x.whole)) y → ClientInvariant catalog fit plan past c d y (with_answered x s) ran
-  goes_gap s gap e n ended hand = subst (λ z. ClientInvariant catalog fit plan past c d y z ran) (sym (settled_gap x s gap e n)) (record { ended = ended; opened = tt; hand = hand })
+  goes_gap s gap e n ended next_state = subst (λ z. ClientInvariant catalog fit plan past c d y z ran) (sym (settled_gap x s gap e n)) (record { ended = ended; opened = tt; next_state = next_state })
 
   -- a transaction has begun
   pub goes_begun : (s : Executed) (gap : List Executed) (r : Execution) → x.rest ≡ Closed gap → begins s ≡ true → EndedOk catalog fit plan past c x.whole ran → RanOk catalog fit plan past (number c (length x.whole)) [] r → IsOpenOf d (telling_of (begun x gap s)) r y → ClientInvariant catalog fit plan past c d y (with_answered x s) (at ran (length x.whole) r)
-  goes_begun s gap r e n ended ok hand = subst (λ z. ClientInvariant catalog fit plan past c d y z (at ran (length x.whole) r)) (sym (settled_begin x s gap e n)) (record {
+  goes_begun s gap r e n ended ok next_state = subst (λ z. ClientInvariant catalog fit plan past c d y z (at ran (length x.whole) r)) (sym (settled_begin x s gap e n)) (record {
     ended = ended_at catalog fit plan past c x.whole ran r ended;
     opened = subst (RanOk catalog fit plan past (number c (length x.whole)) []) (sym (ran_here ran (length x.whole) r)) ok;
-    hand = subst (λ z. IsOpenOf d (telling_of (begun x gap s)) z y) (sym (ran_here ran (length x.whole) r)) hand;
+    next_state = subst (λ z. IsOpenOf d (telling_of (begun x gap s)) z y) (sym (ran_here ran (length x.whole) r)) next_state;
   })

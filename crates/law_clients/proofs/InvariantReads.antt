@@ -8,23 +8,13 @@ use Rattle.std.specs.Option.{option_map_or}
 use Rattle.std.specs.Ordering.{is_eq}
 use Rattle.std.proofs.lemmas.Bool.Decides.{nat_tests}
 use Rattle.std.proofs.lemmas.List.{append-nil, length-append}
-use Rattle.sdb_types.specs.declared.key.Key.{Key}
-use Rattle.sdb_types.specs.declared.record.Record.{Record}
-use Rattle.sdb_types.specs.declared.record.Reply.{Reply}
-use Rattle.sdb_types.specs.declared.record.Request.{Request}
-use Rattle.sdb_types.specs.declared.txid.TxId.{TxId}
-use Rattle.sdb_types.specs.declared.value.Value.{Value}
+use Rattle.law_clients.specs.Types.{Access, Answer, Event, How, Key, Keyed, Record, Reply, Request, TxId, Value}
 use Rattle.sdb_types.specs.Contents.{CanAnswer, in_span, is_partition}
 use Rattle.sdb_types.specs.ValueLaws.{value_total}
 use Rattle.sdb_types.proofs.KeyOrder.{key_total, table_total}
-use Rattle.sdb_record.specs.declared.access.Access.{Access}
 use Rattle.sdb_record.specs.declared.access.Access.TheVariants as access
 use Rattle.sdb_record.specs.Coordinator.{is_coordinator_table}
-use Rattle.sdb_record.specs.declared.write.Keyed.{Keyed}
-use Rattle.sdb_model.specs.declared.answer.Answer.{Answer}
-use Rattle.sdb_model.specs.declared.event.Event.{Event}
 use Rattle.sdb_model.specs.declared.event.Event.TheVariants as event
-use Rattle.sdb_model.specs.declared.event.How.{How}
 use Rattle.sdb_model.specs.Calls.{StoreCall, calls_of, end_of}
 use Rattle.sdb_model.specs.Events.{table_asked}
 use Rattle.sdb_model.specs.ReadSet.{has_finished, has_read, read_finished, read_items}
@@ -51,7 +41,7 @@ use Rattle.law_clients.specs.Progress.{FinishesOn}
 use Rattle.law_clients.specs.ReadSets.{ReadSetsOfClient, ReadSetsEnded, ReadSetInside, IsMadeSince, ReadSetOpened}
 use Rattle.law_clients.proofs.InvariantOwn.{below, finished, ran_before, ran_here, settled_begin, settled_gap, settled_inside, settled_over}
 use Rattle.sdb_types.proofs.Basics.{all_each as each_any}
-use Rattle.sdb_read.specs.Read.{request_of, Kind}
+use Rattle.sdb_txn.specs.Read.{request_of, Kind}
 
 ---- numbers of events
 
@@ -145,15 +135,15 @@ own_call c n store q how r a = ap (λ b. cons_option (if b then Some (record { a
     by c = grind (arith, nat_tests)
 
 -- an event that is no call of the client leaves what its read has made
-made_stays : (events : List Event) (c : ℕ) (e : Event) (o : Option Executed) (y : ClientAt) → call_made c (1 + length events) e ≡ [] → IfSome o (λ w. w.taken ≤ length events) → IsMadeSince events c o y → IsMadeSince (events ++ e ∷ []) c o y
-made_stays events c e None (Reading i seen a s) none taken made = tt
-made_stays events c e (Some w) (Reading i seen a s) none taken made =
-    subst (λ ms. ReadMade ms a s) (sym (since_more events c w.taken e taken ∙ ap (λ ms. calls_since events c w.taken ++ ms) none ∙ append-nil (calls_since events c w.taken))) made
-made_stays events c e o Resting none taken made = tt
-made_stays events c e o (Open i seen) none taken made = tt
-made_stays events c e o (Committing p s) none taken made = tt
-made_stays events c e o (RunsVacuum v) none taken made = tt
-made_stays events c e o Stopped none taken made = tt
+made_stays : (events : List Event) (c : ℕ) (e : Event) (o : Option Executed) (y : ClientAt) → call_made c (1 + length events) e ≡ [] → IfSome o (λ w. w.accepted ≤ length events) → IsMadeSince events c o y → IsMadeSince (events ++ e ∷ []) c o y
+made_stays events c e None (Reading i seen a s) none accepted made = tt
+made_stays events c e (Some w) (Reading i seen a s) none accepted made =
+    subst (λ ms. ReadMade ms a s) (sym (since_more events c w.accepted e accepted ∙ ap (λ ms. calls_since events c w.accepted ++ ms) none ∙ append-nil (calls_since events c w.accepted))) made
+made_stays events c e o Resting none accepted made = tt
+made_stays events c e o (Open i seen) none accepted made = tt
+made_stays events c e o (Committing p s) none accepted made = tt
+made_stays events c e o (RunsVacuum v) none accepted made = tt
+made_stays events c e o Stopped none accepted made = tt
 
 none_made : (events : List Event) (c : ℕ) (y : ClientAt) → IsMadeSince events c None y
 none_made events c Resting = tt
@@ -172,9 +162,9 @@ commit_made events c o p (Stopping a n) = tt
 commit_made events c o p (Back a n i) = tt
 commit_made events c o p (Over a) = tt
 
-taken_later : (events : List Event) (e : Event) (o : Option Executed) → IfSome o (λ w. w.taken ≤ length events) → IfSome o (λ w. w.taken ≤ length (events ++ e ∷ []))
+taken_later : (events : List Event) (e : Event) (o : Option Executed) → IfSome o (λ w. w.accepted ≤ length events) → IfSome o (λ w. w.accepted ≤ length (events ++ e ∷ []))
 taken_later events e None h = tt
-taken_later events e (Some w) h = later_at events e w.taken h
+taken_later events e (Some w) h = later_at events e w.accepted h
 
 ---- a client
 
@@ -193,8 +183,8 @@ pub noted_stays : (events : List Event) (c : ℕ) (e : Event) (y : ClientAt) (x 
 noted_stays events c e y x ran none ok = record {
   ended = ended_noted_later events c e x.whole ran ok.ended;
   opened = opened_noted_later events c e x.rest (ran (length x.whole)) ok.opened;
-  taken = taken_later events e x.waiting ok.taken;
-  made = made_stays events c e x.waiting y none ok.taken ok.made;
+  accepted = taken_later events e x.waiting ok.accepted;
+  made = made_stays events c e x.waiting y none ok.accepted ok.made;
 }
 
 module _ (events : List Event) (c : ℕ) (e : Event) (y : ClientAt) (x : ClientHistory) (ran : ℕ → Execution) (was : ReadSetsOfClient events c y x ran) where
@@ -203,25 +193,25 @@ module _ (events : List Event) (c : ℕ) (e : Event) (y : ClientAt) (x : ClientH
   noted_elsewhere z made = record {
     ended = ended_noted_later events c e x.whole ran was.ended;
     opened = opened_noted_later events c e x.rest (ran (length x.whole)) was.opened;
-    taken = taken_later events e x.waiting was.taken;
+    accepted = taken_later events e x.waiting was.accepted;
     made = made;
   }
 
-  -- a statement was taken
-  pub noted_asks : (z : ClientAt) (s : Executed) → s.taken ≡ 1 + length events → IsMadeSince (events ++ e ∷ []) c (Some s) z → ReadSetsOfClient (events ++ e ∷ []) c z (record { whole = x.whole; rest = x.rest; waiting = Some s }) ran
+  -- a statement was accepted
+  pub noted_asks : (z : ClientAt) (s : Executed) → s.accepted ≡ 1 + length events → IsMadeSince (events ++ e ∷ []) c (Some s) z → ReadSetsOfClient (events ++ e ∷ []) c z (record { whole = x.whole; rest = x.rest; waiting = Some s }) ran
   noted_asks z s now made = record {
     ended = ended_noted_later events c e x.whole ran was.ended;
     opened = opened_noted_later events c e x.rest (ran (length x.whole)) was.opened;
-    taken = subst (λ n. n ≤ length (events ++ e ∷ [])) (sym now) (just_now events e);
+    accepted = subst (λ n. n ≤ length (events ++ e ∷ [])) (sym now) (just_now events e);
     made = made;
   }
 
-  -- the open transaction's COMMIT was taken, with what it has read
-  pub noted_commits : (z : ClientAt) (s : Executed) (r : Execution) → s.taken ≡ 1 + length events → r.seen ≡ (ran (length x.whole)).seen → IsMadeSince (events ++ e ∷ []) c (Some s) z → ReadSetsOfClient (events ++ e ∷ []) c z (record { whole = x.whole; rest = x.rest; waiting = Some s }) (at ran (length x.whole) r)
+  -- the open transaction's COMMIT was accepted, with what it has read
+  pub noted_commits : (z : ClientAt) (s : Executed) (r : Execution) → s.accepted ≡ 1 + length events → r.seen ≡ (ran (length x.whole)).seen → IsMadeSince (events ++ e ∷ []) c (Some s) z → ReadSetsOfClient (events ++ e ∷ []) c z (record { whole = x.whole; rest = x.rest; waiting = Some s }) (at ran (length x.whole) r)
   noted_commits z s r now same made = record {
     ended = ended_noted_at (events ++ e ∷ []) c x.whole ran r (ended_noted_later events c e x.whole ran was.ended);
     opened = subst (ReadSetOpened (events ++ e ∷ []) c x.rest) (sym (ran_here ran (length x.whole) r)) (by x.rest (opened_noted_later events c e x.rest (ran (length x.whole)) was.opened));
-    taken = subst (λ n. n ≤ length (events ++ e ∷ [])) (sym now) (just_now events e);
+    accepted = subst (λ n. n ≤ length (events ++ e ∷ [])) (sym now) (just_now events e);
     made = made;
   }
     where
@@ -238,7 +228,7 @@ module _ (events : List Event) (c : ℕ) (e : Event) (y : ClientAt) (x : ClientH
   noted_inside z s gap b body r h goes_on ok = subst (λ t. ReadSetsOfClient (events ++ e ∷ []) c z t (at ran (length x.whole) r)) (sym (settled_inside x s gap b body h goes_on)) (record {
     ended = ended_noted_at (events ++ e ∷ []) c x.whole ran r (ended_noted_later events c e x.whole ran was.ended);
     opened = subst (λ (q : Execution). ReadSetInside (events ++ e ∷ []) c (body ++ s ∷ []) q.seen) (sym (ran_here ran (length x.whole) r)) ok;
-    taken = tt;
+    accepted = tt;
     made = none_made (events ++ e ∷ []) c z;
   })
 
@@ -247,7 +237,7 @@ module _ (events : List Event) (c : ℕ) (e : Event) (y : ClientAt) (x : ClientH
   noted_over z s gap b body h last = subst (λ t. ReadSetsOfClient (events ++ e ∷ []) c z t ran) (sym (settled_over x s gap b body h last)) (record {
     ended = λ k f m. by k f (one_more x.whole (finished gap b body s) k f m);
     opened = tt;
-    taken = tt;
+    accepted = tt;
     made = none_made (events ++ e ∷ []) c z;
   })
     where
@@ -260,7 +250,7 @@ module _ (events : List Event) (c : ℕ) (e : Event) (y : ClientAt) (x : ClientH
   noted_gap z s gap h plain = subst (λ t. ReadSetsOfClient (events ++ e ∷ []) c z t ran) (sym (settled_gap x s gap h plain)) (record {
     ended = ended_noted_later events c e x.whole ran was.ended;
     opened = tt;
-    taken = tt;
+    accepted = tt;
     made = none_made (events ++ e ∷ []) c z;
   })
 
@@ -269,7 +259,7 @@ module _ (events : List Event) (c : ℕ) (e : Event) (y : ClientAt) (x : ClientH
   noted_begun z s gap r h starts none = subst (λ t. ReadSetsOfClient (events ++ e ∷ []) c z t (at ran (length x.whole) r)) (sym (settled_begin x s gap h starts)) (record {
     ended = ended_noted_at (events ++ e ∷ []) c x.whole ran r (ended_noted_later events c e x.whole ran was.ended);
     opened = subst (λ (q : Execution). ReadSetInside (events ++ e ∷ []) c [] q.seen) (sym (ran_here ran (length x.whole) r)) (subst (ReadSetInside (events ++ e ∷ []) c []) (sym none) (starts_noted (events ++ e ∷ []) c));
-    taken = tt;
+    accepted = tt;
     made = none_made (events ++ e ∷ []) c z;
   })
 
@@ -302,34 +292,34 @@ not_rows (access.Scan span) tables = untrue (is_coordinator_table span.table) (t
     there : in_span span inside ≡ true
     there = ap (λ b. b && is_partition span.partition inside) (ap is_eq (tied_itself table_total span.table)) ∙ of_part span.partition
 
--- A read whose call was made and answered has made one call more since its statement was taken.
-pub since_read : (kind : Record → Kind) (events : List Event) (c taken : ℕ) (a : Access) (s : ReadAt) (store : Name) (q : Request) (how : How) (r : Reply) (now : ℤ) (o : Option Answer) → AreKinds kind → taken ≤ length events → ReadMade (calls_since events c taken) a s
-    → read_pending a s ≡ Some q → CanAnswer q r → ReadMade (calls_since (events ++ event.Call c store q how r o ∷ []) c taken) a (read_step kind s now r)
-since_read kind events c taken a s store q how r now o kinds low made pending can =
+-- A read whose call was made and answered has made one call more since its statement was accepted.
+pub since_read : (kind : Record → Kind) (events : List Event) (c accepted : ℕ) (a : Access) (s : ReadAt) (store : Name) (q : Request) (how : How) (r : Reply) (now : ℤ) (o : Option Answer) → AreKinds kind → accepted ≤ length events → ReadMade (calls_since events c accepted) a s
+    → read_pending a s ≡ Some q → CanAnswer q r → ReadMade (calls_since (events ++ event.Call c store q how r o ∷ []) c accepted) a (read_step kind s now r)
+since_read kind events c accepted a s store q how r now o kinds low made pending can =
     let m : StoreCall = record { at = 1 + length events; store = store; request = q; how = how; reply = r } in
-    subst (λ ms. ReadMade ms a (read_step kind s now r)) (sym (since_more events c taken (event.Call c store q how r o) low ∙ ap (λ ms. calls_since events c taken ++ ms) (own_call c (1 + length events) store q how r o)))
-    (read_made kind (calls_since events c taken) m a s now q r kinds made pending can (record { request = refl; reply = refl }))
+    subst (λ ms. ReadMade ms a (read_step kind s now r)) (sym (since_more events c accepted (event.Call c store q how r o) low ∙ ap (λ ms. calls_since events c accepted ++ ms) (own_call c (1 + length events) store q how r o)))
+    (read_made kind (calls_since events c accepted) m a s now q r kinds made pending can (record { request = refl; reply = refl }))
 
-pub made_reads : (kind : Record → Kind) (events : List Event) (c : ℕ) (w : Option Executed) (i : TxId) (seen : Seen) (a : Access) (s : ReadAt) (store : Name) (q : Request) (how : How) (r : Reply) (now : ℤ) (o : Option Answer) → AreKinds kind → IfSome w (λ w. w.taken ≤ length events)
+pub made_reads : (kind : Record → Kind) (events : List Event) (c : ℕ) (w : Option Executed) (i : TxId) (seen : Seen) (a : Access) (s : ReadAt) (store : Name) (q : Request) (how : How) (r : Reply) (now : ℤ) (o : Option Answer) → AreKinds kind → IfSome w (λ w. w.accepted ≤ length events)
     → IsMadeSince events c w (Reading i seen a s) → read_pending a s ≡ Some q → CanAnswer q r → IsMadeSince (events ++ event.Call c store q how r o ∷ []) c w (Reading i seen a (read_step kind s now r))
 made_reads kind events c None i seen a s store q how r now o kinds low made pending can = tt
-made_reads kind events c (Some w) i seen a s store q how r now o kinds low made pending can = since_read kind events c w.taken a s store q how r now o kinds low made pending can
+made_reads kind events c (Some w) i seen a s store q how r now o kinds low made pending can = since_read kind events c w.accepted a s store q how r now o kinds low made pending can
 
 -- Where by all calls up to a reply the read of a statement has not finished, which the reply answers, it has not.
-pub notes_unfinished : (events : List Event) (c : ℕ) (store : Name) (q : Request) (how : How) (r : Reply) (s : Executed) (b : Answer) → IsJustAnswered events s → s.answer ≡ Some b → s.taken ≤ length events → ((m : StoreCall) → IsMade m q r → read_finished (calls_since events c s.taken ++ m ∷ []) b ≡ false)
+pub notes_unfinished : (events : List Event) (c : ℕ) (store : Name) (q : Request) (how : How) (r : Reply) (s : Executed) (b : Answer) → IsJustAnswered events s → s.answer ≡ Some b → s.accepted ≤ length events → ((m : StoreCall) → IsMade m q r → read_finished (calls_since events c s.accepted ++ m ∷ []) b ≡ false)
     → has_read (events ++ event.Call c store q how r (Some b) ∷ []) c s ≡ false
 notes_unfinished events c store q how r s b is answers low unfinished =
     let e : Event = event.Call c store q how r (Some b) in
     let m : StoreCall = record { at = 1 + length events; store = store; request = q; how = how; reply = r } in
     let ended : end_of (events ++ e ∷ []) s ≡ length (events ++ e ∷ []) = ap (λ x. if x then s.reached else length (events ++ e ∷ [])) is.0 ∙ is.1 ∙ sym (long events e) in
-    let calls : calls_of (events ++ e ∷ []) c s ≡ calls_since events c s.taken ++ m ∷ [] = calls_just (events ++ e ∷ []) c s ended ∙ since_more events c s.taken e low ∙ ap (λ ms. calls_since events c s.taken ++ ms) (own_call c (1 + length events) store q how r (Some b)) in
-    ap (λ ms. has_finished ms s) calls ∙ ap (λ (o : Option Answer). option_map_or (read_finished (calls_since events c s.taken ++ m ∷ [])) o false) answers ∙ unfinished m (record { request = refl; reply = refl })
+    let calls : calls_of (events ++ e ∷ []) c s ≡ calls_since events c s.accepted ++ m ∷ [] = calls_just (events ++ e ∷ []) c s ended ∙ since_more events c s.accepted e low ∙ ap (λ ms. calls_since events c s.accepted ++ ms) (own_call c (1 + length events) store q how r (Some b)) in
+    ap (λ ms. has_finished ms s) calls ∙ ap (λ (o : Option Answer). option_map_or (read_finished (calls_since events c s.accepted ++ m ∷ [])) o false) answers ∙ unfinished m (record { request = refl; reply = refl })
 
 -- A statement whose read was done, and has finished by its answer, notes what the read was done with.
-pub notes_read : (events : List Event) (c : ℕ) (e : Event) (s : Executed) (b : Answer) (a : Access) (images : List Record) → IsJustAnswered events s → s.answer ≡ Some b → FinishesOn a images b → IsOfData a → ReadMade (calls_since (events ++ e ∷ []) c s.taken) a (Done images) → RecordsRead (events ++ e ∷ []) c s a images
+pub notes_read : (events : List Event) (c : ℕ) (e : Event) (s : Executed) (b : Answer) (a : Access) (images : List Record) → IsJustAnswered events s → s.answer ≡ Some b → FinishesOn a images b → IsOfData a → ReadMade (calls_since (events ++ e ∷ []) c s.accepted) a (Done images) → RecordsRead (events ++ e ∷ []) c s a images
 notes_read events c e s b a images is answers finishes tables made = record {
-  finished = ap (λ ms. has_finished ms s) (calls_just (events ++ e ∷ []) c s ended) ∙ ap (λ (o : Option Answer). option_map_or (read_finished (calls_since (events ++ e ∷ []) c s.taken)) o false) answers ∙ finishes (calls_since (events ++ e ∷ []) c s.taken) made;
-  read_set = ap read_items (calls_just (events ++ e ∷ []) c s ended) ∙ read_notes (calls_since (events ++ e ∷ []) c s.taken) a images made (not_rows a tables);
+  finished = ap (λ ms. has_finished ms s) (calls_just (events ++ e ∷ []) c s ended) ∙ ap (λ (o : Option Answer). option_map_or (read_finished (calls_since (events ++ e ∷ []) c s.accepted)) o false) answers ∙ finishes (calls_since (events ++ e ∷ []) c s.accepted) made;
+  read_set = ap read_items (calls_just (events ++ e ∷ []) c s ended) ∙ read_notes (calls_since (events ++ e ∷ []) c s.accepted) a images made (not_rows a tables);
 }
   where
     ended : end_of (events ++ e ∷ []) s ≡ length (events ++ e ∷ [])
@@ -342,8 +332,8 @@ none_since events c e = since_now (events ++ e ∷ []) c (1 + length events) (su
     same : (n : ℕ) → n ≤ n
     same n = omega arith
 
--- A statement that is answered as it is taken notes nothing.
-pub at_once : (events : List Event) (c : ℕ) (e : Event) (s : Executed) → IsJustAnswered events s → s.taken ≡ 1 + length events → ReadsNothing (events ++ e ∷ []) c s
+-- A statement that is answered as it is accepted notes nothing.
+pub at_once : (events : List Event) (c : ℕ) (e : Event) (s : Executed) → IsJustAnswered events s → s.accepted ≡ 1 + length events → ReadsNothing (events ++ e ∷ []) c s
 at_once events c e s is now = inr (ap read_items (calls_just (events ++ e ∷ []) c s ended ∙ ap (calls_since (events ++ e ∷ []) c) now ∙ none_since events c e))
   where
     ended : end_of (events ++ e ∷ []) s ≡ length (events ++ e ∷ [])

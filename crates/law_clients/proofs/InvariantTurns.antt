@@ -2,18 +2,10 @@
 use Rattle.std.proofs.Common.{◌≡◌, ◌≢◌, ◌<◌, ◌+◌, ◌^◌, ℕ, ℤ, suc, Bool, true, false, List, [], ◌∷◌, ◌++◌, length, Option, Some, None, refl, sym, ap, ◌∙◌, subst, arith, inl, inr}
 use Rattle.std.specs.Prelude.{◌==◌, ◌&&◌, ◌||◌, is_some, nat_lt, if◌then◌else◌}
 use Rattle.std.proofs.lemmas.Bool.Decides.{nat_tests}
-use Rattle.sdb_types.specs.declared.record.Record.{Record}
-use Rattle.sdb_types.specs.declared.record.Span.{Span}
-use Rattle.sdb_types.specs.declared.txid.TxId.{TxId}
-use Rattle.sdb_record.specs.declared.access.Access.{Access}
+use Rattle.law_clients.specs.Types.{Access, Answer, Event, Keyed, Record, Span, Statement, Table, TxId}
 use Rattle.sdb_record.specs.declared.access.Access.TheVariants as access
-use Rattle.sdb_record.specs.declared.write.Keyed.{Keyed}
-use Rattle.sdb_schema.specs.declared.table.Table.{Table}
-use Rattle.sdb_model.specs.declared.answer.Answer.{Answer}
 use Rattle.sdb_model.specs.declared.answer.Answer.TheVariants as answer
-use Rattle.sdb_model.specs.declared.event.Event.{Event}
 use Rattle.sdb_model.specs.declared.event.Event.TheVariants as event
-use Rattle.sdb_model.specs.declared.statement.Statement.{Statement}
 use Rattle.sdb_model.specs.Exec.{Tables}
 use Rattle.sdb_model.specs.Sql.{Reads, reads_begin, reads_commit, reads_rollback}
 use Rattle.sdb_model.specs.Transactions.{Executed, begins, changes_nothing, ends, id_of, is_answered_from_rows, is_conflict, is_done, statements_by}
@@ -57,7 +49,7 @@ use Rattle.sdb_types.proofs.Basics.{clash, some_is, and_false as no_second, itse
 
 module _ (catalog : List Table) (fit : Tables → Bool) (events : List Event) (sys : SystemAt) (doing : ℕ → Option Statement) (g : RunInvariant catalog fit events sys doing) (c : ℕ) where
   abbrev pub x : ClientHistory
-  x = g.told c
+  x = g.answered c
 
   abbrev pub ran : ℕ → Execution
   ran = g.ran c
@@ -71,11 +63,11 @@ module _ (catalog : List Table) (fit : Tables → Bool) (events : List Event) (s
   pub story : HistoryInvariant events g.past sys c x
   story = g.stories c
 
-  pub stands : (y : ClientAt) → sys.clients c ≡ y → IsInState g.plan g.past sys c y
-  stands y e = record { ok = g.system; at = e }
+  pub agrees : (y : ClientAt) → sys.clients c ≡ y → IsInState g.plan g.past sys c y
+  agrees y e = record { ok = g.system; at = e }
 
   pub hand_at : (y : ClientAt) → sys.clients c ≡ y → IsOpenOf (doing c) x (ran n) y
-  hand_at y e = subst (IsOpenOf (doing c) x (ran n)) e was.hand
+  hand_at y e = subst (IsOpenOf (doing c) x (ran n)) e was.next_state
 
   pub client_at : (y : ClientAt) → sys.clients c ≡ y → ClientOk g.plan g.past c y
   client_at y e = subst (ClientOk g.plan g.past c) e (g.system.each c)
@@ -130,8 +122,8 @@ module _ (catalog : List Table) (fit : Tables → Bool) (events : List Event) (s
     next_here : next.clients c ≡ Open (next_id sys c) nothing
     next_here = ap (λ z. if z then Open (next_id sys c) nothing else sys.clients c) (same_number c)
 
-    fresh : (protocol_state g.past).taken (number c n) ≡ false
-    fresh = ap (protocol_state g.past).taken (sym next_number) ∙ untaken g.plan g.past sys c g.system b.ordinal
+    fresh : (protocol_state g.past).accepted (number c n) ≡ false
+    fresh = ap (protocol_state g.past).accepted (sym next_number) ∙ untaken g.plan g.past sys c g.system b.ordinal
 
     hold : BeginsHold c sys next (number c n)
     hold = record {
@@ -146,10 +138,10 @@ module _ (catalog : List Table) (fit : Tables → Bool) (events : List Event) (s
     before : (k : ℕ) (f : Finished) → txn_ended_at x.whole k ≡ Some f → SameOf (number c k) (protocol_state g.past) (protocol_state (q ∷ g.past))
     before k f e = same_of g.past q (number c k) (λ h. less_apart k n (below x.whole k f e) (numbers_same c k n (sym h ∙ next_number)))
 
-    still_untaken : (protocol_state (q ∷ g.past)).taken (number c n) ≡ true → true ≡ false
-    still_untaken h = sym h ∙ ap (protocol_state (q ∷ g.past)).taken (sym next_number) ∙ begins_untaken (protocol_state g.past) (next_id sys c).0 c ∙ ap (protocol_state g.past).taken next_number ∙ by
+    still_untaken : (protocol_state (q ∷ g.past)).accepted (number c n) ≡ true → true ≡ false
+    still_untaken h = sym h ∙ ap (protocol_state (q ∷ g.past)).accepted (sym next_number) ∙ begins_untaken (protocol_state g.past) (next_id sys c).0 c ∙ ap (protocol_state g.past).accepted next_number ∙ by
       where
-        by : (protocol_state g.past).taken (number c n) ≡ false
+        by : (protocol_state g.past).accepted (number c n) ≡ false
         by = fresh
 
     pub going_begins : RunInvariant catalog fit (events ++ event.Take c text (Some answer.Done) ∷ []) next (at doing c None)
@@ -158,13 +150,13 @@ module _ (catalog : List Table) (fit : Tables → Bool) (events : List Event) (s
       x = with_answered x s;
       ran = at ran n nothing_ran;
       same = same;
-      system = begin_turn g.plan g.past sys c text (stands Resting at_rest) b none;
+      system = begin_turn g.plan g.past sys c text (agrees Resting at_rest) b none;
       by = refl;
       others = begun_stands sys c (Open (next_id sys c) nothing);
       story = told_on;
       own = goes_begun catalog fit g.plan (q ∷ g.past) c None (next.clients c) x ran s gap nothing_ran closed starts
           (ended_later catalog fit g.plan g.plan g.past q c x.whole ran same before was.ended)
-          (record { inside = record { seen = seen_nothing (q ∷ g.past); body = body_begins catalog fit; executed = record { read = tt; told = refl } }; planned = λ h. clash (still_untaken h) })
+          (record { inside = record { seen = seen_nothing (q ∷ g.past); body = body_begins catalog fit; executed = record { read = tt; answered = refl } }; planned = λ h. clash (still_untaken h) })
           (subst (IsOpenOf None (telling_of (begun x gap s)) nothing_ran) (sym next_here) (tt, refl, refl));
       as_read = noted_begun events c q.event (sys.clients c) x ran (g.as_read c) (next.clients c) s gap nothing_ran closed starts refl;
     })
@@ -174,7 +166,7 @@ module _ (catalog : List Table) (fit : Tables → Bool) (events : List Event) (s
   pub silent : (e : Event) → ((ss : List Executed) (k : ℕ) → Rattle.sdb_model.specs.Transactions.statements_after c ss (k, e) ≡ ss) → statements_by c (events ++ e ∷ []) ≡ statements_by c events
   silent e f = said_more c events e ∙ f (statements_by c events) (1 + length events)
 
-  ---- COMMIT is taken
+  ---- COMMIT is accepted
 
   module _ (text : List ℕ) (i : TxId) (seen : Seen) (now : ℤ) (at_open : sys.clients c ≡ Open i seen) (k : IsCommit text now) where
     abbrev p : Work
@@ -192,7 +184,7 @@ module _ (catalog : List Table) (fit : Tables → Bool) (events : List Event) (s
     its_number : i.0 ≡ number c n
     its_number = (story.hold i.0 (subst (λ w. Has w i.0) (sym at_open) refl)).1
 
-    fresh_taken : (protocol_state g.past).taken i.0 ≡ false
+    fresh_taken : (protocol_state g.past).accepted i.0 ≡ false
     fresh_taken = (client_at (Open i seen) at_open).0.fresh
 
     abbrev plan : ℕ → Plan
@@ -201,14 +193,14 @@ module _ (catalog : List Table) (fit : Tables → Bool) (events : List Event) (s
     planned_here : plan i.0 ≡ plan_of p
     planned_here = ap (λ b. if b then plan_of p else g.plan i.0) (same_number i.0)
 
-    differs : (u : ℕ) → (protocol_state g.past).taken u ≡ true → (u == i.0) ≡ false
+    differs : (u : ℕ) → (protocol_state g.past).accepted u ≡ true → (u == i.0) ≡ false
     differs u h = by (u == i.0) refl
       where
         is : (m k : ℕ) → (m == k) ≡ true → m ≡ k
         is m k e = grind (arith, nat_tests)
 
         by : (b : Bool) → (u == i.0) ≡ b → b ≡ false
-        by true e = clash (sym h ∙ ap (protocol_state g.past).taken (is u i.0 e) ∙ fresh_taken)
+        by true e = clash (sym h ∙ ap (protocol_state g.past).accepted (is u i.0 e) ∙ fresh_taken)
         by false e = refl
 
     replanned : SamePlans g.plan plan g.past
@@ -239,7 +231,7 @@ module _ (catalog : List Table) (fit : Tables → Bool) (events : List Event) (s
     opened : (r : Rest) → x.rest ≡ r → OpenedOk catalog fit g.plan g.past (number c n) r (ran n) → OpenedOk catalog fit plan (q_taken ∷ g.past) (number c n) r run
     opened (Closed statements_by) e ok = tt
     opened (Opened statements_by b body) e ok = record {
-      inside = record { seen = (inside_later catalog fit g.past q_taken body (ran n) ok.inside).seen; body = ok.inside.body; executed = record { read = ok.inside.executed.read; told = ok.inside.executed.told } };
+      inside = record { seen = (inside_later catalog fit g.past q_taken body (ran n) ok.inside).seen; body = ok.inside.body; executed = record { read = ok.inside.executed.read; answered = ok.inside.executed.answered } };
       planned = λ h. ap plan (sym its_number) ∙ planned_here ∙ ap (λ t. plan_of (work_of (id t) now seen)) its_number ∙ ap (λ z. plan_of (work_of (id (number c n)) now z)) (sym here_now.2);
     }
 
@@ -254,14 +246,14 @@ module _ (catalog : List Table) (fit : Tables → Bool) (events : List Event) (s
       x = with_waiting x s_taken;
       ran = at ran n run;
       same = replanned;
-      system = take_turn g.plan g.past sys c i seen now text (stands (Open i seen) at_open) k;
+      system = take_turn g.plan g.past sys c i seen now text (agrees (Open i seen) at_open) k;
       by = refl;
       others = client_stands sys c (commit_left p (preparing p 0));
       story = told_on_taken;
       own = record {
         ended = ended_at catalog fit plan (q_taken ∷ g.past) c x.whole ran run (ended_later catalog fit g.plan plan g.past q_taken c x.whole ran replanned before_taken was.ended);
         opened = subst (OpenedOk catalog fit plan (q_taken ∷ g.past) (number c n) x.rest) (sym (ran_here ran n run)) (opened x.rest refl was.opened);
-        hand = subst (λ z. IsOpenOf None (with_waiting x s_taken) z (next_taken.clients c)) (sym (ran_here ran n run)) (subst (IsOpenOf None (with_waiting x s_taken) run) (sym (here (commit_left p (preparing p 0)))) (begins_at (nat_lt 0 (length p.writes)) (nat_lt 0 (length (checks p)))));
+        next_state = subst (λ z. IsOpenOf None (with_waiting x s_taken) z (next_taken.clients c)) (sym (ran_here ran n run)) (subst (IsOpenOf None (with_waiting x s_taken) run) (sym (here (commit_left p (preparing p 0)))) (begins_at (nat_lt 0 (length p.writes)) (nat_lt 0 (length (checks p)))));
       };
       as_read = noted_commits events c q_taken.event (sys.clients c) x ran (g.as_read c) (next_taken.clients c) s_taken run refl refl (subst (IsMadeSince (events ++ q_taken.event ∷ []) c (Some s_taken)) (sym (here (commit_left p (preparing p 0)))) (commit_made (events ++ q_taken.event ∷ []) c (Some s_taken) p (preparing p 0)));
     })
@@ -279,7 +271,7 @@ module _ (catalog : List Table) (fit : Tables → Bool) (events : List Event) (s
       by = refl;
       others = client_stands sys c (Reading i seen a Asking);
       story = story_asks events g.past sys (with_client sys c (Reading i seen a Asking)) c x q text story here_now.1 refl tt (plain_apart g.past c Other tt) (keeps (Open i seen) (Reading i seen a Asking) at_open (λ u h. h));
-      own = record { ended = (kept q tt).0; opened = (kept q tt).1; hand = subst (IsOpenOf (Some st) (with_waiting x s) (ran n)) (sym (here (Reading i seen a Asking))) (here_now.0, (reads, inner), here_now.2) };
+      own = record { ended = (kept q tt).0; opened = (kept q tt).1; next_state = subst (IsOpenOf (Some st) (with_waiting x s) (ran n)) (sym (here (Reading i seen a Asking))) (here_now.0, (reads, inner), here_now.2) };
       as_read = noted_asks events c q.event (sys.clients c) x ran (g.as_read c) ((with_client sys c (Reading i seen a Asking)).clients c) s refl (subst (IsMadeSince (events ++ q.event ∷ []) c (Some s)) (sym (here (Reading i seen a Asking))) (none_since events c q.event));
     })
       where
@@ -295,7 +287,7 @@ module _ (catalog : List Table) (fit : Tables → Bool) (events : List Event) (s
         here_now : IsOpened x.rest × (x.waiting ≡ None) × ((ran n).seen ≡ seen)
         here_now = hand_at (Open i seen) at_open
 
-  ---- VACUUM is taken
+  ---- VACUUM is accepted
 
   module _ (text : List ℕ) (span : Span) (at_rest : sys.clients c ≡ Resting) (none : NoneOpen sys) (tables : IsOfData (access.Scan span)) where
     pub going_vacuums : RunInvariant catalog fit (events ++ event.Take c text None ∷ []) (with_client sys c (RunsVacuum (Scanning span))) (at doing c None)
@@ -308,7 +300,7 @@ module _ (catalog : List Table) (fit : Tables → Bool) (events : List Event) (s
       by = refl;
       others = client_stands sys c (RunsVacuum (Scanning span));
       story = story_asks events g.past sys (with_client sys c (RunsVacuum (Scanning span))) c x q text story here_now.1 refl tt (plain_apart g.past c Other tt) (keeps Resting (RunsVacuum (Scanning span)) at_rest (λ u h. h));
-      own = record { ended = (kept q tt).0; opened = (kept q tt).1; hand = subst (IsOpenOf None (with_waiting x s) (ran n)) (sym (here (RunsVacuum (Scanning span)))) (here_now.0, tt) };
+      own = record { ended = (kept q tt).0; opened = (kept q tt).1; next_state = subst (IsOpenOf None (with_waiting x s) (ran n)) (sym (here (RunsVacuum (Scanning span)))) (here_now.0, tt) };
       as_read = noted_asks events c q.event (sys.clients c) x ran (g.as_read c) ((with_client sys c (RunsVacuum (Scanning span))).clients c) s refl (subst (IsMadeSince (events ++ q.event ∷ []) c (Some s)) (sym (here (RunsVacuum (Scanning span)))) tt);
     })
       where
@@ -324,26 +316,26 @@ module _ (catalog : List Table) (fit : Tables → Bool) (events : List Event) (s
         here_now : IsClosed x.rest × (x.waiting ≡ None)
         here_now = hand_at Resting at_rest
 
-  ---- answered as it is taken
+  ---- answered as it is accepted
 
   module _ (text : List ℕ) (b : Answer) where
-    abbrev taken : Event
-    taken = event.Take c text (Some b)
+    abbrev accepted : Event
+    accepted = event.Take c text (Some b)
 
     abbrev answered : Executed
     answered = executed_of_take events text (Some b)
 
-    quiet : IsMild b → IsQuiet taken
+    quiet : IsMild b → IsQuiet accepted
     quiet m = record { quiet = refl; other = uncommitted (Some b) b refl m }
 
     -- outside of a transaction
-    pub going_outside : sys.clients c ≡ Resting → IsMild b → RunInvariant catalog fit (events ++ taken ∷ []) sys (at doing c None)
+    pub going_outside : sys.clients c ≡ Resting → IsMild b → RunInvariant catalog fit (events ++ accepted ∷ []) sys (at doing c None)
     going_outside at_rest m = turned catalog fit events sys sys doing g c None q (record {
       plan = g.plan;
       x = with_answered x answered;
       ran = ran;
       same = same;
-      system = quiet_turn g.plan g.past sys taken g.system (quiet m);
+      system = quiet_turn g.plan g.past sys accepted g.system (quiet m);
       by = refl;
       others = record { clients = λ d h. refl; begun = λ d h. refl };
       story = story_answers events g.past sys sys c x q answered story (said_at_once events g.past sys c x q text b story now_here.1 refl) (subst (λ r. MayCome r answered) (sym closed.1) (uncommitted (Some b) b refl m)) (subst (λ r. IsOrdinary r answered) (sym closed.1) plain) tt (plain_apart g.past c Other tt) (record { begun = refl; hold = λ u h. h });
@@ -352,7 +344,7 @@ module _ (catalog : List Table) (fit : Tables → Bool) (events : List Event) (s
     })
       where
         q : Labelled
-        q = labelled_with Other taken
+        q = labelled_with Other accepted
 
         now_here : IsClosed x.rest × (x.waiting ≡ None)
         now_here = hand_at Resting at_rest
@@ -400,12 +392,12 @@ module _ (catalog : List Table) (fit : Tables → Bool) (events : List Event) (s
     pub idle_noted : ReadsNothing (events ++ q.event ∷ []) c s → ReadSetsOfClient (events ++ q.event ∷ []) c ((with_client sys c (Open i seen)).clients c) (with_answered x s) (at ran n (ran n))
     idle_noted none = inside_noted (ran n) seen (inside_nothing events c q.event parts.2 (ran n).seen s just none noted_before)
 
-    -- as one that was answered as it was taken
-    idle_at_once : s.taken ≡ 1 + length events → ReadSetsOfClient (events ++ q.event ∷ []) c ((with_client sys c (Open i seen)).clients c) (with_answered x s) (at ran n (ran n))
+    -- as one that was answered as it was accepted
+    idle_at_once : s.accepted ≡ 1 + length events → ReadSetsOfClient (events ++ q.event ∷ []) c ((with_client sys c (Open i seen)).clients c) (with_answered x s) (at ran n (ran n))
     idle_at_once now = idle_noted (at_once events c q.event s just now)
 
     -- it was answered from rows that were read before
-    rows_noted : (r : Execution) (changes : List Keyed) → (ran n).seen ≡ seen → s.taken ≡ 1 + length events → r.seen ≡ with_written seen changes → ReadSetsOfClient (events ++ q.event ∷ []) c ((with_client sys c (Open i (with_written seen changes))).clients c) (with_answered x s) (at ran n r)
+    rows_noted : (r : Execution) (changes : List Keyed) → (ran n).seen ≡ seen → s.accepted ≡ 1 + length events → r.seen ≡ with_written seen changes → ReadSetsOfClient (events ++ q.event ∷ []) c ((with_client sys c (Open i (with_written seen changes))).clients c) (with_answered x s) (at ran n r)
     rows_noted r changes e now same = inside_noted r (with_written seen changes) (subst (ReadSetInside (events ++ q.event ∷ []) c (parts.2 ++ s ∷ [])) (sym same) (written_noted (events ++ q.event ∷ []) c (parts.2 ++ s ∷ []) seen changes
         (subst (ReadSetInside (events ++ q.event ∷ []) c (parts.2 ++ s ∷ [])) e (inside_nothing events c q.event parts.2 (ran n).seen s just (at_once events c q.event s just now) noted_before))))
 
@@ -428,15 +420,15 @@ module _ (catalog : List Table) (fit : Tables → Bool) (events : List Event) (s
     }) e
 
     -- it changed nothing, and what it read is noted
-    pub kept_own : (read : Seen) → changes_nothing b ≡ true → SeenOk (q ∷ g.past) read → BodyOk catalog fit (ran n).body (ran n).answers read → (protocol_state g.past).taken (number c n) ≡ false
+    pub kept_own : (read : Seen) → changes_nothing b ≡ true → SeenOk (q ∷ g.past) read → BodyOk catalog fit (ran n).body (ran n).answers read → (protocol_state g.past).accepted (number c n) ≡ false
         → ClientInvariant catalog fit g.plan (q ∷ g.past) c None ((with_client sys c (Open i read)).clients c) (with_answered x s) (at ran n (record { seen = read; now = (ran n).now; body = (ran n).body; answers = (ran n).answers }))
     kept_own read idle known body fresh = inside_own (record { seen = read; now = (ran n).now; body = (ran n).body; answers = (ran n).answers }) read (record {
-      inside = record { seen = known; body = body; executed = let was = said_nothing_more parts.2 s (ran n) before_it.inside.executed (effective_by s b true said_so idle) in record { read = was.read; told = was.told } };
-      planned = λ h. clash (sym h ∙ (same_of g.past q (number c n) (plain_not (number c n) q.action plain)).taken ∙ fresh);
+      inside = record { seen = known; body = body; executed = let was = said_nothing_more parts.2 s (ran n) before_it.inside.executed (effective_by s b true said_so idle) in record { read = was.read; answered = was.answered } };
+      planned = λ h. clash (sym h ∙ (same_of g.past q (number c n) (plain_not (number c n) q.action plain)).accepted ∙ fresh);
     }) refl
 
     -- it was answered from rows of an access that was read, and its changes were written
-    pub more_own : (st : Statement) (read : Seen) (a : Access) (changes : List Keyed) → SeenOk (q ∷ g.past) read → SeenOk (q ∷ g.past) (with_written read changes) → BodyOk catalog fit (ran n).body (ran n).answers read → IsCovered read a → AnswersOn catalog fit read st a b changes → Reads s.text st → changes_nothing b ≡ false → (protocol_state g.past).taken (number c n) ≡ false
+    pub more_own : (st : Statement) (read : Seen) (a : Access) (changes : List Keyed) → SeenOk (q ∷ g.past) read → SeenOk (q ∷ g.past) (with_written read changes) → BodyOk catalog fit (ran n).body (ran n).answers read → IsCovered read a → AnswersOn catalog fit read st a b changes → Reads s.text st → changes_nothing b ≡ false → (protocol_state g.past).accepted (number c n) ≡ false
         → ClientInvariant catalog fit g.plan (q ∷ g.past) c None ((with_client sys c (Open i (with_written read changes))).clients c) (with_answered x s) (at ran n (record { seen = with_written read changes; now = (ran n).now; body = (ran n).body ++ st ∷ []; answers = (ran n).answers ++ b ∷ [] }))
     more_own st read a changes known written body covered answers reads effective fresh = inside_own run (with_written read changes) (record {
       inside = record {
@@ -450,8 +442,8 @@ module _ (catalog : List Table) (fit : Tables → Bool) (events : List Event) (s
         run : Execution
         run = record { seen = with_written read changes; now = (ran n).now; body = (ran n).body ++ st ∷ []; answers = (ran n).answers ++ b ∷ [] }
 
-        untaken_still : (protocol_state (q ∷ g.past)).taken (number c n) ≡ false
-        untaken_still = (same_of g.past q (number c n) (plain_not (number c n) q.action plain)).taken ∙ fresh
+        untaken_still : (protocol_state (q ∷ g.past)).accepted (number c n) ≡ false
+        untaken_still = (same_of g.past q (number c n) (plain_not (number c n) q.action plain)).accepted ∙ fresh
 
   ---- where a transaction is open
 
@@ -459,8 +451,8 @@ module _ (catalog : List Table) (fit : Tables → Bool) (events : List Event) (s
     its_id : i.0 ≡ number c n
     its_id = (story.hold i.0 (subst (λ w. Has w i.0) (sym at_open) refl)).1
 
-    not_taken : (protocol_state g.past).taken (number c n) ≡ false
-    not_taken = ap (protocol_state g.past).taken (sym its_id) ∙ (client_at (Open i seen) at_open).0.fresh
+    not_taken : (protocol_state g.past).accepted (number c n) ≡ false
+    not_taken = ap (protocol_state g.past).accepted (sym its_id) ∙ (client_at (Open i seen) at_open).0.fresh
 
     held : IsOpened x.rest × (x.waiting ≡ None) × ((ran n).seen ≡ seen)
     held = hand_at (Open i seen) at_open
@@ -545,7 +537,7 @@ module _ (catalog : List Table) (fit : Tables → Bool) (events : List Event) (s
         x = with_answered x said_of_it;
         ran = ran;
         same = same;
-        system = leave_turn g.plan g.past sys c i seen event_of (stands (Open i seen) at_open) refl (record { quiet = refl; other = λ e. other (some_is b answer.Committed e) });
+        system = leave_turn g.plan g.past sys c i seen event_of (agrees (Open i seen) at_open) refl (record { quiet = refl; other = λ e. other (some_is b answer.Committed e) });
         by = refl;
         others = client_stands sys c Resting;
         story = story_ends events g.past sys (with_client sys c Resting) c x q said_of_it parts.0 parts.1 parts.2 story parts.3 (said_at_once events g.past sys c x q text b story held.1 refl) plain last (ap Some its_id) (λ u e. clash (known u (some_is b (answer.Unknown u) e))) tt (plain_apart g.past c Other tt) (record { begun = refl; hold = λ u h. subst (λ w. Has w u) (here Resting) h });
@@ -585,7 +577,7 @@ module _ (catalog : List Table) (fit : Tables → Bool) (events : List Event) (s
     by = refl;
     others = client_stands sys c Stopped;
     story = story_stays events g.past sys (with_client sys c Stopped) c x q story tt (plain_apart g.past c q.action tt) (record { begun = refl; hold = λ u h. absurd (subst (λ z. Has z u) (here Stopped) h) }) (silent q.event (λ ss k. refl));
-    own = record { ended = (kept q tt).0; opened = (kept q tt).1; hand = subst (IsOpenOf None x (ran n)) (sym (here Stopped)) tt };
+    own = record { ended = (kept q tt).0; opened = (kept q tt).1; next_state = subst (IsOpenOf None x (ran n)) (sym (here Stopped)) tt };
     as_read = noted_elsewhere events c q.event (sys.clients c) x ran (g.as_read c) ((with_client sys c Stopped).clients c) (subst (IsMadeSince (events ++ q.event ∷ []) c x.waiting) (sym (here Stopped)) tt);
   })
     where

@@ -3,34 +3,21 @@ use Rattle.std.proofs.Common.{◌≡◌, ◌≢◌, ◌≤◌, ◌<◌, ◌+◌,
 use Rattle.std.specs.Prelude.{slice_get, nat_lt, if◌then◌else◌}
 use Rattle.std.specs.Result.{result_ok}
 use Rattle.std.proofs.lemmas.Bool.Decides.{nat_tests}
-use Rattle.sdb_types.specs.declared.key.Key.{Key}
-use Rattle.sdb_types.specs.declared.record.Record.{Record}
-use Rattle.sdb_types.specs.declared.record.Reply.{Reply}
+use Rattle.law_clients.specs.Types.{Answer, Check, DecidePhase, DecideStep, Decided, Decision, Event, How, Key, Outcome, Record, Reply, Request, Write}
 use Rattle.sdb_types.specs.declared.record.Reply.TheVariants as reply
-use Rattle.sdb_types.specs.declared.record.Request.{Request}
 use Rattle.sdb_types.specs.declared.record.Request.TheVariants as ask
 use Rattle.sdb_types.specs.Contents.{CanAnswer}
-use Rattle.sdb_record.specs.declared.coordinator.Decision.{Decision}
 use Rattle.sdb_record.specs.declared.coordinator.Decision.TheVariants as decision
-use Rattle.sdb_record.specs.declared.coordinator.Decided.{Decided}
-use Rattle.sdb_record.specs.declared.write.Write.{Write}
 use Rattle.sdb_record.specs.Coordinator.{coordinator_key_of, decision_in}
 use Rattle.sdb_record.proofs.ImageLaws.{row-key}
-use Rattle.sdb_model.specs.declared.answer.Answer.{Answer}
-use Rattle.sdb_model.specs.declared.event.Event.{Event}
-use Rattle.sdb_model.specs.declared.event.How.{How}
 use Rattle.sdb_model.specs.declared.event.Event.TheVariants as event
 use Rattle.sdb_model.specs.Rows.{Name}
 use Rattle.law_protocol.specs.Plan.{Plan}
 use Rattle.law_protocol.specs.History.{Other, Prepares, Checks, Decides, Aborts, Rolls, ProtocolState, Ack, Yes, No, NoAck, OutOfMemory, state_after_event}
 use Rattle.law_protocol.specs.History as laws
 use Rattle.law_protocol.specs.Lawful.{Labelled, id, protocol_state, ack_of, IsObserved, IsRowObserved, IsKnownCommitted, IsKnownAborted, IsBadRow, labelled_with}
-use Rattle.sdb_phases.specs.declared.check.Check.{Check}
-use Rattle.sdb_phases.specs.declared.step.Outcome.{Outcome}
 use Rattle.sdb_phases.specs.declared.step.Outcome.TheVariants as outcome
-use Rattle.sdb_phases.specs.declared.step.DecideStep.{DecideStep}
 use Rattle.sdb_phases.specs.declared.step.DecideStep.TheVariants as steps
-use Rattle.sdb_phases.specs.declared.step.DecidePhase.{DecidePhase}
 use Rattle.sdb_phases.specs.declared.step.DecidePhase.TheVariants as phase
 use Rattle.sdb_phases.specs.Work.{Work, prepares, decide_of, abort_of, look_of}
 use Rattle.sdb_phases.specs.Checks.{checks, difference_in}
@@ -56,7 +43,7 @@ lost_over plan past p outcome.NoMemory l k = k
 
 ---- what one part changes
 
-told_yes : (h : ProtocolState) (t : ℕ) (k q : Key) → (h.told t q ≡ true) ⊎ (q ≡ k) → (state_after_event h (Prepares t k Yes)).told t q ≡ true
+told_yes : (h : ProtocolState) (t : ℕ) (k q : Key) → (h.answered t q ≡ true) ⊎ (q ≡ k) → (state_after_event h (Prepares t k Yes)).answered t q ≡ true
 told_yes h t k q a = grind (arith, tests)
 
 asked_any : (h : ProtocolState) (t : ℕ) (k q : Key) (word : Ack) → (h.asked t q ≡ true) ⊎ (q ≡ k) → (state_after_event h (Prepares t k word)).asked t q ≡ true
@@ -72,7 +59,7 @@ earlier i j l = grind (arith, nat_tests)
 told_more : (h : ProtocolState) (p : Work) (i : ℕ) (w : Write) → slice_get p.writes i ≡ Some w → AreAcknowledged h p i → AreAcknowledged (state_after_event h (Prepares p.id.0 w.key Yes)) p (i + 1)
 told_more h p i w here step_of_row j v l at = by (earlier i j l)
   where
-    by : (j < i) ⊎ (j ≡ i) → (state_after_event h (Prepares p.id.0 w.key Yes)).told p.id.0 v.key ≡ true
+    by : (j < i) ⊎ (j ≡ i) → (state_after_event h (Prepares p.id.0 w.key Yes)).answered p.id.0 v.key ≡ true
     by (inl b) = told_yes h p.id.0 w.key v.key (inl (step_of_row j v b at))
     by (inr e) = told_yes h p.id.0 w.key v.key (inr (ap (λ (x : Write). x.key) (some_is v w (sym at ∙ ap (slice_get p.writes) e ∙ here))))
 
@@ -131,7 +118,7 @@ prepare_kept plan past c i p w e reply.Applied ok here = by_more (nat_lt (i + 1)
     by_more : (more : Bool) → nat_lt (i + 1) (length p.writes) ≡ more → StageOk plan (labelled_with (Prepares p.id.0 w.key Yes) e ∷ past) p (after_prepare p i (i + 1) (if more then Rattle.sdb_phases.specs.declared.step.PrepareStep.TheVariants.More else Rattle.sdb_phases.specs.declared.step.PrepareStep.TheVariants.Done))
     by_more true t = (ok.stage.0, step_of_row, asked, unasked_more (protocol_state past) p i w Yes ok.work here ok.stage.3, ok.stage.4)
     by_more false f = checks_begin plan (labelled_with (Prepares p.id.0 w.key Yes) e ∷ past) p (not_deciding ((protocol_state past).stage p.id.0) ok.stage.0)
-        (whole (λ j w. h.told p.id.0 w.key ≡ true) p.writes i f step_of_row)
+        (whole (λ j w. h.answered p.id.0 w.key ≡ true) p.writes i f step_of_row)
         (whole (λ j w. h.asked p.id.0 w.key ≡ true) p.writes i f asked)
         ok.stage.4
 prepare_kept plan past c i p w e (reply.NotMet found) ok here = by (slice_get (prepares p) i)
@@ -166,19 +153,19 @@ goes_back : (plan : ℕ → Plan) (past : List Labelled) (p : Work) (a : Outcome
 goes_back plan past p a n lost asked known = by_test plan past p (nat_lt 0 n) (Back a n 0) (Over a) (λ t. (asked, known, lost, less 0 n t)) (λ f. lost_over plan past p a lost (inl known))
 
 -- what a row leads to, where ABORTED gives this answer
-row_kept : (plan : ℕ → Plan) (past : List Labelled) (p : Work) (row : Record) (aborted : DecideStep) (a : Outcome) → IsLost a → ((d : DecidePhase) → after_decide p d aborted ≡ back a (length p.writes) 0) → AskedTo (protocol_state past) p (length p.writes) → RowIn past p row → p.now ≡ (plan p.id.0).now → (protocol_state past).taken p.id.0 ≡ true
+row_kept : (plan : ℕ → Plan) (past : List Labelled) (p : Work) (row : Record) (aborted : DecideStep) (a : Outcome) → IsLost a → ((d : DecidePhase) → after_decide p d aborted ≡ back a (length p.writes) 0) → AskedTo (protocol_state past) p (length p.writes) → RowIn past p row → p.now ≡ (plan p.id.0).now → (protocol_state past).accepted p.id.0 ≡ true
     → StageOk plan past p (after_decide p phase.Ended (followed p.id aborted row))
-row_kept plan past p row aborted a lost gives asked shown dated is_taken = by (decision_in row) refl
+row_kept plan past p row aborted a lost gives asked observed dated is_taken = by (decision_in row) refl
   where
     on : (d : Decided) (x : Decision) → d.decision ≡ x → decision_in row ≡ Ok d → StageOk plan past p (after_decide p phase.Ended (elim x [ decision.Committed ↦ steps.Committed | decision.Aborted ↦ aborted ]))
     on d decision.Committed e says =
-        let x : IsRowObserved past p.id.0 decision.Committed d.created_at = record { row = row; shown = shown.0; key = shown.1; says = says ∙ ap (λ y. Ok (record { decision = y; created_at = d.created_at })) e } in
+        let x : IsRowObserved past p.id.0 decision.Committed d.created_at = record { row = row; observed = observed.0; key = observed.1; says = says ∙ ap (λ y. Ok (record { decision = y; created_at = d.created_at })) e } in
         goes_forward plan past p asked (inr (inr (is_taken, (d.created_at, x), dated)))
     on d decision.Aborted e says =
-        subst (StageOk plan past p) (sym (gives phase.Ended)) (goes_back plan past p a (length p.writes) lost asked (inl (d.created_at, record { row = row; shown = shown.0; key = shown.1; says = says ∙ ap (λ y. Ok (record { decision = y; created_at = d.created_at })) e })))
+        subst (StageOk plan past p) (sym (gives phase.Ended)) (goes_back plan past p a (length p.writes) lost asked (inl (d.created_at, record { row = row; observed = observed.0; key = observed.1; says = says ∙ ap (λ y. Ok (record { decision = y; created_at = d.created_at })) e })))
 
     by : (d : Result Decided (List ℕ)) → decision_in row ≡ d → StageOk plan past p (after_decide p phase.Ended (step_of_row p.id aborted d))
-    by (Err column) says = inr (inr (record { row = row; shown = shown.0; key = shown.1; bad = ap result_ok says }))
+    by (Err column) says = inr (inr (record { row = row; observed = observed.0; key = observed.1; bad = ap result_ok says }))
     by (Ok d) says = on d d.decision refl says
 
 pub decide_kept : (plan : ℕ → Plan) (past : List Labelled) (c : ℕ) (p : Work) (store : Name) (how : How) (r : Reply) (a : Option Answer) → CommitOk plan past c p (Deciding phase.Put) → CanAnswer (decide_of p.id p.now) r
@@ -187,7 +174,7 @@ decide_kept plan past c p store how reply.Applied a ok can = goes_forward plan (
   where
     won : (h : ProtocolState) (t : ℕ) → (state_after_event h (Decides t Yes)).won t ≡ true
     won h t = grind (arith, nat_tests)
-decide_kept plan past c p store how (reply.NotMet (Some row)) a ok can = row_kept plan (labelled_with (Decides p.id.0 No) (event.Call c store (decide_of p.id p.now) how (reply.NotMet (Some row)) a) ∷ past) p row (steps.Expired p.id) (outcome.Expired p.id) tt (λ d. refl) ok.stage.1 (inl refl, can.0 ∙ row-key p.id decision.Committed p.now) (sym (ap (λ (x : Plan). x.now) ok.planned)) ok.within.taken
+decide_kept plan past c p store how (reply.NotMet (Some row)) a ok can = row_kept plan (labelled_with (Decides p.id.0 No) (event.Call c store (decide_of p.id p.now) how (reply.NotMet (Some row)) a) ∷ past) p row (steps.Expired p.id) (outcome.Expired p.id) tt (λ d. refl) ok.stage.1 (inl refl, can.0 ∙ row-key p.id decision.Committed p.now) (sym (ap (λ (x : Plan). x.now) ok.planned)) ok.within.accepted
 decide_kept plan past c p store how (reply.NotMet None) a ok can = absurd (clash can.1)
   where
     clash : true ≡ false → ⊥
@@ -200,7 +187,7 @@ decide_kept plan past c p store how (reply.Rows rows) a ok can = absurd can
 pub look_kept : (plan : ℕ → Plan) (past : List Labelled) (c : ℕ) (p : Work) (store : Name) (how : How) (r : Reply) (a : Option Answer) → CommitOk plan past c p (Deciding phase.Look) → CanAnswer (look_of p.id) r
     → StageOk plan (labelled_with Other (event.Call c store (look_of p.id) how r a) ∷ past) p (step p (Deciding phase.Look) r)
 look_kept plan past c p store how (reply.Found None) a ok can = ok.stage
-look_kept plan past c p store how (reply.Found (Some row)) a ok can = row_kept plan (labelled_with Other (event.Call c store (look_of p.id) how (reply.Found (Some row)) a) ∷ past) p row (steps.Expired p.id) (outcome.Expired p.id) tt (λ d. refl) ok.stage (inl refl, can) (sym (ap (λ (x : Plan). x.now) ok.planned)) ok.within.taken
+look_kept plan past c p store how (reply.Found (Some row)) a ok can = row_kept plan (labelled_with Other (event.Call c store (look_of p.id) how (reply.Found (Some row)) a) ∷ past) p row (steps.Expired p.id) (outcome.Expired p.id) tt (λ d. refl) ok.stage (inl refl, can) (sym (ap (λ (x : Plan). x.now) ok.planned)) ok.within.accepted
 look_kept plan past c p store how reply.Fault a ok can = refl
 look_kept plan past c p store how reply.NoMemory a ok can = refl
 look_kept plan past c p store how reply.Applied a ok can = refl
@@ -216,7 +203,7 @@ met h t m = grind (arith, nat_tests)
 pub abort_kept : (plan : ℕ → Plan) (past : List Labelled) (c : ℕ) (p : Work) (store : Name) (how : How) (r : Reply) (a : Option Answer) → CommitOk plan past c p (Deciding phase.Abort) → CanAnswer (abort_of p.id p.now) r
     → StageOk plan (labelled_with (Aborts p.id.0 p.now (ack_of r)) (event.Call c store (abort_of p.id p.now) how r a) ∷ past) p (step p (Deciding phase.Abort) r)
 abort_kept plan past c p store how reply.Applied a ok can = goes_back plan (labelled_with (Aborts p.id.0 p.now Yes) (event.Call c store (abort_of p.id p.now) how reply.Applied a) ∷ past) p outcome.Faulted (length p.writes) tt ok.stage (inr (inl (dead (protocol_state past) p.id.0 p.now)))
-abort_kept plan past c p store how (reply.NotMet (Some row)) a ok can = row_kept plan (labelled_with (Aborts p.id.0 p.now No) (event.Call c store (abort_of p.id p.now) how (reply.NotMet (Some row)) a) ∷ past) p row (steps.Expired p.id) (outcome.Expired p.id) tt (λ d. refl) ok.stage (inl refl, can.0 ∙ row-key p.id decision.Aborted p.now) (sym (ap (λ (x : Plan). x.now) ok.planned)) ok.within.taken
+abort_kept plan past c p store how (reply.NotMet (Some row)) a ok can = row_kept plan (labelled_with (Aborts p.id.0 p.now No) (event.Call c store (abort_of p.id p.now) how (reply.NotMet (Some row)) a) ∷ past) p row (steps.Expired p.id) (outcome.Expired p.id) tt (λ d. refl) ok.stage (inl refl, can.0 ∙ row-key p.id decision.Aborted p.now) (sym (ap (λ (x : Plan). x.now) ok.planned)) ok.within.accepted
 abort_kept plan past c p store how (reply.NotMet None) a ok can = refl
 abort_kept plan past c p store how reply.Fault a ok can = ok.stage
 abort_kept plan past c p store how reply.NoMemory a ok can = refl
@@ -225,7 +212,7 @@ abort_kept plan past c p store how (reply.Rows rows) a ok can = refl
 
 pub again_kept : (plan : ℕ → Plan) (past : List Labelled) (c : ℕ) (p : Work) (store : Name) (how : How) (r : Reply) (a : Option Answer) → CommitOk plan past c p (Deciding phase.Again) → CanAnswer (look_of p.id) r
     → StageOk plan (labelled_with Other (event.Call c store (look_of p.id) how r a) ∷ past) p (step p (Deciding phase.Again) r)
-again_kept plan past c p store how (reply.Found (Some row)) a ok can = row_kept plan (labelled_with Other (event.Call c store (look_of p.id) how (reply.Found (Some row)) a) ∷ past) p row steps.Faulted outcome.Faulted tt (λ d. refl) ok.stage (inl refl, can) (sym (ap (λ (x : Plan). x.now) ok.planned)) ok.within.taken
+again_kept plan past c p store how (reply.Found (Some row)) a ok can = row_kept plan (labelled_with Other (event.Call c store (look_of p.id) how (reply.Found (Some row)) a) ∷ past) p row steps.Faulted outcome.Faulted tt (λ d. refl) ok.stage (inl refl, can) (sym (ap (λ (x : Plan). x.now) ok.planned)) ok.within.accepted
 again_kept plan past c p store how (reply.Found None) a ok can = refl
 again_kept plan past c p store how reply.Fault a ok can = refl
 again_kept plan past c p store how reply.NoMemory a ok can = refl
@@ -247,7 +234,7 @@ stop_kept plan past c n b p e (reply.Rows rows) ok = lost_over plan (labelled_wi
 
 -- what is known stays known
 pub row_later : (q : Labelled) (past : List Labelled) (t : ℕ) (d : Decision) (m : ℤ) → IsRowObserved past t d m → IsRowObserved (q ∷ past) t d m
-row_later q past t d m x = record { row = x.row; shown = inr x.shown; key = x.key; says = x.says }
+row_later q past t d m x = record { row = x.row; observed = inr x.observed; key = x.key; says = x.says }
 
 pub forward_kept : (plan : ℕ → Plan) (past : List Labelled) (c i : ℕ) (p : Work) (k : Key) (e : Event) (r : Reply) → CommitOk plan past c p (Forward i) → StageOk plan (labelled_with (Rolls p.id.0 k decision.Committed) e ∷ past) p (step p (Forward i) r)
 forward_kept plan past c i p k e r ok = by_test plan (labelled_with (Rolls p.id.0 k decision.Committed) e ∷ past) p (nat_lt (i + 1) (length p.writes)) (Forward (i + 1)) (Over outcome.Committed) (λ t. (ok.stage.0, known ok.stage.1)) (λ f. known ok.stage.1)
@@ -300,7 +287,7 @@ passed_kept plan past c i p k e r ok here can passed same = by_test plan (labell
       where
         by : (j < i) ⊎ (j ≡ i) → ItemAgrees p j
         by (inl b) = ok.stage.4 j b
-        by (inr x) = subst (ItemAgrees p) (sym x) (ok.work.tells i k r here can passed).agrees
+        by (inr x) = subst (ItemAgrees p) (sym x) (ok.work.is_known i k r here can passed).agrees
 
 -- A check of which the reply is no pass stops the COMMIT.
 pub failed_kept : (plan : ℕ → Plan) (past : List Labelled) (c i : ℕ) (p : Work) (e : Event) (s : Rattle.sdb_phases.specs.declared.step.ValidateStep.ValidateStep) → CommitOk plan past c p (Checking i) → Rattle.sdb_phases.specs.CommitLaws.is_more s ≡ false → s ≢ Rattle.sdb_phases.specs.declared.step.ValidateStep.TheVariants.Valid → StageOk plan (labelled_with Other e ∷ past) p (after_check p i s)

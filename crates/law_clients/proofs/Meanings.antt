@@ -8,18 +8,10 @@ use Rattle.std.specs.Ordering.{is_eq}
 use Rattle.std.specs.declared.cmp.Ordering.TheVariants.{Less}
 use Rattle.std.proofs.lemmas.Bool.{and_parts}
 use Rattle.std.proofs.lemmas.List.Elements.{Contains-append_left, Contains-append_right, Contains-push}
-use Rattle.sdb_types.specs.declared.key.Key.{Key}
-use Rattle.sdb_types.specs.declared.pair.Pair.{Pair}
-use Rattle.sdb_types.specs.declared.record.Condition.{Condition}
-use Rattle.sdb_types.specs.declared.record.Record.{Record}
-use Rattle.sdb_types.specs.declared.record.Reply.{Reply}
+use Rattle.law_clients.specs.Types.{Condition, Decided, Decision, Key, Meta, Pair, Record, RecoverPhase, RecoverStep, Reply, Request, State, TxId, Value}
 use Rattle.sdb_types.specs.declared.record.Reply.TheVariants as reply
-use Rattle.sdb_types.specs.declared.record.Request.{Request}
 use Rattle.sdb_types.specs.declared.record.Request.TheVariants as ask
-use Rattle.sdb_types.specs.declared.record.State.{State}
 use Rattle.sdb_types.specs.declared.record.State.TheVariants as state
-use Rattle.sdb_types.specs.declared.txid.TxId.{TxId}
-use Rattle.sdb_types.specs.declared.value.Value.{Value}
 use Rattle.sdb_types.specs.declared.value.Value.TheVariants as value
 use Rattle.sdb_types.specs.Columns.{column}
 use Rattle.sdb_types.specs.Contents.{has_value, holds, is_version, record_among, rise, starts_after, state_number, tx_id, tx_state}
@@ -29,24 +21,19 @@ use Rattle.sdb_types.specs.TxId.{id_text}
 use Rattle.sdb_types.specs.ValueLaws.{value_total}
 use Rattle.sdb_types.proofs.Basics.{all_each, and_false, less_of, none_some, some_is}
 use Rattle.sdb_types.proofs.KeyOrder.{key_exact, key_total}
-use Rattle.sdb_record.specs.declared.coordinator.Decided.{Decided}
-use Rattle.sdb_record.specs.declared.coordinator.Decision.{Decision}
 use Rattle.sdb_record.specs.declared.coordinator.Decision.TheVariants as decision
-use Rattle.sdb_record.specs.declared.meta.Meta.{Meta}
 use Rattle.sdb_record.specs.Coordinator.{decision_in, is_expired}
 use Rattle.sdb_record.specs.Meta.{checked, checked_before, checked_part, id_in, id_in_value, is_committed, is_in, is_misnamed, is_unresolved, refuse, state_in, state_in_value, with_before}
 use Rattle.sdb_record.specs.Parts.{before_part, before_record, is_before_pair}
 use Rattle.sdb_record.specs.Rolls.{forward_record, undo}
-use Rattle.sdb_record.proofs.Fine.{refuse-ok, taken}
+use Rattle.sdb_record.proofs.Fine.{refuse-ok, accepted}
 use Rattle.sdb_record.proofs.IdLemmas.{id_of_text-is}
 use Rattle.sdb_record.proofs.RollLaws.{before-kept, forward-key}
 use Rattle.sdb_record.proofs.States.{state_value}
 use Rattle.sdb_model.specs.Calls.{StoreCall, key_asked, put_by}
 use Rattle.sdb_model.specs.ReadSet as as_read
 use Rattle.sdb_model.specs.ReadSet.{condition_asked, meaning_of, rolls}
-use Rattle.sdb_phases.specs.declared.step.RecoverPhase.{RecoverPhase}
 use Rattle.sdb_phases.specs.declared.step.RecoverPhase.TheVariants as phase
-use Rattle.sdb_phases.specs.declared.step.RecoverStep.{RecoverStep}
 use Rattle.sdb_phases.specs.declared.step.RecoverStep.TheVariants as steps
 use Rattle.sdb_phases.specs.Recover.{recover_back, recover_forward, recover_next, recover_request_at, roll_to, is_as_found}
 use Rattle.sdb_phases.specs.Work.{abort_of, look_of}
@@ -69,7 +56,7 @@ final_state ps m y h = by (list_any is_before_pair ps) h
     by false k = let e : m ≡ y = cc in ap (λ (x : Meta). x.state) e
 
 pub state_says : (r : Record) (m : Meta) → checked r.columns ≡ Ok m → state_in r.columns ≡ Some m.state
-state_says r m says = let t = taken r.columns m says in t.1.says.state ∙ ap Some (final_state r.columns t.0 m t.2)
+state_says r m says = let t = accepted r.columns m says in t.1.says.state ∙ ap Some (final_state r.columns t.0 m t.2)
 
 has_itself : (v : Value) → has_value (Some v) v ≡ true
 has_itself v = ap is_eq (tied_itself value_total v)

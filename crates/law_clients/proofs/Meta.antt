@@ -2,28 +2,23 @@
 use Rattle.std.proofs.Common.{◌≡◌, ◌<◌, ◌^◌, ℕ, ℤ, Bool, true, false, cond, List, Option, Some, None, Result, Ok, Err, refl, sym, ap, ◌∙◌}
 use Rattle.std.specs.Prelude.{if◌then◌else◌, not, find}
 use Rattle.std.specs.List.{list_any}
-use Rattle.sdb_types.specs.declared.value.Value.{Value}
+use Rattle.law_clients.specs.Types.{Decided, Meta, Pair, Record, TxId, Value}
 use Rattle.sdb_types.specs.declared.value.Value.TheVariants as value
-use Rattle.sdb_types.specs.declared.pair.Pair.{Pair}
-use Rattle.sdb_types.specs.declared.txid.TxId.{TxId}
-use Rattle.sdb_types.specs.declared.record.Record.{Record}
 use Rattle.sdb_types.specs.declared.record.State.TheVariants.{Committed}
 use Rattle.sdb_types.specs.Columns.{column}
 use Rattle.sdb_types.specs.Contents.{tx_id}
 use Rattle.sdb_types.proofs.Bools.{and_both, and_first}
-use Rattle.sdb_record.specs.declared.coordinator.Decided.{Decided}
 use Rattle.sdb_record.specs.declared.coordinator.Decision.TheVariants as decision
-use Rattle.sdb_record.specs.declared.meta.Meta.{Meta}
 use Rattle.sdb_record.specs.Meta.{id_in, id_in_value, is_in, is_moment, is_committed, is_transactional, is_unresolved, checked, checked_before, checked_part, refuse, with_before, is_misnamed}
 use Rattle.sdb_record.specs.Parts.{before_record, before_part, is_before_pair}
 use Rattle.sdb_record.specs.Rolls.{forward_record}
-use Rattle.sdb_record.proofs.Fine.{taken, refuse-ok}
+use Rattle.sdb_record.proofs.Fine.{accepted, refuse-ok}
 use Rattle.sdb_record.proofs.IdLemmas.{id_of_text-is}
 use Rattle.sdb_record.proofs.ImageLaws.{image-open, image-is, checked-state}
 use Rattle.law_clients.specs.ReadAt.{AreKinds, IsKind, kind_by, kind_of}
 use Rattle.law_clients.specs.Reader.{IsMetaOf}
-use Rattle.sdb_read.proofs.Images.{held_of}
-use Rattle.sdb_read.specs.Read.{Firm, Open, Bad}
+use Rattle.sdb_txn.proofs.Images.{held_of}
+use Rattle.sdb_txn.specs.Read.{Firm, Open, Bad}
 
 ---- a row's moment
 
@@ -49,7 +44,7 @@ id_fits (Some v) id h = absurd (cc)
 -- The metadata of an unresolved record is of its writer, and its state is open.
 pub meta_of : (r : Record) (m : Meta) → is_unresolved r ≡ true → checked r.columns ≡ Ok m → IsMetaOf r m
 meta_of r m loose says =
-    let t = taken r.columns m says in
+    let t = accepted r.columns m says in
     let writer : id_in r.columns ≡ Some m.id = t.1.says.id ∙ ap Some (final_id r.columns t.0 m t.2) in
     record { held = held_of r loose; writer = writer; fits = id_fits (column r.columns tx_id) m.id writer; is_open = sym (checked-state r.columns m says) ∙ held_of r loose }
 
@@ -58,20 +53,20 @@ meta_of r m loose says =
 -- What an unresolved record is rolled forward to is a committed record of its key.
 pub record IsFirm (k : Rattle.sdb_types.specs.declared.key.Key.Key) (b : Record) : Type 0 where
   pub key : b.key ≡ k
-  pub taken : is_transactional b ≡ true
+  pub accepted : is_transactional b ≡ true
   pub committed : is_in Committed b.columns ≡ true
 
 pub forward_firm : (r : Record) (m : ℤ) → is_unresolved r ≡ true → is_moment m ≡ true → IsFirm r.key (forward_record r m)
 forward_firm r m loose moment =
     let d : Option Decided = Some (record { decision = decision.Committed; created_at = m }) in
     let i = image-is r (forward_record r m) d (and_first (is_transactional r) (not (is_in Committed r.columns)) loose) moment (image-open r d (held_of r loose)) in
-    record { key = i.key; taken = i.taken; committed = i.committed }
+    record { key = i.key; accepted = i.accepted; committed = i.committed }
 
 -- And so is what it is rolled back to.
 pub before_firm : (r b : Record) → is_unresolved r ≡ true → before_record r ≡ Some b → IsFirm r.key b
 before_firm r b loose says =
     let i = image-is r b None (and_first (is_transactional r) (not (is_in Committed r.columns)) loose) tt (image-open r None (held_of r loose) ∙ says) in
-    record { key = i.key; taken = i.taken; committed = i.committed }
+    record { key = i.key; accepted = i.accepted; committed = i.committed }
 
 ---- kinds
 
@@ -80,13 +75,13 @@ pub kinds_are : AreKinds kind_of
 kinds_are r = by (is_transactional r) refl
   where
     committed : (m : Meta) → is_transactional r ≡ true → checked r.columns ≡ Ok m → (b : Bool) → is_committed m.state ≡ b → IsKind r (if b then Firm else Open m)
-    committed m taken says true t = (taken, checked-state r.columns m says ∙ t)
-    committed m taken says false f = (and_both (is_transactional r) (not (is_in Committed r.columns)) taken (ap not (checked-state r.columns m says ∙ f)), says)
+    committed m accepted says true t = (accepted, checked-state r.columns m says ∙ t)
+    committed m accepted says false f = (and_both (is_transactional r) (not (is_in Committed r.columns)) accepted (ap not (checked-state r.columns m says ∙ f)), says)
 
     at : (c : Result Meta (List ℕ)) → is_transactional r ≡ true → checked r.columns ≡ c → IsKind r (kind_by c)
-    at (Err column) taken says = tt
-    at (Ok m) taken says = committed m taken says (is_committed m.state) refl
+    at (Err column) accepted says = tt
+    at (Ok m) accepted says = committed m accepted says (is_committed m.state) refl
 
     by : (b : Bool) → is_transactional r ≡ b → IsKind r (if b then kind_by (checked r.columns) else Bad)
-    by true taken = at (checked r.columns) taken refl
+    by true accepted = at (checked r.columns) accepted refl
     by false f = tt

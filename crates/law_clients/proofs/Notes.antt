@@ -2,19 +2,14 @@
 use Rattle.std.proofs.Common.{ℤ, ◌≡◌, ℕ, Bool, true, false, List, [], ◌∷◌, ◌++◌, map, refl, sym, subst, ◌⊎◌, inl, inr}
 use Rattle.std.specs.Prelude.{Contains, ◌↔◌, filter, not, if◌then◌else◌}
 use Rattle.std.proofs.lemmas.List.Elements.{Contains-append_left, Contains-append_right, Contains-append_cases, Contains-push, Contains-push_cases}
-use Rattle.sdb_types.specs.declared.txid.TxId.{TxId}
-use Rattle.sdb_types.specs.declared.record.Record.{Record}
-use Rattle.sdb_record.specs.declared.access.Access.{Access}
+use Rattle.law_clients.specs.Types.{Access, Event, Read, Record, Scan, TxId}
 use Rattle.sdb_record.specs.declared.access.Access.TheVariants as access
 use Rattle.sdb_record.specs.Moved.{version_of}
 use Rattle.sdb_snapshot.specs.Reads.{reads_of}
 use Rattle.sdb_snapshot.specs.Seen.{Seen}
 use Rattle.law_clients.specs.Reads.{first_image, with_read, work_of}
 use Rattle.law_clients.specs.Calls.{read_item_with}
-use Rattle.sdb_record.specs.declared.access.Read.{Read}
-use Rattle.sdb_record.specs.declared.access.Scan.{Scan}
 use Rattle.sdb_record.specs.Among.{is_written}
-use Rattle.sdb_model.specs.declared.event.Event.{Event}
 use Rattle.sdb_model.specs.ReadSet.{ReadItem, KeyRead, SpanRead}
 use Rattle.law_protocol.specs.Plan.{Plan}
 use Rattle.law_protocol.specs.Lawful.{Labelled, protocol_state}
@@ -98,8 +93,8 @@ reads_notes p n h = by (Contains-append_cases (map KeyRead p.reads) (map SpanRea
     by (inr h) = checked (Contains-append_right (map KeyRead (filter (λ r. not (is_written p.writes r.key)) p.reads)) (map SpanRead p.scans) n h)
 
 -- Where what each COMMIT took is what the statements noted, so are the notes of the plans.
-pub are_noted : (plan : ℕ → Plan) (events : List Event) (past : List Labelled) (works : ℕ → Work) → ((t : ℕ) → (protocol_state past).taken t ≡ true → AreReads plan events (works t) t) → AreReadSets plan events past
-are_noted plan events past works all t taken n = let x = all t taken in (
+pub are_noted : (plan : ℕ → Plan) (events : List Event) (past : List Labelled) (works : ℕ → Work) → ((t : ℕ) → (protocol_state past).accepted t ≡ true → AreReads plan events (works t) t) → AreReadSets plan events past
+are_noted plan events past works all t accepted n = let x = all t accepted in (
   λ h. (x.as_read n).0 (notes_reads (works t) n (subst (λ (p : Plan). Contains p.read_set n) x.planned h)),
   λ h. subst (λ (p : Plan). Contains p.read_set n) (sym x.planned) (reads_notes (works t) n ((x.as_read n).1 h)),
 )

@@ -5,18 +5,13 @@ use Rattle.std.specs.List.{AllByRecursion, cons_option, filter_map}
 use Rattle.std.proofs.lemmas.Bool.{and_parts}
 use Rattle.std.proofs.lemmas.List.{append_assoc, append-nil}
 use Rattle.std.proofs.lemmas.List.Elements.{filter_map-append}
-use Rattle.sdb_types.specs.declared.txid.TxId.{TxId}
-use Rattle.sdb_types.specs.declared.record.Record.{Record}
-use Rattle.sdb_types.specs.declared.record.Reply.{Reply}
+use Rattle.law_clients.specs.Types.{Access, Meta, Record, RecoverPhase, RecoverStep, Reply, Request, TxId}
 use Rattle.sdb_types.specs.declared.record.Reply.TheVariants as reply
-use Rattle.sdb_types.specs.declared.record.Request.{Request}
 use Rattle.sdb_types.specs.declared.record.State.TheVariants as state
 use Rattle.sdb_types.specs.Contents.{CanAnswer, rise, starts_after}
 use Rattle.sdb_types.proofs.Basics.{all_last}
-use Rattle.sdb_record.specs.declared.access.Access.{Access}
 use Rattle.sdb_record.specs.declared.access.Access.TheVariants as access
 use Rattle.sdb_record.specs.declared.coordinator.Decision.TheVariants as decision
-use Rattle.sdb_record.specs.declared.meta.Meta.{Meta}
 use Rattle.sdb_record.specs.Coordinator.{coordinator_key_of, coordinator_row_of, is_coordinator_table}
 use Rattle.sdb_record.specs.Meta.{is_in, is_transactional, is_unresolved}
 use Rattle.sdb_record.specs.Moved.{version_of}
@@ -25,20 +20,18 @@ use Rattle.sdb_record.specs.Rolls.{forward_record, undo}
 use Rattle.sdb_model.specs.Calls.{StoreCall, is_read}
 use Rattle.sdb_model.specs.Events.{table_asked}
 use Rattle.sdb_model.specs.ReadSet.{KeyRead, SpanRead, condition_asked, meaning_of, read_item_of, read_items, reads_rows, rolls}
-use Rattle.sdb_phases.specs.declared.step.RecoverPhase.{RecoverPhase}
 use Rattle.sdb_phases.specs.declared.step.RecoverPhase.TheVariants as phase
-use Rattle.sdb_phases.specs.declared.step.RecoverStep.{RecoverStep}
 use Rattle.sdb_phases.specs.declared.step.RecoverStep.TheVariants as steps
 use Rattle.sdb_phases.specs.Recover.{recover_back, recover_forward, recover_next, recover_request_at, is_as_found}
 use Rattle.sdb_phases.specs.Work.{abort_of, look_of}
-use Rattle.sdb_read.specs.Read.{Bad, Firm, Kind, Open, request_of}
+use Rattle.sdb_txn.specs.Read.{Bad, Firm, Kind, Open, request_of}
 use Rattle.sdb_snapshot.specs.Reads.{reads_of}
 use Rattle.law_clients.specs.Reads.{first_image}
 use Rattle.law_clients.specs.ReadAt.{AreKinds, IsKind, ReadAt, Asking, Resolving, Done, Failed, after_recovery, read_pending, read_step, settle, settle_one, settle_reply}
 use Rattle.law_clients.proofs.Lists.{each_more}
 use Rattle.law_clients.specs.Calls.{HasMeaning, IsMade, ReadMade, RowsMade, read_item_with, rows_of}
 use Rattle.law_clients.proofs.Meanings.{IsRollTo, all_have_more, each_of, ends_rolled, find_last, goes_on_unrolled, meaning_rolled, meaning_settled, meanings_more, read_unrolled, reads_meant, rolls_none_after, unrolled_more}
-use Rattle.sdb_read.proofs.Images.{held_of}
+use Rattle.sdb_txn.proofs.Images.{held_of}
 
 some_is : {A : Type 0} (x y : A) → Some x ≡ Some y → y ≡ x
 some_is x y e = cc

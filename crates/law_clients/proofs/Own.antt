@@ -2,24 +2,17 @@
 use Rattle.std.proofs.Common.{◌≡◌, ◌≢◌, ◌≤◌, ◌<◌, ℕ, true, List, length, Option, Some, None, refl, sym, ap, subst, ◌∙◌, arith, ◌⊎◌, inl, inr}
 use Rattle.std.specs.Prelude.{slice_get}
 use Rattle.std.specs.Option.{option_map}
-use Rattle.sdb_types.specs.declared.key.Key.{Key}
-use Rattle.sdb_types.specs.declared.record.Reply.{Reply}
-use Rattle.sdb_types.specs.declared.record.Request.{Request}
+use Rattle.law_clients.specs.Types.{Answer, Check, How, Key, Outcome, Reply, Request, Write}
 use Rattle.sdb_types.specs.Contents.{CanAnswer}
 use Rattle.sdb_types.specs.declared.record.Condition.TheVariants as condition
-use Rattle.sdb_record.specs.declared.write.Write.{Write}
 use Rattle.sdb_record.specs.Rolls.{prepared_record, state_of_change, undo}
 use Rattle.sdb_record.proofs.TakenLaws.{prepared-base, open-left as open_state}
-use Rattle.sdb_model.specs.declared.answer.Answer.{Answer}
-use Rattle.sdb_model.specs.declared.event.How.{How}
 use Rattle.sdb_model.specs.declared.event.Event.TheVariants as event
 use Rattle.sdb_model.specs.Rows.{Name}
 use Rattle.law_protocol.specs.Plan.{Plan, write_at, written, version_read_at}
 use Rattle.law_protocol.specs.Lawful.{Labelled, id, protocol_state, ack_of, MayPrepare, MayCheck, MayDecide, MayAbort, MayRoll, MayRollForward, MayRollBack}
 use Rattle.law_protocol.proofs.Known.{writes_it, write_key}
 use Rattle.law_protocol.specs.Records.{write_there}
-use Rattle.sdb_phases.specs.declared.check.Check.{Check}
-use Rattle.sdb_phases.specs.declared.step.Outcome.{Outcome}
 use Rattle.sdb_phases.specs.declared.step.DecidePhase.TheVariants as phase
 use Rattle.sdb_phases.specs.Work.{Work, prepare_of, forward_of, back_of, decide_of, abort_of}
 use Rattle.sdb_phases.specs.Checks.{checks}
@@ -54,7 +47,7 @@ prepare_lawful plan past c i p w store how r a ok here = record {
 
 pub check_lawful : (plan : ℕ → Plan) (past : List Labelled) (c i : ℕ) (p : Work) (k : Check) (store : Name) (how : How) (r : Reply) (a : Option Answer) → CommitOk plan past c p (Checking i) → slice_get (checks p) i ≡ Some k
     → CanAnswer k.request r → as_wished p (Checking i) r ≡ true → MayCheck plan past (event.Call c store k.request how r a) p.id.0 i
-check_lawful plan past c i p k store how r a ok here can passed = let t = ok.work.tells i k r here can passed in record {
+check_lawful plan past c i p k store how r a ok here can passed = let t = ok.work.is_known i k r here can passed in record {
   client = c;
   item = t.item;
   q = k.request;
@@ -68,11 +61,11 @@ check_lawful plan past c i p k store how r a ok here can passed = let t = ok.wor
 
 ---- the deciding put
 
-all_prepared : (plan : ℕ → Plan) (past : List Labelled) (c : ℕ) (p : Work) (s : Stage) → CommitOk plan past c p s → AreAcknowledged (protocol_state past) p (length p.writes) → (k : Key) → written (plan_of p) k ≢ None → (protocol_state past).told p.id.0 k ≡ true
-all_prepared plan past c p s ok told k h =
+all_prepared : (plan : ℕ → Plan) (past : List Labelled) (c : ℕ) (p : Work) (s : Stage) → CommitOk plan past c p s → AreAcknowledged (protocol_state past) p (length p.writes) → (k : Key) → written (plan_of p) k ≢ None → (protocol_state past).answered p.id.0 k ≡ true
+all_prepared plan past c p s ok answered k h =
     let e = writes_it (plan_of p) k h in
     let f = ok.work.found k (write_there (plan_of p) k) e in
-    subst (λ q. (protocol_state past).told p.id.0 q ≡ true) (write_key (plan_of p) k (write_there (plan_of p) k) e) (told f.0 (write_there (plan_of p) k) (within p.writes f.0 (write_there (plan_of p) k) f.1) f.1)
+    subst (λ q. (protocol_state past).answered p.id.0 q ≡ true) (write_key (plan_of p) k (write_there (plan_of p) k) e) (answered f.0 (write_there (plan_of p) k) (within p.writes f.0 (write_there (plan_of p) k) f.1) f.1)
   where
     within : {A : Type 0} (xs : List A) (i : ℕ) (x : A) → slice_get xs i ≡ Some x → i < length xs
     within = Rattle.std.proofs.lemmas.Option.slice_get_within

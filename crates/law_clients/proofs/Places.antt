@@ -4,8 +4,7 @@ use Rattle.std.specs.Prelude.{find, if◌then◌else◌, ◌==◌, filter, not, 
 use Rattle.std.specs.Option.{option_map, option_and_then}
 use Rattle.std.proofs.lemmas.Bool.Decides.{nat_tests}
 use Rattle.std.proofs.lemmas.List.Sums.{take_while-cons}
-use Rattle.sdb_types.specs.declared.txid.TxId.{TxId}
-use Rattle.sdb_model.specs.declared.event.Event.{Event}
+use Rattle.law_clients.specs.Types.{Event, TxId}
 use Rattle.sdb_model.specs.Transactions.{Executed, begins, ends, statements_by, from_begin, first_of, rest_of, statements_since, begun, commit_of, client_of, ordinal_of, body, is_effective, statements_inside}
 use Rattle.std.specs.List.{AllByRecursion}
 use Rattle.law_clients.proofs.Lists.{each_more}
@@ -135,21 +134,21 @@ finished_ok (g ∷ fs) (suc k) f w e = finished_ok fs k f w.1 e
 
 -- A transaction that ended began with its BEGIN, and its COMMIT is what ended it, where that reads as one.
 pub finished_is : (events : List Event) (id : TxId) (whole : List Finished) (more : List Executed) (k : ℕ) (f : Finished) → statements_by (client_of id) events ≡ saids_of whole ++ more → ordinal_of id ≡ suc k → AllByRecursion IsEndedTxn whole → txn_ended_at whole k ≡ Some f
-    → (begun events id ≡ Some f.begin.taken) × (commit_of events id ≡ commit_in f.last)
+    → (begun events id ≡ Some f.begin.accepted) × (commit_of events id ≡ commit_in f.last)
 finished_is events id whole more k f same ordinal w e =
     let r = since whole more k f w e in
     let ok = finished_ok whole k f w e in
     let here : statements_since events id ≡ f.begin ∷ (f.body ++ f.last ∷ r.0) = ap (λ n. from_begin n (statements_by (client_of id) events)) ordinal ∙ ap (from_begin (suc k)) same ∙ r.1 in (
-      ap (λ ss. option_map (λ (s : Executed). s.taken) (first_of ss)) here,
+      ap (λ ss. option_map (λ (s : Executed). s.accepted) (first_of ss)) here,
       ap (λ ss. option_and_then commit_in (find ends (rest_of ss))) here ∙ ap (option_and_then commit_in) (ends_at f.body f.last r.0 ok.body ok.last),
     )
 
 -- An open one began, and has no COMMIT.
 pub open_is : (events : List Event) (id : TxId) (whole : List Finished) (gap : List Executed) (b : Executed) (body : List Executed) → statements_by (client_of id) events ≡ saids_of whole ++ (gap ++ b ∷ body) → ordinal_of id ≡ suc (length whole) → AllByRecursion IsEndedTxn whole → IsRest (Opened gap b body)
-    → (begun events id ≡ Some b.taken) × (commit_of events id ≡ None)
+    → (begun events id ≡ Some b.accepted) × (commit_of events id ≡ None)
 open_is events id whole gap b body same ordinal w rest =
     let here : statements_since events id ≡ b ∷ body = ap (λ n. from_begin n (statements_by (client_of id) events)) ordinal ∙ ap (from_begin (suc (length whole))) same ∙ since_open whole gap b body w rest.0 rest.1 in (
-      ap (λ ss. option_map (λ (s : Executed). s.taken) (first_of ss)) here,
+      ap (λ ss. option_map (λ (s : Executed). s.accepted) (first_of ss)) here,
       ap (λ ss. option_and_then commit_in (find ends (rest_of ss))) here ∙ ap (option_and_then commit_in) (ends_nowhere body rest.2),
     )
 
@@ -158,7 +157,7 @@ pub none_is : (events : List Event) (id : TxId) (whole : List Finished) (gap : L
     → (begun events id ≡ None) × (commit_of events id ≡ None)
 none_is events id whole gap k same ordinal l w p =
     let here : statements_since events id ≡ [] = ap (λ n. from_begin n (statements_by (client_of id) events)) ordinal ∙ ap (from_begin (suc k)) same ∙ since_none whole gap k w p l in
-    (ap (λ ss. option_map (λ (s : Executed). s.taken) (first_of ss)) here, ap (λ ss. option_and_then commit_in (find ends (rest_of ss))) here)
+    (ap (λ ss. option_map (λ (s : Executed). s.accepted) (first_of ss)) here, ap (λ ss. option_and_then commit_in (find ends (rest_of ss))) here)
 
 -- Behind the open one there is none.
 pub since_past : (whole : List Finished) (gap : List Executed) (b : Executed) (body : List Executed) (k : ℕ) → AllByRecursion IsEndedTxn whole → IsRest (Opened gap b body) → length whole < k → from_begin (suc k) (saids_of whole ++ (gap ++ b ∷ body)) ≡ []
@@ -174,7 +173,7 @@ pub past_is : (events : List Event) (id : TxId) (whole : List Finished) (gap : L
     → (begun events id ≡ None) × (commit_of events id ≡ None)
 past_is events id whole gap b body k same ordinal l w rest =
     let here : statements_since events id ≡ [] = ap (λ n. from_begin n (statements_by (client_of id) events)) ordinal ∙ ap (from_begin (suc k)) same ∙ since_past whole gap b body k w rest l in
-    (ap (λ ss. option_map (λ (s : Executed). s.taken) (first_of ss)) here, ap (λ ss. option_and_then commit_in (find ends (rest_of ss))) here)
+    (ap (λ ss. option_map (λ (s : Executed). s.accepted) (first_of ss)) here, ap (λ ss. option_and_then commit_in (find ends (rest_of ss))) here)
 
 ---- bodies
 

@@ -1,12 +1,7 @@
--- Turns that play no part: statements taken and answered, moves of the clock, idle steps; and moves without an event.
+-- Turns that play no part: statements accepted and answered, moves of the clock, idle steps; and moves without an event.
 use Rattle.std.proofs.Common.{◌≡◌, ℕ, Bool, true, false, List, ◌∷◌, refl, sym, ap, subst, ◌∙◌, ◌⊎◌, inl, inr}
-use Rattle.sdb_types.specs.declared.txid.TxId.{TxId}
-use Rattle.sdb_types.specs.declared.record.Record.{Record}
-use Rattle.sdb_types.specs.declared.record.Span.{Span}
-use Rattle.sdb_record.specs.declared.access.Access.{Access}
+use Rattle.law_clients.specs.Types.{Access, Event, Keyed, Record, Span, TxId}
 use Rattle.sdb_record.specs.declared.access.Access.TheVariants as access
-use Rattle.sdb_record.specs.declared.write.Keyed.{Keyed}
-use Rattle.sdb_model.specs.declared.event.Event.{Event}
 use Rattle.sdb_model.specs.declared.event.Event.TheVariants as event
 use Rattle.law_protocol.specs.Plan.{Plan}
 use Rattle.law_protocol.specs.History.{Other, Stops, ProtocolState, state_after_event}
@@ -29,25 +24,25 @@ quiet_spares d x e = record { parts = λ t h. record { part = tt; ends = λ u n.
 
 pub quiet_turn : (plan : ℕ → Plan) (past : List Labelled) (sys : SystemAt) (e : Event) → SystemOk plan past sys → IsQuiet e → SystemOk plan (labelled_with Other e ∷ past) sys
 quiet_turn plan past sys e ok quiet = record {
-  lawful = (ok.lawful, quiet.quiet, λ a. absurd (quiet.other a), λ a executed denial u ends taken. absurd (cc (ends)));
+  lawful = (ok.lawful, quiet.quiet, λ a. absurd (quiet.other a), λ a executed denial u ends accepted. absurd (cc (ends)));
   each = λ d. client_later plan past d (labelled_with Other e) (sys.clients d) (quiet_spares d (sys.clients d) e) (ok.each d);
   opened = ok.opened;
   gate = ok.gate;
   ids = λ u b. let i = ok.ids u b in record { ordinal = i.ordinal; most = i.most; owner = i.owner };
 }
 
--- An answer that isn't Committed ends a transaction whose COMMIT was not taken.
+-- An answer that isn't Committed ends a transaction whose COMMIT was not accepted.
 pub leave_turn : (plan : ℕ → Plan) (past : List Labelled) (sys : SystemAt) (c : ℕ) (id : TxId) (seen : Seen) (e : Event) → IsInState plan past sys c (Open id seen) → IsBy c e → IsQuiet e
     → SystemOk plan (ends_with id.0 Other e ∷ past) (with_client sys c Resting)
-leave_turn plan past sys c id seen e stands by quiet = turned plan past sys c (ends_with id.0 Other e) Resting stands.ok (record {
+leave_turn plan past sys c id seen e agrees by quiet = turned plan past sys c (ends_with id.0 Other e) Resting agrees.ok (record {
   by = by;
   may = quiet.quiet;
   ends = λ u n. subst (λ t. (protocol_state past).owner t ≡ c) (some_is id.0 u n) here.0.owner;
   begins = tt;
-  tells = λ a. absurd (quiet.other a);
-  denies = λ a executed denial u n taken. absurd (clash (sym taken ∙ ap (protocol_state past).taken (sym (some_is id.0 u n)) ∙ here.0.fresh));
+  is_known = λ a. absurd (quiet.other a);
+  denies = λ a executed denial u n accepted. absurd (clash (sym accepted ∙ ap (protocol_state past).accepted (sym (some_is id.0 u n)) ∙ here.0.fresh));
   knows = here.0.goes_on;
-  holds = λ u h o. absurd (not_open (protocol_state past) Other id.0 u (subst (λ x. Has x u) stands.at h) o);
+  holds = λ u h o. absurd (not_open (protocol_state past) Other id.0 u (subst (λ x. Has x u) agrees.at h) o);
   starts = no_start Resting refl;
 })
   where
@@ -55,7 +50,7 @@ leave_turn plan past sys c id seen e stands by quiet = turned plan past sys c (e
     clash e = cc
 
     here : OpenOk (protocol_state past) c id.0 × SeenOk past seen
-    here = subst (ClientOk plan past c) stands.at (stands.ok.each c)
+    here = subst (ClientOk plan past c) agrees.at (agrees.ok.each c)
 
 pub stop_turn : (plan : ℕ → Plan) (past : List Labelled) (sys : SystemAt) (c : ℕ) → SystemOk plan past sys → SystemOk plan (labelled_with (Stops c) (event.Stop c) ∷ past) (with_client sys c Stopped)
 stop_turn plan past sys c ok = turned plan past sys c (labelled_with (Stops c) (event.Stop c)) Stopped ok (record {
@@ -63,7 +58,7 @@ stop_turn plan past sys c ok = turned plan past sys c (labelled_with (Stops c) (
   may = refl;
   ends = λ u n. absurd (cc (n));
   begins = tt;
-  tells = λ a. absurd (cc (a));
+  is_known = λ a. absurd (cc (a));
   denies = λ a executed. absurd (cc (executed));
   knows = stopped (protocol_state past) c;
   holds = λ u h o. inl (stopped (protocol_state past) c);
@@ -79,24 +74,24 @@ no_gate : (h : ProtocolState) (x : ClientAt) → is_in_vacuum x ≡ false → is
 no_gate h x f t = no_start x f t
 
 pub asks : (plan : ℕ → Plan) (past : List Labelled) (sys : SystemAt) (c : ℕ) (id : TxId) (seen : Seen) (a : Access) → IsInState plan past sys c (Open id seen) → IsOfData a → SystemOk plan past (with_client sys c (Reading id seen a Asking))
-asks plan past sys c id seen a stands tables =
-    let here : OpenOk (protocol_state past) c id.0 × SeenOk past seen = subst (ClientOk plan past c) stands.at (stands.ok.each c) in
-    moved plan past sys c (Reading id seen a Asking) stands.ok (here.0, here.1, tables, tt) (λ u h. subst (λ x. Has x u) stands.at h) (no_gate (protocol_state past) (Reading id seen a Asking) refl)
+asks plan past sys c id seen a agrees tables =
+    let here : OpenOk (protocol_state past) c id.0 × SeenOk past seen = subst (ClientOk plan past c) agrees.at (agrees.ok.each c) in
+    moved plan past sys c (Reading id seen a Asking) agrees.ok (here.0, here.1, tables, tt) (λ u h. subst (λ x. Has x u) agrees.at h) (no_gate (protocol_state past) (Reading id seen a Asking) refl)
 
 pub read_set : (plan : ℕ → Plan) (past : List Labelled) (sys : SystemAt) (c : ℕ) (id : TxId) (seen : Seen) (a : Access) (images : List Record) → IsInState plan past sys c (Reading id seen a (Done images)) → MayRecord seen a images → SystemOk plan past (with_client sys c (Open id (with_read seen a images)))
-read_set plan past sys c id seen a images stands free =
-    let here : OpenOk (protocol_state past) c id.0 × SeenOk past seen × IsOfData a × ReadOk past a (Done images) = subst (ClientOk plan past c) stands.at (stands.ok.each c) in
-    moved plan past sys c (Open id (with_read seen a images)) stands.ok (here.0, read_noted past seen a images here.1 here.2 free here.3.0 here.3.1) (λ u h. subst (λ x. Has x u) stands.at h) (no_gate (protocol_state past) (Open id (with_read seen a images)) refl)
+read_set plan past sys c id seen a images agrees free =
+    let here : OpenOk (protocol_state past) c id.0 × SeenOk past seen × IsOfData a × ReadOk past a (Done images) = subst (ClientOk plan past c) agrees.at (agrees.ok.each c) in
+    moved plan past sys c (Open id (with_read seen a images)) agrees.ok (here.0, read_noted past seen a images here.1 here.2 free here.3.0 here.3.1) (λ u h. subst (λ x. Has x u) agrees.at h) (no_gate (protocol_state past) (Open id (with_read seen a images)) refl)
 
 pub gives_up : (plan : ℕ → Plan) (past : List Labelled) (sys : SystemAt) (c : ℕ) (id : TxId) (seen : Seen) (a : Access) (s : ReadAt) → IsInState plan past sys c (Reading id seen a s) → SystemOk plan past (with_client sys c (Open id seen))
-gives_up plan past sys c id seen a s stands =
-    let here : OpenOk (protocol_state past) c id.0 × SeenOk past seen × IsOfData a × ReadOk past a s = subst (ClientOk plan past c) stands.at (stands.ok.each c) in
-    moved plan past sys c (Open id seen) stands.ok (here.0, here.1) (λ u h. subst (λ x. Has x u) stands.at h) (no_gate (protocol_state past) (Open id seen) refl)
+gives_up plan past sys c id seen a s agrees =
+    let here : OpenOk (protocol_state past) c id.0 × SeenOk past seen × IsOfData a × ReadOk past a s = subst (ClientOk plan past c) agrees.at (agrees.ok.each c) in
+    moved plan past sys c (Open id seen) agrees.ok (here.0, here.1) (λ u h. subst (λ x. Has x u) agrees.at h) (no_gate (protocol_state past) (Open id seen) refl)
 
 pub writes : (plan : ℕ → Plan) (past : List Labelled) (sys : SystemAt) (c : ℕ) (id : TxId) (seen : Seen) (changes : List Keyed) → IsInState plan past sys c (Open id seen) → AreChanges seen.read_set changes → SystemOk plan past (with_client sys c (Open id (with_written seen changes)))
-writes plan past sys c id seen changes stands valid =
-    let here : OpenOk (protocol_state past) c id.0 × SeenOk past seen = subst (ClientOk plan past c) stands.at (stands.ok.each c) in
-    moved plan past sys c (Open id (with_written seen changes)) stands.ok (here.0, write_kept past seen changes here.1 valid) (λ u h. subst (λ x. Has x u) stands.at h) (no_gate (protocol_state past) (Open id (with_written seen changes)) refl)
+writes plan past sys c id seen changes agrees valid =
+    let here : OpenOk (protocol_state past) c id.0 × SeenOk past seen = subst (ClientOk plan past c) agrees.at (agrees.ok.each c) in
+    moved plan past sys c (Open id (with_written seen changes)) agrees.ok (here.0, write_kept past seen changes here.1 valid) (λ u h. subst (λ x. Has x u) agrees.at h) (no_gate (protocol_state past) (Open id (with_written seen changes)) refl)
 
 ---- VACUUM's start and end
 
@@ -119,19 +114,19 @@ gate_shut plan past sys ok none u o = by (ok.opened u o)
     by (inr h) = absurd (clash (sym (has_is_open (sys.clients ((protocol_state past).owner u)) u h) ∙ none ((protocol_state past).owner u)))
 
 pub sweep_starts : (plan : ℕ → Plan) (past : List Labelled) (sys : SystemAt) (c : ℕ) (span : Span) → IsInState plan past sys c Resting → NoneOpen sys → IsOfData (access.Scan span) → SystemOk plan past (with_client sys c (RunsVacuum (Scanning span)))
-sweep_starts plan past sys c span stands none tables =
-    moved plan past sys c (RunsVacuum (Scanning span)) stands.ok (subst (ClientOk plan past c) stands.at (stands.ok.each c), tables) (λ u h. absurd (subst (λ x. Has x u) stands.at h)) (λ t. gate_shut plan past sys stands.ok none)
+sweep_starts plan past sys c span agrees none tables =
+    moved plan past sys c (RunsVacuum (Scanning span)) agrees.ok (subst (ClientOk plan past c) agrees.at (agrees.ok.each c), tables) (λ u h. absurd (subst (λ x. Has x u) agrees.at h)) (λ t. gate_shut plan past sys agrees.ok none)
 
 pub sweep_goes : (plan : ℕ → Plan) (past : List Labelled) (sys : SystemAt) (c : ℕ) (v : VacuumModel) (span : Span) → IsInState plan past sys c (RunsVacuum v) → IsOfData (access.Scan span) → SystemOk plan past (with_client sys c (RunsVacuum (Scanning span)))
-sweep_goes plan past sys c v span stands tables =
-    moved plan past sys c (RunsVacuum (Scanning span)) stands.ok ((going).0, tables) (λ u h. absurd (subst (λ x. Has x u) stands.at h)) (λ t. stands.ok.gate c (ap is_in_vacuum stands.at))
+sweep_goes plan past sys c v span agrees tables =
+    moved plan past sys c (RunsVacuum (Scanning span)) agrees.ok ((running).0, tables) (λ u h. absurd (subst (λ x. Has x u) agrees.at h)) (λ t. agrees.ok.gate c (ap is_in_vacuum agrees.at))
   where
-    going : ClientOk plan past c (RunsVacuum v)
-    going = subst (ClientOk plan past c) stands.at (stands.ok.each c)
+    running : ClientOk plan past c (RunsVacuum v)
+    running = subst (ClientOk plan past c) agrees.at (agrees.ok.each c)
 
 pub sweep_ends : (plan : ℕ → Plan) (past : List Labelled) (sys : SystemAt) (c : ℕ) (v : VacuumModel) → IsInState plan past sys c (RunsVacuum v) → SystemOk plan past (with_client sys c Resting)
-sweep_ends plan past sys c v stands =
-    moved plan past sys c Resting stands.ok (going.0) (λ u h. absurd (subst (λ x. Has x u) stands.at h)) (no_gate (protocol_state past) Resting refl)
+sweep_ends plan past sys c v agrees =
+    moved plan past sys c Resting agrees.ok (running.0) (λ u h. absurd (subst (λ x. Has x u) agrees.at h)) (no_gate (protocol_state past) Resting refl)
   where
-    going : ClientOk plan past c (RunsVacuum v)
-    going = subst (ClientOk plan past c) stands.at (stands.ok.each c)
+    running : ClientOk plan past c (RunsVacuum v)
+    running = subst (ClientOk plan past c) agrees.at (agrees.ok.each c)

@@ -2,38 +2,27 @@
 use Rattle.std.proofs.Common.{◌≡◌, ◌⊎◌, inl, inr, ℕ, Bool, true, false, not, ◌&&◌, ◌||◌, List, [], ◌∷◌, ◌++◌, Option, Some, None, refl, sym, ap, subst, ◌∙◌}
 use Rattle.std.specs.Prelude.{if◌then◌else◌}
 use Rattle.std.specs.Option.{option_map}
-use Rattle.sdb_types.specs.declared.key.Key.{Key}
-use Rattle.sdb_types.specs.declared.record.Record.{Record}
-use Rattle.sdb_types.specs.declared.record.Request.{Request}
+use Rattle.law_clients.specs.Types.{Access, Answer, Doing, Event, Key, Keyed, Next, PlanStep, Record, Request, Scan, Table}
 use Rattle.sdb_types.specs.Exactness.{span_is_exact}
-use Rattle.sdb_record.specs.declared.access.Access.{Access}
 use Rattle.sdb_record.specs.declared.access.Access.TheVariants as access
-use Rattle.sdb_record.specs.declared.access.Scan.{Scan}
-use Rattle.sdb_record.specs.declared.write.Keyed.{Keyed}
-use Rattle.sdb_schema.specs.declared.table.Table.{Table}
 use Rattle.sdb_schema.specs.Catalog.{is_catalog}
-use Rattle.sdb_model.specs.declared.answer.Answer.{Answer}
 use Rattle.sdb_model.specs.declared.answer.Answer.TheVariants as answer
-use Rattle.sdb_model.specs.declared.event.Event.{Event}
 use Rattle.sdb_model.specs.Causes.{refused}
 use Rattle.sdb_model.specs.Refused.{refusal_by}
 use Rattle.sdb_model.specs.Transactions.{changes_nothing, is_answered_from_rows}
-use Rattle.sdb_exec.specs.declared.plan.PlanStep.{PlanStep}
 use Rattle.sdb_exec.specs.declared.plan.PlanStep.TheVariants.{Finished}
 use Rattle.sdb_exec.specs.Plans.{Planned, finished, first_unfit, step_at, step_of}
 use Rattle.sdb_model.specs.Reads.{access_of}
 use Rattle.sdb_exec.proofs.Places.{named_is_table}
 use Rattle.law_protocol.specs.History.{at}
-use Rattle.sdb_read.specs.declared.read.ReadStep.TheVariants as step
-use Rattle.sdb_read.specs.Read.{ReadAt, ReadStage, Asking, Resolving, Ended, read_pending_at, read_result, read_step, request_of}
+use Rattle.sdb_txn.specs.declared.read.ReadStep.TheVariants as step
+use Rattle.sdb_txn.specs.Read.{ReadAt, ReadStage, Asking, Resolving, Ended, read_pending_at, read_result, read_step, request_of}
 use Rattle.sdb_snapshot.specs.Sets.{IsSetInvariant}
 use Rattle.sdb_snapshot.specs.Reads.{reads_of}
 use Rattle.sdb_snapshot.specs.Seen.{Seen, is_scanned, overlay, same_span, with_written}
 use Rattle.sdb_snapshot.specs.Written.{AreChanges}
-use Rattle.sdb_txn.specs.declared.txn.Doing.{Doing}
 use Rattle.sdb_txn.specs.declared.txn.Doing.TheVariants as doing
 use Rattle.sdb_txn.specs.Txn.{TxnAt, idle as idle_of, pending, pending_in}
-use Rattle.sdb_client.specs.declared.next.Next.{Next}
 use Rattle.sdb_client.specs.declared.next.Next.TheVariants as next
 use Rattle.sdb_vacuum.specs.Vacuum.{VacuumAt}
 use Rattle.sdb_client.specs.Client.{CallPost, ClientAt as Client, RowsReadPost, IsAsRead, StagePost, after, answer_in, gives, given_answer, given_left, holding, with_rows_read, pending_by, pending_of, resting, too_many, written}
@@ -134,20 +123,20 @@ module _ (catalog : List Table) (events : List Event) (states : ℕ → ClientSt
     runs_it = ap (λ (o : Option Planned). option_map (λ (q : Planned). q.statement) o) plan
 
     valid : IsValidPlan p
-    valid = record { asked = k.asked; table = named_is_table catalog p.statement p.table is k.named; taken = sym (ap (λ (o : Option Table). refusal_by o p.statement) k.named) ∙ k.taken; literals = k.literals }
+    valid = record { asked = k.asked; table = named_is_table catalog p.statement p.table is k.named; accepted = sym (ap (λ (o : Option Table). refusal_by o p.statement) k.named) ∙ k.accepted; literals = k.literals }
 
     -- the read goes on
     abbrev read_then : laws.ReadAt
     read_then = laws.read_step machine_kind (abstract_read x.stage) y.now y.reply
 
-    going : RunInvariant catalog (tables_are_well_typed catalog) (events ++ call_event y None ∷ []) (with_client (system_of states) y.client (Reading t.id t.seen a read_then)) (at (doing_of states) y.client (doing_of states y.client))
-    going = going_reads catalog (tables_are_well_typed catalog) events (system_of states) (doing_of states) g y.client y.store y.request y.how y.reply y.now machine_kind machine_kinds t.id t.seen a (abstract_read x.stage) here asked
+    running : RunInvariant catalog (tables_are_well_typed catalog) (events ++ call_event y None ∷ []) (with_client (system_of states) y.client (Reading t.id t.seen a read_then)) (at (doing_of states) y.client (doing_of states y.client))
+    running = going_reads catalog (tables_are_well_typed catalog) events (system_of states) (doing_of states) g y.client y.store y.request y.how y.reply y.now machine_kind machine_kinds t.id t.seen a (abstract_read x.stage) here asked
 
     reads_on : (s : ReadStage) → read_step x.stage y.now y.reply ≡ s → RepliedSo None (record now { txn = Some (record t { doing = doing.Read a (record x { stage = s }) }) })
     reads_on s e =
         moved catalog (tables_are_well_typed catalog) states y.client (record now { txn = Some (record t { doing = doing.Read a (record x { stage = s }) }) }) (events ++ call_event y None ∷ []) free refl
         (subst (λ (z : laws.ReadAt). RunInvariant catalog (tables_are_well_typed catalog) (events ++ call_event y None ∷ []) (with_client (system_of states) y.client (Reading t.id t.seen a z)) (at (doing_of states) y.client (doing_of states y.client)))
-        (sym (machine_steps x.stage y.now y.reply) ∙ ap abstract_read e) going)
+        (sym (machine_steps x.stage y.now y.reply) ∙ ap abstract_read e) running)
 
     -- it is answered as one that changes nothing, and its read has not finished
     abbrev Unfinished : Answer → Type 0
@@ -199,25 +188,25 @@ module _ (catalog : List Table) (events : List Event) (states : ℕ → ClientSt
       done : read_then ≡ Done images
       done = sym (machine_steps x.stage y.now y.reply) ∙ ap abstract_read ends
 
-      after_read : SystemOk going.plan going.past (with_client (with_client (system_of states) y.client (Reading t.id t.seen a read_then)) y.client (Open t.id seen))
+      after_read : SystemOk running.plan running.past (with_client (with_client (system_of states) y.client (Reading t.id t.seen a read_then)) y.client (Open t.id seen))
       after_read =
-          read_set going.plan going.past (with_client (system_of states) y.client (Reading t.id t.seen a read_then)) y.client t.id t.seen a images
-          (record { ok = going.system; at = at_itself (system_of states).clients y.client (Reading t.id t.seen a read_then) ∙ ap (Reading t.id t.seen a) done })
+          read_set running.plan running.past (with_client (system_of states) y.client (Reading t.id t.seen a read_then)) y.client t.id t.seen a images
+          (record { ok = running.system; at = at_itself (system_of states).clients y.client (Reading t.id t.seen a read_then) ∙ ap (Reading t.id t.seen a) done })
           (may_note t a images as_read)
 
       kept : IsSetInvariant seen.read_set seen.writes
       kept =
-          (subst (ClientOk going.plan going.past y.client) (at_itself (with_client (system_of states) y.client (Reading t.id t.seen a read_then)).clients y.client (Open t.id seen)) (after_read.each y.client)).1.kept
+          (subst (ClientOk running.plan running.past y.client) (at_itself (with_client (system_of states) y.client (Reading t.id t.seen a read_then)).clients y.client (Open t.id seen)) (after_read.each y.client)).1.kept
 
       step_seen : (v : TxnAt) (b : Answer) (ks : List Keyed) → IsNoting t a images v → gives p a v ≡ Finished b ks → step_of p (overlay (access_of p.table p.statement) seen) ≡ Finished b ks
       step_seen v b ks n h = sym (ap (λ (q : Access). step_of p (overlay q seen)) k.access) ∙ ap (λ (s : Seen). step_of p (overlay a s)) (sym n.seen) ∙ h
 
       -- it is answered from the rows
-      tells : (v : TxnAt) (b : Answer) (ks : List Keyed) → IsNoting t a images v → gives p a v ≡ Finished b ks → is_answered_from_rows b ≡ true → RepliedSo (Some b) (holding now (written v ks))
-      tells v b ks n gave rows =
+      is_known : (v : TxnAt) (b : Answer) (ks : List Keyed) → IsNoting t a images v → gives p a v ≡ Finished b ks → is_answered_from_rows b ≡ true → RepliedSo (Some b) (holding now (written v ks))
+      is_known v b ks n gave rows =
           let h : step_of p (overlay (access_of p.table p.statement) seen) ≡ Finished b ks = step_seen v b ks n gave in
           let changes : AreChanges seen.read_set ks = subst (MayWrite seen.read_set) h (may_write seen p valid kept (subst (IsKeyRead seen.read_set) k.access (key_read_now t.seen a images))) in
-          let answers : AnswersOn catalog (tables_are_well_typed catalog) seen p.statement a b ks = subst (λ (q : Access). AnswersOn catalog (tables_are_well_typed catalog) seen p.statement q b ks) (sym k.access) (answers_on catalog p seen b ks is k.named k.asked k.taken k.literals h) in
+          let answers : AnswersOn catalog (tables_are_well_typed catalog) seen p.statement a b ks = subst (λ (q : Access). AnswersOn catalog (tables_are_well_typed catalog) seen p.statement q b ks) (sym k.access) (answers_on catalog p seen b ks is k.named k.asked k.accepted k.literals h) in
           moved catalog (tables_are_well_typed catalog) states y.client (holding now (written v ks)) (events ++ call_event y (Some b) ∷ []) free refl
           (subst (λ (z : ClientAt). RunInvariant catalog (tables_are_well_typed catalog) (events ++ call_event y (Some b) ∷ []) (with_client (system_of states) y.client z) (at (doing_of states) y.client None)) (sym by_doing)
           (going_tells catalog (tables_are_well_typed catalog) events (system_of states) (doing_of states) g y.client y.store y.request y.how y.reply y.now machine_kind machine_kinds t.id t.seen a (abstract_read x.stage) here asked b p.statement runs_it images ks
@@ -244,10 +233,10 @@ module _ (catalog : List Table) (events : List Event) (states : ℕ → ClientSt
       finished_so v b ks n gave finishes rows =
           by_test (changes_nothing b)
           (λ q. rw q (rw q (keeps v b n q finishes)))
-          (λ q. by_test (too_many v ks) (λ m. rw (q, m) (keeps v (refused 15) n refl (λ ms made. refl))) (λ m. rw (q, m) (rw q (tells v b ks n gave (rows q)))))
+          (λ q. by_test (too_many v ks) (λ m. rw (q, m) (keeps v (refused 15) n refl (λ ms made. refl))) (λ m. rw (q, m) (rw q (is_known v b ks n gave (rows q)))))
 
-      told : (v : TxnAt) → IsNoting t a images v → Told v (gives p a v)
-      told v n = by_unfit (first_unfit p.table (overlay a v.seen)) refl
+      answered : (v : TxnAt) → IsNoting t a images v → Told v (gives p a v)
+      answered v n = by_unfit (first_unfit p.table (overlay a v.seen)) refl
         where
           not_is : (b : Bool) → not b ≡ true → b ≡ false
           not_is true h = absurd (cc)
@@ -263,7 +252,7 @@ module _ (catalog : List Table) (events : List Event) (states : ℕ → ClientSt
     images_case : (images : List Record) → read_step x.stage y.now y.reply ≡ Ended (step.Images images) → (n : Next) (u : TxnAt) → RowsReadPost t p a images n u → LedSo n u
     images_case images ends (next.Answer z) u h =
         as_led (next.Answer z) (next.Answer (given_answer (with_rows_read t a images) (gives p a (with_rows_read t a images)))) u (given_left (with_rows_read t a images) (gives p a (with_rows_read t a images))) (ap next.Answer h.1) h.2
-        (told images ends h.0 (with_rows_read t a images) (is_noting t a images))
+        (answered images ends h.0 (with_rows_read t a images) (is_noting t a images))
     images_case images ends (next.End (answer.Conflict key found)) u h = differs key found
     images_case images ends n u h = absurd h
 
@@ -281,4 +270,4 @@ module _ (catalog : List Table) (events : List Event) (states : ℕ → ClientSt
     replied_read n u h =
         by_next n
         (λ e. as_led n (next.Answer answer.NoMemory) u (idle_of t) e (h.memory e) (fails answer.NoMemory refl (λ ms m made is. refl)))
-        (λ e. stage_case (read_step x.stage y.now y.reply) refl n u (h.told e))
+        (λ e. stage_case (read_step x.stage y.now y.reply) refl n u (h.answered e))

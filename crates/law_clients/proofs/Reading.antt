@@ -2,40 +2,30 @@
 use Rattle.std.proofs.Common.{◌≡◌, ℕ, ℤ, Bool, true, false, List, ◌∷◌, Option, Some, None, refl, sym, ap, subst, ◌∙◌, arith, inl, inr, Ok, Err, Result}
 use Rattle.std.specs.Prelude.{if◌then◌else◌}
 use Rattle.std.proofs.lemmas.Bool.Decides.{nat_tests}
-use Rattle.sdb_types.specs.declared.key.Key.{Key}
-use Rattle.sdb_types.specs.declared.record.Record.{Record}
-use Rattle.sdb_types.specs.declared.record.Reply.{Reply}
+use Rattle.law_clients.specs.Types.{Answer, Decided, Decision, How, Key, Meta, Record, RecoverPhase, RecoverStep, Reply, Request}
 use Rattle.sdb_types.specs.declared.record.Reply.TheVariants as reply
-use Rattle.sdb_types.specs.declared.record.Request.{Request}
 use Rattle.sdb_types.specs.Contents.{CanAnswer}
-use Rattle.sdb_record.specs.declared.coordinator.Decision.{Decision}
 use Rattle.sdb_record.specs.declared.coordinator.Decision.TheVariants as decision
-use Rattle.sdb_record.specs.declared.coordinator.Decided.{Decided}
-use Rattle.sdb_record.specs.declared.meta.Meta.{Meta}
 use Rattle.sdb_record.specs.Coordinator.{coordinator_key_of, decision_in, is_expired}
 use Rattle.sdb_record.specs.Meta.{is_moment}
 use Rattle.sdb_record.specs.Parts.{before_record}
 use Rattle.sdb_record.specs.Rolls.{forward_record}
 use Rattle.sdb_record.proofs.ImageLaws.{row-key}
-use Rattle.sdb_model.specs.declared.answer.Answer.{Answer}
-use Rattle.sdb_model.specs.declared.event.How.{How}
 use Rattle.sdb_model.specs.declared.event.Event.TheVariants as event
 use Rattle.sdb_model.specs.Rows.{Name}
 use Rattle.law_protocol.specs.Plan.{Plan}
 use Rattle.law_protocol.specs.History.{Other, Aborts, ProtocolState, Yes, state_after_event}
 use Rattle.law_protocol.specs.Lawful.{Labelled, protocol_state, IsObserved, IsPreparedObserved, IsKnownAborted, IsSettled, Forward, Back, IsEnabled, MayRoll, labelled_with}
-use Rattle.sdb_phases.specs.declared.step.RecoverStep.{RecoverStep}
 use Rattle.sdb_phases.specs.declared.step.RecoverStep.TheVariants as steps
-use Rattle.sdb_phases.specs.declared.step.RecoverPhase.{RecoverPhase}
 use Rattle.sdb_phases.specs.declared.step.RecoverPhase.TheVariants as phase
 use Rattle.sdb_phases.specs.Work.{look_of, abort_of}
 use Rattle.sdb_phases.specs.Recover.{recover_request_at, recover_next, recover_forward, recover_back, roll_to, undecided}
 use Rattle.law_clients.specs.Reader.{recover_action, PhaseOk, IsLearnedAborted, RecoverOk}
 use Rattle.law_clients.proofs.Meta.{IsFirm, forward_firm, before_firm}
-use Rattle.sdb_read.proofs.Images.{decided_at}
+use Rattle.sdb_txn.proofs.Images.{decided_at}
 
 held : (past : List Labelled) (rec : Record) (meta : Meta) (p : RecoverPhase) → RecoverOk past rec meta p → IsPreparedObserved past meta.id.0 rec.key rec
-held past rec meta p ok = record { shown = ok.shown; key = refl; held = ok.of.held; writer = ok.of.writer }
+held past rec meta p ok = record { observed = ok.observed; key = refl; held = ok.of.held; writer = ok.of.writer }
 
 abbrev rolls : (plan : ℕ → Plan) (past : List Labelled) (c : ℕ) (rec : Record) (meta : Meta) (p : RecoverPhase) (store : Name) (q : Request) (how : How) (r : Reply) (a : Option Answer) → RecoverOk past rec meta p
     → MayRoll plan past (event.Call c store q how r a) meta.id.0 rec.key
@@ -95,15 +85,15 @@ abbrev pub waited : Meta → ℤ → Bool → RecoverPhase × RecoverStep
 waited meta now t = if t then (phase.Abort now, steps.More) else (phase.Ended, steps.Busy meta.id meta.prepared_at)
 
 later : (q : Labelled) (past : List Labelled) (rec : Record) (meta : Meta) (p n : RecoverPhase) → RecoverOk past rec meta p → PhaseOk (q ∷ past) meta n → RecoverOk (q ∷ past) rec meta n
-later q past rec meta p n ok now = record { of = ok.of; unresolved = ok.unresolved; shown = inr ok.shown; outside = ok.outside; phase = now }
+later q past rec meta p n ok now = record { of = ok.of; unresolved = ok.unresolved; observed = inr ok.observed; outside = ok.outside; phase = now }
 
 -- a row that is shown is followed
 follows : (past : List Labelled) (meta : Meta) (row : Record) → IsObserved past row → row.key ≡ coordinator_key_of meta.id → PhaseOk past meta (roll_to meta (decision_in row)).0
-follows past meta row shown key = by (decision_in row) refl
+follows past meta row observed key = by (decision_in row) refl
   where
     on : (d : Decided) (x : Decision) → d.decision ≡ x → decision_in row ≡ Ok d → PhaseOk past meta (led d.created_at x).0
-    on d decision.Committed e says = (record { row = row; shown = shown; key = key; says = says ∙ ap (λ y. Ok (record { decision = y; created_at = d.created_at })) e }, decided_at row d says)
-    on d decision.Aborted e says = inl (d.created_at, record { row = row; shown = shown; key = key; says = says ∙ ap (λ y. Ok (record { decision = y; created_at = d.created_at })) e })
+    on d decision.Committed e says = (record { row = row; observed = observed; key = key; says = says ∙ ap (λ y. Ok (record { decision = y; created_at = d.created_at })) e }, decided_at row d says)
+    on d decision.Aborted e says = inl (d.created_at, record { row = row; observed = observed; key = key; says = says ∙ ap (λ y. Ok (record { decision = y; created_at = d.created_at })) e })
 
     by : (d : Result Decided (List ℕ)) → decision_in row ≡ d → PhaseOk past meta (roll_to meta d).0
     by (Err column) says = tt

@@ -1,11 +1,9 @@
--- Before its COMMIT is taken, a transaction's plan is free: the rules so far don't quote it.
+-- Before its COMMIT is accepted, a transaction's plan is free: the rules so far don't quote it.
 use Rattle.std.proofs.Common.{◌≡◌, ℕ, ℤ, true, false, List, [], ◌∷◌, Option, Some, None, refl, sym, ap, subst, ◌∙◌, arith, inl, inr}
 use Rattle.std.specs.Option.{option_map}
 use Rattle.std.proofs.lemmas.Bool.Decides.{nat_tests}
-use Rattle.sdb_types.specs.declared.key.Key.{Key}
-use Rattle.sdb_types.specs.declared.record.Record.{Record}
+use Rattle.law_clients.specs.Types.{Event, Key, Record}
 use Rattle.sdb_record.specs.declared.coordinator.Decision.TheVariants as decision
-use Rattle.sdb_model.specs.declared.event.Event.{Event}
 use Rattle.law_protocol.specs.Plan.{Plan, write_at, written, version_read_at}
 use Rattle.law_protocol.specs.History.{Action, Other, Begins, Takes, Prepares, Checks, Decides, Aborts, Rolls, Removes, Ends, Stops, ProtocolState, Ack, state_after_event}
 use Rattle.law_protocol.specs.Lawful.{Labelled, protocol_state, ended, id, IsLawful, IsEnabled, MayTake, MayPrepare, MayCheck, MayDecide, MayRoll, IsUnchanged, IsPreparedThere, IsKnownCommitted}
@@ -13,21 +11,21 @@ use Rattle.law_clients.specs.System.{SamePlans}
 use Rattle.sdb_types.proofs.Basics.{clash, decides as is_taken}
 use Rattle.sdb_types.proofs.Keys.{tests}
 
--- before its COMMIT is taken nothing is said of a transaction's calls
+-- before its COMMIT is accepted nothing is said of a transaction's calls
 pub record Unsaid (h : ProtocolState) (t : ℕ) : Type 0 where
-  pub asked : (k : Key) → h.taken t ≡ false → h.asked t k ≡ false
-  pub won : h.taken t ≡ false → h.won t ≡ false
+  pub asked : (k : Key) → h.accepted t ≡ false → h.asked t k ≡ false
+  pub won : h.accepted t ≡ false → h.won t ≡ false
 
--- an event's part leaves it so, where its transaction was taken if it is one of a COMMIT
+-- an event's part leaves it so, where its transaction was accepted if it is one of a COMMIT
 abbrev IsAfter : ProtocolState → Action → Type 0
-IsAfter h (Prepares t k word) = h.taken t ≡ true
-IsAfter h (Decides t word) = h.taken t ≡ true
+IsAfter h (Prepares t k word) = h.accepted t ≡ true
+IsAfter h (Decides t word) = h.accepted t ≡ true
 IsAfter h r = Unit {0}
 
-asked_kept : (h : ProtocolState) (r : Action) (t : ℕ) (k : Key) → IsAfter h r → (h.taken t ≡ false → h.asked t k ≡ false) → (state_after_event h r).taken t ≡ false → (state_after_event h r).asked t k ≡ false
+asked_kept : (h : ProtocolState) (r : Action) (t : ℕ) (k : Key) → IsAfter h r → (h.accepted t ≡ false → h.asked t k ≡ false) → (state_after_event h r).accepted t ≡ false → (state_after_event h r).asked t k ≡ false
 asked_kept h r t k a u f = grind (arith, tests)
 
-won_kept : (h : ProtocolState) (r : Action) (t : ℕ) → IsAfter h r → (h.taken t ≡ false → h.won t ≡ false) → (state_after_event h r).taken t ≡ false → (state_after_event h r).won t ≡ false
+won_kept : (h : ProtocolState) (r : Action) (t : ℕ) → IsAfter h r → (h.accepted t ≡ false → h.won t ≡ false) → (state_after_event h r).accepted t ≡ false → (state_after_event h r).won t ≡ false
 won_kept h r t a u f = grind (arith, nat_tests)
 
 unsaid_kept : (h : ProtocolState) (r : Action) (t : ℕ) → IsAfter h r → Unsaid h t → Unsaid (state_after_event h r) t
@@ -37,9 +35,9 @@ after_played : (plan : ℕ → Plan) (past : List Labelled) (e : Event) (r : Act
 after_played plan past e Other m = tt
 after_played plan past e (Begins t c) m = tt
 after_played plan past e (Takes t) m = tt
-after_played plan past e (Prepares t k word) m = m.within.taken
+after_played plan past e (Prepares t k word) m = m.within.accepted
 after_played plan past e (Checks t i) m = tt
-after_played plan past e (Decides t word) m = m.within.taken
+after_played plan past e (Decides t word) m = m.within.accepted
 after_played plan past e (Aborts t n word) m = tt
 after_played plan past e (Rolls t k d) m = tt
 after_played plan past e (Removes k t) m = tt
@@ -58,7 +56,7 @@ unsaid plan (p ∷ past) t l = by p.ends (unsaid_kept (protocol_state past) p.ac
 
 prepared_there : (plan other : ℕ → Plan) (past : List Labelled) (t : ℕ) (k : Key) (r : Record) → IsLawful plan past → SamePlans plan other past → IsPreparedThere plan past t k r → IsPreparedThere other past t k r
 prepared_there plan other past t k r l same (inl h) = inl h
-prepared_there plan other past t k r l same (inr x) = elim (is_taken ((protocol_state past).taken t)) [
+prepared_there plan other past t k r l same (inr x) = elim (is_taken ((protocol_state past).accepted t)) [
   | inl y ↦ inr (x.0, ap (λ (p : Plan). option_map (λ w. Rattle.sdb_record.specs.Rolls.prepared_record w (id t) p.now) (write_at p k)) (sym (same t y)) ∙ x.1)
   | inr n ↦ clash (sym x.0 ∙ (unsaid plan past t l).asked k n)
 ]
@@ -68,7 +66,7 @@ roll_other plan other past e t k l same m = record { client = m.client; rolled =
 
 known_other : (plan other : ℕ → Plan) (past : List Labelled) (t : ℕ) (m : ℤ) → IsLawful plan past → SamePlans plan other past → IsKnownCommitted plan past t m → IsKnownCommitted other past t m
 known_other plan other past t m l same (inl x) = inl x
-known_other plan other past t m l same (inr (inl x)) = elim (is_taken ((protocol_state past).taken t)) [
+known_other plan other past t m l same (inr (inl x)) = elim (is_taken ((protocol_state past).accepted t)) [
   | inl y ↦ inr (inl (x.0, x.1 ∙ ap (λ (p : Plan). p.now) (same t y)))
   | inr n ↦ clash (sym x.0 ∙ (unsaid plan past t l).won n)
 ]
@@ -132,23 +130,23 @@ decide_other plan other past e t word same m = record {
 }
 
 -- the parts before, and what this one takes
-taken_before : (h : ProtocolState) (r : Action) (t : ℕ) → h.taken t ≡ true → (state_after_event h r).taken t ≡ true
+taken_before : (h : ProtocolState) (r : Action) (t : ℕ) → h.accepted t ≡ true → (state_after_event h r).accepted t ≡ true
 taken_before h r t e = grind (arith, nat_tests)
 
-pub taken_now : (h : ProtocolState) (t : ℕ) → (state_after_event h (Takes t)).taken t ≡ true
+pub taken_now : (h : ProtocolState) (t : ℕ) → (state_after_event h (Takes t)).accepted t ≡ true
 taken_now h t = grind (arith, nat_tests)
 
-ended_taken : (h : ProtocolState) (o : Option ℕ) (t : ℕ) → (ended h o).taken t ≡ h.taken t
+ended_taken : (h : ProtocolState) (o : Option ℕ) (t : ℕ) → (ended h o).accepted t ≡ h.accepted t
 ended_taken h None t = refl
 ended_taken h (Some u) t = refl
 
-play_other : (plan other : ℕ → Plan) (past : List Labelled) (e : Event) (r : Action) → IsLawful plan past → ((t : ℕ) → (state_after_event (protocol_state past) r).taken t ≡ true → plan t ≡ other t) → IsEnabled plan past e r → IsEnabled other past e r
+play_other : (plan other : ℕ → Plan) (past : List Labelled) (e : Event) (r : Action) → IsLawful plan past → ((t : ℕ) → (state_after_event (protocol_state past) r).accepted t ≡ true → plan t ≡ other t) → IsEnabled plan past e r → IsEnabled other past e r
 play_other plan other past e Other l same m = m
 play_other plan other past e (Begins t c) l same m = m
 play_other plan other past e (Takes t) l same m = take_other plan other past e t (same t (taken_now (protocol_state past) t)) m
-play_other plan other past e (Prepares t k word) l same m = prepare_other plan other past e t k word (same t m.within.taken) m
-play_other plan other past e (Checks t i) l same m = check_other plan other past e t i (same t m.within.taken) m
-play_other plan other past e (Decides t word) l same m = decide_other plan other past e t word (same t m.within.taken) m
+play_other plan other past e (Prepares t k word) l same m = prepare_other plan other past e t k word (same t m.within.accepted) m
+play_other plan other past e (Checks t i) l same m = check_other plan other past e t i (same t m.within.accepted) m
+play_other plan other past e (Decides t word) l same m = decide_other plan other past e t word (same t m.within.accepted) m
 play_other plan other past e (Aborts t n word) l same m = m
 play_other plan other past e (Rolls t k decision.Committed) l same m = record { roll = roll_other plan other past e t k l same m.roll; moment = m.moment; known = known_other plan other past t m.moment l same m.known; call = m.call }
 play_other plan other past e (Rolls t k decision.Aborted) l same m = record { roll = roll_other plan other past e t k l same m.roll; known = m.known; call = m.call }
@@ -156,12 +154,12 @@ play_other plan other past e (Removes k t) l same m = m
 play_other plan other past e (Ends t) l same m = m
 play_other plan other past e (Stops c) l same m = m
 
--- The rules so far hold with other plans too, as long as those of the transactions whose COMMIT was taken are the same.
+-- The rules so far hold with other plans too, as long as those of the transactions whose COMMIT was accepted are the same.
 pub replanned : (plan other : ℕ → Plan) (past : List Labelled) → SamePlans plan other past → IsLawful plan past → IsLawful other past
 replanned plan other [] same l = tt
 replanned plan other (p ∷ past) same l = (
   replanned plan other past (λ t e. same t (ended_taken (state_after_event (protocol_state past) p.action) p.ends t ∙ taken_before (protocol_state past) p.action t e)) l.0,
   play_other plan other past p.event p.action l.0 (λ t e. same t (ended_taken (state_after_event (protocol_state past) p.action) p.ends t ∙ e)) l.1,
-  λ a. let m = l.2 a in record { t = m.t; ends = m.ends; taken = m.taken; moment = m.moment; known = known_other plan other (p ∷ past) m.t m.moment l same m.known },
+  λ a. let m = l.2 a in record { t = m.t; ends = m.ends; accepted = m.accepted; moment = m.moment; known = known_other plan other (p ∷ past) m.t m.moment l same m.known },
   l.3,
 )

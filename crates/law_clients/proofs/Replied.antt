@@ -2,35 +2,24 @@
 use Rattle.std.proofs.Common.{◌≡◌, ℕ, ◌+◌, true, length, List, [], ◌∷◌, ◌++◌, Option, Some, None, refl, sym, ap, subst, ◌∙◌, ◌⊎◌, inl, inr}
 use Rattle.std.specs.Prelude.{is_some, nat_lt, slice_get}
 use Rattle.std.specs.Option.{option_map}
-use Rattle.sdb_types.specs.declared.key.Key.{Key}
-use Rattle.sdb_types.specs.declared.record.Reply.{Reply}
-use Rattle.sdb_types.specs.declared.record.Span.{Span}
-use Rattle.sdb_schema.specs.declared.table.Table.{Table}
+use Rattle.law_clients.specs.Types.{Answer, Doing, Event, Key, Next, Outcome, Reply, Span, Statement, Table, VacuumStep, ValidateStep}
 use Rattle.sdb_schema.specs.Catalog.{is_catalog}
-use Rattle.sdb_model.specs.declared.answer.Answer.{Answer}
 use Rattle.sdb_model.specs.declared.answer.Answer.TheVariants as answer
 use Rattle.sdb_model.specs.Exec.{find_table}
-use Rattle.sdb_model.specs.declared.event.Event.{Event}
-use Rattle.sdb_model.specs.declared.statement.Statement.{Statement}
 use Rattle.sdb_exec.specs.Plans.{Planned}
 use Rattle.law_protocol.specs.History.{at}
-use Rattle.sdb_phases.specs.declared.step.Outcome.{Outcome}
 use Rattle.sdb_phases.specs.declared.step.Outcome.TheVariants as outcome
-use Rattle.sdb_phases.specs.declared.step.ValidateStep.{ValidateStep}
 use Rattle.sdb_phases.specs.declared.step.ValidateStep.TheVariants as validate
 use Rattle.sdb_phases.specs.Work.{Work}
 use Rattle.sdb_phases.specs.Checks.{checks}
 use Rattle.sdb_phases.specs.Steps.{validate_step}
 use Rattle.sdb_phases.specs.Commit.{Stage, Preparing, Checking, Deciding, Forward, Stopping, Back, Over, after_check, pending as commit_pending, out_of_memory as out_of_memory_stage, step as commit_step}
 use Rattle.sdb_validate.specs.Inside.{Judges}
-use Rattle.sdb_commit.specs.Phases.{CommitAt, IsNext, ended_at}
+use Rattle.sdb_txn.specs.Phases.{CommitAt, IsNext, ended_at}
 use Rattle.sdb_txn.specs.declared.progress.Progress.TheVariants as progress
-use Rattle.sdb_txn.specs.declared.txn.Doing.{Doing}
 use Rattle.sdb_txn.specs.declared.txn.Doing.TheVariants as doing
 use Rattle.sdb_txn.specs.Txn.{IsCommitting, TxnAt, pending_in, progress_of}
-use Rattle.sdb_client.specs.declared.next.Next.{Next}
 use Rattle.sdb_client.specs.declared.next.Next.TheVariants as next
-use Rattle.sdb_vacuum.specs.declared.work.VacuumStep.{VacuumStep}
 use Rattle.sdb_vacuum.specs.declared.work.VacuumStep.TheVariants as step
 use Rattle.sdb_vacuum.specs.Vacuum.{Gives, VacuumAt, VacuumStage, vacuum_step}
 use Rattle.sdb_client.specs.Client.{ClientAt as Client, CommitNext, NextPost, OpenTxnPost, ReplyPost, VacuumPost, answer_in, answer_of, next_of, pending_by, pending_of, resting, vacuum_left}
@@ -143,7 +132,7 @@ module _ (catalog : List Table) (events : List Event) (states : ℕ → ClientSt
     further (Back a m i) e n = subst (λ (s : Stage). Goes (answer_at s) (commit_left k.work s)) e goes
     further (Over a) e n = absurd (cc)
 
-    -- its conflict may be told as out of memory
+    -- its conflict may be answered as out of memory
     further_starved : ended_at then_at ≡ None → Goes None (Committing k.work (out_of_memory_stage then_at))
     further_starved n =
         subst (λ z. RunInvariant catalog (tables_are_well_typed catalog) (events ++ call_event y None ∷ []) z (at (doing_of states) y.client None)) (twice (system_of states) y.client (Committing k.work then_at) (Committing k.work (out_of_memory_stage then_at)))
@@ -177,9 +166,9 @@ module _ (catalog : List Table) (events : List Event) (states : ℕ → ClientSt
       where
         by_end : (o : Option Outcome) → ended_at then_at ≡ o → Led n u
         by_end None e =
-            let more : h.progress ≡ progress.More = h.told.answer ∙ ap progress_of e in
-            subst (λ (x : Next). Led x u) (sym (h.next ∙ ap next_of more)) (by_doing u u.doing refl (h.told.next more) e)
-        by_end (Some a) e = subst (λ (x : Next). Led x u) (sym (h.next ∙ ap next_of (h.told.answer ∙ ap progress_of e) ∙ told_end a)) (is_over a (ended_is then_at a e))
+            let more : h.progress ≡ progress.More = h.answered.answer ∙ ap progress_of e in
+            subst (λ (x : Next). Led x u) (sym (h.next ∙ ap next_of more)) (by_doing u u.doing refl (h.answered.next more) e)
+        by_end (Some a) e = subst (λ (x : Next). Led x u) (sym (h.next ∙ ap next_of (h.answered.answer ∙ ap progress_of e) ∙ told_end a)) (is_over a (ended_is then_at a e))
 
   next_case : (t : TxnAt) (d : Doing) (o : Option Planned) (n : Next) (u : TxnAt) → now.vacuum ≡ None → now.txn ≡ Some t → t.doing ≡ d → now.plan ≡ o → IsUsing catalog d o → NextPost t d o y.reply y.now n u → Led n u
   next_case t (doing.Read a x) (Some p) n u free some does plan fitted h = replied_read catalog events states g y is called t p a x free some does plan fitted n u h
@@ -192,7 +181,7 @@ module _ (catalog : List Table) (events : List Event) (states : ℕ → ClientSt
   txn_case : (o : Option TxnAt) (result : Option Answer) (d : Client) → now.vacuum ≡ None → now.txn ≡ o → IsUsingTxn catalog o now.plan → OpenTxnPost now o y.reply y.now result d → Replied result d
   txn_case None result d free e fitted h = absurd h
   txn_case (Some t) result d free e fitted h =
-      subst (λ (r : Option Answer). Replied r d) (sym h.answer) (subst (λ (x : Client). Replied (answer_in h.next) x) (sym h.client) (next_case t t.doing now.plan h.next h.left free e refl refl fitted h.told))
+      subst (λ (r : Option Answer). Replied r d) (sym h.answer) (subst (λ (x : Client). Replied (answer_in h.next) x) (sym h.client) (next_case t t.doing now.plan h.next h.left free e refl refl fitted h.answered))
 
   ---- a call of a VACUUM
 
@@ -258,7 +247,7 @@ module _ (catalog : List Table) (events : List Event) (states : ℕ → ClientSt
     sweep_case : (result : Option Answer) (d : Client) → VacuumPost v y.reply y.now result d.vacuum → d ≡ record now { vacuum = d.vacuum } → Replied result d
     sweep_case result d h is_so =
         subst (λ (r : Option Answer). Replied r d) (sym h.answer)
-        (subst (λ (x : Client). Replied (answer_of h.step) x) (sym (is_so ∙ ap (λ (o : Option VacuumAt). record now { vacuum = o }) h.goes)) (swept_case h.step h.left h.told))
+        (subst (λ (x : Client). Replied (answer_of h.step) x) (sym (is_so ∙ ap (λ (o : Option VacuumAt). record now { vacuum = o }) h.goes)) (swept_case h.step h.left h.answered))
 
   pub replies_so : ((k : Key) → is_some (find_table catalog k.table) ≡ true → is_data k ≡ true) → (result : Option Answer) (d : Client) → ReplyPost now now.vacuum y.reply y.now result d → Replied result d
   replies_so apart result d h = by now.vacuum refl called.waiting.fitted h

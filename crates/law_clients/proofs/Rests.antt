@@ -6,12 +6,9 @@ use Rattle.sdb_phases.specs.Commit.{Stage, out_of_memory}
 use Rattle.law_clients.proofs.Commit.{starved_commit}
 use Rattle.law_clients.specs.Filed.{number}
 use Rattle.std.proofs.Common.{◌≡◌, ◌+◌, ℕ, pos, Bool, List, [], ◌∷◌, ◌++◌, Option, Some, None, true, false, length, arith, subst, refl, sym, ap, ◌∙◌}
-use Rattle.sdb_schema.specs.declared.table.Table.{Table}
-use Rattle.sdb_model.specs.declared.answer.Answer.{Answer}
+use Rattle.law_clients.specs.Types.{Answer, Event, Statement, Table}
 use Rattle.sdb_model.specs.declared.answer.Answer.TheVariants as answer
-use Rattle.sdb_model.specs.declared.event.Event.{Event}
 use Rattle.sdb_model.specs.declared.event.Event.TheVariants as event
-use Rattle.sdb_model.specs.declared.statement.Statement.{Statement}
 use Rattle.sdb_model.specs.Exec.{Tables}
 use Rattle.sdb_model.specs.Transactions.{statements_by}
 use Rattle.law_protocol.specs.History.{Other}
@@ -41,14 +38,14 @@ module _ (catalog : List Table) (fit : Tables → Bool) where
     plan = plan;
     labelled = [];
     past = [];
-    told = λ c. nothing_yet;
+    answered = λ c. nothing_yet;
     ran = λ c k. nothing_ran;
     same = refl;
     turned = refl;
     system = system_begins plan;
     stories = λ c. story_starts c;
-    clients = λ c. record { ended = λ k f e. absurd (cc (e)); opened = tt; hand = (tt, refl) };
-    as_read = λ c. record { ended = λ k f e. absurd (cc (e)); opened = tt; taken = tt; made = tt };
+    clients = λ c. record { ended = λ k f e. absurd (cc (e)); opened = tt; next_state = (tt, refl) };
+    as_read = λ c. record { ended = λ k f e. absurd (cc (e)); opened = tt; accepted = tt; made = tt };
   }
     where
       plan : ℕ → Plan
@@ -59,14 +56,14 @@ module _ (catalog : List Table) (fit : Tables → Bool) where
     plan = g.plan;
     labelled = g.labelled ++ q ∷ [];
     past = q ∷ g.past;
-    told = g.told;
+    answered = g.answered;
     ran = g.ran;
     same = ap (λ es. es ++ e ∷ []) g.same ∙ sym (events_more g.labelled q);
     turned = ap (λ ps. q ∷ ps) g.turned ∙ sym (newest_more g.labelled q);
     system = quiet_turn g.plan g.past sys e g.system (quiet e silent_one);
-    stories = λ c. story_stays events g.past sys sys c (g.told c) q (g.stories c) tt (plain_apart g.past c Other tt) (record { begun = refl; hold = λ u h. h }) (unsaid c e silent_one);
-    clients = λ c. let kept = kept_apart catalog fit g.plan g.plan events g.past sys q c (g.told c) (g.ran c) (λ t h. refl) (g.stories c) (plain_apart g.past c Other tt) (g.clients c).ended (g.clients c).opened in record { ended = kept.0; opened = kept.1; hand = (g.clients c).hand };
-    as_read = λ c. noted_stays events c e (sys.clients c) (g.told c) (g.ran c) (silent_call c (1 + length events) e silent_one) (g.as_read c);
+    stories = λ c. story_stays events g.past sys sys c (g.answered c) q (g.stories c) tt (plain_apart g.past c Other tt) (record { begun = refl; hold = λ u h. h }) (unsaid c e silent_one);
+    clients = λ c. let kept = kept_apart catalog fit g.plan g.plan events g.past sys q c (g.answered c) (g.ran c) (λ t h. refl) (g.stories c) (plain_apart g.past c Other tt) (g.clients c).ended (g.clients c).opened in record { ended = kept.0; opened = kept.1; next_state = (g.clients c).next_state };
+    as_read = λ c. noted_stays events c e (sys.clients c) (g.answered c) (g.ran c) (silent_call c (1 + length events) e silent_one) (g.as_read c);
   }
     where
       q : Labelled
@@ -112,12 +109,12 @@ module _ (catalog : List Table) (fit : Tables → Bool) where
       plan = g.plan;
       labelled = g.labelled;
       past = g.past;
-      told = g.told;
+      answered = g.answered;
       ran = g.ran;
       same = g.same;
       turned = g.turned;
       system = starved_commit g.plan g.past sys c p s (record { ok = g.system; at = at_commit });
-      stories = λ d. let story = g.stories d in record { now = story.now; same = story.same; ok = story.ok; rest_ok = story.rest_ok; waits = story.waits; count = story.count; alive = story.alive; filed = story.filed; opened = story.opened; hold = by_client (λ k y. (u : ℕ) → Has y u → IsOpened (g.told k).rest × (u ≡ number k (length (g.told k).whole))) (λ h. h) (λ k. (g.stories k).hold) d };
-      clients = λ d. let was = g.clients d in record { ended = was.ended; opened = was.opened; hand = by_client (λ k y. IsOpenOf (doing k) (g.told k) (g.ran k (length (g.told k).whole)) y) (λ h. h) (λ k. (g.clients k).hand) d };
-      as_read = λ d. let was = g.as_read d in record { ended = was.ended; opened = was.opened; taken = was.taken; made = by_client (λ k y. IsMadeSince events k (g.told k).waiting y) (λ h. h) (λ k. (g.as_read k).made) d };
+      stories = λ d. let story = g.stories d in record { now = story.now; same = story.same; ok = story.ok; rest_ok = story.rest_ok; waits = story.waits; count = story.count; alive = story.alive; filed = story.filed; opened = story.opened; hold = by_client (λ k y. (u : ℕ) → Has y u → IsOpened (g.answered k).rest × (u ≡ number k (length (g.answered k).whole))) (λ h. h) (λ k. (g.stories k).hold) d };
+      clients = λ d. let was = g.clients d in record { ended = was.ended; opened = was.opened; next_state = by_client (λ k y. IsOpenOf (doing k) (g.answered k) (g.ran k (length (g.answered k).whole)) y) (λ h. h) (λ k. (g.clients k).next_state) d };
+      as_read = λ d. let was = g.as_read d in record { ended = was.ended; opened = was.opened; accepted = was.accepted; made = by_client (λ k y. IsMadeSince events k (g.answered k).waiting y) (λ h. h) (λ k. (g.as_read k).made) d };
     }

@@ -6,31 +6,21 @@ use Rattle.std.specs.Ordering.{is_eq}
 use Rattle.std.specs.declared.cmp.Ordering.TheVariants.{Less}
 use Rattle.std.specs.Cmp.{tied_itself}
 use Rattle.std.proofs.lemmas.List.{append_assoc, append-nil, map-append}
-use Rattle.sdb_types.specs.declared.key.Key.{Key}
-use Rattle.sdb_types.specs.declared.record.Record.{Record}
-use Rattle.sdb_types.specs.declared.record.Span.{Span}
-use Rattle.sdb_types.specs.declared.record.Reply.{Reply}
+use Rattle.law_clients.specs.Types.{Access, Answer, How, Key, Meta, Record, RecoverPhase, RecoverStep, Reply, Request, Span}
 use Rattle.sdb_types.specs.declared.record.Reply.TheVariants as reply
-use Rattle.sdb_types.specs.declared.record.Request.{Request}
 use Rattle.sdb_types.specs.declared.record.Request.TheVariants as ask
 use Rattle.sdb_types.specs.Order.{key_cmp, same_key}
 use Rattle.sdb_types.specs.Contents.{CanAnswer, in_span, rise, starts_after, record_among}
 use Rattle.sdb_types.proofs.Bools.{and_first, and_second}
 use Rattle.sdb_types.proofs.KeyOrder.{key_total}
-use Rattle.sdb_record.specs.declared.access.Access.{Access}
 use Rattle.sdb_record.specs.declared.access.Access.TheVariants as access
 use Rattle.sdb_record.specs.declared.coordinator.Decision.TheVariants as decision
-use Rattle.sdb_record.specs.declared.meta.Meta.{Meta}
 use Rattle.sdb_record.specs.Meta.{is_moment}
 use Rattle.sdb_model.specs.Access.{in_access}
-use Rattle.sdb_model.specs.declared.answer.Answer.{Answer}
 use Rattle.sdb_model.specs.declared.event.Event.TheVariants as event
-use Rattle.sdb_model.specs.declared.event.How.{How}
 use Rattle.sdb_model.specs.Rows.{Name}
 use Rattle.law_protocol.specs.Lawful.{Labelled, IsObserved, IsPreparedObserved, IsSettled, Itself, Forward, Back, labelled_with}
-use Rattle.sdb_phases.specs.declared.step.RecoverStep.{RecoverStep}
 use Rattle.sdb_phases.specs.declared.step.RecoverStep.TheVariants as steps
-use Rattle.sdb_phases.specs.declared.step.RecoverPhase.{RecoverPhase}
 use Rattle.sdb_phases.specs.Recover.{recover_next, recover_request_at}
 use Rattle.law_clients.specs.Reader.{RecoverOk, recover_action}
 use Rattle.law_clients.specs.ReadAt.{IsKind, AreKinds, ReadAt, Asking, Resolving, Done, Failed, read_pending, read_action, read_step, settle, settle_one, settle_reply, after_recovery, IsImage, IsLeft, IsOfData, Rise, AreInOrder, keys_of, ReadOk}
@@ -40,16 +30,16 @@ use Rattle.law_clients.proofs.Meta.{meta_of}
 use Rattle.law_clients.proofs.Reading.{IsImageOf, phase_kept, image_settled}
 use Rattle.sdb_types.proofs.Basics.{less_of, all_each as each_any}
 use Rattle.sdb_types.proofs.Keys.{same_key_self, same_key_is, same_key_turned}
-use Rattle.sdb_read.specs.Read.{request_of, Kind, Firm, Open, Bad}
+use Rattle.sdb_txn.specs.Read.{request_of, Kind, Firm, Open, Bad}
 use Rattle.sdb_model.specs.Tables.{is_data}
 
 ---- what stays
 
 held_later : (past : List Labelled) (q : Labelled) (t : ℕ) (k : Key) (r : Record) → IsPreparedObserved past t k r → IsPreparedObserved (q ∷ past) t k r
-held_later past q t k r h = record { shown = inr h.shown; key = h.key; held = h.held; writer = h.writer }
+held_later past q t k r h = record { observed = inr h.observed; key = h.key; held = h.held; writer = h.writer }
 
 pub settled_later : (past : List Labelled) (q : Labelled) (k : Key) (b : Record) → IsSettled past k b → IsSettled (q ∷ past) k b
-settled_later past q k b (Itself shown key firm) = Itself (inr shown) key firm
+settled_later past q k b (Itself observed key firm) = Itself (inr observed) key firm
 settled_later past q k b (Forward t r moment held row same) = Forward t r moment (held_later past q t k r held) (row_later q past t decision.Committed moment row) same
 settled_later past q k b (Back t r held same) = Back t r (held_later past q t k r held) same
 
@@ -114,14 +104,14 @@ settle_ok kind past a images (r ∷ left) kinds i l place = by (kind r) (kinds r
   where
     by : (x : Kind) → IsKind r x → (IsKind r Firm → ReadOk past a (settle kind (images ++ r ∷ []) left)) → ReadOk past a (settle_one x images r left (settle kind (images ++ r ∷ []) left))
     by Firm k rest = rest k
-    by (Open meta) k rest = (i, record { of = meta_of r meta k.0 k.1; unresolved = k.0; shown = l.0.0; outside = l.0.1; phase = tt }, l.1, place)
+    by (Open meta) k rest = (i, record { of = meta_of r meta k.0 k.1; unresolved = k.0; observed = l.0.0; outside = l.0.1; phase = tt }, l.1, place)
     by Bad k rest = tt
 
 ---- the first reply
 
 -- the rows of a reply were shown
 pub rows_left : (past : List Labelled) (q : Labelled) (rs : List Record) → ((x : Record) → record_among rs x.key ≡ Some x → IsObserved (q ∷ past) x) → Rise (keys_of rs) → AllByRecursion (λ k. is_data k ≡ true) (keys_of rs) → AllByRecursion (IsLeft (q ∷ past)) rs
-rows_left past q rs shown up outside = each_both (λ x. record_among rs x.key ≡ Some x) (λ x. is_data x.key ≡ true) (IsLeft (q ∷ past)) rs (λ x f d. (shown x f, d)) (found_each rs up) (each_unmap (λ k. is_data k ≡ true) (λ (x : Record). x.key) rs outside)
+rows_left past q rs observed up outside = each_both (λ x. record_among rs x.key ≡ Some x) (λ x. is_data x.key ≡ true) (IsLeft (q ∷ past)) rs (λ x f d. (observed x f, d)) (found_each rs up) (each_unmap (λ k. is_data k ≡ true) (λ (x : Record). x.key) rs outside)
 
 key_itself : (k q : Key) → q ≡ k → in_access (access.Get k) q ≡ true
 key_itself k q e = subst (λ x. is_eq (key_cmp k x) ≡ true) (sym e) (ap is_eq (tied_itself key_total k))
@@ -151,14 +141,14 @@ asked_ok kind past c (access.Scan span) store how (reply.Rows rows) answer kinds
 ---- a reply to a recovery
 
 image_key : (past : List Labelled) (k : Key) (b : Record) → IsImageOf past k b → IsImage past b
-image_key past k b s = (subst (λ x. IsSettled past x b) (sym s.1.key) s.0, s.1.taken, s.1.committed)
+image_key past k b s = (subst (λ x. IsSettled past x b) (sym s.1.key) s.0, s.1.accepted, s.1.committed)
 
 pub image_after : (past : List Labelled) (q : Labelled) (rec : Record) (meta : Meta) (p : RecoverPhase) (now : ℤ) (r : Reply) (b : Record) → RecoverOk past rec meta p → (recover_next rec meta p now r).1 ≡ steps.Image (Some b) → IsImage (q ∷ past) b × (b.key ≡ rec.key)
 image_after past q rec meta p now r b ok says = let i = image_settled past rec meta p now r b ok says in (image_later past q b (image_key past rec.key b i), i.1.key)
 
 pub recover_kept : (past : List Labelled) (c : ℕ) (rec : Record) (meta : Meta) (p : RecoverPhase) (now : ℤ) (store : Name) (q : Request) (how : How) (r : Reply) (a : Option Answer) → RecoverOk past rec meta p → recover_request_at rec meta p ≡ Some q → CanAnswer q r → is_moment now ≡ true
     → RecoverOk (labelled_with (recover_action rec meta p r) (event.Call c store q how r a) ∷ past) rec meta (recover_next rec meta p now r).0
-recover_kept past c rec meta p now store q how r a ok asked can moment = record { of = ok.of; unresolved = ok.unresolved; shown = inr ok.shown; outside = ok.outside; phase = phase_kept past c rec meta p now store q how r a ok asked can moment }
+recover_kept past c rec meta p now store q how r a ok asked can moment = record { of = ok.of; unresolved = ok.unresolved; observed = inr ok.observed; outside = ok.outside; phase = phase_kept past c rec meta p now store q how r a ok asked can moment }
 
 resolved_ok : (kind : Record → Kind) (past : List Labelled) (a : Access) (c : ℕ) (images : List Record) (rec : Record) (meta : Meta) (p : RecoverPhase) (left : List Record) (now : ℤ) (store : Name) (q : Request) (how : How) (r : Reply) (answer : Option Answer)
     → AreKinds kind → ReadOk past a (Resolving images rec meta p left) → recover_request_at rec meta p ≡ Some q → CanAnswer q r → is_moment now ≡ true

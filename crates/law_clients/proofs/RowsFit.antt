@@ -8,24 +8,15 @@ use Rattle.std.specs.Cmp.{tied_itself}
 use Rattle.std.specs.FinMap.{empty, entries, entries_sorted, find as find_key, get, get-empty, get-entries, is_sorted}
 use Rattle.std.specs.FinMap.Entries.{below_all}
 use Rattle.std.proofs.lemmas.Bool.{and_parts}
-use Rattle.sdb_types.specs.declared.key.Key.{Key}
-use Rattle.sdb_types.specs.declared.key.TableName.{TableName}
-use Rattle.sdb_types.specs.declared.pair.Pair.{Pair}
+use Rattle.law_clients.specs.Types.{Answer, Change, Image, Key, Keyed, Pair, Statement, Table, TableName, Test}
 use Rattle.sdb_types.specs.Order.{key_cmp, table_cmp}
 use Rattle.sdb_types.proofs.Bools.{and_first, and_second, and_both}
 use Rattle.sdb_types.proofs.KeyOrder.{key_total, table_exact, table_total}
-use Rattle.sdb_record.specs.declared.access.Image.{Image}
-use Rattle.sdb_record.specs.declared.write.Change.{Change}
 use Rattle.sdb_record.specs.declared.write.Change.TheVariants as change
-use Rattle.sdb_record.specs.declared.write.Keyed.{Keyed}
 use Rattle.sdb_record.specs.Rolls.{row_of_change}
-use Rattle.sdb_schema.specs.declared.table.Table.{Table}
 use Rattle.sdb_schema.specs.Catalog.{is_catalog}
 use Rattle.sdb_schema.specs.Rows.{fits_table}
-use Rattle.sdb_model.specs.declared.answer.Answer.{Answer}
-use Rattle.sdb_model.specs.declared.statement.Statement.{Statement}
 use Rattle.sdb_model.specs.declared.statement.Statement.TheVariants as statement
-use Rattle.sdb_model.specs.declared.statement.Test.{Test}
 use Rattle.sdb_model.specs.Access.{rows_at, with_changes, with_row}
 use Rattle.sdb_model.specs.Exec.{Tables, all_rows, find_table, is_row_of, key_of, named_table, passes, row_of_entry, table_of, with_named}
 use Rattle.sdb_model.specs.Refused.{refusal_by, refusal_of, refusal_on}
@@ -196,19 +187,19 @@ done_is b c ks ls e = cc
 -- the tables that it leaves fit
 left_fit : (catalog : List Table) (p : Planned) (rows : List Image) (b : Answer) (ks : List Keyed) (e : Tables) → find_table catalog p.table.name ≡ Some p.table → p.asked ≡ true → refusal_on p.table p.statement ≡ None → has_all_literals p.statement ≡ true
     → step_of p rows ≡ Finished b ks → tables_are_well_typed catalog e ≡ true → tables_are_well_typed catalog (with_changes e ks) ≡ true
-left_fit catalog p rows b ks e found asked taken literals step fit =
+left_fit catalog p rows b ks e found asked accepted literals step fit =
     elim (first_unfit p.table rows) as (λ o. first_unfit p.table rows ≡ o → finished p.table p.statement rows o ≡ Finished b ks → tables_are_well_typed catalog (with_changes e ks) ≡ true) [
       | None ↦ λ q k.
           subst (λ (l : List Keyed). tables_are_well_typed catalog (with_changes e l) ≡ true) (done_is _ b _ ks k)
-          (fits_with_changes catalog p.table (changes_on p.table p.statement rows) e found (changes_in p.table p.statement rows) (changes_fit p.table p.statement rows literals taken (none_unfit p.table rows q)) fit)
+          (fits_with_changes catalog p.table (changes_on p.table p.statement rows) e found (changes_in p.table p.statement rows) (changes_fit p.table p.statement rows literals accepted (none_unfit p.table rows q)) fit)
       | Some key ↦ λ q k. subst (λ (l : List Keyed). tables_are_well_typed catalog (with_changes e l) ≡ true) (done_is _ b [] ks k) fit
     ] refl (rw asked at step)
 
 pub answers_on : (catalog : List Table) (p : Planned) (seen : Seen) (b : Answer) (ks : List Keyed) → is_catalog catalog ≡ true → named_table catalog p.statement ≡ Some p.table → p.asked ≡ true → refusal_of catalog p.statement ≡ None → has_all_literals p.statement ≡ true
     → step_of p (overlay (access_of p.table p.statement) seen) ≡ Finished b ks → AnswersOn catalog (tables_are_well_typed catalog) seen p.statement (access_of p.table p.statement) b ks
-answers_on catalog p seen b ks is named asked taken literals step e fit rows =
+answers_on catalog p seen b ks is named asked accepted literals step e fit rows =
     let found : find_table catalog p.table.name ≡ Some p.table = found_itself catalog (table_of p.statement) p.table named in
     let run : IsExec catalog p e (step_of p (rows_at (access_of p.table p.statement) e)) = fitting_is_exec catalog p e (named_is_table catalog p.statement p.table is named) named asked (all_in_fit catalog p.table (all_rows e) found fit) in
     let same : step_of p (rows_at (access_of p.table p.statement) e) ≡ Finished b ks = ap (step_of p) rows ∙ step in
-    let on_table : refusal_on p.table p.statement ≡ None = sym (ap (λ (o : Option Table). refusal_by o p.statement) named) ∙ taken in
+    let on_table : refusal_on p.table p.statement ≡ None = sym (ap (λ (o : Option Table). refusal_by o p.statement) named) ∙ accepted in
     (subst (IsExec catalog p e) same run, left_fit catalog p (overlay (access_of p.table p.statement) seen) b ks e found asked on_table literals step fit)

@@ -1,9 +1,7 @@
 -- Events that are tied to their clients, and agree with the stores, are a run.
 use Rattle.std.proofs.Common.{◌≡◌, ◌<◌, ◌^◌, Bool, List, sym, subst}
 use Rattle.std.specs.Prelude.{All}
-use Rattle.sdb_model.specs.declared.event.Point.{Point}
-use Rattle.sdb_model.specs.declared.event.TableDump.{TableDump}
-use Rattle.sdb_model.specs.declared.script.Script.{Script}
+use Rattle.law_clients.specs.Types.{Point, Script, TableDump}
 use Rattle.sdb_model.specs.Events.{StoreContents, IsTrace}
 use Rattle.sdb_model.specs.Exec.{Tables}
 use Rattle.sdb_model.specs.Follows.{Follows}
@@ -28,7 +26,7 @@ linked_run script fit labelled opening end moments order fitting linked follows 
     follows = follows;
     consistent = trace;
     order = ordered;
-    told = subst (λ s. IsSerial script.catalog script.places (events_of labelled) s order found.0) turned.1 found.1;
+    answered = subst (λ s. IsSerial script.catalog script.places (events_of labelled) s order found.0) turned.1 found.1;
     real_time = subst (λ s. RespectsRealTime script.places (events_of labelled) s order) turned.1 found.2;
   },
 )
@@ -41,5 +39,5 @@ linked_run script fit labelled opening end moments order fitting linked follows 
 
     found : (tables : List TableDump) × IsSerial script.catalog script.places (events_of labelled) (closing opening (newest_first moments)) order tables × RespectsRealTime script.places (events_of labelled) (closing opening (newest_first moments)) order
     found = run_told script.catalog fit linked.plan script.places opening labelled (newest_first moments) linked.ran order run
-        (clients_faithful linked.plan (events_of labelled) (newest_first labelled) linked.sys linked.told linked.system linked.stories)
+        (clients_faithful linked.plan (events_of labelled) (newest_first labelled) linked.sys linked.answered linked.system linked.stories)
         (subst (λ s. IsOrder script.places (events_of labelled) s order) (sym turned.1) ordered) small fitting linked.bodies

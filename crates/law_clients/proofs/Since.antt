@@ -114,17 +114,17 @@ both_true true b e = e
 both_true false b e = refl
 
 -- The calls of a statement that was just answered, or that waits, are all since its Take.
-pub calls_just : (events : List Event) (c : ℕ) (s : Executed) → end_of events s ≡ length events → calls_of events c s ≡ calls_since events c s.taken
-calls_just events c s e = filter_same (λ m. nat_lt s.taken m.at && nat_le m.at (end_of events s)) (λ m. nat_lt s.taken m.at) (calls_by events c) (each_any (IsWithin (length events)) (λ m. (nat_lt s.taken m.at && nat_le m.at (end_of events s)) ≡ nat_lt s.taken m.at) (calls_by events c) (λ m w. both_true (nat_lt s.taken m.at) (nat_le m.at (end_of events s)) (ap (nat_le m.at) e ∙ within_end m.at (length events) w)) (all_within events c))
+pub calls_just : (events : List Event) (c : ℕ) (s : Executed) → end_of events s ≡ length events → calls_of events c s ≡ calls_since events c s.accepted
+calls_just events c s e = filter_same (λ m. nat_lt s.accepted m.at && nat_le m.at (end_of events s)) (λ m. nat_lt s.accepted m.at) (calls_by events c) (each_any (IsWithin (length events)) (λ m. (nat_lt s.accepted m.at && nat_le m.at (end_of events s)) ≡ nat_lt s.accepted m.at) (calls_by events c) (λ m w. both_true (nat_lt s.accepted m.at) (nat_le m.at (end_of events s)) (ap (nat_le m.at) e ∙ within_end m.at (length events) w)) (all_within events c))
 
 -- And those of one that was answered before stay.
 pub calls_stay : (events : List Event) (c : ℕ) (s : Executed) (e : Event) → WasAnswered events s → calls_of (events ++ e ∷ []) c s ≡ calls_of events c s
-calls_stay events c s e was = ap (λ n. filter (λ m. nat_lt s.taken m.at && nat_le m.at n) (calls_by (events ++ e ∷ []) c)) (end_is (events ++ e ∷ []))
-    ∙ ap (filter (λ m. nat_lt s.taken m.at && nat_le m.at s.reached)) (calls_more events c e)
-    ∙ filter_append (λ m. nat_lt s.taken m.at && nat_le m.at s.reached) (calls_by events c) (call_made c (1 + length events) e)
-    ∙ ap (λ xs. filter (λ m. nat_lt s.taken m.at && nat_le m.at s.reached) (calls_by events c) ++ xs) (filter_none (λ m. nat_lt s.taken m.at && nat_le m.at s.reached) (call_made c (1 + length events) e) (beyond e))
-    ∙ no_more (filter (λ m. nat_lt s.taken m.at && nat_le m.at s.reached) (calls_by events c))
-    ∙ ap (λ n. filter (λ m. nat_lt s.taken m.at && nat_le m.at n) (calls_by events c)) (sym (end_is events))
+calls_stay events c s e was = ap (λ n. filter (λ m. nat_lt s.accepted m.at && nat_le m.at n) (calls_by (events ++ e ∷ []) c)) (end_is (events ++ e ∷ []))
+    ∙ ap (filter (λ m. nat_lt s.accepted m.at && nat_le m.at s.reached)) (calls_more events c e)
+    ∙ filter_append (λ m. nat_lt s.accepted m.at && nat_le m.at s.reached) (calls_by events c) (call_made c (1 + length events) e)
+    ∙ ap (λ xs. filter (λ m. nat_lt s.accepted m.at && nat_le m.at s.reached) (calls_by events c) ++ xs) (filter_none (λ m. nat_lt s.accepted m.at && nat_le m.at s.reached) (call_made c (1 + length events) e) (beyond e))
+    ∙ no_more (filter (λ m. nat_lt s.accepted m.at && nat_le m.at s.reached) (calls_by events c))
+    ∙ ap (λ n. filter (λ m. nat_lt s.accepted m.at && nat_le m.at n) (calls_by events c)) (sym (end_is events))
   where
     end_is : (es : List Event) → end_of es s ≡ s.reached
     end_is es = ap (λ b. if b then s.reached else length es) was.answered
@@ -132,11 +132,11 @@ calls_stay events c s e was = ap (λ n. filter (λ m. nat_lt s.taken m.at && nat
     over : (a n : ℕ) → a ≤ n → nat_le (1 + n) a ≡ false
     over a n l = grind (arith, nat_tests)
 
-    beyond : (e : Event) → AllByRecursion (λ (m : StoreCall). (nat_lt s.taken m.at && nat_le m.at s.reached) ≡ false) (call_made c (1 + length events) e)
+    beyond : (e : Event) → AllByRecursion (λ (m : StoreCall). (nat_lt s.accepted m.at && nat_le m.at s.reached) ≡ false) (call_made c (1 + length events) e)
     beyond (event.Call d store q how r a) = by (d == c)
       where
-        by : (b : Bool) → AllByRecursion (λ (m : StoreCall). (nat_lt s.taken m.at && nat_le m.at s.reached) ≡ false) (cons_option (if b then Some (record { at = 1 + length events; store = store; request = q; how = how; reply = r }) else None) [])
-        by true = (both_false (nat_lt s.taken (1 + length events)) (nat_le (1 + length events) s.reached) (over s.reached (length events) was.before), tt)
+        by : (b : Bool) → AllByRecursion (λ (m : StoreCall). (nat_lt s.accepted m.at && nat_le m.at s.reached) ≡ false) (cons_option (if b then Some (record { at = 1 + length events; store = store; request = q; how = how; reply = r }) else None) [])
+        by true = (both_false (nat_lt s.accepted (1 + length events)) (nat_le (1 + length events) s.reached) (over s.reached (length events) was.before), tt)
         by false = tt
     beyond (event.Take d text a) = tt
     beyond (event.Stop d) = tt

@@ -26,7 +26,7 @@ less_apart j k l e = absurd (omega (arith, l, e))
 abbrev pub nothing_ran : Execution
 nothing_ran = record { seen = nothing; now = pos 0; body = []; answers = [] }
 
-pub begins_untaken : (h : ProtocolState) (t c : ℕ) → (state_after_event h (Begins t c)).taken t ≡ h.taken t
+pub begins_untaken : (h : ProtocolState) (t c : ℕ) → (state_after_event h (Begins t c)).accepted t ≡ h.accepted t
 begins_untaken h t c = grind (arith, nat_tests)
 
 ---- the statement that waits

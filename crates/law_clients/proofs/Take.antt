@@ -4,12 +4,8 @@ use Rattle.std.specs.Prelude.{slice_get, nat_lt, filter, not, if◌then◌else�
 use Rattle.std.specs.List.{AllByRecursion}
 use Rattle.std.specs.Option.{option_map}
 use Rattle.std.proofs.lemmas.Bool.Decides.{nat_tests}
-use Rattle.sdb_types.specs.declared.key.Key.{Key}
-use Rattle.sdb_types.specs.declared.txid.TxId.{TxId}
-use Rattle.sdb_types.specs.declared.record.Record.{Record}
+use Rattle.law_clients.specs.Types.{Key, Outcome, Read, Record, TxId, Write}
 use Rattle.sdb_types.specs.Contents.{in_span}
-use Rattle.sdb_record.specs.declared.access.Read.{Read}
-use Rattle.sdb_record.specs.declared.write.Write.{Write}
 use Rattle.sdb_record.specs.Meta.{id_in, is_moment}
 use Rattle.sdb_record.specs.Among.{version_among, is_written}
 use Rattle.sdb_model.specs.ReadSet.{ReadItem, KeyRead, SpanRead, version_read}
@@ -22,7 +18,6 @@ use Rattle.law_protocol.specs.History as laws
 use Rattle.law_protocol.specs.Lawful.{Labelled, id, protocol_state, IsSettled, IsKnownCommitted, InCommit, MayTake}
 use Rattle.law_protocol.proofs.Known.{write_key}
 use Rattle.sdb_phases.specs.declared.step.DecidePhase.TheVariants as phase
-use Rattle.sdb_phases.specs.declared.step.Outcome.{Outcome}
 use Rattle.sdb_phases.specs.declared.step.Outcome.TheVariants as outcome
 use Rattle.sdb_phases.specs.Work.{Work}
 use Rattle.sdb_phases.specs.Checks.{checks}
@@ -165,12 +160,12 @@ client_replanned : (plan other : ℕ → Plan) (past : List Labelled) (d : ℕ) 
 client_replanned plan other past d Resting same ok = ok
 client_replanned plan other past d (Open id seen) same ok = ok
 client_replanned plan other past d (Reading id seen a r) same ok = ok
-client_replanned plan other past d (Committing p s) same ok = let e = same p.id.0 ok.within.taken in
+client_replanned plan other past d (Committing p s) same ok = let e = same p.id.0 ok.within.accepted in
     record { work = ok.work; within = ok.within; begun = ok.begun; planned = sym e ∙ ok.planned; stage = stage_replanned plan other past p s e ok.stage }
 client_replanned plan other past d (RunsVacuum v) same ok = ok
 client_replanned plan other past d Stopped same ok = ok
 
--- With other plans, that are the same for each transaction whose COMMIT was taken, the same is so of all clients.
+-- With other plans, that are the same for each transaction whose COMMIT was accepted, the same is so of all clients.
 pub system_replanned : (plan other : ℕ → Plan) (past : List Labelled) (sys : SystemAt) → SamePlans plan other past → SystemOk plan past sys → SystemOk other past sys
 system_replanned plan other past sys same ok = record {
   lawful = replanned plan other past same ok.lawful;
@@ -191,15 +186,15 @@ begun_has p u h = by (nat_lt 0 (length p.writes)) (nat_lt 0 (length (checks p)))
 
 pub take_turn : (plan : ℕ → Plan) (past : List Labelled) (sys : SystemAt) (c : ℕ) (id : TxId) (seen : Seen) (now : ℤ) (text : List ℕ) → IsInState plan past sys c (Open id seen) → IsCommit text now
     → SystemOk (with_plan plan (work_of id now seen)) (take_labelled c text (work_of id now seen) ∷ past) (commit_begun sys c (work_of id now seen))
-take_turn plan past sys c id seen now text stands commit = turned (with_plan plan p) past sys c (take_labelled c text p) (commit_left p (preparing p 0)) (system_replanned plan (with_plan plan p) past sys same stands.ok) (record {
+take_turn plan past sys c id seen now text agrees commit = turned (with_plan plan p) past sys c (take_labelled c text p) (commit_left p (preparing p 0)) (system_replanned plan (with_plan plan p) past sys same agrees.ok) (record {
   by = refl;
   may = take_lawful plan past c p text here.0 sound (settled_of past id now seen here.1) commit.reads;
   ends = λ u e. none u e;
   begins = tt;
-  tells = λ a. none answer.Committed a;
+  is_known = λ a. none answer.Committed a;
   denies = λ a executed denial. none a executed;
   knows = started (preparing p 0) (begins_at (with_plan plan p) (take_labelled c text p ∷ past) p here.0.stage here.0.unasked here.0.safe);
-  holds = λ u h o. inr (begun_has p u (subst (λ x. Has x u) stands.at h));
+  holds = λ u h o. inr (begun_has p u (subst (λ x. Has x u) agrees.at h));
   starts = no_start (commit_left p (preparing p 0)) (no_sweep p (preparing p 0));
 })
   where
@@ -210,13 +205,13 @@ take_turn plan past sys c id seen now text stands commit = turned (with_plan pla
     none x e = absurd (cc)
 
     here : OpenOk (protocol_state past) c id.0 × SeenOk past seen
-    here = subst (ClientOk plan past c) stands.at (stands.ok.each c)
+    here = subst (ClientOk plan past c) agrees.at (agrees.ok.each c)
 
     sound : Sound p
     sound = sound_of past id now seen here.0.fits commit.moment here.1
 
-    apart : (u : ℕ) → (protocol_state past).taken u ≡ true → u ≢ id.0
-    apart u h e = absurd (clash (sym h ∙ ap (protocol_state past).taken e ∙ here.0.fresh))
+    apart : (u : ℕ) → (protocol_state past).accepted u ≡ true → u ≢ id.0
+    apart u h e = absurd (clash (sym h ∙ ap (protocol_state past).accepted e ∙ here.0.fresh))
       where
         clash : true ≡ false → ⊥
         clash x = cc
@@ -224,11 +219,11 @@ take_turn plan past sys c id seen now text stands commit = turned (with_plan pla
     same : SamePlans plan (with_plan plan p) past
     same u h = plan_there plan p u (apart u h)
 
-    taken : (h : ProtocolState) (t : ℕ) → (state_after_event h (Takes t)).taken t ≡ true
-    taken h t = grind (arith, nat_tests)
+    accepted : (h : ProtocolState) (t : ℕ) → (state_after_event h (Takes t)).accepted t ≡ true
+    accepted h t = grind (arith, nat_tests)
 
     within : InCommit (protocol_state (take_labelled c text p ∷ past)) c id.0
-    within = record { taken = taken (protocol_state past) id.0; is_open = here.0.is_open; owner = here.0.owner; goes_on = here.0.goes_on }
+    within = record { accepted = accepted (protocol_state past) id.0; is_open = here.0.is_open; owner = here.0.owner; goes_on = here.0.goes_on }
 
     at_stage : (s : Stage) → StageOk (with_plan plan p) (take_labelled c text p ∷ past) p s → CommitOk (with_plan plan p) (take_labelled c text p ∷ past) c p s
     at_stage s now = record { work = work_ok p sound; within = within; begun = here.0.begun; planned = plan_here plan p; stage = now }

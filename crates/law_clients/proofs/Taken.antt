@@ -2,13 +2,9 @@
 use Rattle.std.proofs.Common.{◌≡◌, ◌≢◌, ℕ, ℤ, ◌+◌, ◌^◌, ◌<◌, ◌==◌, inl, inr, length, Bool, true, false, List, [], ◌∷◌, ◌++◌, Option, Some, None, refl, sym, ap, subst, ◌∙◌}
 use Rattle.std.specs.Prelude.{IfSome, if◌then◌else◌, nat_lt}
 use Rattle.std.proofs.lemmas.Bool.{eqb-false, eqb-true}
-use Rattle.sdb_schema.specs.declared.table.Table.{Table}
-use Rattle.sdb_model.specs.declared.answer.Answer.{Answer}
+use Rattle.law_clients.specs.Types.{Answer, Doing, Event, Gate, Refusal, Statement, Table}
 use Rattle.sdb_model.specs.declared.answer.Answer.TheVariants as answer
-use Rattle.sdb_model.specs.declared.answer.Refusal.{Refusal}
-use Rattle.sdb_model.specs.declared.event.Event.{Event}
 use Rattle.sdb_model.specs.declared.event.Event.TheVariants as event
-use Rattle.sdb_model.specs.declared.statement.Statement.{Statement}
 use Rattle.sdb_model.specs.declared.statement.Statement.TheVariants as statement
 use Rattle.sdb_model.specs.Exec.{Tables}
 use Rattle.sdb_model.specs.Sql.{Reads, Refuses, reads_begin, reads_commit}
@@ -24,11 +20,9 @@ use Rattle.sdb_phases.specs.declared.step.DecidePhase.TheVariants.{Put}
 use Rattle.sdb_snapshot.specs.Seen.{nothing}
 use Rattle.sdb_model.specs.Transactions.{id_of}
 use Rattle.sdb_sqltext.proofs.OneWord.{begin_read, commit_read, rollback_read}
-use Rattle.sdb_txn.specs.declared.txn.Doing.{Doing}
 use Rattle.sdb_txn.specs.declared.txn.Doing.TheVariants as doing
 use Rattle.sdb_txn.specs.Txn.{TxnAt, committing, work_of as txn_work}
 use Rattle.sdb_vacuum.specs.Vacuum.{VacuumAt, begun, whole}
-use Rattle.sdb_client.specs.declared.gate.Gate.{Gate}
 use Rattle.sdb_client.specs.Client.{ClientAt as Client, holding, next_id as client_next, resting as client_resting, out_of_memory, with_begun as client_begun}
 use Rattle.law_clients.specs.ReadAt.{IsOfData}
 use Rattle.law_clients.specs.Vacuum.{Scanning}
@@ -75,7 +69,7 @@ module _ (catalog : List Table) (fit : Tables → Bool) (states : ℕ → Client
       placed (system_of states) (at (doing_of states) c None) g (kept_at abstract_client states c (hand_of d) as_before) (kept_at (λ (h : ClientState). h.client.begun) states c (hand_of d) same)
       (λ e. ap (λ (o : Option Statement). at (doing_of states) c o e) (sym none) ∙ mapped_at (λ (h : ClientState). runs h.client) states c (hand_of d) e)
 
----- answered as it is taken, and as it was
+---- answered as it is accepted, and as it was
 
 module _ (catalog : List Table) (fit : Tables → Bool) (events : List Event) (states : ℕ → ClientState) (g : RunInvariant catalog fit events (system_of states) (doing_of states)) (c : ℕ) (ready : IsReady states c) where
   at_rest : (states c).client.txn ≡ None → (system_of states).clients c ≡ Resting
@@ -148,7 +142,7 @@ none_sweeps gate states c ready gated shut e =
     by_test ((states e).stopped) (λ t. rw t refl)
     (λ t. by_test (e == c)
     (λ s. rw (t, ap (λ (k : ℕ). (states k).client.vacuum) (eqb-true e c s) ∙ ready.idle.free) (sweeps_txn (states e).client.txn))
-    (λ s. rw (t, gated.sweeps shut e (λ k. eqb-false e c s k) t) (sweeps_txn (states e).client.txn)))
+    (λ s. rw (t, gated.vacuums shut e (λ k. eqb-false e c s k) t) (sweeps_txn (states e).client.txn)))
 
 none_opens : (gate : Gate) (states : ℕ → ClientState) (c : ℕ) → IsReady states c → IsGated gate states c → gate.open_elsewhere ≡ false → (states c).client.txn ≡ None → NoneOpen (system_of states)
 none_opens gate states c ready gated shut none e =
@@ -186,9 +180,9 @@ module _ (catalog : List Table) (fit : Tables → Bool) (events : List Event) (s
   told_commit text t moment some reads is =
       let p = txn_work t moment in
       let e : List Event = events ++ event.Take c text None ∷ [] in
-      let taken = going_commits catalog fit events (system_of states) (doing_of states) g c text t.id t.seen moment (at_open catalog fit events states g c ready t some) (record { reads = reads; moment = is }) in
+      let accepted = going_commits catalog fit events (system_of states) (doing_of states) g c text t.id t.seen moment (at_open catalog fit events states g c ready t some) (record { reads = reads; moment = is }) in
       moved catalog fit states c (holding now (committing t moment)) e ready.idle.free refl
-      (subst (λ (x : ClientAt). RunInvariant catalog fit e (with_client (system_of states) c x) (at (doing_of states) c None)) (going_stages p (nat_lt 0 (length p.writes)) (nat_lt 0 (length (checks p)))) taken)
+      (subst (λ (x : ClientAt). RunInvariant catalog fit e (with_client (system_of states) c x) (at (doing_of states) c None)) (going_stages p (nat_lt 0 (length p.writes)) (nat_lt 0 (length (checks p)))) accepted)
 
   -- a VACUUM begins with its first table
   pub told_vacuum : (gate : Gate) (text : List ℕ) (t : Table) (ts : List Table) → IsGated gate states c → gate.open_elsewhere ≡ false → now.txn ≡ None → IsOfData (access.Scan (whole t)) → IsSo catalog fit states c (record now { vacuum = Some (begun (t ∷ ts)) }) (events ++ event.Take c text None ∷ [])

@@ -48,7 +48,7 @@ now_more events past q e c now = ended_now (state_after_event (protocol_state pa
 pub record SameOf (t : ℕ) (h v : ProtocolState) : Type 0 where
   pub begun : v.begun t ≡ h.begun t
   pub owner : v.owner t ≡ h.owner t
-  pub taken : v.taken t ≡ h.taken t
+  pub accepted : v.accepted t ≡ h.accepted t
   pub taken_at : v.taken_at t ≡ h.taken_at t
 
 same_begun : (h : ProtocolState) (r : Action) (t : ℕ) → IsNotOf t r → (state_after_event h r).begun t ≡ h.begun t
@@ -57,7 +57,7 @@ same_begun h r t n = grind (arith, nat_tests)
 same_owner : (h : ProtocolState) (r : Action) (t : ℕ) → IsNotOf t r → (state_after_event h r).owner t ≡ h.owner t
 same_owner h r t n = grind (arith, nat_tests)
 
-same_taken : (h : ProtocolState) (r : Action) (t : ℕ) → IsNotOf t r → (state_after_event h r).taken t ≡ h.taken t
+same_taken : (h : ProtocolState) (r : Action) (t : ℕ) → IsNotOf t r → (state_after_event h r).accepted t ≡ h.accepted t
 same_taken h r t n = grind (arith, nat_tests)
 
 same_taken_at : (h : ProtocolState) (r : Action) (t : ℕ) → IsNotOf t r → (state_after_event h r).taken_at t ≡ h.taken_at t
@@ -67,15 +67,15 @@ pub same_of : (past : List Labelled) (q : Labelled) (t : ℕ) → IsNotOf t q.ac
 same_of past q t n = by q.ends
   where
     by : (o : Option ℕ) → SameOf t (protocol_state past) (ended (state_after_event (protocol_state past) q.action) o)
-    by None = record { begun = same_begun (protocol_state past) q.action t n; owner = same_owner (protocol_state past) q.action t n; taken = same_taken (protocol_state past) q.action t n; taken_at = same_taken_at (protocol_state past) q.action t n }
-    by (Some u) = record { begun = same_begun (protocol_state past) q.action t n; owner = same_owner (protocol_state past) q.action t n; taken = same_taken (protocol_state past) q.action t n; taken_at = same_taken_at (protocol_state past) q.action t n }
+    by None = record { begun = same_begun (protocol_state past) q.action t n; owner = same_owner (protocol_state past) q.action t n; accepted = same_taken (protocol_state past) q.action t n; taken_at = same_taken_at (protocol_state past) q.action t n }
+    by (Some u) = record { begun = same_begun (protocol_state past) q.action t n; owner = same_owner (protocol_state past) q.action t n; accepted = same_taken (protocol_state past) q.action t n; taken_at = same_taken_at (protocol_state past) q.action t n }
 
 pub filed_later : (past : List Labelled) (q : Labelled) (t : ℕ) (f : Finished) → SameOf t (protocol_state past) (protocol_state (q ∷ past)) → IsFiledAt past t f → IsFiledAt (q ∷ past) t f
 filed_later past q t f s filed = record {
   begun = s.begun ∙ filed.begun;
-  taken = λ h. let x = filed.taken (sym s.taken ∙ h) in (x.0, x.1 ∙ sym s.taken_at);
-  told = λ a. inr (filed.told a);
-  denied = λ a statements_by denial h. inr (filed.denied a statements_by denial (sym s.taken ∙ h));
+  accepted = λ h. let x = filed.accepted (sym s.accepted ∙ h) in (x.0, x.1 ∙ sym s.taken_at);
+  answered = λ a. inr (filed.answered a);
+  denied = λ a statements_by denial h. inr (filed.denied a statements_by denial (sym s.accepted ∙ h));
   unknown = filed.unknown;
 }
 
@@ -99,7 +99,7 @@ apart_at events past sys c x q k story apart l = let h = story.alive k l in same
 
 pub open_later : (past : List Labelled) (q : Labelled) (c : ℕ) (x : ClientHistory) (r : Rest) → (IsOpened r → SameOf (number c (length x.whole)) (protocol_state past) (protocol_state (q ∷ past))) → OpenFiled past c x r → OpenFiled (q ∷ past) c x r
 open_later past q c x (Closed gap) s ok = tt
-open_later past q c x (Opened gap b body) s ok = let same = s tt in (same.begun ∙ ok.0, λ h. let w = ok.1 (sym same.taken ∙ h) in (w.0, w.1, w.2, w.3 ∙ sym same.taken_at))
+open_later past q c x (Opened gap b body) s ok = let same = s tt in (same.begun ∙ ok.0, λ h. let w = ok.1 (sym same.accepted ∙ h) in (w.0, w.1, w.2, w.3 ∙ sym same.taken_at))
 
 pub opened_counts : (m : ℕ) (r : Rest) → IsOpened r → m < m + begun_in r
 opened_counts m (Closed gap) o = absurd o
@@ -150,7 +150,7 @@ others_silent events c d e apart by = said_more c events e ∙ silent e by
         differ m n h = grind (arith, nat_tests)
 
     silent : (e : Event) → IsBy d e → statements_after c (statements_by c events) (1 + length events, e) ≡ statements_by c events
-    silent (event.Take b text a) by = ap (λ t. if t then statements_by c events ++ record { taken = 1 + length events; text = text; answer = a; reached = 1 + length events } ∷ [] else statements_by c events) (other b by)
+    silent (event.Take b text a) by = ap (λ t. if t then statements_by c events ++ record { accepted = 1 + length events; text = text; answer = a; reached = 1 + length events } ∷ [] else statements_by c events) (other b by)
     silent (event.Call b store q how r None) by = refl
     silent (event.Call b store q how r (Some a)) by = ap (λ t. if t then with_answer (statements_by c events) (1 + length events) a else statements_by c events) (other b by)
     silent (event.Stop b) by = refl

@@ -2,18 +2,12 @@
 use Rattle.std.proofs.Common.{◌≡◌, ◌≢◌, ℕ, ◌^◌, ◌<◌, Bool, true, false, ◌||◌, List, [], ◌∷◌, ◌++◌, Option, Some, None, Ok, Err, refl, sym, ap, subst, ◌∙◌}
 use Rattle.std.specs.Prelude.{IfSome, is_some}
 use Rattle.std.proofs.lemmas.Bool.{eq-eqb}
-use Rattle.sdb_types.specs.declared.key.Key.{Key}
-use Rattle.sdb_types.specs.declared.key.TableName.{TableName}
+use Rattle.law_clients.specs.Types.{Answer, Event, Key, Refusal, Statement, Table, TableName}
 use Rattle.sdb_types.proofs.KeyOrder.{table_exact}
 use Rattle.sdb_record.specs.Meta.{is_moment}
-use Rattle.sdb_schema.specs.declared.table.Table.{Table}
 use Rattle.sdb_schema.specs.Catalog.{is_catalog}
-use Rattle.sdb_model.specs.declared.answer.Answer.{Answer}
 use Rattle.sdb_model.specs.declared.answer.Answer.TheVariants as answer
-use Rattle.sdb_model.specs.declared.answer.Refusal.{Refusal}
-use Rattle.sdb_model.specs.declared.event.Event.{Event}
 use Rattle.sdb_model.specs.declared.event.Event.TheVariants as event
-use Rattle.sdb_model.specs.declared.statement.Statement.{Statement}
 use Rattle.sdb_model.specs.declared.statement.Statement.TheVariants as statement
 use Rattle.sdb_model.specs.Causes.{refused}
 use Rattle.sdb_model.specs.Exec.{find_table, named_table, table_of}
@@ -159,8 +153,8 @@ module _ (q : Taking) (events : List Event) (states : ℕ → ClientState) (g : 
       as_so None result _ d h.0 h.1 (told_vacuum q.catalog (tables_are_well_typed q.catalog) events states g c ready q.gate text t ts gated none.1 none.0 (scan_data q.catalog (whole t) listed apart))
 
   rows_case : (st : Statement) (t : TxnAt) (result : Option Answer) (d : Client) (table : Table) → now.txn ≡ Some t → Reads text st → IsOnTable st → refusal_of q.catalog st ≡ None → named_table q.catalog st ≡ Some table → RowsPost (plan_of table st) (access_of table st) now t result d → So result d
-  rows_case st t result d table e reads on taken named h =
-      let k : IsAsked q.catalog text st table = record { is = is; named = named; taken = taken; literals = literals_read text st reads; reads = reads; no_commit = other_no_commit text st reads on.commit } in
+  rows_case st t result d table e reads on accepted named h =
+      let k : IsAsked q.catalog text st table = record { is = is; named = named; accepted = accepted; literals = literals_read text st reads; reads = reads; no_commit = other_no_commit text st reads on.commit } in
       let idle : t.doing ≡ doing.Idle = subst (λ (o : Option TxnAt). IfSome o (λ u. u.doing ≡ doing.Idle)) e ready.idle.still in
       by_test (is_covered t.seen (access_of table st))
       (λ b. let r = h.known b in as_so _ result _ d r.0 r.1 (told_known q.catalog events states g c ready text st table k t e idle (kept t e) b))
@@ -170,8 +164,8 @@ module _ (q : Taking) (events : List Event) (states : ℕ → ClientState) (g : 
   table_case st t result d e reads on h = by_refusal (refusal_of q.catalog st) refl
     where
       by_table : (o : Option Table) → refusal_of q.catalog st ≡ None → named_table q.catalog st ≡ o → So result d
-      by_table (Some table) taken named = rows_case st t result d table e reads on taken named (h.reads table taken named)
-      by_table None taken named = absurd (let k : Some (record { kind = 6; place = 0 }) ≡ None = sym (ap (λ (o : Option Table). refusal_by o st) named) ∙ taken in cc)
+      by_table (Some table) accepted named = rows_case st t result d table e reads on accepted named (h.reads table accepted named)
+      by_table None accepted named = absurd (let k : Some (record { kind = 6; place = 0 }) ≡ None = sym (ap (λ (o : Option Table). refusal_by o st) named) ∙ accepted in cc)
 
       by_refusal : (o : Option Refusal) → refusal_of q.catalog st ≡ o → So result d
       by_refusal (Some r) k = as_told (answer.Refused r) result d (h.refused r k) (same (answer.Refused r) (refused_plain r) (other_no_commit text st reads on.commit))
@@ -200,4 +194,4 @@ module _ (q : Taking) (events : List Event) (states : ℕ → ClientState) (g : 
   takes_so result d few h =
       by_memory result
       (λ e. as_so (Some answer.NoMemory) result (out_of_memory text now) d e (h.memory e) (told_starved q.catalog (tables_are_well_typed q.catalog) events states g c ready text))
-      (λ n. text_case result d few (h.told n))
+      (λ n. text_case result d few (h.answered n))

@@ -3,14 +3,10 @@ use Rattle.std.proofs.Common.{◌≡◌, ℕ, true, List, [], ◌∷◌, ◌++�
 use Rattle.std.specs.FinMap.{empty}
 use Rattle.std.specs.FinMap as map
 use Rattle.std.proofs.lemmas.List.{append_assoc, append-nil}
-use Rattle.sdb_types.specs.declared.record.Record.{Record}
+use Rattle.law_clients.specs.Types.{Answer, Place, Record, Statement, Table}
 use Rattle.sdb_types.specs.Order.{key_cmp}
 use Rattle.sdb_record.specs.Meta.{id_in}
 use Rattle.sdb_record.specs.Rolls.{row_of_image}
-use Rattle.sdb_schema.specs.declared.table.Table.{Table}
-use Rattle.sdb_model.specs.declared.answer.Answer.{Answer}
-use Rattle.sdb_types.specs.declared.place.Place.{Place}
-use Rattle.sdb_model.specs.declared.statement.Statement.{Statement}
 use Rattle.sdb_model.specs.Events.{StoreContents}
 use Rattle.sdb_model.specs.Exec.{Tables}
 use Rattle.sdb_model.specs.Serial.{serial}
@@ -41,7 +37,7 @@ pub notes_left : (plan : ℕ → Plan) (places : List Place) (opening : List Sto
 notes_left plan places opening past ss s run ok k b e = (
   firm.t,
   ap (λ (x : Record). id_in x.columns) firm.same ∙ firm_writer plan firm.t k firm.fits,
-  ap row_of_image firm.same ∙ firm_row plan firm.t k ((all.knows.planned firm.t taken).write k (write_there (plan firm.t) k) (writes_it (plan firm.t) k firm.writer.1)).0,
+  ap row_of_image firm.same ∙ firm_row plan firm.t k ((all.knows.planned firm.t accepted).write k (write_there (plan firm.t) k) (writes_it (plan firm.t) k firm.writer.1)).0,
 )
   where
     w : History
@@ -53,8 +49,8 @@ notes_left plan places opening past ss s run ok k b e = (
     firm : Rattle.law_protocol.proofs.Known.IsFirmOf plan w k b
     firm = firm_of plan w past k b all.knows (base_table past s.read_set k b ok.read_set e) (base_settled past s.read_set k b ok.read_set e)
 
-    taken : w.protocol.taken firm.t ≡ true
-    taken = writer_taken plan w k firm.t all.knows.inv.taken firm.writer
+    accepted : w.protocol.accepted firm.t ≡ true
+    accepted = writer_taken plan w k firm.t all.knows.inv.accepted firm.writer
 
 ---- one after the other
 

@@ -6,22 +6,15 @@ use Rattle.std.specs.Option.{option_map, option_and_then}
 use Rattle.std.proofs.lemmas.Option.{slice_get-map}
 use Rattle.std.proofs.lemmas.List.{map-append}
 use Rattle.std.proofs.lemmas.Bool.Decides.{nat_tests}
-use Rattle.sdb_types.specs.declared.key.Key.{Key}
-use Rattle.sdb_types.specs.declared.txid.TxId.{TxId}
-use Rattle.sdb_types.specs.declared.record.Record.{Record}
-use Rattle.sdb_types.specs.declared.record.Reply.{Reply}
+use Rattle.law_clients.specs.Types.{Check, Key, Read, Record, Reply, Scan, TxId, Write}
 use Rattle.sdb_types.specs.declared.record.Reply.TheVariants as reply
 use Rattle.sdb_types.specs.declared.record.Request.TheVariants as ask
 use Rattle.sdb_types.specs.Contents.{CanAnswer, in_span, rise, record_among}
-use Rattle.sdb_record.specs.declared.access.Read.{Read}
-use Rattle.sdb_record.specs.declared.access.Scan.{Scan}
-use Rattle.sdb_record.specs.declared.write.Write.{Write}
 use Rattle.sdb_record.specs.Moved.{version_of, same_version, is_unchanged}
 use Rattle.sdb_record.specs.Rolls.{IsWrite}
 use Rattle.sdb_record.specs.Among.{version_among, write_among, is_written}
 use Rattle.law_protocol.specs.Plan.{write_at, written, version_read_at, number_of}
 use Rattle.sdb_model.specs.ReadSet.{ReadItem, KeyRead, SpanRead, version_read}
-use Rattle.sdb_phases.specs.declared.check.Check.{Check}
 use Rattle.sdb_phases.specs.Work.{Work}
 use Rattle.sdb_phases.specs.Checks.{checks, check_of_read, check_of_scan, base_of, first_difference, wanted, changed}
 use Rattle.sdb_phases.specs.Steps.{validate_step, judged}
@@ -325,7 +318,7 @@ work_ok p ok = record {
   apart = λ i j v w l at there. once_apart p.writes i j v w ok.once l at there;
   found = λ k w h. found_at p.writes k w h;
   reads = λ i c h. let n = note_of p i c h in subst (λ x. IsReading x.request) n.2 (reading p.writes n.0);
-  tells = λ i c r h can passed. let n = note_of p i c h in
+  is_known = λ i c r h can passed. let n = note_of p i c h in
       subst (λ x. CanAnswer x.request r → is_more (validate_step true (Some x) r) ≡ true → CheckPasses p i x.request r) n.2 (tells_at p i n.0 r (at_front (checked_items p) (own_items p) i n.0 n.1) (each_at (IsCheckedNote p.writes) (checked_items p) i n.0 (checked_notes_are p ok) n.1)) can (ap (λ o. is_more (validate_step true o r)) (sym h) ∙ passed);
   checked = λ j k version l h. other j k version l h (slice_get (items_of_work p) j) refl;
   agrees = λ j l k version base h w. others j k version base l h w (slice_get (items_of_work p) j) refl;

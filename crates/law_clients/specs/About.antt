@@ -1,25 +1,15 @@
 -- What a client's calls are about: the tables of a catalog, and the coordinator's.
 use Rattle.std.specs.Prelude.{◌≡◌, true, List, Option, Some, None, is_some, IfSome}
 use Rattle.std.specs.List.{AllByRecursion}
-use Rattle.sdb_types.specs.declared.key.Key.{Key}
-use Rattle.sdb_types.specs.declared.key.TableName.{TableName}
-use Rattle.sdb_types.specs.declared.record.Record.{Record}
-use Rattle.sdb_types.specs.declared.record.Span.{Span}
-use Rattle.sdb_record.specs.declared.access.Access.{Access}
-use Rattle.sdb_record.specs.declared.access.Read.{Read}
-use Rattle.sdb_record.specs.declared.access.Scan.{Scan}
-use Rattle.sdb_record.specs.declared.write.Write.{Write}
-use Rattle.sdb_schema.specs.declared.table.Table.{Table}
+use Rattle.law_clients.specs.Types.{Access, Doing, Key, Read, ReadStep, Record, Scan, Span, Table, TableName, Write}
 use Rattle.sdb_model.specs.Exec.{find_table}
 use Rattle.sdb_exec.specs.Plans.{Planned}
 use Rattle.sdb_model.specs.Reads.{access_of}
 use Rattle.sdb_phases.specs.Work.{Work}
-use Rattle.sdb_read.specs.declared.read.ReadStep.{ReadStep}
-use Rattle.sdb_read.specs.declared.read.ReadStep.TheVariants as step
-use Rattle.sdb_read.specs.Read.{Asking, Ended, ReadAt, ReadStage, Resolving, request_of}
+use Rattle.sdb_txn.specs.declared.read.ReadStep.TheVariants as step
+use Rattle.sdb_txn.specs.Read.{Asking, Ended, ReadAt, ReadStage, Resolving, request_of}
 use Rattle.sdb_snapshot.specs.Reads.{ReadRecord}
 use Rattle.sdb_snapshot.specs.Seen.{Seen}
-use Rattle.sdb_txn.specs.declared.txn.Doing.{Doing}
 use Rattle.sdb_txn.specs.declared.txn.Doing.TheVariants as doing
 use Rattle.sdb_vacuum.specs.Vacuum.{Over, Removing, Resolving as Resolves, Scanning, VacuumAt, VacuumStage}
 use Rattle.sdb_client.specs.Client.{ClientAt as Client}

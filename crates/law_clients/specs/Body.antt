@@ -2,16 +2,9 @@
 use Rattle.std.specs.Prelude.{◌≡◌, Bool, true, false, List, None}
 use Rattle.std.specs.List.{AllByRecursion}
 use Rattle.std.specs.FinMap.{get}
-use Rattle.sdb_types.specs.declared.key.Key.{Key}
+use Rattle.law_clients.specs.Types.{Access, Answer, Key, Keyed, Read, Scan, Statement, Table}
 use Rattle.sdb_types.specs.Contents.{in_span}
-use Rattle.sdb_record.specs.declared.access.Access.{Access}
 use Rattle.sdb_record.specs.declared.access.Access.TheVariants as access
-use Rattle.sdb_record.specs.declared.access.Read.{Read}
-use Rattle.sdb_record.specs.declared.access.Scan.{Scan}
-use Rattle.sdb_record.specs.declared.write.Keyed.{Keyed}
-use Rattle.sdb_schema.specs.declared.table.Table.{Table}
-use Rattle.sdb_model.specs.declared.answer.Answer.{Answer}
-use Rattle.sdb_model.specs.declared.statement.Statement.{Statement}
 use Rattle.sdb_model.specs.Access.{rows_at, with_changes}
 use Rattle.sdb_model.specs.Exec.{Tables, exec}
 use Rattle.sdb_model.specs.Serial.{run_body}

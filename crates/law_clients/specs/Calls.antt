@@ -1,17 +1,13 @@
 -- What the records that a read found mean by its calls, and what a transaction has read by those of its statements.
 use Rattle.std.specs.Prelude.{◌≡◌, ◌⊎◌, true, false, List, [], ◌∷◌, ◌++◌, Option, Some, None, Ok, ℕ, ℤ, ◌≤◌, filter, find, nat_lt, length, is_some, Contains, ◌↔◌, map}
 use Rattle.std.specs.List.{AllByRecursion, cons_option, filter_map, flat_map, list_all}
-use Rattle.sdb_types.specs.declared.record.Record.{Record}
-use Rattle.sdb_types.specs.declared.record.Request.{Request}
-use Rattle.sdb_types.specs.declared.record.Reply.{Reply}
+use Rattle.law_clients.specs.Types.{Access, Event, Record, Reply, Request}
 use Rattle.sdb_types.specs.declared.record.Reply.TheVariants as reply
 use Rattle.sdb_types.specs.declared.record.State.TheVariants as state
 use Rattle.sdb_types.specs.Contents.{CanAnswer, rise}
-use Rattle.sdb_record.specs.declared.access.Access.{Access}
 use Rattle.sdb_record.specs.declared.access.Access.TheVariants as access
 use Rattle.sdb_record.specs.Coordinator.{is_coordinator_table}
 use Rattle.sdb_record.specs.Meta.{checked, is_in, is_transactional, is_unresolved}
-use Rattle.sdb_model.specs.declared.event.Event.{Event}
 use Rattle.sdb_model.specs.Events.{table_asked}
 use Rattle.sdb_model.specs.Calls.{StoreCall, calls_by, calls_of, made_by, records_read}
 use Rattle.sdb_model.specs.Transactions.{Executed, client_of, statements_inside}
@@ -25,7 +21,7 @@ use Rattle.law_clients.specs.Reads.{first_image, work_of}
 use Rattle.law_clients.specs.Owner.{plan_of}
 use Rattle.law_clients.specs.System.{ClientCall, IsReplyTo}
 use Rattle.law_clients.specs.ReadAt.{AreKinds, ReadAt, Asking, Resolving, Done, Failed, read_pending, read_step}
-use Rattle.sdb_read.specs.Read.{Kind, request_of}
+use Rattle.sdb_txn.specs.Read.{Kind, request_of}
 
 -- a record has a meaning by some calls: it is committed, or one of them rolled it
 abbrev pub HasMeaning : List StoreCall → Record → Type 0
@@ -83,7 +79,7 @@ pub record MadeReply : Type 0 where
   pub asked : Access
   pub stage : ReadAt
   pub made : List StoreCall
-  pub shown : ReadMade made asked stage
+  pub observed : ReadMade made asked stage
   pub call : ClientCall
   pub replies : IsReplyTo (read_pending asked stage) call
 

@@ -2,9 +2,7 @@
 use Rattle.std.specs.Prelude.{Bool, false, List}
 use Rattle.std.specs.Option.{option_map_or}
 use Rattle.std.specs.List.{list_all}
-use Rattle.sdb_types.specs.declared.key.Key.{Key}
-use Rattle.sdb_types.specs.declared.pair.Pair.{Pair}
-use Rattle.sdb_schema.specs.declared.table.Table.{Table}
+use Rattle.law_clients.specs.Types.{Key, Pair, Table}
 use Rattle.sdb_schema.specs.Rows.{fits_table}
 use Rattle.sdb_model.specs.Exec.{Tables, all_rows, find_table}
 

@@ -1,10 +1,8 @@
 -- A client's history up to an event, and how the actions file it.
 use Rattle.std.specs.Prelude.{◌≡◌, ◌≢◌, ◌<◌, ◌+◌, ◌^◌, ℕ, suc, true, false, List, [], ◌∷◌, ◌++◌, length, Option, Some, None, IfSome}
 use Rattle.std.specs.List.{AllByRecursion}
-use Rattle.sdb_types.specs.declared.txid.TxId.{TxId}
-use Rattle.sdb_model.specs.declared.answer.Answer.{Answer}
+use Rattle.law_clients.specs.Types.{Answer, Event, TxId}
 use Rattle.sdb_model.specs.declared.answer.Answer.TheVariants as answer
-use Rattle.sdb_model.specs.declared.event.Event.{Event}
 use Rattle.sdb_model.specs.declared.event.Event.TheVariants as event
 use Rattle.sdb_model.specs.Sql.{reads_commit}
 use Rattle.sdb_model.specs.Transactions.{Executed, statements_by, begins, ends}
@@ -35,7 +33,7 @@ waiting_of (Some s) = s ∷ []
 abbrev pub all_statements : ClientHistory → List Executed
 all_statements x = (saids_of x.whole ++ statements_in x.rest) ++ waiting_of x.waiting
 
--- with a statement that is taken, and waits
+-- with a statement that is accepted, and waits
 abbrev pub with_waiting : ClientHistory → Executed → ClientHistory
 with_waiting x s = record { whole = x.whole; rest = x.rest; waiting = Some s }
 
@@ -54,12 +52,12 @@ count_of x = length x.whole + begun_in x.rest
 
 ---- how it is filed
 
--- What holds of an open transaction: it began with its BEGIN, and where its COMMIT was taken, that waits.
+-- What holds of an open transaction: it began with its BEGIN, and where its COMMIT was accepted, that waits.
 abbrev pub OpenFiled : List Labelled → ℕ → ClientHistory → Rest → Type 0
 OpenFiled past c x (Closed gap) = Unit {0}
 OpenFiled past c x (Opened gap b body) =
-    ((protocol_state past).begun (number c (length x.whole)) ≡ b.taken)
-    × ((protocol_state past).taken (number c (length x.whole)) ≡ true → (s : Executed) × (x.waiting ≡ Some s) × (reads_commit s.text ≡ true) × (s.taken ≡ (protocol_state past).taken_at (number c (length x.whole))))
+    ((protocol_state past).begun (number c (length x.whole)) ≡ b.accepted)
+    × ((protocol_state past).accepted (number c (length x.whole)) ≡ true → (s : Executed) × (x.waiting ≡ Some s) × (reads_commit s.text ≡ true) × (s.accepted ≡ (protocol_state past).taken_at (number c (length x.whole))))
 
 -- a transaction is open
 abbrev pub IsOpened : Rest → Type 0
@@ -109,7 +107,7 @@ pub record IsAnswerOf (events : List Event) (c : ℕ) (x : ClientHistory) (q : L
   pub executed : statements_by c (events ++ q.event ∷ []) ≡ (saids_of x.whole ++ statements_in x.rest) ++ s ∷ []
   pub answer : answer_of q.event ≡ s.answer
   pub answered : s.reached ≡ length events + 1
-  pub waited : (w : Executed) → x.waiting ≡ Some w → (s.text ≡ w.text) × (s.taken ≡ w.taken)
+  pub waited : (w : Executed) → x.waiting ≡ Some w → (s.text ≡ w.text) × (s.accepted ≡ w.accepted)
 
 -- a statement that begins no transaction where none is open, and ends none where one is
 abbrev pub IsOrdinary : Rest → Executed → Type 0
@@ -147,20 +145,20 @@ NamesIt t s = (u : TxId) → s.answer ≡ Some (answer.Unknown u) → u ≡ id t
 
 -- the statement of a Take
 abbrev pub executed_of_take : List Event → List ℕ → Option Answer → Executed
-executed_of_take events text a = record { taken = 1 + length events; text = text; answer = a; reached = 1 + length events }
+executed_of_take events text a = record { accepted = 1 + length events; text = text; answer = a; reached = 1 + length events }
 
 -- the statement that waited, with its answer
 abbrev pub executed_with_answer : List Event → Executed → Answer → Executed
-executed_with_answer events w a = record { taken = w.taken; text = w.text; answer = Some a; reached = 1 + length events }
+executed_with_answer events w a = record { accepted = w.accepted; text = w.text; answer = Some a; reached = 1 + length events }
 
--- A BEGIN is answered Done to a client whose story has nothing open, under the number of its next transaction, which was not taken.
+-- A BEGIN is answered Done to a client whose story has nothing open, under the number of its next transaction, which was not accepted.
 pub record BeginsNext (events : List Event) (past : List Labelled) (sys next : SystemAt) (c : ℕ) (x : ClientHistory) (text : List ℕ) : Type 0 where
   pub gap : List Executed
   pub closed : x.rest ≡ Closed gap
   pub begin : begins (executed_of_take events text (Some answer.Done)) ≡ true
   pub client : c < 2 ^ 64
   pub ordinal : suc (length x.whole) < 2 ^ 64
-  pub fresh : (protocol_state past).taken (number c (length x.whole)) ≡ false
+  pub fresh : (protocol_state past).accepted (number c (length x.whole)) ≡ false
   pub hold : BeginsHold c sys next (number c (length x.whole))
 
 -- the event
@@ -187,11 +185,11 @@ pub record EndsOpen (past : List Labelled) (sys next : SystemAt) (c : ℕ) (x : 
 
 -- each client's story after the events so far
 abbrev pub AllStories : List Event → List Labelled → SystemAt → (ℕ → ClientHistory) → Type 0
-AllStories events past sys told = (c : ℕ) → HistoryInvariant events past sys c (told c)
+AllStories events past sys answered = (c : ℕ) → HistoryInvariant events past sys c (answered c)
 
 -- with another history of one client
 abbrev pub with_history : (ℕ → ClientHistory) → ℕ → ClientHistory → ℕ → ClientHistory
-with_history told c x d = at told c x d
+with_history answered c x d = at answered c x d
 
 -- a turn of one client leaves where the others are, and how many transactions they have begun
 pub record OthersUnchanged (c : ℕ) (sys next : SystemAt) : Type 0 where

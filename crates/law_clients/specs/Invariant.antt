@@ -1,12 +1,9 @@
 -- The invariant between the events so far and the clients: what all know, the story of each, and what the statements of each
 -- transaction come to.
 use Rattle.std.specs.Prelude.{◌≡◌, ◌≢◌, ◌⊎◌, ℕ, Bool, true, false, List, length, Option, Some, None}
-use Rattle.sdb_schema.specs.declared.table.Table.{Table}
-use Rattle.sdb_model.specs.declared.answer.Answer.{Answer}
+use Rattle.law_clients.specs.Types.{Answer, Event, Statement, Table}
 use Rattle.sdb_model.specs.declared.answer.Answer.TheVariants as answer
-use Rattle.sdb_model.specs.declared.event.Event.{Event}
 use Rattle.sdb_model.specs.declared.event.Event.TheVariants as event
-use Rattle.sdb_model.specs.declared.statement.Statement.{Statement}
 use Rattle.sdb_model.specs.Exec.{Tables}
 use Rattle.sdb_model.specs.Sql.{Reads, reads_begin, reads_commit, reads_rollback}
 use Rattle.sdb_model.specs.Transactions.{Executed, is_conflict, is_done}
@@ -39,7 +36,7 @@ IsPlanned plan t r = plan t ≡ plan_of (work_of (id t) r.now r.seen)
 -- what holds of a transaction whose statements are these
 pub record RanOk (catalog : List Table) (fit : Tables → Bool) (plan : ℕ → Plan) (past : List Labelled) (t : ℕ) (body : List Executed) (r : Execution) : Type 0 where
   pub inside : InsideOk catalog fit past body r
-  pub planned : (protocol_state past).taken t ≡ true → IsPlanned plan t r
+  pub planned : (protocol_state past).accepted t ≡ true → IsPlanned plan t r
 
 ---- one client
 
@@ -88,10 +85,10 @@ IsOpenOf doing x r (RunsVacuum v) = IsClosed x.rest × IsWaiting x.waiting
 IsOpenOf doing x r Stopped = Unit {0}
 
 -- What holds of a client: of each of its transactions, with what each ran, the first at 0, and where it is.
-pub record ClientInvariant (catalog : List Table) (fit : Tables → Bool) (plan : ℕ → Plan) (past : List Labelled) (c : ℕ) (doing : Option Statement) (stands : ClientAt) (x : ClientHistory) (ran : ℕ → Execution) : Type 0 where
+pub record ClientInvariant (catalog : List Table) (fit : Tables → Bool) (plan : ℕ → Plan) (past : List Labelled) (c : ℕ) (doing : Option Statement) (agrees : ClientAt) (x : ClientHistory) (ran : ℕ → Execution) : Type 0 where
   pub ended : EndedOk catalog fit plan past c x.whole ran
   pub opened : OpenedOk catalog fit plan past (number c (length x.whole)) x.rest (ran (length x.whole))
-  pub hand : IsOpenOf doing x (ran (length x.whole)) stands
+  pub next_state : IsOpenOf doing x (ran (length x.whole)) agrees
 
 ---- all clients
 
@@ -101,14 +98,14 @@ pub record RunInvariant (catalog : List Table) (fit : Tables → Bool) (events :
   pub plan : ℕ → Plan
   pub labelled : List Labelled
   pub past : List Labelled
-  pub told : ℕ → ClientHistory
+  pub answered : ℕ → ClientHistory
   pub ran : ℕ → ℕ → Execution
   pub same : events ≡ events_of labelled
   pub turned : past ≡ newest_first labelled
   pub system : SystemOk plan past sys
-  pub stories : AllStories events past sys told
-  pub clients : (c : ℕ) → ClientInvariant catalog fit plan past c (doing c) (sys.clients c) (told c) (ran c)
-  pub as_read : (c : ℕ) → ReadSetsOfClient events c (sys.clients c) (told c) (ran c)
+  pub stories : AllStories events past sys answered
+  pub clients : (c : ℕ) → ClientInvariant catalog fit plan past c (doing c) (sys.clients c) (answered c) (ran c)
+  pub as_read : (c : ℕ) → ReadSetsOfClient events c (sys.clients c) (answered c) (ran c)
 
 ---- events
 

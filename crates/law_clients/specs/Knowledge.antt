@@ -1,22 +1,16 @@
 -- The events so far with the invariant of all clients, and its preservation by turns and moves.
 use Rattle.std.specs.Prelude.{◌≡◌, ◌≢◌, ◌++◌, ℕ, List, ◌∷◌, Option, Some}
 use Rattle.std.specs.List.{AllByRecursion}
-use Rattle.sdb_types.specs.declared.txid.TxId.{TxId}
-use Rattle.sdb_types.specs.declared.record.Record.{Record}
-use Rattle.sdb_types.specs.declared.record.Span.{Span}
-use Rattle.sdb_record.specs.declared.access.Access.{Access}
+use Rattle.law_clients.specs.Types.{Access, Answer, Meta, Record, RecoverPhase, Span, TxId}
 use Rattle.sdb_record.specs.declared.access.Access.TheVariants as access
-use Rattle.sdb_record.specs.declared.meta.Meta.{Meta}
-use Rattle.sdb_model.specs.declared.answer.Answer.{Answer}
 use Rattle.sdb_model.specs.declared.answer.Answer.TheVariants as answer
 use Rattle.law_protocol.specs.History.{Action}
 use Rattle.law_protocol.specs.Lawful.{IsEnabled, Labelled, ends_with, labelled_with}
 use Rattle.law_protocol.specs.Plan.{Plan}
-use Rattle.sdb_phases.specs.declared.step.RecoverPhase.{RecoverPhase}
 use Rattle.sdb_phases.specs.Commit.{Stage, pending, step}
 use Rattle.sdb_phases.specs.Recover.{recover_next, recover_request_at}
 use Rattle.sdb_phases.specs.Work.{Work}
-use Rattle.sdb_read.specs.Read.{Kind}
+use Rattle.sdb_txn.specs.Read.{Kind}
 use Rattle.sdb_snapshot.specs.Seen.{Seen, nothing}
 use Rattle.law_clients.specs.Reads.{with_read}
 use Rattle.law_clients.specs.Reader.{RecoverOk, recover_action}
@@ -43,7 +37,7 @@ TurnsTo k q sys = SystemOk k.plan (q ∷ k.past) sys
 abbrev pub TurnsAt : Knowledge → Labelled → ℕ → ClientAt → Type 0
 TurnsAt k q c x = TurnsTo k q (with_client k.sys c x)
 
--- It holds once the COMMIT of this work is taken, which is its transaction's plan from then on.
+-- It holds once the COMMIT of this work is accepted, which is its transaction's plan from then on.
 abbrev pub StartsCommitWith : Knowledge → ℕ → List ℕ → Work → Type 0
 StartsCommitWith k c text p = SystemOk (with_plan k.plan p) (take_labelled c text p ∷ k.past) (commit_begun k.sys c p)
 
@@ -126,7 +120,7 @@ read_ended r = ends_with r.id.0 (read_action r.stage r.call.reply) (call_event r
 pub record VacuumReplyAt (sys : SystemAt) : Type 0 where
   pub call : ClientCall
   pub stage : VacuumModel
-  pub sweeps : sys.clients call.client ≡ RunsVacuum stage
+  pub vacuums : sys.clients call.client ≡ RunsVacuum stage
   pub replies : IsReplyTo (vacuum_call stage) call
   pub answered : Option Answer
   pub other : answered ≢ Some answer.Committed

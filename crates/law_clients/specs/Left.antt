@@ -1,12 +1,9 @@
 -- What a transaction recorded is what its writers left, and tables that transactions left one after the other.
 use Rattle.std.specs.Prelude.{◌≡◌, ℕ, ℤ, true, map, List, Some, Bool, false, None, is_some, Contains, ◌↔◌, ◌++◌}
 use Rattle.std.specs.FinMap.{get, empty}
-use Rattle.sdb_types.specs.declared.key.Key.{Key}
-use Rattle.sdb_types.specs.declared.record.Record.{Record}
+use Rattle.law_clients.specs.Types.{Answer, Event, Key, Place, Point, Record, Statement, Table}
 use Rattle.sdb_record.specs.Moved.{version_of}
 use Rattle.sdb_record.specs.Rolls.{row_of_image}
-use Rattle.sdb_model.specs.declared.event.Event.{Event}
-use Rattle.sdb_model.specs.declared.event.Point.{Point}
 use Rattle.sdb_model.specs.Exec.{Tables, find_table}
 use Rattle.sdb_model.specs.Transactions.{body}
 use Rattle.sdb_snapshot.specs.Reads.{base_at}
@@ -15,10 +12,6 @@ use Rattle.law_protocol.specs.Plan.{Plan}
 use Rattle.law_protocol.specs.Lawful.{id}
 use Rattle.law_protocol.specs.Serial.{last_writer, row_left}
 use Rattle.std.specs.List.{AllByRecursion}
-use Rattle.sdb_schema.specs.declared.table.Table.{Table}
-use Rattle.sdb_model.specs.declared.answer.Answer.{Answer}
-use Rattle.sdb_types.specs.declared.place.Place.{Place}
-use Rattle.sdb_model.specs.declared.statement.Statement.{Statement}
 use Rattle.sdb_model.specs.Events.{StoreContents}
 use Rattle.sdb_model.specs.Images.{row_at}
 use Rattle.sdb_model.specs.Serial.{AreRead, serial}
@@ -38,7 +31,7 @@ AreLeft plan s = (k : Key) (b : Record) → base_at s.read_set k ≡ Some b → 
 pub record AreAfter (plan : ℕ → Plan) (front : List ℕ) (d : Tables) : Type 0 where
   pub row : (k : Key) → get d k ≡ row_left plan k (last_writer plan k front)
 
--- What a transaction of the order did: what it had read and written when its COMMIT was taken, and when; its statements; and their
+-- What a transaction of the order did: what it had read and written when its COMMIT was accepted, and when; its statements; and their
 -- answers.
 pub record Execution : Type 0 where
   pub seen : Seen
@@ -64,12 +57,12 @@ pub record RunsWhole (catalog : List Table) (fit : Tables → Bool) (plan : ℕ 
 
 -- at each key of a table the rows that the stores show are those of these tables
 abbrev pub ContainsTables : List Place → List StoreContents → Tables → Type 0
-ContainsTables places shelves e = (k : Key) → is_data k ≡ true → row_at places shelves k ≡ get e k
+ContainsTables places store_contents e = (k : Key) → is_data k ≡ true → row_at places store_contents k ≡ get e k
 
 -- The texts of a transaction's body read as its statements, and what they were answered is what these come to.
 pub record BodyIsExecuted (events : List Event) (t : ℕ) (r : Execution) : Type 0 where
   pub read : AreRead (body events (id t)) r.body
-  pub told : map (λ s. s.answer) (body events (id t)) ≡ map Some r.answers
+  pub answered : map (λ s. s.answer) (body events (id t)) ≡ map Some r.answers
 
 -- it holds of each transaction of a list
 abbrev pub AllBodiesExecuted : List Table → (Tables → Bool) → (ℕ → Plan) → List Event → List Labelled → (ℕ → Execution) → List ℕ → Type 0
@@ -95,6 +88,6 @@ pub record AreReads (plan : ℕ → Plan) (events : List Event) (p : Work) (t : 
   pub planned : plan t ≡ plan_of p
   pub as_read : (item : ReadItem) → Contains (reads_and_scans p) item ↔ Contains (read_set_of events (id t)) item
 
--- this holds of each transaction whose COMMIT was taken
+-- this holds of each transaction whose COMMIT was accepted
 abbrev pub AllAreReads : (ℕ → Plan) → List Event → List Labelled → (ℕ → Work) → Type 0
-AllAreReads plan events past works = (t : ℕ) → (protocol_state past).taken t ≡ true → AreReads plan events (works t) t
+AllAreReads plan events past works = (t : ℕ) → (protocol_state past).accepted t ≡ true → AreReads plan events (works t) t

@@ -1,3 +1,4 @@
+pub mod Types
 pub mod Owner
 pub mod Reader
 pub mod ReadAt
@@ -26,3 +27,20 @@ pub mod About
 pub mod Vacuums
 pub mod States
 pub mod Turns
+pub mod Database
+pub mod OnlyResolves
+pub mod Recovers
+pub mod Commits
+pub mod SessionReads
+pub mod Seen
+pub mod Tombstones
+pub mod SessionVacuums
+pub mod Later
+pub mod Keys
+pub mod Clients
+pub mod Session
+pub mod Between
+pub mod Chain
+pub mod SessionTurns
+pub mod Working
+pub mod Faults

@@ -1,7 +1,6 @@
 -- The invariant between the events of a run and its clients, with each client's story.
 use Rattle.std.specs.Prelude.{ℕ, Bool, List}
-use Rattle.sdb_schema.specs.declared.table.Table.{Table}
-use Rattle.sdb_model.specs.declared.event.Point.{Point}
+use Rattle.law_clients.specs.Types.{Point, Table}
 use Rattle.sdb_model.specs.Exec.{Tables}
 use Rattle.law_protocol.specs.Plan.{Plan}
 use Rattle.law_protocol.specs.Lawful.{Labelled}
@@ -15,8 +14,8 @@ use Rattle.law_clients.specs.History.{AllStories, ClientHistory}
 pub record HaveStories (catalog : List Table) (fit : Tables → Bool) (labelled : List Labelled) (order : List Point) : Type 0 where
   pub plan : ℕ → Plan
   pub sys : SystemAt
-  pub told : ℕ → ClientHistory
+  pub answered : ℕ → ClientHistory
   pub ran : ℕ → Execution
   pub system : SystemOk plan (newest_first labelled) sys
-  pub stories : AllStories (events_of labelled) (newest_first labelled) sys told
+  pub stories : AllStories (events_of labelled) (newest_first labelled) sys answered
   pub bodies : AllBodiesExecuted catalog fit plan (events_of labelled) (newest_first labelled) ran (ordinals_of order)

@@ -1,9 +1,9 @@
 -- The states of a read's machine, mapped to those of the model of clients.
 use Rattle.sdb_types.specs.declared.record.Record.{Record}
-use Rattle.sdb_read.specs.declared.read.ReadStep.TheVariants as step
-use Rattle.sdb_read.specs.Read as machine
+use Rattle.sdb_txn.specs.declared.read.ReadStep.TheVariants as step
+use Rattle.sdb_txn.specs.Read as machine
 use Rattle.law_clients.specs.ReadAt.{ReadAt, Asking, Resolving, Done, Failed}
-use Rattle.sdb_read.specs.Read.{Kind, Firm, Open, Bad}
+use Rattle.sdb_txn.specs.Read.{Kind, Firm, Open, Bad}
 
 abbrev pub kind_at : machine.Kind → Kind
 kind_at machine.Firm = Firm

@@ -1,11 +1,8 @@
 -- Runs with the order of their recorded transactions, and the execution and the statements of each.
 use Rattle.std.specs.Prelude.{◌≡◌, Bool, List, true, ℕ}
 use Rattle.std.specs.FinMap.{empty}
-use Rattle.sdb_schema.specs.declared.table.Table.{Table}
+use Rattle.law_clients.specs.Types.{Point, Script, Table, TableDump}
 use Rattle.sdb_model.specs.declared.event.Outcome.{Outcome}
-use Rattle.sdb_model.specs.declared.event.Point.{Point}
-use Rattle.sdb_model.specs.declared.event.TableDump.{TableDump}
-use Rattle.sdb_model.specs.declared.script.Script.{Script}
 use Rattle.sdb_model.specs.Events.{IsTrace, StoreContents}
 use Rattle.sdb_model.specs.Exec.{Tables}
 use Rattle.sdb_model.specs.Follows.{Follows}

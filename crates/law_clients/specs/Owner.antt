@@ -1,13 +1,9 @@
 -- The actions of a COMMIT in the law of the protocol, and what is known at each of its stages.
 use Rattle.std.specs.Prelude.{◌≡◌, ◌≢◌, ◌⊎◌, ◌≤◌, ◌<◌, ◌^◌, ℕ, true, false, not, if◌then◌else◌, List, ◌++◌, map, filter, length, Option, Some, None, slice_get}
-use Rattle.sdb_types.specs.declared.key.Key.{Key}
-use Rattle.sdb_types.specs.declared.record.Reply.{Reply}
-use Rattle.sdb_types.specs.declared.record.Request.{Request}
+use Rattle.law_clients.specs.Types.{Check, Decision, Key, Outcome, Reply, Request, Write}
 use Rattle.sdb_types.specs.declared.record.Request.TheVariants as ask
 use Rattle.sdb_types.specs.Contents.{CanAnswer}
-use Rattle.sdb_record.specs.declared.coordinator.Decision.{Decision}
 use Rattle.sdb_record.specs.declared.coordinator.Decision.TheVariants as decision
-use Rattle.sdb_record.specs.declared.write.Write.{Write}
 use Rattle.sdb_record.specs.Meta.{is_moment}
 use Rattle.sdb_record.specs.Rolls.{IsWrite}
 use Rattle.sdb_record.specs.Among.{is_written}
@@ -16,9 +12,7 @@ use Rattle.sdb_model.specs.ReadSet.{ReadItem, KeyRead, SpanRead}
 use Rattle.law_protocol.specs.History as laws
 use Rattle.law_protocol.specs.History.{Action, Other, Prepares, Checks, Decides, Aborts, Rolls, ProtocolState}
 use Rattle.law_protocol.specs.Lawful.{Labelled, id, protocol_state, ack_of, InCommit, IsUnchanged, IsKnownCommitted, IsKnownAborted, IsBadRow}
-use Rattle.sdb_phases.specs.declared.step.Outcome.{Outcome}
 use Rattle.sdb_phases.specs.declared.step.Outcome.TheVariants as outcome
-use Rattle.sdb_phases.specs.declared.check.Check.{Check}
 use Rattle.sdb_phases.specs.declared.step.DecidePhase.TheVariants as phase
 use Rattle.sdb_phases.specs.Work.{Work}
 use Rattle.sdb_phases.specs.Checks.{checks}
@@ -99,7 +93,7 @@ pub record WorkOk (p : Work) : Type 0 where
   -- checks read
   pub reads : (i : ℕ) (c : Check) → slice_get (checks p) i ≡ Some c → IsReading c.request
   -- what a rescan means
-  pub tells : (i : ℕ) (c : Check) (r : Reply) → slice_get (checks p) i ≡ Some c → CanAnswer c.request r → as_wished p (Checking i) r ≡ true → CheckPasses p i c.request r
+  pub is_known : (i : ℕ) (c : Check) (r : Reply) → slice_get (checks p) i ≡ Some c → CanAnswer c.request r → as_wished p (Checking i) r ≡ true → CheckPasses p i c.request r
   -- items that are not checked are of keys that are written, with the version of the base
   pub checked : (j : ℕ) (k : Key) (version : Option ℕ) → length (checks p) ≤ j → version_read_at (plan_of p) j k ≡ Some version → written (plan_of p) k ≢ None
   pub agrees : (j : ℕ) → length (checks p) ≤ j → ItemAgrees p j
@@ -108,7 +102,7 @@ pub record WorkOk (p : Work) : Type 0 where
 
 -- the first so many prepares were seen and applied
 abbrev pub AreAcknowledged : ProtocolState → Work → ℕ → Type 0
-AreAcknowledged h p i = (j : ℕ) (w : Write) → j < i → slice_get p.writes j ≡ Some w → h.told p.id.0 w.key ≡ true
+AreAcknowledged h p i = (j : ℕ) (w : Write) → j < i → slice_get p.writes j ≡ Some w → h.answered p.id.0 w.key ≡ true
 
 -- the first so many were asked
 abbrev pub AskedTo : ProtocolState → Work → ℕ → Type 0

@@ -1,18 +1,8 @@
 -- The events so far with the run invariant, and its preservation by one more event.
 use Rattle.std.specs.Prelude.{◌≡◌, ◌<◌, ◌^◌, All, ℕ, ℤ, Bool, true, false, List, [], ◌∷◌, ◌++◌, Option, Some}
-use Rattle.sdb_types.specs.declared.record.Record.{Record}
-use Rattle.sdb_types.specs.declared.txid.TxId.{TxId}
-use Rattle.sdb_record.specs.declared.access.Access.{Access}
-use Rattle.sdb_record.specs.declared.write.Keyed.{Keyed}
-use Rattle.sdb_schema.specs.declared.table.Table.{Table}
-use Rattle.sdb_model.specs.declared.answer.Answer.{Answer}
-use Rattle.sdb_model.specs.declared.event.Event.{Event}
+use Rattle.law_clients.specs.Types.{Access, Answer, Event, Keyed, Point, Record, Script, Statement, Table, TableDump, TxId}
 use Rattle.sdb_model.specs.declared.event.Event.TheVariants as event
 use Rattle.sdb_model.specs.declared.event.Outcome.{Outcome}
-use Rattle.sdb_model.specs.declared.event.Point.{Point}
-use Rattle.sdb_model.specs.declared.event.TableDump.{TableDump}
-use Rattle.sdb_model.specs.declared.script.Script.{Script}
-use Rattle.sdb_model.specs.declared.statement.Statement.{Statement}
 use Rattle.sdb_model.specs.Calls.{StoreCall}
 use Rattle.sdb_model.specs.Events.{IsTrace, StoreContents}
 use Rattle.sdb_model.specs.Exec.{Tables}
@@ -23,7 +13,7 @@ use Rattle.sdb_model.specs.Transactions.{IsOrder, changes_nothing, is_answered_f
 use Rattle.law_protocol.specs.History.{at}
 use Rattle.law_protocol.specs.Trace.{StartsEmpty}
 use Rattle.sdb_phases.specs.Commit.{preparing}
-use Rattle.sdb_read.specs.Read.{Kind}
+use Rattle.sdb_txn.specs.Read.{Kind}
 use Rattle.sdb_snapshot.specs.Seen.{Seen, with_written}
 use Rattle.sdb_snapshot.specs.Written.{AreChanges}
 use Rattle.law_clients.specs.Reads.{MayRecord, with_read, work_of}
@@ -42,7 +32,7 @@ pub record Progress : Type 0 where
   pub events : List Event
   pub sys : SystemAt
   pub doing : ℕ → Option Statement
-  pub going : RunInvariant catalog fit events sys doing
+  pub running : RunInvariant catalog fit events sys doing
 
 -- The invariant holds of the events so far and these clients too.
 abbrev pub IsPreservedAs : Progress → SystemAt → (ℕ → Option Statement) → Type 0
@@ -52,7 +42,7 @@ IsPreservedAs p sys doing = RunInvariant p.catalog p.fit p.events sys doing
 abbrev pub After : Progress → ℕ → Event → SystemAt → Option Statement → Type 0
 After p c e sys st = RunInvariant p.catalog p.fit (p.events ++ e ∷ []) sys (at p.doing c st)
 
--- A text of a client was taken and was answered so, or waits; and then the client is in this state and runs that statement.
+-- A text of a client was accepted and was answered so, or waits; and then the client is in this state and runs that statement.
 abbrev pub AfterTake : Progress → ℕ → List ℕ → Option Answer → ClientAt → Option Statement → Type 0
 AfterTake p c text answer y st = After p c (event.Take c text answer) (with_client p.sys c y) st
 
@@ -70,9 +60,9 @@ pub record IsSame (p : Progress) (sys : SystemAt) (doing : ℕ → Option Statem
   pub begun : (c : ℕ) → p.sys.begun c ≡ sys.begun c
   pub running : (c : ℕ) → p.doing c ≡ doing c
 
----- statements as they are taken
+---- statements as they are accepted
 
--- A client with an open transaction, and the text that is taken of it.
+-- A client with an open transaction, and the text that is accepted of it.
 pub record Asked (p : Progress) : Type 0 where
   pub client : ℕ
   pub text : List ℕ
@@ -80,7 +70,7 @@ pub record Asked (p : Progress) : Type 0 where
   pub seen : Seen
   pub is_open : p.sys.clients client ≡ Open id seen
 
--- Its text was taken and was answered so, or waits; and then the client is in this state and runs that statement.
+-- Its text was accepted and was answered so, or waits; and then the client is in this state and runs that statement.
 abbrev pub AfterAsked : {p : Progress} → Asked p → Option Answer → ClientAt → Option Statement → Type 0
 AfterAsked {p} q answer y st = AfterTake p q.client q.text answer y st
 
@@ -90,7 +80,7 @@ pub record MayRead {p : Progress} (q : Asked p) (st : Statement) (a : Access) : 
   pub reads : Reads q.text st
   pub inner : IsInner q.text
 
--- where it is once its COMMIT is taken
+-- where it is once its COMMIT is accepted
 abbrev pub committing : {p : Progress} → Asked p → ℤ → ClientAt
 committing q now = let w = work_of q.id now q.seen in commit_left w (preparing w 0)
 
@@ -176,7 +166,7 @@ pub record VacuumReplied (p : Progress) : Type 0 where
   pub kinds : AreKinds kind
   pub call : ClientCall
   pub stage : VacuumModel
-  pub sweeps : p.sys.clients call.client ≡ RunsVacuum stage
+  pub vacuums : p.sys.clients call.client ≡ RunsVacuum stage
   pub replies : IsReplyTo (vacuum_call stage) call
 
 -- where it takes the VACUUM to
@@ -197,7 +187,7 @@ pub record Ending (script : Script) : Type 0 where
   pub moments : List (List StoreContents)
   pub order : List Point
   pub fitting : IsFitting script.catalog fit
-  pub going : RunInvariant script.catalog fit events sys doing
+  pub running : RunInvariant script.catalog fit events sys doing
   pub follows : Follows script events
   pub traced : IsTrace script.places events opening moments closing
   pub empty : StartsEmpty script.places opening

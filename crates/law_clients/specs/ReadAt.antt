@@ -2,26 +2,19 @@
 use Rattle.std.specs.Prelude.{◌≡◌, ℤ, true, List, [], ◌∷◌, ◌++◌, map, Option, Some, None, Ok, Result, Err, if◌then◌else◌, ℕ}
 use Rattle.std.specs.List.{AllByRecursion}
 use Rattle.std.specs.declared.cmp.Ordering.TheVariants.{Less}
-use Rattle.sdb_types.specs.declared.key.Key.{Key}
-use Rattle.sdb_types.specs.declared.record.Record.{Record}
-use Rattle.sdb_types.specs.declared.record.Reply.{Reply}
+use Rattle.law_clients.specs.Types.{Access, Key, Meta, Record, RecoverPhase, RecoverStep, Reply, Request}
 use Rattle.sdb_types.specs.declared.record.Reply.TheVariants as reply
-use Rattle.sdb_types.specs.declared.record.Request.{Request}
 use Rattle.sdb_types.specs.declared.record.State.TheVariants as state
 use Rattle.sdb_types.specs.Order.{key_cmp}
-use Rattle.sdb_record.specs.declared.access.Access.{Access}
-use Rattle.sdb_record.specs.declared.meta.Meta.{Meta}
 use Rattle.sdb_record.specs.Meta.{checked, is_committed, is_in, is_transactional, is_unresolved}
 use Rattle.sdb_model.specs.Access.{in_access}
 use Rattle.law_protocol.specs.History.{Action, Other}
 use Rattle.law_protocol.specs.Lawful.{Labelled, IsObserved, IsSettled}
-use Rattle.sdb_phases.specs.declared.step.RecoverStep.{RecoverStep}
 use Rattle.sdb_phases.specs.declared.step.RecoverStep.TheVariants as steps
-use Rattle.sdb_phases.specs.declared.step.RecoverPhase.{RecoverPhase}
 use Rattle.sdb_phases.specs.declared.step.RecoverPhase.TheVariants as phase
 use Rattle.sdb_phases.specs.Recover.{recover_next, recover_request_at}
 use Rattle.law_clients.specs.Reader.{RecoverOk, recover_action}
-use Rattle.sdb_read.specs.Read.{request_of, Kind, Firm, Open, Bad}
+use Rattle.sdb_txn.specs.Read.{request_of, Kind, Firm, Open, Bad}
 use Rattle.sdb_model.specs.Tables.{is_data}
 
 ---- rows

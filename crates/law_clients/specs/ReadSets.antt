@@ -26,13 +26,13 @@ ReadSetOpened events c (Opened gap b body) r = ReadSetInside events c body r.see
 
 -- Where a client reads, the calls since the taking of the statement that waits are those that the read has made.
 abbrev pub IsMadeSince : List Event → ℕ → Option Executed → ClientAt → Type 0
-IsMadeSince events c o (Reading i seen a s) = IfSome o (λ w. ReadMade (calls_since events c w.taken) a s)
+IsMadeSince events c o (Reading i seen a s) = IfSome o (λ w. ReadMade (calls_since events c w.accepted) a s)
 IsMadeSince events c o y = Unit {0}
 
 -- What each transaction of a client has read is what its statements read, and what the statement that waits has read so far is what its
 -- calls showed.
-pub record ReadSetsOfClient (events : List Event) (c : ℕ) (stands : ClientAt) (x : ClientHistory) (ran : ℕ → Execution) : Type 0 where
+pub record ReadSetsOfClient (events : List Event) (c : ℕ) (agrees : ClientAt) (x : ClientHistory) (ran : ℕ → Execution) : Type 0 where
   pub ended : ReadSetsEnded events c x.whole ran
   pub opened : ReadSetOpened events c x.rest (ran (length x.whole))
-  pub taken : IfSome x.waiting (λ w. w.taken ≤ length events)
-  pub made : IsMadeSince events c x.waiting stands
+  pub accepted : IfSome x.waiting (λ w. w.accepted ≤ length events)
+  pub made : IsMadeSince events c x.waiting agrees

@@ -1,14 +1,11 @@
 -- The actions of a recovery in the law of the protocol, and what its client knows at each call.
 use Rattle.std.specs.Prelude.{◌≡◌, ◌⊎◌, ◌<◌, ◌^◌, ℕ, ℤ, true, false, List, Some}
-use Rattle.sdb_types.specs.declared.record.Record.{Record}
-use Rattle.sdb_types.specs.declared.record.Reply.{Reply}
+use Rattle.law_clients.specs.Types.{Meta, Record, RecoverPhase, Reply}
 use Rattle.sdb_types.specs.declared.record.State.TheVariants as state
 use Rattle.sdb_record.specs.declared.coordinator.Decision.TheVariants as decision
-use Rattle.sdb_record.specs.declared.meta.Meta.{Meta}
 use Rattle.sdb_record.specs.Meta.{id_in, is_in, is_moment, is_committed, is_unresolved}
 use Rattle.law_protocol.specs.History.{Action, Other, Aborts, Rolls}
 use Rattle.law_protocol.specs.Lawful.{Labelled, ack_of, protocol_state, IsObserved, IsRowObserved}
-use Rattle.sdb_phases.specs.declared.step.RecoverPhase.{RecoverPhase}
 use Rattle.sdb_phases.specs.declared.step.RecoverPhase.TheVariants as phase
 use Rattle.sdb_model.specs.Tables.{is_data}
 
@@ -42,6 +39,6 @@ pub record IsMetaOf (rec : Record) (meta : Meta) : Type 0 where
 pub record RecoverOk (past : List Labelled) (rec : Record) (meta : Meta) (p : RecoverPhase) : Type 0 where
   pub of : IsMetaOf rec meta
   pub unresolved : is_unresolved rec ≡ true
-  pub shown : IsObserved past rec
+  pub observed : IsObserved past rec
   pub outside : is_data rec.key ≡ true
   pub phase : PhaseOk past meta p

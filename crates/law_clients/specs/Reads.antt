@@ -1,16 +1,10 @@
 -- What a transaction has read and written, and what holds of it: from its first read, and as its COMMIT takes it.
 use Rattle.std.specs.Prelude.{◌≡◌, ◌≢◌, ◌<◌, ◌^◌, ℕ, ℤ, true, false, List, [], ◌∷◌, Option, Some, None, IfSome, Bool, ◌&&◌, ◌||◌}
 use Rattle.std.specs.List.{AllByRecursion, list_any}
-use Rattle.sdb_types.specs.declared.key.Key.{Key}
-use Rattle.sdb_types.specs.declared.txid.TxId.{TxId}
-use Rattle.sdb_types.specs.declared.record.Record.{Record}
+use Rattle.law_clients.specs.Types.{Access, Key, Read, Record, Scan, TxId, Write}
 use Rattle.sdb_types.specs.Contents.{in_span}
 use Rattle.sdb_types.specs.Order.{same_key}
-use Rattle.sdb_record.specs.declared.access.Access.{Access}
 use Rattle.sdb_record.specs.declared.access.Access.TheVariants as access
-use Rattle.sdb_record.specs.declared.access.Read.{Read}
-use Rattle.sdb_record.specs.declared.access.Scan.{Scan}
-use Rattle.sdb_record.specs.declared.write.Write.{Write}
 use Rattle.sdb_record.specs.Meta.{is_moment, id_in}
 use Rattle.sdb_record.specs.Moved.{version_of}
 use Rattle.sdb_record.specs.Rolls.{IsWrite}
@@ -78,14 +72,14 @@ pub record SeenOk (past : List Labelled) (s : Seen) : Type 0 where
   -- each key that is recorded was read by a get or found by a scan
   pub as_read : (q : Key) → is_key_read s.read_set q ≡ true → (was_read s.reads q || was_found s.scans q) ≡ true
 
--- A client's transaction is open, its COMMIT was not taken, and its calls are not part of the protocol's state.
+-- A client's transaction is open, its COMMIT was not accepted, and its calls are not part of the protocol's state.
 pub record OpenOk (h : ProtocolState) (c t : ℕ) : Type 0 where
   pub fits : t < 2 ^ 128
   pub begun : h.begun t ≢ 0
   pub owner : h.owner t ≡ c
   pub is_open : h.is_open t ≡ true
   pub goes_on : h.stopped c ≡ false
-  pub fresh : h.taken t ≡ false
+  pub fresh : h.accepted t ≡ false
   pub stage : h.stage t ≡ laws.Preparing
   pub unasked : (k : Key) → h.asked t k ≡ false
   pub safe : h.risked t ≡ false

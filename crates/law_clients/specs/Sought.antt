@@ -1,8 +1,7 @@
 -- A transaction that is sought among its client's statements.
 use Rattle.std.specs.Prelude.{◌≡◌, ◌++◌, ℕ, suc, List, Option}
 use Rattle.std.specs.List.{AllByRecursion}
-use Rattle.sdb_types.specs.declared.txid.TxId.{TxId}
-use Rattle.sdb_model.specs.declared.event.Event.{Event}
+use Rattle.law_clients.specs.Types.{Event, TxId}
 use Rattle.sdb_model.specs.Transactions.{Executed, begun, client_of, commit_of, ordinal_of, statements_by}
 use Rattle.law_clients.specs.Story.{Finished, IsEndedTxn, IsRest, Opened, Rest, statements_in, saids_of}
 

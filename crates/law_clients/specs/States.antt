@@ -1,25 +1,19 @@
 -- The clients of a run, and the state of each in the model of clients.
 use Rattle.std.specs.Prelude.{◌≡◌, ◌≢◌, ℕ, ◌<◌, ◌^◌, Bool, true, false, if◌then◌else◌, List, Option, Some, None, IsSome}
 use Rattle.std.specs.Option.{option_map}
-use Rattle.sdb_types.specs.declared.record.Request.{Request}
+use Rattle.law_clients.specs.Types.{Access, Answer, Doing, Gate, Request, Statement, Table}
 use Rattle.sdb_types.specs.Contents.{CanAnswer}
 use Rattle.sdb_record.specs.Meta.{is_moment}
-use Rattle.sdb_record.specs.declared.access.Access.{Access}
-use Rattle.sdb_schema.specs.declared.table.Table.{Table}
-use Rattle.sdb_model.specs.declared.answer.Answer.{Answer}
-use Rattle.sdb_model.specs.declared.statement.Statement.{Statement}
 use Rattle.sdb_model.specs.Exec.{named_table}
 use Rattle.sdb_model.specs.Refused.{refusal_of}
 use Rattle.sdb_exec.specs.Plans.{Planned, has_all_literals}
 use Rattle.sdb_model.specs.Reads.{access_of}
 use Rattle.law_protocol.specs.History.{at}
-use Rattle.sdb_read.specs.Read.{ReadAt, request_of}
-use Rattle.sdb_txn.specs.declared.txn.Doing.{Doing}
+use Rattle.sdb_txn.specs.Read.{ReadAt, request_of}
 use Rattle.sdb_txn.specs.declared.txn.Doing.TheVariants as doing
 use Rattle.sdb_txn.specs.Txn.{TxnAt}
 use Rattle.sdb_vacuum.specs.Vacuum.{VacuumAt}
 use Rattle.sdb_client.specs.Client.{ClientAt as Client, IsBusy, IsIdle, client_pending}
-use Rattle.sdb_client.specs.declared.gate.Gate.{Gate}
 use Rattle.sdb_model.specs.Transactions.{changes_nothing}
 use Rattle.law_clients.specs.Invariant.{IsMild}
 use Rattle.law_clients.specs.Machine.{abstract_read}
@@ -76,7 +70,7 @@ pub record IsReady (states : ℕ → ClientState) (c : ℕ) : Type 0 where
 
 -- The gate says what other clients that go on do: where it is open, none of them runs VACUUM, or none has a transaction open.
 pub record IsGated (gate : Gate) (states : ℕ → ClientState) (c : ℕ) : Type 0 where
-  pub sweeps : gate.vacuum_runs ≡ false → (d : ℕ) → d ≢ c → (states d).stopped ≡ false → (states d).client.vacuum ≡ None
+  pub vacuums : gate.vacuum_runs ≡ false → (d : ℕ) → d ≢ c → (states d).stopped ≡ false → (states d).client.vacuum ≡ None
   pub opens : gate.open_elsewhere ≡ false → (d : ℕ) → d ≢ c → (states d).stopped ≡ false → (states d).client.txn ≡ None
 
 -- an answer that changes nothing, and is neither of a BEGIN nor of an end
@@ -90,7 +84,7 @@ pub record IsPlainAnswer (b : Answer) : Type 0 where
 pub record IsAskedBy (catalog : List Table) (p : Planned) (a : Access) (x : ReadAt) : Type 0 where
   pub named : named_table catalog p.statement ≡ Some p.table
   pub asked : p.asked ≡ true
-  pub taken : refusal_of catalog p.statement ≡ None
+  pub accepted : refusal_of catalog p.statement ≡ None
   pub literals : has_all_literals p.statement ≡ true
   pub access : a ≡ access_of p.table p.statement
   pub request : x.request ≡ request_of a

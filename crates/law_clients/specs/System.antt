@@ -1,16 +1,10 @@
 -- The model of several clients: the state of each, and the invariant of all of them after the events so far.
 use Rattle.std.specs.Prelude.{◌≡◌, ◌≢◌, ◌⊎◌, ◌≤◌, ◌<◌, ◌+◌, ◌/◌, ◌%◌, ◌^◌, ℕ, ℤ, Bool, true, false, List, Option, Some, None}
-use Rattle.sdb_types.specs.declared.txid.TxId.{TxId}
-use Rattle.sdb_types.specs.declared.record.Request.{Request}
-use Rattle.sdb_types.specs.declared.record.Reply.{Reply}
+use Rattle.law_clients.specs.Types.{Access, Answer, Event, How, Outcome, Reply, Request, TxId}
 use Rattle.sdb_types.specs.Contents.{CanAnswer}
-use Rattle.sdb_record.specs.declared.access.Access.{Access}
 use Rattle.sdb_record.specs.Meta.{is_moment}
-use Rattle.sdb_model.specs.declared.answer.Answer.{Answer}
 use Rattle.sdb_model.specs.declared.answer.Answer.TheVariants as answer
-use Rattle.sdb_model.specs.declared.event.Event.{Event}
 use Rattle.sdb_model.specs.declared.event.Event.TheVariants as event
-use Rattle.sdb_model.specs.declared.event.How.{How}
 use Rattle.sdb_model.specs.Rows.{Name}
 use Rattle.sdb_model.specs.Sql.{reads_begin, reads_commit}
 use Rattle.sdb_model.specs.Transactions.{id_of}
@@ -18,7 +12,6 @@ use Rattle.law_protocol.specs.Plan.{Plan}
 use Rattle.law_protocol.specs.History as laws
 use Rattle.law_protocol.specs.History.{Begins, Takes, ProtocolState}
 use Rattle.law_protocol.specs.Lawful.{Labelled, IsLawful, protocol_state, answer_of, is_quiet, labelled_with}
-use Rattle.sdb_phases.specs.declared.step.Outcome.{Outcome}
 use Rattle.sdb_phases.specs.declared.step.Outcome.TheVariants as outcome
 use Rattle.sdb_phases.specs.Work.{Work}
 use Rattle.sdb_phases.specs.Commit.{Stage, Over, step, preparing}
@@ -209,7 +202,7 @@ commit_labelled p s x = record { event = call_event x (answer_at (step p s x.rep
 abbrev pub with_plan : (ℕ → Plan) → Work → ℕ → Plan
 with_plan plan p u = laws.at plan p.id.0 (plan_of p) u
 
--- a statement reads as COMMIT and is taken at a moment
+-- a statement reads as COMMIT and is accepted at a moment
 pub record IsCommit (text : List ℕ) (now : ℤ) : Type 0 where
   pub reads : reads_commit text ≡ true
   pub moment : is_moment now ≡ true
@@ -224,6 +217,6 @@ commit_begun sys c p = with_client sys c (commit_left p (preparing p 0))
 
 ---- plans
 
--- two plans are one for each transaction whose COMMIT was taken
+-- two plans are one for each transaction whose COMMIT was accepted
 abbrev pub SamePlans : (ℕ → Plan) → (ℕ → Plan) → List Labelled → Type 0
-SamePlans plan other past = (t : ℕ) → (protocol_state past).taken t ≡ true → plan t ≡ other t
+SamePlans plan other past = (t : ℕ) → (protocol_state past).accepted t ≡ true → plan t ≡ other t

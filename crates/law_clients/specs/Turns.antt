@@ -1,15 +1,8 @@
 -- Turns of a client, and the invariant after them.
 use Rattle.std.specs.Prelude.{◌≡◌, ◌<◌, ◌^◌, ℕ, ℤ, None, true, List, Option, Some, is_some}
-use Rattle.sdb_types.specs.declared.key.Key.{Key}
-use Rattle.sdb_types.specs.declared.record.Reply.{Reply}
-use Rattle.sdb_types.specs.declared.record.Request.{Request}
+use Rattle.law_clients.specs.Types.{Access, Answer, Event, Key, Keyed, Reply, Request, Table}
 use Rattle.sdb_record.specs.Meta.{is_moment}
-use Rattle.sdb_record.specs.declared.access.Access.{Access}
-use Rattle.sdb_record.specs.declared.write.Keyed.{Keyed}
 use Rattle.sdb_schema.specs.Catalog.{is_catalog}
-use Rattle.sdb_schema.specs.declared.table.Table.{Table}
-use Rattle.sdb_model.specs.declared.answer.Answer.{Answer}
-use Rattle.sdb_model.specs.declared.event.Event.{Event}
 use Rattle.sdb_model.specs.declared.event.Event.TheVariants as event
 use Rattle.sdb_model.specs.Exec.{find_table, named_table}
 use Rattle.sdb_model.specs.Refused.{refusal_of}
@@ -36,7 +29,7 @@ pub record FinishedPlan : Type 0 where
   pub is : is_catalog catalog ≡ true
   pub named : named_table catalog plan.statement ≡ Some plan.table
   pub asked : plan.asked ≡ true
-  pub taken : refusal_of catalog plan.statement ≡ None
+  pub accepted : refusal_of catalog plan.statement ≡ None
   pub literals : has_all_literals plan.statement ≡ true
   pub finished : step_of plan (overlay (access_of plan.table plan.statement) seen) ≡ Finished answer changes
 
@@ -55,7 +48,7 @@ pub record ClientReplied : Type 0 where
   pub result : Option Answer
   pub after : Client
   pub pending : client_pending before ≡ Some request
-  pub told : ReplyPost before before.vacuum reply now result after
+  pub answered : ReplyPost before before.vacuum reply now result after
 
 ---- all clients
 
@@ -104,7 +97,7 @@ pub record CallReplied : Type 0 where
   pub after : Client
   pub of_data : IsDataCatalog catalog
   pub called : IsCalled catalog states call
-  pub told : ReplyPost (states call.client).client (states call.client).client.vacuum call.reply call.now result after
+  pub answered : ReplyPost (states call.client).client (states call.client).client.vacuum call.reply call.now result after
 
 -- its event
 abbrev pub reply_event : CallReplied → Event

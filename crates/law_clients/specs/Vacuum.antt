@@ -1,27 +1,20 @@
 -- VACUUM: the rows of a table are read, each unresolved one is resolved, and each tombstone is removed.
 use Rattle.std.specs.Prelude.{◌≡◌, ℤ, true, if◌then◌else◌, List, [], ◌∷◌, Option, Some, None}
 use Rattle.std.specs.List.{AllByRecursion}
-use Rattle.sdb_types.specs.declared.txid.TxId.{TxId}
-use Rattle.sdb_types.specs.declared.record.Record.{Record}
-use Rattle.sdb_types.specs.declared.record.Span.{Span}
-use Rattle.sdb_types.specs.declared.record.Reply.{Reply}
+use Rattle.law_clients.specs.Types.{Meta, Record, RecoverPhase, RecoverStep, Reply, Request, Span, TxId}
 use Rattle.sdb_types.specs.declared.record.Reply.TheVariants as reply
-use Rattle.sdb_types.specs.declared.record.Request.{Request}
 use Rattle.sdb_types.specs.declared.record.Request.TheVariants as ask
 use Rattle.sdb_record.specs.declared.access.Access.TheVariants as access
-use Rattle.sdb_record.specs.declared.meta.Meta.{Meta}
 use Rattle.sdb_record.specs.Meta.{id_in}
 use Rattle.sdb_record.specs.Rolls.{is_tombstone, remove_request}
 use Rattle.law_protocol.specs.History.{Action, Other, Removes}
 use Rattle.law_protocol.specs.Lawful.{Labelled}
-use Rattle.sdb_phases.specs.declared.step.RecoverStep.{RecoverStep}
 use Rattle.sdb_phases.specs.declared.step.RecoverStep.TheVariants as steps
-use Rattle.sdb_phases.specs.declared.step.RecoverPhase.{RecoverPhase}
 use Rattle.sdb_phases.specs.declared.step.RecoverPhase.TheVariants as phase
 use Rattle.sdb_phases.specs.Recover.{recover_next, recover_request_at}
 use Rattle.law_clients.specs.Reader.{RecoverOk, recover_action}
 use Rattle.law_clients.specs.ReadAt.{IsImage, IsLeft, IsOfData}
-use Rattle.sdb_read.specs.Read.{Kind, Firm, Open, Bad}
+use Rattle.sdb_txn.specs.Read.{Kind, Firm, Open, Bad}
 use Rattle.sdb_model.specs.Tables.{is_data}
 
 ---- the model

@@ -1,11 +1,8 @@
 -- One client's transaction, turn by turn: BEGIN, an INSERT that reads its key, and its COMMIT up to the put of COMMITTED.
 use Rattle.std.specs.Prelude.{◌≡◌, ℕ, pos, true, List, [], ◌∷◌, codes}
-use Rattle.sdb_types.specs.declared.txid.TxId.{TxId}
-use Rattle.sdb_types.specs.declared.record.Request.{Request}
-use Rattle.sdb_types.specs.declared.record.Reply.{Reply}
+use Rattle.law_clients.specs.Types.{Keyed, Reply, Request, TxId}
 use Rattle.sdb_record.specs.declared.access.Access.TheVariants as access
 use Rattle.sdb_record.specs.declared.write.Change.TheVariants as change
-use Rattle.sdb_record.specs.declared.write.Keyed.{Keyed}
 use Rattle.sdb_model.specs.declared.event.How.TheVariants.{Seen}
 use Rattle.law_protocol.specs.Worked.{account, balance}
 use Rattle.sdb_phases.specs.Work.{Work}

@@ -1,9 +1,7 @@
 //! What the calls of a client are about.
 ghost use Rattle.std.specs.Prelude.{◌≡◌, ℕ, true, List, Option, Some};
-ghost use Rattle.sdb_types.specs.declared.record.Request.{Request};
+ghost use Rattle.law_clients.specs.Types.{Answer, Request, Table};
 ghost use Rattle.sdb_types.specs.Contents.{CanAnswer};
-ghost use Rattle.sdb_schema.specs.declared.table.Table.{Table};
-ghost use Rattle.sdb_model.specs.declared.answer.Answer.{Answer};
 ghost use Rattle.sdb_model.specs.Events.{table_asked};
 ghost use Rattle.sdb_client.specs.Client.{ClientAt as Client, IsIdle, Taking, client_pending, nothing_done, TextStep};
 ghost use Rattle.law_clients.specs.About.{IsOfTables};

@@ -1,7 +1,6 @@
 //! Tables whose rows all fit, and what plans come to on them.
 ghost use Rattle.std.specs.Prelude.{◌≡◌, true, List, is_some};
-ghost use Rattle.sdb_types.specs.declared.key.Key.{Key};
-ghost use Rattle.sdb_schema.specs.declared.table.Table.{Table};
+ghost use Rattle.law_clients.specs.Types.{Key, Table};
 ghost use Rattle.sdb_model.specs.Exec.{find_table};
 ghost use Rattle.law_clients.specs.Body.{AnswersOn};
 ghost use Rattle.law_clients.specs.Left.{IsFitting};

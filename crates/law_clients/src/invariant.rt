@@ -1,16 +1,9 @@
 //! Each event preserves the invariant between the events and the clients.
 ghost use Rattle.std.specs.Prelude.{◌≡◌, ℕ, ℤ, Bool, true, false, List, ◌∷◌, ◌++◌, [], Option, Some, None};
-ghost use Rattle.sdb_types.specs.declared.record.Span.{Span};
-ghost use Rattle.sdb_record.specs.declared.access.Access.{Access};
+ghost use Rattle.law_clients.specs.Types.{Access, Answer, Event, Script, Span, Statement, Table, TableDump};
 ghost use Rattle.sdb_record.specs.declared.access.Access.TheVariants as access;
-ghost use Rattle.sdb_schema.specs.declared.table.Table.{Table};
-ghost use Rattle.sdb_model.specs.declared.answer.Answer.{Answer};
 ghost use Rattle.sdb_model.specs.declared.answer.Answer.TheVariants as answer;
-ghost use Rattle.sdb_model.specs.declared.event.Event.{Event};
 ghost use Rattle.sdb_model.specs.declared.event.Event.TheVariants as event;
-ghost use Rattle.sdb_model.specs.declared.event.TableDump.{TableDump};
-ghost use Rattle.sdb_model.specs.declared.script.Script.{Script};
-ghost use Rattle.sdb_model.specs.declared.statement.Statement.{Statement};
 ghost use Rattle.sdb_model.specs.Serial.{IsRun};
 ghost use Rattle.sdb_model.specs.Exec.{Tables};
 ghost use Rattle.sdb_model.specs.Sql.{reads_commit};
@@ -37,10 +30,10 @@ pub fn begins()
     ensures { (p : Progress) (c : ℕ) (text : List ℕ) → MayBegin p.sys c text → After p c (event.Take c text (Some answer.Done)) (with_opened p.sys c) None }
 {}
 
-/// The COMMIT of an open transaction is taken; and whatever call of it is pending and whatever its reply, it goes on, and where it is
+/// The COMMIT of an open transaction is accepted; and whatever call of it is pending and whatever its reply, it goes on, and where it is
 /// over its answer ends the transaction.
 pub fn commits()
-    ensures taken { (p : Progress) (q : Asked p) (now : ℤ) → IsCommit q.text now → AfterAsked q None (committing q now) None }
+    ensures accepted { (p : Progress) (q : Asked p) (now : ℤ) → IsCommit q.text now → AfterAsked q None (committing q now) None }
     ensures calls { (p : Progress) (r : CommitReply p.sys) → AfterReply p r.call (answer_at (commit_next r)) (commit_left r.work (commit_next r)) None }
 {}
 
@@ -51,7 +44,7 @@ pub fn moves()
     ensures same { (p : Progress) (other : SystemAt) (others : ℕ → Option Statement) → IsSame p other others → IsPreservedAs p other others }
 {}
 
-/// A statement that is answered as it is taken: outside of transactions; inside of one, where it changes nothing, is answered from
+/// A statement that is answered as it is accepted: outside of transactions; inside of one, where it changes nothing, is answered from
 /// what was read before, or ends the transaction without a call.
 pub fn answers()
     ensures outside { (p : Progress) (c : ℕ) (text : List ℕ) (b : Answer) → p.sys.clients c ≡ Resting → IsMild b → After p c (event.Take c text (Some b)) p.sys None }
@@ -68,14 +61,14 @@ pub fn reads()
     ensures goes_on { (p : Progress) (r : ReadReply p) → AfterReply p r.call None (Reading r.id r.seen r.asked (read_next r)) (p.doing r.call.client) }
     ensures fails { (p : Progress) (r : ReadReply p) (b : Answer) → Runs p r.call.client → changes_nothing b ≡ true → IsUnfinished r b → AfterReply p r.call (Some b) (Open r.id r.seen) None }
     ensures keeps { (p : Progress) (r : DoneReply p) → AfterReply p r.reply.call (Some r.answer) (Open r.reply.id (seen_done r)) None }
-    ensures tells { (p : Progress) (r : LastReply p) → AfterReply p r.reply.call (Some r.answered.answer) (Open r.reply.id (seen_after r)) None }
+    ensures is_known { (p : Progress) (r : LastReply p) → AfterReply p r.reply.call (Some r.answered.answer) (Open r.reply.id (seen_after r)) None }
     ensures differs { (p : Progress) (r : ReadReply p) (b : Answer) → Runs p r.call.client → is_conflict (Some b) ≡ true → AfterReply p r.call (Some b) Resting None }
 {}
 
-/// VACUUM is taken while no client that hasn't stopped has an open transaction; whatever call of it is pending and whatever its reply, it goes
+/// VACUUM is accepted while no client that hasn't stopped has an open transaction; whatever call of it is pending and whatever its reply, it goes
 /// on, by the rows of its table or by a further table; and it is answered.
 pub fn vacuum_steps()
-    ensures taken { (p : Progress) (c : ℕ) (text : List ℕ) (span : Span) → MayScanSpan p.sys c span → AfterTake p c text None (RunsVacuum (Scanning span)) None }
+    ensures accepted { (p : Progress) (c : ℕ) (text : List ℕ) (span : Span) → MayScanSpan p.sys c span → AfterTake p c text None (RunsVacuum (Scanning span)) None }
     ensures goes_on { (p : Progress) (r : VacuumReplied p) → AfterReply p r.call None (RunsVacuum (vacuum_next_at r)) None }
     ensures scans { (p : Progress) (r : VacuumReplied p) (span : Span) → IsOfData (access.Scan span) → AfterReply p r.call None (RunsVacuum (Scanning span)) None }
     ensures ends { (p : Progress) (r : VacuumReplied p) (b : Answer) → IsMild b → AfterReply p r.call (Some b) Resting None }
@@ -87,7 +80,7 @@ pub fn invariant_gives_run()
     ensures { (script : Script) (e : Ending script) → (tables : List TableDump) × IsRun script e.opening e.closing (outcome_with e tables) }
 {}
 
-/// The read set in the plan of each transaction whose COMMIT was taken is that of its statements.
+/// The read set in the plan of each transaction whose COMMIT was accepted is that of its statements.
 pub fn invariant_gives_read_sets()
-    ensures { (p : Progress) → AreReadSets p.going.plan p.events p.going.past }
+    ensures { (p : Progress) → AreReadSets p.running.plan p.events p.running.past }
 {}

@@ -1,7 +1,6 @@
 //! What a client is after what it takes and the replies that it gets.
 ghost use Rattle.std.specs.Prelude.{ℕ, List, Option};
-ghost use Rattle.sdb_schema.specs.declared.table.Table.{Table};
-ghost use Rattle.sdb_model.specs.declared.answer.Answer.{Answer};
+ghost use Rattle.law_clients.specs.Types.{Answer, Table};
 ghost use Rattle.sdb_client.specs.Client.{ClientAt as Client, IsIdle, Taking, TextStep};
 ghost use Rattle.law_clients.specs.States.{IsAfter, IsFitted};
 ghost use Rattle.law_clients.specs.Turns.{ClientReplied};

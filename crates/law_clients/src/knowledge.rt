@@ -1,10 +1,7 @@
 //! What clients know: at the start, through other clients' events, and as a COMMIT takes it.
 ghost use Rattle.std.specs.Prelude.{◌≡◌, ◌<◌, ◌+◌, ◌%◌, ◌^◌, ℕ, ℤ, List, ◌∷◌, [], Option, true, false};
-ghost use Rattle.sdb_types.specs.declared.txid.TxId.{TxId};
-ghost use Rattle.sdb_types.specs.declared.record.Record.{Record};
-ghost use Rattle.sdb_record.specs.declared.access.Access.{Access};
+ghost use Rattle.law_clients.specs.Types.{Access, Answer, Record, TxId};
 ghost use Rattle.sdb_record.specs.Meta.{is_moment};
-ghost use Rattle.sdb_model.specs.declared.answer.Answer.{Answer};
 ghost use Rattle.law_protocol.specs.Plan.{Plan};
 ghost use Rattle.law_protocol.specs.Lawful.{Labelled, IsLawful, IsEnabled, protocol_state};
 ghost use Rattle.sdb_phases.specs.Work.{Work};
@@ -15,7 +12,7 @@ ghost use Rattle.law_clients.specs.Owner.{WorkOk};
 ghost use Rattle.law_clients.specs.ReadAt.{kind_of, AreKinds, ReadOk, settle};
 ghost use Rattle.law_clients.specs.Worked.{SomeCommit};
 ghost use Rattle.law_clients.specs.System.{ClientAt, ClientOk, SystemAt, SystemOk, SamePlans, call_event, idle, next_id};
-ghost use Rattle.sdb_read.specs.Read.{Kind};
+ghost use Rattle.sdb_txn.specs.Read.{Kind};
 
 /// Before the first event no client has done anything, and the invariant holds.
 pub fn nothing_happened()
@@ -55,22 +52,22 @@ pub fn work_is_valid()
     ensures plan { (p : Work) → Sound p → WorkOk p }
 {}
 
-/// Before its COMMIT is taken a transaction's plan is free: with other plans, the same for each transaction whose COMMIT was
-/// taken, the rules hold too, and the same holds of all clients.
+/// Before its COMMIT is accepted a transaction's plan is free: with other plans, the same for each transaction whose COMMIT was
+/// accepted, the rules hold too, and the same holds of all clients.
 pub fn plans_are_free()
     ensures lawful { (plan other : ℕ → Plan) (past : List Labelled) → SamePlans plan other past → IsLawful plan past → IsLawful other past }
     ensures system { (plan other : ℕ → Plan) (past : List Labelled) (sys : SystemAt) → SamePlans plan other past → SystemOk plan past sys → SystemOk other past sys }
 {}
 
-/// A transaction whose COMMIT was taken has begun, and its number says which of its client's transactions it is, from 1.
+/// A transaction whose COMMIT was accepted has begun, and its number says which of its client's transactions it is, from 1.
 pub fn committing_has_begun()
-    ensures { (plan : ℕ → Plan) (past : List Labelled) (sys : SystemAt) (t : ℕ) → SystemOk plan past sys → (protocol_state past).taken t ≡ true → 0 < t % 2 ^ 64 }
+    ensures { (plan : ℕ → Plan) (past : List Labelled) (sys : SystemAt) (t : ℕ) → SystemOk plan past sys → (protocol_state past).accepted t ≡ true → 0 < t % 2 ^ 64 }
 {}
 
-/// The id of a client's next transaction has not begun, nor was a COMMIT taken under it.
+/// The id of a client's next transaction has not begun, nor was a COMMIT accepted under it.
 pub fn next_is_fresh()
     ensures begun { (plan : ℕ → Plan) (past : List Labelled) (sys : SystemAt) (c : ℕ) → SystemOk plan past sys → sys.begun c + 1 < 2 ^ 64 → (protocol_state past).begun (next_id sys c).0 ≡ 0 }
-    ensures taken { (plan : ℕ → Plan) (past : List Labelled) (sys : SystemAt) (c : ℕ) → SystemOk plan past sys → sys.begun c + 1 < 2 ^ 64 → (protocol_state past).taken (next_id sys c).0 ≡ false }
+    ensures accepted { (plan : ℕ → Plan) (past : List Labelled) (sys : SystemAt) (c : ℕ) → SystemOk plan past sys → sys.begun c + 1 < 2 ^ 64 → (protocol_state past).accepted (next_id sys c).0 ≡ false }
 {}
 
 /// From clients that have done nothing the laws lead to a client that has begun a transaction, read and written a row, and put

@@ -19,6 +19,7 @@ pub mod machines;
 pub mod moves;
 pub mod order;
 pub mod replying;
+pub mod sessions;
 pub mod statements;
 pub mod stories;
 pub mod texts;

@@ -1,8 +1,7 @@
 //! The machine of a read refines the model of clients.
 ghost use Rattle.std.specs.Prelude.{◌≡◌, ℤ};
-ghost use Rattle.sdb_types.specs.declared.record.Reply.{Reply};
-ghost use Rattle.sdb_record.specs.declared.access.Access.{Access};
-ghost use Rattle.sdb_read.specs.Read as machine;
+ghost use Rattle.law_clients.specs.Types.{Access, Reply};
+ghost use Rattle.sdb_txn.specs.Read as machine;
 ghost use Rattle.law_clients.specs.Machine.{machine_kind, abstract_read};
 ghost use Rattle.law_clients.specs.ReadAt.{AreKinds, read_pending, read_step};
 

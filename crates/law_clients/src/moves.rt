@@ -1,10 +1,7 @@
 //! Moves of a client between two events, by what it knows.
 ghost use Rattle.std.specs.Prelude.{◌≡◌, ℕ, List};
-ghost use Rattle.sdb_types.specs.declared.record.Record.{Record};
-ghost use Rattle.sdb_types.specs.declared.record.Span.{Span};
-ghost use Rattle.sdb_record.specs.declared.access.Access.{Access};
+ghost use Rattle.law_clients.specs.Types.{Access, Keyed, Record, Span};
 ghost use Rattle.sdb_record.specs.declared.access.Access.TheVariants as access;
-ghost use Rattle.sdb_record.specs.declared.write.Keyed.{Keyed};
 ghost use Rattle.sdb_phases.specs.Work.{Work};
 ghost use Rattle.sdb_phases.specs.Commit.{Stage, out_of_memory};
 ghost use Rattle.sdb_snapshot.specs.Seen.{with_written};

@@ -1,11 +1,9 @@
 //! The recorded transactions in the order of their points.
 ghost use Rattle.std.specs.Prelude.{ℤ, ◌≡◌, ◌<◌, ◌^◌, ℕ, List, true};
 ghost use Rattle.std.specs.FinMap.{empty};
-ghost use Rattle.sdb_model.specs.declared.event.TableDump.{TableDump};
+ghost use Rattle.law_clients.specs.Types.{Decision, Script, TableDump};
 ghost use Rattle.sdb_model.specs.Exec.{Tables};
 ghost use Rattle.sdb_model.specs.Serial.{IsRun};
-ghost use Rattle.sdb_model.specs.declared.script.Script.{Script};
-ghost use Rattle.sdb_record.specs.declared.coordinator.Decision.{Decision};
 ghost use Rattle.sdb_record.specs.declared.coordinator.Decision.TheVariants as decision;
 ghost use Rattle.law_protocol.specs.Lawful.{IsRowObserved, protocol_state};
 ghost use Rattle.sdb_snapshot.specs.Seen.{Seen};
@@ -21,7 +19,7 @@ pub fn read_set_was_recorded()
 
 /// Over a run, all that was observed of a transaction's row agrees: whoever resolves records of it comes to one decision.
 pub fn rows_agree()
-    ensures shown { (r : LawfulRun) (t : ℕ) (c d : Decision) (m n : ℤ) → t < 2 ^ 128 → IsRowObserved r.past t c m → IsRowObserved r.past t d n → c ≡ d }
+    ensures observed { (r : LawfulRun) (t : ℕ) (c d : Decision) (m n : ℤ) → t < 2 ^ 128 → IsRowObserved r.past t c m → IsRowObserved r.past t d n → c ≡ d }
     ensures put { (r : LawfulRun) (t : ℕ) (d : Decision) (m : ℤ) → t < 2 ^ 128 → (protocol_state r.past).dead t ≡ true → IsRowObserved r.past t d m → d ≡ decision.Aborted }
 {}
 

@@ -1,10 +1,7 @@
 //! The answers and the writes of a transaction's statements.
 ghost use Rattle.std.specs.Prelude.{◌≤◌, ◌+◌, length, ◌↔◌, ◌⊎◌, ℤ, filter, false, true, ◌≡◌, ℕ, List, ◌++◌, ◌∷◌, [], Bool};
-ghost use Rattle.sdb_types.specs.declared.record.Record.{Record};
-ghost use Rattle.sdb_record.specs.declared.access.Access.{Access};
-ghost use Rattle.sdb_schema.specs.declared.table.Table.{Table};
+ghost use Rattle.law_clients.specs.Types.{Access, Event, Record, Table};
 ghost use Rattle.sdb_model.specs.Exec.{Tables};
-ghost use Rattle.sdb_model.specs.declared.event.Event.{Event};
 ghost use Rattle.sdb_model.specs.Transactions.{Executed, body, is_effective};
 ghost use Rattle.std.specs.List.{AllByRecursion};
 ghost use Rattle.law_protocol.specs.Plan.{Plan};
@@ -74,7 +71,7 @@ pub fn read_is_recorded()
 pub fn calls_go_on()
     ensures none { (events : List Event) (c n : ℕ) → length events ≤ n → calls_since events c n ≡ [] }
     ensures more { (events : List Event) (c n : ℕ) (e : Event) → n ≤ length events → calls_since (events ++ e ∷ []) c n ≡ calls_since events c n ++ call_made c (1 + length events) e }
-    ensures just { (events : List Event) (c : ℕ) (s : Executed) → end_of events s ≡ length events → calls_of events c s ≡ calls_since events c s.taken }
+    ensures just { (events : List Event) (c : ℕ) (s : Executed) → end_of events s ≡ length events → calls_of events c s ≡ calls_since events c s.accepted }
     ensures stay { (events : List Event) (c : ℕ) (s : Executed) (e : Event) → WasAnswered events s → calls_of (events ++ e ∷ []) c s ≡ calls_of events c s }
 {}
 

@@ -20,8 +20,8 @@ pub fn story_grows()
 /// Of a story's transactions the texts say when each began and what its COMMIT is: of the k-th that ended, of the open one, and
 /// that there is no other.
 pub fn story_is_history()
-    ensures finished { (x : Sought) (f : Finished) → txn_ended_at x.whole x.k ≡ Some f → TextsGive x (Some f.begin.taken) (commit_in f.last) }
-    ensures opened { (x : Sought) (b : Executed) (body : List Executed) → IsOpenWith x b body → x.k ≡ length x.whole → TextsGive x (Some b.taken) None }
+    ensures finished { (x : Sought) (f : Finished) → txn_ended_at x.whole x.k ≡ Some f → TextsGive x (Some f.begin.accepted) (commit_in f.last) }
+    ensures opened { (x : Sought) (b : Executed) (body : List Executed) → IsOpenWith x b body → x.k ≡ length x.whole → TextsGive x (Some b.accepted) None }
     ensures none { (x : Sought) (gap : List Executed) → x.rest ≡ Closed gap → IsRest x.rest → length x.whole ≤ x.k → TextsGive x None None }
     ensures past { (x : Sought) (b : Executed) (body : List Executed) → IsOpenWith x b body → length x.whole < x.k → TextsGive x None None }
 {}
@@ -32,13 +32,13 @@ pub fn story_bodies()
     ensures opened { (x : Sought) (b : Executed) (inside : List Executed) → IsOpenWith x b inside → x.k ≡ length x.whole → body x.events x.id ≡ filter is_effective inside }
 {}
 
-/// Where each client's story is filed, and no transaction of ordinal 0 was taken, the actions are those that the texts
+/// Where each client's story is filed, and no transaction of ordinal 0 was accepted, the actions are those that the texts
 /// say.
 pub fn faithful()
-    ensures { (events : List Event) (past : List Labelled) → ((c : ℕ) → Filed c events past) → ((c : ℕ) → (protocol_state past).taken (c * 2 ^ 64) ≡ true → ⊥) → IsFaithful events past }
+    ensures { (events : List Event) (past : List Labelled) → ((c : ℕ) → Filed c events past) → ((c : ℕ) → (protocol_state past).accepted (c * 2 ^ 64) ≡ true → ⊥) → IsFaithful events past }
 {}
 
 /// Where the invariant of all clients holds, and each client has its story, the actions are those that the texts give.
 pub fn clients_are_faithful()
-    ensures { (k : Knowledge) (events : List Event) (told : ℕ → ClientHistory) → AllStories events k.past k.sys told → IsFaithful events k.past }
+    ensures { (k : Knowledge) (events : List Event) (answered : ℕ → ClientHistory) → AllStories events k.past k.sys answered → IsFaithful events k.past }
 {}

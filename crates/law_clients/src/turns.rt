@@ -1,7 +1,6 @@
 //! Turns: each event of a client preserves the invariant of all clients.
 ghost use Rattle.std.specs.Prelude.{ℕ, ℤ, List};
-ghost use Rattle.sdb_types.specs.declared.record.Record.{Record};
-ghost use Rattle.sdb_model.specs.declared.event.Event.{Event};
+ghost use Rattle.law_clients.specs.Types.{Event, Record};
 ghost use Rattle.sdb_model.specs.declared.event.Event.TheVariants as event;
 ghost use Rattle.law_protocol.specs.History.{Other, Stops};
 ghost use Rattle.law_protocol.specs.Lawful.{labelled_with, ends_with};
@@ -9,7 +8,7 @@ ghost use Rattle.law_clients.specs.Knowledge.{AnsweredRead, VacuumReplyAt, Commi
 ghost use Rattle.law_clients.specs.Reads.{work_of};
 ghost use Rattle.law_clients.specs.ReadAt.{AreKinds};
 ghost use Rattle.law_clients.specs.System.{IsBy, IsCommit, IsQuiet, Resting, Stopped, begin_labelled, commit_left, commit_labelled};
-ghost use Rattle.sdb_read.specs.Read.{Kind};
+ghost use Rattle.sdb_txn.specs.Read.{Kind};
 
 /// BEGIN is answered Done to a client without an open transaction, while no client that hasn't stopped runs VACUUM: a transaction is
 /// open, under an id that was never used, and has read and written nothing.
@@ -17,7 +16,7 @@ pub fn begin_turn()
     ensures { (k : Knowledge) (c : ℕ) (text : List ℕ) → MayBegin k.sys c text → TurnsTo k (begin_labelled k.sys c text) (with_opened k.sys c) }
 {}
 
-/// A COMMIT is taken of an open transaction that makes no call: what the transaction has read and written is its plan from
+/// A COMMIT is accepted of an open transaction that makes no call: what the transaction has read and written is its plan from
 /// then on, and the first call of the COMMIT is pending.
 pub fn take_turn()
     ensures { (k : Knowledge) (o : OpenClient k.sys) (text : List ℕ) (now : ℤ) → IsCommit text now → StartsCommitWith k o.client text (work_of o.id now o.seen) }
@@ -42,8 +41,8 @@ pub fn vacuum_turn()
     ensures { (k : Knowledge) (kind : Record → Kind) (r : VacuumReplyAt k.sys) → AreKinds kind → TurnsAt k (vacuum_labelled r) r.call.client (vacuum_after kind r) }
 {}
 
-/// A statement that is taken, answered or not, an idle step, a move of the clock, a get or a scan: all clients are where they
-/// were. Such an event may end a transaction that makes no call and whose COMMIT was not taken.
+/// A statement that is accepted, answered or not, an idle step, a move of the clock, a get or a scan: all clients are where they
+/// were. Such an event may end a transaction that makes no call and whose COMMIT was not accepted.
 pub fn quiet_turn()
     ensures stays { (k : Knowledge) (e : Event) → IsQuiet e → TurnsTo k (labelled_with Other e) k.sys }
     ensures ends { (k : Knowledge) (o : OpenClient k.sys) (e : Event) → IsBy o.client e → IsQuiet e → TurnsAt k (ends_with o.id.0 Other e) o.client Resting }

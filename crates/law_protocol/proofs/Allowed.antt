@@ -5,20 +5,20 @@ use Rattle.law_protocol.specs.Plan.{Plan, written, deletes, version_read_at}
 use Rattle.law_protocol.specs.History.{Action, Other, Begins, Takes, Prepares, Checks, Decides, Aborts, Rolls, Removes, Ends, Stops, is_yes, is_met, is_out_of_memory_ack, Preparing, Deciding, History, Final, Held, base_of, has_version, IsLive, IsWriter, IsPrepared}
 
 abbrev pub Allowed : (ℕ → Plan) → History → Action → Bool → Type 0
-Allowed plan w (Begins t c) done = (w.protocol.begun t ≡ 0) × (w.protocol.taken t ≡ false)
+Allowed plan w (Begins t c) done = (w.protocol.begun t ≡ 0) × (w.protocol.accepted t ≡ false)
 Allowed plan w (Takes t) done =
-    (w.protocol.taken t ≡ false) × IsLive w.protocol t
+    (w.protocol.accepted t ≡ false) × IsLive w.protocol t
     × ((k : Key) (u : ℕ) → base_of (written (plan t) k) ≡ Some u → IsWriter plan w k u)
     × ((i : ℕ) (k : Key) (u : ℕ) → version_read_at (plan t) i k ≡ Some (Some u) → IsWriter plan w k u)
 Allowed plan w (Prepares t k word) done =
-    (w.protocol.taken t ≡ true) × IsLive w.protocol t × (w.protocol.stage t ≡ Preparing) × (w.protocol.asked t k ≡ false) × (written (plan t) k ≢ None)
+    (w.protocol.accepted t ≡ true) × IsLive w.protocol t × (w.protocol.stage t ≡ Preparing) × (w.protocol.asked t k ≡ false) × (written (plan t) k ≢ None)
     × (done ≡ true → has_version (w.rows k) (base_of (written (plan t) k)) ≡ true)
     × (is_yes word ≡ true → done ≡ true)
 Allowed plan w (Checks t i) done =
-    (w.protocol.taken t ≡ true) × IsLive w.protocol t × (w.protocol.stage t ≢ Deciding)
+    (w.protocol.accepted t ≡ true) × IsLive w.protocol t × (w.protocol.stage t ≢ Deciding)
     × ((k : Key) (found : Option ℕ) → version_read_at (plan t) i k ≡ Some found → written (plan t) k ≡ None → has_version (w.rows k) found ≡ true)
 Allowed plan w (Decides t word) done =
-    (w.protocol.taken t ≡ true) × IsLive w.protocol t × IsPrepared plan w.protocol t
+    (w.protocol.accepted t ≡ true) × IsLive w.protocol t × IsPrepared plan w.protocol t
     × ((i : ℕ) (k : Key) (found : Option ℕ) → version_read_at (plan t) i k ≡ Some found → written (plan t) k ≡ None → w.protocol.checked t i ≡ true)
     × ((i : ℕ) (k : Key) (found base : Option ℕ) → version_read_at (plan t) i k ≡ Some found → written (plan t) k ≡ Some base → found ≡ base)
     × (done ≡ true → w.row t ≡ None) × (is_yes word ≡ true → done ≡ true) × (is_out_of_memory_ack word ≡ true → done ≡ false)

@@ -16,7 +16,7 @@ CoverOk plan w = (t : ℕ) (k : Key) → IsWriter plan w k t → Covers w.protoc
 -- all that has been said so far
 pub record Inv (plan : ℕ → Plan) (w : History) : Type 0 where
   pub point : PointOk w
-  pub taken : TakenOk w
+  pub accepted : TakenOk w
   pub asked : AskedOk plan w
   pub took_effect : TookOk w
   pub begun : BegunOk w
@@ -28,7 +28,7 @@ pub record Inv (plan : ℕ → Plan) (w : History) : Type 0 where
   pub base : BaseOk plan w
   pub as_read : NotedOk plan w
   pub gone : GoneOk plan w
-  pub stands : StandsOk w
+  pub agrees : StandsOk w
   pub earlier : EarlierPrepareHadRow w
   pub removed : RemovedBeforeBegin w
   pub under : UnderOk plan w
@@ -37,20 +37,20 @@ pub record Inv (plan : ℕ → Plan) (w : History) : Type 0 where
   pub cover : CoverOk plan w
 
 pub writer_of : (plan : ℕ → Plan) (w : History) (k : Key) (u : ℕ) → Inv plan w → shadow plan w k ≡ Some u → IsWriter plan w k u
-writer_of plan w k u i = shadow_writer plan w k u i.firm i.held i.base i.gone i.took_effect i.taken i.asked
+writer_of plan w k u i = shadow_writer plan w k u i.firm i.held i.base i.gone i.took_effect i.accepted i.asked
 
 -- points of what is recorded stay, so what covers goes on covering
 pub covers_same : (w v : History) (t : ℕ) (x y : Option ℕ) → y ≡ x → Covers w.protocol t x → ((u : ℕ) → x ≡ Some u → v.protocol.point u ≡ w.protocol.point u) → v.protocol.point t ≡ w.protocol.point t → Covers v.protocol t y
 covers_same w v t x y e c fixed pt = grind arith
 
 pub shadow_fixed : (plan : ℕ → Plan) (w : History) (r : Action) (done : Bool) (k : Key) → Inv plan w → Allowed plan w r done → (u : ℕ) → shadow plan w k ≡ Some u → (happens plan w r done).protocol.point u ≡ w.protocol.point u
-shadow_fixed plan w r done k i a u h = point_fixed plan w r done u i.decided i.taken a (writer_of plan w k u i h).0
+shadow_fixed plan w r done k i a u h = point_fixed plan w r done u i.decided i.accepted a (writer_of plan w k u i h).0
 
 -- a part that leaves what is shown, and who is recorded
 cover_other : (plan : ℕ → Plan) (w : History) (r : Action) (done : Bool) → Inv plan w → Allowed plan w r done → ((k : Key) → shadow plan (happens plan w r done) k ≡ shadow plan w k) → ((t : ℕ) → (happens plan w r done).row t ≡ Some Committed → w.row t ≡ Some Committed) → CoverOk plan (happens plan w r done)
 cover_other plan w r done i a same old t k h =
     let r' = old t h.0 in
-    covers_same w (happens plan w r done) t (shadow plan w k) (shadow plan (happens plan w r done) k) (same k) (i.cover t k (r', h.1)) (shadow_fixed plan w r done k i a) (point_fixed plan w r done t i.decided i.taken a r')
+    covers_same w (happens plan w r done) t (shadow plan w k) (shadow plan (happens plan w r done) k) (same k) (i.cover t k (r', h.1)) (shadow_fixed plan w r done k i a) (point_fixed plan w r done t i.decided i.accepted a r')
 
 cover_abort : (plan : ℕ → Plan) (w : History) (t0 : ℕ) (m : ℤ) (word : Ack) (done : Bool) → Inv plan w → Allowed plan w (Aborts t0 m word) done → CoverOk plan (happens plan w (Aborts t0 m word) done)
 cover_abort plan w t0 m word done i a = cover_other plan w (Aborts t0 m word) done i a (λ k. shadow_abort plan w t0 k m word done a) (λ t r. grind (arith, tests))
@@ -65,8 +65,8 @@ decide_shadow : (plan : ℕ → Plan) (w : History) (t0 : ℕ) (word : Ack) (don
 decide_shadow plan w t0 word done k held a = grind (arith, tests, held k)
 
 -- what the deciding one found there is before it
-decide_over : (plan : ℕ → Plan) (w : History) (t0 t : ℕ) (k : Key) → Inv plan w → w.row t0 ≡ None → w.took_effect t0 k ≡ true → w.protocol.told t0 k ≡ true → IsWriter plan w k t → w.protocol.point t < w.protocol.point t0
-decide_over plan w t0 t k i n h told r = over (shadow plan w k) (w.under t0 k) (i.under t0 k h n) (i.cover t k r) (λ u e. below u (i.over t0 k u h e) ((i.took_effect t0 k).1 told).1)
+decide_over : (plan : ℕ → Plan) (w : History) (t0 t : ℕ) (k : Key) → Inv plan w → w.row t0 ≡ None → w.took_effect t0 k ≡ true → w.protocol.answered t0 k ≡ true → IsWriter plan w k t → w.protocol.point t < w.protocol.point t0
+decide_over plan w t0 t k i n h answered r = over (shadow plan w k) (w.under t0 k) (i.under t0 k h n) (i.cover t k r) (λ u e. below u (i.over t0 k u h e) ((i.took_effect t0 k).1 answered).1)
   where
     below : (u : ℕ) → IsWriter plan w k u × (w.decided_at u < w.prepared_at t0 k) → w.prepared_at t0 k ≤ w.protocol.point t0 → w.protocol.point u < w.protocol.point t0
     below u x p = let d : w.protocol.point u < w.decided_at u = (i.decided u x.0.0).point in let l = x.1 in omega arith
@@ -74,8 +74,8 @@ decide_over plan w t0 t k i n h told r = over (shadow plan w k) (w.under t0 k) (
     over : (x y : Option ℕ) → x ≡ y → Covers w.protocol t x → ((u : ℕ) → y ≡ Some u → w.protocol.point u < w.protocol.point t0) → w.protocol.point t < w.protocol.point t0
     over x y e c later = grind arith
 
-decide_self : (plan : ℕ → Plan) (w : History) (t0 : ℕ) (word : Ack) (done : Bool) (k : Key) → Inv plan w → w.protocol.told t0 k ≡ true → w.row t0 ≡ None → (happens plan w (Decides t0 word) done).row t0 ≡ Some Committed → IdIs (shadow plan (happens plan w (Decides t0 word) done) k) t0
-decide_self plan w t0 word done k i told n r = grind (arith, tests, i.stands t0 k, i.took_effect t0 k)
+decide_self : (plan : ℕ → Plan) (w : History) (t0 : ℕ) (word : Ack) (done : Bool) (k : Key) → Inv plan w → w.protocol.answered t0 k ≡ true → w.row t0 ≡ None → (happens plan w (Decides t0 word) done).row t0 ≡ Some Committed → IdIs (shadow plan (happens plan w (Decides t0 word) done) k) t0
+decide_self plan w t0 word done k i answered n r = grind (arith, tests, i.agrees t0 k, i.took_effect t0 k)
 
 decide_row : (plan : ℕ → Plan) (w : History) (t0 : ℕ) (word : Ack) (done : Bool) (t : ℕ) → Allowed plan w (Decides t0 word) done → (happens plan w (Decides t0 word) done).row t ≡ Some Committed → (w.row t ≡ Some Committed) ⊎ ((t ≡ t0) × (w.row t ≡ None))
 decide_row plan w t0 word done t a r = grind (arith, tests)
@@ -100,7 +100,7 @@ cover_decide plan w t0 word done i a t k h = elim (decide_row plan w t0 word don
 
 pub cover_kept : (plan : ℕ → Plan) (w : History) (r : Action) (done : Bool) → Inv plan w → Allowed plan w r done → CoverOk plan (happens plan w r done)
 cover_kept plan w (Takes t) done i a = cover_other plan w (Takes t) done i a (λ k. refl) (λ t r. r)
-cover_kept plan w (Prepares t k word) done i a = cover_other plan w (Prepares t k word) done i a (λ key. shadow_prepare plan w t k key word done i.firm i.taken i.base a (λ h. (i.decided t h).stage)) (λ t r. r)
+cover_kept plan w (Prepares t k word) done i a = cover_other plan w (Prepares t k word) done i a (λ key. shadow_prepare plan w t k key word done i.firm i.accepted i.base a (λ h. (i.decided t h).stage)) (λ t r. r)
 cover_kept plan w (Decides t word) done i a = cover_decide plan w t word done i a
 cover_kept plan w (Aborts t m word) done i a = cover_abort plan w t m word done i a
 cover_kept plan w (Rolls t k d) done i a = cover_other plan w (Rolls t k d) done i a (λ key. shadow_roll plan w t k key d done a) (λ t r. r)
@@ -114,31 +114,31 @@ cover_kept plan w (Stops c) done i a = i.cover
 pub inv_kept : (plan : ℕ → Plan) (w : History) (r : Action) (done : Bool) → Inv plan w → Allowed plan w r done → Inv plan (happens plan w r done)
 inv_kept plan w r done i a = record {
   point = point_kept plan w r done i.point;
-  taken = taken_kept plan w r done i.taken a;
+  accepted = taken_kept plan w r done i.accepted a;
   asked = asked_kept plan w r done i.asked a;
-  took_effect = took_kept plan w r done i.took_effect i.point i.taken a;
+  took_effect = took_kept plan w r done i.took_effect i.point i.accepted a;
   begun = begun_kept plan w r done i.begun i.point a;
   apart = apart_kept plan w r done i.apart i.point;
-  decided = decided_ok plan w r done i.decided i.point i.taken a;
+  decided = decided_ok plan w r done i.decided i.point i.accepted a;
   heard = heard_kept plan w r done i.heard a;
-  firm = firm_kept plan w r done i.firm i.held i.base i.taken i.took_effect i.asked a;
-  held = held_kept plan w r done i.held i.taken i.took_effect a;
+  firm = firm_kept plan w r done i.firm i.held i.base i.accepted i.took_effect i.asked a;
+  held = held_kept plan w r done i.held i.accepted i.took_effect a;
   base = base_kept plan w r done i.base a;
-  as_read = noted_kept plan w r done i.as_read i.decided i.taken i.point a;
+  as_read = noted_kept plan w r done i.as_read i.decided i.accepted i.point a;
   gone = gone_kept plan w r done i.gone a;
-  stands = stands_kept plan w r done i.stands i.took_effect a;
-  earlier = earlier_kept plan w r done i.earlier i.stands i.took_effect i.heard a;
+  agrees = stands_kept plan w r done i.agrees i.took_effect a;
+  earlier = earlier_kept plan w r done i.earlier i.agrees i.took_effect i.heard a;
   removed = removed_kept plan w r done i.removed i.gone i.heard a;
-  under = under_kept plan w r done i.under i.firm i.base i.taken i.stands (λ t h. (i.decided t h).stage) a;
+  under = under_kept plan w r done i.under i.firm i.base i.accepted i.agrees (λ t h. (i.decided t h).stage) a;
   over = over_kept plan w r done i.over (λ k u. writer_of plan w k u i) i.heard a;
-  saw = saw_kept plan w r done i.saw i.over i.taken i.begun i.gone i.removed a;
+  saw = saw_kept plan w r done i.saw i.over i.accepted i.begun i.gone i.removed a;
   cover = cover_kept plan w r done i a;
 }
 
 pub inv_start : (plan : ℕ → Plan) → Inv plan start
 inv_start plan = record {
   point = λ t. (omega arith, omega arith);
-  taken = λ t k i h. grind arith;
+  accepted = λ t k i h. grind arith;
   asked = λ t k h. absurd (cc);
   took_effect = λ t k. grind arith;
   begun = λ t. grind arith;
@@ -150,7 +150,7 @@ inv_start plan = record {
   base = λ t k u c h. absurd (cc);
   as_read = λ t i k u c h. absurd (cc);
   gone = λ k u h. absurd (cc);
-  stands = λ t k h n. absurd (cc);
+  agrees = λ t k h n. absurd (cc);
   earlier = λ t u k ne h. absurd (cc);
   removed = λ t k u h l. absurd (cc);
   under = λ t k h n. refl;

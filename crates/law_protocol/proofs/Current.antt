@@ -3,33 +3,22 @@ use Rattle.std.proofs.Common.{◌≡◌, ◌≢◌, ℕ, zero, suc, ◌+◌, ◌
 use Rattle.std.specs.Prelude.{slice_get}
 use Rattle.std.specs.Option.{option_and_then, option_map, option_map_or}
 use Rattle.std.proofs.lemmas.List.{take-append-drop, length-append, length-map}
-use Rattle.sdb_types.specs.declared.key.Key.{Key}
-use Rattle.sdb_types.specs.declared.txid.TxId.{TxId}
-use Rattle.sdb_types.specs.declared.record.Record.{Record}
-use Rattle.sdb_types.specs.declared.record.Request.{Request}
+use Rattle.law_protocol.specs.Types.{Answer, Change, Decision, Event, How, Key, Place, Record, Reply, Request, Table, TxId}
 use Rattle.sdb_types.specs.declared.record.Request.TheVariants as ask
-use Rattle.sdb_types.specs.declared.record.Reply.{Reply}
 use Rattle.sdb_types.specs.declared.record.Reply.TheVariants as reply
 use Rattle.sdb_types.specs.declared.record.State.TheVariants as state
 use Rattle.sdb_types.specs.Contents.{is_version}
-use Rattle.sdb_schema.specs.declared.table.Table.{Table}
-use Rattle.sdb_record.specs.declared.coordinator.Decision.{Decision}
 use Rattle.sdb_record.specs.declared.coordinator.Decision.TheVariants.{Committed, Aborted}
-use Rattle.sdb_record.specs.declared.write.Change.{Change}
 use Rattle.sdb_record.specs.declared.write.Change.TheVariants as change
 use Rattle.sdb_record.specs.Coordinator.{coordinator_table}
 use Rattle.sdb_record.specs.Meta.{id_in, is_in}
 use Rattle.sdb_record.specs.Moved.{is_unchanged}
 use Rattle.sdb_record.specs.Rolls.{prepared_record, state_of_change}
 use Rattle.sdb_record.proofs.ImageLaws.{prepared-version}
-use Rattle.sdb_model.specs.declared.answer.Answer.{Answer}
-use Rattle.sdb_model.specs.declared.event.Event.{Event}
 use Rattle.sdb_model.specs.declared.event.Event.TheVariants as event
-use Rattle.sdb_model.specs.declared.event.How.{How}
-use Rattle.sdb_types.specs.declared.place.Place.{Place}
 use Rattle.sdb_model.specs.Rows.{Name}
 use Rattle.sdb_model.specs.Exec.{find_table}
-use Rattle.sdb_model.specs.Events.{StoreContents, Effect, standing, moment}
+use Rattle.sdb_model.specs.Events.{StoreContents, Effect, stored_at, moment}
 use Rattle.sdb_model.specs.Images.{image_at}
 use Rattle.sdb_model.specs.ReadSet.{ReadItem, version_read}
 use Rattle.sdb_model.specs.Transactions.{Recorded, begun, point}
@@ -119,8 +108,8 @@ open_changed : (x : Record) (version : Option TxId) → is_in state.Committed x.
 open_changed x None h e = clash (sym e)
 open_changed x (Some v) h e = clash (sym e ∙ not_firm_version v x h)
 
-shows_stands : (places : List Place) (client : ℕ) (store : Name) (q : Request) (how : How) (r : Reply) (answer : Option Answer) (before now : List StoreContents) (key : Key) (found : Option Record) → Effect places (event.Call client store q how r answer) before now → Observes q r key found → found ≡ standing places before key
-shows_stands places client store (ask.Get k) how (reply.Found x) answer before now key found c (same, is) = sym is ∙ get_reply places k (reply.Found x) x before now (at_call places store (ask.Get k) how (reply.Found x) before now c) refl ∙ ap (standing places before) same
+shows_stands : (places : List Place) (client : ℕ) (store : Name) (q : Request) (how : How) (r : Reply) (answer : Option Answer) (before now : List StoreContents) (key : Key) (found : Option Record) → Effect places (event.Call client store q how r answer) before now → Observes q r key found → found ≡ stored_at places before key
+shows_stands places client store (ask.Get k) how (reply.Found x) answer before now key found c (same, is) = sym is ∙ get_reply places k (reply.Found x) x before now (at_call places store (ask.Get k) how (reply.Found x) before now c) refl ∙ ap (stored_at places before) same
 shows_stands places client store (ask.Scan span) how (reply.Rows rows) answer before now key found c (inside, is) =
     sym is ∙ scan_reply places span (reply.Rows rows) rows before now (at_call places store (ask.Scan span) how (reply.Rows rows) before now c) refl key inside
 shows_stands places client store (ask.Get k) how (reply.Rows rows) answer before now key found c h = absurd h
@@ -166,12 +155,12 @@ effect_at plan places opening labelled moments front back e r parts = (m.x, subs
 
 pub unchanged_at : (plan : ℕ → Plan) (places : List Place) (opening : List StoreContents) (labelled : List Labelled) (moments : List (List StoreContents)) (catalog : List Table) → IsRunOf plan places opening (newest_first labelled) (newest_first moments) → find_table catalog coordinator_table ≡ None → UnchangedResolved catalog places (events_of labelled) opening moments
 unchanged_at plan places opening labelled moments catalog r none front back client store q how reply answer key found version parts shows same table id x before fits at early p no_row =
-    open_changed x version (open_put id x p.put.prepare) (subst (λ o. is_unchanged o version ≡ true) (stood ∙ ap (standing places (moment opening moments (length front))) (sym at) ∙ stands) same)
+    open_changed x version (open_put id x p.put.prepare) (subst (λ o. is_unchanged o version ≡ true) (stood ∙ ap (stored_at places (moment opening moments (length front))) (sym at) ∙ agrees) same)
   where
     effect : (now : List StoreContents) × Effect places (event.Call client store q how reply answer) (moment opening moments (length front)) now
     effect = effect_at plan places opening labelled moments front back (event.Call client store q how reply answer) r parts
 
-    stood : found ≡ standing places (moment opening moments (length front)) key
+    stood : found ≡ stored_at places (moment opening moments (length front)) key
     stood = shows_stands places client store q how reply answer (moment opening moments (length front)) effect.0 key found effect.1 shows
 
     below : length front ≤ length moments
@@ -180,8 +169,8 @@ unchanged_at plan places opening labelled moments catalog r none front back clie
         less : (a b n : ℕ) → n ≡ a + suc b → a ≤ n
         less a b n e = omega (arith, e)
 
-    stands : standing places (moment opening moments (length front)) x.key ≡ Some x
-    stands = stands_at plan places opening labelled moments catalog (length front) r none below id x before fits (subst (IsTableKey catalog) (sym at) table) early p no_row
+    agrees : stored_at places (moment opening moments (length front)) x.key ≡ Some x
+    agrees = stands_at plan places opening labelled moments catalog (length front) r none below id x before fits (subst (IsTableKey catalog) (sym at) table) early p no_row
 
 ---- who wrote a key
 
@@ -257,13 +246,13 @@ module _ (plan : ℕ → Plan) (places : List Place) (opening : List StoreConten
   abbrev w : History
   w = history plan places opening (newest_first labelled) (newest_first moments)
 
-  abbrev shelves : List StoreContents
-  shelves = closing opening (newest_first moments)
+  abbrev store_contents : List StoreContents
+  store_contents = closing opening (newest_first moments)
 
   i : Whole plan places (history plan places opening (newest_first labelled) (newest_first moments)) (newest_first labelled) (closing opening (newest_first moments))
   i = whole_of plan places opening (newest_first labelled) (newest_first moments) r
 
-  ends : closing_of events opening moments ≡ shelves
+  ends : closing_of events opening moments ≡ store_contents
   ends = ap (moment opening moments) (lengths places opening plan labelled moments r) ∙ ap (λ y. moment opening y (length moments)) (sym (append-nil moments)) ∙ moment_at opening moments []
 
   -- the last events after the first of a number
@@ -311,7 +300,7 @@ module _ (plan : ℕ → Plan) (places : List Place) (opening : List StoreConten
       by None e = absurd (late (λ h. some_none Committed (sym h ∙ e)))
 
   fits_of : (key : Key) (u : ℕ) → IsWriter plan w key u → u < 2 ^ 128
-  fits_of key u h = taken_fits w u i.all.one.begun i.knows.fits (writer_taken plan w key u i.all.one.taken h)
+  fits_of key u h = taken_fits w u i.all.one.begun i.knows.fits (writer_taken plan w key u i.all.one.accepted h)
 
   to_held : (key : Key) (u : TxId) → is_data key ≡ true → (x : model.IsWriter places events opening moments key u) → (w.took_effect u.0 key ≡ true) × (x.r ≡ record_prepared_by plan u.0 key)
   to_held key u kept x =
@@ -320,7 +309,7 @@ module _ (plan : ℕ → Plan) (places : List Place) (opening : List StoreConten
 
   to_writer : (key : Key) (u : TxId) → is_data key ≡ true → model.IsWriter places events opening moments key u → IsWriter plan w key u.0
   to_writer key u kept x =
-      (recorded_row plan places w past shelves u.0 i x.fits (subst (λ s. Recorded places s u) ends x.recorded), i.all.one.asked u.0 key ((i.all.one.took_effect u.0 key).0 (to_held key u kept x).0).0)
+      (recorded_row plan places w past store_contents u.0 i x.fits (subst (λ s. Recorded places s u) ends x.recorded), i.all.one.asked u.0 key ((i.all.one.took_effect u.0 key).0 (to_held key u kept x).0).0)
 
   put_whole : (u : ℕ) (key : Key) → w.took_effect u key ≡ true → (before : List Event) × IsPreparedAfter places events opening moments (id u) (record_prepared_by plan u key) before
   put_whole u key took_effect = (p.0, subst (λ y. IsPreparedAfter places (events_of y) opening moments (id u) (record_prepared_by plan u key) p.0) (append-nil labelled) (subst (λ y. IsPreparedAfter places (events_of (labelled ++ [])) opening y (id u) (record_prepared_by plan u key) p.0) (append-nil moments) p.2))
@@ -335,7 +324,7 @@ module _ (plan : ℕ → Plan) (places : List Place) (opening : List StoreConten
   from_writer key u h = (
     record {
       fits = fits_of key u h;
-      recorded = subst (λ s. Recorded places s (id u)) (sym ends) (row_recorded plan places w past shelves u i (fits_of key u h) h.0);
+      recorded = subst (λ s. Recorded places s (id u)) (sym ends) (row_recorded plan places w past store_contents u i (fits_of key u h) h.0);
       r = record_prepared_by plan u key;
       front = (put_whole u key took_effect).0;
       at = held_key plan u key h.1;
@@ -345,16 +334,16 @@ module _ (plan : ℕ → Plan) (places : List Place) (opening : List StoreConten
   )
     where
       took_effect : w.took_effect u key ≡ true
-      took_effect = ((i.all.one.took_effect u key).1 ((i.all.one.decided u h.0).told key h.1)).0
+      took_effect = ((i.all.one.took_effect u key).1 ((i.all.one.decided u h.0).answered key h.1)).0
 
   module _ (faithful : IsFaithful events past) where
-    taken : (u : ℕ) → w.row u ≡ Some Committed → w.protocol.taken u ≡ true
-    taken u h = grind (arith, i.all.one.taken u any_key 0)
+    accepted : (u : ℕ) → w.row u ≡ Some Committed → w.protocol.accepted u ≡ true
+    accepted u h = grind (arith, i.all.one.accepted u any_key 0)
 
     -- the point of a recorded transaction is the law's
     point_is : (u : TxId) → u.0 < 2 ^ 128 → w.row u.0 ≡ Some Committed → point events u ≡ w.protocol.point u.0
     point_is u fits h =
-        point_of plan places opening labelled (newest_first moments) u.0 r faithful fits (subst (λ (x : ProtocolState). x.taken u.0 ≡ true) (sym i.knows.talks) (taken u.0 h)) ∙ ap (λ (x : ProtocolState). x.point u.0) i.knows.talks
+        point_of plan places opening labelled (newest_first moments) u.0 r faithful fits (subst (λ (x : ProtocolState). x.accepted u.0 ≡ true) (sym i.knows.talks) (accepted u.0 h)) ∙ ap (λ (x : ProtocolState). x.point u.0) i.knows.talks
 
     less_of : (t u : TxId) → t.0 < 2 ^ 128 → u.0 < 2 ^ 128 → w.row t.0 ≡ Some Committed → w.row u.0 ≡ Some Committed → w.protocol.point t.0 < w.protocol.point u.0 → point events t < point events u
     less_of t u ft fu ht hu l = subst (λ n. n < point events u) (sym (point_is t ft ht)) (subst (λ n. w.protocol.point t.0 < n) (sym (point_is u fu hu)) l)
@@ -461,7 +450,7 @@ current_at plan places opening labelled moments catalog r none faithful are t it
     let i = whole_of plan places opening (newest_first labelled) (newest_first moments) r in
     let kept = apart.outside key table in
     let row = recorded_row plan places w (newest_first labelled) (closing opening (newest_first moments)) t.0 i fits (subst (λ s. Recorded places s t) (ends plan places opening labelled moments catalog r apart) recorded) in
-    let told = subst (λ (x : ProtocolState). x.taken t.0 ≡ true) (sym i.knows.talks) (taken plan places opening labelled moments catalog r apart faithful t.0 row) in
-    let at = (are t.0 told item).1 inside in
+    let answered = subst (λ (x : ProtocolState). x.accepted t.0 ≡ true) (sym i.knows.talks) (accepted plan places opening labelled moments catalog r apart faithful t.0 row) in
+    let at = (are t.0 answered item).1 inside in
     current_is plan places opening labelled moments catalog r apart faithful key t version kept fits row
     (reads_current plan w i.all t.0 at.0 key (number_of version) row (noted_at (plan t.0) at.0 key item version (got (plan t.0).read_set item at.0 at.1 at.2) says))

@@ -3,18 +3,14 @@ use Rattle.std.proofs.Common.{◌≡◌, ◌≢◌, ℕ, ◌<◌, ◌≤◌, ◌
 use Rattle.std.specs.Prelude.{if◌then◌else◌, IsSomeAnd}
 use Rattle.std.specs.Option.{option_map, option_and_then}
 use Rattle.std.specs.Result.{result_ok}
-use Rattle.sdb_types.specs.declared.key.Key.{Key}
-use Rattle.sdb_types.specs.declared.record.Record.{Record}
+use Rattle.law_protocol.specs.Types.{Decided, Decision, Key, Place, Record}
 use Rattle.sdb_types.specs.declared.record.State.TheVariants as state
-use Rattle.sdb_record.specs.declared.coordinator.Decided.{Decided}
-use Rattle.sdb_record.specs.declared.coordinator.Decision.{Decision}
 use Rattle.sdb_record.specs.declared.coordinator.Decision.TheVariants.{Committed, Aborted}
 use Rattle.sdb_record.specs.Coordinator.{coordinator_key_of, coordinator_row_of, decision_in}
 use Rattle.sdb_record.specs.Meta.{id_in, is_in}
 use Rattle.sdb_record.specs.Parts.{before_record}
 use Rattle.sdb_record.specs.Rolls.{image_of, image_under}
 use Rattle.sdb_record.proofs.ImageLaws.{row-decision, image-settled, image-open}
-use Rattle.sdb_types.specs.declared.place.Place.{Place}
 use Rattle.sdb_model.specs.Events.{StoreContents}
 use Rattle.sdb_model.specs.Images.{decision_at, decision_on, image_at}
 use Rattle.sdb_model.specs.Transactions.{Recorded}
@@ -35,8 +31,8 @@ use Rattle.sdb_model.specs.Tables.{is_data}
 
 ---- rows
 
-pub decision_is : (plan : ℕ → Plan) (places : List Place) (w : History) (past : List Labelled) (shelves : List StoreContents) (t : ℕ) → Whole plan places w past shelves → t < 2 ^ 128 → decision_at places shelves (id t) ≡ option_map (λ d. record { decision = d; created_at = w.moment t }) (w.row t)
-decision_is plan places w past shelves t i fits = ap (option_and_then (λ row. result_ok (decision_in row))) (i.held.rows t fits) ∙ by (w.row t) refl
+pub decision_is : (plan : ℕ → Plan) (places : List Place) (w : History) (past : List Labelled) (store_contents : List StoreContents) (t : ℕ) → Whole plan places w past store_contents → t < 2 ^ 128 → decision_at places store_contents (id t) ≡ option_map (λ d. record { decision = d; created_at = w.moment t }) (w.row t)
+decision_is plan places w past store_contents t i fits = ap (option_and_then (λ row. result_ok (decision_in row))) (i.held.rows t fits) ∙ by (w.row t) refl
   where
     by : (o : Option Decision) → w.row t ≡ o → option_and_then (λ row. result_ok (decision_in row)) (option_map (λ d. coordinator_row_of (id t) d (w.moment t)) o) ≡ option_map (λ d. record { decision = d; created_at = w.moment t }) o
     by None e = refl
@@ -45,34 +41,34 @@ decision_is plan places w past shelves t i fits = ap (option_and_then (λ row. r
         apart : Some d ≡ None → ⊥
         apart x = absurd (cc)
 
-pub recorded_row : (plan : ℕ → Plan) (places : List Place) (w : History) (past : List Labelled) (shelves : List StoreContents) (t : ℕ) → Whole plan places w past shelves → t < 2 ^ 128 → Recorded places shelves (id t) → w.row t ≡ Some Committed
-recorded_row plan places w past shelves t i fits r = by (w.row t) refl (subst (λ (x : Option Decided). IsSomeAnd x (λ d. d.decision ≡ Committed)) (decision_is plan places w past shelves t i fits) r)
+pub recorded_row : (plan : ℕ → Plan) (places : List Place) (w : History) (past : List Labelled) (store_contents : List StoreContents) (t : ℕ) → Whole plan places w past store_contents → t < 2 ^ 128 → Recorded places store_contents (id t) → w.row t ≡ Some Committed
+recorded_row plan places w past store_contents t i fits r = by (w.row t) refl (subst (λ (x : Option Decided). IsSomeAnd x (λ d. d.decision ≡ Committed)) (decision_is plan places w past store_contents t i fits) r)
   where
     by : (o : Option Decision) → w.row t ≡ o → IsSomeAnd (option_map (λ d. record { decision = d; created_at = w.moment t }) o) (λ (d : Decided). d.decision ≡ Committed) → w.row t ≡ Some Committed
     by None e h = absurd h
     by (Some d) e h = e ∙ ap (λ x. Some x) h
 
-pub row_recorded : (plan : ℕ → Plan) (places : List Place) (w : History) (past : List Labelled) (shelves : List StoreContents) (t : ℕ) → Whole plan places w past shelves → t < 2 ^ 128 → w.row t ≡ Some Committed → Recorded places shelves (id t)
-row_recorded plan places w past shelves t i fits r = subst (λ (x : Option Decided). IsSomeAnd x (λ d. d.decision ≡ Committed)) (sym (decision_is plan places w past shelves t i fits)) (subst (λ (o : Option Decision). IsSomeAnd (option_map (λ d. record { decision = d; created_at = w.moment t }) o) (λ (d : Decided). d.decision ≡ Committed)) (sym r) refl)
+pub row_recorded : (plan : ℕ → Plan) (places : List Place) (w : History) (past : List Labelled) (store_contents : List StoreContents) (t : ℕ) → Whole plan places w past store_contents → t < 2 ^ 128 → w.row t ≡ Some Committed → Recorded places store_contents (id t)
+row_recorded plan places w past store_contents t i fits r = subst (λ (x : Option Decided). IsSomeAnd x (λ d. d.decision ≡ Committed)) (sym (decision_is plan places w past store_contents t i fits)) (subst (λ (o : Option Decision). IsSomeAnd (option_map (λ d. record { decision = d; created_at = w.moment t }) o) (λ (d : Decided). d.decision ≡ Committed)) (sym r) refl)
 
-pub recorded_is_put : (plan : ℕ → Plan) (places : List Place) (w : History) (past : List Labelled) (shelves : List StoreContents) → Whole plan places w past shelves → RecordedIsPut plan places w shelves
-recorded_is_put plan places w past shelves i t fits r =
-    let row = recorded_row plan places w past shelves t i fits r in
+pub recorded_is_put : (plan : ℕ → Plan) (places : List Place) (w : History) (past : List Labelled) (store_contents : List StoreContents) → Whole plan places w past store_contents → RecordedIsPut plan places w store_contents
+recorded_is_put plan places w past store_contents i t fits r =
+    let row = recorded_row plan places w past store_contents t i fits r in
     let d = i.all.one.decided t row in
     record {
       put = row;
       row = i.held.rows t fits ∙ ap (option_map (λ d. coordinator_row_of (id t) d (w.moment t))) row ∙ ap (λ m. Some (coordinator_row_of (id t) Committed m)) ((i.knows.moments t).committed row);
-      wrote = λ k h. (((i.all.one.took_effect t k).1 (d.told k h)).0, d.told k h);
-      point = (((i.all.one.begun t).1 (taken row)).1, d.point);
+      wrote = λ k h. (((i.all.one.took_effect t k).1 (d.answered k h)).0, d.answered k h);
+      point = (((i.all.one.begun t).1 (accepted row)).1, d.point);
     }
   where
-    taken : w.row t ≡ Some Committed → w.protocol.taken t ≡ true
-    taken h = grind (arith, i.all.one.taken t (coordinator_key_of (id t)) 0)
+    accepted : w.row t ≡ Some Committed → w.protocol.accepted t ≡ true
+    accepted h = grind (arith, i.all.one.accepted t (coordinator_key_of (id t)) 0)
 
 ---- records
 
-pub unresolved_prepared : (plan : ℕ → Plan) (places : List Place) (w : History) (past : List Labelled) (shelves : List StoreContents) → Whole plan places w past shelves → UnresolvedPrepared plan places w shelves
-unresolved_prepared plan places w past shelves i k r outside at open_state = by (w.rows k) refl (sym (i.held.records k outside) ∙ at)
+pub unresolved_prepared : (plan : ℕ → Plan) (places : List Place) (w : History) (past : List Labelled) (store_contents : List StoreContents) → Whole plan places w past store_contents → UnresolvedPrepared plan places w store_contents
+unresolved_prepared plan places w past store_contents i k r outside at open_state = by (w.rows k) refl (sym (i.held.records k outside) ∙ at)
   where
     by : (s : Option Standing) → w.rows k ≡ s → option_map (record_for plan k) s ≡ Some r → IsPreparedRecord plan w k r
     by None e h = absurd (cc)
@@ -80,84 +76,84 @@ unresolved_prepared plan places w past shelves i k r outside at open_state = by 
     by (Some (Held t)) e h =
         let took_effect = i.all.one.held k t e in
         let same = sym (some_is (record_prepared_by plan t k) r h) in
-        record { t = t; writer = ap (λ (x : Record). id_in x.columns) same ∙ held_writer plan t k (taken_fits w t i.all.one.begun i.knows.fits (took_is_taken w t k i.all.one.taken took_effect)); took_effect = took_effect; same = same }
+        record { t = t; writer = ap (λ (x : Record). id_in x.columns) same ∙ held_writer plan t k (taken_fits w t i.all.one.begun i.knows.fits (took_is_taken w t k i.all.one.accepted took_effect)); took_effect = took_effect; same = same }
 
-pub committed_is_canon : (plan : ℕ → Plan) (places : List Place) (w : History) (past : List Labelled) (shelves : List StoreContents) → Whole plan places w past shelves → CommittedIsCanon plan places w shelves
-committed_is_canon plan places w past shelves i k r outside at firm = by (w.rows k) refl (sym (i.held.records k outside) ∙ at)
+pub committed_is_canon : (plan : ℕ → Plan) (places : List Place) (w : History) (past : List Labelled) (store_contents : List StoreContents) → Whole plan places w past store_contents → CommittedIsCanon plan places w store_contents
+committed_is_canon plan places w past store_contents i k r outside at firm = by (w.rows k) refl (sym (i.held.records k outside) ∙ at)
   where
-    by : (s : Option Standing) → w.rows k ≡ s → option_map (record_for plan k) s ≡ Some r → IsCommittedRecord plan places w shelves k r
+    by : (s : Option Standing) → w.rows k ≡ s → option_map (record_for plan k) s ≡ Some r → IsCommittedRecord plan places w store_contents k r
     by None e h = absurd (cc)
     by (Some (Held t)) e h = clash (sym firm ∙ ap (λ (x : Record). is_in state.Committed x.columns) (sym (some_is (record_prepared_by plan t k) r h)) ∙ held_open plan t k)
     by (Some (Final t)) e h =
         let writes = i.all.one.firm k t e in
         let fits : t < 2 ^ 128 = writer_fits plan w past k t i.knows writes in
         let same = sym (some_is (record_left_by plan t k) r h) in
-        record { t = t; writer = ap (λ (x : Record). id_in x.columns) same ∙ firm_writer plan t k fits; recorded = row_recorded plan places w past shelves t i fits writes.0; writes = writes; same = same }
+        record { t = t; writer = ap (λ (x : Record). id_in x.columns) same ∙ firm_writer plan t k fits; recorded = row_recorded plan places w past store_contents t i fits writes.0; writes = writes; same = same }
 
 pub took_data : (plan : ℕ → Plan) (w : History) (past : List Labelled) (t : ℕ) (k : Key) → Knows plan w past → w.took_effect t k ≡ true → is_data k ≡ true
 took_data plan w past t k knows took_effect =
-    let taken = took_is_taken w t k knows.inv.taken took_effect in
-    ((knows.planned t taken).write k (Rattle.law_protocol.specs.Records.write_there (plan t) k) (Rattle.law_protocol.proofs.Known.writes_it (plan t) k (knows.inv.asked t k ((knows.inv.took_effect t k).0 took_effect).0))).1
+    let accepted = took_is_taken w t k knows.inv.accepted took_effect in
+    ((knows.planned t accepted).write k (Rattle.law_protocol.specs.Records.write_there (plan t) k) (Rattle.law_protocol.proofs.Known.writes_it (plan t) k (knows.inv.asked t k ((knows.inv.took_effect t k).0 took_effect).0))).1
 
-pub prepared_stands : (plan : ℕ → Plan) (places : List Place) (w : History) (past : List Labelled) (shelves : List StoreContents) → Whole plan places w past shelves → PreparedPersists plan places w shelves
-prepared_stands plan places w past shelves i t k took_effect none = i.held.records k (took_data plan w past t k i.knows took_effect) ∙ ap (option_map (record_for plan k)) (i.all.one.stands t k took_effect none)
+pub prepared_stands : (plan : ℕ → Plan) (places : List Place) (w : History) (past : List Labelled) (store_contents : List StoreContents) → Whole plan places w past store_contents → PreparedPersists plan places w store_contents
+prepared_stands plan places w past store_contents i t k took_effect none = i.held.records k (took_data plan w past t k i.knows took_effect) ∙ ap (option_map (record_for plan k)) (i.all.one.agrees t k took_effect none)
 
 apart_rows : (w : History) (t : ℕ) → w.row t ≡ Some Committed → w.row t ≡ Some Aborted → ⊥
 apart_rows w t a b = absurd (grind arith)
 
-pub aborted_gone : (plan : ℕ → Plan) (places : List Place) (w : History) (past : List Labelled) (shelves : List StoreContents) → Whole plan places w past shelves → AbortedRemoved plan places w shelves
-aborted_gone plan places w past shelves i t k r aborted outside at = (firm, held)
+pub aborted_gone : (plan : ℕ → Plan) (places : List Place) (w : History) (past : List Labelled) (store_contents : List StoreContents) → Whole plan places w past store_contents → AbortedRemoved plan places w store_contents
+aborted_gone plan places w past store_contents i t k r aborted outside at = (firm, held)
   where
     firm : is_in state.Committed r.columns ≡ true → id_in r.columns ≢ Some (id t)
     firm is e =
-        let c = committed_is_canon plan places w past shelves i k r outside at is in
+        let c = committed_is_canon plan places w past store_contents i k r outside at is in
         apart_rows w t (subst (λ x. w.row x ≡ Some Committed) (same_writer r c.t t c.writer e) c.writes.0) aborted
 
-    under : (u : ℕ) (b : Record) (v : Option ℕ) → w.protocol.taken u ≡ true → base_of (written (plan u) k) ≡ v → Some b ≡ option_map (λ x. record_left_by plan x k) v → id_in b.columns ≡ Some (id t) → ⊥
-    under u b None taken e h f = absurd (cc)
-    under u b (Some x) taken e h f =
-        let writer = i.all.one.base u k x taken e in
+    under : (u : ℕ) (b : Record) (v : Option ℕ) → w.protocol.accepted u ≡ true → base_of (written (plan u) k) ≡ v → Some b ≡ option_map (λ x. record_left_by plan x k) v → id_in b.columns ≡ Some (id t) → ⊥
+    under u b None accepted e h f = absurd (cc)
+    under u b (Some x) accepted e h f =
+        let writer = i.all.one.base u k x accepted e in
         let same : x ≡ t = same_writer b x t (ap (λ (y : Record). id_in y.columns) (some_is b (record_left_by plan x k) h) ∙ firm_writer plan x k (writer_fits plan w past k x i.knows writer)) f in
         apart_rows w t (subst (λ y. w.row y ≡ Some Committed) same writer.0) aborted
 
     held : (b : Record) → is_in state.Committed r.columns ≡ false → before_record r ≡ Some b → id_in b.columns ≢ Some (id t)
     held b is before e =
-        let p = unresolved_prepared plan places w past shelves i k r outside at is in
-        let taken = took_is_taken w p.t k i.all.one.taken p.took_effect in
-        under p.t b (base_of (written (plan p.t) k)) taken refl (sym before ∙ ap before_record p.same ∙ held_before plan p.t k (i.knows.planned p.t taken) (i.all.one.asked p.t k ((i.all.one.took_effect p.t k).0 p.took_effect).0)) e
+        let p = unresolved_prepared plan places w past store_contents i k r outside at is in
+        let accepted = took_is_taken w p.t k i.all.one.accepted p.took_effect in
+        under p.t b (base_of (written (plan p.t) k)) accepted refl (sym before ∙ ap before_record p.same ∙ held_before plan p.t k (i.knows.planned p.t accepted) (i.all.one.asked p.t k ((i.all.one.took_effect p.t k).0 p.took_effect).0)) e
 
 ---- images
 
-image_held : (plan : ℕ → Plan) (places : List Place) (w : History) (past : List Labelled) (shelves : List StoreContents) (t : ℕ) (k : Key) → Whole plan places w past shelves → w.rows k ≡ Some (Held t) → image_of (record_prepared_by plan t k) (decision_on places shelves (record_prepared_by plan t k)) ≡ option_map (λ u. record_left_by plan u k) (if is_recorded (w.row t) then Some t else base_of (written (plan t) k))
-image_held plan places w past shelves t k i e =
-    image-open (record_prepared_by plan t k) (decision_on places shelves (record_prepared_by plan t k)) (held_open plan t k)
-    ∙ ap (image_under (record_prepared_by plan t k)) (ap (option_and_then (decision_at places shelves)) (held_writer plan t k fits) ∙ decision_is plan places w past shelves t i fits)
+image_held : (plan : ℕ → Plan) (places : List Place) (w : History) (past : List Labelled) (store_contents : List StoreContents) (t : ℕ) (k : Key) → Whole plan places w past store_contents → w.rows k ≡ Some (Held t) → image_of (record_prepared_by plan t k) (decision_on places store_contents (record_prepared_by plan t k)) ≡ option_map (λ u. record_left_by plan u k) (if is_recorded (w.row t) then Some t else base_of (written (plan t) k))
+image_held plan places w past store_contents t k i e =
+    image-open (record_prepared_by plan t k) (decision_on places store_contents (record_prepared_by plan t k)) (held_open plan t k)
+    ∙ ap (image_under (record_prepared_by plan t k)) (ap (option_and_then (decision_at places store_contents)) (held_writer plan t k fits) ∙ decision_is plan places w past store_contents t i fits)
     ∙ by (w.row t) refl
   where
     took_effect : w.took_effect t k ≡ true
     took_effect = i.all.one.held k t e
 
-    taken : w.protocol.taken t ≡ true
-    taken = took_is_taken w t k i.all.one.taken took_effect
+    accepted : w.protocol.accepted t ≡ true
+    accepted = took_is_taken w t k i.all.one.accepted took_effect
 
     fits : t < 2 ^ 128
-    fits = taken_fits w t i.all.one.begun i.knows.fits taken
+    fits = taken_fits w t i.all.one.begun i.knows.fits accepted
 
     before : before_record (record_prepared_by plan t k) ≡ option_map (λ u. record_left_by plan u k) (base_of (written (plan t) k))
-    before = held_before plan t k (i.knows.planned t taken) (i.all.one.asked t k ((i.all.one.took_effect t k).0 took_effect).0)
+    before = held_before plan t k (i.knows.planned t accepted) (i.all.one.asked t k ((i.all.one.took_effect t k).0 took_effect).0)
 
     by : (o : Option Decision) → w.row t ≡ o → image_under (record_prepared_by plan t k) (option_map (λ d. record { decision = d; created_at = w.moment t }) o) ≡ option_map (λ u. record_left_by plan u k) (if is_recorded o then Some t else base_of (written (plan t) k))
     by None f = before
     by (Some Aborted) f = before
     by (Some Committed) f = ap (λ x. Some x) (forward_at plan t k (w.moment t) ((i.knows.moments t).committed f))
 
-pub image_is : (plan : ℕ → Plan) (places : List Place) (w : History) (past : List Labelled) (shelves : List StoreContents) (k : Key) → Whole plan places w past shelves → is_data k ≡ true → image_at places shelves k ≡ option_map (λ u. record_left_by plan u k) (image plan w k)
-image_is plan places w past shelves k i outside = ap (option_and_then (λ r. image_of r (decision_on places shelves r))) (i.held.records k outside) ∙ by (w.rows k) refl
+pub image_is : (plan : ℕ → Plan) (places : List Place) (w : History) (past : List Labelled) (store_contents : List StoreContents) (k : Key) → Whole plan places w past store_contents → is_data k ≡ true → image_at places store_contents k ≡ option_map (λ u. record_left_by plan u k) (image plan w k)
+image_is plan places w past store_contents k i outside = ap (option_and_then (λ r. image_of r (decision_on places store_contents r))) (i.held.records k outside) ∙ by (w.rows k) refl
   where
-    by : (s : Option Standing) → w.rows k ≡ s → option_and_then (λ r. image_of r (decision_on places shelves r)) (option_map (record_for plan k) s) ≡ option_map (λ u. record_left_by plan u k) (image_in plan w k s)
+    by : (s : Option Standing) → w.rows k ≡ s → option_and_then (λ r. image_of r (decision_on places store_contents r)) (option_map (record_for plan k) s) ≡ option_map (λ u. record_left_by plan u k) (image_in plan w k s)
     by None e = refl
-    by (Some (Final t)) e = image-settled (record_left_by plan t k) (decision_on places shelves (record_left_by plan t k)) (firm_committed plan t k)
-    by (Some (Held t)) e = image_held plan places w past shelves t k i e
+    by (Some (Final t)) e = image-settled (record_left_by plan t k) (decision_on places store_contents (record_left_by plan t k)) (firm_committed plan t k)
+    by (Some (Held t)) e = image_held plan places w past store_contents t k i e
 
 covered : (plan : ℕ → Plan) (w : History) (t u : ℕ) (x : Option ℕ) → x ≡ Some u → Covers w.protocol t x → (t ≡ u) ⊎ (w.protocol.point t < w.protocol.point u)
 covered plan w t u x e c = turn (subst (λ y. Covers w.protocol t y) e c)
@@ -169,8 +165,8 @@ covered plan w t u x e c = turn (subst (λ y. Covers w.protocol t y) e c)
 last_writer : (plan : ℕ → Plan) (w : History) (k : Key) (u : ℕ) → Inv plan w → shadow plan w k ≡ Some u → IsLastWriter plan w k u
 last_writer plan w k u i e = record { writer = Rattle.law_protocol.proofs.Cover.writer_of plan w k u i e; last = λ t h. covered plan w t u (shadow plan w k) e (i.cover t k h) }
 
-pub image_is_last_writer : (plan : ℕ → Plan) (places : List Place) (w : History) (past : List Labelled) (shelves : List StoreContents) → Whole plan places w past shelves → ImageIsLastWriter plan places w shelves
-image_is_last_writer plan places w past shelves i k outside = subst (λ x. ImageOf plan w k x) (sym (image_is plan places w past shelves k i outside)) (by (image plan w k) refl)
+pub image_is_last_writer : (plan : ℕ → Plan) (places : List Place) (w : History) (past : List Labelled) (store_contents : List StoreContents) → Whole plan places w past store_contents → ImageIsLastWriter plan places w store_contents
+image_is_last_writer plan places w past store_contents i k outside = subst (λ x. ImageOf plan w k x) (sym (image_is plan places w past store_contents k i outside)) (by (image plan w k) refl)
   where
     gone : (g : Option ℕ) → w.gone k ≡ g → image plan w k ≡ None → IsNeverWritten plan w k ⊎ IsRemoved plan w k
     gone None f e = inl (λ t h. bare t (ap (λ z. or_else z (w.gone k)) e ∙ f) (i.all.one.cover t k h))
@@ -189,7 +185,7 @@ pub writers_in_order : (plan : ℕ → Plan) (w : History) → All plan w → Wr
 writers_in_order plan w i t u k a b lt = order (i.one.decided t a.0).point (earlier (i.one.earlier t u k))
   where
     took_effect : (v : ℕ) → IsWriter plan w k v → (w.took_effect v k ≡ true) × (w.prepared_at v k ≤ w.protocol.point v)
-    took_effect v h = (i.one.took_effect v k).1 ((i.one.decided v h.0).told k h.1)
+    took_effect v h = (i.one.took_effect v k).1 ((i.one.decided v h.0).answered k h.1)
 
     earlier : (t ≢ u → w.took_effect t k ≡ true → w.took_effect u k ≡ true → w.prepared_at t k < w.prepared_at u k → (w.row t ≢ None) × (w.decided_at t < w.prepared_at u k)) → w.decided_at t < w.prepared_at u k
     earlier f = (f (λ e. irrefl (ap (λ x. w.prepared_at x k) e) lt) (took_effect t a).0 (took_effect u b).0 lt).1
@@ -201,10 +197,10 @@ writers_in_order plan w i t u k a b lt = order (i.one.decided t a.0).point (earl
     order p q = let s = (took_effect u b).1 in omega arith
 
 pub points_differ : (plan : ℕ → Plan) (w : History) → All plan w → PointsDiffer w
-points_differ plan w i t u a b ne e = zero (i.one.apart t u ne e) ((i.one.begun t).1 (taken a)).1
+points_differ plan w i t u a b ne e = zero (i.one.apart t u ne e) ((i.one.begun t).1 (accepted a)).1
   where
-    taken : w.row t ≡ Some Committed → w.protocol.taken t ≡ true
-    taken h = grind (arith, i.one.taken t Rattle.law_protocol.proofs.Small.any_key 0)
+    accepted : w.row t ≡ Some Committed → w.protocol.accepted t ≡ true
+    accepted h = grind (arith, i.one.accepted t Rattle.law_protocol.proofs.Small.any_key 0)
 
     zero : w.protocol.point t ≡ 0 → w.protocol.begun t < w.protocol.point t → ⊥
     zero z l = omega arith
@@ -241,7 +237,7 @@ current plan w t k found n x s before below = record {
 }
 
 writer_took : (plan : ℕ → Plan) (w : History) (k : Key) (v : ℕ) → Inv plan w → IsWriter plan w k v → (w.took_effect v k ≡ true) × (w.prepared_at v k ≤ w.protocol.point v)
-writer_took plan w k v i h = (i.took_effect v k).1 ((i.decided v h.0).told k h.1)
+writer_took plan w k v i h = (i.took_effect v k).1 ((i.decided v h.0).answered k h.1)
 
 -- a key that it doesn't write
 current_read : (plan : ℕ → Plan) (w : History) (t j : ℕ) (k : Key) (found : Option ℕ) → All plan w → w.row t ≡ Some Committed → version_read_at (plan t) j k ≡ Some found → written (plan t) k ≡ None → IsCurrent plan w t k found
@@ -312,7 +308,7 @@ reads_current plan w i t j k found r n = by (written (plan t) k) refl
 ---- the middle law
 
 pub middle : (plan : ℕ → Plan) (w : History) → All plan w → Middle plan w
-middle plan w i t v none taken prepared recorded lt = record { writes = λ k h. writes k h (written (plan v) k) refl; read_set = λ j k h. read_set j k h (version_read_at (plan v) j k) refl; noted_by = noted_by }
+middle plan w i t v none accepted prepared recorded lt = record { writes = λ k h. writes k h (written (plan v) k) refl; read_set = λ j k h. read_set j k h (version_read_at (plan v) j k) refl; noted_by = noted_by }
   where
     mine : (k : Key) → written (plan t) k ≢ None → (w.took_effect t k ≡ true) × (w.prepared_at t k ≤ w.protocol.point t)
     mine k h = (i.one.took_effect t k).1 (prepared k h)
@@ -360,7 +356,7 @@ middle plan w i t v none taken prepared recorded lt = record { writes = λ k h. 
         absurd (((i.reads v j k found checked e free).early t differ a.0 (below k (w.checked_at v j) a.1 (i.checked v j checked).2)).0 none)
 
     noted_by : (j : ℕ) (k : Key) → version_read_at (plan t) j k ≢ Some (Some v)
-    noted_by j k n = cross (i.one.as_read t j k v taken n).1
+    noted_by j k n = cross (i.one.as_read t j k v accepted n).1
       where
         cross : w.protocol.point v < w.protocol.point t → ⊥
         cross l = omega arith

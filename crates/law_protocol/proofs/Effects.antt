@@ -3,23 +3,17 @@ use Rattle.std.proofs.Common.{◌≡◌, ◌≢◌, Bool, true, false, cond, Lis
 use Rattle.std.specs.Prelude.{find, ◌&&◌, if◌then◌else◌}
 use Rattle.std.specs.Option.{option_map_or}
 use Rattle.std.specs.FinMap.{get, insert, remove, get-insert, get-remove}
-use Rattle.sdb_types.specs.declared.key.Key.{Key}
-use Rattle.sdb_types.specs.declared.record.Record.{Record}
-use Rattle.sdb_types.specs.declared.record.Condition.{Condition}
-use Rattle.sdb_types.specs.declared.record.Request.{Request}
+use Rattle.law_protocol.specs.Types.{Condition, How, Key, Place, Record, Reply, Request}
 use Rattle.sdb_types.specs.declared.record.Request.TheVariants as ask
-use Rattle.sdb_types.specs.declared.record.Reply.{Reply}
 use Rattle.sdb_types.specs.declared.record.Reply.TheVariants as reply
 use Rattle.sdb_types.specs.Contents.{Contents, record_at, record_of, holds, reply_to, after}
 use Rattle.sdb_types.proofs.KeyOrder.{key_total}
 use Rattle.sdb_types.specs.Order.{same_key}
 use Rattle.sdb_types.proofs.Keys.{same_key_tells}
 use Rattle.sdb_record.proofs.NameLemmas.{same_name-true, same_name-itself}
-use Rattle.sdb_model.specs.declared.event.How.{How}
 use Rattle.sdb_model.specs.declared.event.How.TheVariants.{Seen, Lost, Discarded, Broken}
-use Rattle.sdb_types.specs.declared.place.Place.{Place}
 use Rattle.sdb_model.specs.Rows.{Name, same_name}
-use Rattle.sdb_model.specs.Events.{StoreContents, contents_under, with_contents, store_of, first_name, standing, table_asked, IsPerformed, IsCall}
+use Rattle.sdb_model.specs.Events.{StoreContents, contents_under, with_contents, store_of, first_name, stored_at, table_asked, IsPerformed, IsCall}
 
 ---- contents
 
@@ -52,14 +46,14 @@ after_delete key c m k = by (holds c (record_at m key))
     by true = at_remove m key k
     by false = refl
 
----- shelves
+---- contents
 
-pub first_same : (shelves : List StoreContents) (name : Name) (c : Contents) → first_name (with_contents shelves name c) ≡ first_name shelves
+pub first_same : (store_contents : List StoreContents) (name : Name) (c : Contents) → first_name (with_contents store_contents name c) ≡ first_name store_contents
 first_same [] name c = refl
 first_same (s ∷ ss) name c = elim (same_name s.name name) as (λ b. (if b then record { name = s.name; contents = c } else s).name ≡ s.name) [ true ↦ refl | false ↦ refl ]
 
-pub store_same : (places : List Place) (shelves : List StoreContents) (name : Name) (c : Contents) (ns : Name) → store_of places (with_contents shelves name c) ns ≡ store_of places shelves ns
-store_same places shelves name c ns = ap (λ x. option_map_or (λ (p : Place). p.store) (find (λ p. same_name p.ns ns) places) x) (first_same shelves name c)
+pub store_same : (places : List Place) (store_contents : List StoreContents) (name : Name) (c : Contents) (ns : Name) → store_of places (with_contents store_contents name c) ns ≡ store_of places store_contents ns
+store_same places store_contents name c ns = ap (λ x. option_map_or (λ (p : Place). p.store) (find (λ p. same_name p.ns ns) places) x) (first_same store_contents name c)
 
 same_name_is : (a b : Name) → same_name a b ≡ true → a ≡ b
 same_name_is a b e = same_name-true a b e
@@ -68,7 +62,7 @@ same_name_self : (a : Name) → same_name a a ≡ true
 same_name_self a = same_name-itself a
 
 -- the store of the call
-pub held_there : (shelves : List StoreContents) (name : Name) (c held : Contents) → contents_under shelves name ≡ Some held → contents_under (with_contents shelves name c) name ≡ Some c
+pub held_there : (store_contents : List StoreContents) (name : Name) (c held : Contents) → contents_under store_contents name ≡ Some held → contents_under (with_contents store_contents name c) name ≡ Some c
 held_there [] name c held h = absurd (cc)
 held_there (s ∷ ss) name c held h = by (held_there ss name c held) (same_name s.name name) refl h
   where
@@ -77,7 +71,7 @@ held_there (s ∷ ss) name c held h = by (held_there ss name c held) (same_name 
     by rest false e f = rw e (rw e (rest f))
 
 -- every other store
-pub held_elsewhere : (shelves : List StoreContents) (name other : Name) (c : Contents) → (name ≢ other) → contents_under (with_contents shelves name c) other ≡ contents_under shelves other
+pub held_elsewhere : (store_contents : List StoreContents) (name other : Name) (c : Contents) → (name ≢ other) → contents_under (with_contents store_contents name c) other ≡ contents_under store_contents other
 held_elsewhere [] name other c n = refl
 held_elsewhere (s ∷ ss) name other c n = by (held_elsewhere ss name other c n) (same_name s.name name) refl (same_name s.name other) refl
   where
@@ -108,8 +102,8 @@ pub record AtCall (places : List Place) (q : Request) (r : Reply) (before now : 
   pub held : Contents
   pub left : Contents
   pub moved : ((left ≡ after q held) × ((r ≡ reply_to q held) ⊎ (r ≡ reply.Fault))) ⊎ ((left ≡ held) × ((r ≡ reply.NoMemory) ⊎ (r ≡ reply.Fault)))
-  pub here : (k : Key) → k.table.ns ≡ (table_asked q).ns → (standing places before k ≡ record_at held k) × (standing places now k ≡ record_at left k)
-  pub there : (k : Key) → ((standing places before k ≡ record_at held k) × (standing places now k ≡ record_at left k)) ⊎ ((standing places now k ≡ standing places before k) × (k.table.ns ≢ (table_asked q).ns))
+  pub here : (k : Key) → k.table.ns ≡ (table_asked q).ns → (stored_at places before k ≡ record_at held k) × (stored_at places now k ≡ record_at left k)
+  pub there : (k : Key) → ((stored_at places before k ≡ record_at held k) × (stored_at places now k ≡ record_at left k)) ⊎ ((stored_at places now k ≡ stored_at places before k) × (k.table.ns ≢ (table_asked q).ns))
 
 same_name_tells : (a b : Name) → (a ≡ b) ⊎ (a ≢ b)
 same_name_tells a b = by (same_name a b) refl
@@ -121,21 +115,21 @@ same_name_tells a b = by (same_name a b) refl
         no : false ≡ true → ⊥
         no x = absurd (cc)
 
-now_at : (places : List Place) (store : Name) (q : Request) (how : How) (r : Reply) (before now : List StoreContents) (c : IsCall places store q how r before now) (k : Key) → standing places now k ≡ option_map_or (λ m. record_at m k) (contents_under (with_contents before store c.left) (store_of places before k.table.ns)) None
-now_at places store q how r before now c k = ap (λ s. standing places s k) c.others ∙ ap (λ n. option_map_or (λ m. record_at m k) (contents_under (with_contents before store c.left) n) None) (store_same places before store c.left k.table.ns)
+now_at : (places : List Place) (store : Name) (q : Request) (how : How) (r : Reply) (before now : List StoreContents) (c : IsCall places store q how r before now) (k : Key) → stored_at places now k ≡ option_map_or (λ m. record_at m k) (contents_under (with_contents before store c.left) (store_of places before k.table.ns)) None
+now_at places store q how r before now c k = ap (λ s. stored_at places s k) c.others ∙ ap (λ n. option_map_or (λ m. record_at m k) (contents_under (with_contents before store c.left) n) None) (store_same places before store c.left k.table.ns)
 
 -- in the call's store
-pub stands_in_store : (places : List Place) (store : Name) (q : Request) (how : How) (r : Reply) (before now : List StoreContents) (c : IsCall places store q how r before now) (k : Key) → store ≡ store_of places before k.table.ns → (standing places before k ≡ record_at c.held k) × (standing places now k ≡ record_at c.left k)
+pub stands_in_store : (places : List Place) (store : Name) (q : Request) (how : How) (r : Reply) (before now : List StoreContents) (c : IsCall places store q how r before now) (k : Key) → store ≡ store_of places before k.table.ns → (stored_at places before k ≡ record_at c.held k) × (stored_at places now k ≡ record_at c.left k)
 stands_in_store places store q how r before now c k e = (
   ap (λ (n : Name). option_map_or (λ m. record_at m k) (contents_under before n) None) (sym e) ∙ ap (λ (x : Option Contents). option_map_or (λ m. record_at m k) x None) c.found,
   now_at places store q how r before now c k ∙ ap (λ (n : Name). option_map_or (λ m. record_at m k) (contents_under (with_contents before store c.left) n) None) (sym e) ∙ ap (λ (x : Option Contents). option_map_or (λ m. record_at m k) x None) (held_there before store c.left c.held c.found),
 )
 
-stands_elsewhere : (places : List Place) (store : Name) (q : Request) (how : How) (r : Reply) (before now : List StoreContents) (c : IsCall places store q how r before now) (k : Key) → store ≢ store_of places before k.table.ns → standing places now k ≡ standing places before k
+stands_elsewhere : (places : List Place) (store : Name) (q : Request) (how : How) (r : Reply) (before now : List StoreContents) (c : IsCall places store q how r before now) (k : Key) → store ≢ store_of places before k.table.ns → stored_at places now k ≡ stored_at places before k
 stands_elsewhere places store q how r before now c k n = now_at places store q how r before now c k ∙ ap (λ (x : Option Contents). option_map_or (λ m. record_at m k) x None) (held_elsewhere before store (store_of places before k.table.ns) c.left n)
 
 -- in the call's store, or in another
-pub stands_anywhere : (places : List Place) (store : Name) (q : Request) (how : How) (r : Reply) (before now : List StoreContents) (c : IsCall places store q how r before now) (k : Key) → ((standing places before k ≡ record_at c.held k) × (standing places now k ≡ record_at c.left k)) ⊎ ((standing places now k ≡ standing places before k) × (k.table.ns ≢ (table_asked q).ns))
+pub stands_anywhere : (places : List Place) (store : Name) (q : Request) (how : How) (r : Reply) (before now : List StoreContents) (c : IsCall places store q how r before now) (k : Key) → ((stored_at places before k ≡ record_at c.held k) × (stored_at places now k ≡ record_at c.left k)) ⊎ ((stored_at places now k ≡ stored_at places before k) × (k.table.ns ≢ (table_asked q).ns))
 stands_anywhere places store q how r before now c k = elim (same_name_tells store (store_of places before k.table.ns)) [
   | inl e ↦ inl (stands_in_store places store q how r before now c k e)
   | inr n ↦ inr (stands_elsewhere places store q how r before now c k n, λ e. n (c.placed ∙ ap (store_of places before) (sym e)))

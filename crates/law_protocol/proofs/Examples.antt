@@ -2,26 +2,19 @@
 use Rattle.std.proofs.Common.{◌≡◌, ◌≢◌, ℕ, zero, suc, ◌<◌, ◌^◌, Bool, true, false, List, [], ◌∷◌, Option, Some, None, ◌⊎◌, inl, inr, refl, sym, ap, subst, ◌∙◌, arith}
 use Rattle.std.specs.Prelude.{pos, slice_get, codes, Ok, ◌==◌, if◌then◌else◌}
 use Rattle.std.specs.Option.{option_map, option_map_or}
-use Rattle.sdb_types.specs.declared.key.Key.{Key}
-use Rattle.sdb_types.specs.declared.record.Record.{Record}
+use Rattle.law_protocol.specs.Types.{Answer, How, Key, Read, Record, Reply, Request, Write}
 use Rattle.sdb_types.specs.declared.record.State.TheVariants as state
-use Rattle.sdb_record.specs.declared.access.Read.{Read}
 use Rattle.sdb_record.specs.declared.coordinator.Decision.TheVariants.{Committed}
-use Rattle.sdb_record.specs.declared.write.Write.{Write}
 use Rattle.sdb_record.specs.Coordinator.{coordinator_key_of, coordinator_row_of, decision_in}
 use Rattle.sdb_record.specs.Names.{is_meta, base_name}
 use Rattle.sdb_record.specs.Meta.{id_in, is_in}
 use Rattle.sdb_record.specs.Moved.{version_of, is_unchanged}
 use Rattle.sdb_record.specs.Rolls.{IsWrite, IsBaseOf, forward_record, is_tombstone}
 use Rattle.sdb_record.proofs.ImageLaws.{prepared-unsettled, prepared-unresolved, forward-prepared-version, version-writer, row-decision, prepared-version}
-use Rattle.sdb_record.proofs.RollLaws.{forward-committed, forward-key, forward-taken, forward-tombstone, mark_value}
+use Rattle.sdb_record.proofs.RollLaws.{forward-committed, forward-key, forward-accepted, forward-tombstone, mark_value}
 use Rattle.sdb_record.proofs.TakenLaws.{prepared-key}
-use Rattle.sdb_types.specs.declared.record.Request.{Request}
-use Rattle.sdb_types.specs.declared.record.Reply.{Reply}
 use Rattle.sdb_types.specs.declared.record.Reply.TheVariants as reply
-use Rattle.sdb_model.specs.declared.answer.Answer.{Answer}
 use Rattle.sdb_model.specs.declared.event.Event.TheVariants as event
-use Rattle.sdb_model.specs.declared.event.How.{How}
 use Rattle.sdb_model.specs.Transactions.{rest_of}
 use Rattle.law_protocol.specs.Plan.{Plan, write_at, written, version_read_at, number_of}
 use Rattle.sdb_model.specs.ReadSet.{ReadItem, KeyRead}
@@ -80,7 +73,7 @@ forward_id : (w : Write) (t : ℕ) → t < 2 ^ 128 → id_in (forward w t).colum
 forward_id w t fits = version-writer (forward w t) (id t) state.Committed fits (forward-prepared-version w (id t) (pos 0) (pos 0))
 
 base_inserts : IsBaseOf account (forward inserts one)
-base_inserts = (forward_key inserts one, forward-taken (prepared inserts one) (pos 0) (prepared-unresolved inserts (id one) (pos 0) is_inserts (omega arith) refl) refl, forward-committed (prepared inserts one) (pos 0))
+base_inserts = (forward_key inserts one, forward-accepted (prepared inserts one) (pos 0) (prepared-unresolved inserts (id one) (pos 0) is_inserts (omega arith) refl) refl, forward-committed (prepared inserts one) (pos 0))
 
 is_updates : IsWrite updates
 unfolding is_meta base_name
@@ -157,7 +150,7 @@ first_lawful w = (
         client = 1;
         write = inserts;
         r = _;
-        within = record { taken = refl; is_open = refl; owner = refl; goes_on = refl };
+        within = record { accepted = refl; is_open = refl; owner = refl; goes_on = refl };
         at = refl;
         call = record { store = _; how = _; answer = _; call = refl };
         word_is = refl;
@@ -170,7 +163,7 @@ first_lawful w = (
     record {
       client = 1;
       r = _;
-      within = record { taken = refl; is_open = refl; owner = refl; goes_on = refl };
+      within = record { accepted = refl; is_open = refl; owner = refl; goes_on = refl };
       call = record { store = _; how = _; answer = _; call = refl };
       word_is = refl;
       prepared = λ k h. rw (only_written (plan_with w one) inserts k refl h) refl;
@@ -186,7 +179,7 @@ first_lawful w = (
     known = inr (inl (refl, refl));
     call = record { store = _; how = _; answer = _; call = refl };
   },
-  λ e. record { t = one; ends = refl; taken = refl; moment = pos 0; known = inr (inl (refl, refl)) },
+  λ e. record { t = one; ends = refl; accepted = refl; moment = pos 0; known = inr (inl (refl, refl)) },
   λ a e d. absurd (no_denial a e d),
 )
   where
@@ -197,7 +190,7 @@ first_lawful w = (
 
 -- a committed record that was shown
 itself : (past : List Labelled) (r b : Record) (k : Key) → IsObserved past r → r ≡ b → r.key ≡ k → is_in state.Committed r.columns ≡ true → IsSettled past k b
-itself past r b k shown same key firm = subst (λ y. IsSettled past k y) same (Itself shown key firm)
+itself past r b k observed same key firm = subst (λ y. IsSettled past k y) same (Itself observed key firm)
 
 -- its base is what the first left, as it was found there
 second_lawful : (w : Write) (text : List ℕ) → IsWrite w → w.key ≡ account → w.base ≡ Some (forward inserts one) → IsLawful (plan_with w) (second_run w text)
@@ -245,7 +238,7 @@ second_lawful w text is key base = (
     client = 2;
     write = w;
     r = _;
-    within = record { taken = refl; is_open = refl; owner = refl; goes_on = refl };
+    within = record { accepted = refl; is_open = refl; owner = refl; goes_on = refl };
     at = here w key;
     call = record { store = _; how = _; answer = _; call = ap (λ y. Rattle.law_protocol.specs.Worked.call 2 (Rattle.sdb_types.specs.declared.record.Request.TheVariants.PutIf (prepared w two) y) Rattle.sdb_types.specs.declared.record.Reply.TheVariants.Applied None) (sym (condition w base)) };
     word_is = refl;
@@ -283,7 +276,7 @@ lost_decision_lawful = (
       record {
         client = 2;
         r = _;
-        within = record { taken = refl; is_open = refl; owner = refl; goes_on = refl };
+        within = record { accepted = refl; is_open = refl; owner = refl; goes_on = refl };
         call = record { store = _; how = _; answer = _; call = refl };
         word_is = refl;
         prepared = λ k h. rw (only_written (plan_with updates two) updates k refl h) refl;
@@ -300,10 +293,10 @@ lost_decision_lawful = (
   record {
     roll = record { client = 2; rolled = prepared updates two; s = state.Prepared; r = _; is_open = refl; outside = refl; prepared = inr (refl, refl) };
     moment = pos 0;
-    known = inl (record { row = row two; shown = inl refl; key = refl; says = row_two });
+    known = inl (record { row = row two; observed = inl refl; key = refl; says = row_two });
     call = record { store = _; how = _; answer = _; call = refl };
   },
-  λ e. record { t = two; ends = refl; taken = refl; moment = pos 0; known = inl (record { row = row two; shown = inr (inl refl); key = refl; says = row_two }) },
+  λ e. record { t = two; ends = refl; accepted = refl; moment = pos 0; known = inl (record { row = row two; observed = inr (inl refl); key = refl; says = row_two }) },
   λ a e d. absurd (no_denial a e d),
 )
 
@@ -323,7 +316,7 @@ recovery_lawful = (
                     record {
                       client = 2;
                       r = _;
-                      within = record { taken = refl; is_open = refl; owner = refl; goes_on = refl };
+                      within = record { accepted = refl; is_open = refl; owner = refl; goes_on = refl };
                       call = record { store = _; how = _; answer = _; call = refl };
                       word_is = refl;
                       prepared = λ k h. rw (only_written (plan_with updates two) updates k refl h) refl;
@@ -356,7 +349,7 @@ recovery_lawful = (
         record {
           roll = record { client = 3; rolled = prepared updates two; s = state.Prepared; r = _; is_open = refl; outside = refl; prepared = inl (held _ (inr (inl refl))) };
           moment = pos 0;
-          known = inl (record { row = row two; shown = inl refl; key = refl; says = row_two });
+          known = inl (record { row = row two; observed = inl refl; key = refl; says = row_two });
           call = record { store = _; how = _; answer = _; call = refl };
         },
         λ e. absurd (cc),
@@ -376,7 +369,7 @@ recovery_lawful = (
         writes = λ k x h. absurd (no_write k x h);
         bases = λ k x b h f. absurd (no_write k x h);
         read_set = λ i k u h. let o = only_note (plan_with updates three) _ i k (Some u) refl h in
-            (forward updates two, settled _ k (inr (inr (inl refl))) (record { row = row two; shown = inr (inl refl); key = refl; says = row_two }) o.1, forward_id updates two (omega arith) ∙ ap (λ y. option_map id y) (sym o.2));
+            (forward updates two, settled _ k (inr (inr (inl refl))) (record { row = row two; observed = inr (inl refl); key = refl; says = row_two }) o.1, forward_id updates two (omega arith) ∙ ap (λ y. option_map id y) (sym o.2));
         tables = λ i k v h. let o = only_note (plan_with updates three) _ i k v refl h in subst (λ y. is_data y ≡ true) o.1 refl;
       },
       λ e. absurd (cc),
@@ -387,7 +380,7 @@ recovery_lawful = (
       item = _;
       q = _;
       r = _;
-      within = record { taken = refl; is_open = refl; owner = refl; goes_on = refl };
+      within = record { accepted = refl; is_open = refl; owner = refl; goes_on = refl };
       at = refl;
       call = record { store = _; how = _; answer = _; call = refl };
       unchanged = (Some (forward updates two), refl, refl, forward-prepared-version updates (id two) (pos 0) (pos 0));
@@ -399,14 +392,14 @@ recovery_lawful = (
   record {
     client = 3;
     r = _;
-    within = record { taken = refl; is_open = refl; owner = refl; goes_on = refl };
+    within = record { accepted = refl; is_open = refl; owner = refl; goes_on = refl };
     call = record { store = _; how = _; answer = _; call = refl };
     word_is = refl;
     prepared = λ k h. absurd (h (unwritten k));
     checked = λ i k v n free. rw (only_note (plan_with updates three) _ i k v refl n).0 refl;
     agrees = λ i k v b n h. absurd (some (sym (unwritten k) ∙ h));
   },
-  λ e. record { t = three; ends = refl; taken = refl; moment = pos 0; known = inr (inl (refl, refl)) },
+  λ e. record { t = three; ends = refl; accepted = refl; moment = pos 0; known = inr (inl (refl, refl)) },
   λ a e d. absurd (no_denial a e d),
 )
   where
@@ -420,10 +413,10 @@ recovery_lawful = (
     some e = cc
 
     held : (past : List Labelled) → IsObserved past (prepared updates two) → IsPreparedObserved past two account (prepared updates two)
-    held past shown = record { shown = shown; key = prepared-key updates (id two) (pos 0); held = prepared-unsettled updates (id two) (pos 0); writer = version-writer (prepared updates two) (id two) state.Prepared (omega arith) (prepared-version updates (id two) (pos 0)) }
+    held past observed = record { observed = observed; key = prepared-key updates (id two) (pos 0); held = prepared-unsettled updates (id two) (pos 0); writer = version-writer (prepared updates two) (id two) state.Prepared (omega arith) (prepared-version updates (id two) (pos 0)) }
 
     settled : (past : List Labelled) (k : Key) → IsObserved past (prepared updates two) → IsRowObserved past two Committed (pos 0) → account ≡ k → IsSettled past k (forward updates two)
-    settled past k shown row e = subst (λ y. IsSettled past y (forward updates two)) e (Forward two (prepared updates two) (pos 0) (held past shown) row refl)
+    settled past k observed row e = subst (λ y. IsSettled past y (forward updates two)) e (Forward two (prepared updates two) (pos 0) (held past observed) row refl)
 
 tombstone : is_tombstone (forward deletes_it two) ≡ true
 unfolding forward_record
@@ -449,7 +442,7 @@ vacuumed_lawful = (
           record {
             client = 2;
             r = _;
-            within = record { taken = refl; is_open = refl; owner = refl; goes_on = refl };
+            within = record { accepted = refl; is_open = refl; owner = refl; goes_on = refl };
             call = record { store = _; how = _; answer = _; call = refl };
             word_is = refl;
             prepared = λ k h. rw (only_written (plan_with deletes_it two) deletes_it k refl h) refl;
@@ -465,7 +458,7 @@ vacuumed_lawful = (
           known = inr (inl (refl, refl));
           call = record { store = _; how = _; answer = _; call = refl };
         },
-        λ e. record { t = two; ends = refl; taken = refl; moment = pos 0; known = inr (inl (refl, refl)) },
+        λ e. record { t = two; ends = refl; accepted = refl; moment = pos 0; known = inr (inl (refl, refl)) },
         λ a e d. absurd (no_denial a e d),
       ),
       refl,
@@ -522,10 +515,10 @@ checked_moved_refused past l = moved (subst (λ n. IsUnchanged (plan_with update
 pub rolled_blindly_refused : IsLawful (plan_with updates) rolled_blindly → ⊥
 unfolding coordinator_key_of
 rolled_blindly_refused l = elim l.1.known [
-  | inl row ↦ clash (ap is_data (sym (ap (λ (x : Record). x.key) (only row.row row.shown) ∙ forward_key inserts one) ∙ row.key))
+  | inl row ↦ clash (ap is_data (sym (ap (λ (x : Record). x.key) (only row.row row.observed) ∙ forward_key inserts one) ∙ row.key))
   | inr other ↦ elim other [
     | inl won ↦ clash (sym won.0)
-    | inr own ↦ clash (ap is_data (sym (ap (λ (x : Record). x.key) (only own.1.1.row own.1.1.shown) ∙ forward_key inserts one) ∙ own.1.1.key))
+    | inr own ↦ clash (ap is_data (sym (ap (λ (x : Record). x.key) (only own.1.1.row own.1.1.observed) ∙ forward_key inserts one) ∙ own.1.1.key))
   ]
 ]
   where

@@ -2,19 +2,14 @@
 use Rattle.std.proofs.Common.{◌≡◌, Bool, true, false, [], Some, None, inl, refl, ap, ◌∙◌, option_map}
 use Rattle.std.specs.Prelude.{codes, pos, ◌&&◌, if◌then◌else◌}
 use Rattle.std.specs.FinMap.{empty, get-empty}
-use Rattle.sdb_types.specs.declared.key.Key.{Key}
-use Rattle.sdb_types.specs.declared.record.Record.{Record}
+use Rattle.law_protocol.specs.Types.{Condition, Key, Record, Reply, Request, Write}
 use Rattle.sdb_types.specs.declared.record.State.TheVariants as state
-use Rattle.sdb_types.specs.declared.record.Condition.{Condition}
 use Rattle.sdb_types.specs.declared.record.Condition.TheVariants as condition
-use Rattle.sdb_types.specs.declared.record.Request.{Request}
 use Rattle.sdb_types.specs.declared.record.Request.TheVariants as ask
-use Rattle.sdb_types.specs.declared.record.Reply.{Reply}
 use Rattle.sdb_types.specs.declared.record.Reply.TheVariants as reply
 use Rattle.sdb_types.specs.Order.{key_cmp, same_key}
 use Rattle.sdb_types.specs.Contents.{Contents, record_at, record_of, holds, reply_to, after}
 use Rattle.sdb_record.specs.declared.coordinator.Decision.TheVariants.{Committed}
-use Rattle.sdb_record.specs.declared.write.Write.{Write}
 use Rattle.sdb_record.specs.Coordinator.{coordinator_key_of}
 use Rattle.sdb_record.proofs.ImageLaws.{prepared-version, row-key}
 use Rattle.sdb_record.proofs.RollLaws.{forward-key}
@@ -70,12 +65,12 @@ account_same = refl
 row_free : record_at when_prepared (row one).key ≡ None
 row_free = passed (prepared inserts one) condition.Absent empty (row one).key (ap (λ k. same_key k (prepared inserts one).key) (row-key (id one) Committed (pos 0)) ∙ ap (same_key (coordinator_key_of (id one))) (prepared-key inserts (id one) (pos 0)) ∙ row_away) ∙ nothing_there (row one).key
 
-stands : record_at when_decided account ≡ Some (prepared inserts one)
-stands = passed (row one) condition.Absent when_prepared account (ap (same_key account) (row-key (id one) Committed (pos 0)) ∙ account_away)
+agrees : record_at when_decided account ≡ Some (prepared inserts one)
+agrees = passed (row one) condition.Absent when_prepared account (ap (same_key account) (row-key (id one) Committed (pos 0)) ∙ account_away)
     ∙ put_there (prepared inserts one) condition.Absent empty account prepare_holds (ap (same_key account) (prepared-key inserts (id one) (pos 0)) ∙ account_same)
 
 roll_holds : holds (condition.Version (id one) state.Prepared) (record_at when_decided (forward inserts one).key) ≡ true
-roll_holds = ap (λ k. holds (condition.Version (id one) state.Prepared) (record_at when_decided k)) (forward-key (prepared inserts one) (pos 0) ∙ prepared-key inserts (id one) (pos 0)) ∙ ap (holds (condition.Version (id one) state.Prepared)) stands ∙ prepared-version inserts (id one) (pos 0)
+roll_holds = ap (λ k. holds (condition.Version (id one) state.Prepared) (record_at when_decided k)) (forward-key (prepared inserts one) (pos 0) ∙ prepared-key inserts (id one) (pos 0)) ∙ ap (holds (condition.Version (id one) state.Prepared)) agrees ∙ prepared-version inserts (id one) (pos 0)
 
 traced : IsTraced [] (store_with empty) first_run first_moments
 traced = (

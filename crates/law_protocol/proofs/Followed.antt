@@ -3,16 +3,10 @@ use Rattle.std.proofs.Common.{◌≡◌, ℕ, ◌+◌, Bool, true, false, List, 
 use Rattle.std.specs.Prelude.{MatchBool}
 use Rattle.std.specs.List.{slice_get}
 use Rattle.std.proofs.lemmas.List.{length-map}
-use Rattle.sdb_types.specs.declared.record.Reply.{Reply}
-use Rattle.sdb_model.specs.declared.event.Event.{Event}
+use Rattle.law_protocol.specs.Types.{Act, Event, How, Move, Reply, Script, ScriptClient}
 use Rattle.sdb_model.specs.declared.event.Event.TheVariants as event
-use Rattle.sdb_model.specs.declared.event.How.{How}
-use Rattle.sdb_model.specs.declared.script.Act.{Act}
 use Rattle.sdb_model.specs.declared.script.Act.TheVariants as act
-use Rattle.sdb_model.specs.declared.script.Move.{Move}
 use Rattle.sdb_model.specs.declared.script.Move.TheVariants as move
-use Rattle.sdb_model.specs.declared.script.Script.{Script}
-use Rattle.sdb_model.specs.declared.script.ScriptClient.{ScriptClient}
 use Rattle.sdb_model.specs.Rows.{Name}
 use Rattle.sdb_model.specs.Follows.{has_work, is_pending, texts_of, IsCallOf, IsTakeOf, IsStep, IsHowOfStep, IsHowOfLose, IsHowOfDiscard, IsActed, AreStepsOf, AllIdle, IsTurn, IsRest, IsOfMove, AreOfMoves, Follows, end_of}
 use Rattle.law_protocol.specs.Spread.{relocated_event, relocated_events}

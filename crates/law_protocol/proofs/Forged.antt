@@ -4,9 +4,7 @@ use Rattle.std.specs.Prelude.{◌==◌, ◌&&◌, codes, find, if◌then◌else�
 use Rattle.std.proofs.lemmas.Bool.Decides.{nat_tests}
 use Rattle.std.specs.Option.{option_and_then}
 use Rattle.sdb_model.specs.declared.answer.Answer.TheVariants as answer
-use Rattle.sdb_model.specs.declared.event.Point.{Point}
-use Rattle.sdb_model.specs.declared.event.TableDump.{TableDump}
-use Rattle.sdb_model.specs.declared.script.Script.{Script}
+use Rattle.law_protocol.specs.Types.{Point, Script, TableDump}
 use Rattle.sdb_model.specs.Sql.{reads_begin, reads_commit}
 use Rattle.sdb_model.specs.Events.{StoreContents}
 use Rattle.sdb_model.specs.Transactions.{Executed, statements_by, ends, from_begin, rest_of, ordinal_of}
@@ -31,7 +29,7 @@ liar_none (suc n) = rw (not_done (reads_begin (codes "BEGIN")), not_done (reads_
 
 pub liar_is_no_run : (script : Script) (opening closing : List StoreContents) (order : List Point) (tables : List TableDump) → IsRun script opening closing (record { events = liar; order = order; tables = tables }) → ⊥
 liar_is_no_run script opening closing order tables run =
-    let o = run.told.owned 1 (record { taken = 3; text = codes "COMMIT"; answer = Some answer.Committed; reached = 3 }) (2, omega arith, refl) refl in
+    let o = run.answered.owned 1 (record { accepted = 3; text = codes "COMMIT"; answer = Some answer.Committed; reached = 3 }) (2, omega arith, refl) refl in
     no_some _ (sym (ap (λ c. commit_among (ordinal_of o.id) (statements_by c liar)) o.owner ∙ liar_none (ordinal_of o.id)) ∙ o.commit)
 
 twice_none : (n : ℕ) → commit_among n (statements_by 1 twice) ≡ None
@@ -44,5 +42,5 @@ twice_none (suc (suc n)) = rw (begin_begins, apart n, rollback_begins_not, commi
 
 pub twice_is_no_run : (script : Script) (opening closing : List StoreContents) (order : List Point) (tables : List TableDump) → IsRun script opening closing (record { events = twice; order = order; tables = tables }) → ⊥
 twice_is_no_run script opening closing order tables run =
-    let o = run.told.owned 1 (record { taken = 3; text = codes "COMMIT"; answer = Some answer.Committed; reached = 3 }) (2, omega arith, refl) refl in
+    let o = run.answered.owned 1 (record { accepted = 3; text = codes "COMMIT"; answer = Some answer.Committed; reached = 3 }) (2, omega arith, refl) refl in
     no_some _ (sym (ap (λ c. commit_among (ordinal_of o.id) (statements_by c twice)) o.owner ∙ twice_none (ordinal_of o.id)) ∙ o.commit)

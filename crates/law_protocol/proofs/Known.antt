@@ -2,14 +2,10 @@
 use Rattle.std.proofs.Common.{◌≡◌, ◌≢◌, ℕ, ℤ, ◌<◌, ◌^◌, Bool, true, false, List, [], ◌∷◌, Option, Some, None, ◌⊎◌, inl, inr, refl, sym, ap, subst, ◌∙◌, arith}
 use Rattle.std.specs.Prelude.{find, unwrap_or, Result, Ok, if◌then◌else◌}
 use Rattle.std.specs.Option.{option_map}
-use Rattle.sdb_types.specs.declared.key.Key.{Key}
-use Rattle.sdb_types.specs.declared.record.Record.{Record}
+use Rattle.law_protocol.specs.Types.{Decided, Decision, Key, Place, Record, Write}
 use Rattle.sdb_types.specs.Order.{same_key}
 use Rattle.sdb_types.proofs.Keys.{tests, same_key_exact}
-use Rattle.sdb_record.specs.declared.coordinator.Decided.{Decided}
-use Rattle.sdb_record.specs.declared.coordinator.Decision.{Decision}
 use Rattle.sdb_record.specs.declared.coordinator.Decision.TheVariants.{Committed}
-use Rattle.sdb_record.specs.declared.write.Write.{Write}
 use Rattle.sdb_record.specs.Coordinator.{coordinator_key_of, coordinator_row_of, decision_in}
 use Rattle.sdb_record.specs.Meta.{is_moment}
 use Rattle.sdb_record.specs.Moved.{version_of}
@@ -18,8 +14,7 @@ use Rattle.sdb_record.specs.Rolls.{IsWrite}
 use Rattle.sdb_record.proofs.ImageLaws.{row-decision}
 use Rattle.sdb_record.proofs.TakenLaws.{prepared-base, prepared-key}
 use Rattle.sdb_record.proofs.RollLaws.{forward-key}
-use Rattle.sdb_types.specs.declared.place.Place.{Place}
-use Rattle.sdb_model.specs.Events.{StoreContents, standing}
+use Rattle.sdb_model.specs.Events.{StoreContents, stored_at}
 use Rattle.law_protocol.specs.Plan.{Plan, write_at, written, number_of, version_read_at}
 use Rattle.law_protocol.specs.History.{Action, History, Standing, Final, Held, base_of, happens, IsWriter}
 use Rattle.law_protocol.specs.Lawful.{Labelled, id, IsObserved, IsRowObserved}
@@ -32,7 +27,7 @@ use Rattle.sdb_model.specs.Tables.{is_data}
 
 ---- plans
 
--- What a transaction whose COMMIT was taken writes: each base is the one record that its writer leaves at that key.
+-- What a transaction whose COMMIT was accepted writes: each base is the one record that its writer leaves at that key.
 pub record IsPlanned (plan : ℕ → Plan) (t : ℕ) : Type 0 where
   pub moment : is_moment (plan t).now ≡ true
   pub write : (k : Key) (w : Write) → write_at (plan t) k ≡ Some w → IsWrite w × (is_data k ≡ true)
@@ -145,19 +140,19 @@ known_closed plan w t x known = record {
 
 ---- it is known when it is shown
 
-pub taken_fits : (w : History) (t : ℕ) → BegunOk w → ((u : ℕ) → w.protocol.begun u ≢ 0 → u < 2 ^ 128) → w.protocol.taken t ≡ true → t < 2 ^ 128
+pub taken_fits : (w : History) (t : ℕ) → BegunOk w → ((u : ℕ) → w.protocol.begun u ≢ 0 → u < 2 ^ 128) → w.protocol.accepted t ≡ true → t < 2 ^ 128
 taken_fits w t begun fits h = fits t ((begun t).1 h).0
 
-pub writer_taken : (plan : ℕ → Plan) (w : History) (k : Key) (t : ℕ) → TakenOk w → IsWriter plan w k t → w.protocol.taken t ≡ true
-writer_taken plan w k t taken h = grind (arith, taken t k 0, h)
+pub writer_taken : (plan : ℕ → Plan) (w : History) (k : Key) (t : ℕ) → TakenOk w → IsWriter plan w k t → w.protocol.accepted t ≡ true
+writer_taken plan w k t accepted h = grind (arith, accepted t k 0, h)
 
-pub took_is_taken : (w : History) (t : ℕ) (k : Key) → TakenOk w → w.took_effect t k ≡ true → w.protocol.taken t ≡ true
-took_is_taken w t k taken h = grind (arith, taken t k 0)
+pub took_is_taken : (w : History) (t : ℕ) (k : Key) → TakenOk w → w.took_effect t k ≡ true → w.protocol.accepted t ≡ true
+took_is_taken w t k accepted h = grind (arith, accepted t k 0)
 
-pub known_now : (plan : ℕ → Plan) (places : List Place) (w : History) (shelves : List StoreContents) (r : Record) → Inv plan w → ((u : ℕ) → w.protocol.begun u ≢ 0 → u < 2 ^ 128) → ContainsHistory plan places w shelves → standing places shelves r.key ≡ Some r → Known plan w r
-known_now plan places w shelves r i fits held here = record {
+pub known_now : (plan : ℕ → Plan) (places : List Place) (w : History) (store_contents : List StoreContents) (r : Record) → Inv plan w → ((u : ℕ) → w.protocol.begun u ≢ 0 → u < 2 ^ 128) → ContainsHistory plan places w store_contents → stored_at places store_contents r.key ≡ Some r → Known plan w r
+known_now plan places w store_contents r i fits held here = record {
   put = λ outside. by (w.rows r.key) refl (sym (held.records r.key outside) ∙ here);
-  row = λ t fit e. sym (held.rows t fit) ∙ ap (standing places shelves) (sym e) ∙ here;
+  row = λ t fit e. sym (held.rows t fit) ∙ ap (stored_at places store_contents) (sym e) ∙ here;
 }
   where
     some_is : (a b : Record) → Some a ≡ Some b → b ≡ a
@@ -165,8 +160,8 @@ known_now plan places w shelves r i fits held here = record {
 
     by : (s : Option Standing) → w.rows r.key ≡ s → option_map (record_for plan r.key) s ≡ Some r → IsFirmOf plan w r.key r ⊎ IsHeldOf plan w r.key r
     by None h e = absurd (cc)
-    by (Some (Final t)) h e = let writer = i.firm r.key t h in inl (record { t = t; same = some_is (record_left_by plan t r.key) r e; writer = writer; fits = taken_fits w t i.begun fits (writer_taken plan w r.key t i.taken writer) })
-    by (Some (Held t)) h e = let took_effect = i.held r.key t h in inr (record { t = t; same = some_is (record_prepared_by plan t r.key) r e; took_effect = took_effect; fits = taken_fits w t i.begun fits (took_is_taken w t r.key i.taken took_effect) })
+    by (Some (Final t)) h e = let writer = i.firm r.key t h in inl (record { t = t; same = some_is (record_left_by plan t r.key) r e; writer = writer; fits = taken_fits w t i.begun fits (writer_taken plan w r.key t i.accepted writer) })
+    by (Some (Held t)) h e = let took_effect = i.held r.key t h in inr (record { t = t; same = some_is (record_prepared_by plan t r.key) r e; took_effect = took_effect; fits = taken_fits w t i.begun fits (took_is_taken w t r.key i.accepted took_effect) })
 
 ---- what follows from it
 
@@ -180,17 +175,17 @@ ok_is a b e = cc
 
 -- a row that was shown is the transaction's row
 pub row_known : (plan : ℕ → Plan) (w : History) (past : List Labelled) (t : ℕ) (d : Decision) (m : ℤ) → ((r : Record) → IsObserved past r → Known plan w r) → AreMoments plan w t → t < 2 ^ 128 → IsRowObserved past t d m → (w.row t ≡ Some d) × (m ≡ w.moment t)
-row_known plan w past t d m known moments fits shown = by (w.row t) refl ((known shown.row shown.shown).row t fits shown.key)
+row_known plan w past t d m known moments fits observed = by (w.row t) refl ((known observed.row observed.observed).row t fits observed.key)
   where
     some_is : (a b : Record) → Some a ≡ Some b → b ≡ a
     some_is a b e = cc
 
-    same : (e : Decision) → w.row t ≡ Some e → is_moment (w.moment t) ≡ true → shown.row ≡ coordinator_row_of (id t) e (w.moment t) → (w.row t ≡ Some d) × (m ≡ w.moment t)
+    same : (e : Decision) → w.row t ≡ Some e → is_moment (w.moment t) ≡ true → observed.row ≡ coordinator_row_of (id t) e (w.moment t) → (w.row t ≡ Some d) × (m ≡ w.moment t)
     same e h ok is =
-        let x : record { decision = d; created_at = m } ≡ record { decision = e; created_at = w.moment t } = ok_is _ _ (sym shown.says ∙ ap decision_in is ∙ row-decision (id t) e (w.moment t) fits ok) in
+        let x : record { decision = d; created_at = m } ≡ record { decision = e; created_at = w.moment t } = ok_is _ _ (sym observed.says ∙ ap decision_in is ∙ row-decision (id t) e (w.moment t) fits ok) in
         (h ∙ ap (λ (y : Decided). Some y.decision) (sym x), ap (λ (y : Decided). y.created_at) x)
 
-    by : (o : Option Decision) → w.row t ≡ o → option_map (λ e. coordinator_row_of (id t) e (w.moment t)) o ≡ Some shown.row → (w.row t ≡ Some d) × (m ≡ w.moment t)
+    by : (o : Option Decision) → w.row t ≡ o → option_map (λ e. coordinator_row_of (id t) e (w.moment t)) o ≡ Some observed.row → (w.row t ≡ Some d) × (m ≡ w.moment t)
     by None h e = absurd (cc)
     by (Some e) h f = same e h (moments.some (some h)) (some_is _ _ f)
       where

@@ -2,21 +2,14 @@
 use Rattle.std.proofs.Common.{◌≡◌, ◌≢◌, ℕ, ℤ, ◌<◌, ◌^◌, Bool, true, false, List, Option, Some, None, ◌⊎◌, inl, inr, refl, sym, ap, subst, ◌∙◌, arith}
 use Rattle.std.specs.Prelude.{◌&&◌, ◌==◌, not, if◌then◌else◌}
 use Rattle.std.specs.Option.{option_map}
-use Rattle.sdb_types.specs.declared.key.Key.{Key}
-use Rattle.sdb_types.specs.declared.txid.TxId.{TxId}
-use Rattle.sdb_types.specs.declared.record.Record.{Record}
-use Rattle.sdb_types.specs.declared.record.Condition.{Condition}
+use Rattle.law_protocol.specs.Types.{Condition, Decision, Event, Key, Place, Record, Reply, TxId}
 use Rattle.sdb_types.specs.declared.record.Request.TheVariants as ask
-use Rattle.sdb_types.specs.declared.record.Reply.{Reply}
-use Rattle.sdb_record.specs.declared.coordinator.Decision.{Decision}
 use Rattle.sdb_record.specs.Coordinator.{coordinator_key_of, coordinator_row_of, id_of_key}
 use Rattle.sdb_types.specs.Contents.{holds}
 use Rattle.sdb_types.specs.Order.{same_key}
 use Rattle.sdb_types.proofs.Keys.{tests, same_key_tells}
 use Rattle.sdb_record.proofs.ImageLaws.{key-of-id}
-use Rattle.sdb_model.specs.declared.event.Event.{Event}
-use Rattle.sdb_types.specs.declared.place.Place.{Place}
-use Rattle.sdb_model.specs.Events.{StoreContents, Effect, standing, IsCall}
+use Rattle.sdb_model.specs.Events.{StoreContents, Effect, stored_at, IsCall}
 use Rattle.law_protocol.specs.Plan.{Plan}
 use Rattle.law_protocol.specs.History.{History, Standing}
 use Rattle.law_protocol.specs.Lawful.{id, IsCallOf}
@@ -76,7 +69,7 @@ pub link_write : (plan : ℕ → Plan) (places : List Place) (w v : History) (be
     → ContainsHistory plan places v now
 link_write plan places w v before now k c new r x done held written took_effect outside put rows same = record {
   records = λ q there. written.at q ∙ by q there done took_effect put (same_key_tells q k) ∙ ap (option_map (record_for plan q)) (sym (rows q));
-  rows = λ t fits. written.at (coordinator_key_of (id t)) ∙ rw (row_apart k t outside) (none (takes_effect_at places k c before now) (standing places before (coordinator_key_of (id t)))) ∙ held.rows t fits ∙ sym (same t);
+  rows = λ t fits. written.at (coordinator_key_of (id t)) ∙ rw (row_apart k t outside) (none (takes_effect_at places k c before now) (stored_at places before (coordinator_key_of (id t)))) ∙ held.rows t fits ∙ sym (same t);
 }
   where
     none : (b : Bool) (y : Option Record) → (if b && false then new else y) ≡ y
@@ -84,7 +77,7 @@ link_write plan places w v before now k c new r x done held written took_effect 
     none false y = refl
 
     by : (q : Key) → is_data q ≡ true → (b : Bool) → takes_effect_at places k c before now ≡ b → (b ≡ true → new ≡ option_map (record_for plan k) x) → ((same_key q k ≡ true) × (q ≡ k)) ⊎ ((same_key q k ≡ false) × (q ≢ k))
-        → (if takes_effect_at places k c before now && same_key q k then new else standing places before q) ≡ option_map (record_for plan q) (if b && same_key q k then x else w.rows q)
+        → (if takes_effect_at places k c before now && same_key q k then new else stored_at places before q) ≡ option_map (record_for plan q) (if b && same_key q k then x else w.rows q)
     by q there true e f (inl s) = rw e (rw s.0 (f refl ∙ ap (λ z. option_map (record_for plan z) x) (sym s.1)))
     by q there true e f (inr s) = rw e (rw s.0 (held.records q there))
     by q there false e f s = rw e (held.records q there)
@@ -96,7 +89,7 @@ pub link_row : (plan : ℕ → Plan) (places : List Place) (w v : History) (befo
     → ((u : ℕ) → row_for v u ≡ (if done && u == t then Some (coordinator_row_of (id t) d m) else row_for w u))
     → ContainsHistory plan places v now
 link_row plan places w v before now t d m c r done held written took_effect fit rows same = record {
-  records = λ q there. written.at q ∙ rw (data_apart q t there) (none (takes_effect_at places (coordinator_key_of (id t)) c before now) (standing places before q)) ∙ held.records q there ∙ ap (option_map (record_for plan q)) (sym (rows q));
+  records = λ q there. written.at q ∙ rw (data_apart q t there) (none (takes_effect_at places (coordinator_key_of (id t)) c before now) (stored_at places before q)) ∙ held.records q there ∙ ap (option_map (record_for plan q)) (sym (rows q));
   rows = λ u fits. written.at (coordinator_key_of (id u)) ∙ by u fits done took_effect ∙ sym (same u);
 }
   where
@@ -105,11 +98,11 @@ link_row plan places w v before now t d m c r done held written took_effect fit 
     none false y = refl
 
     by : (u : ℕ) → u < 2 ^ 128 → (b : Bool) → takes_effect_at places (coordinator_key_of (id t)) c before now ≡ b
-        → (if takes_effect_at places (coordinator_key_of (id t)) c before now && same_key (coordinator_key_of (id u)) (coordinator_key_of (id t)) then Some (coordinator_row_of (id t) d m) else standing places before (coordinator_key_of (id u))) ≡ (if b && u == t then Some (coordinator_row_of (id t) d m) else row_for w u)
+        → (if takes_effect_at places (coordinator_key_of (id t)) c before now && same_key (coordinator_key_of (id u)) (coordinator_key_of (id t)) then Some (coordinator_row_of (id t) d m) else stored_at places before (coordinator_key_of (id u))) ≡ (if b && u == t then Some (coordinator_row_of (id t) d m) else row_for w u)
     by u fits b e = rw e (rw (rows_apart u t fits fit) (rw (held.rows u fits) refl))
 
 -- what leaves everything as it was
-pub link_same : (plan : ℕ → Plan) (places : List Place) (w v : History) (before now : List StoreContents) → ContainsHistory plan places w before → ((k : Key) → standing places now k ≡ standing places before k) → ((q : Key) → v.rows q ≡ w.rows q) → ((t : ℕ) → row_for v t ≡ row_for w t) → ContainsHistory plan places v now
+pub link_same : (plan : ℕ → Plan) (places : List Place) (w v : History) (before now : List StoreContents) → ContainsHistory plan places w before → ((k : Key) → stored_at places now k ≡ stored_at places before k) → ((q : Key) → v.rows q ≡ w.rows q) → ((t : ℕ) → row_for v t ≡ row_for w t) → ContainsHistory plan places v now
 link_same plan places w v before now held still rows same = record {
   records = λ q there. still q ∙ held.records q there ∙ ap (option_map (record_for plan q)) (sym (rows q));
   rows = λ t fits. still (coordinator_key_of (id t)) ∙ held.rows t fits ∙ sym (same t);
@@ -134,8 +127,8 @@ delete_call places e client key c r before now call effect fresh =
     (delete_written places call.store key c call.how r before now is fresh, ap (λ x. has_effect places x before now) call.call)
 
 -- where a write took effect its condition held
-pub took_held : (places : List Place) (k : Key) (c : Condition) (before now : List StoreContents) → takes_effect_at places k c before now ≡ true → holds c (standing places before k) ≡ true
-took_held places k c before now h = by (holds c (standing places before k)) (not (holds c (standing places now k))) h
+pub took_held : (places : List Place) (k : Key) (c : Condition) (before now : List StoreContents) → takes_effect_at places k c before now ≡ true → holds c (stored_at places before k) ≡ true
+took_held places k c before now h = by (holds c (stored_at places before k)) (not (holds c (stored_at places now k))) h
   where
     by : (a b : Bool) → a && b ≡ true → a ≡ true
     by true b h = refl

@@ -3,10 +3,8 @@ use Rattle.std.proofs.Common.{◌≡◌, ◌≢◌, ℕ, zero, suc, ◌+◌, ◌
 use Rattle.std.specs.Prelude.{slice_index, slice_index_or, All, Contains, unwrap_or}
 use Rattle.std.specs.Option.{option_map, option_map_or, option_and_then}
 use Rattle.std.specs.List.Sorted.{IsStrictlyIncreasing}
-use Rattle.sdb_types.specs.declared.txid.TxId.{TxId}
+use Rattle.law_protocol.specs.Types.{Answer, Place, Point, TxId}
 use Rattle.sdb_record.specs.declared.coordinator.Decision.TheVariants.{Committed}
-use Rattle.sdb_model.specs.declared.event.Point.{Point}
-use Rattle.sdb_types.specs.declared.place.Place.{Place}
 use Rattle.sdb_model.specs.Events.{StoreContents}
 use Rattle.sdb_model.specs.Transactions.{Executed, commit_of, point, last_prepare, Recorded, IsOrder}
 use Rattle.sdb_model.specs.Serial.{Precedes, TransactionsInRealTime}
@@ -16,7 +14,6 @@ use Rattle.law_protocol.specs.Lawful.{Labelled, id, is_denial, protocol_state}
 use Rattle.law_protocol.specs.Trace.{closing, history}
 use Rattle.law_protocol.specs.Explained.{IsRunOf, newest_first, events_of}
 use Rattle.law_protocol.specs.Faithful.{IsAnsweredCommittedAt, IsFaithful, AnswersAreTrue}
-use Rattle.sdb_model.specs.declared.answer.Answer.{Answer}
 use Rattle.sdb_model.specs.declared.answer.Answer.TheVariants as answer
 use Rattle.law_protocol.specs.Serial.{IsIn, AllAbove, IsRising, IsOrdered}
 use Rattle.law_protocol.proofs.Known.{taken_fits}
@@ -28,7 +25,7 @@ use Rattle.law_protocol.proofs.Whole.{Whole}
 use Rattle.law_protocol.proofs.Times.{whole_of, one_more, earlier_run, told_recorded, denied_never_recorded}
 use Rattle.law_protocol.proofs.Points.{point_is_last}
 
----- who was told, by number
+---- who was answered, by number
 
 decided_by : (plan : ℕ → Plan) (t n : ℕ) (w : History) (r : Action) (done : Bool) → Holds plan w → Allowed plan w r done → (w.row t ≡ Some Committed) × (w.decided_at t ≤ n) → ((happens plan w r done).row t ≡ Some Committed) × ((happens plan w r done).decided_at t ≤ n)
 decided_by plan t n w r done i a h = (row_kept plan w r done t Committed a h.0, below (happens plan w r done).decided_at (decided_kept plan w r done t a (some h.0)).1 h.1)
@@ -40,8 +37,8 @@ decided_by plan t n w r done i a h = (row_kept plan w r done t Committed a h.0, 
     below f e l = omega arith
 
 pub told_decided : (plan : ℕ → Plan) (places : List Place) (opening : List StoreContents) (past : List Labelled) (ss : List (List StoreContents)) (t n : ℕ) → IsRunOf plan places opening past ss → IsAnsweredCommittedAt past t n → ((history plan places opening past ss).row t ≡ Some Committed) × ((history plan places opening past ss).decided_at t ≤ n)
-told_decided plan places opening [] ss t n r told = absurd told
-told_decided plan places opening (p ∷ past) [] t n r told = absurd r.traced
+told_decided plan places opening [] ss t n r answered = absurd acked
+told_decided plan places opening (p ∷ past) [] t n r answered = absurd r.traced
 told_decided plan places opening (p ∷ past) (s ∷ ss) t n r (inl h) =
     let now = whole_of plan places opening (p ∷ past) (s ∷ ss) r in
     let row = told_recorded plan places opening (p ∷ past) (s ∷ ss) t r (inl (h.0, h.1)) in
@@ -114,34 +111,34 @@ split_at [] t m = absurd m
 split_at (p ∷ ps) t (inl e) = ([], p.event, ps, ap (λ x. record { id = x; event = p.event } ∷ ps) e)
 split_at (p ∷ ps) t (inr m) = let s = split_at ps t m in (p ∷ s.0, s.1, s.2, ap (λ x. p ∷ x) s.3)
 
-stands : (f : TxId → ℕ) (ps : List Point) (early late : TxId) → AreAt f ps → Rises ps → IsAt early ps → IsAt late ps → f early < f late → Precedes ps early late
-stands f [] early late a r m n l = absurd m
-stands f (p ∷ ps) early late a r (inl e) (inl g) l = absurd (irrefl (f early) (subst (λ x. f early < f x) (sym g ∙ e) l))
+agrees : (f : TxId → ℕ) (ps : List Point) (early late : TxId) → AreAt f ps → Rises ps → IsAt early ps → IsAt late ps → f early < f late → Precedes ps early late
+agrees f [] early late a r m n l = absurd m
+agrees f (p ∷ ps) early late a r (inl e) (inl g) l = absurd (irrefl (f early) (subst (λ x. f early < f x) (sym g ∙ e) l))
   where
     irrefl : (x : ℕ) → x < x → ⊥
     irrefl x l = omega arith
-stands f (p ∷ ps) early late a r (inl e) (inr n) l =
+agrees f (p ∷ ps) early late a r (inl e) (inr n) l =
     let s = split_at ps late n in
     record { front = []; middle = s.0; back = s.2; at = p.event; later_at = s.1; same = ap (λ x. record { id = x; event = p.event } ∷ ps) e ∙ ap (λ x. record { id = early; event = p.event } ∷ x) s.3 }
-stands f (p ∷ ps) early late a r (inr m) (inl g) l = absurd (cross (f early) (f late) l (subst (λ x. x < f early) (a.0 ∙ ap f g) (past_at f p.event ps early a.1 r.0 m)))
+agrees f (p ∷ ps) early late a r (inr m) (inl g) l = absurd (cross (f early) (f late) l (subst (λ x. x < f early) (a.0 ∙ ap f g) (past_at f p.event ps early a.1 r.0 m)))
   where
     cross : (x y : ℕ) → x < y → y < x → ⊥
     cross x y l g = omega arith
-stands f (p ∷ ps) early late a r (inr m) (inr n) l =
-    let s = stands f ps early late a.1 r.1 m n l in
+agrees f (p ∷ ps) early late a r (inr m) (inr n) l =
+    let s = agrees f ps early late a.1 r.1 m n l in
     record { front = p ∷ s.front; middle = s.middle; back = s.back; at = s.at; later_at = s.later_at; same = ap (λ x. p ∷ x) s.same }
 
 ---- real time
 
-pub point_of : (plan : ℕ → Plan) (places : List Place) (opening : List StoreContents) (labelled : List Labelled) (ss : List (List StoreContents)) (t : ℕ) → IsRunOf plan places opening (newest_first labelled) ss → IsFaithful (events_of labelled) (newest_first labelled) → t < 2 ^ 128 → (protocol_state (newest_first labelled)).taken t ≡ true → point (events_of labelled) (id t) ≡ (protocol_state (newest_first labelled)).point t
-point_of plan places opening labelled ss t r faithful fits taken =
-    ap (unwrap_or (last_prepare (events_of labelled) (id t))) (faithful.taken t taken) ∙ sym (point_is_last plan places opening labelled ss t r fits taken)
+pub point_of : (plan : ℕ → Plan) (places : List Place) (opening : List StoreContents) (labelled : List Labelled) (ss : List (List StoreContents)) (t : ℕ) → IsRunOf plan places opening (newest_first labelled) ss → IsFaithful (events_of labelled) (newest_first labelled) → t < 2 ^ 128 → (protocol_state (newest_first labelled)).accepted t ≡ true → point (events_of labelled) (id t) ≡ (protocol_state (newest_first labelled)).point t
+point_of plan places opening labelled ss t r faithful fits accepted =
+    ap (unwrap_or (last_prepare (events_of labelled) (id t))) (faithful.accepted t accepted) ∙ sym (point_is_last plan places opening labelled ss t r fits accepted)
 
 pub keeps_real_time : (plan : ℕ → Plan) (places : List Place) (opening : List StoreContents) (labelled : List Labelled) (ss : List (List StoreContents)) (order : List Point) → IsRunOf plan places opening (newest_first labelled) ss → IsFaithful (events_of labelled) (newest_first labelled) → IsOrder places (events_of labelled) (closing opening ss) order → TransactionsInRealTime places (events_of labelled) (closing opening ss) order
-keeps_real_time plan places opening labelled ss order r faithful o early late fits_early fits_late s commit told recorded m n ended begun lt =
-    stands (point (events_of labelled)) order early late (are_at (point (events_of labelled)) order o.points) (rises order o.rising)
+keeps_real_time plan places opening labelled ss order r faithful o early late fits_early fits_late s commit acked recorded m n ended begun lt =
+    agrees (point (events_of labelled)) order early late (are_at (point (events_of labelled)) order o.points) (rises order o.rising)
     (among early fits_early (row_recorded plan places w past end early.0 i fits_early decided.0)) (among late fits_late recorded)
-    (less (point_of plan places opening labelled ss early.0 r faithful fits_early (taken early.0 decided.0)) (point_of plan places opening labelled ss late.0 r faithful fits_late (taken late.0 row)) below)
+    (less (point_of plan places opening labelled ss early.0 r faithful fits_early (accepted early.0 decided.0)) (point_of plan places opening labelled ss late.0 r faithful fits_late (accepted late.0 row)) below)
   where
     past : List Labelled
     past = newest_first labelled
@@ -156,19 +153,19 @@ keeps_real_time plan places opening labelled ss order r faithful o early late fi
     i = whole_of plan places opening (newest_first labelled) ss r
 
     decided : ((history plan places opening (newest_first labelled) ss).row early.0 ≡ Some Committed) × ((history plan places opening (newest_first labelled) ss).decided_at early.0 ≤ s.reached)
-    decided = told_decided plan places opening (newest_first labelled) ss early.0 s.reached r (faithful.told early.0 s fits_early commit told)
+    decided = told_decided plan places opening (newest_first labelled) ss early.0 s.reached r (faithful.answered early.0 s fits_early commit acked)
 
     reached : s.reached ≡ m
-    reached = ap (λ (o : Option ℕ). unwrap_or o 0) (ap (option_map (λ (a : Answer). s.reached)) (sym told) ∙ ended)
+    reached = ap (λ (o : Option ℕ). unwrap_or o 0) (ap (option_map (λ (a : Answer). s.reached)) (sym acked) ∙ ended)
 
     row : (history plan places opening (newest_first labelled) ss).row late.0 ≡ Some Committed
     row = recorded_row plan places (history plan places opening (newest_first labelled) ss) (newest_first labelled) (closing opening ss) late.0 i fits_late recorded
 
-    taken : (t : ℕ) → (history plan places opening (newest_first labelled) ss).row t ≡ Some Committed → (protocol_state (newest_first labelled)).taken t ≡ true
-    taken t h = subst (λ (x : ProtocolState). x.taken t ≡ true) (sym i.knows.talks) (here h)
+    accepted : (t : ℕ) → (history plan places opening (newest_first labelled) ss).row t ≡ Some Committed → (protocol_state (newest_first labelled)).accepted t ≡ true
+    accepted t h = subst (λ (x : ProtocolState). x.accepted t ≡ true) (sym i.knows.talks) (here h)
       where
-        here : (history plan places opening (newest_first labelled) ss).row t ≡ Some Committed → (history plan places opening (newest_first labelled) ss).protocol.taken t ≡ true
-        here h = grind (arith, i.all.one.taken t any_key 0)
+        here : (history plan places opening (newest_first labelled) ss).row t ≡ Some Committed → (history plan places opening (newest_first labelled) ss).protocol.accepted t ≡ true
+        here h = grind (arith, i.all.one.accepted t any_key 0)
 
     among : (t : TxId) → t.0 < 2 ^ 128 → Recorded places (closing opening ss) t → IsAt t order
     among t fits rec = let c = (o.recorded t fits).1 rec in at_of order t c.0 c.1 c.2
@@ -177,7 +174,7 @@ keeps_real_time plan places opening labelled ss order r faithful o early late fi
     began = faithful.begun late.0 n fits_late begun
 
     below : (protocol_state (newest_first labelled)).point early.0 < (protocol_state (newest_first labelled)).point late.0
-    below = subst (λ (x : ProtocolState). x.point early.0 < x.point late.0) (sym i.knows.talks) (chain (i.all.one.decided early.0 decided.0).point decided.1 reached (subst (λ (x : ProtocolState). x.begun late.0 ≡ n) i.knows.talks began) ((i.all.one.begun late.0).1 (subst (λ (x : ProtocolState). x.taken late.0 ≡ true) i.knows.talks (taken late.0 row))).1)
+    below = subst (λ (x : ProtocolState). x.point early.0 < x.point late.0) (sym i.knows.talks) (chain (i.all.one.decided early.0 decided.0).point decided.1 reached (subst (λ (x : ProtocolState). x.begun late.0 ≡ n) i.knows.talks began) ((i.all.one.begun late.0).1 (subst (λ (x : ProtocolState). x.accepted late.0 ≡ true) i.knows.talks (accepted late.0 row))).1)
       where
         chain : {a b c d k : ℕ} → a < b → b ≤ k → k ≡ m → c ≡ n → c < d → a < d
         chain x y r z u = omega arith
@@ -241,11 +238,11 @@ ordered_of plan places opening labelled ss order r faithful o fit = record {
     i : Whole plan places (history plan places opening (newest_first labelled) ss) (newest_first labelled) (closing opening ss)
     i = whole_of plan places opening (newest_first labelled) ss r
 
-    taken : (t : ℕ) → (history plan places opening (newest_first labelled) ss).row t ≡ Some Committed → (history plan places opening (newest_first labelled) ss).protocol.taken t ≡ true
-    taken t h = grind (arith, i.all.one.taken t any_key 0)
+    accepted : (t : ℕ) → (history plan places opening (newest_first labelled) ss).row t ≡ Some Committed → (history plan places opening (newest_first labelled) ss).protocol.accepted t ≡ true
+    accepted t h = grind (arith, i.all.one.accepted t any_key 0)
 
     row_fits : (t : ℕ) → (history plan places opening (newest_first labelled) ss).row t ≡ Some Committed → t < 2 ^ 128
-    row_fits t h = taken_fits (history plan places opening (newest_first labelled) ss) t i.all.one.begun i.knows.fits (taken t h)
+    row_fits t h = taken_fits (history plan places opening (newest_first labelled) ss) t i.all.one.begun i.knows.fits (accepted t h)
 
     among : (t : ℕ) → t < 2 ^ 128 → (history plan places opening (newest_first labelled) ss).row t ≡ Some Committed → IsAt (id t) order
     among t fits h = let c = (o.recorded (id t) fits).1 (row_recorded plan places (history plan places opening (newest_first labelled) ss) (newest_first labelled) (closing opening ss) t i fits h) in at_of order (id t) c.0 c.1 c.2
@@ -256,8 +253,8 @@ ordered_of plan places opening labelled ss order r faithful o fit = record {
     points : (ps : List Point) → ((t : TxId) → IsAt t ps → IsAt t order) → AreAt (point (events_of labelled)) ps → AllFit ps → ArePoints (history plan places opening (newest_first labelled) ss) ps
     points [] inside a f = tt
     points (p ∷ ps) inside a f =
-        let here = taken p.id.0 (member p.id f.0 (inside p.id (inl refl))) in
-        (a.0 ∙ point_of plan places opening labelled ss p.id.0 r faithful f.0 (subst (λ (x : ProtocolState). x.taken p.id.0 ≡ true) (sym i.knows.talks) here) ∙ ap (λ (x : ProtocolState). x.point p.id.0) i.knows.talks, points ps (λ t m. inside t (inr m)) a.1 f.1)
+        let here = accepted p.id.0 (member p.id f.0 (inside p.id (inl refl))) in
+        (a.0 ∙ point_of plan places opening labelled ss p.id.0 r faithful f.0 (subst (λ (x : ProtocolState). x.accepted p.id.0 ≡ true) (sym i.knows.talks) here) ∙ ap (λ (x : ProtocolState). x.point p.id.0) i.knows.talks, points ps (λ t m. inside t (inr m)) a.1 f.1)
 
 ---- answers
 
@@ -270,28 +267,28 @@ no_denial _ h = absurd (cc)
 pub answers_true : (plan : ℕ → Plan) (places : List Place) (opening : List StoreContents) (labelled : List Labelled) (ss : List (List StoreContents)) → IsRunOf plan places opening (newest_first labelled) ss → IsFaithful (events_of labelled) (newest_first labelled) → AnswersAreTrue places (events_of labelled) (closing opening ss)
 answers_true plan places opening labelled ss r faithful = record {
   committed = λ t fits e. committed t fits (commit_of (events_of labelled) t) refl e;
-  owned = λ client s among told.
-      let o = faithful.owned client s among told in
-      record { id = id o.t; fits = o.fits; owner = o.owner; commit = o.commit; recorded = committed (id o.t) o.fits (commit_of (events_of labelled) (id o.t)) refl (ap (option_and_then (λ (x : Executed). x.answer)) o.commit ∙ told) };
+  owned = λ client s among acked.
+      let o = faithful.owned client s among acked in
+      record { id = id o.t; fits = o.fits; owner = o.owner; commit = o.commit; recorded = committed (id o.t) o.fits (commit_of (events_of labelled) (id o.t)) refl (ap (option_and_then (λ (x : Executed). x.answer)) o.commit ∙ acked) };
   known = λ t fits rec. known t fits (recorded_row plan places (history plan places opening (newest_first labelled) ss) (newest_first labelled) (closing opening ss) t.0 i fits rec) (commit_of (events_of labelled) t) refl;
 }
   where
     i : Whole plan places (history plan places opening (newest_first labelled) ss) (newest_first labelled) (closing opening ss)
     i = whole_of plan places opening (newest_first labelled) ss r
 
-    taken : (t : ℕ) → (history plan places opening (newest_first labelled) ss).row t ≡ Some Committed → (protocol_state (newest_first labelled)).taken t ≡ true
-    taken t h = subst (λ (x : ProtocolState). x.taken t ≡ true) (sym i.knows.talks) (here h)
+    accepted : (t : ℕ) → (history plan places opening (newest_first labelled) ss).row t ≡ Some Committed → (protocol_state (newest_first labelled)).accepted t ≡ true
+    accepted t h = subst (λ (x : ProtocolState). x.accepted t ≡ true) (sym i.knows.talks) (here h)
       where
-        here : (history plan places opening (newest_first labelled) ss).row t ≡ Some Committed → (history plan places opening (newest_first labelled) ss).protocol.taken t ≡ true
-        here h = grind (arith, i.all.one.taken t any_key 0)
+        here : (history plan places opening (newest_first labelled) ss).row t ≡ Some Committed → (history plan places opening (newest_first labelled) ss).protocol.accepted t ≡ true
+        here h = grind (arith, i.all.one.accepted t any_key 0)
 
     committed : (t : TxId) → t.0 < 2 ^ 128 → (o : Option Executed) → commit_of (events_of labelled) t ≡ o → option_and_then (λ (x : Executed). x.answer) o ≡ Some answer.Committed → Recorded places (closing opening ss) t
     committed t fits None e f = absurd (cc)
-    committed t fits (Some x) e f = row_recorded plan places (history plan places opening (newest_first labelled) ss) (newest_first labelled) (closing opening ss) t.0 i fits (told_decided plan places opening (newest_first labelled) ss t.0 x.reached r (faithful.told t.0 x fits e f)).0
+    committed t fits (Some x) e f = row_recorded plan places (history plan places opening (newest_first labelled) ss) (newest_first labelled) (closing opening ss) t.0 i fits (told_decided plan places opening (newest_first labelled) ss t.0 x.reached r (faithful.answered t.0 x fits e f)).0
 
     answered : (t : TxId) → t.0 < 2 ^ 128 → (history plan places opening (newest_first labelled) ss).row t.0 ≡ Some Committed → (x : Executed) → commit_of (events_of labelled) t ≡ Some x → (a : Option Answer) → x.answer ≡ a → (d : Bool) → option_map_or is_denial a false ≡ d → (a ≡ Some answer.Committed) ⊎ (a ≡ Some (answer.Unknown t)) ⊎ (a ≡ None)
     answered t fits row x e None f d g = inr (inr refl)
-    answered t fits row x e (Some a) f true g = absurd (denied_never_recorded plan places opening (newest_first labelled) ss t.0 r (faithful.denied t.0 x a fits e f g (taken t.0 row)) row)
+    answered t fits row x e (Some a) f true g = absurd (denied_never_recorded plan places opening (newest_first labelled) ss t.0 r (faithful.denied t.0 x a fits e f g (accepted t.0 row)) row)
     answered t fits row x e (Some a) f false g = elim (no_denial a g) [
       | inl c ↦ inl (ap (λ y. Some y) c)
       | inr u ↦ inr (inl (ap (λ y. Some y) u.1 ∙ ap (λ y. Some (answer.Unknown y)) (faithful.unknown t.0 x u.0 e (f ∙ ap (λ y. Some y) u.1))))

@@ -4,16 +4,10 @@ use Rattle.std.specs.Prelude.{IsSomeAnd, fold, ◌==◌, ◌||◌, ◌&&◌, not
 use Rattle.std.specs.Option.{option_map}
 use Rattle.std.proofs.lemmas.List.{take-append-drop, length-take-le, length-drop, length-append, length-map, map-append}
 use Rattle.std.proofs.lemmas.List.Sums.{fold-append}
-use Rattle.sdb_types.specs.declared.key.Key.{Key}
-use Rattle.sdb_types.specs.declared.key.TableName.{TableName}
-use Rattle.sdb_types.specs.declared.txid.TxId.{TxId}
-use Rattle.sdb_types.specs.declared.record.Record.{Record}
+use Rattle.law_protocol.specs.Types.{Decided, Decision, Event, Key, Place, Record, Table, TableName, TxId}
 use Rattle.sdb_types.specs.declared.record.Condition.TheVariants as condition
 use Rattle.sdb_types.specs.declared.record.Request.TheVariants as ask
 use Rattle.sdb_types.specs.declared.record.State.TheVariants as state
-use Rattle.sdb_schema.specs.declared.table.Table.{Table}
-use Rattle.sdb_record.specs.declared.coordinator.Decided.{Decided}
-use Rattle.sdb_record.specs.declared.coordinator.Decision.{Decision}
 use Rattle.sdb_record.specs.declared.coordinator.Decision.TheVariants.{Aborted}
 use Rattle.sdb_record.specs.Names.{same_name}
 use Rattle.sdb_record.specs.Coordinator.{coordinator_key_of, coordinator_row_of, coordinator_table, is_coordinator_table}
@@ -22,10 +16,8 @@ use Rattle.sdb_record.specs.Meta.{id_in, is_in}
 use Rattle.sdb_record.specs.Moved.{version_of, condition_of}
 use Rattle.sdb_record.specs.Parts.{before_record}
 use Rattle.sdb_record.specs.Rolls.{prepared_record}
-use Rattle.sdb_model.specs.declared.event.Event.{Event}
-use Rattle.sdb_types.specs.declared.place.Place.{Place}
 use Rattle.sdb_model.specs.Exec.{find_table}
-use Rattle.sdb_model.specs.Events.{StoreContents, contact_of, standing, moment}
+use Rattle.sdb_model.specs.Events.{StoreContents, contact_of, stored_at, moment}
 use Rattle.sdb_model.specs.Transactions.{is_prepared_record}
 use Rattle.sdb_model.specs.Explained.{IsTableKey, CommittedRecorded, AbortedRemoved, IsAborted, RowsFinal, UnresolvedPrepared, PreparedPersists, IsPrepareOf, IsPreparedAfter}
 use Rattle.sdb_model.proofs.Requests.{in_only}
@@ -72,21 +64,21 @@ apart_from catalog none = record { outside = λ key table. by key table (is_coor
 
 ---- at one moment
 
-committed : (plan : ℕ → Plan) (places : List Place) (w : History) (past : List Labelled) (shelves : List StoreContents) (catalog : List Table) → Whole plan places w past shelves → IsApart catalog → CommittedRecorded catalog places shelves
-committed plan places w past shelves catalog i apart key r table at firm =
-    let c = committed_is_canon plan places w past shelves i key r (apart.outside key table) at firm in
+committed : (plan : ℕ → Plan) (places : List Place) (w : History) (past : List Labelled) (store_contents : List StoreContents) (catalog : List Table) → Whole plan places w past store_contents → IsApart catalog → CommittedRecorded catalog places store_contents
+committed plan places w past store_contents catalog i apart key r table at firm =
+    let c = committed_is_canon plan places w past store_contents i key r (apart.outside key table) at firm in
     (id c.t, c.writer, c.recorded)
 
-aborted_row : (plan : ℕ → Plan) (places : List Place) (w : History) (past : List Labelled) (shelves : List StoreContents) (t : ℕ) → Whole plan places w past shelves → t < 2 ^ 128 → IsAborted places shelves (id t) → w.row t ≡ Some Aborted
-aborted_row plan places w past shelves t i fits a = by (w.row t) refl (subst (λ (x : Option Decided). IsSomeAnd x (λ d. d.decision ≡ Aborted)) (decision_is plan places w past shelves t i fits) a)
+aborted_row : (plan : ℕ → Plan) (places : List Place) (w : History) (past : List Labelled) (store_contents : List StoreContents) (t : ℕ) → Whole plan places w past store_contents → t < 2 ^ 128 → IsAborted places store_contents (id t) → w.row t ≡ Some Aborted
+aborted_row plan places w past store_contents t i fits a = by (w.row t) refl (subst (λ (x : Option Decided). IsSomeAnd x (λ d. d.decision ≡ Aborted)) (decision_is plan places w past store_contents t i fits) a)
   where
     by : (o : Option Decision) → w.row t ≡ o → IsSomeAnd (option_map (λ d. record { decision = d; created_at = w.moment t }) o) (λ (d : Decided). d.decision ≡ Aborted) → w.row t ≡ Some Aborted
     by None e h = absurd h
     by (Some d) e h = e ∙ ap (λ x. Some x) h
 
-gone : (plan : ℕ → Plan) (places : List Place) (w : History) (past : List Labelled) (shelves : List StoreContents) (catalog : List Table) → Whole plan places w past shelves → IsApart catalog → AbortedRemoved catalog places shelves
-gone plan places w past shelves catalog i apart t key r fits aborted table at =
-    let g = aborted_gone plan places w past shelves i t.0 key r (aborted_row plan places w past shelves t.0 i fits aborted) (apart.outside key table) at in
+gone : (plan : ℕ → Plan) (places : List Place) (w : History) (past : List Labelled) (store_contents : List StoreContents) (catalog : List Table) → Whole plan places w past store_contents → IsApart catalog → AbortedRemoved catalog places store_contents
+gone plan places w past store_contents catalog i apart t key r fits aborted table at =
+    let g = aborted_gone plan places w past store_contents i t.0 key r (aborted_row plan places w past store_contents t.0 i fits aborted) (apart.outside key table) at in
     record { committed = g.0; before = g.1 }
 
 ---- lists turned round
@@ -214,8 +206,8 @@ rows_put plan w t k word (Some u) = put_here plan w t k word
 -- what an event that is a prepare of a key, and took effect, put there, and over what
 record IsPut (plan : ℕ → Plan) (places : List Place) (t : ℕ) (k : Key) (e : Event) (old new : List StoreContents) : Type 0 where
   put : IsPrepareOf (id t) (record_prepared_by plan t k) e
-  before : standing places old (record_prepared_by plan t k).key ≡ before_record (record_prepared_by plan t k)
-  after : standing places new (record_prepared_by plan t k).key ≡ Some (record_prepared_by plan t k)
+  before : stored_at places old (record_prepared_by plan t k).key ≡ before_record (record_prepared_by plan t k)
+  after : stored_at places new (record_prepared_by plan t k).key ≡ Some (record_prepared_by plan t k)
 
 put_is : (plan : ℕ → Plan) (places : List Place) (opening : List StoreContents) (early : List Labelled) (p : Labelled) (es : List (List StoreContents)) (s : List StoreContents) (t : ℕ) (k : Key) (word : Ack) → IsRunOf plan places opening (p ∷ early) (s ∷ es) → p.action ≡ Prepares t k word → has_effect places p.event (closing opening es) s ≡ true → IsPut plan places t k p.event (closing opening es) s
 put_is plan places opening early p es s t k word r action done = record {
@@ -225,8 +217,8 @@ put_is plan places opening early p es s t k word r action done = record {
     puts = in_only (prepared_record m.write (id t) (plan t).now) (record_prepared_by plan t k) (held_is plan t k m.write m.at);
     prepare = held_prepares plan t t k (condition_of (version_of m.write.base)) fits fits ∙ itself t;
   };
-  before = ap (standing places (closing opening es)) key ∙ stood_before plan places opening early p es s t k word r action done;
-  after = ap (standing places s) key ∙ i.held.records k (took_data plan w (p ∷ early) t k i.knows put.1) ∙ ap (option_map (record_for plan k)) put.0;
+  before = ap (stored_at places (closing opening es)) key ∙ stood_before plan places opening early p es s t k word r action done;
+  after = ap (stored_at places s) key ∙ i.held.records k (took_data plan w (p ∷ early) t k i.knows put.1) ∙ ap (option_map (record_for plan k)) put.0;
 }
   where
     m : MayPrepare plan early p.event t k word
@@ -244,7 +236,7 @@ put_is plan places opening early p es s t k word r action done = record {
         (rows_put plan (history plan places opening early es) t k word p.ends))
 
     fits : t < 2 ^ 128
-    fits = taken_fits w t i.all.one.begun i.knows.fits (took_is_taken w t k i.all.one.taken put.1)
+    fits = taken_fits w t i.all.one.begun i.knows.fits (took_is_taken w t k i.all.one.accepted put.1)
 
     key : (record_prepared_by plan t k).key ≡ k
     key = held_key plan t k (i.knows.inv.asked t k ((i.knows.inv.took_effect t k).0 put.1).0)
@@ -311,8 +303,8 @@ put_after plan places opening front back ms more t key same r took_effect = (eve
       back = events_of (newest_first b.later) ++ events_of back;
       at = events_is;
       put = put.put;
-      before = ap (λ y. standing places y (record_prepared_by plan t key).key) before_is ∙ put.before;
-      after = ap (λ y. standing places y (record_prepared_by plan t key).key) after_is ∙ put.after;
+      before = ap (λ y. stored_at places y (record_prepared_by plan t key).key) before_is ∙ put.before;
+      after = ap (λ y. stored_at places y (record_prepared_by plan t key).key) after_is ∙ put.after;
     }
 
 unresolved : (plan : ℕ → Plan) (places : List Place) (opening : List StoreContents) (front back : List Labelled) (ms more : List (List StoreContents)) (catalog : List Table) → length back ≡ length more → IsRunOf plan places opening (newest_first (front ++ back)) (newest_first (ms ++ more)) → IsApart catalog → UnresolvedPrepared catalog places (events_of (front ++ back)) opening (ms ++ more) (length ms)
@@ -324,7 +316,7 @@ unresolved plan places opening front back ms more catalog same r apart key x tab
     run = early_run plan places opening front back ms more same r
 
     u : IsPreparedRecord plan (history plan places opening (newest_first front) (newest_first ms)) key x
-    u = unresolved_prepared plan places (history plan places opening (newest_first front) (newest_first ms)) (newest_first front) (closing opening (newest_first ms)) (whole_of plan places opening (newest_first front) (newest_first ms) run) key x (apart.outside key table) (ap (λ y. standing places y key) (sym (moment_at opening ms more)) ∙ at) open_state
+    u = unresolved_prepared plan places (history plan places opening (newest_first front) (newest_first ms)) (newest_first front) (closing opening (newest_first ms)) (whole_of plan places opening (newest_first front) (newest_first ms) run) key x (apart.outside key table) (ap (λ y. stored_at places y key) (sym (moment_at opening ms more)) ∙ at) open_state
 
 ---- what a transaction without a row prepared is there
 
@@ -344,7 +336,7 @@ put_writer t r fits h = by (is_version t state.Prepared r) refl
 
 -- the prefix of a run that ends with an event after `front`, and that its record was prepared by then
 pub took_by : (plan : ℕ → Plan) (places : List Place) (opening : List StoreContents) (early later : List Labelled) (es ls : List (List StoreContents)) (t : TxId) (r : Record) → length later ≡ length ls → IsRunOf plan places opening (newest_first (early ++ later)) (newest_first (es ++ ls))
-    → t.0 < 2 ^ 128 → is_data r.key ≡ true → is_prepared_record t r ≡ true → standing places (closing opening (newest_first es)) r.key ≡ Some r
+    → t.0 < 2 ^ 128 → is_data r.key ≡ true → is_prepared_record t r ≡ true → stored_at places (closing opening (newest_first es)) r.key ≡ Some r
     → ((history plan places opening (newest_first (early ++ later)) (newest_first (es ++ ls))).took_effect t.0 r.key ≡ true) × (r ≡ record_prepared_by plan t.0 r.key)
 took_by plan places opening early later es ls t r same run fits outside prepare at = (still, subst (λ n. r ≡ record_prepared_by plan n r.key) number u.same)
   where
@@ -375,9 +367,9 @@ no_row w t h = by (w.row t) refl h
     by None e h = e
     by (Some d) e h = absurd (cc)
 
-stands : (plan : ℕ → Plan) (places : List Place) (opening : List StoreContents) (front back : List Labelled) (ms more : List (List StoreContents)) (catalog : List Table) → length front ≡ length ms → length back ≡ length more → IsRunOf plan places opening (newest_first (front ++ back)) (newest_first (ms ++ more)) → IsApart catalog → PreparedPersists catalog places (events_of (front ++ back)) opening (ms ++ more) (length ms)
-stands plan places opening front back ms more catalog even same r apart t x before fits table below p none =
-    ap (λ y. standing places y x.key) (moment_at opening ms more) ∙ prepared_stands plan places (history plan places opening (newest_first front) (newest_first ms)) (newest_first front) (closing opening (newest_first ms)) whole t.0 x.key took_effect.0 row ∙ ap (λ y. Some y) (sym took_effect.1)
+agrees : (plan : ℕ → Plan) (places : List Place) (opening : List StoreContents) (front back : List Labelled) (ms more : List (List StoreContents)) (catalog : List Table) → length front ≡ length ms → length back ≡ length more → IsRunOf plan places opening (newest_first (front ++ back)) (newest_first (ms ++ more)) → IsApart catalog → PreparedPersists catalog places (events_of (front ++ back)) opening (ms ++ more) (length ms)
+agrees plan places opening front back ms more catalog even same r apart t x before fits table below p none =
+    ap (λ y. stored_at places y x.key) (moment_at opening ms more) ∙ prepared_stands plan places (history plan places opening (newest_first front) (newest_first ms)) (newest_first front) (closing opening (newest_first ms)) whole t.0 x.key took_effect.0 row ∙ ap (λ y. Some y) (sym took_effect.1)
   where
     n : ℕ
     n = suc (length before)
@@ -389,7 +381,7 @@ stands plan places opening front back ms more catalog even same r apart t x befo
     whole = whole_of plan places opening (newest_first front) (newest_first ms) run
 
     row : (history plan places opening (newest_first front) (newest_first ms)).row t.0 ≡ None
-    row = no_row (history plan places opening (newest_first front) (newest_first ms)) t.0 (sym (whole.held.rows t.0 fits) ∙ ap (λ y. standing places y (coordinator_key_of t)) (sym (moment_at opening ms more)) ∙ none)
+    row = no_row (history plan places opening (newest_first front) (newest_first ms)) t.0 (sym (whole.held.rows t.0 fits) ∙ ap (λ y. stored_at places y (coordinator_key_of t)) (sym (moment_at opening ms more)) ∙ none)
 
     at_most : n ≤ length ms
     at_most = omega (arith, below)
@@ -410,7 +402,7 @@ stands plan places opening front back ms more catalog even same r apart t x befo
         (subst (λ y. ((history plan places opening (newest_first (take n front ++ drop n front)) (newest_first y)).took_effect t.0 x.key ≡ true) × (x ≡ record_prepared_by plan t.0 x.key)) (take-append-drop n ms)
         (took_by plan places opening (take n front) (drop n front) (take n ms) (drop n ms) t x (length-drop n front ∙ ap (λ y. y - n) even ∙ sym (length-drop n ms))
         (subst (λ y. IsRunOf plan places opening (newest_first y) (newest_first (take n ms ++ drop n ms))) (sym (take-append-drop n front)) (subst (λ y. IsRunOf plan places opening (newest_first front) (newest_first y)) parts run))
-        fits (apart.outside x.key table) p.put.prepare (ap (λ y. standing places y x.key) (sym first) ∙ p.after)))
+        fits (apart.outside x.key table) p.put.prepare (ap (λ y. stored_at places y x.key) (sym first) ∙ p.after)))
 
 ---- the laws
 
@@ -448,7 +440,7 @@ pub took_of : (plan : ℕ → Plan) (places : List Place) (opening : List StoreC
 took_of plan places opening labelled moments t x before r fits outside p =
     subst (λ y. ((history plan places opening (newest_first y) (newest_first moments)).took_effect t.0 x.key ≡ true) × (x ≡ record_prepared_by plan t.0 x.key)) (take-append-drop n labelled)
     (subst (λ y. ((history plan places opening (newest_first (take n labelled ++ drop n labelled)) (newest_first y)).took_effect t.0 x.key ≡ true) × (x ≡ record_prepared_by plan t.0 x.key)) (take-append-drop n moments)
-    (took_by plan places opening (take n labelled) (drop n labelled) (take n moments) (drop n moments) t x c.same c.whole fits outside p.put.prepare (ap (λ y. standing places y x.key) (sym (at_cut opening moments n c.size)) ∙ p.after)))
+    (took_by plan places opening (take n labelled) (drop n labelled) (take n moments) (drop n moments) t x c.same c.whole fits outside p.put.prepare (ap (λ y. stored_at places y x.key) (sym (at_cut opening moments n c.size)) ∙ p.after)))
   where
     n : ℕ
     n = suc (length before)
@@ -489,11 +481,11 @@ stands_at plan places opening labelled moments catalog n r none h =
     subst (PreparedPersists catalog places (events_of labelled) opening moments) c.size
     (subst (λ y. PreparedPersists catalog places (events_of labelled) opening y (length (take n moments))) (take-append-drop n moments)
     (subst (λ y. PreparedPersists catalog places (events_of y) opening (take n moments ++ drop n moments) (length (take n moments))) (take-append-drop n labelled)
-    (stands plan places opening (take n labelled) (drop n labelled) (take n moments) (drop n moments) catalog c.even c.same c.whole (apart_from catalog none))))
+    (agrees plan places opening (take n labelled) (drop n labelled) (take n moments) (drop n moments) catalog c.even c.same c.whole (apart_from catalog none))))
 
 pub rows_at : (plan : ℕ → Plan) (places : List Place) (opening : List StoreContents) (labelled : List Labelled) (moments : List (List StoreContents)) (early late : ℕ) → IsRunOf plan places opening (newest_first labelled) (newest_first moments) → early ≤ late → late ≤ length moments → RowsFinal places (moment opening moments early) (moment opening moments late)
 rows_at plan places opening labelled moments early late r below h id row fits at =
-    ap (λ y. standing places y (coordinator_key_of id)) (at_cut opening moments late c.size) ∙ later id.0 row fits (ap (λ y. standing places y (coordinator_key_of id)) (sym first) ∙ at)
+    ap (λ y. stored_at places y (coordinator_key_of id)) (at_cut opening moments late c.size) ∙ later id.0 row fits (ap (λ y. stored_at places y (coordinator_key_of id)) (sym first) ∙ at)
   where
     c : IsCut plan places opening labelled moments late
     c = cut plan places opening labelled moments late r h

@@ -3,12 +3,10 @@ use Rattle.std.proofs.Common.{◌≡◌, ℕ, ◌+◌, Bool, false, cond, List, 
 use Rattle.std.specs.Prelude.{map, fold, find, filter, take_while, not, nat_lt, ◌&&◌, ◌||◌, unwrap_or, length}
 use Rattle.std.specs.List.{count_by, list_any, enumerate_from}
 use Rattle.std.specs.Option.{option_map, option_map_or, option_and_then}
-use Rattle.sdb_types.specs.declared.txid.TxId.{TxId}
+use Rattle.law_protocol.specs.Types.{Event, ScriptClient, TxId}
 use Rattle.sdb_types.specs.declared.record.Reply.TheVariants as reply
-use Rattle.sdb_model.specs.declared.event.Event.{Event}
 use Rattle.sdb_model.specs.declared.event.Event.TheVariants as event
 use Rattle.sdb_model.specs.declared.event.How.TheVariants.{Seen, Lost, Discarded, Broken}
-use Rattle.sdb_model.specs.declared.script.ScriptClient.{ScriptClient}
 use Rattle.sdb_model.specs.Sql.{reads_commit}
 use Rattle.sdb_model.specs.Rows.{Name}
 use Rattle.sdb_model.specs.Follows.{is_take_of, stops, pends_after, takes_of, has_stopped, is_pending, has_work, texts_of}
@@ -85,7 +83,7 @@ pub said_moved : (at : Name → Name) (c : ℕ) (events : List Event) → statem
 said_moved at c events = numbers_moved (statements_after c) (relocated_event at) (says_moved at c) [] 1 events
 
 pub begun_moved : (at : Name → Name) (events : List Event) (id : TxId) → begun (relocated_events at events) id ≡ begun events id
-begun_moved at events id = ap (λ ss. option_map (λ (s : Executed). s.taken) (first_of (from_begin (ordinal_of id) ss))) (said_moved at (client_of id) events)
+begun_moved at events id = ap (λ ss. option_map (λ (s : Executed). s.accepted) (first_of (from_begin (ordinal_of id) ss))) (said_moved at (client_of id) events)
 
 pub body_moved : (at : Name → Name) (events : List Event) (id : TxId) → body (relocated_events at events) id ≡ body events id
 body_moved at events id = ap (λ ss. filter is_effective (take_while (λ s. not (ends s)) (rest_of (from_begin (ordinal_of id) ss)))) (said_moved at (client_of id) events)
@@ -121,5 +119,5 @@ last_moved at events id =
 
 pub point_moved : (at : Name → Name) (events : List Event) (id : TxId) → point (relocated_events at events) id ≡ point events id
 point_moved at events id =
-    ap (λ (p : Option ℕ). unwrap_or p (option_map_or (λ (s : Executed). s.taken) (commit_of (relocated_events at events) id) 0)) (last_moved at events id)
-    ∙ ap (λ (o : Option Executed). unwrap_or (last_prepare events id) (option_map_or (λ (s : Executed). s.taken) o 0)) (commit_moved at events id)
+    ap (λ (p : Option ℕ). unwrap_or p (option_map_or (λ (s : Executed). s.accepted) (commit_of (relocated_events at events) id) 0)) (last_moved at events id)
+    ∙ ap (λ (o : Option Executed). unwrap_or (last_prepare events id) (option_map_or (λ (s : Executed). s.accepted) o 0)) (commit_moved at events id)

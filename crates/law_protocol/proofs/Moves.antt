@@ -2,28 +2,19 @@
 use Rattle.std.proofs.Common.{◌≡◌, ◌≢◌, ℕ, ℤ, ◌<◌, ◌^◌, Bool, true, false, List, Option, Some, None, ◌⊎◌, inl, inr, refl, sym, ap, subst, ◌∙◌, arith}
 use Rattle.std.specs.Prelude.{◌&&◌, ◌==◌, if◌then◌else◌}
 use Rattle.std.specs.Option.{option_map}
-use Rattle.sdb_types.specs.declared.key.Key.{Key}
-use Rattle.sdb_types.specs.declared.txid.TxId.{TxId}
-use Rattle.sdb_types.specs.declared.record.Record.{Record}
-use Rattle.sdb_types.specs.declared.record.State.{State}
+use Rattle.law_protocol.specs.Types.{Condition, Decision, Event, Key, Place, Record, Reply, State, TxId, Write}
 use Rattle.sdb_types.specs.declared.record.State.TheVariants as state
-use Rattle.sdb_types.specs.declared.record.Condition.{Condition}
 use Rattle.sdb_types.specs.declared.record.Condition.TheVariants as condition
 use Rattle.sdb_types.specs.declared.record.Request.TheVariants as ask
-use Rattle.sdb_types.specs.declared.record.Reply.{Reply}
 use Rattle.sdb_types.specs.declared.record.Reply.TheVariants as reply
 use Rattle.sdb_types.specs.Contents.{holds, is_version}
-use Rattle.sdb_record.specs.declared.coordinator.Decision.{Decision}
 use Rattle.sdb_record.specs.declared.coordinator.Decision.TheVariants.{Committed, Aborted}
-use Rattle.sdb_record.specs.declared.write.Write.{Write}
 use Rattle.sdb_record.specs.Coordinator.{coordinator_key_of, coordinator_row_of}
 use Rattle.sdb_record.specs.Meta.{is_in, is_committed}
 use Rattle.sdb_record.specs.Moved.{version_of, condition_of}
 use Rattle.sdb_record.specs.Rolls.{prepared_record}
 use Rattle.sdb_record.proofs.ImageLaws.{version-writer, row-key}
-use Rattle.sdb_model.specs.declared.event.Event.{Event}
-use Rattle.sdb_types.specs.declared.place.Place.{Place}
-use Rattle.sdb_model.specs.Events.{StoreContents, Effect, standing}
+use Rattle.sdb_model.specs.Events.{StoreContents, Effect, stored_at}
 use Rattle.law_protocol.specs.Plan.{Plan, write_at, written}
 use Rattle.law_protocol.specs.History.{Action, Prepares, Decides, Aborts, Ack, is_yes, is_met, is_out_of_memory_ack, ProtocolState, History, Standing, Final, Held, base_of, has_version, happens, with_row, IsLive, IsWriter, IsPrepared}
 use Rattle.law_protocol.specs.Lawful.{Labelled, protocol_state, id, ack_of, InCommit, IsCallOf, MayPrepare, MayDecide, MayAbort}
@@ -46,8 +37,8 @@ pub record Moves (plan : ℕ → Plan) (places : List Place) (w : History) (r : 
 ---- who is there
 
 fits_standing : (plan : ℕ → Plan) (w : History) (past : List Labelled) (k : Key) (t : ℕ) → Knows plan w past → (w.rows k ≡ Some (Final t)) ⊎ (w.rows k ≡ Some (Held t)) → t < 2 ^ 128
-fits_standing plan w past k t knows (inl e) = taken_fits w t knows.inv.begun knows.fits (writer_taken plan w k t knows.inv.taken (knows.inv.firm k t e))
-fits_standing plan w past k t knows (inr e) = taken_fits w t knows.inv.begun knows.fits (took_is_taken w t k knows.inv.taken (knows.inv.held k t e))
+fits_standing plan w past k t knows (inl e) = taken_fits w t knows.inv.begun knows.fits (writer_taken plan w k t knows.inv.accepted (knows.inv.firm k t e))
+fits_standing plan w past k t knows (inr e) = taken_fits w t knows.inv.begun knows.fits (took_is_taken w t k knows.inv.accepted (knows.inv.held k t e))
 
 -- what a version that holds says of what is there
 pub version_stands : (plan : ℕ → Plan) (w : History) (past : List Labelled) (k : Key) (v : Option ℕ) → Knows plan w past → ((u : ℕ) → v ≡ Some u → u < 2 ^ 128) → holds (condition_of (option_map id v)) (option_map (record_for plan k) (w.rows k)) ≡ true → has_version (w.rows k) v ≡ true
@@ -87,8 +78,8 @@ firm_stands plan w past k t knows fits h = by (w.rows k) refl h
 
 ---- in a COMMIT
 
-pub live : (w : History) (past : List Labelled) (client t : ℕ) → protocol_state past ≡ w.protocol → InCommit (protocol_state past) client t → (w.protocol.taken t ≡ true) × IsLive w.protocol t
-live w past client t same c = subst (λ (x : ProtocolState). (x.taken t ≡ true) × IsLive x t) same (c.taken, (c.is_open, ap (λ y. (protocol_state past).stopped y) c.owner ∙ c.goes_on))
+pub live : (w : History) (past : List Labelled) (client t : ℕ) → protocol_state past ≡ w.protocol → InCommit (protocol_state past) client t → (w.protocol.accepted t ≡ true) × IsLive w.protocol t
+live w past client t same c = subst (λ (x : ProtocolState). (x.accepted t ≡ true) × IsLive x t) same (c.accepted, (c.is_open, ap (λ y. (protocol_state past).stopped y) c.owner ∙ c.goes_on))
 
 ---- prepares
 
@@ -123,7 +114,7 @@ wanting_is word r e h = by r (ap is_out_of_memory_ack (sym e) ∙ h)
     by reply.Fault h = clash (sym h)
 
 pub writer_fits : (plan : ℕ → Plan) (w : History) (past : List Labelled) (k : Key) (u : ℕ) → Knows plan w past → IsWriter plan w k u → u < 2 ^ 128
-writer_fits plan w past k u knows h = taken_fits w u knows.inv.begun knows.fits (writer_taken plan w k u knows.inv.taken h)
+writer_fits plan w past k u knows h = taken_fits w u knows.inv.begun knows.fits (writer_taken plan w k u knows.inv.accepted h)
 
 base_version : (plan : ℕ → Plan) (k : Key) (v : Option ℕ) → ((u : ℕ) → v ≡ Some u → u < 2 ^ 128) → version_of (option_map (λ u. record_left_by plan u k) v) ≡ option_map id v
 base_version plan k None f = refl
@@ -175,10 +166,10 @@ present_row w t h = by (w.row t) refl h
     by None e h = clash h
     by (Some d) e h = λ n. grind arith
 
-met_is : (places : List Place) (t : ℕ) (word : Ack) (r : Reply) (new : Option Record) (before now : List StoreContents) → word ≡ ack_of r → IsWritten places (coordinator_key_of (id t)) condition.Absent new r before now → is_met word ≡ true → takes_effect_at places (coordinator_key_of (id t)) condition.Absent before now ≡ false → holds condition.Absent (standing places before (coordinator_key_of (id t))) ≡ false
+met_is : (places : List Place) (t : ℕ) (word : Ack) (r : Reply) (new : Option Record) (before now : List StoreContents) → word ≡ ack_of r → IsWritten places (coordinator_key_of (id t)) condition.Absent new r before now → is_met word ≡ true → takes_effect_at places (coordinator_key_of (id t)) condition.Absent before now ≡ false → holds condition.Absent (stored_at places before (coordinator_key_of (id t))) ≡ false
 met_is places t word r new before now e written met took_effect = by r refl (ap is_met (sym e) ∙ met)
   where
-    by : (x : Reply) → r ≡ x → is_met (ack_of x) ≡ true → holds condition.Absent (standing places before (coordinator_key_of (id t))) ≡ false
+    by : (x : Reply) → r ≡ x → is_met (ack_of x) ≡ true → holds condition.Absent (stored_at places before (coordinator_key_of (id t))) ≡ false
     by reply.Applied f h = clash (sym (written.applied f) ∙ took_effect)
     by (reply.NotMet found) f h = written.unmet found f
     by reply.NoMemory f h = clash (sym h)

@@ -1,14 +1,10 @@
 -- The order by points is serial, key by key.
 use Rattle.std.proofs.Common.{◌≡◌, ◌≢◌, ℕ, ◌<◌, true, false, List, [], ◌∷◌, ◌++◌, Option, Some, None, ◌⊎◌, inl, inr, refl, sym, ap, subst, ◌∙◌, arith}
 use Rattle.std.specs.Option.{option_map_or, option_and_then}
-use Rattle.sdb_types.specs.declared.key.Key.{Key}
-use Rattle.sdb_types.specs.declared.record.Record.{Record}
+use Rattle.law_protocol.specs.Types.{Change, Key, Place, Record, Write}
 use Rattle.sdb_record.specs.declared.coordinator.Decision.TheVariants.{Committed}
-use Rattle.sdb_record.specs.declared.write.Change.{Change}
 use Rattle.sdb_record.specs.declared.write.Change.TheVariants as change
-use Rattle.sdb_record.specs.declared.write.Write.{Write}
 use Rattle.sdb_record.specs.Rolls.{row_of_change, row_of_image}
-use Rattle.sdb_types.specs.declared.place.Place.{Place}
 use Rattle.sdb_model.specs.Events.{StoreContents}
 use Rattle.sdb_model.specs.Images.{image_at}
 use Rattle.law_protocol.specs.Plan.{Plan, write_at, written, deletes, is_delete}
@@ -148,8 +144,8 @@ same_writer plan w k front (Some u) (Some v) recorded among last n = by (last v 
       | inr gt ↦ absurd (cross (w.protocol.point u) (w.protocol.point v) lt (subst (λ z. w.protocol.point v < w.protocol.point z) (sym (some_is u l.0 l.1)) gt))
     ]
 
-pub reads_serial : (plan : ℕ → Plan) (places : List Place) (w : History) (past : List Labelled) (shelves : List StoreContents) (order : List ℕ) → Whole plan places w past shelves → IsOrdered w order → ReadsSerial plan w order
-reads_serial plan places w past shelves order i o front t back split j k found n =
+pub reads_serial : (plan : ℕ → Plan) (places : List Place) (w : History) (past : List Labelled) (store_contents : List StoreContents) (order : List ℕ) → Whole plan places w past store_contents → IsOrdered w order → ReadsSerial plan w order
+reads_serial plan places w past store_contents order i o front t back split j k found n =
     let c = reads_current plan w i.all t j k found recorded n in
     found_row plan w t k found c.x c.as_found ∙ ap (row_left plan k) (same_writer plan w k front c.x (last_writer plan k front)
     (λ u m. member u (in_front front t back u m))
@@ -196,8 +192,8 @@ last_of_all plan w k order u y o l n = same_writer plan w k order (Some u) y (λ
     turn v (inl e) = inl (sym e)
     turn v (inr m) = inr m
 
-pub rows_serial : (plan : ℕ → Plan) (places : List Place) (w : History) (past : List Labelled) (shelves : List StoreContents) (order : List ℕ) → Whole plan places w past shelves → IsOrdered w order → RowsSerial plan places shelves order
-rows_serial plan places w past shelves order i o k outside = by (image_at places shelves k) (image_is_last_writer plan places w past shelves i k outside) (last_writer plan k order) (newest plan w k order o.rising)
+pub rows_serial : (plan : ℕ → Plan) (places : List Place) (w : History) (past : List Labelled) (store_contents : List StoreContents) (order : List ℕ) → Whole plan places w past store_contents → IsOrdered w order → RowsSerial plan places store_contents order
+rows_serial plan places w past store_contents order i o k outside = by (image_at places store_contents k) (image_is_last_writer plan places w past store_contents i k outside) (last_writer plan k order) (newest plan w k order o.rising)
   where
     never : (y : Option ℕ) → IsNewest plan w k order y → IsNeverWritten plan w k → None ≡ row_left plan k y
     never None n h = refl
@@ -207,5 +203,5 @@ rows_serial plan places w past shelves order i o k outside = by (image_at places
     by None (inl h) y n = never y n h
     by None (inr r) y n = sym (deleted_row plan r.u k r.deleted) ∙ ap (row_left plan k) (last_of_all plan w k order r.u y o r.last n)
     by (Some r) im y n =
-        let taken = writer_taken plan w k im.0 i.all.one.taken im.1.writer in
-        ap row_of_image im.2 ∙ firm_row plan im.0 k ((i.knows.planned im.0 taken).write k (write_there (plan im.0) k) (writes_it (plan im.0) k im.1.writer.1)).0 ∙ ap (row_left plan k) (last_of_all plan w k order im.0 y o im.1 n)
+        let accepted = writer_taken plan w k im.0 i.all.one.accepted im.1.writer in
+        ap row_of_image im.2 ∙ firm_row plan im.0 k ((i.knows.planned im.0 accepted).write k (write_there (plan im.0) k) (writes_it (plan im.0) k im.1.writer.1)).0 ∙ ap (row_left plan k) (last_of_all plan w k order im.0 y o im.1 n)

@@ -4,22 +4,14 @@ use Rattle.std.specs.Prelude.{fold, ◌||◌, ◌&&◌, ◌==◌, if◌then◌el
 use Rattle.std.specs.Option.{option_map}
 use Rattle.std.specs.List.{enumerate_from}
 use Rattle.std.proofs.lemmas.List.Sums.{fold-append}
-use Rattle.sdb_types.specs.declared.key.Key.{Key}
-use Rattle.sdb_types.specs.declared.txid.TxId.{TxId}
-use Rattle.sdb_types.specs.declared.record.Record.{Record}
-use Rattle.sdb_types.specs.declared.record.State.{State}
+use Rattle.law_protocol.specs.Types.{Answer, Change, Condition, Decision, Event, How, Key, Place, Record, Reply, Request, State, TxId}
 use Rattle.sdb_types.specs.declared.record.State.TheVariants as state
-use Rattle.sdb_types.specs.declared.record.Condition.{Condition}
 use Rattle.sdb_types.specs.declared.record.Condition.TheVariants as condition
 use Rattle.sdb_record.specs.Moved.{condition_of, version_of}
-use Rattle.sdb_types.specs.declared.record.Request.{Request}
 use Rattle.sdb_types.specs.declared.record.Request.TheVariants as ask
-use Rattle.sdb_types.specs.declared.record.Reply.{Reply}
 use Rattle.sdb_types.specs.declared.record.Reply.TheVariants as reply
 use Rattle.sdb_types.specs.Contents.{is_version, Contents}
-use Rattle.sdb_record.specs.declared.coordinator.Decision.{Decision}
 use Rattle.sdb_record.specs.declared.coordinator.Decision.TheVariants.{Committed, Aborted}
-use Rattle.sdb_record.specs.declared.write.Change.{Change}
 use Rattle.sdb_record.specs.declared.write.Change.TheVariants as change
 use Rattle.sdb_record.specs.Coordinator.{coordinator_row_of}
 use Rattle.sdb_record.specs.Meta.{is_in}
@@ -27,12 +19,8 @@ use Rattle.sdb_record.specs.Parts.{before_record}
 use Rattle.sdb_record.specs.Rolls.{forward_record, prepared_record, state_of_change, undo}
 use Rattle.sdb_record.proofs.ImageLaws.{prepared-version, version-writer}
 use Rattle.sdb_record.proofs.RollLaws.{forward-committed}
-use Rattle.sdb_model.specs.declared.answer.Answer.{Answer}
-use Rattle.sdb_model.specs.declared.event.Event.{Event}
 use Rattle.sdb_model.specs.declared.event.Event.TheVariants as event
-use Rattle.sdb_model.specs.declared.event.How.{How}
 use Rattle.sdb_model.specs.declared.event.How.TheVariants.{Seen, Lost, Discarded, Broken}
-use Rattle.sdb_types.specs.declared.place.Place.{Place}
 use Rattle.sdb_model.specs.Events.{StoreContents, Effect, IsPerformed, IsCall}
 use Rattle.sdb_model.specs.Transactions.{prepares, is_prepared_by, last_prepare}
 use Rattle.law_protocol.specs.Plan.{Plan, written}
@@ -163,7 +151,7 @@ told_prepare places t client store q how r a before now b h c = by (is_applied r
         ∙ ap (λ x. is_prepared_by t (event.Call client store q x reply.Applied a)) (seen_applied q how c.held c.left (subst (λ x. IsPerformed q how x c.held c.left) applied c.performed))
         ∙ h ∙ sym (ap (λ x. b && x) e ∙ true_right b)
 
--- the part of a told prepare of t
+-- the part of a answered prepare of t
 abbrev tells_prepare : ℕ → Action → Bool
 tells_prepare t (Prepares u k word) = (t == u) && is_yes word
 tells_prepare t _ = false
@@ -188,10 +176,10 @@ back_no plan t k u s (Some x) = firm_no t (record_left_by plan x k) (condition.V
 
 prepared_by : (plan : ℕ → Plan) (places : List Place) (w : History) (past : List Labelled) (e : Event) (before now : List StoreContents) (r : Action) (t : ℕ) → Knows plan w past → Effect places e before now → IsEnabled plan past e r → t < 2 ^ 128 → is_prepared_by (id t) e ≡ tells_prepare t r
 prepared_by plan places w past e before now (Prepares u k word) t knows effect m fits =
-    let taken : w.protocol.taken u ≡ true = subst (λ (x : ProtocolState). x.taken u ≡ true) knows.talks m.within.taken in
+    let accepted : w.protocol.accepted u ≡ true = subst (λ (x : ProtocolState). x.accepted u ≡ true) knows.talks m.within.accepted in
     let c = condition_of (version_of m.write.base) in
     ap (is_prepared_by (id t)) m.call.call
-    ∙ told_prepare places (id t) m.client m.call.store (ask.PutIf (prepared_record m.write (id u) (plan u).now) c) m.call.how m.r m.call.answer before now (t == u) (ap (λ x. prepares (id t) (ask.PutIf x c)) (held_is plan u k m.write m.at) ∙ held_prepares plan t u k c fits (taken_fits w u knows.inv.begun knows.fits taken)) (subst (λ x. Effect places x before now) m.call.call effect)
+    ∙ told_prepare places (id t) m.client m.call.store (ask.PutIf (prepared_record m.write (id u) (plan u).now) c) m.call.how m.r m.call.answer before now (t == u) (ap (λ x. prepares (id t) (ask.PutIf x c)) (held_is plan u k m.write m.at) ∙ held_prepares plan t u k c fits (taken_fits w u knows.inv.begun knows.fits accepted)) (subst (λ x. Effect places x before now) m.call.call effect)
     ∙ ap (λ x. (t == u) && is_yes x) (sym m.word_is)
 prepared_by plan places w past e before now Other t knows effect m fits = quiet_no (id t) e m
 prepared_by plan places w past e before now (Begins u c) t knows effect m fits = ap (is_prepared_by (id t)) m.take
@@ -203,7 +191,7 @@ prepared_by plan places w past e before now (Rolls u k Committed) t knows effect
 prepared_by plan places w past e before now (Rolls u k Aborted) t knows effect m fits = back m (prepared_there plan w past u k m.roll.rolled knows m.roll.outside m.roll.prepared)
   where
     back : (m : MayRollBack plan past e u k) → IsOwn plan w u k m.roll.rolled → is_prepared_by (id t) e ≡ false
-    back m own = no_call (id t) e m.roll.client _ m.roll.r m.call (ap (λ o. prepares (id t) (undo (condition.Version (id u) m.roll.s) k o)) (ap before_record own.same ∙ held_before plan u k (knows.planned u own.taken) own.writes) ∙ back_no plan (id t) k u m.roll.s (base_of (written (plan u) k)))
+    back m own = no_call (id t) e m.roll.client _ m.roll.r m.call (ap (λ o. prepares (id t) (undo (condition.Version (id u) m.roll.s) k o)) (ap before_record own.same ∙ held_before plan u k (knows.planned u own.accepted) own.writes) ∙ back_no plan (id t) k u m.roll.s (base_of (written (plan u) k)))
 prepared_by plan places w past e before now (Removes k u) t knows effect m fits = no_call (id t) e m.client _ m.r m.call refl
 prepared_by plan places w past e before now (Ends u) t knows effect m fits = absurd m
 prepared_by plan places w past e before now (Stops c) t knows effect m fits = ap (is_prepared_by (id t)) m
@@ -231,17 +219,17 @@ last_snoc es e t = ap (fold (λ (found : Option ℕ) (x : ℕ × Event). if is_p
 -- what is counted at one moment
 record Counted (h : ProtocolState) (es : List Event) (t : ℕ) : Type 0 where
   now : h.now ≡ length es
-  none : h.taken t ≡ false → last_prepare es (id t) ≡ None
-  point : h.taken t ≡ true → h.point t ≡ unwrap_or (last_prepare es (id t)) (h.taken_at t)
+  none : h.accepted t ≡ false → last_prepare es (id t) ≡ None
+  point : h.accepted t ≡ true → h.point t ≡ unwrap_or (last_prepare es (id t)) (h.taken_at t)
 
 abbrev Asks : ProtocolState → Action → Type 0
-Asks h (Takes u) = h.taken u ≡ false
-Asks h (Prepares u k word) = h.taken u ≡ true
+Asks h (Takes u) = h.accepted u ≡ false
+Asks h (Prepares u k word) = h.accepted u ≡ true
 Asks h (Ends u) = ⊥
 Asks h _ = Unit {0}
 
-count : (h : ProtocolState) (r : Action) (t : ℕ) (last next : Option ℕ) → Asks h r → next ≡ (if tells_prepare t r then Some (1 + h.now) else last) → (h.taken t ≡ false → last ≡ None) → (h.taken t ≡ true → h.point t ≡ unwrap_or last (h.taken_at t))
-    → ((state_after_event h r).now ≡ h.now + 1) × ((state_after_event h r).taken t ≡ false → next ≡ None) × ((state_after_event h r).taken t ≡ true → (state_after_event h r).point t ≡ unwrap_or next ((state_after_event h r).taken_at t))
+count : (h : ProtocolState) (r : Action) (t : ℕ) (last next : Option ℕ) → Asks h r → next ≡ (if tells_prepare t r then Some (1 + h.now) else last) → (h.accepted t ≡ false → last ≡ None) → (h.accepted t ≡ true → h.point t ≡ unwrap_or last (h.taken_at t))
+    → ((state_after_event h r).now ≡ h.now + 1) × ((state_after_event h r).accepted t ≡ false → next ≡ None) × ((state_after_event h r).accepted t ≡ true → (state_after_event h r).point t ≡ unwrap_or next ((state_after_event h r).taken_at t))
 count h (Takes u) t last next a e none point = grind (arith, tests)
 count h (Prepares u k word) t last next a e none point = grind (arith, tests)
 count h (Ends u) t last next a e none point = absurd a
@@ -256,7 +244,7 @@ count h (Stops c) t last next a e none point = grind (arith, tests)
 
 asks : (plan : ℕ → Plan) (past : List Labelled) (e : Event) (r : Action) → IsEnabled plan past e r → Asks (protocol_state past) r
 asks plan past e (Takes u) m = m.fresh
-asks plan past e (Prepares u k word) m = m.within.taken
+asks plan past e (Prepares u k word) m = m.within.accepted
 asks plan past e (Ends u) m = m
 asks plan past e Other m = tt
 asks plan past e (Begins u c) m = tt
@@ -285,7 +273,7 @@ count_more plan places opening p past s ss t fits r c = over p.ends
         ∙ ap (λ b. if b then Some (1 + length (in_order past)) else last_prepare (in_order past) (id t)) (prepared_by plan places (history plan places opening past ss) past p.event (closing opening ss) s p.action t before.knows r.traced.1 r.lawful.1 fits)
         ∙ ap (λ n. if tells_prepare t p.action then Some (1 + n) else last_prepare (in_order past) (id t)) (sym c.now)
 
-    x : ((state_after_event (protocol_state past) p.action).now ≡ (protocol_state past).now + 1) × ((state_after_event (protocol_state past) p.action).taken t ≡ false → last_prepare (in_order past ++ p.event ∷ []) (id t) ≡ None) × ((state_after_event (protocol_state past) p.action).taken t ≡ true → (state_after_event (protocol_state past) p.action).point t ≡ unwrap_or (last_prepare (in_order past ++ p.event ∷ []) (id t)) ((state_after_event (protocol_state past) p.action).taken_at t))
+    x : ((state_after_event (protocol_state past) p.action).now ≡ (protocol_state past).now + 1) × ((state_after_event (protocol_state past) p.action).accepted t ≡ false → last_prepare (in_order past ++ p.event ∷ []) (id t) ≡ None) × ((state_after_event (protocol_state past) p.action).accepted t ≡ true → (state_after_event (protocol_state past) p.action).point t ≡ unwrap_or (last_prepare (in_order past ++ p.event ∷ []) (id t)) ((state_after_event (protocol_state past) p.action).taken_at t))
     x = count (protocol_state past) p.action t (last_prepare (in_order past) (id t)) (last_prepare (in_order past ++ p.event ∷ []) (id t)) (asks plan past p.event p.action r.lawful.1) next c.none c.point
 
     numbered_now : (state_after_event (protocol_state past) p.action).now ≡ length (in_order past ++ p.event ∷ [])
@@ -314,7 +302,7 @@ order_onto acc (p ∷ labelled) = order_onto (p ∷ acc) labelled ∙ assoc (in_
     assoc [] e ys = refl
     assoc (x ∷ xs) e ys = ap (λ z. x ∷ z) (assoc xs e ys)
 
-pub point_is_last : (plan : ℕ → Plan) (places : List Place) (opening : List StoreContents) (labelled : List Labelled) (ss : List (List StoreContents)) (t : ℕ) → IsRunOf plan places opening (newest_first labelled) ss → t < 2 ^ 128 → (protocol_state (newest_first labelled)).taken t ≡ true → (protocol_state (newest_first labelled)).point t ≡ unwrap_or (last_prepare (events_of labelled) (id t)) ((protocol_state (newest_first labelled)).taken_at t)
-point_is_last plan places opening labelled ss t r fits taken =
-    (counted plan places opening (newest_first labelled) ss t fits r).point taken
+pub point_is_last : (plan : ℕ → Plan) (places : List Place) (opening : List StoreContents) (labelled : List Labelled) (ss : List (List StoreContents)) (t : ℕ) → IsRunOf plan places opening (newest_first labelled) ss → t < 2 ^ 128 → (protocol_state (newest_first labelled)).accepted t ≡ true → (protocol_state (newest_first labelled)).point t ≡ unwrap_or (last_prepare (events_of labelled) (id t)) ((protocol_state (newest_first labelled)).taken_at t)
+point_is_last plan places opening labelled ss t r fits accepted =
+    (counted plan places opening (newest_first labelled) ss t fits r).point accepted
     ∙ ap (λ es. unwrap_or (last_prepare es (id t)) ((protocol_state (newest_first labelled)).taken_at t)) (order_onto [] labelled)

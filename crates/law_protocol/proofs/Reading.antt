@@ -2,23 +2,14 @@
 use Rattle.std.proofs.Common.{◌≡◌, ◌≢◌, ℕ, Bool, true, false, List, Option, Some, None, ◌⊎◌, inl, inr, refl, sym, ap, subst, ◌∙◌}
 use Rattle.std.specs.Prelude.{if◌then◌else◌, slice_get}
 use Rattle.std.specs.Option.{option_map, option_and_then}
-use Rattle.sdb_types.specs.declared.key.Key.{Key}
-use Rattle.sdb_types.specs.declared.txid.TxId.{TxId}
-use Rattle.sdb_types.specs.declared.record.Record.{Record}
-use Rattle.sdb_types.specs.declared.record.Request.{Request}
+use Rattle.law_protocol.specs.Types.{Event, Key, Place, Read, Record, Reply, Request, Scan, TxId, Write}
 use Rattle.sdb_types.specs.declared.record.Request.TheVariants as ask
-use Rattle.sdb_types.specs.declared.record.Reply.{Reply}
 use Rattle.sdb_types.specs.Contents.{holds, in_span, after, Contents}
-use Rattle.sdb_record.specs.declared.access.Read.{Read}
-use Rattle.sdb_record.specs.declared.access.Scan.{Scan}
-use Rattle.sdb_record.specs.declared.write.Write.{Write}
 use Rattle.sdb_record.specs.Meta.{id_in}
 use Rattle.sdb_record.specs.Moved.{version_of, condition_of}
 use Rattle.sdb_record.specs.Among.{version_among}
-use Rattle.sdb_model.specs.declared.event.Event.{Event}
 use Rattle.sdb_model.specs.declared.event.Event.TheVariants as event
-use Rattle.sdb_types.specs.declared.place.Place.{Place}
-use Rattle.sdb_model.specs.Events.{StoreContents, Effect, standing, IsCall}
+use Rattle.sdb_model.specs.Events.{StoreContents, Effect, stored_at, IsCall}
 use Rattle.law_protocol.specs.Plan.{Plan, write_at, written, version_read_at, number_of}
 use Rattle.sdb_model.specs.ReadSet.{ReadItem, KeyRead, SpanRead, version_read}
 use Rattle.law_protocol.specs.History.{Other, Begins, Takes, Checks, Stops, ProtocolState, History, base_of, happens, IsLive, IsWriter, Deciding}
@@ -72,19 +63,19 @@ number_back (Some i) = refl
 
 -- what an unchanged reply says of each key
 unchanged_at : (plan : ℕ → Plan) (places : List Place) (t i : ℕ) (item : ReadItem) (q : Request) (r : Reply) (before now : List StoreContents) → slice_get (plan t).read_set i ≡ Some item → AtCall places q r before now → IsUnchanged (plan t) item q r
-    → (k : Key) (v : Option ℕ) → version_read_at (plan t) i k ≡ Some v → written (plan t) k ≡ None → holds (condition_of (option_map id v)) (standing places before k) ≡ true
+    → (k : Key) (v : Option ℕ) → version_read_at (plan t) i k ≡ Some v → written (plan t) k ≡ None → holds (condition_of (option_map id v)) (stored_at places before k) ≡ true
 unchanged_at plan places t i (KeyRead read) q r before now at a u k v n free =
     let s = noted_got (plan t) i read k v at n in
     let a' : AtCall places (ask.Get read.key) r before now = subst (λ x. AtCall places x r before now) u.1 a in
-    let stands = get_reply places read.key r u.0 before now a' u.2 in
-    rw s.1 (rw (number_back read.version) (subst (λ x. holds (condition_of read.version) (standing places before x) ≡ true) s.0 (subst (λ x. holds (condition_of read.version) x ≡ true) stands u.3)))
+    let agrees = get_reply places read.key r u.0 before now a' u.2 in
+    rw s.1 (rw (number_back read.version) (subst (λ x. holds (condition_of read.version) (stored_at places before x) ≡ true) s.0 (subst (λ x. holds (condition_of read.version) x ≡ true) agrees u.3)))
 unchanged_at plan places t i (SpanRead scan) q r before now at a u k v n free =
     let s = noted_scanned (plan t) i scan k v at n in
     let a' : AtCall places (ask.Scan scan.span) r before now = subst (λ x. AtCall places x r before now) u.1 a in
-    let stands = scan_reply places scan.span r u.0 before now a' u.2 k s.0 in
-    rw s.1 (rw (number_back (version_among scan.found k)) (subst (λ x. holds (condition_of (version_among scan.found k)) x ≡ true) stands (u.3 k s.0 free)))
+    let agrees = scan_reply places scan.span r u.0 before now a' u.2 k s.0 in
+    rw s.1 (rw (number_back (version_among scan.found k)) (subst (λ x. holds (condition_of (version_among scan.found k)) x ≡ true) agrees (u.3 k s.0 free)))
 
-read_still : (plan : Plan) (places : List Place) (item : ReadItem) (q : Request) (r : Reply) (before now : List StoreContents) → AtCall places q r before now → IsUnchanged plan item q r → (k : Key) → standing places now k ≡ standing places before k
+read_still : (plan : Plan) (places : List Place) (item : ReadItem) (q : Request) (r : Reply) (before now : List StoreContents) → AtCall places q r before now → IsUnchanged plan item q r → (k : Key) → stored_at places now k ≡ stored_at places before k
 read_still plan places (KeyRead read) q r before now a u k = read_leaves places q r before now a (λ m. ap (λ x. after x m) u.1) k
 read_still plan places (SpanRead scan) q r before now a u k = read_leaves places q r before now a (λ m. ap (λ x. after x m) u.1) k
 
@@ -107,24 +98,24 @@ check_moves plan places w past e before now t i done knows held effect m =
 
 ---- nothing changes
 
-quiet_read : (places : List Place) (q : Request) (r : Reply) (before now : List StoreContents) → AtCall places q r before now → (event_quiet : (m : Contents) → after q m ≡ m) → (k : Key) → standing places now k ≡ standing places before k
+quiet_read : (places : List Place) (q : Request) (r : Reply) (before now : List StoreContents) → AtCall places q r before now → (event_quiet : (m : Contents) → after q m ≡ m) → (k : Key) → stored_at places now k ≡ stored_at places before k
 quiet_read places q r before now a same = read_leaves places q r before now a same
 
-quiet_still : (places : List Place) (e : Event) (before now : List StoreContents) → is_quiet e ≡ true → Effect places e before now → (k : Key) → standing places now k ≡ standing places before k
-quiet_still places (event.Take client text answer) before now h f k = ap (λ x. standing places x k) f
+quiet_still : (places : List Place) (e : Event) (before now : List StoreContents) → is_quiet e ≡ true → Effect places e before now → (k : Key) → stored_at places now k ≡ stored_at places before k
+quiet_still places (event.Take client text answer) before now h f k = ap (λ x. stored_at places x k) f
 quiet_still places (event.Call client store (ask.Get key) how r answer) before now h f k = read_leaves places (ask.Get key) r before now (at_call places store (ask.Get key) how r before now f) (λ m. refl) k
 quiet_still places (event.Call client store (ask.Scan span) how r answer) before now h f k = read_leaves places (ask.Scan span) r before now (at_call places store (ask.Scan span) how r before now f) (λ m. refl) k
 quiet_still places (event.Call client store (ask.PutIf rec c) how r answer) before now h f k = clash (sym h)
 quiet_still places (event.Call client store (ask.DeleteIf key c) how r answer) before now h f k = clash (sym h)
 quiet_still places (event.Stop client) before now h f k = clash (sym h)
-quiet_still places (event.Clock moment) before now h f k = ap (λ x. standing places x k) f
-quiet_still places (event.Idle client) before now h f k = ap (λ x. standing places x k) f
+quiet_still places (event.Clock moment) before now h f k = ap (λ x. stored_at places x k) f
+quiet_still places (event.Idle client) before now h f k = ap (λ x. stored_at places x k) f
 
 pub other_moves : (plan : ℕ → Plan) (places : List Place) (w : History) (e : Event) (before now : List StoreContents) (done : Bool) → ContainsHistory plan places w before → Effect places e before now → is_quiet e ≡ true → Moves plan places w Other done now
 other_moves plan places w e before now done held effect quiet = record { allowed = tt; held = link_same plan places w (happens plan w Other done) before now held (quiet_still places e before now quiet effect) (λ q. refl) (λ u. refl) }
 
 pub stop_moves : (plan : ℕ → Plan) (places : List Place) (w : History) (e : Event) (before now : List StoreContents) (c : ℕ) (done : Bool) → ContainsHistory plan places w before → Effect places e before now → e ≡ event.Stop c → Moves plan places w (Stops c) done now
-stop_moves plan places w e before now c done held effect is = record { allowed = tt; held = link_same plan places w (happens plan w (Stops c) done) before now held (λ k. ap (λ x. standing places x k) (still (subst (λ x. Effect places x before now) is effect))) (λ q. refl) (λ u. refl) }
+stop_moves plan places w e before now c done held effect is = record { allowed = tt; held = link_same plan places w (happens plan w (Stops c) done) before now held (λ k. ap (λ x. stored_at places x k) (still (subst (λ x. Effect places x before now) is effect))) (λ q. refl) (λ u. refl) }
   where
     still : now ≡ before → now ≡ before
     still e = e
@@ -133,16 +124,16 @@ pub begin_moves : (plan : ℕ → Plan) (places : List Place) (w : History) (pas
     → Knows plan w past → ContainsHistory plan places w before → Effect places e before now → MayBegin past e t c → Moves plan places w (Begins t c) done now
 begin_moves plan places w past e before now t c done knows held effect m = record {
   allowed = (fresh, untaken fresh);
-  held = link_same plan places w (happens plan w (Begins t c) done) before now held (λ k. ap (λ x. standing places x k) still) (λ q. refl) (λ u. refl);
+  held = link_same plan places w (happens plan w (Begins t c) done) before now held (λ k. ap (λ x. stored_at places x k) still) (λ q. refl) (λ u. refl);
 }
   where
     fresh : w.protocol.begun t ≡ 0
     fresh = subst (λ (x : ProtocolState). x.begun t ≡ 0) knows.talks m.fresh
 
-    untaken : w.protocol.begun t ≡ 0 → w.protocol.taken t ≡ false
-    untaken z = by (w.protocol.taken t) refl
+    untaken : w.protocol.begun t ≡ 0 → w.protocol.accepted t ≡ false
+    untaken z = by (w.protocol.accepted t) refl
       where
-        by : (b : Bool) → w.protocol.taken t ≡ b → w.protocol.taken t ≡ false
+        by : (b : Bool) → w.protocol.accepted t ≡ b → w.protocol.accepted t ≡ false
         by true e = absurd (((knows.inv.begun t).1 e).0 z)
         by false e = e
 
@@ -201,12 +192,12 @@ pub take_moves : (plan : ℕ → Plan) (places : List Place) (w : History) (past
     → Knows plan w past → ContainsHistory plan places w before → Effect places e before now → MayTake plan past e t → Moves plan places w (Takes t) done now
 take_moves plan places w past e before now t done knows held effect m = record {
   allowed = (
-    subst (λ (x : ProtocolState). x.taken t ≡ false) knows.talks m.fresh,
+    subst (λ (x : ProtocolState). x.accepted t ≡ false) knows.talks m.fresh,
     subst (λ (x : ProtocolState). IsLive x t) knows.talks (m.is_open, ap (protocol_state past).stopped m.owner ∙ m.goes_on),
     take_bases plan w past e t knows m,
     take_notes plan w past e t knows m,
   );
-  held = link_same plan places w (happens plan w (Takes t) done) before now held (λ k. ap (λ x. standing places x k) still) (λ q. refl) (λ u. refl);
+  held = link_same plan places w (happens plan w (Takes t) done) before now held (λ k. ap (λ x. stored_at places x k) still) (λ q. refl) (λ u. refl);
 }
   where
     still : now ≡ before

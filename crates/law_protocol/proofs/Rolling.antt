@@ -2,23 +2,16 @@
 use Rattle.std.proofs.Common.{◌≡◌, ◌≢◌, ℕ, ◌<◌, ◌^◌, Bool, true, false, List, Option, Some, None, refl, sym, ap, subst, ◌∙◌}
 use Rattle.std.specs.Prelude.{◌&&◌, if◌then◌else◌}
 use Rattle.std.specs.Option.{option_map, option_map_or}
-use Rattle.sdb_types.specs.declared.key.Key.{Key}
-use Rattle.sdb_types.specs.declared.record.Record.{Record}
-use Rattle.sdb_types.specs.declared.record.State.{State}
+use Rattle.law_protocol.specs.Types.{Change, Decision, Event, Key, Place, Record, Reply, State}
 use Rattle.sdb_types.specs.declared.record.State.TheVariants as state
 use Rattle.sdb_types.specs.declared.record.Condition.TheVariants as condition
-use Rattle.sdb_types.specs.declared.record.Reply.{Reply}
 use Rattle.sdb_types.specs.Contents.{holds}
-use Rattle.sdb_record.specs.declared.coordinator.Decision.{Decision}
 use Rattle.sdb_record.specs.declared.coordinator.Decision.TheVariants.{Committed, Aborted}
-use Rattle.sdb_record.specs.declared.write.Change.{Change}
 use Rattle.sdb_record.specs.declared.write.Change.TheVariants as change
 use Rattle.sdb_record.specs.Meta.{id_in, is_committed}
 use Rattle.sdb_record.specs.Parts.{before_record}
 use Rattle.sdb_record.specs.Rolls.{IsWrite, forward_record, is_tombstone, row_of_image, row_of_change, undo}
 use Rattle.sdb_record.proofs.ImageLaws.{forward-prepared-row}
-use Rattle.sdb_model.specs.declared.event.Event.{Event}
-use Rattle.sdb_types.specs.declared.place.Place.{Place}
 use Rattle.sdb_model.specs.Events.{StoreContents, Effect}
 use Rattle.law_protocol.specs.Plan.{Plan, written, deletes, is_delete}
 use Rattle.law_protocol.specs.History.{Rolls, Removes, ProtocolState, History, Final, base_of, final_of, rolled, happens, IsWriter}
@@ -79,8 +72,8 @@ back_moves plan places w past e before now t k done knows held effect is m =
     let known = aborted_of plan w past t knows own.fits m.known in
     let v = base_of (written (plan t) k) in
     let c = condition.Version (id t) roll.s in
-    let to : before_record roll.rolled ≡ option_map (λ u. record_left_by plan u k) (base_of (written (plan t) k)) = ap before_record own.same ∙ held_before plan t k (knows.planned t own.taken) own.writes in
-    let b = backs plan places e roll.client t k roll.s v roll.r before now roll.is_open (λ u h. (knows.inv.base t k u own.taken h).1) (subst (λ x. IsCallOf e roll.client (undo (condition.Version (id t) roll.s) k x) roll.r) to m.call) effect in
+    let to : before_record roll.rolled ≡ option_map (λ u. record_left_by plan u k) (base_of (written (plan t) k)) = ap before_record own.same ∙ held_before plan t k (knows.planned t own.accepted) own.writes in
+    let b = backs plan places e roll.client t k roll.s v roll.r before now roll.is_open (λ u h. (knows.inv.base t k u own.accepted h).1) (subst (λ x. IsCallOf e roll.client (undo (condition.Version (id t) roll.s) k x) roll.r) to m.call) effect in
     let took_effect : takes_effect_at places k (condition.Version (id t) m.roll.s) before now ≡ done = sym b.took_effect ∙ is in
     record {
       allowed = λ h. (open_stands plan w past k t roll.s knows own.fits roll.is_open (subst (λ x. holds c x ≡ true) (held.records k roll.outside) (took_held places k c before now (took_effect ∙ h))), known);
@@ -130,7 +123,7 @@ remove_moves plan places w past e before now t k done knows held effect is m =
     record {
       allowed = (
         writer,
-        tombstone_deletes plan t k (knows.planned t (writer_taken plan w k t knows.inv.taken writer)) writer.1 tomb,
+        tombstone_deletes plan t k (knows.planned t (writer_taken plan w k t knows.inv.accepted writer)) writer.1 tomb,
         λ h. firm_stands plan w past k t knows fits (subst (λ x. holds c x ≡ true) (held.records k m.outside) (took_held places k c before now (took_effect ∙ h))),
         λ u l. clash (sym (stopped u l.0) ∙ l.1),
       );

@@ -2,8 +2,7 @@
 -- writer.
 use Rattle.std.proofs.Common.{◌≡◌, ◌≢◌, ℕ, ◌+◌, ◌<◌, ◌≤◌, Bool, true, false, Option, Some, None, ◌⊎◌, inl, inr, refl, sym, subst, ◌∙◌, arith}
 use Rattle.std.specs.Prelude.{◌==◌, if◌then◌else◌}
-use Rattle.sdb_types.specs.declared.key.Key.{Key}
-use Rattle.sdb_record.specs.declared.coordinator.Decision.{Decision}
+use Rattle.law_protocol.specs.Types.{Decision, Key}
 use Rattle.sdb_record.specs.declared.coordinator.Decision.TheVariants.{Committed}
 use Rattle.law_protocol.specs.Plan.{Plan, written, version_read_at}
 use Rattle.law_protocol.specs.History.{Action, Other, Begins, Takes, Prepares, Checks, Decides, Aborts, Rolls, Removes, Ends, Stops, Ack, Preparing, History, start, at, Held, base_of, has_version, happens, shadow, IsWriter, IsLive, Covers}
@@ -18,7 +17,7 @@ use Rattle.law_protocol.specs.Explained.{IsAsFound as Saw}
 
 -- a check comes after the point, and before whatever comes now
 abbrev pub CheckedOk : History → Type 0
-CheckedOk w = (t i : ℕ) → w.protocol.checked t i ≡ true → (w.protocol.taken t ≡ true) × (w.protocol.stage t ≢ Preparing) × (w.protocol.point t < w.checked_at t i) × (w.checked_at t i ≤ w.protocol.now)
+CheckedOk w = (t i : ℕ) → w.protocol.checked t i ≡ true → (w.protocol.accepted t ≡ true) × (w.protocol.stage t ≢ Preparing) × (w.protocol.point t < w.checked_at t i) × (w.checked_at t i ≤ w.protocol.now)
 
 pub checked_kept : (plan : ℕ → Plan) (w : History) (r : Action) (done : Bool) → CheckedOk w → PointOk w → Allowed plan w r done → CheckedOk (happens plan w r done)
 checked_kept plan w r done ok point a t i c = grind (arith, tests, ok t i, point t)
@@ -50,12 +49,12 @@ still plan w r done u n a h = (d.0, below (happens plan w r done).decided_at (d.
 some_row : (d : Option Decision) → d ≡ Some Committed → d ≢ None
 some_row d e = grind arith
 
-pub seen_kept : (plan : ℕ → Plan) (w : History) (r : Action) (done : Bool) (t : ℕ) (k : Key) (found : Option ℕ) (n : ℕ) (x : Option ℕ) → Inv plan w → Allowed plan w r done → w.protocol.taken t ≡ true → n ≤ w.protocol.now + 1 → IsSeen plan w t k found n x → IsSeen plan (happens plan w r done) t k found n x
-seen_kept plan w r done t k found n x i a taken b s = record {
-  saw = saw_same plan w (happens plan w r done) t k found x (begun_stays plan w r done t i.begun taken a) (λ u e. (decided_kept plan w r done u a (some_row (w.row u) (s.writer u e).0.0)).1) s.saw;
+pub seen_kept : (plan : ℕ → Plan) (w : History) (r : Action) (done : Bool) (t : ℕ) (k : Key) (found : Option ℕ) (n : ℕ) (x : Option ℕ) → Inv plan w → Allowed plan w r done → w.protocol.accepted t ≡ true → n ≤ w.protocol.now + 1 → IsSeen plan w t k found n x → IsSeen plan (happens plan w r done) t k found n x
+seen_kept plan w r done t k found n x i a accepted b s = record {
+  saw = saw_same plan w (happens plan w r done) t k found x (begun_stays plan w r done t i.begun accepted a) (λ u e. (decided_kept plan w r done u a (some_row (w.row u) (s.writer u e).0.0)).1) s.saw;
   writer = λ u e. let o = s.writer u e in (writer_kept plan w r done k u a o.0, (still plan w r done u n a (some_row (w.row u) o.0.0, o.1)).1);
   early = λ u ne h l. let o = old_took plan w r done u k n b h l in still plan w r done u n a (s.early u ne o.0 o.1);
-  last = λ u ne h l. let o = old_writer plan w r done u n b h.0 l in covers_same w (happens plan w r done) u x x refl (s.last u ne (o.0, h.1) o.1) (λ v e. point_fixed plan w r done v i.decided i.taken a (s.writer v e).0.0) (point_fixed plan w r done u i.decided i.taken a o.0);
+  last = λ u ne h l. let o = old_writer plan w r done u n b h.0 l in covers_same w (happens plan w r done) u x x refl (s.last u ne (o.0, h.1) o.1) (λ v e. point_fixed plan w r done v i.decided i.accepted a (s.writer v e).0.0) (point_fixed plan w r done u i.decided i.accepted a o.0);
 }
 
 ---- at the event itself
@@ -64,7 +63,7 @@ pub seen_now : (plan : ℕ → Plan) (w : History) (t : ℕ) (k : Key) (found : 
 seen_now plan w t k found i live h = record {
   saw = saw_now plan w t k found i.gone i.removed live h;
   writer = λ u e. (writer_of plan w k u i e, below u (writer_of plan w k u i e));
-  early = λ u ne took_effect l. early u (i.stands u k) (i.heard u).3 took_effect;
+  early = λ u ne took_effect l. early u (i.agrees u k) (i.heard u).3 took_effect;
   last = λ u ne writer l. i.cover u k writer;
 }
   where
@@ -72,7 +71,7 @@ seen_now plan w t k found i live h = record {
     below u x = grind (arith, i.heard u, x)
 
     early : (u : ℕ) → (w.took_effect u k ≡ true → w.row u ≡ None → w.rows k ≡ Some (Held u)) → (w.row u ≢ None → w.decided_at u ≤ w.protocol.now) → w.took_effect u k ≡ true → (w.row u ≢ None) × (w.decided_at u < w.protocol.now + 1)
-    early u stands heard took_effect = grind (arith, h)
+    early u agrees heard took_effect = grind (arith, h)
 
 ---- the two places
 
@@ -119,7 +118,7 @@ reads_kept plan w (Ends t) done j ok checked a = reads_other plan w (Ends t) don
 reads_kept plan w (Stops c) done j ok checked a = reads_other plan w (Stops c) done j ok checked a (λ t i. refl) (λ t i. refl) (λ t i k. refl)
 
 writes_old : (plan : ℕ → Plan) (w : History) (r : Action) (done : Bool) (t : ℕ) (k : Key) → Inv plan w → WritesOk plan w → Allowed plan w r done → w.took_effect t k ≡ true → IsSeen plan (happens plan w r done) t k (base_of (written (plan t) k)) (w.prepared_at t k) (w.under t k)
-writes_old plan w r done t k j ok a h = seen_kept plan w r done t k (base_of (written (plan t) k)) (w.prepared_at t k) (w.under t k) j a (took_taken w t k j.taken h) (over ((j.took_effect t k).0 h).1) (ok t k h)
+writes_old plan w r done t k j ok a h = seen_kept plan w r done t k (base_of (written (plan t) k)) (w.prepared_at t k) (w.under t k) j a (took_taken w t k j.accepted h) (over ((j.took_effect t k).0 h).1) (ok t k h)
   where
     over : w.prepared_at t k ≤ w.protocol.now → w.prepared_at t k ≤ w.protocol.now + 1
     over l = omega arith
@@ -184,7 +183,7 @@ open_before f u t = by (t == u)
     by false h = h
 
 decided_closed : (plan : ℕ → Plan) (w : History) (t u : ℕ) → IsDecided plan w u → IsDecided plan (after_end plan w (Some t)) u
-decided_closed plan w t u d = record { stage = d.stage; risked = d.risked; told = d.told; checked = d.checked; agrees = d.agrees; point = d.point }
+decided_closed plan w t u d = record { stage = d.stage; risked = d.risked; answered = d.answered; checked = d.checked; agrees = d.agrees; point = d.point }
 
 seen_closed : (plan : ℕ → Plan) (w : History) (t u : ℕ) (k : Key) (found : Option ℕ) (n : ℕ) (x : Option ℕ) → IsSeen plan w u k found n x → IsSeen plan (after_end plan w (Some t)) u k found n x
 seen_closed plan w t u k found n x s = record { saw = s.saw; writer = s.writer; early = s.early; last = s.last }
@@ -192,7 +191,7 @@ seen_closed plan w t u k found n x s = record { saw = s.saw; writer = s.writer; 
 inv_closed : (plan : ℕ → Plan) (w : History) (t : ℕ) → Inv plan w → Inv plan (after_end plan w (Some t))
 inv_closed plan w t i = record {
   point = i.point;
-  taken = i.taken;
+  accepted = i.accepted;
   asked = i.asked;
   took_effect = i.took_effect;
   begun = λ u. (λ live. (i.begun u).0 (open_before w.protocol.is_open t u live), (i.begun u).1);
@@ -204,7 +203,7 @@ inv_closed plan w t i = record {
   base = i.base;
   as_read = i.as_read;
   gone = i.gone;
-  stands = i.stands;
+  agrees = i.agrees;
   earlier = i.earlier;
   removed = λ u k v gone live. i.removed u k v gone (open_before w.protocol.is_open t u live.0, live.1);
   under = i.under;

@@ -1,8 +1,7 @@
 -- Only a deciding put changes a shadow.
 use Rattle.std.proofs.Common.{◌≡◌, ◌≢◌, ℕ, ℤ, ◌+◌, ◌<◌, ◌≤◌, Bool, true, Option, Some, None, ◌⊎◌, inl, inr, refl, ◌∙◌, arith}
-use Rattle.sdb_types.specs.declared.key.Key.{Key}
+use Rattle.law_protocol.specs.Types.{Decision, Key}
 use Rattle.sdb_types.proofs.Keys.{tests}
-use Rattle.sdb_record.specs.declared.coordinator.Decision.{Decision}
 use Rattle.sdb_record.specs.declared.coordinator.Decision.TheVariants.{Committed}
 use Rattle.law_protocol.specs.Plan.{Plan, written}
 use Rattle.law_protocol.specs.History.{Action, Other, Begins, Takes, Prepares, Checks, Decides, Aborts, Rolls, Removes, Ends, Stops, Ack, Deciding, History, Final, Held, base_of, has_version, happens, Standing, image_in, or_else, shadow, IsLive, IsWriter}
@@ -10,19 +9,19 @@ use Rattle.law_protocol.proofs.Allowed.{Allowed}
 use Rattle.law_protocol.proofs.Small.{writer_kept, decided_kept, TakenOk, AskedOk, TookOk, BegunOk, HeardOk, FirmOk, HeldOk, BaseOk, GoneOk, StandsOk}
 use Rattle.law_protocol.specs.Explained.{IsAsFound as Saw, RemovedBeforeBegin}
 
-held_taken : (plan : ℕ → Plan) (w : History) (k : Key) (t : ℕ) → HeldOk w → TookOk w → TakenOk w → AskedOk plan w → w.rows k ≡ Some (Held t) → (w.protocol.taken t ≡ true) × (written (plan t) k ≢ None)
-held_taken plan w k t held took_effect taken asked h = grind (arith, held k t, took_effect t k, taken t k 0, asked t k)
+held_taken : (plan : ℕ → Plan) (w : History) (k : Key) (t : ℕ) → HeldOk w → TookOk w → TakenOk w → AskedOk plan w → w.rows k ≡ Some (Held t) → (w.protocol.accepted t ≡ true) × (written (plan t) k ≢ None)
+held_taken plan w k t held took_effect accepted asked h = grind (arith, held k t, took_effect t k, accepted t k 0, asked t k)
 
 pub shadow_writer : (plan : ℕ → Plan) (w : History) (k : Key) (u : ℕ) → FirmOk plan w → HeldOk w → BaseOk plan w → GoneOk plan w → TookOk w → TakenOk w → AskedOk plan w → shadow plan w k ≡ Some u → IsWriter plan w k u
-shadow_writer plan w k u firm held base gone took_effect taken asked h = over (w.rows k) refl h
+shadow_writer plan w k u firm held base gone took_effect accepted asked h = over (w.rows k) refl h
   where
     over : (s : Option Standing) → w.rows k ≡ s → or_else (image_in plan w k s) (w.gone k) ≡ Some u → IsWriter plan w k u
     over None e h = (gone k u h).0
     over (Some (Final t)) e h = grind (arith, firm k t)
-    over (Some (Held t)) e h = grind (arith, held_taken plan w k t held took_effect taken asked, base t k u)
+    over (Some (Held t)) e h = grind (arith, held_taken plan w k t held took_effect accepted asked, base t k u)
 
 pub shadow_prepare : (plan : ℕ → Plan) (w : History) (t : ℕ) (k key : Key) (word : Ack) (done : Bool) → FirmOk plan w → TakenOk w → BaseOk plan w → Allowed plan w (Prepares t k word) done → (w.row t ≡ Some Committed → w.protocol.stage t ≡ Deciding) → shadow plan (happens plan w (Prepares t k word) done) key ≡ shadow plan w key
-shadow_prepare plan w t k key word done firm taken base a stage = grind (arith, tests, firm k, base t k)
+shadow_prepare plan w t k key word done firm accepted base a stage = grind (arith, tests, firm k, base t k)
 
 pub shadow_roll : (plan : ℕ → Plan) (w : History) (t : ℕ) (k key : Key) (d : Decision) (done : Bool) → Allowed plan w (Rolls t k d) done → shadow plan (happens plan w (Rolls t k d) done) key ≡ shadow plan w key
 shadow_roll plan w t k key d done a = grind (arith, tests)
@@ -38,30 +37,30 @@ abbrev pub UnderOk : (ℕ → Plan) → History → Type 0
 UnderOk plan w = (t : ℕ) (k : Key) → w.took_effect t k ≡ true → w.row t ≡ None → shadow plan w k ≡ w.under t k
 
 under_prepare : (plan : ℕ → Plan) (w : History) (t0 : ℕ) (k0 : Key) (word : Ack) (done : Bool) → UnderOk plan w → FirmOk plan w → TakenOk w → BaseOk plan w → (w.row t0 ≡ Some Committed → w.protocol.stage t0 ≡ Deciding) → Allowed plan w (Prepares t0 k0 word) done → UnderOk plan (happens plan w (Prepares t0 k0 word) done)
-under_prepare plan w t0 k0 word done ok firm taken base stage a t k h n =
-    shadow_prepare plan w t0 k0 k word done firm taken base a stage ∙ now w t0 k0 word done t k h (λ h'. ok t k h' n)
+under_prepare plan w t0 k0 word done ok firm accepted base stage a t k h n =
+    shadow_prepare plan w t0 k0 k word done firm accepted base a stage ∙ now w t0 k0 word done t k h (λ h'. ok t k h' n)
   where
     now : (w : History) (t0 : ℕ) (k0 : Key) (word : Ack) (done : Bool) (t : ℕ) (k : Key) → (happens plan w (Prepares t0 k0 word) done).took_effect t k ≡ true → (w.took_effect t k ≡ true → shadow plan w k ≡ w.under t k) → shadow plan w k ≡ (happens plan w (Prepares t0 k0 word) done).under t k
     now w t0 k0 word done t k h ok = grind (arith, tests)
 
 under_decide : (plan : ℕ → Plan) (w : History) (t0 : ℕ) (word : Ack) (done : Bool) → UnderOk plan w → StandsOk w → UnderOk plan (happens plan w (Decides t0 word) done)
-under_decide plan w t0 word done ok stands t k h n = grind (arith, tests, ok t k, stands t k)
+under_decide plan w t0 word done ok agrees t k h n = grind (arith, tests, ok t k, agrees t k)
 
 under_abort : (plan : ℕ → Plan) (w : History) (t0 : ℕ) (m : ℤ) (word : Ack) (done : Bool) → UnderOk plan w → Allowed plan w (Aborts t0 m word) done → UnderOk plan (happens plan w (Aborts t0 m word) done)
 under_abort plan w t0 m word done ok a t k h n = grind (arith, tests, ok t k)
 
 pub under_kept : (plan : ℕ → Plan) (w : History) (r : Action) (done : Bool) → UnderOk plan w → FirmOk plan w → BaseOk plan w → TakenOk w → StandsOk w → ((t : ℕ) → w.row t ≡ Some Committed → w.protocol.stage t ≡ Deciding) → Allowed plan w r done → UnderOk plan (happens plan w r done)
-under_kept plan w (Prepares t k word) done ok firm base taken stands stage a = under_prepare plan w t k word done ok firm taken base (stage t) a
-under_kept plan w (Decides t word) done ok firm base taken stands stage a = under_decide plan w t word done ok stands
-under_kept plan w (Aborts t m word) done ok firm base taken stands stage a = under_abort plan w t m word done ok a
-under_kept plan w (Rolls t0 k0 d) done ok firm base taken stands stage a = λ t k h n. shadow_roll plan w t0 k0 k d done a ∙ ok t k h n
-under_kept plan w (Removes k0 t0) done ok firm base taken stands stage a = λ t k h n. shadow_remove plan w k0 k t0 done a ∙ ok t k h n
-under_kept plan w Other done ok firm base taken stands stage a = ok
-under_kept plan w (Begins t c) done ok firm base taken stands stage a = ok
-under_kept plan w (Takes t) done ok firm base taken stands stage a = ok
-under_kept plan w (Checks t i) done ok firm base taken stands stage a = ok
-under_kept plan w (Ends t) done ok firm base taken stands stage a = ok
-under_kept plan w (Stops c) done ok firm base taken stands stage a = ok
+under_kept plan w (Prepares t k word) done ok firm base accepted agrees stage a = under_prepare plan w t k word done ok firm accepted base (stage t) a
+under_kept plan w (Decides t word) done ok firm base accepted agrees stage a = under_decide plan w t word done ok agrees
+under_kept plan w (Aborts t m word) done ok firm base accepted agrees stage a = under_abort plan w t m word done ok a
+under_kept plan w (Rolls t0 k0 d) done ok firm base accepted agrees stage a = λ t k h n. shadow_roll plan w t0 k0 k d done a ∙ ok t k h n
+under_kept plan w (Removes k0 t0) done ok firm base accepted agrees stage a = λ t k h n. shadow_remove plan w k0 k t0 done a ∙ ok t k h n
+under_kept plan w Other done ok firm base accepted agrees stage a = ok
+under_kept plan w (Begins t c) done ok firm base accepted agrees stage a = ok
+under_kept plan w (Takes t) done ok firm base accepted agrees stage a = ok
+under_kept plan w (Checks t i) done ok firm base accepted agrees stage a = ok
+under_kept plan w (Ends t) done ok firm base accepted agrees stage a = ok
+under_kept plan w (Stops c) done ok firm base accepted agrees stage a = ok
 
 pub saw_now : (plan : ℕ → Plan) (w : History) (t : ℕ) (k : Key) (found : Option ℕ) → GoneOk plan w → RemovedBeforeBegin w → IsLive w.protocol t → has_version (w.rows k) found ≡ true → Saw plan w t k found (shadow plan w k)
 saw_now plan w t k found gone removed live h = grind (arith, tests, gone k, removed t k)
@@ -121,15 +120,15 @@ over_kept plan w (Stops c) done ok writer heard a = ok
 pub saw_same : (plan : ℕ → Plan) (w v : History) (t : ℕ) (k : Key) (found x : Option ℕ) → v.protocol.begun t ≡ w.protocol.begun t → ((u : ℕ) → x ≡ Some u → v.decided_at u ≡ w.decided_at u) → Saw plan w t k found x → Saw plan v t k found x
 saw_same plan w v t k found x b d s = grind arith
 
-pub begun_stays : (plan : ℕ → Plan) (w : History) (r : Action) (done : Bool) (t : ℕ) → BegunOk w → w.protocol.taken t ≡ true → Allowed plan w r done → (happens plan w r done).protocol.begun t ≡ w.protocol.begun t
+pub begun_stays : (plan : ℕ → Plan) (w : History) (r : Action) (done : Bool) (t : ℕ) → BegunOk w → w.protocol.accepted t ≡ true → Allowed plan w r done → (happens plan w r done).protocol.begun t ≡ w.protocol.begun t
 begun_stays plan w r done t ok h a = grind (arith, tests, ok t)
 
-pub took_taken : (w : History) (t : ℕ) (k : Key) → TakenOk w → w.took_effect t k ≡ true → w.protocol.taken t ≡ true
+pub took_taken : (w : History) (t : ℕ) (k : Key) → TakenOk w → w.took_effect t k ≡ true → w.protocol.accepted t ≡ true
 took_taken w t k ok h = grind (arith, ok t k 0)
 
 saw_stays : (plan : ℕ → Plan) (w : History) (r : Action) (done : Bool) (t : ℕ) (k : Key) → SawOk plan w → OverOk plan w → TakenOk w → BegunOk w → Allowed plan w r done → w.took_effect t k ≡ true → Saw plan (happens plan w r done) t k (base_of (written (plan t) k)) (w.under t k)
-saw_stays plan w r done t k ok over taken begun a h =
-    saw_same plan w (happens plan w r done) t k (base_of (written (plan t) k)) (w.under t k) (begun_stays plan w r done t begun (took_taken w t k taken h) a) (λ u e. stays u (over t k u h e).0) (ok t k h)
+saw_stays plan w r done t k ok over accepted begun a h =
+    saw_same plan w (happens plan w r done) t k (base_of (written (plan t) k)) (w.under t k) (begun_stays plan w r done t begun (took_taken w t k accepted h) a) (λ u e. stays u (over t k u h e).0) (ok t k h)
   where
     stays : (u : ℕ) → IsWriter plan w k u → (happens plan w r done).decided_at u ≡ w.decided_at u
     stays u x = grind (arith, decided_kept plan w r done u a, x)
@@ -150,14 +149,14 @@ saw_prepare plan w t0 k0 word done ok gone removed a t k h =
     ]
 
 pub saw_kept : (plan : ℕ → Plan) (w : History) (r : Action) (done : Bool) → SawOk plan w → OverOk plan w → TakenOk w → BegunOk w → GoneOk plan w → RemovedBeforeBegin w → Allowed plan w r done → SawOk plan (happens plan w r done)
-saw_kept plan w (Prepares t k word) done ok over taken begun gone removed a = saw_prepare plan w t k word done ok gone removed a
-saw_kept plan w (Decides u word) done ok over taken begun gone removed a = λ t k h. saw_stays plan w (Decides u word) done t k ok over taken begun a h
-saw_kept plan w (Aborts u m word) done ok over taken begun gone removed a = λ t k h. saw_stays plan w (Aborts u m word) done t k ok over taken begun a h
-saw_kept plan w (Begins u c) done ok over taken begun gone removed a = λ t k h. saw_stays plan w (Begins u c) done t k ok over taken begun a h
-saw_kept plan w Other done ok over taken begun gone removed a = ok
-saw_kept plan w (Takes t) done ok over taken begun gone removed a = ok
-saw_kept plan w (Checks t i) done ok over taken begun gone removed a = ok
-saw_kept plan w (Rolls t k d) done ok over taken begun gone removed a = ok
-saw_kept plan w (Removes k t) done ok over taken begun gone removed a = ok
-saw_kept plan w (Ends t) done ok over taken begun gone removed a = ok
-saw_kept plan w (Stops c) done ok over taken begun gone removed a = ok
+saw_kept plan w (Prepares t k word) done ok over accepted begun gone removed a = saw_prepare plan w t k word done ok gone removed a
+saw_kept plan w (Decides u word) done ok over accepted begun gone removed a = λ t k h. saw_stays plan w (Decides u word) done t k ok over accepted begun a h
+saw_kept plan w (Aborts u m word) done ok over accepted begun gone removed a = λ t k h. saw_stays plan w (Aborts u m word) done t k ok over accepted begun a h
+saw_kept plan w (Begins u c) done ok over accepted begun gone removed a = λ t k h. saw_stays plan w (Begins u c) done t k ok over accepted begun a h
+saw_kept plan w Other done ok over accepted begun gone removed a = ok
+saw_kept plan w (Takes t) done ok over accepted begun gone removed a = ok
+saw_kept plan w (Checks t i) done ok over accepted begun gone removed a = ok
+saw_kept plan w (Rolls t k d) done ok over accepted begun gone removed a = ok
+saw_kept plan w (Removes k t) done ok over accepted begun gone removed a = ok
+saw_kept plan w (Ends t) done ok over accepted begun gone removed a = ok
+saw_kept plan w (Stops c) done ok over accepted begun gone removed a = ok

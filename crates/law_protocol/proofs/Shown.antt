@@ -2,18 +2,11 @@
 use Rattle.std.proofs.Common.{◌≡◌, ◌≢◌, Bool, true, false, cond, List, [], ◌∷◌, map, filter, option_map, IfSome, Option, Some, None, ◌⊎◌, inl, inr, refl, sym, ap, subst, ◌∙◌}
 use Rattle.std.specs.Prelude.{if◌then◌else◌}
 use Rattle.std.specs.Ordering.{is_eq}
-use Rattle.std.specs.declared.cmp.Ordering.{Ordering}
+use Rattle.law_protocol.specs.Types.{Condition, Event, Key, Ordering, Pair, Place, Record, Reply, Request, Span}
 use Rattle.std.specs.declared.cmp.Ordering.TheVariants.{Less, Equal, Greater}
 use Rattle.std.specs.FinMap as map_of
 use Rattle.std.specs.FinMap.{entries, get-entries}
-use Rattle.sdb_types.specs.declared.key.Key.{Key}
-use Rattle.sdb_types.specs.declared.pair.Pair.{Pair}
-use Rattle.sdb_types.specs.declared.record.Record.{Record}
-use Rattle.sdb_types.specs.declared.record.Span.{Span}
-use Rattle.sdb_types.specs.declared.record.Condition.{Condition}
-use Rattle.sdb_types.specs.declared.record.Request.{Request}
 use Rattle.sdb_types.specs.declared.record.Request.TheVariants as ask
-use Rattle.sdb_types.specs.declared.record.Reply.{Reply}
 use Rattle.sdb_types.specs.declared.record.Reply.TheVariants as reply
 use Rattle.sdb_types.specs.Order.{key_cmp, table_cmp, same_key}
 use Rattle.sdb_types.specs.Contents.{Contents, record_at, record_of, in_span, is_partition, rows_among, rows_in, holds, put_reply, reply_to, after, record_among}
@@ -21,10 +14,8 @@ use Rattle.sdb_types.proofs.Bools.{and_first}
 use Rattle.sdb_types.proofs.KeyOrder.{table_exact}
 use Rattle.sdb_types.proofs.Replies.{record_at-key}
 use Rattle.sdb_types.proofs.Keys.{same_key_tells}
-use Rattle.sdb_model.specs.declared.event.Event.{Event}
 use Rattle.sdb_model.specs.declared.event.Event.TheVariants as event
-use Rattle.sdb_types.specs.declared.place.Place.{Place}
-use Rattle.sdb_model.specs.Events.{StoreContents, Effect, standing, table_asked}
+use Rattle.sdb_model.specs.Events.{StoreContents, Effect, stored_at, table_asked}
 use Rattle.law_protocol.specs.Lawful.{InReply, InEvent}
 use Rattle.law_protocol.proofs.Effects.{AtCall, at_call}
 
@@ -73,8 +64,8 @@ row_within span k x (d ∷ es) e = by (row_within span k x es) (in_span span d.0
 
 ---- replies
 
-found_stood : (places : List Place) (q : Request) (r : Reply) (before now : List StoreContents) (a : AtCall places q r before now) (key : Key) (x : Record) → key.table.ns ≡ (table_asked q).ns → record_at a.held key ≡ Some x → standing places before x.key ≡ Some x
-found_stood places q r before now a key x ns e = ap (standing places before) same ∙ (a.here key ns).0 ∙ e
+found_stood : (places : List Place) (q : Request) (r : Reply) (before now : List StoreContents) (a : AtCall places q r before now) (key : Key) (x : Record) → key.table.ns ≡ (table_asked q).ns → record_at a.held key ≡ Some x → stored_at places before x.key ≡ Some x
+found_stood places q r before now a key x ns e = ap (stored_at places before) same ∙ (a.here key ns).0 ∙ e
   where
     own : (o : Option Record) → record_at a.held key ≡ o → IfSome o (λ y. y.key ≡ key) → o ≡ Some x → x.key ≡ key
     own None f h g = absurd (cc)
@@ -101,7 +92,7 @@ in_unmet c o x h = by (holds c o) h
     by true h = absurd h
     by false h = unmet o h
 
-shown_by : (places : List Place) (q : Request) (r : Reply) (before now : List StoreContents) (a : AtCall places q r before now) (x : Record) → InReply (reply_to q a.held) x → standing places before x.key ≡ Some x
+shown_by : (places : List Place) (q : Request) (r : Reply) (before now : List StoreContents) (a : AtCall places q r before now) (x : Record) → InReply (reply_to q a.held) x → stored_at places before x.key ≡ Some x
 shown_by places (ask.Get key) r before now a x h = found_stood places (ask.Get key) r before now a key x refl (in_found (record_at a.held key) x h)
 shown_by places (ask.Scan span) r before now a x h =
     let within = row_within span x.key x (entries a.held) h in
@@ -109,7 +100,7 @@ shown_by places (ask.Scan span) r before now a x h =
 shown_by places (ask.PutIf rec c) r before now a x h = found_stood places (ask.PutIf rec c) r before now a rec.key x refl (in_unmet c (record_at a.held rec.key) x h)
 shown_by places (ask.DeleteIf key c) r before now a x h = found_stood places (ask.DeleteIf key c) r before now a key x refl (in_unmet c (record_at a.held key) x h)
 
-shown_call : (places : List Place) (q : Request) (r : Reply) (before now : List StoreContents) → AtCall places q r before now → (x : Record) → InReply r x → standing places before x.key ≡ Some x
+shown_call : (places : List Place) (q : Request) (r : Reply) (before now : List StoreContents) → AtCall places q r before now → (x : Record) → InReply r x → stored_at places before x.key ≡ Some x
 shown_call places q r before now a x h = elim a.moved [
   | inl m ↦ elim m.1 [
     | inl e ↦ shown_by places q r before now a x (subst (λ y. InReply y x) e h)
@@ -121,7 +112,7 @@ shown_call places q r before now a x h = elim a.moved [
   ]
 ]
 
-pub stood : (places : List Place) (e : Event) (before now : List StoreContents) (x : Record) → Effect places e before now → InEvent e x → standing places before x.key ≡ Some x
+pub stood : (places : List Place) (e : Event) (before now : List StoreContents) (x : Record) → Effect places e before now → InEvent e x → stored_at places before x.key ≡ Some x
 stood places (event.Call client store q how r answer) before now x c h = shown_call places q r before now (at_call places store q how r before now c) x h
 stood places (event.Take client text answer) before now x c h = absurd h
 stood places (event.Stop client) before now x c h = absurd h
@@ -130,7 +121,7 @@ stood places (event.Idle client) before now x c h = absurd h
 
 ---- reads
 
-pub get_reply : (places : List Place) (key : Key) (r : Reply) (found : Option Record) (before now : List StoreContents) → AtCall places (ask.Get key) r before now → r ≡ reply.Found found → found ≡ standing places before key
+pub get_reply : (places : List Place) (key : Key) (r : Reply) (found : Option Record) (before now : List StoreContents) → AtCall places (ask.Get key) r before now → r ≡ reply.Found found → found ≡ stored_at places before key
 get_reply places key r found before now a e = elim a.moved [
   | inl m ↦ elim m.1 [
     | inl x ↦ some (sym e ∙ x) ∙ sym (a.here key refl).0
@@ -148,7 +139,7 @@ get_reply places key r found before now a e = elim a.moved [
     wanting : reply.Found found ≡ reply.NoMemory → ⊥
     wanting x = cc
 
-pub scan_reply : (places : List Place) (span : Span) (r : Reply) (rows : List Record) (before now : List StoreContents) → AtCall places (ask.Scan span) r before now → r ≡ reply.Rows rows → (k : Key) → in_span span k ≡ true → record_among rows k ≡ standing places before k
+pub scan_reply : (places : List Place) (span : Span) (r : Reply) (rows : List Record) (before now : List StoreContents) → AtCall places (ask.Scan span) r before now → r ≡ reply.Rows rows → (k : Key) → in_span span k ≡ true → record_among rows k ≡ stored_at places before k
 scan_reply places span r rows before now a e k h = elim a.moved [
   | inl m ↦ elim m.1 [
     | inl x ↦ ap (λ z. record_among z k) (some (sym e ∙ x)) ∙ row_there span k a.held h ∙ sym (a.here k (span_table span k h)).0
@@ -167,7 +158,7 @@ scan_reply places span r rows before now a e k h = elim a.moved [
     wanting x = cc
 
 -- a read leaves everything as it was
-pub read_leaves : (places : List Place) (q : Request) (r : Reply) (before now : List StoreContents) → AtCall places q r before now → ((m : Contents) → after q m ≡ m) → (k : Key) → standing places now k ≡ standing places before k
+pub read_leaves : (places : List Place) (q : Request) (r : Reply) (before now : List StoreContents) → AtCall places q r before now → ((m : Contents) → after q m ≡ m) → (k : Key) → stored_at places now k ≡ stored_at places before k
 read_leaves places q r before now a same k = elim (a.there k) [
   | inl x ↦ x.1 ∙ ap (λ m. record_at m k) (left a.moved) ∙ sym x.0
   | inr x ↦ x.0

@@ -1,15 +1,9 @@
 -- What happens on several stores happens on one that holds the same of the tables that are played.
 use Rattle.std.proofs.Common.{◌≡◌, true, List, [], ◌∷◌, Some, inl, inr, refl, sym, ap, subst, ◌∙◌}
-use Rattle.sdb_types.specs.declared.key.TableName.{TableName}
-use Rattle.sdb_types.specs.declared.record.Request.{Request}
-use Rattle.sdb_types.specs.declared.record.Reply.{Reply}
+use Rattle.law_protocol.specs.Types.{Event, How, Place, Reply, Request, Table, TableName}
 use Rattle.sdb_types.specs.Contents.{Contents, record_at, after}
-use Rattle.sdb_schema.specs.declared.table.Table.{Table}
-use Rattle.sdb_model.specs.declared.event.Event.{Event}
 use Rattle.sdb_model.specs.declared.event.Event.TheVariants as event
-use Rattle.sdb_model.specs.declared.event.How.{How}
 use Rattle.sdb_model.specs.declared.event.How.TheVariants.{Seen, Lost, Discarded, Broken}
-use Rattle.sdb_types.specs.declared.place.Place.{Place}
 use Rattle.sdb_model.specs.Rows.{Name}
 use Rattle.sdb_model.specs.Events.{StoreContents, Effect, IsTrace, IsCall, IsPerformed, contents_under, with_contents, store_of, table_asked}
 use Rattle.law_protocol.proofs.Effects.{stands_in_store}

@@ -1,8 +1,7 @@
 -- Each small invariant is kept by each part.
 use Rattle.std.proofs.Common.{◌≡◌, ◌≢◌, ℕ, ◌+◌, ◌<◌, ◌≤◌, Bool, true, false, [], Option, Some, None, ◌⊎◌, inl, inr, refl, arith}
-use Rattle.sdb_types.specs.declared.key.Key.{Key}
+use Rattle.law_protocol.specs.Types.{Decision, Key}
 use Rattle.sdb_types.proofs.Keys.{tests}
-use Rattle.sdb_record.specs.declared.coordinator.Decision.{Decision}
 use Rattle.sdb_record.specs.declared.coordinator.Decision.TheVariants.{Committed, Aborted}
 use Rattle.law_protocol.specs.Plan.{Plan, written, deletes, version_read_at}
 use Rattle.law_protocol.specs.History.{Action, Other, Begins, Takes, Prepares, Checks, Decides, Aborts, Rolls, Removes, Ends, Stops, Ack, Deciding, History, Final, Held, base_of, happens, IsWriter}
@@ -30,9 +29,9 @@ point_kept plan w r done ok t = grind (arith, tests, ok t)
 pub point_grows : (plan : ℕ → Plan) (w : History) (r : Action) (done : Bool) (t : ℕ) → PointOk w → w.protocol.point t ≤ (happens plan w r done).protocol.point t
 point_grows plan w r done t ok = grind (arith, tests, ok t)
 
--- what is asked of a transaction comes after its COMMIT was taken
+-- what is asked of a transaction comes after its COMMIT was accepted
 abbrev pub TakenOk : History → Type 0
-TakenOk w = (t : ℕ) (k : Key) (i : ℕ) → w.protocol.taken t ≡ false → (w.protocol.asked t k ≡ false) × (w.protocol.told t k ≡ false) × (w.took_effect t k ≡ false) × (w.protocol.checked t i ≡ false) × (w.row t ≢ Some Committed) × (w.protocol.risked t ≡ false)
+TakenOk w = (t : ℕ) (k : Key) (i : ℕ) → w.protocol.accepted t ≡ false → (w.protocol.asked t k ≡ false) × (w.protocol.answered t k ≡ false) × (w.took_effect t k ≡ false) × (w.protocol.checked t i ≡ false) × (w.row t ≢ Some Committed) × (w.protocol.risked t ≡ false)
 
 pub taken_kept : (plan : ℕ → Plan) (w : History) (r : Action) (done : Bool) → TakenOk w → Allowed plan w r done → TakenOk (happens plan w r done)
 taken_kept plan w r done ok a t k i h = grind (arith, tests, ok t k i)
@@ -43,16 +42,16 @@ AskedOk plan w = (t : ℕ) (k : Key) → w.protocol.asked t k ≡ true → writt
 pub asked_kept : (plan : ℕ → Plan) (w : History) (r : Action) (done : Bool) → AskedOk plan w → Allowed plan w r done → AskedOk plan (happens plan w r done)
 asked_kept plan w r done ok a t k h = grind (arith, tests, ok t k)
 
--- a prepare takes effect after it is asked, and before it is told
+-- a prepare takes effect after it is asked, and before it is answered
 abbrev pub TookOk : History → Type 0
-TookOk w = (t : ℕ) (k : Key) → (w.took_effect t k ≡ true → (w.protocol.asked t k ≡ true) × (w.prepared_at t k ≤ w.protocol.now)) × (w.protocol.told t k ≡ true → (w.took_effect t k ≡ true) × (w.prepared_at t k ≤ w.protocol.point t))
+TookOk w = (t : ℕ) (k : Key) → (w.took_effect t k ≡ true → (w.protocol.asked t k ≡ true) × (w.prepared_at t k ≤ w.protocol.now)) × (w.protocol.answered t k ≡ true → (w.took_effect t k ≡ true) × (w.prepared_at t k ≤ w.protocol.point t))
 
 pub took_kept : (plan : ℕ → Plan) (w : History) (r : Action) (done : Bool) → TookOk w → PointOk w → TakenOk w → Allowed plan w r done → TookOk (happens plan w r done)
-took_kept plan w r done ok point taken a t k = grind (arith, tests, ok t k, point t, taken t k 0)
+took_kept plan w r done ok point accepted a t k = grind (arith, tests, ok t k, point t, accepted t k 0)
 
--- a transaction begins before its COMMIT is taken
+-- a transaction begins before its COMMIT is accepted
 abbrev pub BegunOk : History → Type 0
-BegunOk w = (t : ℕ) → (w.protocol.is_open t ≡ true → w.protocol.begun t ≢ 0) × (w.protocol.taken t ≡ true → (w.protocol.begun t ≢ 0) × (w.protocol.begun t < w.protocol.point t))
+BegunOk w = (t : ℕ) → (w.protocol.is_open t ≡ true → w.protocol.begun t ≢ 0) × (w.protocol.accepted t ≡ true → (w.protocol.begun t ≢ 0) × (w.protocol.begun t < w.protocol.point t))
 
 pub begun_kept : (plan : ℕ → Plan) (w : History) (r : Action) (done : Bool) → BegunOk w → PointOk w → Allowed plan w r done → BegunOk (happens plan w r done)
 begun_kept plan w r done ok point a t = grind (arith, tests, ok t, point t)
@@ -66,11 +65,11 @@ apart_kept plan w r done ok point t u ne eq = grind (arith, tests, ok t u, point
 
 ---- rows of the coordinator
 
--- a recorded transaction is past deciding, had all prepares told and all checks made, and its base of a key is what it noted
+-- a recorded transaction is past deciding, had all prepares answered and all checks made, and its base of a key is what it noted
 pub record IsDecided (plan : ℕ → Plan) (w : History) (t : ℕ) : Type 0 where
   pub stage : w.protocol.stage t ≡ Deciding
   pub risked : w.protocol.risked t ≡ true
-  pub told : (k : Key) → written (plan t) k ≢ None → w.protocol.told t k ≡ true
+  pub answered : (k : Key) → written (plan t) k ≢ None → w.protocol.answered t k ≡ true
   pub checked : (i : ℕ) (k : Key) (found : Option ℕ) → version_read_at (plan t) i k ≡ Some found → written (plan t) k ≡ None → w.protocol.checked t i ≡ true
   pub agrees : (i : ℕ) (k : Key) (found base : Option ℕ) → version_read_at (plan t) i k ≡ Some found → written (plan t) k ≡ Some base → found ≡ base
   pub point : w.protocol.point t < w.decided_at t
@@ -79,10 +78,10 @@ abbrev pub DecidedOk : (ℕ → Plan) → History → Type 0
 DecidedOk plan w = (t : ℕ) → w.row t ≡ Some Committed → IsDecided plan w t
 
 -- what becomes of a decided transaction's fields
-decided_same : (plan : ℕ → Plan) (w : History) (r : Action) (done : Bool) (t : ℕ) → w.row t ≡ Some Committed → w.protocol.taken t ≡ true → w.protocol.stage t ≡ Deciding → w.protocol.risked t ≡ true → Allowed plan w r done → ((happens plan w r done).protocol.stage t ≡ Deciding) × ((happens plan w r done).protocol.risked t ≡ true) × ((happens plan w r done).protocol.point t ≡ w.protocol.point t) × ((happens plan w r done).decided_at t ≡ w.decided_at t)
-decided_same plan w r done t h taken stage risked a = grind (arith, tests)
+decided_same : (plan : ℕ → Plan) (w : History) (r : Action) (done : Bool) (t : ℕ) → w.row t ≡ Some Committed → w.protocol.accepted t ≡ true → w.protocol.stage t ≡ Deciding → w.protocol.risked t ≡ true → Allowed plan w r done → ((happens plan w r done).protocol.stage t ≡ Deciding) × ((happens plan w r done).protocol.risked t ≡ true) × ((happens plan w r done).protocol.point t ≡ w.protocol.point t) × ((happens plan w r done).decided_at t ≡ w.decided_at t)
+decided_same plan w r done t h accepted stage risked a = grind (arith, tests)
 
-decided_told : (plan : ℕ → Plan) (w : History) (r : Action) (done : Bool) (t : ℕ) (k : Key) → w.protocol.stage t ≡ Deciding → Allowed plan w r done → w.protocol.told t k ≡ true → (happens plan w r done).protocol.told t k ≡ true
+decided_told : (plan : ℕ → Plan) (w : History) (r : Action) (done : Bool) (t : ℕ) (k : Key) → w.protocol.stage t ≡ Deciding → Allowed plan w r done → w.protocol.answered t k ≡ true → (happens plan w r done).protocol.answered t k ≡ true
 decided_told plan w r done t k stage a h = grind (arith, tests)
 
 pub checked_stays : (plan : ℕ → Plan) (w : History) (r : Action) (done : Bool) (t i : ℕ) → w.protocol.checked t i ≡ true → (happens plan w r done).protocol.checked t i ≡ true
@@ -92,7 +91,7 @@ checked_stays plan w r done t i h = grind (arith, tests)
 committed_now : (plan : ℕ → Plan) (w : History) (r : Action) (done : Bool) (t : ℕ) → (happens plan w r done).row t ≡ Some Committed → w.row t ≢ Some Committed → Allowed plan w r done → ((happens plan w r done).protocol.stage t ≡ Deciding) × ((happens plan w r done).protocol.risked t ≡ true) × ((happens plan w r done).protocol.point t ≡ w.protocol.point t) × ((happens plan w r done).decided_at t ≡ w.protocol.now + 1)
 committed_now plan w r done t h n a = grind (arith, tests)
 
-committed_told : (plan : ℕ → Plan) (w : History) (r : Action) (done : Bool) (t : ℕ) (k : Key) → (happens plan w r done).row t ≡ Some Committed → w.row t ≢ Some Committed → Allowed plan w r done → written (plan t) k ≢ None → (happens plan w r done).protocol.told t k ≡ true
+committed_told : (plan : ℕ → Plan) (w : History) (r : Action) (done : Bool) (t : ℕ) (k : Key) → (happens plan w r done).row t ≡ Some Committed → w.row t ≢ Some Committed → Allowed plan w r done → written (plan t) k ≢ None → (happens plan w r done).protocol.answered t k ≡ true
 committed_told plan w (Decides u word) done t k h n a wr = grind (arith, tests, a.2 k)
 committed_told plan w Other done t k h n a wr = absurd (n h)
 committed_told plan w (Begins u c) done t k h n a wr = absurd (n h)
@@ -140,23 +139,23 @@ was_committed None = grind arith
 was_committed (Some Committed) = inl refl
 was_committed (Some Aborted) = grind arith
 
-taken_of : (w : History) (t : ℕ) (k : Key) → TakenOk w → w.row t ≡ Some Committed → w.protocol.taken t ≡ true
+taken_of : (w : History) (t : ℕ) (k : Key) → TakenOk w → w.row t ≡ Some Committed → w.protocol.accepted t ≡ true
 taken_of w t k ok h = grind (arith, ok t k 0)
 
 join_decided : (plan : ℕ → Plan) (w v : History) (t : ℕ) → v.protocol.stage t ≡ Deciding → v.protocol.risked t ≡ true → v.protocol.point t < v.decided_at t
-    → ((k : Key) → written (plan t) k ≢ None → v.protocol.told t k ≡ true)
+    → ((k : Key) → written (plan t) k ≢ None → v.protocol.answered t k ≡ true)
     → ((i : ℕ) (k : Key) (found : Option ℕ) → version_read_at (plan t) i k ≡ Some found → written (plan t) k ≡ None → v.protocol.checked t i ≡ true)
     → ((i : ℕ) (k : Key) (found base : Option ℕ) → version_read_at (plan t) i k ≡ Some found → written (plan t) k ≡ Some base → found ≡ base)
     → IsDecided plan v t
-join_decided plan w v t s r p a b c = record { stage = s; risked = r; told = a; checked = b; agrees = c; point = p }
+join_decided plan w v t s r p a b c = record { stage = s; risked = r; answered = a; checked = b; agrees = c; point = p }
 
 pub decided_ok : (plan : ℕ → Plan) (w : History) (r : Action) (done : Bool) → DecidedOk plan w → PointOk w → TakenOk w → Allowed plan w r done → DecidedOk plan (happens plan w r done)
-decided_ok plan w r done ok point taken a t h = elim (was_committed (w.row t)) [
+decided_ok plan w r done ok point accepted a t h = elim (was_committed (w.row t)) [
   | inl old ↦
       let i = ok t old in
-      let s = decided_same plan w r done t old (taken_of w t any_key taken old) i.stage i.risked a in
+      let s = decided_same plan w r done t old (taken_of w t any_key accepted old) i.stage i.risked a in
       join_decided plan w (happens plan w r done) t s.0 s.1 (below s.2 s.3 i.point)
-      (λ k wr. decided_told plan w r done t k i.stage a (i.told k wr))
+      (λ k wr. decided_told plan w r done t k i.stage a (i.answered k wr))
       (λ j k found nt wr. checked_stays plan w r done t j (i.checked j k found nt wr))
       i.agrees
   | inr new ↦
@@ -175,9 +174,9 @@ decided_ok plan w r done ok point taken a t h = elim (was_committed (w.row t)) [
 
 -- the point of a recorded transaction stays
 pub point_fixed : (plan : ℕ → Plan) (w : History) (r : Action) (done : Bool) (t : ℕ) → DecidedOk plan w → TakenOk w → Allowed plan w r done → w.row t ≡ Some Committed → (happens plan w r done).protocol.point t ≡ w.protocol.point t
-point_fixed plan w r done t ok taken a h = (decided_same plan w r done t h (taken_of w t any_key taken h) (ok t h).stage (ok t h).risked a).2
+point_fixed plan w r done t ok accepted a h = (decided_same plan w r done t h (taken_of w t any_key accepted h) (ok t h).stage (ok t h).risked a).2
 
--- what was told of a row is so
+-- what was answered of a row is so
 abbrev pub HeardOk : History → Type 0
 HeardOk w = (t : ℕ) → (w.protocol.won t ≡ true → w.row t ≡ Some Committed) × (w.protocol.dead t ≡ true → w.row t ≡ Some Aborted) × (w.protocol.met t ≡ true → w.row t ≢ None) × (w.row t ≢ None → w.decided_at t ≤ w.protocol.now)
 
@@ -192,13 +191,13 @@ FirmOk plan w = (k : Key) (t : ℕ) → w.rows k ≡ Some (Final t) → IsWriter
 abbrev pub HeldOk : History → Type 0
 HeldOk w = (k : Key) (t : ℕ) → w.rows k ≡ Some (Held t) → w.took_effect t k ≡ true
 
--- the bases of a transaction whose COMMIT was taken are of recorded writers
+-- the bases of a transaction whose COMMIT was accepted are of recorded writers
 abbrev pub BaseOk : (ℕ → Plan) → History → Type 0
-BaseOk plan w = (t : ℕ) (k : Key) (u : ℕ) → w.protocol.taken t ≡ true → base_of (written (plan t) k) ≡ Some u → IsWriter plan w k u
+BaseOk plan w = (t : ℕ) (k : Key) (u : ℕ) → w.protocol.accepted t ≡ true → base_of (written (plan t) k) ≡ Some u → IsWriter plan w k u
 
 -- and so is what it noted, with earlier points
 abbrev pub NotedOk : (ℕ → Plan) → History → Type 0
-NotedOk plan w = (t i : ℕ) (k : Key) (u : ℕ) → w.protocol.taken t ≡ true → version_read_at (plan t) i k ≡ Some (Some u) → IsWriter plan w k u × (w.protocol.point u < w.protocol.point t)
+NotedOk plan w = (t i : ℕ) (k : Key) (u : ℕ) → w.protocol.accepted t ≡ true → version_read_at (plan t) i k ≡ Some (Some u) → IsWriter plan w k u × (w.protocol.point u < w.protocol.point t)
 
 abbrev pub GoneOk : (ℕ → Plan) → History → Type 0
 GoneOk plan w = (k : Key) (u : ℕ) → w.gone k ≡ Some u → IsWriter plan w k u × (deletes (plan u) k ≡ true)
@@ -208,7 +207,7 @@ abbrev pub StandsOk : History → Type 0
 StandsOk w = (t : ℕ) (k : Key) → w.took_effect t k ≡ true → w.row t ≡ None → w.rows k ≡ Some (Held t)
 
 pub held_kept : (plan : ℕ → Plan) (w : History) (r : Action) (done : Bool) → HeldOk w → TakenOk w → TookOk w → Allowed plan w r done → HeldOk (happens plan w r done)
-held_kept plan w r done ok taken took_effect a k t h = grind (arith, tests, ok k t, took_effect t k)
+held_kept plan w r done ok accepted took_effect a k t h = grind (arith, tests, ok k t, took_effect t k)
 
 pub base_kept : (plan : ℕ → Plan) (w : History) (r : Action) (done : Bool) → BaseOk plan w → Allowed plan w r done → BaseOk plan (happens plan w r done)
 base_kept plan w r done ok a t k u c h = grind (arith, tests, ok t k u, writer_kept plan w r done k u a, a)
@@ -223,61 +222,61 @@ firm_prepare : (plan : ℕ → Plan) (w : History) (t0 : ℕ) (k0 : Key) (word :
 firm_prepare plan w t0 k0 word done ok k t h = grind (arith, tests, ok k t)
 
 firm_roll : (plan : ℕ → Plan) (w : History) (t0 : ℕ) (k0 : Key) (d : Decision) (done : Bool) → FirmOk plan w → HeldOk w → BaseOk plan w → TakenOk w → TookOk w → AskedOk plan w → Allowed plan w (Rolls t0 k0 d) done → FirmOk plan (happens plan w (Rolls t0 k0 d) done)
-firm_roll plan w t0 k0 d done ok held base taken took_effect asked a k t h = grind (arith, tests, ok k t, held k t0, base t0 k t, taken t0 k 0, took_effect t0 k, asked t0 k)
+firm_roll plan w t0 k0 d done ok held base accepted took_effect asked a k t h = grind (arith, tests, ok k t, held k t0, base t0 k t, accepted t0 k 0, took_effect t0 k, asked t0 k)
 
 firm_remove : (plan : ℕ → Plan) (w : History) (k0 : Key) (t0 : ℕ) (done : Bool) → FirmOk plan w → FirmOk plan (happens plan w (Removes k0 t0) done)
 firm_remove plan w k0 t0 done ok k t h = grind (arith, tests, ok k t)
 
 pub firm_kept : (plan : ℕ → Plan) (w : History) (r : Action) (done : Bool) → FirmOk plan w → HeldOk w → BaseOk plan w → TakenOk w → TookOk w → AskedOk plan w → Allowed plan w r done → FirmOk plan (happens plan w r done)
-firm_kept plan w (Prepares t k word) done ok held base taken took_effect asked a = firm_prepare plan w t k word done ok
-firm_kept plan w (Rolls t k d) done ok held base taken took_effect asked a = firm_roll plan w t k d done ok held base taken took_effect asked a
-firm_kept plan w (Removes k t) done ok held base taken took_effect asked a = firm_remove plan w k t done ok
-firm_kept plan w (Decides u word) done ok held base taken took_effect asked a = λ k t h. writer_kept plan w (Decides u word) done k t a (ok k t h)
-firm_kept plan w (Aborts u m word) done ok held base taken took_effect asked a = λ k t h. writer_kept plan w (Aborts u m word) done k t a (ok k t h)
-firm_kept plan w Other done ok held base taken took_effect asked a = ok
-firm_kept plan w (Begins t c) done ok held base taken took_effect asked a = ok
-firm_kept plan w (Takes t) done ok held base taken took_effect asked a = ok
-firm_kept plan w (Checks t i) done ok held base taken took_effect asked a = ok
-firm_kept plan w (Ends t) done ok held base taken took_effect asked a = ok
-firm_kept plan w (Stops c) done ok held base taken took_effect asked a = ok
+firm_kept plan w (Prepares t k word) done ok held base accepted took_effect asked a = firm_prepare plan w t k word done ok
+firm_kept plan w (Rolls t k d) done ok held base accepted took_effect asked a = firm_roll plan w t k d done ok held base accepted took_effect asked a
+firm_kept plan w (Removes k t) done ok held base accepted took_effect asked a = firm_remove plan w k t done ok
+firm_kept plan w (Decides u word) done ok held base accepted took_effect asked a = λ k t h. writer_kept plan w (Decides u word) done k t a (ok k t h)
+firm_kept plan w (Aborts u m word) done ok held base accepted took_effect asked a = λ k t h. writer_kept plan w (Aborts u m word) done k t a (ok k t h)
+firm_kept plan w Other done ok held base accepted took_effect asked a = ok
+firm_kept plan w (Begins t c) done ok held base accepted took_effect asked a = ok
+firm_kept plan w (Takes t) done ok held base accepted took_effect asked a = ok
+firm_kept plan w (Checks t i) done ok held base accepted took_effect asked a = ok
+firm_kept plan w (Ends t) done ok held base accepted took_effect asked a = ok
+firm_kept plan w (Stops c) done ok held base accepted took_effect asked a = ok
 
 earlier_prepare : (plan : ℕ → Plan) (w : History) (t0 : ℕ) (k0 : Key) (word : Ack) (done : Bool) → EarlierPrepareHadRow w → StandsOk w → TookOk w → HeardOk w → Allowed plan w (Prepares t0 k0 word) done → EarlierPrepareHadRow (happens plan w (Prepares t0 k0 word) done)
-earlier_prepare plan w t0 k0 word done ok stands took_effect heard a t u k ne ht hu lt = grind (arith, tests, ok t u k, stands t k, took_effect t k, took_effect u k, heard t)
+earlier_prepare plan w t0 k0 word done ok agrees took_effect heard a t u k ne ht hu lt = grind (arith, tests, ok t u k, agrees t k, took_effect t k, took_effect u k, heard t)
 
 earlier_row : (w v : History) → EarlierPrepareHadRow w → ((t : ℕ) (k : Key) → v.took_effect t k ≡ w.took_effect t k) → ((t : ℕ) (k : Key) → v.prepared_at t k ≡ w.prepared_at t k) → ((t : ℕ) → w.row t ≢ None → (v.row t ≢ None) × (v.decided_at t ≡ w.decided_at t)) → EarlierPrepareHadRow v
 earlier_row w v ok st sp kept t u k ne ht hu lt = grind (arith, ok t u k, st t k, st u k, sp t k, sp u k, kept t)
 
 pub earlier_kept : (plan : ℕ → Plan) (w : History) (r : Action) (done : Bool) → EarlierPrepareHadRow w → StandsOk w → TookOk w → HeardOk w → Allowed plan w r done → EarlierPrepareHadRow (happens plan w r done)
-earlier_kept plan w (Prepares t k word) done ok stands took_effect heard a = earlier_prepare plan w t k word done ok stands took_effect heard a
-earlier_kept plan w (Decides u word) done ok stands took_effect heard a = earlier_row w (happens plan w (Decides u word) done) ok (λ t k. refl) (λ t k. refl) (λ t. decided_kept plan w (Decides u word) done t a)
-earlier_kept plan w (Aborts u m word) done ok stands took_effect heard a = earlier_row w (happens plan w (Aborts u m word) done) ok (λ t k. refl) (λ t k. refl) (λ t. decided_kept plan w (Aborts u m word) done t a)
-earlier_kept plan w Other done ok stands took_effect heard a = ok
-earlier_kept plan w (Begins t c) done ok stands took_effect heard a = ok
-earlier_kept plan w (Takes t) done ok stands took_effect heard a = ok
-earlier_kept plan w (Checks t i) done ok stands took_effect heard a = ok
-earlier_kept plan w (Rolls t k d) done ok stands took_effect heard a = ok
-earlier_kept plan w (Removes k t) done ok stands took_effect heard a = ok
-earlier_kept plan w (Ends t) done ok stands took_effect heard a = ok
-earlier_kept plan w (Stops c) done ok stands took_effect heard a = ok
+earlier_kept plan w (Prepares t k word) done ok agrees took_effect heard a = earlier_prepare plan w t k word done ok agrees took_effect heard a
+earlier_kept plan w (Decides u word) done ok agrees took_effect heard a = earlier_row w (happens plan w (Decides u word) done) ok (λ t k. refl) (λ t k. refl) (λ t. decided_kept plan w (Decides u word) done t a)
+earlier_kept plan w (Aborts u m word) done ok agrees took_effect heard a = earlier_row w (happens plan w (Aborts u m word) done) ok (λ t k. refl) (λ t k. refl) (λ t. decided_kept plan w (Aborts u m word) done t a)
+earlier_kept plan w Other done ok agrees took_effect heard a = ok
+earlier_kept plan w (Begins t c) done ok agrees took_effect heard a = ok
+earlier_kept plan w (Takes t) done ok agrees took_effect heard a = ok
+earlier_kept plan w (Checks t i) done ok agrees took_effect heard a = ok
+earlier_kept plan w (Rolls t k d) done ok agrees took_effect heard a = ok
+earlier_kept plan w (Removes k t) done ok agrees took_effect heard a = ok
+earlier_kept plan w (Ends t) done ok agrees took_effect heard a = ok
+earlier_kept plan w (Stops c) done ok agrees took_effect heard a = ok
 
 pub removed_kept : (plan : ℕ → Plan) (w : History) (r : Action) (done : Bool) → RemovedBeforeBegin w → GoneOk plan w → HeardOk w → Allowed plan w r done → RemovedBeforeBegin (happens plan w r done)
 removed_kept plan w r done ok gone heard a t k u h live = grind (arith, tests, ok t k u, gone k u, heard u, decided_kept plan w r done u a)
 
 noted_take : (plan : ℕ → Plan) (w : History) (t0 : ℕ) (done : Bool) → NotedOk plan w → PointOk w → TakenOk w → Allowed plan w (Takes t0) done → NotedOk plan (happens plan w (Takes t0) done)
-noted_take plan w t0 done ok point taken a t i k u c h = grind (arith, tests, ok t i k u, a.3 i k u, point u, taken u k 0)
+noted_take plan w t0 done ok point accepted a t i k u c h = grind (arith, tests, ok t i k u, a.3 i k u, point u, accepted u k 0)
 
-noted_other : (plan : ℕ → Plan) (w : History) (r : Action) (done : Bool) → NotedOk plan w → DecidedOk plan w → TakenOk w → PointOk w → Allowed plan w r done → ((t : ℕ) → (happens plan w r done).protocol.taken t ≡ w.protocol.taken t) → NotedOk plan (happens plan w r done)
-noted_other plan w r done ok decided taken point a same t i k u c h = grind (arith, ok t i k u, writer_kept plan w r done k u a, point_fixed plan w r done u decided taken a, point_grows plan w r done t point, same t)
+noted_other : (plan : ℕ → Plan) (w : History) (r : Action) (done : Bool) → NotedOk plan w → DecidedOk plan w → TakenOk w → PointOk w → Allowed plan w r done → ((t : ℕ) → (happens plan w r done).protocol.accepted t ≡ w.protocol.accepted t) → NotedOk plan (happens plan w r done)
+noted_other plan w r done ok decided accepted point a same t i k u c h = grind (arith, ok t i k u, writer_kept plan w r done k u a, point_fixed plan w r done u decided accepted a, point_grows plan w r done t point, same t)
 
 pub noted_kept : (plan : ℕ → Plan) (w : History) (r : Action) (done : Bool) → NotedOk plan w → DecidedOk plan w → TakenOk w → PointOk w → Allowed plan w r done → NotedOk plan (happens plan w r done)
-noted_kept plan w (Takes t) done ok decided taken point a = noted_take plan w t done ok point taken a
-noted_kept plan w (Prepares t k word) done ok decided taken point a = noted_other plan w (Prepares t k word) done ok decided taken point a (λ u. refl)
-noted_kept plan w (Decides u word) done ok decided taken point a = noted_other plan w (Decides u word) done ok decided taken point a (λ u. refl)
-noted_kept plan w (Aborts u m word) done ok decided taken point a = noted_other plan w (Aborts u m word) done ok decided taken point a (λ u. refl)
-noted_kept plan w Other done ok decided taken point a = ok
-noted_kept plan w (Begins t c) done ok decided taken point a = ok
-noted_kept plan w (Checks t i) done ok decided taken point a = ok
-noted_kept plan w (Rolls t k d) done ok decided taken point a = ok
-noted_kept plan w (Removes k t) done ok decided taken point a = ok
-noted_kept plan w (Ends t) done ok decided taken point a = ok
-noted_kept plan w (Stops c) done ok decided taken point a = ok
+noted_kept plan w (Takes t) done ok decided accepted point a = noted_take plan w t done ok point accepted a
+noted_kept plan w (Prepares t k word) done ok decided accepted point a = noted_other plan w (Prepares t k word) done ok decided accepted point a (λ u. refl)
+noted_kept plan w (Decides u word) done ok decided accepted point a = noted_other plan w (Decides u word) done ok decided accepted point a (λ u. refl)
+noted_kept plan w (Aborts u m word) done ok decided accepted point a = noted_other plan w (Aborts u m word) done ok decided accepted point a (λ u. refl)
+noted_kept plan w Other done ok decided accepted point a = ok
+noted_kept plan w (Begins t c) done ok decided accepted point a = ok
+noted_kept plan w (Checks t i) done ok decided accepted point a = ok
+noted_kept plan w (Rolls t k d) done ok decided accepted point a = ok
+noted_kept plan w (Removes k t) done ok decided accepted point a = ok
+noted_kept plan w (Ends t) done ok decided accepted point a = ok
+noted_kept plan w (Stops c) done ok decided accepted point a = ok

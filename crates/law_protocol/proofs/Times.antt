@@ -3,16 +3,11 @@ use Rattle.std.proofs.Common.{◌≡◌, ◌≢◌, ℕ, ◌<◌, Bool, true, fa
 use Rattle.std.specs.Prelude.{fold}
 use Rattle.std.specs.Option.{option_map, option_map_or}
 use Rattle.std.specs.Result.{result_ok}
-use Rattle.sdb_record.specs.declared.coordinator.Decided.{Decided}
-use Rattle.sdb_record.specs.declared.coordinator.Decision.{Decision}
+use Rattle.law_protocol.specs.Types.{Answer, Decided, Decision, Key, Place, Record}
 use Rattle.sdb_record.specs.Coordinator.{coordinator_row_of, decision_in}
 use Rattle.sdb_record.proofs.ImageLaws.{row-decision}
-use Rattle.sdb_types.specs.declared.record.Record.{Record}
-use Rattle.sdb_model.specs.declared.answer.Answer.{Answer}
-use Rattle.sdb_types.specs.declared.key.Key.{Key}
 use Rattle.sdb_types.proofs.Keys.{tests}
 use Rattle.sdb_record.specs.declared.coordinator.Decision.TheVariants.{Committed, Aborted}
-use Rattle.sdb_types.specs.declared.place.Place.{Place}
 use Rattle.sdb_model.specs.Events.{StoreContents, IsTrace}
 use Rattle.sdb_model.specs.Tables.{is_data}
 use Rattle.law_protocol.specs.Plan.{Plan, written}
@@ -85,13 +80,13 @@ rows_final plan places opening later past more ss e r t row fits h =
 ---- what clients are answered
 
 pub told_recorded : (plan : ℕ → Plan) (places : List Place) (opening : List StoreContents) (past : List Labelled) (ss : List (List StoreContents)) (t : ℕ) → IsRunOf plan places opening past ss → IsAnsweredCommitted past t → (history plan places opening past ss).row t ≡ Some Committed
-told_recorded plan places opening [] ss t r told = absurd told
-told_recorded plan places opening (p ∷ past) [] t r told = absurd r.traced
+told_recorded plan places opening [] ss t r answered = absurd answered
+told_recorded plan places opening (p ∷ past) [] t r answered = absurd r.traced
 told_recorded plan places opening (p ∷ past) (s ∷ ss) t r (inl h) =
     let m : MayAnswer plan past p = r.lawful.2 h.0 in
     let before = whole plan places opening past ss r.empty r.lawful.0 r.traced.0 in
     let now = whole_of plan places opening (p ∷ past) (s ∷ ss) r in
-    let fits = taken_fits (history plan places opening past ss) m.t before.all.one.begun before.knows.fits (subst (λ (x : Rattle.law_protocol.specs.History.ProtocolState). x.taken m.t ≡ true) before.knows.talks m.taken) in
+    let fits = taken_fits (history plan places opening past ss) m.t before.all.one.begun before.knows.fits (subst (λ (x : Rattle.law_protocol.specs.History.ProtocolState). x.accepted m.t ≡ true) before.knows.talks m.accepted) in
     subst (λ x. (history plan places opening (p ∷ past) (s ∷ ss)).row x ≡ Some Committed) (some_is m.t t (sym m.ends ∙ h.1)) (committed_of plan (history plan places opening (p ∷ past) (s ∷ ss)) (p ∷ past) m.t m.moment now.knows fits m.known).0
   where
     some_is : (a b : ℕ) → Some a ≡ Some b → a ≡ b
@@ -104,7 +99,7 @@ abbrev Before : History → ℕ → ℕ → Type 0
 Before w t u = (w.row t ≡ Some Committed) × (w.protocol.point t < w.protocol.begun u)
 
 before_kept : (plan : ℕ → Plan) (t u : ℕ) (w : History) (r : Action) (done : Bool) → All plan w → Allowed plan w r done → (w.row t ≡ Some Committed) × (w.protocol.point t < w.protocol.begun u) → ((happens plan w r done).row t ≡ Some Committed) × ((happens plan w r done).protocol.point t < (happens plan w r done).protocol.begun u)
-before_kept plan t u w r done i a b = (row_kept plan w r done t Committed a b.0, below (point_fixed plan w r done t i.one.decided i.one.taken a b.0) (fixed b.1))
+before_kept plan t u w r done i a b = (row_kept plan w r done t Committed a b.0, below (point_fixed plan w r done t i.one.decided i.one.accepted a b.0) (fixed b.1))
   where
     fixed : w.protocol.point t < w.protocol.begun u → (happens plan w r done).protocol.begun u ≡ w.protocol.begun u
     fixed l = grind (arith, tests, a)
@@ -116,11 +111,11 @@ at_begin : (plan : ℕ → Plan) (w : History) (t u c : ℕ) (done : Bool) (ends
 at_begin plan w t u c done None i h = grind (arith, tests, i.one.point t)
 at_begin plan w t u c done (Some e) i h = grind (arith, tests, i.one.point t)
 
--- Who was told Committed before another began is before it.
+-- Who was answered Committed before another began is before it.
 pub real_time : (plan : ℕ → Plan) (places : List Place) (opening : List StoreContents) (later past : List Labelled) (p : Labelled) (more ss : List (List StoreContents)) (s : List StoreContents) (t u c : ℕ) → length later ≡ length more → IsRunOf plan places opening (later ++ p ∷ past) (more ++ s ∷ ss)
     → IsAnsweredCommitted past t → p.action ≡ Begins u c → (history plan places opening (later ++ p ∷ past) (more ++ s ∷ ss)).row u ≡ Some Committed
     → (history plan places opening (later ++ p ∷ past) (more ++ s ∷ ss)).protocol.point t < (history plan places opening (later ++ p ∷ past) (more ++ s ∷ ss)).protocol.point u
-real_time plan places opening later past p more ss s t u c e r told begins row = order (history plan places opening (later ++ p ∷ past) (more ++ s ∷ ss)) (whole_of plan places opening (later ++ p ∷ past) (more ++ s ∷ ss) r).all row (lasts plan places opening later (p ∷ past) more (s ∷ ss) (λ w. Before w t u) (before_kept plan t u) (λ w v h. h) e r here)
+real_time plan places opening later past p more ss s t u c e r answered begins row = order (history plan places opening (later ++ p ∷ past) (more ++ s ∷ ss)) (whole_of plan places opening (later ++ p ∷ past) (more ++ s ∷ ss) r).all row (lasts plan places opening later (p ∷ past) more (s ∷ ss) (λ w. Before w t u) (before_kept plan t u) (λ w v h. h) e r here)
   where
     at : IsRunOf plan places opening (p ∷ past) (s ∷ ss)
     at = front_run plan places opening later (p ∷ past) more (s ∷ ss) e r
@@ -129,13 +124,13 @@ real_time plan places opening later past p more ss s t u c e r told begins row =
     before = whole plan places opening past ss at.empty at.lawful.0 at.traced.0
 
     here : Before (history plan places opening (p ∷ past) (s ∷ ss)) t u
-    here = subst (λ x. Before (after_end plan (happens plan (history plan places opening past ss) x (has_effect places p.event (closing opening ss) s)) p.ends) t u) (sym begins) (at_begin plan (history plan places opening past ss) t u c (has_effect places p.event (closing opening ss) s) p.ends before.all (told_recorded plan places opening past ss t (earlier_run plan places opening p past s ss at) told))
+    here = subst (λ x. Before (after_end plan (happens plan (history plan places opening past ss) x (has_effect places p.event (closing opening ss) s)) p.ends) t u) (sym begins) (at_begin plan (history plan places opening past ss) t u c (has_effect places p.event (closing opening ss) s) p.ends before.all (told_recorded plan places opening past ss t (earlier_run plan places opening p past s ss at) answered))
 
     order : (w : History) → All plan w → w.row u ≡ Some Committed → Before w t u → w.protocol.point t < w.protocol.point u
-    order w i h b = less b.1 ((i.one.begun u).1 (taken h)).1
+    order w i h b = less b.1 ((i.one.begun u).1 (accepted h)).1
       where
-        taken : w.row u ≡ Some Committed → w.protocol.taken u ≡ true
-        taken h = grind (arith, i.one.taken u Rattle.law_protocol.proofs.Small.any_key 0)
+        accepted : w.row u ≡ Some Committed → w.protocol.accepted u ≡ true
+        accepted h = grind (arith, i.one.accepted u Rattle.law_protocol.proofs.Small.any_key 0)
 
         less : w.protocol.point t < w.protocol.begun u → w.protocol.begun u < w.protocol.point u → w.protocol.point t < w.protocol.point u
         less a b = omega arith
@@ -150,8 +145,8 @@ stood_before plan places opening past p ss s t k word r action done =
     let a : Allowed plan (history plan places opening past ss) (Prepares t k word) true = subst (λ x. Allowed plan (history plan places opening past ss) x true) action m.allowed in
     i.held.records k (outside i.knows a.0 a.4) ∙ ap (option_map (record_for plan k)) (is_firm (w.rows k) (base_of (written (plan t) k)) (a.5 refl)) ∙ firm_for (base_of (written (plan t) k)) ∙ sym (held_before plan t k (i.knows.planned t a.0) a.4)
   where
-    outside : Knows plan (history plan places opening past ss) past → (history plan places opening past ss).protocol.taken t ≡ true → written (plan t) k ≢ None → is_data k ≡ true
-    outside knows taken writes = ((knows.planned t taken).write k (Rattle.law_protocol.specs.Records.write_there (plan t) k) (Rattle.law_protocol.proofs.Known.writes_it (plan t) k writes)).1
+    outside : Knows plan (history plan places opening past ss) past → (history plan places opening past ss).protocol.accepted t ≡ true → written (plan t) k ≢ None → is_data k ≡ true
+    outside knows accepted writes = ((knows.planned t accepted).write k (Rattle.law_protocol.specs.Records.write_there (plan t) k) (Rattle.law_protocol.proofs.Known.writes_it (plan t) k writes)).1
 
     is_firm : (x : Option Standing) (v : Option ℕ) → has_version x v ≡ true → x ≡ final_of v
     is_firm None None h = refl
@@ -180,14 +175,14 @@ traced_of places opening labelled moments end h = turned places opening labelled
 
 -- never to be recorded
 abbrev Lost : History → ℕ → Type 0
-Lost w t = (w.row t ≡ Some Aborted) ⊎ ((w.protocol.taken t ≡ true) × (w.protocol.is_open t ≡ false) × (w.protocol.risked t ≡ false) × (w.row t ≢ Some Committed))
+Lost w t = (w.row t ≡ Some Aborted) ⊎ ((w.protocol.accepted t ≡ true) × (w.protocol.is_open t ≡ false) × (w.protocol.risked t ≡ false) × (w.row t ≢ Some Committed))
 
 lost_kept : (plan : ℕ → Plan) (t : ℕ) (w : History) (r : Action) (done : Bool) → All plan w → Allowed plan w r done → Lost w t → Lost (happens plan w r done) t
 lost_kept plan t w r done i a (inl h) = inl (row_kept plan w r done t Aborted a h)
 lost_kept plan t w r done i a (inr h) = inr (closed h.0 h.1 h.2 h.3)
   where
-    closed : w.protocol.taken t ≡ true → w.protocol.is_open t ≡ false → w.protocol.risked t ≡ false → w.row t ≢ Some Committed → ((happens plan w r done).protocol.taken t ≡ true) × ((happens plan w r done).protocol.is_open t ≡ false) × ((happens plan w r done).protocol.risked t ≡ false) × ((happens plan w r done).row t ≢ Some Committed)
-    closed taken is_closed risked row = grind (arith, tests, a, i.one.begun t)
+    closed : w.protocol.accepted t ≡ true → w.protocol.is_open t ≡ false → w.protocol.risked t ≡ false → w.row t ≢ Some Committed → ((happens plan w r done).protocol.accepted t ≡ true) × ((happens plan w r done).protocol.is_open t ≡ false) × ((happens plan w r done).protocol.risked t ≡ false) × ((happens plan w r done).row t ≢ Some Committed)
+    closed accepted is_closed risked row = grind (arith, tests, a, i.one.begun t)
 
 lost_closed : (plan : ℕ → Plan) (t : ℕ) (w : History) (u : ℕ) → Lost w t → Lost (after_end plan w (Some u)) t
 lost_closed plan t w u (inl h) = inl h
@@ -197,15 +192,15 @@ lost_row : (w : History) (t : ℕ) → Lost w t → w.row t ≢ Some Committed
 lost_row w t (inl h) e = absurd (grind arith)
 lost_row w t (inr h) e = h.3 e
 
-taken_stays : (plan : ℕ → Plan) (w : History) (r : Action) (done : Bool) (t : ℕ) → w.protocol.taken t ≡ true → (happens plan w r done).protocol.taken t ≡ true
+taken_stays : (plan : ℕ → Plan) (w : History) (r : Action) (done : Bool) (t : ℕ) → w.protocol.accepted t ≡ true → (happens plan w r done).protocol.accepted t ≡ true
 taken_stays plan w r done t h = grind (arith, tests)
 
-ended_is_closed : (plan : ℕ → Plan) (w : History) (t : ℕ) (ends : Option ℕ) → ends ≡ Some t → w.protocol.taken t ≡ true → ((after_end plan w ends).protocol.taken t ≡ true) × ((after_end plan w ends).protocol.is_open t ≡ false)
+ended_is_closed : (plan : ℕ → Plan) (w : History) (t : ℕ) (ends : Option ℕ) → ends ≡ Some t → w.protocol.accepted t ≡ true → ((after_end plan w ends).protocol.accepted t ≡ true) × ((after_end plan w ends).protocol.is_open t ≡ false)
 ended_is_closed plan w t None e h = absurd (cc)
 ended_is_closed plan w t (Some u) e h = grind (arith, tests)
 
-bad_row : (plan : ℕ → Plan) (places : List Place) (w : History) (past : List Labelled) (shelves : List StoreContents) (t : ℕ) → Whole plan places w past shelves → t < 2 ^ 128 → IsBadRow past t → ⊥
-bad_row plan places w past shelves t i fits b = by (w.row t) refl ((i.knows.shown b.row b.shown).row t fits b.key)
+bad_row : (plan : ℕ → Plan) (places : List Place) (w : History) (past : List Labelled) (store_contents : List StoreContents) (t : ℕ) → Whole plan places w past store_contents → t < 2 ^ 128 → IsBadRow past t → ⊥
+bad_row plan places w past store_contents t i fits b = by (w.row t) refl ((i.knows.observed b.row b.observed).row t fits b.key)
   where
     some_is : (x y : Record) → Some x ≡ Some y → y ≡ x
     some_is x y e = cc
@@ -220,9 +215,9 @@ bad_row plan places w past shelves t i fits b = by (w.row t) refl ((i.knows.show
         apart : Some d ≡ None → ⊥
         apart x = absurd (cc)
 
-denied_lost : (plan : ℕ → Plan) (places : List Place) (opening : List StoreContents) (past : List Labelled) (p : Labelled) (s : List StoreContents) (ss : List (List StoreContents)) (t : ℕ) → IsRunOf plan places opening (p ∷ past) (s ∷ ss) → p.ends ≡ Some t → (protocol_state past).taken t ≡ true
+denied_lost : (plan : ℕ → Plan) (places : List Place) (opening : List StoreContents) (past : List Labelled) (p : Labelled) (s : List StoreContents) (ss : List (List StoreContents)) (t : ℕ) → IsRunOf plan places opening (p ∷ past) (s ∷ ss) → p.ends ≡ Some t → (protocol_state past).accepted t ≡ true
     → (IsKnownAborted (p ∷ past) t ⊎ ((protocol_state (p ∷ past)).risked t ≡ false) ⊎ IsBadRow (p ∷ past) t) → Lost (history plan places opening (p ∷ past) (s ∷ ss)) t
-denied_lost plan places opening past p s ss t r ends taken why = by why
+denied_lost plan places opening past p s ss t r ends accepted why = by why
   where
     before : Whole plan places (history plan places opening past ss) past (closing opening ss)
     before = whole plan places opening past ss r.empty r.lawful.0 r.traced.0
@@ -230,13 +225,13 @@ denied_lost plan places opening past p s ss t r ends taken why = by why
     now : Whole plan places (history plan places opening (p ∷ past) (s ∷ ss)) (p ∷ past) s
     now = whole_of plan places opening (p ∷ past) (s ∷ ss) r
 
-    was_taken : (history plan places opening past ss).protocol.taken t ≡ true
-    was_taken = subst (λ (x : ProtocolState). x.taken t ≡ true) before.knows.talks taken
+    was_taken : (history plan places opening past ss).protocol.accepted t ≡ true
+    was_taken = subst (λ (x : ProtocolState). x.accepted t ≡ true) before.knows.talks accepted
 
     fits : t < 2 ^ 128
     fits = taken_fits (history plan places opening past ss) t before.all.one.begun before.knows.fits was_taken
 
-    closed : ((history plan places opening (p ∷ past) (s ∷ ss)).protocol.taken t ≡ true) × ((history plan places opening (p ∷ past) (s ∷ ss)).protocol.is_open t ≡ false)
+    closed : ((history plan places opening (p ∷ past) (s ∷ ss)).protocol.accepted t ≡ true) × ((history plan places opening (p ∷ past) (s ∷ ss)).protocol.is_open t ≡ false)
     closed = ended_is_closed plan (happens plan (history plan places opening past ss) p.action (has_effect places p.event (closing opening ss) s)) t p.ends ends (taken_stays plan (history plan places opening past ss) p.action (has_effect places p.event (closing opening ss) s) t was_taken)
 
     unrisked : (history plan places opening (p ∷ past) (s ∷ ss)).protocol.risked t ≡ false → (history plan places opening (p ∷ past) (s ∷ ss)).row t ≢ Some Committed

@@ -2,31 +2,18 @@
 use Rattle.std.proofs.Common.{◌≡◌, Bool, true, false, List, [], ◌∷◌, Option, Some, None, refl, sym, ap, subst, ◌∙◌, ◌⊎◌}
 use Rattle.std.specs.Prelude.{map, IsSome, IsSomeAnd, Contains, ◌↔◌, ◌||◌, is_some, slice_index_or, if◌then◌else◌}
 use Rattle.std.specs.Option.{option_and_then}
-use Rattle.sdb_types.specs.declared.key.Key.{Key}
-use Rattle.sdb_types.specs.declared.pair.Pair.{Pair}
-use Rattle.sdb_types.specs.declared.record.Record.{Record}
-use Rattle.sdb_types.specs.declared.txid.TxId.{TxId}
+use Rattle.law_protocol.specs.Types.{Answer, Decided, Event, Key, Outcome, Pair, Place, Point, Record, Script, Statement, Table, TableDump, TxId}
 use Rattle.sdb_types.specs.Contents.{Contents, record_at}
-use Rattle.sdb_schema.specs.declared.table.Table.{Table}
-use Rattle.sdb_record.specs.declared.coordinator.Decided.{Decided}
 use Rattle.sdb_record.specs.declared.coordinator.Decision.TheVariants as decision
 use Rattle.sdb_record.specs.Coordinator.{coordinator_key_of, decision_in}
 use Rattle.sdb_record.specs.Meta.{id_in}
 use Rattle.sdb_record.specs.Rolls.{image_of, row_of_image}
 use Rattle.sdb_record.proofs.NameLemmas.{same_name-itself}
 use Rattle.std.specs.Result.{result_ok}
-use Rattle.sdb_model.specs.declared.answer.Answer.{Answer}
 use Rattle.sdb_model.specs.declared.answer.Answer.TheVariants as answer
-use Rattle.sdb_model.specs.declared.event.Event.{Event}
-use Rattle.sdb_model.specs.declared.event.Outcome.{Outcome}
-use Rattle.sdb_model.specs.declared.event.Point.{Point}
-use Rattle.sdb_model.specs.declared.event.TableDump.{TableDump}
-use Rattle.sdb_types.specs.declared.place.Place.{Place}
-use Rattle.sdb_model.specs.declared.script.Script.{Script}
-use Rattle.sdb_model.specs.declared.statement.Statement.{Statement}
 use Rattle.sdb_model.specs.Rows.{Name}
 use Rattle.sdb_model.specs.Exec.{find_table}
-use Rattle.sdb_model.specs.Events.{StoreContents, standing, IsTrace}
+use Rattle.sdb_model.specs.Events.{StoreContents, stored_at, IsTrace}
 use Rattle.sdb_model.specs.Images.{decision_at, decision_on, row_at}
 use Rattle.sdb_model.specs.Transactions.{Executed, IsOrder}
 use Rattle.sdb_model.specs.Serial.{AreBodies, AreRead, answers_given, commit_answer, IsSerial, RespectsRealTime, IsRun}
@@ -39,23 +26,23 @@ use Rattle.sdb_model.specs.Tables.{is_table_of_run}
 
 ---- what is there
 
-pub one_standing : (name : Name) (m : Contents) (key : Key) → standing [] (one_store name m) key ≡ record_at m key
+pub one_standing : (name : Name) (m : Contents) (key : Key) → stored_at [] (one_store name m) key ≡ record_at m key
 one_standing name m key = rw (same_name-itself name) refl
 
 -- Several stores and the one say the same of each key that the run is about, and of each decision.
 record Alike (catalog : List Table) (places : List Place) (closing : List StoreContents) (name : Name) (m : Contents) : Type 0 where
-  stands : (key : Key) → is_table_of_run catalog key.table ≡ true → standing places closing key ≡ standing [] (one_store name m) key
+  agrees : (key : Key) → is_table_of_run catalog key.table ≡ true → stored_at places closing key ≡ stored_at [] (one_store name m) key
   decides : (id : TxId) → decision_at places closing id ≡ decision_at [] (one_store name m) id
 
 alike : (catalog : List Table) (places : List Place) (closing : List StoreContents) (name : Name) (m : Contents) → HoldAs catalog places closing m → Alike catalog places closing name m
 unfolding coordinator_key_of
-alike catalog places closing name m h = record { stands = stands; decides = decides }
+alike catalog places closing name m h = record { agrees = agrees; decides = decides }
   where
-    stands : (key : Key) → is_table_of_run catalog key.table ≡ true → standing places closing key ≡ standing [] (one_store name m) key
-    stands key t = h.at key t ∙ sym (one_standing name m key)
+    agrees : (key : Key) → is_table_of_run catalog key.table ≡ true → stored_at places closing key ≡ stored_at [] (one_store name m) key
+    agrees key t = h.at key t ∙ sym (one_standing name m key)
 
     decides : (id : TxId) → decision_at places closing id ≡ decision_at [] (one_store name m) id
-    decides id = ap (option_and_then (λ (row : Record). result_ok (decision_in row))) (stands (coordinator_key_of id) (or_true (is_some (find_table catalog (coordinator_key_of id).table))))
+    decides id = ap (option_and_then (λ (row : Record). result_ok (decision_in row))) (agrees (coordinator_key_of id) (or_true (is_some (find_table catalog (coordinator_key_of id).table))))
 
 then_same : {A B : Type 0} (f g : A → Option B) (o : Option A) → ((x : A) → f x ≡ g x) → option_and_then f o ≡ option_and_then g o
 then_same f g None h = refl
@@ -63,8 +50,8 @@ then_same f g (Some x) h = h x
 
 row_same : (catalog : List Table) (places : List Place) (closing : List StoreContents) (name : Name) (m : Contents) → Alike catalog places closing name m → (key : Key) → is_table_of_run catalog key.table ≡ true → row_at places closing key ≡ row_at [] (one_store name m) key
 row_same catalog places closing name m a key t =
-    ap (λ (found : Option Record). option_and_then row_of_image (option_and_then (λ r. image_of r (decision_on places closing r)) found)) (a.stands key t)
-    ∙ ap (option_and_then row_of_image) (then_same _ _ (standing [] (one_store name m) key) (λ r. ap (image_of r) (then_same _ _ (id_in r.columns) a.decides)))
+    ap (λ (found : Option Record). option_and_then row_of_image (option_and_then (λ r. image_of r (decision_on places closing r)) found)) (a.agrees key t)
+    ∙ ap (option_and_then row_of_image) (then_same _ _ (stored_at [] (one_store name m) key) (λ r. ap (image_of r) (then_same _ _ (id_in r.columns) a.decides)))
 
 if_same : (b : Bool) (x y : Option (List Pair)) → (b ≡ true → x ≡ y) → (if b then x else None) ≡ (if b then y else None)
 if_same true x y h = h refl
@@ -82,10 +69,10 @@ order_moved at catalog places closing name m events order a o = record {
   recorded = λ id small. subst (λ (d : Option Decided). Contains (map (λ (p : Point). p.id) order) id ↔ IsSomeAnd d (λ d. d.decision ≡ decision.Committed)) (sym (a.decides id)) (o.recorded id small);
   points = λ k d low. o.points k d low ∙ sym (point_moved at events (slice_index_or order k d).id);
   rising = o.rising;
-  taken = λ k d low. subst IsSome (sym (commit_moved at events (slice_index_or order k d).id)) (o.taken k d low);
+  accepted = λ k d low. subst IsSome (sym (commit_moved at events (slice_index_or order k d).id)) (o.accepted k d low);
 }
 
----- what was told
+---- what was answered
 
 bodies_moved : (at : Name → Name) (events : List Event) (order : List Point) (bodies : List (List Statement)) → AreBodies events order bodies → AreBodies (relocated_events at events) order bodies
 bodies_moved at events [] [] h = h
@@ -117,8 +104,8 @@ told_moved at catalog places closing name m events order tables a t = record {
   printed = t.printed;
   images = λ key. t.images key ∙ sym (if_same (is_some (find_table catalog key.table)) (row_at places closing key) (row_at [] (one_store name m) key) (λ e. row_same catalog places closing name m a key (or_first _ _ e)));
   committed = λ id small e. subst Says (sym (a.decides id)) (t.committed id small (sym (answer_moved at events id) ∙ e));
-  owned = λ client s among told.
-      let o = t.owned client s (subst (λ (ss : List Executed). Contains ss s) (said_moved at client events) among) told in
+  owned = λ client s among answered.
+      let o = t.owned client s (subst (λ (ss : List Executed). Contains ss s) (said_moved at client events) among) answered in
       record { id = o.id; fits = o.fits; owner = o.owner; commit = commit_moved at events o.id ∙ o.commit; recorded = subst Says (sym (a.decides o.id)) o.recorded };
   known = λ id small r. subst (Fates id) (sym (answer_moved at events id)) (t.known id small (subst Says (a.decides id) r));
 }
@@ -127,8 +114,8 @@ told_moved at catalog places closing name m events order tables a t = record {
 
 time_moved : (at : Name → Name) (catalog : List Table) (places : List Place) (closing : List StoreContents) (name : Name) (m : Contents) (events : List Event) (order : List Point) → Alike catalog places closing name m
     → RespectsRealTime [] events (one_store name m) order → RespectsRealTime places (relocated_events at events) closing order
-time_moved at catalog places closing name m events order a k client s among told late large recorded by n ended began behind =
-    let e = k client s (subst (λ (ss : List Executed). Contains ss s) (said_moved at client events) among) told late large (subst Says (a.decides late) recorded) by n ended (sym (begun_moved at events late) ∙ began) behind in
+time_moved at catalog places closing name m events order a k client s among answered late large recorded by n ended began behind =
+    let e = k client s (subst (λ (ss : List Executed). Contains ss s) (said_moved at client events) among) answered late large (subst Says (a.decides late) recorded) by n ended (sym (begun_moved at events late) ∙ began) behind in
     (e.0, commit_moved at events e.0 ∙ e.1, e.2)
 
 ---- the whole
@@ -144,6 +131,6 @@ run_moved script name m0 m1 o places at opening closing moments none run trace h
       follows = follows_moved at script o.events run.follows;
       consistent = trace;
       order = order_moved at script.catalog places closing name m1 o.events o.order a (subst (λ (ps : List Place). IsOrder ps o.events (one_store name m1) o.order) none run.order);
-      told = told_moved at script.catalog places closing name m1 o.events o.order o.tables a (subst (λ (ps : List Place). IsSerial script.catalog ps o.events (one_store name m1) o.order o.tables) none run.told);
+      answered = told_moved at script.catalog places closing name m1 o.events o.order o.tables a (subst (λ (ps : List Place). IsSerial script.catalog ps o.events (one_store name m1) o.order o.tables) none run.answered);
       real_time = time_moved at script.catalog places closing name m1 o.events o.order a (subst (λ (ps : List Place). RespectsRealTime ps o.events (one_store name m1) o.order) none run.real_time);
     }

@@ -3,20 +3,13 @@ use Rattle.std.proofs.Common.{◌≡◌, ◌≢◌, Bool, true, false, List, [],
 use Rattle.std.specs.Prelude.{IsSome, is_some}
 use Rattle.std.specs.FinMap.{empty}
 use Rattle.std.specs.Option.{option_map_or}
-use Rattle.sdb_types.specs.declared.key.Key.{Key}
-use Rattle.sdb_types.specs.declared.key.TableName.{TableName}
-use Rattle.sdb_types.specs.declared.record.Request.{Request}
-use Rattle.sdb_types.specs.declared.record.Reply.{Reply}
+use Rattle.law_protocol.specs.Types.{Event, How, Key, Place, Reply, Request, Table, TableName}
 use Rattle.sdb_types.specs.Contents.{Contents, record_at, after}
-use Rattle.sdb_schema.specs.declared.table.Table.{Table}
 use Rattle.sdb_record.proofs.NameLemmas.{same_name-itself, same_name-true}
-use Rattle.sdb_model.specs.declared.event.Event.{Event}
 use Rattle.sdb_model.specs.declared.event.Event.TheVariants as event
-use Rattle.sdb_model.specs.declared.event.How.{How}
 use Rattle.sdb_model.specs.declared.event.How.TheVariants.{Seen, Lost, Discarded, Broken}
-use Rattle.sdb_types.specs.declared.place.Place.{Place}
 use Rattle.sdb_model.specs.Rows.{Name, same_name}
-use Rattle.sdb_model.specs.Events.{StoreContents, contents_under, with_contents, store_of, standing, table_asked, IsPerformed, IsCall, Effect, IsTrace}
+use Rattle.sdb_model.specs.Events.{StoreContents, contents_under, with_contents, store_of, stored_at, table_asked, IsPerformed, IsCall, Effect, IsTrace}
 use Rattle.law_protocol.proofs.Effects.{store_same, held_there, held_elsewhere}
 use Rattle.law_protocol.specs.Spread.{one_store, relocated_event, relocated_events, AreAbout, HoldAs, AreShelved}
 use Rattle.law_protocol.proofs.Calls.{SameOf, same_reply, same_after, left_apart, held_as}
@@ -84,11 +77,11 @@ performed_too q Broken r h m left s p = elim p.1 [
   | inr e ↦ effected q Broken r h m left s e (p.0, inr refl)
 ]
 
----- the shelves of namespaces
+---- the contents of namespaces
 
 -- which store each namespace has
 abbrev AreAt : List Place → List StoreContents → (Name → Name) → Type 0
-AreAt places shelves at = (ns : Name) → store_of places shelves ns ≡ at ns
+AreAt places store_contents at = (ns : Name) → store_of places store_contents ns ≡ at ns
 
 taken_out : {A : Type 0} (o : Option A) → IsSome o → (x : A) × (o ≡ Some x)
 taken_out None h = absurd (cc (h))
@@ -97,14 +90,14 @@ taken_out (Some x) h = (x, refl)
 some_of : {A : Type 0} (o : Option A) (x : A) → o ≡ Some x → IsSome o
 some_of o x e = ap is_some e
 
-shelved_more : (places : List Place) (shelves : List StoreContents) (store : Name) (held left : Contents) → contents_under shelves store ≡ Some held → AreShelved places shelves → AreShelved places (with_contents shelves store left)
-shelved_more places shelves store held left found all ns = by (same_name store (store_of places shelves ns)) refl
+shelved_more : (places : List Place) (store_contents : List StoreContents) (store : Name) (held left : Contents) → contents_under store_contents store ≡ Some held → AreShelved places store_contents → AreShelved places (with_contents store_contents store left)
+shelved_more places store_contents store held left found all ns = by (same_name store (store_of places store_contents ns)) refl
   where
-    by : (b : Bool) → same_name store (store_of places shelves ns) ≡ b → IsSome (contents_under (with_contents shelves store left) (store_of places (with_contents shelves store left) ns))
+    by : (b : Bool) → same_name store (store_of places store_contents ns) ≡ b → IsSome (contents_under (with_contents store_contents store left) (store_of places (with_contents store_contents store left) ns))
     by true e =
-        some_of _ left (ap (contents_under (with_contents shelves store left)) (store_same places shelves store left ns ∙ sym (same_name-true store (store_of places shelves ns) e)) ∙ held_there shelves store left held found)
+        some_of _ left (ap (contents_under (with_contents store_contents store left)) (store_same places store_contents store left ns ∙ sym (same_name-true store (store_of places store_contents ns) e)) ∙ held_there store_contents store left held found)
     by false e =
-        subst IsSome (sym (ap (contents_under (with_contents shelves store left)) (store_same places shelves store left ns) ∙ held_elsewhere shelves store (store_of places shelves ns) left (λ same. no (sym e ∙ ap (same_name store) (sym same) ∙ same_name-itself store)))) (all ns)
+        subst IsSome (sym (ap (contents_under (with_contents store_contents store left)) (store_same places store_contents store left ns) ∙ held_elsewhere store_contents store (store_of places store_contents ns) left (λ same. no (sym e ∙ ap (same_name store) (sym same) ∙ same_name-itself store)))) (all ns)
       where
         no : false ≡ true → ⊥
         no x = absurd (cc)
@@ -120,7 +113,7 @@ record ManyCall (catalog : List Table) (places : List Place) (at : Name → Name
 
 -- what is at a key of the call's table
 stands_here : (places : List Place) (at : Name → Name) (q : Request) (before : List StoreContents) (h : Contents) → AreAt places before at → contents_under before (at (table_asked q).ns) ≡ Some h
-    → (k : Key) → k.table ≡ table_asked q → standing places before k ≡ record_at h k
+    → (k : Key) → k.table ≡ table_asked q → stored_at places before k ≡ record_at h k
 stands_here places at q before h ats found k e =
     ap (λ (n : Name). option_map_or (λ m. record_at m k) (contents_under before n) None) (ap (λ (t : TableName). store_of places before t.ns) e ∙ ats (table_asked q).ns)
     ∙ ap (λ (o : Option Contents). option_map_or (λ m. record_at m k) o None) found

@@ -4,20 +4,14 @@ use Rattle.std.specs.Prelude.{codes, map, pos, Contains}
 use Rattle.std.specs.List.{AllByRecursion}
 use Rattle.std.specs.Option.{option_map}
 use Rattle.std.specs.Result.{result_ok}
-use Rattle.sdb_types.specs.declared.value.Value.{Value}
+use Rattle.law_protocol.specs.Types.{Image, Keyword, Place, Statement, Table, Token, Value}
 use Rattle.sdb_types.specs.declared.value.Value.TheVariants as value
-use Rattle.sdb_schema.specs.declared.table.Table.{Table}
-use Rattle.sdb_record.specs.declared.access.Image.{Image}
 use Rattle.sdb_model.specs.declared.answer.Answer.TheVariants as answer
-use Rattle.sdb_types.specs.declared.place.Place.{Place}
 use Rattle.sdb_model.specs.Events.{StoreContents}
 use Rattle.sdb_model.specs.Transactions.{Executed, ends, id_of, statements_of, through_end}
-use Rattle.sdb_model.specs.declared.statement.Statement.{Statement}
 use Rattle.sdb_model.specs.declared.statement.Statement.TheVariants as statement
-use Rattle.sdb_model.specs.declared.token.Keyword.{Keyword}
 use Rattle.sdb_model.specs.declared.token.Keyword.TheVariants as word
 use Rattle.sdb_model.specs.declared.token.Sign.TheVariants as sign
-use Rattle.sdb_model.specs.declared.token.Token.{Token}
 use Rattle.sdb_model.specs.declared.token.Token.TheVariants.{Word, Name, Overlong, Number, Text, Blob, Sign as Mark}
 use Rattle.sdb_model.specs.Sql.{Reads, Tokens, statement_tokens, tokens_of}
 use Rattle.sdb_model.specs.Causes.{AreCaused, IsConflict, IsCounted}
@@ -39,7 +33,7 @@ through_one s = by (ends s) refl
     by false e = rw e refl
 
 abbrev selected : Executed
-selected = record { taken = 2; text = codes "SELECT balance FROM bank.account WHERE id = 1"; answer = Some (answer.Rows ((value.Int (pos 42) ∷ []) ∷ [])); reached = 2 }
+selected = record { accepted = 2; text = codes "SELECT balance FROM bank.account WHERE id = 1"; answer = Some (answer.Rows ((value.Int (pos 42) ∷ []) ∷ [])); reached = 2 }
 
 is_taken : statements_of oracle (id_of 1 1) ≡ selected ∷ []
 is_taken = rw begin_begins (through_one selected)
@@ -49,14 +43,14 @@ no_image f row [] e all never = absurd cc
 no_image f row (i ∷ is) e all never = never i all.0
 
 pub oracle_not_shown : (catalog : List Table) (places : List Place) (opening : List StoreContents) (moments : List (List StoreContents)) → NoDirtyReads catalog places oracle opening moments → ⊥
-oracle_not_shown catalog places opening moments shown =
-    let s = shown (id_of 1 1) selected (answer.Rows ((value.Int (pos 42) ∷ []) ∷ [])) (subst (λ ss. Contains ss selected) (sym is_taken) (0, omega arith, refl)) refl in
-    no_image _ (value.Int (pos 42) ∷ []) s.2 s.5 s.6 (λ image has. in_none has.shown.call has.shown.read.0)
+oracle_not_shown catalog places opening moments observed =
+    let s = observed (id_of 1 1) selected (answer.Rows ((value.Int (pos 42) ∷ []) ∷ [])) (subst (λ ss. Contains ss selected) (sym is_taken) (0, omega arith, refl)) refl in
+    no_image _ (value.Int (pos 42) ∷ []) s.2 s.5 s.6 (λ image has. in_none has.observed.call has.observed.read.0)
 
 ---- answers without a call
 
 abbrev ended : Executed
-ended = record { taken = 2; text = codes "COMMIT"; answer = Some (answer.Conflict account None); reached = 2 }
+ended = record { accepted = 2; text = codes "COMMIT"; answer = Some (answer.Conflict account None); reached = 2 }
 
 pub accused_not_caused : (catalog : List Table) → AreCaused catalog accused → ⊥
 accused_not_caused catalog all =
@@ -70,7 +64,7 @@ accused_not_caused catalog all =
     ]
 
 abbrev failed : Executed
-failed = record { taken = 1; text = codes "BEGIN"; answer = Some answer.Faulted; reached = 1 }
+failed = record { accepted = 1; text = codes "BEGIN"; answer = Some answer.Faulted; reached = 1 }
 
 pub broken_not_caused : (catalog : List Table) → AreCaused catalog broken → ⊥
 broken_not_caused catalog all = let c = all.caused 1 failed answer.Faulted (0, omega arith, refl) refl in in_none c.0 c.1
@@ -110,7 +104,7 @@ vacuum_first st (ps, lexes, whole, spells) = elim spells [
     first = ap first_word tokens
 
 abbrev counted : Executed
-counted = record { taken = 1; text = codes "VACUUM"; answer = Some (answer.Count 7); reached = 1 }
+counted = record { accepted = 1; text = codes "VACUUM"; answer = Some (answer.Count 7); reached = 1 }
 
 pub counting_not_caused : (catalog : List Table) → AreCaused catalog counting → ⊥
 counting_not_caused catalog all =

@@ -15,11 +15,11 @@ use Rattle.law_protocol.specs.Worked.{account, one, read_at}
 use Rattle.law_protocol.proofs.Texts.{begin_begins, commit_commits, select_commits_not, select_rolls_not}
 use Rattle.sdb_types.specs.Order.{same_key}
 
-abbrev told : List Event
-told = newest_first (events_of unchecked)
+abbrev answered : List Event
+answered = newest_first (events_of unchecked)
 
 -- the transaction noted that there was no account
-note_is : read_set_of told (id one) ≡ KeyRead (read_at None) ∷ []
+note_is : read_set_of answered (id one) ≡ KeyRead (read_at None) ∷ []
 note_is = rw (begin_begins, select_commits_not, select_rolls_not, commit_commits) refl
 
 noted_so : (plan : Plan) (i : ℕ) → slice_get plan.read_set i ≡ Some (KeyRead (read_at None)) → version_read_at plan i account ≡ Some None
@@ -38,7 +38,7 @@ false_true e = absurd (cc)
 some_none : {X : Type 0} (x : X) → Some x ≡ None → ⊥
 some_none x e = absurd (cc)
 
-pub unchecked_refused : (plan : ℕ → Plan) → AreReadSets plan told unchecked → IsLawful plan unchecked → ⊥
+pub unchecked_refused : (plan : ℕ → Plan) → AreReadSets plan answered unchecked → IsLawful plan unchecked → ⊥
 unfolding same_key
 unchecked_refused plan noted_all lawful =
     let there : Contains (plan one).read_set (KeyRead (read_at None)) = (noted_all one refl (KeyRead (read_at None))).1 (subst (λ ns. Contains ns (KeyRead (read_at None))) (sym note_is) (0, omega arith, refl)) in

@@ -1,11 +1,9 @@
 -- Every lawful list of events with a trace from empty stores.
 use Rattle.std.proofs.Common.{◌≡◌, ◌≢◌, ℕ, ℤ, ◌<◌, ◌^◌, Bool, true, false, List, [], ◌∷◌, Option, Some, None, inl, inr, refl, sym, ap, ◌∙◌, arith}
 use Rattle.std.specs.Prelude.{◌==◌}
-use Rattle.sdb_record.specs.declared.coordinator.Decision.{Decision}
+use Rattle.law_protocol.specs.Types.{Decision, Event, Place}
 use Rattle.sdb_record.specs.declared.coordinator.Decision.TheVariants.{Committed, Aborted}
 use Rattle.sdb_record.specs.Meta.{is_moment}
-use Rattle.sdb_model.specs.declared.event.Event.{Event}
-use Rattle.sdb_types.specs.declared.place.Place.{Place}
 use Rattle.sdb_model.specs.Events.{StoreContents, Effect}
 use Rattle.law_protocol.specs.Plan.{Plan}
 use Rattle.law_protocol.specs.History.{Action, Other, Begins, Takes, Prepares, Checks, Decides, Aborts, Rolls, Removes, Ends, Stops, ProtocolState, History, start, state_after_event, state_after, happens, with_row}
@@ -23,10 +21,10 @@ use Rattle.law_protocol.proofs.Rolling.{forward_moves, back_moves, remove_moves}
 use Rattle.law_protocol.proofs.Reading.{check_moves, other_moves, stop_moves, begin_moves, take_moves, take_planned}
 
 -- all that holds after the events so far
-pub record Whole (plan : ℕ → Plan) (places : List Place) (w : History) (past : List Labelled) (shelves : List StoreContents) : Type 0 where
+pub record Whole (plan : ℕ → Plan) (places : List Place) (w : History) (past : List Labelled) (store_contents : List StoreContents) : Type 0 where
   pub all : All plan w
   pub knows : Knows plan w past
-  pub held : ContainsHistory plan places w shelves
+  pub held : ContainsHistory plan places w store_contents
 
 pub moves : (plan : ℕ → Plan) (places : List Place) (w : History) (past : List Labelled) (e : Event) (before now : List StoreContents) (r : Action) (done : Bool)
     → Knows plan w past → ContainsHistory plan places w before → Effect places e before now → has_effect places e before now ≡ done → IsEnabled plan past e r → Moves plan places w r done now
@@ -78,7 +76,7 @@ ids_kept plan w past e (Removes k t) done knows m u h = knows.fits u h
 ids_kept plan w past e (Ends t) done knows m u h = knows.fits u h
 ids_kept plan w past e (Stops c) done knows m u h = knows.fits u h
 
-plans_kept : (plan : ℕ → Plan) (w : History) (past : List Labelled) (e : Event) (r : Action) (done : Bool) → Knows plan w past → IsEnabled plan past e r → (u : ℕ) → (happens plan w r done).protocol.taken u ≡ true → IsPlanned plan u
+plans_kept : (plan : ℕ → Plan) (w : History) (past : List Labelled) (e : Event) (r : Action) (done : Bool) → Knows plan w past → IsEnabled plan past e r → (u : ℕ) → (happens plan w r done).protocol.accepted u ≡ true → IsPlanned plan u
 plans_kept plan w past e (Takes t) done knows m u h = by (u == t) refl
   where
     same : (u == t) ≡ true → u ≡ t
@@ -149,9 +147,9 @@ labelled plan places w past p before now done i effect is m =
       knows = record {
         inv = all.one;
         talks = ap (λ h. state_after_event h p.action) i.knows.talks ∙ sym (happens_talk plan w p.action done);
-        shown = λ r s. known_kept plan w p.action done r i.knows.inv x.allowed (elim s [
+        observed = λ r s. known_kept plan w p.action done r i.knows.inv x.allowed (elim s [
           | inl here ↦ known_now plan places w before r i.knows.inv i.knows.fits i.held (stood places p.event before now r effect here)
-          | inr there ↦ i.knows.shown r there
+          | inr there ↦ i.knows.observed r there
         ]);
         fits = ids_kept plan w past p.event p.action done i.knows m;
         planned = plans_kept plan w past p.event p.action done i.knows m;
@@ -169,7 +167,7 @@ with_end plan places w past p now (Some t) i =
       knows = record {
         inv = all.one;
         talks = ap (λ h. state_after h (Ends t)) i.knows.talks;
-        shown = λ r s. known_closed plan w t r (i.knows.shown r s);
+        observed = λ r s. known_closed plan w t r (i.knows.observed r s);
         fits = i.knows.fits;
         planned = i.knows.planned;
         moments = λ u. moments_same plan w (after_end plan w (Some t)) u refl refl (i.knows.moments u);
@@ -183,7 +181,7 @@ empty_start plan places opening empty = record {
   knows = record {
     inv = (all_start plan).one;
     talks = refl;
-    shown = λ r s. absurd s;
+    observed = λ r s. absurd s;
     fits = λ t h. absurd (h refl);
     planned = λ t h. absurd (cc);
     moments = λ t. record { some = λ h. absurd (h refl); committed = λ h. absurd (cc) };

@@ -1,29 +1,23 @@
 -- What one write does, at every key, whatever became of the call.
 use Rattle.std.proofs.Common.{◌≡◌, ◌≢◌, Bool, true, false, List, Option, Some, None, ◌⊎◌, inl, inr, refl, sym, ap, ◌∙◌}
 use Rattle.std.specs.Prelude.{◌&&◌, not, if◌then◌else◌}
-use Rattle.sdb_types.specs.declared.key.Key.{Key}
-use Rattle.sdb_types.specs.declared.record.Record.{Record}
-use Rattle.sdb_types.specs.declared.record.Condition.{Condition}
-use Rattle.sdb_types.specs.declared.record.Request.{Request}
+use Rattle.law_protocol.specs.Types.{Condition, How, Key, Place, Record, Reply, Request}
 use Rattle.sdb_types.specs.declared.record.Request.TheVariants as ask
-use Rattle.sdb_types.specs.declared.record.Reply.{Reply}
 use Rattle.sdb_types.specs.declared.record.Reply.TheVariants as reply
 use Rattle.sdb_types.specs.Contents.{Contents, record_at, holds, put_reply, reply_to, after}
 use Rattle.sdb_types.specs.Order.{same_key}
 use Rattle.sdb_types.proofs.Keys.{same_key_self, same_key_tells}
-use Rattle.sdb_model.specs.declared.event.How.{How}
-use Rattle.sdb_types.specs.declared.place.Place.{Place}
 use Rattle.sdb_model.specs.Rows.{Name}
-use Rattle.sdb_model.specs.Events.{StoreContents, standing, table_asked, IsCall}
+use Rattle.sdb_model.specs.Events.{StoreContents, stored_at, table_asked, IsCall}
 use Rattle.law_protocol.specs.Trace.{takes_effect_at}
 use Rattle.law_protocol.proofs.Effects.{AtCall, at_call, after_put, after_delete}
 
 -- Where a write took effect, its key has what it puts or nothing; every other key is as it was. Applied says that it did,
 -- not met that its condition failed, out of memory that it did not.
 pub record IsWritten (places : List Place) (key : Key) (c : Condition) (new : Option Record) (r : Reply) (before now : List StoreContents) : Type 0 where
-  pub at : (k : Key) → standing places now k ≡ (if takes_effect_at places key c before now && same_key k key then new else standing places before k)
+  pub at : (k : Key) → stored_at places now k ≡ (if takes_effect_at places key c before now && same_key k key then new else stored_at places before k)
   pub applied : r ≡ reply.Applied → takes_effect_at places key c before now ≡ true
-  pub unmet : (found : Option Record) → r ≡ reply.NotMet found → holds c (standing places before key) ≡ false
+  pub unmet : (found : Option Record) → r ≡ reply.NotMet found → holds c (stored_at places before key) ≡ false
   pub wanting : r ≡ reply.NoMemory → takes_effect_at places key c before now ≡ false
 
 reply_applied : (c : Condition) (s : Option Record) (r : Reply) → r ≡ put_reply c s → r ≡ reply.Applied → holds c s ≡ true
@@ -65,7 +59,7 @@ written_done : (places : List Place) (q : Request) (key : Key) (c : Condition) (
 written_done places q key c new r before now a ns replies afters fresh moved executed = record {
   at = λ k. rw took_effect (elim (a.there k) [
     | inl x ↦ x.1 ∙ ap (λ m. record_at m k) moved ∙ afters a.held k ∙ rw here (rw (sym x.0) refl)
-    | inr x ↦ x.0 ∙ rw (apart k x.1) (unchanged (holds c (standing places before key)) (standing places before k))
+    | inr x ↦ x.0 ∙ rw (apart k x.1) (unchanged (holds c (stored_at places before key)) (stored_at places before k))
   ]);
   applied = λ e. took_effect ∙ elim executed [
     | inl x ↦ rw here (reply_applied c (record_at a.held key) r (x ∙ replies a.held) e)
@@ -81,14 +75,14 @@ written_done places q key c new r before now a ns replies afters fresh moved exe
   ];
 }
   where
-    here : standing places before key ≡ record_at a.held key
+    here : stored_at places before key ≡ record_at a.held key
     here = (a.here key ns).0
 
-    now_here : standing places now key ≡ (if holds c (standing places before key) && true then new else standing places before key)
+    now_here : stored_at places now key ≡ (if holds c (stored_at places before key) && true then new else stored_at places before key)
     now_here = (a.here key ns).1 ∙ ap (λ m. record_at m key) moved ∙ afters a.held key ∙ rw (same_key_self key) (rw here refl)
 
-    took_effect : takes_effect_at places key c before now ≡ holds c (standing places before key)
-    took_effect = took_done (holds c (standing places before key)) c (standing places before key) (standing places now key) new refl now_here fresh
+    took_effect : takes_effect_at places key c before now ≡ holds c (stored_at places before key)
+    took_effect = took_done (holds c (stored_at places before key)) c (stored_at places before key) (stored_at places now key) new refl now_here fresh
 
     apart : (k : Key) → k.table.ns ≢ (table_asked q).ns → same_key k key ≡ false
     apart k n = elim (same_key_tells k key) [
@@ -118,14 +112,14 @@ written_undone places q key c new r before now a ns moved executed = record {
   wanting = λ e. took_effect;
 }
   where
-    same : (k : Key) → standing places now k ≡ standing places before k
+    same : (k : Key) → stored_at places now k ≡ stored_at places before k
     same k = elim (a.there k) [
       | inl x ↦ x.1 ∙ ap (λ m. record_at m k) moved ∙ sym x.0
       | inr x ↦ x.0
     ]
 
     took_effect : takes_effect_at places key c before now ≡ false
-    took_effect = ap (λ x. holds c (standing places before key) && not (holds c x)) (same key) ∙ took_undone (holds c (standing places before key))
+    took_effect = ap (λ x. holds c (stored_at places before key) && not (holds c x)) (same key) ∙ took_undone (holds c (stored_at places before key))
 
     wanting_applied : reply.NoMemory ≡ reply.Applied → ⊥
     wanting_applied e = cc

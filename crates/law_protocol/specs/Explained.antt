@@ -1,17 +1,14 @@
 -- What holds at every moment of a lawful run from empty stores.
 use Rattle.std.specs.Prelude.{◌≡◌, ◌≢◌, ◌⊎◌, ℕ, ◌^◌, ◌<◌, true, false, List, [], ◌∷◌, fold, map, Option, Some, None}
 use Rattle.std.specs.Option.{option_map_or}
-use Rattle.sdb_types.specs.declared.key.Key.{Key}
-use Rattle.sdb_types.specs.declared.record.Record.{Record}
+use Rattle.law_protocol.specs.Types.{Event, Key, Place, Record}
 use Rattle.sdb_types.specs.declared.record.State.TheVariants as state
 use Rattle.sdb_record.specs.declared.coordinator.Decision.TheVariants.{Committed, Aborted}
 use Rattle.sdb_record.specs.Coordinator.{coordinator_key_of, coordinator_row_of}
 use Rattle.sdb_record.specs.Meta.{id_in, is_in}
 use Rattle.sdb_record.specs.Parts.{before_record}
 use Rattle.sdb_model.specs.declared.answer.Answer.TheVariants as answer
-use Rattle.sdb_model.specs.declared.event.Event.{Event}
-use Rattle.sdb_types.specs.declared.place.Place.{Place}
-use Rattle.sdb_model.specs.Events.{StoreContents, standing}
+use Rattle.sdb_model.specs.Events.{StoreContents, stored_at}
 use Rattle.sdb_model.specs.Images.{image_at}
 use Rattle.sdb_model.specs.Transactions.{Recorded}
 use Rattle.law_protocol.specs.Plan.{Plan, written, deletes, version_read_at}
@@ -29,19 +26,19 @@ pub record IsRunOf (plan : ℕ → Plan) (places : List Place) (opening : List S
 
 ---- rows of the coordinator
 
--- A transaction is recorded exactly where its put of COMMITTED took effect, and its row says when its COMMIT was taken.
-pub record IsRecorded (plan : ℕ → Plan) (places : List Place) (w : History) (shelves : List StoreContents) (t : ℕ) : Type 0 where
+-- A transaction is recorded exactly where its put of COMMITTED took effect, and its row says when its COMMIT was accepted.
+pub record IsRecorded (plan : ℕ → Plan) (places : List Place) (w : History) (store_contents : List StoreContents) (t : ℕ) : Type 0 where
   pub put : w.row t ≡ Some Committed
-  pub row : standing places shelves (coordinator_key_of (id t)) ≡ Some (coordinator_row_of (id t) Committed (plan t).now)
-  pub wrote : (k : Key) → written (plan t) k ≢ None → (w.took_effect t k ≡ true) × (w.protocol.told t k ≡ true)
+  pub row : stored_at places store_contents (coordinator_key_of (id t)) ≡ Some (coordinator_row_of (id t) Committed (plan t).now)
+  pub wrote : (k : Key) → written (plan t) k ≢ None → (w.took_effect t k ≡ true) × (w.protocol.answered t k ≡ true)
   pub point : (w.protocol.begun t < w.protocol.point t) × (w.protocol.point t < w.decided_at t)
 
 abbrev pub RecordedIsPut : (ℕ → Plan) → List Place → History → List StoreContents → Type 0
-RecordedIsPut plan places w shelves = (t : ℕ) → t < 2 ^ 128 → Recorded places shelves (id t) → IsRecorded plan places w shelves t
+RecordedIsPut plan places w store_contents = (t : ℕ) → t < 2 ^ 128 → Recorded places store_contents (id t) → IsRecorded plan places w store_contents t
 
 -- A row never changes.
 abbrev pub RowsFinal : List Place → List StoreContents → List StoreContents → Type 0
-RowsFinal places before now = (t : ℕ) (row : Record) → t < 2 ^ 128 → standing places before (coordinator_key_of (id t)) ≡ Some row → standing places now (coordinator_key_of (id t)) ≡ Some row
+RowsFinal places before now = (t : ℕ) (row : Record) → t < 2 ^ 128 → stored_at places before (coordinator_key_of (id t)) ≡ Some row → stored_at places now (coordinator_key_of (id t)) ≡ Some row
 
 ---- what is there
 
@@ -53,18 +50,18 @@ pub record IsPreparedRecord (plan : ℕ → Plan) (w : History) (k : Key) (r : R
   pub same : r ≡ record_prepared_by plan t k
 
 abbrev pub UnresolvedPrepared : (ℕ → Plan) → List Place → History → List StoreContents → Type 0
-UnresolvedPrepared plan places w shelves = (k : Key) (r : Record) → is_data k ≡ true → standing places shelves k ≡ Some r → is_in state.Committed r.columns ≡ false → IsPreparedRecord plan w k r
+UnresolvedPrepared plan places w store_contents = (k : Key) (r : Record) → is_data k ≡ true → stored_at places store_contents k ≡ Some r → is_in state.Committed r.columns ≡ false → IsPreparedRecord plan w k r
 
 -- A record in state 3 is the one record that its transaction leaves at that key, and that transaction is recorded.
-pub record IsCommittedRecord (plan : ℕ → Plan) (places : List Place) (w : History) (shelves : List StoreContents) (k : Key) (r : Record) : Type 0 where
+pub record IsCommittedRecord (plan : ℕ → Plan) (places : List Place) (w : History) (store_contents : List StoreContents) (k : Key) (r : Record) : Type 0 where
   pub t : ℕ
   pub writer : id_in r.columns ≡ Some (id t)
-  pub recorded : Recorded places shelves (id t)
+  pub recorded : Recorded places store_contents (id t)
   pub writes : IsWriter plan w k t
   pub same : r ≡ record_left_by plan t k
 
 abbrev pub CommittedIsCanon : (ℕ → Plan) → List Place → History → List StoreContents → Type 0
-CommittedIsCanon plan places w shelves = (k : Key) (r : Record) → is_data k ≡ true → standing places shelves k ≡ Some r → is_in state.Committed r.columns ≡ true → IsCommittedRecord plan places w shelves k r
+CommittedIsCanon plan places w store_contents = (k : Key) (r : Record) → is_data k ≡ true → stored_at places store_contents k ≡ Some r → is_in state.Committed r.columns ≡ true → IsCommittedRecord plan places w store_contents k r
 
 -- A record to which a read of a key came is the one that a recorded writer of the key leaves there.
 abbrev pub SettledIsCommitted : (ℕ → Plan) → History → List Labelled → Type 0
@@ -72,11 +69,11 @@ SettledIsCommitted plan w past = (k : Key) (b : Record) → is_data k ≡ true �
 
 -- What a transaction prepared stays while it has no row.
 abbrev pub PreparedPersists : (ℕ → Plan) → List Place → History → List StoreContents → Type 0
-PreparedPersists plan places w shelves = (t : ℕ) (k : Key) → w.took_effect t k ≡ true → w.row t ≡ None → standing places shelves k ≡ Some (record_prepared_by plan t k)
+PreparedPersists plan places w store_contents = (t : ℕ) (k : Key) → w.took_effect t k ≡ true → w.row t ≡ None → stored_at places store_contents k ≡ Some (record_prepared_by plan t k)
 
 -- Of an aborted transaction nothing is in state 3, nor under a prepared record.
 abbrev pub AbortedRemoved : (ℕ → Plan) → List Place → History → List StoreContents → Type 0
-AbortedRemoved plan places w shelves = (t : ℕ) (k : Key) (r : Record) → w.row t ≡ Some Aborted → is_data k ≡ true → standing places shelves k ≡ Some r →
+AbortedRemoved plan places w store_contents = (t : ℕ) (k : Key) (r : Record) → w.row t ≡ Some Aborted → is_data k ≡ true → stored_at places store_contents k ≡ Some r →
     ((is_in state.Committed r.columns ≡ true → id_in r.columns ≢ Some (id t))
     × ((b : Record) → is_in state.Committed r.columns ≡ false → before_record r ≡ Some b → id_in b.columns ≢ Some (id t)))
 
@@ -103,7 +100,7 @@ ImageOf plan w k None = IsNeverWritten plan w k ⊎ IsRemoved plan w k
 ImageOf plan w k (Some r) = (u : ℕ) × IsLastWriter plan w k u × (r ≡ record_left_by plan u k)
 
 abbrev pub ImageIsLastWriter : (ℕ → Plan) → List Place → History → List StoreContents → Type 0
-ImageIsLastWriter plan places w shelves = (k : Key) → is_data k ≡ true → ImageOf plan w k (image_at places shelves k)
+ImageIsLastWriter plan places w store_contents = (k : Key) → is_data k ≡ true → ImageOf plan w k (image_at places store_contents k)
 
 -- Whose tombstone was removed was recorded before each transaction began that is open and whose client hasn't stopped.
 abbrev pub RemovedBeforeBegin : History → Type 0
@@ -167,7 +164,7 @@ pub record AreApart (plan : ℕ → Plan) (w : History) (t v : ℕ) : Type 0 whe
   pub noted_by : (i : ℕ) (k : Key) → version_read_at (plan t) i k ≢ Some (Some v)
 
 abbrev pub Middle : (ℕ → Plan) → History → Type 0
-Middle plan w = (t v : ℕ) → w.row t ≡ None → w.protocol.taken t ≡ true → IsPrepared plan w.protocol t → w.row v ≡ Some Committed → w.protocol.point t < w.protocol.point v → AreApart plan w t v
+Middle plan w = (t v : ℕ) → w.row t ≡ None → w.protocol.accepted t ≡ true → IsPrepared plan w.protocol t → w.row v ≡ Some Committed → w.protocol.point t < w.protocol.point v → AreApart plan w t v
 
 ---- what clients are answered
 
@@ -178,7 +175,7 @@ IsAnsweredCommitted (p ∷ past) t = ((answer_of p.event ≡ Some answer.Committ
 
 -- A prepare that took effect was put over its base: before it there was what its record is rolled back to.
 abbrev pub StoodBefore : (ℕ → Plan) → List Place → List StoreContents → ℕ → Key → Type 0
-StoodBefore plan places before t k = standing places before k ≡ before_record (record_prepared_by plan t k)
+StoodBefore plan places before t k = stored_at places before k ≡ before_record (record_prepared_by plan t k)
 
 ---- the order of lists
 
@@ -193,4 +190,4 @@ events_of labelled = map (λ p. p.event) labelled
 -- A COMMIT was answered, but neither Committed nor Unknown.
 abbrev pub IsDenied : List Labelled → ℕ → Type 0
 IsDenied [] t = ⊥
-IsDenied (p ∷ past) t = ((option_map_or is_denial (answer_of p.event) false ≡ true) × (p.ends ≡ Some t) × ((protocol_state past).taken t ≡ true)) ⊎ IsDenied past t
+IsDenied (p ∷ past) t = ((option_map_or is_denial (answer_of p.event) false ≡ true) × (p.ends ≡ Some t) × ((protocol_state past).accepted t ≡ true)) ⊎ IsDenied past t

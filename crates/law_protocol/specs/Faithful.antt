@@ -1,16 +1,13 @@
 -- Faithful runs: their actions are those that the model derives from the texts of the events.
 use Rattle.std.specs.Prelude.{None, ◌≡◌, ◌⊎◌, ◌↔◌, ℕ, ◌^◌, ◌<◌, true, List, [], ◌∷◌, Some, Contains}
 use Rattle.std.specs.Option.{option_map_or}
-use Rattle.sdb_types.specs.declared.txid.TxId.{TxId}
-use Rattle.sdb_model.specs.declared.answer.Answer.{Answer}
+use Rattle.law_protocol.specs.Types.{Answer, Event, Place, TxId}
 use Rattle.sdb_model.specs.declared.answer.Answer.TheVariants as answer
-use Rattle.sdb_types.specs.declared.place.Place.{Place}
 use Rattle.sdb_model.specs.Events.{StoreContents}
 use Rattle.sdb_model.specs.ReadSet.{ReadItem, read_set_of}
 use Rattle.sdb_model.specs.Serial.{commit_answer, CommittedIsOwned}
 use Rattle.law_protocol.specs.Plan.{Plan}
 use Rattle.law_protocol.specs.Explained.{IsDenied}
-use Rattle.sdb_model.specs.declared.event.Event.{Event}
 use Rattle.sdb_model.specs.Transactions.{Executed, statements_by, begun, client_of, commit_of, Recorded}
 use Rattle.law_protocol.specs.Lawful.{Labelled, id, answer_of, is_denial, protocol_state}
 
@@ -26,17 +23,17 @@ pub record IsCommitOf (events : List Event) (client : ℕ) (s : Executed) : Type
   pub owner : client_of (id t) ≡ client
   pub commit : commit_of events (id t) ≡ Some s
 
--- The read set of each transaction whose COMMIT was taken is what its statements read: none is left out, and none added.
+-- The read set of each transaction whose COMMIT was accepted is what its statements read: none is left out, and none added.
 abbrev pub AreReadSets : (ℕ → Plan) → List Event → List Labelled → Type 0
-AreReadSets plan events past = (t : ℕ) → (protocol_state past).taken t ≡ true → (item : ReadItem) → Contains (plan t).read_set item ↔ Contains (read_set_of events (id t)) item
+AreReadSets plan events past = (t : ℕ) → (protocol_state past).accepted t ≡ true → (item : ReadItem) → Contains (plan t).read_set item ↔ Contains (read_set_of events (id t)) item
 
--- The actions agree with the texts about each transaction: when it began, when its COMMIT was taken, and when that was answered
+-- The actions agree with the texts about each transaction: when it began, when its COMMIT was accepted, and when that was answered
 -- Committed, or that it was denied. Nothing but the COMMIT of a transaction is answered Committed. Unknown names the transaction.
 pub record IsFaithful (events : List Event) (past : List Labelled) : Type 0 where
   pub begun : (t n : ℕ) → t < 2 ^ 128 → begun events (id t) ≡ Some n → (protocol_state past).begun t ≡ n
-  pub taken : (t : ℕ) → (protocol_state past).taken t ≡ true → option_map_or (λ s. s.taken) (commit_of events (id t)) 0 ≡ (protocol_state past).taken_at t
-  pub told : (t : ℕ) (s : Executed) → t < 2 ^ 128 → commit_of events (id t) ≡ Some s → s.answer ≡ Some answer.Committed → IsAnsweredCommittedAt past t s.reached
-  pub denied : (t : ℕ) (s : Executed) (a : Answer) → t < 2 ^ 128 → commit_of events (id t) ≡ Some s → s.answer ≡ Some a → is_denial a ≡ true → (protocol_state past).taken t ≡ true → IsDenied past t
+  pub accepted : (t : ℕ) → (protocol_state past).accepted t ≡ true → option_map_or (λ s. s.accepted) (commit_of events (id t)) 0 ≡ (protocol_state past).taken_at t
+  pub answered : (t : ℕ) (s : Executed) → t < 2 ^ 128 → commit_of events (id t) ≡ Some s → s.answer ≡ Some answer.Committed → IsAnsweredCommittedAt past t s.reached
+  pub denied : (t : ℕ) (s : Executed) (a : Answer) → t < 2 ^ 128 → commit_of events (id t) ≡ Some s → s.answer ≡ Some a → is_denial a ≡ true → (protocol_state past).accepted t ≡ true → IsDenied past t
   pub owned : (client : ℕ) (s : Executed) → Contains (statements_by client events) s → s.answer ≡ Some answer.Committed → IsCommitOf events client s
   pub unknown : (t : ℕ) (s : Executed) (u : TxId) → commit_of events (id t) ≡ Some s → s.answer ≡ Some (answer.Unknown u) → u ≡ id t
 

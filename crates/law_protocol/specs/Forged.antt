@@ -2,16 +2,11 @@
 use Rattle.std.specs.Prelude.{List, [], ◌∷◌, pos, codes, Some, None}
 use Rattle.sdb_types.specs.declared.value.Value.TheVariants as value
 use Rattle.sdb_model.specs.declared.answer.Answer.TheVariants as answer
-use Rattle.sdb_model.specs.declared.event.Event.{Event}
+use Rattle.law_protocol.specs.Types.{Event, Place, Point, Script, Table, TableDump}
 use Rattle.sdb_model.specs.declared.event.Event.TheVariants as event
-use Rattle.sdb_model.specs.declared.event.Point.{Point}
-use Rattle.sdb_model.specs.declared.event.TableDump.{TableDump}
-use Rattle.sdb_types.specs.declared.place.Place.{Place}
-use Rattle.sdb_model.specs.declared.script.Script.{Script}
 use Rattle.sdb_model.specs.Events.{StoreContents}
 use Rattle.sdb_model.specs.DirtyReads.{NoDirtyReads}
 use Rattle.sdb_model.specs.Serial.{IsRun}
-use Rattle.sdb_schema.specs.declared.table.Table.{Table}
 use Rattle.sdb_types.specs.declared.record.Request.TheVariants as ask
 use Rattle.sdb_types.specs.declared.record.Reply.TheVariants as reply
 use Rattle.law_protocol.specs.History.{Other, Begins, Takes, Decides, Yes}

@@ -1,8 +1,7 @@
 -- The actions of events in the protocol, and the state that a list of them leads to: what was answered, and what took effect.
 use Rattle.std.specs.Prelude.{◌≡◌, ◌≢◌, ◌⊎◌, ℕ, ℤ, pos, ◌+◌, ◌<◌, Bool, true, false, ◌&&◌, ◌==◌, if◌then◌else◌, Option, Some, None}
-use Rattle.sdb_types.specs.declared.key.Key.{Key}
+use Rattle.law_protocol.specs.Types.{Decision, Key}
 use Rattle.sdb_types.specs.Order.{same_key}
-use Rattle.sdb_record.specs.declared.coordinator.Decision.{Decision}
 use Rattle.sdb_record.specs.declared.coordinator.Decision.TheVariants.{Committed, Aborted}
 use Rattle.law_protocol.specs.Plan.{Plan, written}
 
@@ -21,7 +20,7 @@ pub data Action : Type 0 where
   Other : Action
   -- a transaction of a client begins
   Begins : (t c : ℕ) → Action
-  -- its COMMIT is taken
+  -- its COMMIT is accepted
   Takes : (t : ℕ) → Action
   -- its prepare of a key
   Prepares : (t : ℕ) (k : Key) (word : Ack) → Action
@@ -74,14 +73,14 @@ pub record ProtocolState : Type 0 where
   pub owner : ℕ → ℕ
   pub is_open : ℕ → Bool
   pub stopped : ℕ → Bool
-  -- its COMMIT was taken
-  pub taken : ℕ → Bool
+  -- its COMMIT was accepted
+  pub accepted : ℕ → Bool
   -- the number of the event that took it, and 0 before
   pub taken_at : ℕ → ℕ
   pub stage : ℕ → Stage
   -- its prepare of a key was asked; and was seen and applied
   pub asked : ℕ → Key → Bool
-  pub told : ℕ → Key → Bool
+  pub answered : ℕ → Key → Bool
   -- its check of a read of the read set was made and found all as read
   pub checked : ℕ → ℕ → Bool
   -- a put of its row COMMITTED was asked, and not answered that memory was wanting
@@ -114,11 +113,11 @@ initial_state = record {
   owner = λ t. 0;
   is_open = λ t. false;
   stopped = λ c. false;
-  taken = λ t. false;
+  accepted = λ t. false;
   taken_at = λ t. 0;
   stage = λ t. Preparing;
   asked = λ t k. false;
-  told = λ t k. false;
+  answered = λ t k. false;
   checked = λ t i. false;
   risked = λ t. false;
   won = λ t. false;
@@ -135,10 +134,10 @@ ticked h = record h { now = h.now + 1 }
 abbrev pub state_after : ProtocolState → Action → ProtocolState
 state_after h Other = h
 state_after h (Begins t c) = record h { begun = at h.begun t h.now; owner = at h.owner t c; is_open = at h.is_open t true }
-state_after h (Takes t) = record h { taken = at h.taken t true; taken_at = at h.taken_at t h.now; point = at h.point t h.now }
+state_after h (Takes t) = record h { accepted = at h.accepted t true; taken_at = at h.taken_at t h.now; point = at h.point t h.now }
 state_after h (Prepares t k word) = record h {
   asked = at2 h.asked t k true;
-  told = at2 h.told t k (is_yes word);
+  answered = at2 h.answered t k (is_yes word);
   point = if is_yes word then at h.point t h.now else h.point;
 }
 state_after h (Checks t i) = record h { stage = at h.stage t Checking; checked = at_item h.checked t i true }
@@ -291,7 +290,7 @@ IsWriter plan w k t = (w.row t ≡ Some Committed) × (written (plan t) k ≢ No
 
 -- each key that it writes was prepared, and its client was answered so
 abbrev pub IsPrepared : (ℕ → Plan) → ProtocolState → ℕ → Type 0
-IsPrepared plan h t = (k : Key) → written (plan t) k ≢ None → h.told t k ≡ true
+IsPrepared plan h t = (k : Key) → written (plan t) k ≢ None → h.answered t k ≡ true
 
 -- what is there is of this version, or nothing is there
 abbrev pub has_version : Option Standing → Option ℕ → Bool

@@ -3,31 +3,21 @@
 use Rattle.std.specs.Prelude.{◌≡◌, ◌≢◌, ◌⊎◌, ℕ, ℤ, ◌^◌, ◌<◌, Bool, true, false, List, [], ◌∷◌, Option, Some, None, Ok, slice_get}
 use Rattle.std.specs.Option.{option_map}
 use Rattle.std.specs.Result.{result_ok}
-use Rattle.sdb_types.specs.declared.key.Key.{Key}
-use Rattle.sdb_types.specs.declared.txid.TxId.{TxId}
-use Rattle.sdb_types.specs.declared.record.Record.{Record}
-use Rattle.sdb_types.specs.declared.record.State.{State}
+use Rattle.law_protocol.specs.Types.{Answer, Decision, Event, How, Key, Record, Reply, Request, State, TxId, Write}
 use Rattle.sdb_types.specs.declared.record.State.TheVariants as state
 use Rattle.sdb_types.specs.declared.record.Condition.TheVariants as condition
-use Rattle.sdb_types.specs.declared.record.Request.{Request}
 use Rattle.sdb_types.specs.declared.record.Request.TheVariants as ask
-use Rattle.sdb_types.specs.declared.record.Reply.{Reply}
 use Rattle.sdb_types.specs.declared.record.Reply.TheVariants as reply
 use Rattle.sdb_types.specs.Contents.{in_span, record_among}
-use Rattle.sdb_record.specs.declared.coordinator.Decision.{Decision}
 use Rattle.sdb_record.specs.declared.coordinator.Decision.TheVariants as decision
-use Rattle.sdb_record.specs.declared.write.Write.{Write}
 use Rattle.sdb_record.specs.Coordinator.{coordinator_key_of, coordinator_row_of, decision_in}
 use Rattle.sdb_record.specs.Meta.{id_in, is_in, is_moment, is_committed}
 use Rattle.sdb_record.specs.Moved.{version_of, condition_of, is_unchanged}
 use Rattle.sdb_record.specs.Parts.{before_record}
 use Rattle.sdb_record.specs.Rolls.{IsWrite, prepared_record, forward_record, is_tombstone, undo}
 use Rattle.sdb_record.specs.Among.{version_among}
-use Rattle.sdb_model.specs.declared.answer.Answer.{Answer}
 use Rattle.sdb_model.specs.declared.answer.Answer.TheVariants as answer
-use Rattle.sdb_model.specs.declared.event.Event.{Event}
 use Rattle.sdb_model.specs.declared.event.Event.TheVariants as event
-use Rattle.sdb_model.specs.declared.event.How.{How}
 use Rattle.sdb_model.specs.Sql.{reads_begin, reads_commit}
 use Rattle.sdb_model.specs.Rows.{Name}
 use Rattle.law_protocol.specs.Plan.{Plan, write_at, written, version_read_at}
@@ -74,7 +64,7 @@ IsObserved (p ∷ past) x = InEvent p.event x ⊎ IsObserved past x
 -- a transaction's row was observed, with this decision and moment
 pub record IsRowObserved (past : List Labelled) (t : ℕ) (d : Decision) (moment : ℤ) : Type 0 where
   pub row : Record
-  pub shown : IsObserved past row
+  pub observed : IsObserved past row
   pub key : row.key ≡ coordinator_key_of (id t)
   pub says : decision_in row ≡ Ok (record { decision = d; created_at = moment })
 
@@ -84,7 +74,7 @@ abbrev pub IsKnownCommitted : (ℕ → Plan) → List Labelled → ℕ → ℤ �
 IsKnownCommitted plan past t moment =
     IsRowObserved past t decision.Committed moment
     ⊎ (((protocol_state past).won t ≡ true) × (moment ≡ (plan t).now))
-    ⊎ (((protocol_state past).taken t ≡ true) × ((m : ℤ) × IsRowObserved past t decision.Committed m) × (moment ≡ (plan t).now))
+    ⊎ (((protocol_state past).accepted t ≡ true) × ((m : ℤ) × IsRowObserved past t decision.Committed m) × (moment ≡ (plan t).now))
 
 -- It is known that a transaction is aborted: its row was observed, or a put of that row was seen and applied; or a put of its row
 -- was seen, applied or not met, while it has asked for no put of COMMITTED, or only for one that memory was wanting for.
@@ -96,7 +86,7 @@ IsKnownAborted past t =
 
 -- a record that a transaction prepared at a key was observed
 pub record IsPreparedObserved (past : List Labelled) (t : ℕ) (k : Key) (r : Record) : Type 0 where
-  pub shown : IsObserved past r
+  pub observed : IsObserved past r
   pub key : r.key ≡ k
   pub held : is_in state.Committed r.columns ≡ false
   pub writer : id_in r.columns ≡ Some (id t)
@@ -112,7 +102,7 @@ IsPreparedThere plan past t k r = IsPreparedObserved past t k r ⊎ (((protocol_
 -- A committed record of a key that a read comes to: it was observed, or is what a record that was observed is rolled forward to, by
 -- a row that was observed, or what such a record is rolled back to.
 pub data IsSettled (past : List Labelled) (k : Key) (b : Record) : Type 0 where
-  Itself : (shown : IsObserved past b) (key : b.key ≡ k) (firm : is_in state.Committed b.columns ≡ true) → IsSettled past k b
+  Itself : (observed : IsObserved past b) (key : b.key ≡ k) (firm : is_in state.Committed b.columns ≡ true) → IsSettled past k b
   Forward : (t : ℕ) (r : Record) (moment : ℤ) (held : IsPreparedObserved past t k r) (row : IsRowObserved past t decision.Committed moment) (same : b ≡ forward_record r moment) → IsSettled past k b
   Back : (t : ℕ) (r : Record) (held : IsPreparedObserved past t k r) (same : before_record r ≡ Some b) → IsSettled past k b
 
@@ -133,10 +123,10 @@ pub record IsCallOf (e : Event) (client : ℕ) (q : Request) (r : Reply) : Type 
   pub answer : Option Answer
   pub call : e ≡ event.Call client store q how r answer
 
--- A client makes a call of the COMMIT of its transaction: its COMMIT was taken, and it hasn't ended, nor has the client
+-- A client makes a call of the COMMIT of its transaction: its COMMIT was accepted, and it hasn't ended, nor has the client
 -- stopped.
 pub record InCommit (h : ProtocolState) (client t : ℕ) : Type 0 where
-  pub taken : h.taken t ≡ true
+  pub accepted : h.accepted t ≡ true
   pub is_open : h.is_open t ≡ true
   pub owner : h.owner t ≡ client
   pub goes_on : h.stopped client ≡ false
@@ -167,7 +157,7 @@ pub record MayTake (plan : ℕ → Plan) (past : List Labelled) (e : Event) (t :
   pub is_open : (protocol_state past).is_open t ≡ true
   pub goes_on : (protocol_state past).stopped client ≡ false
   -- a transaction has one COMMIT
-  pub fresh : (protocol_state past).taken t ≡ false
+  pub fresh : (protocol_state past).accepted t ≡ false
   pub moment : is_moment (plan t).now ≡ true
   -- it writes tables of records alone, in the form that records have
   pub writes : (k : Key) (w : Write) → write_at (plan t) k ≡ Some w → IsWrite w × (is_data k ≡ true)
@@ -313,7 +303,7 @@ answer_of (event.Idle client) = None
 pub record MayAnswer (plan : ℕ → Plan) (past : List Labelled) (p : Labelled) : Type 0 where
   pub t : ℕ
   pub ends : p.ends ≡ Some t
-  pub taken : (protocol_state past).taken t ≡ true
+  pub accepted : (protocol_state past).accepted t ≡ true
   pub moment : ℤ
   pub known : IsKnownCommitted plan (p ∷ past) t moment
 
@@ -326,14 +316,14 @@ is_denial _ = true
 -- a row of a transaction was observed that is none: stores of known contents never show one
 pub record IsBadRow (past : List Labelled) (t : ℕ) : Type 0 where
   pub row : Record
-  pub shown : IsObserved past row
+  pub observed : IsObserved past row
   pub key : row.key ≡ coordinator_key_of (id t)
   pub bad : result_ok (decision_in row) ≡ None
 
 -- A COMMIT is denied only where it is known to be aborted by then, or no put of COMMITTED was asked that may yet have had its
 -- effect, or its row is none.
 abbrev pub MayDeny : List Labelled → Labelled → Type 0
-MayDeny past p = (t : ℕ) → p.ends ≡ Some t → (protocol_state past).taken t ≡ true → IsKnownAborted (p ∷ past) t ⊎ ((protocol_state (p ∷ past)).risked t ≡ false) ⊎ IsBadRow (p ∷ past) t
+MayDeny past p = (t : ℕ) → p.ends ≡ Some t → (protocol_state past).accepted t ≡ true → IsKnownAborted (p ∷ past) t ⊎ ((protocol_state (p ∷ past)).risked t ≡ false) ⊎ IsBadRow (p ∷ past) t
 
 -- Each event may play its part and give its answer after those before it. What a transaction goes into its COMMIT with is its
 -- plan.

@@ -1,3 +1,4 @@
+pub mod Types
 pub mod Plan
 pub mod History
 pub mod Lawful

@@ -1,11 +1,8 @@
--- What a transaction has read, and is to write, when its COMMIT is taken.
+-- What a transaction has read, and is to write, when its COMMIT is accepted.
 use Rattle.std.specs.Prelude.{ℕ, ℤ, Bool, true, false, List, Option, slice_get}
 use Rattle.std.specs.Option.{option_map, option_map_or, option_and_then}
-use Rattle.sdb_types.specs.declared.key.Key.{Key}
-use Rattle.sdb_types.specs.declared.txid.TxId.{TxId}
-use Rattle.sdb_record.specs.declared.write.Change.{Change}
+use Rattle.law_protocol.specs.Types.{Change, Key, TxId, Write}
 use Rattle.sdb_record.specs.declared.write.Change.TheVariants as change
-use Rattle.sdb_record.specs.declared.write.Write.{Write}
 use Rattle.sdb_record.specs.Moved.{version_of}
 use Rattle.sdb_record.specs.Among.{write_among}
 use Rattle.sdb_model.specs.ReadSet.{ReadItem, version_read}

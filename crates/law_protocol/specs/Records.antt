@@ -1,14 +1,11 @@
 -- The contents of the stores by the history: which record, which row.
 use Rattle.std.specs.Prelude.{◌≡◌, ℕ, ◌^◌, ◌<◌, true, List, Option, None, unwrap_or}
 use Rattle.std.specs.Option.{option_map}
-use Rattle.sdb_types.specs.declared.key.Key.{Key}
-use Rattle.sdb_types.specs.declared.record.Record.{Record}
+use Rattle.law_protocol.specs.Types.{Key, Place, Record, Write}
 use Rattle.sdb_record.specs.declared.write.Change.TheVariants as change
-use Rattle.sdb_record.specs.declared.write.Write.{Write}
 use Rattle.sdb_record.specs.Coordinator.{coordinator_key_of, coordinator_row_of}
 use Rattle.sdb_record.specs.Rolls.{prepared_record, forward_record}
-use Rattle.sdb_types.specs.declared.place.Place.{Place}
-use Rattle.sdb_model.specs.Events.{StoreContents, standing}
+use Rattle.sdb_model.specs.Events.{StoreContents, stored_at}
 use Rattle.law_protocol.specs.Plan.{Plan, write_at}
 use Rattle.law_protocol.specs.History.{History, Standing, Final, Held}
 use Rattle.law_protocol.specs.Lawful.{id}
@@ -34,6 +31,6 @@ abbrev pub row_for : History → ℕ → Option Record
 row_for w t = option_map (λ d. coordinator_row_of (id t) d (w.moment t)) (w.row t)
 
 -- The stores hold what the history says: at each key of a table of records, and of each transaction's row.
-pub record ContainsHistory (plan : ℕ → Plan) (places : List Place) (w : History) (shelves : List StoreContents) : Type 0 where
-  pub records : (k : Key) → is_data k ≡ true → standing places shelves k ≡ option_map (record_for plan k) (w.rows k)
-  pub rows : (t : ℕ) → t < 2 ^ 128 → standing places shelves (coordinator_key_of (id t)) ≡ row_for w t
+pub record ContainsHistory (plan : ℕ → Plan) (places : List Place) (w : History) (store_contents : List StoreContents) : Type 0 where
+  pub records : (k : Key) → is_data k ≡ true → stored_at places store_contents k ≡ option_map (record_for plan k) (w.rows k)
+  pub rows : (t : ℕ) → t < 2 ^ 128 → stored_at places store_contents (coordinator_key_of (id t)) ≡ row_for w t

@@ -2,11 +2,7 @@
 use Rattle.std.specs.Prelude.{◌≡◌, ◌<◌, ◌≤◌, ◌^◌, ◌++◌, ◌∷◌, All, List, None, Some, length, true, ℕ}
 use Rattle.sdb_record.specs.Coordinator.{coordinator_table}
 use Rattle.sdb_record.specs.declared.coordinator.Decision.TheVariants.{Committed}
-use Rattle.sdb_schema.specs.declared.table.Table.{Table}
-use Rattle.sdb_types.specs.declared.key.Key.{Key}
-use Rattle.sdb_model.specs.declared.event.Event.{Event}
-use Rattle.sdb_model.specs.declared.event.Point.{Point}
-use Rattle.sdb_types.specs.declared.place.Place.{Place}
+use Rattle.law_protocol.specs.Types.{Event, Key, Place, Point, Table}
 use Rattle.sdb_model.specs.Events.{IsTrace, StoreContents, moment}
 use Rattle.sdb_model.specs.Exec.{find_table}
 use Rattle.sdb_model.specs.Transactions.{IsOrder}
@@ -83,10 +79,10 @@ IsFaithfulRun r = IsFaithful (events_in r) (newest_first r.labelled)
 abbrev pub HasReadSets : RunInOrder → Type 0
 HasReadSets r = AreReadSets r.plan (events_in r) (newest_first r.labelled)
 
--- The COMMIT of a transaction was taken, and its id has 128 bits.
+-- The COMMIT of a transaction was accepted, and its id has 128 bits.
 pub record IsCommitStarted (r : RunInOrder) (t : ℕ) : Type 0 where
   pub fits : t < 2 ^ 128
-  pub taken : (protocol_state_in r).taken t ≡ true
+  pub accepted : (protocol_state_in r).accepted t ≡ true
 
 -- an order of the transactions that are recorded after its events
 abbrev pub IsOrderOf : RunInOrder → List Point → Type 0
@@ -153,8 +149,8 @@ pub record PreparesKey (e : EventInRun) (t : ℕ) (k : Key) : Type 0 where
   pub done : has_effect e.places e.event.event (closing e.opening e.moments) e.after ≡ true
 
 -- The event begins a transaction that is recorded after the run. Another was answered Committed before it.
-pub record BeginsAfterAnswered (e : EventInRun) (told begun : ℕ) : Type 0 where
+pub record BeginsAfterAnswered (e : EventInRun) (answered begun : ℕ) : Type 0 where
   pub client : ℕ
-  pub tells : IsAnsweredCommitted e.past told
+  pub is_known : IsAnsweredCommitted e.past answered
   pub begins : e.event.action ≡ Begins begun client
   pub recorded : (history_of (run_with e)).row begun ≡ Some Committed

@@ -1,10 +1,8 @@
 -- The recorded transactions in the order of their points, and the rows that they leave one after the other.
 use Rattle.std.specs.Prelude.{◌≡◌, ◌↔◌, ◌⊎◌, ℕ, ◌<◌, true, List, [], ◌∷◌, ◌++◌, Option, Some, None}
-use Rattle.sdb_types.specs.declared.key.Key.{Key}
-use Rattle.sdb_types.specs.declared.pair.Pair.{Pair}
+use Rattle.law_protocol.specs.Types.{Key, Pair, Place}
 use Rattle.sdb_record.specs.declared.coordinator.Decision.TheVariants.{Committed}
 use Rattle.sdb_record.specs.Rolls.{row_of_change}
-use Rattle.sdb_types.specs.declared.place.Place.{Place}
 use Rattle.sdb_model.specs.Events.{StoreContents}
 use Rattle.sdb_model.specs.Images.{row_at}
 use Rattle.law_protocol.specs.Plan.{Plan, written, version_read_at}
@@ -50,4 +48,4 @@ ReadsSerial plan w order = (front : List ℕ) (t : ℕ) (back : List ℕ) → or
 
 -- The row at each key is the one that the whole order left there.
 abbrev pub RowsSerial : (ℕ → Plan) → List Place → List StoreContents → List ℕ → Type 0
-RowsSerial plan places shelves order = (k : Key) → is_data k ≡ true → row_at places shelves k ≡ row_left plan k (last_writer plan k order)
+RowsSerial plan places store_contents order = (k : Key) → is_data k ≡ true → row_at places store_contents k ≡ row_left plan k (last_writer plan k order)

@@ -1,15 +1,11 @@
 -- A run whose tables lie on one store, and the same run with its tables spread over several.
 use Rattle.std.specs.Prelude.{◌≡◌, true, List, [], ◌∷◌, map, IsSome}
 use Rattle.std.specs.List.{AllByRecursion}
-use Rattle.sdb_types.specs.declared.key.Key.{Key}
+use Rattle.law_protocol.specs.Types.{Event, Key, Outcome, Place, Table}
 use Rattle.sdb_types.specs.Contents.{Contents, record_at}
-use Rattle.sdb_schema.specs.declared.table.Table.{Table}
-use Rattle.sdb_model.specs.declared.event.Event.{Event}
 use Rattle.sdb_model.specs.declared.event.Event.TheVariants as event
-use Rattle.sdb_model.specs.declared.event.Outcome.{Outcome}
-use Rattle.sdb_types.specs.declared.place.Place.{Place}
 use Rattle.sdb_model.specs.Rows.{Name}
-use Rattle.sdb_model.specs.Events.{StoreContents, contents_under, store_of, standing, table_asked}
+use Rattle.sdb_model.specs.Events.{StoreContents, contents_under, store_of, stored_at, table_asked}
 use Rattle.sdb_model.specs.Tables.{is_table_of_run}
 
 -- one store, and nothing else
@@ -40,9 +36,9 @@ abbrev pub AreAbout : List Table → List Event → Type 0
 AreAbout catalog events = AllByRecursion (IsAbout catalog) events
 
 -- At each key of these tables the stores hold what the one store does.
-pub record HoldAs (catalog : List Table) (places : List Place) (shelves : List StoreContents) (held : Contents) : Type 0 where
-  pub at : (key : Key) → is_table_of_run catalog key.table ≡ true → standing places shelves key ≡ record_at held key
+pub record HoldAs (catalog : List Table) (places : List Place) (store_contents : List StoreContents) (held : Contents) : Type 0 where
+  pub at : (key : Key) → is_table_of_run catalog key.table ≡ true → stored_at places store_contents key ≡ record_at held key
 
 -- Each namespace has a store that is attached.
 abbrev pub AreShelved : List Place → List StoreContents → Type 0
-AreShelved places shelves = (ns : Name) → IsSome (contents_under shelves (store_of places shelves ns))
+AreShelved places store_contents = (ns : Name) → IsSome (contents_under store_contents (store_of places store_contents ns))

@@ -1,14 +1,10 @@
 -- A trace beside the events, newest first, and what was done.
 use Rattle.std.specs.Prelude.{◌≡◌, ℕ, Bool, false, not, ◌&&◌, List, [], ◌∷◌, Option, Some, None}
 use Rattle.std.specs.Option.{option_map_or}
-use Rattle.sdb_types.specs.declared.key.Key.{Key}
-use Rattle.sdb_types.specs.declared.record.Condition.{Condition}
-use Rattle.sdb_types.specs.declared.record.Request.{Request}
+use Rattle.law_protocol.specs.Types.{Condition, Event, Key, Place, Request}
 use Rattle.sdb_types.specs.declared.record.Request.TheVariants as ask
 use Rattle.sdb_types.specs.Contents.{holds}
-use Rattle.sdb_model.specs.declared.event.Event.{Event}
-use Rattle.sdb_types.specs.declared.place.Place.{Place}
-use Rattle.sdb_model.specs.Events.{StoreContents, Effect, contact_of, standing}
+use Rattle.sdb_model.specs.Events.{StoreContents, Effect, contact_of, stored_at}
 use Rattle.law_protocol.specs.Plan.{Plan}
 use Rattle.law_protocol.specs.History.{Ends, History, start, happens, state_after}
 use Rattle.law_protocol.specs.Lawful.{Labelled}
@@ -27,12 +23,12 @@ IsTraced places opening (p ∷ past) (s ∷ ss) = IsTraced places opening past s
 
 -- nothing is at any key
 abbrev pub StartsEmpty : List Place → List StoreContents → Type 0
-StartsEmpty places opening = (k : Key) → standing places opening k ≡ None
+StartsEmpty places opening = (k : Key) → stored_at places opening k ≡ None
 
 -- A write took effect where its condition held before it and fails after it: what the protocol puts or removes never meets
 -- the condition of its own put.
 abbrev pub takes_effect_at : List Place → Key → Condition → List StoreContents → List StoreContents → Bool
-takes_effect_at places k c before now = holds c (standing places before k) && not (holds c (standing places now k))
+takes_effect_at places k c before now = holds c (stored_at places before k) && not (holds c (stored_at places now k))
 
 abbrev pub takes_effect : List Place → Request → List StoreContents → List StoreContents → Bool
 takes_effect places (ask.Get key) before now = false

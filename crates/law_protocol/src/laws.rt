@@ -1,16 +1,9 @@
 //! Which store a table lies on changes nothing of a run but the names of the stores in its calls.
 ghost use Rattle.std.specs.Prelude.{◌≡◌, ◌≢◌, List, [], true};
-ghost use Rattle.sdb_types.specs.declared.record.Request.{Request};
-ghost use Rattle.sdb_types.specs.declared.record.Reply.{Reply};
+ghost use Rattle.law_protocol.specs.Types.{Event, Outcome, Place, Reply, Request, Script, Span, Table};
 ghost use Rattle.sdb_types.specs.declared.record.Reply.TheVariants as reply;
-ghost use Rattle.sdb_types.specs.declared.record.Span.{Span};
 ghost use Rattle.sdb_types.specs.Contents.{Contents, reply_to, after, rows_in};
-ghost use Rattle.sdb_schema.specs.declared.table.Table.{Table};
-ghost use Rattle.sdb_model.specs.declared.event.Event.{Event};
 ghost use Rattle.sdb_model.specs.declared.event.How.TheVariants as how;
-ghost use Rattle.sdb_model.specs.declared.event.Outcome.{Outcome};
-ghost use Rattle.sdb_types.specs.declared.place.Place.{Place};
-ghost use Rattle.sdb_model.specs.declared.script.Script.{Script};
 ghost use Rattle.sdb_model.specs.Rows.{Name};
 ghost use Rattle.sdb_model.specs.Events.{StoreContents, IsCall, IsTrace, contents_under, store_of, table_asked};
 ghost use Rattle.sdb_model.specs.Serial.{IsRun};

@@ -2,8 +2,7 @@
 ghost use Rattle.std.specs.Prelude.{◌≡◌, ℕ, List, [], Some};
 ghost use Rattle.std.specs.FinMap.{empty};
 ghost use Rattle.sdb_record.specs.declared.coordinator.Decision.TheVariants.{Committed};
-ghost use Rattle.sdb_record.specs.declared.write.Write.{Write};
-ghost use Rattle.sdb_schema.specs.declared.table.Table.{Table};
+ghost use Rattle.law_protocol.specs.Types.{Table, Write};
 ghost use Rattle.sdb_model.specs.Causes.{AreCaused};
 ghost use Rattle.law_protocol.specs.Plan.{Plan};
 ghost use Rattle.law_protocol.specs.Faithful.{AreReadSets};

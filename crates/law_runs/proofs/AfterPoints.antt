@@ -5,18 +5,12 @@ use Rattle.std.specs.List.{AllByRecursion, cons_option, enumerate_from, filter_m
 use Rattle.std.specs.Option.{option_map_or}
 use Rattle.std.proofs.lemmas.Bool.{and_parts}
 use Rattle.std.proofs.lemmas.Bool.Decides.{nat_tests}
-use Rattle.sdb_types.specs.declared.key.Key.{Key}
-use Rattle.sdb_types.specs.declared.record.Record.{Record}
-use Rattle.sdb_types.specs.declared.record.Reply.{Reply}
+use Rattle.law_runs.specs.Types.{Event, How, Key, Record, Reply, Request, TxId}
 use Rattle.sdb_types.specs.declared.record.Reply.TheVariants as reply
-use Rattle.sdb_types.specs.declared.record.Request.{Request}
 use Rattle.sdb_types.specs.declared.record.Request.TheVariants as ask
-use Rattle.sdb_types.specs.declared.txid.TxId.{TxId}
 use Rattle.sdb_types.specs.Replies.{is_answered, is_applied}
 use Rattle.sdb_types.proofs.Basics.{clash, itself, none_some, one_of, some_is}
-use Rattle.sdb_model.specs.declared.event.Event.{Event}
 use Rattle.sdb_model.specs.declared.event.Event.TheVariants as event
-use Rattle.sdb_model.specs.declared.event.How.{How}
 use Rattle.sdb_model.specs.declared.event.How.TheVariants.{Seen, Lost, Discarded, Broken}
 use Rattle.sdb_model.specs.Calls.{StoreCall, calls_before, calls_by, calls_of, end_of, key_asked, made_by, put_by}
 use Rattle.sdb_model.specs.Counted.{prepares_in}
@@ -261,10 +255,10 @@ module _ (events : List Event) (own : PreparesAreOwn events) (belong : CallsAreO
       low : (a b : ℕ) → nat_lt a b ≡ true → a < b
       low a b e = grind (arith, nat_tests)
 
-  in_window : (p : StoreCall) → Contains calls p → Contains (calls_by events client) p × (s.taken < p.at)
+  in_window : (p : StoreCall) → Contains calls p → Contains (calls_by events client) p × (s.accepted < p.at)
   in_window p has = (
-    kept_in (λ (x : StoreCall). nat_lt s.taken x.at && nat_le x.at (end_of events s)) (calls_by events client) p has,
-    low s.taken p.at (and_parts (nat_lt s.taken p.at) (nat_le p.at (end_of events s)) (each_in (λ (x : StoreCall). (nat_lt s.taken x.at && nat_le x.at (end_of events s)) ≡ true) calls p (passes (λ (x : StoreCall). nat_lt s.taken x.at && nat_le x.at (end_of events s)) (calls_by events client)) has)).0,
+    kept_in (λ (x : StoreCall). nat_lt s.accepted x.at && nat_le x.at (end_of events s)) (calls_by events client) p has,
+    low s.accepted p.at (and_parts (nat_lt s.accepted p.at) (nat_le p.at (end_of events s)) (each_in (λ (x : StoreCall). (nat_lt s.accepted x.at && nat_le x.at (end_of events s)) ≡ true) calls p (passes (λ (x : StoreCall). nat_lt s.accepted x.at && nat_le x.at (end_of events s)) (calls_by events client)) has)).0,
   )
     where
       low : (a b : ℕ) → nat_lt a b ≡ true → a < b
@@ -284,8 +278,8 @@ module _ (events : List Event) (own : PreparesAreOwn events) (belong : CallsAreO
       before : (a n : ℕ) → a ≡ n → a < m.at → n < m.at
       before a n e l = omega (arith, e, l)
 
-  point_is : (o : Option ℕ) → last_prepare events id ≡ o → point events id ≡ unwrap_or o s.taken
-  point_is o e = ap (λ (x : Option ℕ). unwrap_or x (option_map_or (λ (t : Executed). t.taken) (commit_of events id) 0)) e ∙ ap (λ (x : Option Executed). unwrap_or o (option_map_or (λ (t : Executed). t.taken) x 0)) d.commit.1
+  point_is : (o : Option ℕ) → last_prepare events id ≡ o → point events id ≡ unwrap_or o s.accepted
+  point_is o e = ap (λ (x : Option ℕ). unwrap_or x (option_map_or (λ (t : Executed). t.accepted) (commit_of events id) 0)) e ∙ ap (λ (x : Option Executed). unwrap_or o (option_map_or (λ (t : Executed). t.accepted) x 0)) d.commit.1
 
   pub follows_point : IsAfterPoint events client s id m
   follows_point = record { prepared = each; decides = by (last_prepare events id) refl }

@@ -5,12 +5,8 @@ use Rattle.std.specs.Option.{option_and_then, option_map_or}
 use Rattle.std.specs.Ordering.{is_eq}
 use Rattle.std.specs.Result.{result_ok}
 use Rattle.std.proofs.lemmas.Bool.{cases_lt}
-use Rattle.sdb_types.specs.declared.txid.TxId.{TxId}
-use Rattle.sdb_types.specs.declared.key.Key.{Key}
-use Rattle.sdb_types.specs.declared.record.Record.{Record}
-use Rattle.sdb_types.specs.declared.record.Request.{Request}
+use Rattle.law_runs.specs.Types.{Decided, Event, Key, Place, Record, Reply, Request, TxId}
 use Rattle.sdb_types.specs.declared.record.Request.TheVariants as ask
-use Rattle.sdb_types.specs.declared.record.Reply.{Reply}
 use Rattle.sdb_types.specs.declared.record.Reply.TheVariants as reply
 use Rattle.sdb_types.specs.Contents.{Contents, after, holds, put_reply, record_at, reply_to}
 use Rattle.sdb_types.specs.Exact.{equal_of}
@@ -18,12 +14,9 @@ use Rattle.sdb_types.specs.Order.{key_cmp}
 use Rattle.sdb_types.proofs.Basics.{clash, none_some, some_is}
 use Rattle.sdb_types.proofs.KeyOrder.{key_exact}
 use Rattle.sdb_types.proofs.Keys.{same_key_self}
-use Rattle.sdb_record.specs.declared.coordinator.Decided.{Decided}
 use Rattle.sdb_record.specs.Coordinator.{coordinator_key_of, decision_in}
-use Rattle.sdb_model.specs.declared.event.Event.{Event}
-use Rattle.sdb_types.specs.declared.place.Place.{Place}
 use Rattle.sdb_model.specs.Calls.{StoreCall, calls_by, decision_in_reply, decision_observed, is_of_row, key_asked}
-use Rattle.sdb_model.specs.Events.{IsTrace, StoreContents, moment, standing, table_asked}
+use Rattle.sdb_model.specs.Events.{IsTrace, StoreContents, moment, stored_at, table_asked}
 use Rattle.sdb_model.specs.Explained.{RowsFinal}
 use Rattle.law_protocol.proofs.Effects.{AtCall, after_delete, after_put}
 use Rattle.law_runs.proofs.Calls.{IsAt, call_at}
@@ -33,13 +26,13 @@ use Rattle.law_runs.proofs.Calls.{IsAt, call_at}
 -- the row from which a decision was read is at a key
 pub record Stands (at : Option Record) (d : Decided) : Type 0 where
   pub row : Record
-  pub stands : at ≡ Some row
+  pub agrees : at ≡ Some row
   pub decided : result_ok (decision_in row) ≡ Some d
 
 -- the decision of a reply that shows a record, or none
 of_found : (o : Option Record) (d : Decided) → option_and_then (λ (row : Record). result_ok (decision_in row)) o ≡ Some d → Stands o d
 of_found None d h = none_some d h
-of_found (Some row) d h = record { row = row; stands = refl; decided = h }
+of_found (Some row) d h = record { row = row; agrees = refl; decided = h }
 
 -- what a reply of a store shows of a decision is what then is at the key that was asked
 said_stands : (q : Request) (k : Key) (m : Contents) (d : Decided) → key_asked q ≡ Some k → decision_in_reply q (reply_to q m) ≡ Some d → Stands (record_at (after q m) k) d
@@ -52,7 +45,7 @@ said_stands (ask.PutIf rec c) k m d asked h = subst (λ (x : Key). Stands (recor
     left false e = after_put rec c m rec.key ∙ rw e refl
 
     by : (b : Bool) → holds c (record_at m rec.key) ≡ b → decision_in_reply (ask.PutIf rec c) (put_reply c (record_at m rec.key)) ≡ Some d → Stands (record_at (after (ask.PutIf rec c) m) rec.key) d
-    by true e executed = record { row = rec; stands = left true e; decided = sym (ap (λ (b : Bool). decision_in_reply (ask.PutIf rec c) (if b then reply.Applied else reply.NotMet (record_at m rec.key))) e) ∙ executed }
+    by true e executed = record { row = rec; agrees = left true e; decided = sym (ap (λ (b : Bool). decision_in_reply (ask.PutIf rec c) (if b then reply.Applied else reply.NotMet (record_at m rec.key))) e) ∙ executed }
     by false e executed =
         subst (λ (o : Option Record). Stands o d) (sym (left false e))
         (of_found (record_at m rec.key) d (sym (ap (λ (b : Bool). decision_in_reply (ask.PutIf rec c) (if b then reply.Applied else reply.NotMet (record_at m rec.key))) e) ∙ executed))
@@ -91,13 +84,13 @@ key_table (ask.PutIf rec c) k e = ap (λ (x : Key). x.table.ns) (sym (some_is re
 key_table (ask.DeleteIf key c) k e = ap (λ (x : Key). x.table.ns) (sym (some_is key k e))
 
 -- after a call that showed a decision the row is there with it
-call_stands : (places : List Place) (q : Request) (r : Reply) (before now : List StoreContents) (k : Key) (d : Decided) → AtCall places q r before now → key_asked q ≡ Some k → decision_in_reply q r ≡ Some d → Stands (standing places now k) d
+call_stands : (places : List Place) (q : Request) (r : Reply) (before now : List StoreContents) (k : Key) (d : Decided) → AtCall places q r before now → key_asked q ≡ Some k → decision_in_reply q r ≡ Some d → Stands (stored_at places now k) d
 call_stands places q r before now k d a asked h = by a.moved
   where
-    here : standing places now k ≡ record_at a.left k
+    here : stored_at places now k ≡ record_at a.left k
     here = (a.here k (key_table q k asked)).1
 
-    by : ((a.left ≡ after q a.held) × ((r ≡ reply_to q a.held) ⊎ (r ≡ reply.Fault))) ⊎ ((a.left ≡ a.held) × ((r ≡ reply.NoMemory) ⊎ (r ≡ reply.Fault))) → Stands (standing places now k) d
+    by : ((a.left ≡ after q a.held) × ((r ≡ reply_to q a.held) ⊎ (r ≡ reply.Fault))) ⊎ ((a.left ≡ a.held) × ((r ≡ reply.NoMemory) ⊎ (r ≡ reply.Fault))) → Stands (stored_at places now k) d
     by (inl (left, inl executed)) =
         subst (λ (o : Option Record). Stands o d) (sym (here ∙ ap (λ (m : Contents). record_at m k) left)) (said_stands q k a.held d asked (sym (ap (decision_in_reply q) executed) ∙ h))
     by (inl (left, inr fault)) = absurd (fault_says q r d (inr fault) h)
@@ -120,16 +113,16 @@ shown_said id m d h = by (is_of_row id m.request) refl h
     by false e k = none_some d k
 
 -- after a call that showed a decision the row is there with it
-pub shown_stands : (places : List Place) (opening : List StoreContents) (moments : List (List StoreContents)) (first : ℕ) (id : TxId) (m : StoreCall) (d : Decided) (p : IsAt places opening moments first m) → decision_observed id m ≡ Some d → Stands (standing places (moment opening moments (suc p.n)) (coordinator_key_of id)) d
-shown_stands places opening moments first id m d p shown =
-    let s = shown_said id m d shown in
+pub shown_stands : (places : List Place) (opening : List StoreContents) (moments : List (List StoreContents)) (first : ℕ) (id : TxId) (m : StoreCall) (d : Decided) (p : IsAt places opening moments first m) → decision_observed id m ≡ Some d → Stands (stored_at places (moment opening moments (suc p.n)) (coordinator_key_of id)) d
+shown_stands places opening moments first id m d p observed =
+    let s = shown_said id m d observed in
     call_stands places m.request m.reply (moment opening moments p.n) (moment opening moments (suc p.n)) (coordinator_key_of id) d p.did (row_asked id m.request s.0) s.1
 
 ---- two calls
 
 -- the row of a transaction is the same at each two moments
 pub same_row : (places : List Place) (opening : List StoreContents) (moments : List (List StoreContents)) → ((early late : ℕ) → early ≤ late → late ≤ length moments → RowsFinal places (moment opening moments early) (moment opening moments late))
-    → (id : TxId) (a b : ℕ) (x y : Record) → id.0 < 2 ^ 128 → a ≤ length moments → b ≤ length moments → standing places (moment opening moments a) (coordinator_key_of id) ≡ Some x → standing places (moment opening moments b) (coordinator_key_of id) ≡ Some y → x ≡ y
+    → (id : TxId) (a b : ℕ) (x y : Record) → id.0 < 2 ^ 128 → a ≤ length moments → b ≤ length moments → stored_at places (moment opening moments a) (coordinator_key_of id) ≡ Some x → stored_at places (moment opening moments b) (coordinator_key_of id) ≡ Some y → x ≡ y
 same_row places opening moments final id a b x y fits in_a in_b at_a at_b = by (cases_lt a b)
   where
     below : (n k : ℕ) → n < k → n ≤ k
@@ -141,8 +134,8 @@ same_row places opening moments final id a b x y fits in_a in_b at_a at_b = by (
 
 pub decisions_agree : (places : List Place) (events : List Event) (opening closing : List StoreContents) (moments : List (List StoreContents)) → IsTrace places events opening moments closing → ((early late : ℕ) → early ≤ late → late ≤ length moments → RowsFinal places (moment opening moments early) (moment opening moments late))
     → (c d : ℕ) (id : TxId) (m x : StoreCall) (a b : Decided) → id.0 < 2 ^ 128 → Contains (calls_by events c) m → Contains (calls_by events d) x → decision_observed id m ≡ Some a → decision_observed id x ≡ Some b → a ≡ b
-decisions_agree places events opening closing moments trace final c d id m x a b fits in_c in_d shown executed =
-    some_is a b (sym first.decided ∙ ap (λ (r : Record). result_ok (decision_in r)) (same_row places opening moments final id (suc p.n) (suc q.n) first.row last.row fits p.within q.within first.stands last.stands) ∙ last.decided)
+decisions_agree places events opening closing moments trace final c d id m x a b fits in_c in_d observed executed =
+    some_is a b (sym first.decided ∙ ap (λ (r : Record). result_ok (decision_in r)) (same_row places opening moments final id (suc p.n) (suc q.n) first.row last.row fits p.within q.within first.agrees last.agrees) ∙ last.decided)
   where
     p : IsAt places opening moments 1 m
     p = call_at places events opening closing moments c m trace in_c
@@ -150,8 +143,8 @@ decisions_agree places events opening closing moments trace final c d id m x a b
     q : IsAt places opening moments 1 x
     q = call_at places events opening closing moments d x trace in_d
 
-    first : Stands (standing places (moment opening moments (suc p.n)) (coordinator_key_of id)) a
-    first = shown_stands places opening moments 1 id m a p shown
+    first : Stands (stored_at places (moment opening moments (suc p.n)) (coordinator_key_of id)) a
+    first = shown_stands places opening moments 1 id m a p observed
 
-    last : Stands (standing places (moment opening moments (suc q.n)) (coordinator_key_of id)) b
+    last : Stands (stored_at places (moment opening moments (suc q.n)) (coordinator_key_of id)) b
     last = shown_stands places opening moments 1 id x b q executed

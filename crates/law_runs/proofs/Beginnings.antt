@@ -4,10 +4,7 @@ use Rattle.std.specs.Prelude.{drop, is_some, take}
 use Rattle.std.specs.FinMap.{empty}
 use Rattle.sdb_types.proofs.Basics.{clash}
 use Rattle.sdb_record.specs.Coordinator.{coordinator_table}
-use Rattle.sdb_schema.specs.declared.table.Table.{Table}
-use Rattle.sdb_model.specs.declared.event.Event.{Event}
-use Rattle.sdb_types.specs.declared.place.Place.{Place}
-use Rattle.sdb_model.specs.declared.script.Script.{Script}
+use Rattle.law_runs.specs.Types.{Event, Place, Script, Table}
 use Rattle.sdb_model.specs.Events.{IsTrace, StoreContents, moment}
 use Rattle.sdb_model.specs.Exec.{find_table}
 use Rattle.sdb_model.specs.Explained.{Explained}
@@ -18,7 +15,7 @@ use Rattle.law_runs.proofs.Explains.{going_is_explained}
 use Rattle.law_runs.proofs.OnStores.{sound_on_stores}
 use Rattle.law_clients.specs.Fitting.{tables_are_well_typed}
 use Rattle.law_clients.specs.States.{doing_of, system_of}
-use Rattle.sdb_execution.specs.Execution.{IsExecution, IsPath, IsPlayable, State}
+use Rattle.sdb_client.specs.Execution.{IsExecution, IsPath, IsPlayable, State}
 use Rattle.law_runs.specs.Linked.{one_name}
 use Rattle.law_runs.specs.World.{states_of}
 use Rattle.law_runs.proofs.Steps.{execution_about, execution_linked}

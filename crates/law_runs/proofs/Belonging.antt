@@ -3,26 +3,20 @@ use Rattle.std.proofs.Common.{◌≡◌, ◌⊎◌, inl, inr, ◌+◌, ℕ, suc,
 use Rattle.std.specs.Prelude.{Contains, is_some}
 use Rattle.std.proofs.lemmas.List.{append-nil}
 use Rattle.std.proofs.lemmas.List.Elements.{Contains-append_left, Contains-push, Contains-push_cases}
-use Rattle.sdb_types.specs.declared.record.Reply.{Reply}
-use Rattle.sdb_types.specs.declared.record.Request.{Request}
+use Rattle.law_runs.specs.Types.{Answer, Event, How, Reply, Request, Script, Table}
 use Rattle.sdb_types.proofs.Basics.{some_is}
-use Rattle.sdb_model.specs.declared.answer.Answer.{Answer}
-use Rattle.sdb_model.specs.declared.event.Event.{Event}
 use Rattle.sdb_model.specs.declared.event.Event.TheVariants as event
-use Rattle.sdb_model.specs.declared.event.How.{How}
-use Rattle.sdb_model.specs.declared.script.Script.{Script}
 use Rattle.sdb_model.specs.Calls.{StoreCall, calls_by, calls_of, made_by}
 use Rattle.sdb_model.specs.Rows.{Name}
 use Rattle.sdb_model.specs.Transactions.{Executed, statements_by}
 use Rattle.sdb_client.specs.Client.{ClientAt}
-use Rattle.sdb_schema.specs.declared.table.Table.{Table}
 use Rattle.law_clients.specs.History.{executed_of_take, waiting_of}
 use Rattle.law_clients.proofs.Answered.{take_said}
 use Rattle.law_clients.proofs.Tellings.{others_silent, said_more}
 use Rattle.law_answers.specs.Invariant.{IsAnswered, IsWaiting, Knows}
 use Rattle.law_answers.proofs.Calls.{call_said, calls_stay, made_at, none_made, one_made, own_made, silent_said}
 use Rattle.law_answers.proofs.Knowing.{calls_wait}
-use Rattle.sdb_execution.specs.Execution.{CallStep, IsExecution, IsPath, IsPlayable, IsStepFrom, State}
+use Rattle.sdb_client.specs.Execution.{CallStep, IsExecution, IsPath, IsPlayable, IsStepFrom, State}
 use Rattle.law_runs.specs.Laws.{CallsAreOfStatements, IsOfStatement}
 use Rattle.law_runs.specs.World.{WorldAt, states_of, state_of}
 use Rattle.law_runs.proofs.Kept.{by_nat}
@@ -49,33 +43,33 @@ module _ (catalog : List Table) (events : List Event) (c : ℕ) (h : ClientAt) (
   waits : IsWaiting catalog events c (is_some h.vacuum) x
   waits = waits_of catalog events c h k x waiting
 
-  told : statements_by c events ≡ k.told ++ x ∷ []
-  told = k.same ∙ ap (λ (o : Option Executed). k.told ++ waiting_of o) waiting
+  answered : statements_by c events ≡ k.answered ++ x ∷ []
+  answered = k.same ∙ ap (λ (o : Option Executed). k.answered ++ waiting_of o) waiting
 
   -- with the call, what it has said
-  says : (b : Option Answer) → statements_by c (events ++ event.Call c store q how r b ∷ []) ≡ k.told ++ replied_said events x b ∷ []
-  says None = silent_said c events store q how r ∙ told
-  says (Some b) = call_said c events store q how r b k.told x told
+  says : (b : Option Answer) → statements_by c (events ++ event.Call c store q how r b ∷ []) ≡ k.answered ++ replied_said events x b ∷ []
+  says None = silent_said c events store q how r ∙ answered
+  says (Some b) = call_said c events store q how r b k.answered x answered
 
   of_waiting : (m : StoreCall) → Contains (calls_of events c x ++ made_at events store q how r ∷ []) m → IsOfStatement E c m
   of_waiting m has = record {
     statement = replied_said events x a;
-    among = subst (λ (ss : List Executed). Contains ss (replied_said events x a)) (sym (says a)) (Contains-push k.told (replied_said events x a));
-    call = subst (λ (ms : List StoreCall). Contains ms m) (sym (calls_more events c store q how r x waits.unanswered waits.taken a)) has;
+    among = subst (λ (ss : List Executed). Contains ss (replied_said events x a)) (sym (says a)) (Contains-push k.answered (replied_said events x a));
+    call = subst (λ (ms : List StoreCall). Contains ms m) (sym (calls_more events c store q how r x waits.unanswered waits.accepted a)) has;
   }
 
   old : (m : StoreCall) → IsOfStatement events c m → IsOfStatement E c m
-  old m y = by (Contains-push_cases k.told x y.statement (subst (λ (ss : List Executed). Contains ss y.statement) told y.among)) (known catalog events c h k y.statement y.among)
+  old m y = by (Contains-push_cases k.answered x y.statement (subst (λ (ss : List Executed). Contains ss y.statement) answered y.among)) (known catalog events c h k y.statement y.among)
     where
       the_one : x ≡ y.statement → IsOfStatement E c m
       the_one same = of_waiting m (Contains-append_left (calls_of events c x) (made_at events store q how r ∷ []) m (subst (λ (s : Executed). Contains (calls_of events c s) m) (sym same) y.call))
 
-      by : Contains k.told y.statement ⊎ (x ≡ y.statement) → IsAnswered catalog events c y.statement ⊎ (k.waiting ≡ Some y.statement) → IsOfStatement E c m
+      by : Contains k.answered y.statement ⊎ (x ≡ y.statement) → IsAnswered catalog events c y.statement ⊎ (k.waiting ≡ Some y.statement) → IsOfStatement E c m
       by (inr same) z = the_one same
       by (inl t) (inr e) = the_one (some_is x y.statement (sym waiting ∙ e))
       by (inl t) (inl z) = record {
         statement = y.statement;
-        among = subst (λ (ss : List Executed). Contains ss y.statement) (sym (says a)) (Contains-append_left k.told (replied_said events x a ∷ []) y.statement t);
+        among = subst (λ (ss : List Executed). Contains ss y.statement) (sym (says a)) (Contains-append_left k.answered (replied_said events x a ∷ []) y.statement t);
         call = subst (λ (ms : List StoreCall). Contains ms m) (sym (calls_stay c events (event.Call c store q how r a) y.statement z.given z.is z.answered)) y.call;
       }
 

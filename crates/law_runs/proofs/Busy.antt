@@ -1,39 +1,26 @@
 -- No COMMIT and no VACUUM is answered Busy.
 use Rattle.std.proofs.Common.{◌≡◌, ◌≢◌, inl, inr, ℕ, ℤ, Bool, true, false, List, [], ◌∷◌, ◌++◌, Option, Some, None, Result, Ok, Err, sym, ap, subst, ◌∙◌}
 use Rattle.std.specs.Prelude.{is_some, ◌||◌}
-use Rattle.sdb_types.specs.declared.key.Key.{Key}
-use Rattle.sdb_types.specs.declared.record.Reply.{Reply}
-use Rattle.sdb_types.specs.declared.record.Request.{Request}
-use Rattle.sdb_types.specs.declared.txid.TxId.{TxId}
+use Rattle.law_runs.specs.Types.{Answer, Event, How, Key, Outcome, Progress, Refusal, Reply, Request, Script, Statement, Table, TxId, VacuumStep}
 use Rattle.sdb_types.proofs.Basics.{by_test}
-use Rattle.sdb_schema.specs.declared.table.Table.{Table}
-use Rattle.sdb_model.specs.declared.answer.Answer.{Answer}
 use Rattle.sdb_model.specs.declared.answer.Answer.TheVariants as answer
-use Rattle.sdb_model.specs.declared.answer.Refusal.{Refusal}
-use Rattle.sdb_model.specs.declared.event.Event.{Event}
 use Rattle.sdb_model.specs.declared.event.Event.TheVariants as event
-use Rattle.sdb_model.specs.declared.statement.Statement.{Statement}
 use Rattle.sdb_model.specs.declared.statement.Statement.TheVariants as statement
-use Rattle.sdb_model.specs.declared.event.How.{How}
-use Rattle.sdb_model.specs.declared.script.Script.{Script}
 use Rattle.sdb_model.specs.Rows.{Name}
 use Rattle.sdb_model.specs.Sql.{Reads, reads_commit, reads_vacuum}
 use Rattle.sdb_model.specs.Transactions.{Executed}
-use Rattle.sdb_phases.specs.declared.step.Outcome.{Outcome}
 use Rattle.sdb_phases.specs.declared.step.Outcome.TheVariants as outcome
 use Rattle.sdb_sqltext.proofs.Clauses.{one_statement}
 use Rattle.sdb_sqltext.proofs.OneWord.{vacuum_read}
-use Rattle.sdb_commit.specs.Phases.{ended_at}
+use Rattle.sdb_txn.specs.Phases.{ended_at}
 use Rattle.sdb_phases.specs.Commit.{step as commit_step}
-use Rattle.sdb_txn.specs.declared.progress.Progress.{Progress}
 use Rattle.sdb_txn.specs.Txn.{TxnAt, progress_of}
-use Rattle.sdb_vacuum.specs.declared.work.VacuumStep.{VacuumStep}
 use Rattle.sdb_vacuum.specs.declared.work.VacuumStep.TheVariants as vacuuming
 use Rattle.sdb_client.specs.Client.{ClientAt, CommitStartPost, ParsedPost, Parses, StatementPost, Taking, TextPost, VacuumStartPost, answer_in, answer_of, next_id, next_of, TextStep}
 use Rattle.law_clients.specs.History.{executed_of_take}
 use Rattle.law_clients.proofs.Taken.{other_no_commit}
 use Rattle.law_answers.specs.Invariant.{IsWaiting, Knows}
-use Rattle.sdb_execution.specs.Execution.{IsExecution, IsPlayable}
+use Rattle.sdb_client.specs.Execution.{IsExecution, IsPlayable}
 use Rattle.law_runs.specs.Laws.{BusyIsOfReads}
 use Rattle.law_runs.specs.World.{states_of}
 use Rattle.law_runs.proofs.Replies.{CallOf, call_of}
@@ -49,7 +36,7 @@ IsBusyOfRead events c s = (key : Key) (id : TxId) (at : ℤ) → s.answer ≡ So
 abbrev pub AnyWaits : List Event → ℕ → Executed → ClientAt → Type 0
 AnyWaits events c s h = Unit {0}
 
----- as it is taken
+---- as it is accepted
 
 other_no_vacuum : (text : List ℕ) (st : Statement) → Reads text st → st ≢ statement.Vacuum → reads_vacuum text ≡ false
 other_no_vacuum text st h other = by_test (reads_vacuum text) (λ t. absurd (other (one_statement text st statement.Vacuum h ((vacuum_read text).0 t)))) (λ t. t)
@@ -84,8 +71,8 @@ module _ (key : Key) (id : TxId) (at : ℤ) where
 
   taken_busy : (q : Taking) (text : List ℕ) (h d : ClientAt) (a : Option Answer) → TextStep q text h a d → a ≡ Some (answer.Busy key id at) → NoneAtEnd text
   taken_busy q text h d a t e =
-      let told : TextPost q text h (Some (answer.Busy key id at)) d = subst (λ (o : Option Answer). TextPost q text h o d) e (t.told (λ n. no_memory (sym e ∙ n))) in
-      by_text q text h d told.0 told.1 told.2
+      let answered : TextPost q text h (Some (answer.Busy key id at)) d = subst (λ (o : Option Answer). TextPost q text h o d) e (t.answered (λ n. no_memory (sym e ∙ n))) in
+      by_text q text h d answered.0 answered.1 answered.2
     where
       no_memory : Some (answer.Busy key id at) ≡ Some answer.NoMemory → ⊥
       no_memory z = cc
@@ -113,23 +100,23 @@ pub busy_kept : AreKept (λ catalog. IsBusyOfRead) (λ catalog. AnyWaits)
 busy_kept = record {
   answered = λ catalog events e c s past h. h;
   waiting = λ catalog events e c s h still t. tt;
-  takes = λ w u c text a t h. taken a w.events c text t.client (λ key id at e. taken_busy key id at (record { catalog = w.script.catalog; now = w.clock; gate = t.gate; fresh = next_id t.client_slot.client }) text t.client_slot.client t.client a t.takes e);
+  takes = λ w u c text a t h. accepted a w.events c text t.client (λ key id at e. taken_busy key id at (record { catalog = w.script.catalog; now = w.clock; gate = t.gate; fresh = next_id t.client_slot.client }) text t.client_slot.client t.client a t.takes e);
   calls = λ w u c store q how r a t h k x waiting waits so. replied a w.events c store q how r x t.client
       (λ key id at e. called key id at w.events c t.client_slot.client k x waits q r w.clock a t.client e (call_of w.script.catalog w.events c t.client_slot.client k x waiting q r w.clock a t.client t.pending (h.world.each t.place t.client_slot t.at).fitted t.takes));
 }
   where
-    taken : (a : Option Answer) (events : List Event) (c : ℕ) (text : List ℕ) (d : ClientAt) → ((key : Key) (id : TxId) (at : ℤ) → a ≡ Some (answer.Busy key id at) → NoneAtEnd text) → SoBy IsBusyOfRead AnyWaits (events ++ event.Take c text a ∷ []) c (executed_of_take events text a) d a
-    taken None events c text d h = tt
-    taken (Some b) events c text d h = h
+    accepted : (a : Option Answer) (events : List Event) (c : ℕ) (text : List ℕ) (d : ClientAt) → ((key : Key) (id : TxId) (at : ℤ) → a ≡ Some (answer.Busy key id at) → NoneAtEnd text) → SoBy IsBusyOfRead AnyWaits (events ++ event.Take c text a ∷ []) c (executed_of_take events text a) d a
+    accepted None events c text d h = tt
+    accepted (Some b) events c text d h = h
 
     replied : (a : Option Answer) (events : List Event) (c : ℕ) (store : Name) (q : Request) (how : How) (r : Reply) (x : Executed) (d : ClientAt) → ((key : Key) (id : TxId) (at : ℤ) → a ≡ Some (answer.Busy key id at) → NoneAtEnd x.text) → SoBy IsBusyOfRead AnyWaits (events ++ event.Call c store q how r a ∷ []) c (replied_said events x a) d a
     replied None events c store q how r x d h = tt
     replied (Some b) events c store q how r x d h = h
 
-    called : (key : Key) (id : TxId) (at : ℤ) (events : List Event) (c : ℕ) (h : ClientAt) {catalog : List Table} (k : Knows catalog events c h) (x : Executed) → IsWaiting catalog events c (is_some h.vacuum) x → (q : Request) (r : Reply) (now : ℤ) (a : Option Answer) (d : ClientAt) → a ≡ Some (answer.Busy key id at) → CallOf catalog events c k.told x h q r now a d → NoneAtEnd x.text
-    called key id at events c h k x waits q r now a d e (inl z) = absurd (swept_busy key id at z.told.step (sym e ∙ z.told.answer))
+    called : (key : Key) (id : TxId) (at : ℤ) (events : List Event) (c : ℕ) (h : ClientAt) {catalog : List Table} (k : Knows catalog events c h) (x : Executed) → IsWaiting catalog events c (is_some h.vacuum) x → (q : Request) (r : Reply) (now : ℤ) (a : Option Answer) (d : ClientAt) → a ≡ Some (answer.Busy key id at) → CallOf catalog events c k.answered x h q r now a d → NoneAtEnd x.text
+    called key id at events c h k x waits q r now a d e (inl z) = absurd (swept_busy key id at z.answered.step (sym e ∙ z.answered.answer))
     called key id at events c h k x waits q r now a d e (inr (inl z)) = (z.is.inner.commit, waits.vacuum ∙ ap is_some z.free)
-    called key id at events c h k x waits q r now a d e (inr (inr z)) = absurd (ended_busy key id at (ended_at (commit_step z.k.work z.k.stage r)) (sym e ∙ z.answer ∙ ap (λ (p : Progress). answer_in (next_of p)) z.told.answer))
+    called key id at events c h k x waits q r now a d e (inr (inr z)) = absurd (ended_busy key id at (ended_at (commit_step z.k.work z.k.stage r)) (sym e ∙ z.answer ∙ ap (λ (p : Progress). answer_in (next_of p)) z.answered.answer))
 
 -- No COMMIT and no VACUUM of an execution is answered Busy.
 pub execution_busy : (script : Script) (events : List Event) → IsPlayable script → IsExecution script events → BusyIsOfReads events

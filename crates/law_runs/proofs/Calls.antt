@@ -4,9 +4,8 @@ use Rattle.std.specs.Prelude.{◌==◌, ◌&&◌, if◌then◌else◌, filter, n
 use Rattle.std.specs.List.{cons_option, enumerate_from, filter_map}
 use Rattle.std.proofs.lemmas.List.Elements.{Contains-append_left, Contains-append_right, Contains-push}
 use Rattle.sdb_types.proofs.Basics.{and_parts, lt_of, nat_at_most, none_some, some_is, one_of}
-use Rattle.sdb_model.specs.declared.event.Event.{Event}
+use Rattle.law_runs.specs.Types.{Event, Place}
 use Rattle.sdb_model.specs.declared.event.Event.TheVariants as event
-use Rattle.sdb_types.specs.declared.place.Place.{Place}
 use Rattle.sdb_model.specs.Calls.{StoreCall, calls_after, calls_by, calls_of, end_of, made_by}
 use Rattle.sdb_model.specs.Events.{Effect, IsTrace, StoreContents, moment}
 use Rattle.sdb_model.specs.Transactions.{Executed}
@@ -41,14 +40,14 @@ kept p (y ∷ ys) x has = by (p y) refl has (kept p ys x)
 -- a call that a client made between a statement's Take and its last event
 pub record IsWithin (events : List Event) (client : ℕ) (s : Executed) (m : StoreCall) : Type 0 where
   pub among : Contains (calls_by events client) m
-  pub after : s.taken < m.at
+  pub after : s.accepted < m.at
   pub until : m.at ≤ end_of events s
 
 pub within_statement : (events : List Event) (client : ℕ) (s : Executed) (m : StoreCall) → Contains (calls_of events client s) m → IsWithin events client s m
 within_statement events client s m has =
-    let h = kept (λ (x : StoreCall). nat_lt s.taken x.at && nat_le x.at (end_of events s)) (calls_by events client) m has in
-    let l = and_parts (nat_lt s.taken m.at) (nat_le m.at (end_of events s)) h.1 in
-    record { among = h.0; after = lt_of s.taken m.at l.0; until = nat_at_most m.at (end_of events s) l.1 }
+    let h = kept (λ (x : StoreCall). nat_lt s.accepted x.at && nat_le x.at (end_of events s)) (calls_by events client) m has in
+    let l = and_parts (nat_lt s.accepted m.at) (nat_le m.at (end_of events s)) h.1 in
+    record { among = h.0; after = lt_of s.accepted m.at l.0; until = nat_at_most m.at (end_of events s) l.1 }
 
 -- a call that came after others
 pub later_call : (n : ℕ) (calls : List StoreCall) (m : StoreCall) → Contains (calls_after n calls) m → Contains calls m × (n < m.at)

@@ -1,27 +1,19 @@
 -- The causes of answers are kept by each step of a world.
 use Rattle.std.proofs.Common.{◌≡◌, ℕ, suc, ℤ, ◌<◌, ◌^◌, Bool, true, false, List, [], ◌∷◌, ◌++◌, Option, Some, None, refl, sym, ap, subst}
 use Rattle.std.specs.Prelude.{IsSomeAnd, is_some, pos, slice_get, slice_set}
-use Rattle.sdb_types.specs.declared.record.Reply.{Reply}
-use Rattle.sdb_types.specs.declared.record.Request.{Request}
+use Rattle.law_runs.specs.Types.{Answer, ClientSlot, Event, Gate, How, Reply, Request, Script, Table}
 use Rattle.sdb_types.specs.Contents.{CanAnswer}
 use Rattle.sdb_record.specs.Meta.{is_moment}
-use Rattle.sdb_model.specs.declared.answer.Answer.{Answer}
-use Rattle.sdb_model.specs.declared.event.Event.{Event}
 use Rattle.sdb_model.specs.declared.event.Event.TheVariants as event
-use Rattle.sdb_model.specs.declared.event.How.{How}
-use Rattle.sdb_model.specs.declared.script.Script.{Script}
 use Rattle.sdb_model.specs.Rows.{Name}
-use Rattle.sdb_schema.specs.declared.table.Table.{Table}
 use Rattle.sdb_client.specs.Client.{ClientAt as Client, ReplyPost, next_id, TextStep}
-use Rattle.sdb_client.specs.declared.gate.Gate.{Gate}
 use Rattle.law_protocol.specs.History.{at}
 use Rattle.law_clients.specs.About.{IsOfTables}
 use Rattle.law_clients.specs.Fitting.{tables_are_well_typed}
 use Rattle.law_clients.specs.States.{ClientState, IsReady, IsWaiting}
 use Rattle.law_answers.specs.Invariant.{AnswersHaveCauses, CauseInvariant, IsGate, with_stopped}
 use Rattle.law_answers.proofs.Whole.{clock_all, explained, idles_all, replies_all, starts_all, stops_all, takes_all}
-use Rattle.sdb_execution.specs.declared.slot.ClientSlot.{ClientSlot}
-use Rattle.sdb_execution.specs.Execution.{AreFresh, IsGateAt, IsPlayable, client_after, client_stopped}
+use Rattle.sdb_client.specs.Execution.{AreFresh, IsGateAt, IsPlayable, client_after, client_stopped}
 use Rattle.law_runs.specs.World.{WorldAt, at_moment, state_in, states_of, with_event, with_client}
 use Rattle.law_runs.specs.Linked.{HaveCauses, IsLinked, on_one}
 use Rattle.law_runs.proofs.Linked.{fresh_hand, on_hand}
@@ -56,11 +48,11 @@ caused_takes w i s gate text a d playable here goes ready gated moment begun tak
 
 pub caused_calls : (w : WorldAt) (i : ℕ) (s : ClientSlot) (store : Name) (how : How) (q : Request) (r : Reply) (a : Option Answer) (d : Client) → IsPlayable w.script → slice_get w.client_slots i ≡ Some s → s.stopped ≡ false → IsWaiting w.script.catalog (states_of w.client_slots) (suc i) q → IsOfTables w.script.catalog s.client → CanAnswer q r → is_stored_reply r ≡ true → ReplyPost s.client s.client.vacuum r w.clock a d → is_moment w.clock ≡ true
     → IsLinked w → HaveCauses w → HaveCauses (with_event (with_client w i (client_after s 0 d)) (event.Call (suc i) store q how r a))
-caused_calls w i s store how q r a d playable here goes waiting about can stored told moment linked h =
+caused_calls w i s store how q r a d playable here goes waiting about can stored answered moment linked h =
     caused_by w i s (client_after s 0 d) (event.Call (suc i) store q how r a) here
     (subst (λ (b : Bool). CauseInvariant w.script.catalog (w.events ++ event.Call (suc i) store q how r a ∷ []) w.clock (at (states_of w.client_slots) (suc i) (record { client = d; stopped = b }))) (sym goes)
     (replies_all w.script.catalog w.events (states_of w.client_slots) (record { client = suc i; store = store; request = q; how = how; reply = r; now = w.clock }) a d playable.catalog playable.apart (record { waiting = waiting; can = can; moment = moment }) stored
-    (on_hand (λ (x : ClientState). IsOfTables w.script.catalog x.client) w.client_slots i s here about) (on_one w.events) (tables_are_well_typed w.script.catalog) linked h (on_hand (λ (x : ClientState). ReplyPost x.client x.client.vacuum r w.clock a d) w.client_slots i s here told)))
+    (on_hand (λ (x : ClientState). IsOfTables w.script.catalog x.client) w.client_slots i s here about) (on_one w.events) (tables_are_well_typed w.script.catalog) linked h (on_hand (λ (x : ClientState). ReplyPost x.client x.client.vacuum r w.clock a d) w.client_slots i s here answered)))
 
 pub caused_stops : (w : WorldAt) (i : ℕ) (s : ClientSlot) → slice_get w.client_slots i ≡ Some s → HaveCauses w → HaveCauses (with_event (with_client w i (client_stopped s)) (event.Stop (suc i)))
 caused_stops w i s here h =
@@ -87,8 +79,8 @@ sweeping_hand (Some s) c h = h
 -- What is so of the others by their places is so of them by their numbers.
 pub gated_by : (gate : Gate) (client_slots : List ClientSlot) (i : ℕ) → IsGateAt gate client_slots i → IsGate (states_of client_slots) (suc i) gate
 gated_by gate client_slots i h = record {
-  sweeps = λ e. let x = h.swept e in let k = sweeping_hand (slice_get client_slots x.0) (suc x.0) x.2 in (suc x.0, (λ n. x.1 (suc_is x.0 i n)), k.0, k.1);
-  rests = λ e d n goes. ap is_some ((gated_at gate client_slots i h).sweeps e d n goes);
+  vacuums = λ e. let x = h.vacuumed e in let k = sweeping_hand (slice_get client_slots x.0) (suc x.0) x.2 in (suc x.0, (λ n. x.1 (suc_is x.0 i n)), k.0, k.1);
+  rests = λ e d n goes. ap is_some ((gated_at gate client_slots i h).vacuums e d n goes);
   some = λ e. let x = h.opened e in let k = open_hand (slice_get client_slots x.0) (suc x.0) x.2 in (suc x.0, (λ n. x.1 (suc_is x.0 i n)), k.0, k.1);
   none = λ e d n goes. ap is_some ((gated_at gate client_slots i h).opens e d n goes);
 }

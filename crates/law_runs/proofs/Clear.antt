@@ -7,27 +7,18 @@ use Rattle.std.specs.declared.cmp.Ordering.TheVariants.{Less, Equal, Greater}
 use Rattle.sdb_types.specs.Columns.{choose_by, column, is_named, is_null, put_pair, take_out, with_column}
 use Rattle.sdb_types.specs.Contents.{state_number, tx_state}
 use Rattle.sdb_types.specs.Order.{name_cmp}
-use Rattle.sdb_types.specs.declared.key.Key.{Key}
-use Rattle.sdb_types.specs.declared.pair.Pair.{Pair}
-use Rattle.sdb_types.specs.declared.record.Condition.{Condition}
-use Rattle.sdb_types.specs.declared.record.Record.{Record}
-use Rattle.sdb_types.specs.declared.record.Request.{Request}
+use Rattle.law_runs.specs.Types.{Condition, Decision, Key, Pair, Record, Reply, Request, TxId, Value, Write}
 use Rattle.sdb_types.specs.declared.record.Request.TheVariants as ask
-use Rattle.sdb_types.specs.declared.record.Reply.{Reply}
 use Rattle.sdb_types.specs.declared.record.Reply.TheVariants as reply
 use Rattle.sdb_types.specs.declared.record.State.TheVariants as state
-use Rattle.sdb_types.specs.declared.txid.TxId.{TxId}
-use Rattle.sdb_types.specs.declared.value.Value.{Value}
 use Rattle.sdb_types.specs.declared.value.Value.TheVariants as value
-use Rattle.sdb_record.specs.declared.coordinator.Decision.{Decision}
-use Rattle.sdb_record.specs.declared.write.Write.{Write}
 use Rattle.sdb_record.specs.Coordinator.{coordinator_key_of, coordinator_row_of}
 use Rattle.sdb_record.specs.Meta.{is_in}
 use Rattle.sdb_record.specs.Names.{base_name, tx_committed_at}
 use Rattle.sdb_record.specs.Parts.{base_pair, before_pair, before_part, before_record, is_before_pair, is_user_pair, own_columns, record_with, user_columns, with_columns}
 use Rattle.sdb_record.specs.Rolls.{base_columns, forward_record, is_tombstone, new_columns, new_meta, prepared_record, row_of_image, tombstone_mark, undo}
-use Rattle.sdb_reading.specs.OneLine.{ValueHasNoLf}
-use Rattle.sdb_reading.proofs.LineLaws.{id_one}
+use Rattle.sdb_report.specs.OneLine.{ValueHasNoLf}
+use Rattle.sdb_report.proofs.LineLaws.{id_one}
 use Rattle.law_runs.proofs.Lists.{filter_all, filter_map_all, find_all, map_all, option_so}
 
 abbrev pub AreClear : List Value → Type 0

@@ -3,20 +3,12 @@ use Rattle.std.proofs.Common.{◌≡◌, ℕ, ℤ, Bool, true, false, cond, ◌|
 use Rattle.std.specs.Prelude.{is_some, not, ◌&&◌}
 use Rattle.sdb_types.specs.Contents.{CanAnswer, record_among}
 use Rattle.sdb_types.specs.Order.{same_key}
-use Rattle.sdb_types.specs.declared.key.Key.{Key}
-use Rattle.sdb_types.specs.declared.record.Record.{Record}
-use Rattle.sdb_types.specs.declared.record.Reply.{Reply}
-use Rattle.sdb_types.specs.declared.record.Request.{Request}
+use Rattle.law_runs.specs.Types.{Access, Answer, Doing, Key, Next, Outcome, PlanStep, Progress, Record, Refusal, Reply, Request, Statement, Table, VacuumStep}
 use Rattle.sdb_types.proofs.Basics.{by_test, clash}
 use Rattle.sdb_types.proofs.Keys.{same_key_exact}
-use Rattle.sdb_keyed.specs.Entries.{value_at}
-use Rattle.sdb_record.specs.declared.access.Access.{Access}
+use Rattle.sdb_snapshot.specs.Entries.{value_at}
 use Rattle.sdb_record.specs.declared.access.Access.TheVariants as access
-use Rattle.sdb_schema.specs.declared.table.Table.{Table}
-use Rattle.sdb_model.specs.declared.answer.Answer.{Answer}
 use Rattle.sdb_model.specs.declared.answer.Answer.TheVariants as answer
-use Rattle.sdb_model.specs.declared.answer.Refusal.{Refusal}
-use Rattle.sdb_model.specs.declared.statement.Statement.{Statement}
 use Rattle.sdb_model.specs.declared.statement.Statement.TheVariants as statement
 use Rattle.sdb_model.specs.Causes.{refused}
 use Rattle.sdb_model.specs.Exec.{named_table}
@@ -24,27 +16,21 @@ use Rattle.sdb_model.specs.Plain.{is_one_line}
 use Rattle.sdb_model.specs.Refused.{refusal_by, refusal_of}
 use Rattle.sdb_model.specs.Sql.{reads_commit}
 use Rattle.sdb_model.specs.Transactions.{changes_nothing}
-use Rattle.sdb_exec.specs.declared.plan.PlanStep.{PlanStep}
 use Rattle.sdb_exec.specs.declared.plan.PlanStep.TheVariants.{Finished, Read as Wants}
 use Rattle.sdb_exec.specs.Plans.{Planned}
 use Rattle.sdb_model.specs.Reads.{access_of}
-use Rattle.sdb_phases.specs.declared.step.Outcome.{Outcome}
 use Rattle.sdb_phases.specs.declared.step.Outcome.TheVariants as outcome
 use Rattle.sdb_phases.specs.Commit.{Back, Checking, Deciding, Forward, Over, Preparing, Stage, Stopping, pending as commit_pending, step as commit_step}
-use Rattle.sdb_commit.specs.Phases.{CommitAt, IsNext, ended_at}
-use Rattle.sdb_read.specs.declared.read.ReadStep.TheVariants as step
-use Rattle.sdb_read.specs.Read.{Asking, Ended, ReadAt, ReadStage, Resolving, read_result, read_step}
+use Rattle.sdb_txn.specs.Phases.{CommitAt, IsNext, ended_at}
+use Rattle.sdb_txn.specs.declared.read.ReadStep.TheVariants as step
+use Rattle.sdb_txn.specs.Read.{Asking, Ended, ReadAt, ReadStage, Resolving, read_result, read_step}
 use Rattle.sdb_snapshot.specs.Reads.{ReadRecord, has_changed, record_read_at}
 use Rattle.sdb_snapshot.specs.Seen.{Seen, overlay}
-use Rattle.sdb_txn.specs.declared.progress.Progress.{Progress}
 use Rattle.sdb_txn.specs.declared.progress.Progress.TheVariants as progress
-use Rattle.sdb_txn.specs.declared.txn.Doing.{Doing}
 use Rattle.sdb_txn.specs.declared.txn.Doing.TheVariants as doing
 use Rattle.sdb_txn.specs.Txn.{IsCommitting, TxnAt, idle, pending_in, progress_of, work_of}
-use Rattle.sdb_vacuum.specs.declared.work.VacuumStep.{VacuumStep}
 use Rattle.sdb_vacuum.specs.declared.work.VacuumStep.TheVariants as vacuuming
 use Rattle.sdb_vacuum.specs.Vacuum.{Gives, VacuumAt, vacuum_step}
-use Rattle.sdb_client.specs.declared.next.Next.{Next}
 use Rattle.sdb_client.specs.declared.next.Next.TheVariants as next
 use Rattle.sdb_client.specs.Client.{AskPost, BeginPost, CallPost, ClientAt, CommitNext, CommitStartPost, GatePost, RowsReadPost, IsIdle, IsChangedAt, IsAnsweredAtOnce, NextPost, OpenTxnPost, ReplyPost, RollbackPost, RowsPost, StagePost, StatementPost, TablePost, Taking, TextPost, VacuumStartPost, after, answer_in, answer_of, client_pending, given_answer, given_left, gives, holding, is_covered, next_of, with_rows_read, pending_by, pending_of, plan_of, resting, out_of_memory, too_many, vacuum_left, written, TextStep}
 use Rattle.law_clients.proofs.Whole.{by_memory}
@@ -116,7 +102,7 @@ left_clear t (Wants a) h g = h
 plan_gives : (p : Planned) (a : Access) (t : TxnAt) → StatementClear p.statement → SeenClear t.seen → GivesClear (gives p a t)
 plan_gives p a t h k = gives_clear p (overlay a t.seen) h (overlay_clear a t.seen k)
 
----- a text that is taken
+---- a text that is accepted
 
 same_clear : (c d : ClientAt) (a : Answer) (result : Option Answer) → IsAnsweredAtOnce c a result d → AnswerClear a → ClientClear c → StepClear result d
 same_clear c d a result h k g = record { client = subst ClientClear (sym h.same) g; answer = subst (λ (o : Option Answer). IfSome o AnswerClear) (sym h.answer) k }
@@ -164,12 +150,12 @@ module _ (q : Taking) (c d : ClientAt) (result : Option Answer) (waits : IsIdle 
   table_step st t clear e k = by_refusal (refusal_of q.catalog st) refl
     where
       by_table : (o : Option Table) → refusal_of q.catalog st ≡ None → named_table q.catalog st ≡ o → StepClear result d
-      by_table (Some table) taken named = rows_step st t table clear e (k.reads table taken named)
-      by_table None taken named = absurd (let no : Some (record { kind = 6; place = 0 }) ≡ None = sym (ap (λ (o : Option Table). refusal_by o st) named) ∙ taken in cc)
+      by_table (Some table) accepted named = rows_step st t table clear e (k.reads table accepted named)
+      by_table None accepted named = absurd (let no : Some (record { kind = 6; place = 0 }) ≡ None = sym (ap (λ (o : Option Table). refusal_by o st) named) ∙ accepted in cc)
 
       by_refusal : (o : Option Refusal) → refusal_of q.catalog st ≡ o → StepClear result d
-      by_refusal (Some r) taken = same_clear c d _ result (k.refused r taken) tt h
-      by_refusal None taken = by_table (named_table q.catalog st) taken refl
+      by_refusal (Some r) accepted = same_clear c d _ result (k.refused r accepted) tt h
+      by_refusal None accepted = by_table (named_table q.catalog st) accepted refl
 
   ask_step : (st : Statement) (o : Option TxnAt) → StatementClear st → c.txn ≡ o → AskPost q.catalog st c o result d → StepClear result d
   ask_step st None clear e k = same_clear c d _ result k tt h
@@ -197,9 +183,9 @@ pub takes_clear : (q : Taking) (text : List ℕ) (c d : ClientAt) (result : Opti
 takes_clear q text c d result one waits h k =
     by_memory result
     (λ e. record { client = subst ClientClear (sym (k.memory e)) (starved_clear text c h); answer = subst (λ (o : Option Answer). IfSome o AnswerClear) (sym e) tt })
-    (λ n. text_step q c d result waits h text one (k.told n))
+    (λ n. text_step q c d result waits h text one (k.answered n))
 
----- a reply that is taken
+---- a reply that is accepted
 
 abbrev AfterClear : Next → TxnAt → Type 0
 AfterClear next.Call u = TxnClear u
@@ -238,7 +224,7 @@ module _ (t u : TxnAt) (p : Planned) (a : Access) (x : ReadAt) (clear : PlanClea
   moved_step (access.Get k) images key found i h = absurd h
   moved_step (access.Scan span) images key found i h = (
     noted_key t.seen.read_set key seen.read_set (moved_noted (record_read_at t.seen.read_set key) (record_among images key) h.moved),
-    subst (λ (o : Option Record). IfSome o (FoundAt key)) (sym h.stands) (among_at images key i),
+    subst (λ (o : Option Record). IfSome o (FoundAt key)) (sym h.agrees) (among_at images key i),
   )
 
   images_step : (images : List Record) (n : Next) → RecordsClear images → RowsReadPost t p a images n u → AfterClear n u
@@ -262,12 +248,12 @@ module _ (t u : TxnAt) (p : Planned) (a : Access) (x : ReadAt) (clear : PlanClea
   stage_step n (Ended step.NoMemory) i h = absurd h
 
   call_step : (n : Next) (r : Reply) (now : ℤ) → StageClear (read_step x.stage now r) → CallPost t p a x r now n u → AfterClear n u
-  call_step next.Call r now i h = stage_step next.Call (read_step x.stage now r) i (h.told (λ e. cc))
-  call_step (next.End z) r now i h = stage_step (next.End z) (read_step x.stage now r) i (h.told (λ e. cc))
+  call_step next.Call r now i h = stage_step next.Call (read_step x.stage now r) i (h.answered (λ e. cc))
+  call_step (next.End z) r now i h = stage_step (next.End z) (read_step x.stage now r) i (h.answered (λ e. cc))
   call_step (next.Answer z) r now i h =
       by_memory (Some z)
       (λ e. let same : z ≡ answer.NoMemory = cc in idle_step (next.Answer z) answer.NoMemory tt (ap (λ (y : Answer). next.Answer y) same, h.memory (ap (λ (y : Answer). next.Answer y) same)))
-      (λ other. stage_step (next.Answer z) (read_step x.stage now r) i (h.told (λ e. other (let same : z ≡ answer.NoMemory = cc in ap (λ (y : Answer). Some y) same))))
+      (λ other. stage_step (next.Answer z) (read_step x.stage now r) i (h.answered (λ e. other (let same : z ≡ answer.NoMemory = cc in ap (λ (y : Answer). Some y) same))))
 
 ---- a COMMIT
 
@@ -309,13 +295,13 @@ committing_step k r s doing.Over w g can c i = absurd i
 
 commit_step_to : (t u : TxnAt) (k : CommitAt) (r : Reply) (n : Next) → WorkClear k.work → CommitClear k.stage → CanGet k.work k.stage r → ReplyClear r → CommitNext t k r n u → AfterClear n u
 commit_step_to t u k r n w g can c h =
-    by_progress h.progress refl (subst ProgressClear (sym h.told.answer) (ended_progress (commit_step k.work k.stage r) (commit_step_clear k.work k.stage r w g can c))) h.next
+    by_progress h.progress refl (subst ProgressClear (sym h.answered.answer) (ended_progress (commit_step k.work k.stage r) (commit_step_clear k.work k.stage r w g can c))) h.next
   where
     ends : (a : Answer) → AnswerClear a → n ≡ next.End a → AfterClear n u
     ends a k m = subst (λ (y : Next). AfterClear y u) (sym m) k
 
     by_progress : (p : Progress) → h.progress ≡ p → ProgressClear p → n ≡ next_of p → AfterClear n u
-    by_progress progress.More e q m = subst (λ (y : Next). AfterClear y u) (sym m) (committing_step k r u.seen u.doing w g can c (h.told.next e))
+    by_progress progress.More e q m = subst (λ (y : Next). AfterClear y u) (sym m) (committing_step k r u.seen u.doing w g can c (h.answered.next e))
     by_progress (progress.Rows rows) e q m = ends answer.NoMemory tt m
     by_progress (progress.Busy key id at) e q m = ends (answer.Busy key id at) q m
     by_progress progress.Faulted e q m = ends answer.Faulted tt m
@@ -353,14 +339,14 @@ replies_clear c d q r now result asked can reply h leads = by_vacuum c.vacuum re
     by_txn : (o : Option TxnAt) → c.txn ≡ o → pending_of o ≡ Some q → OpenTxnPost c o r now result d → StepClear result d
     by_txn None e pends k = absurd k
     by_txn (Some t) e pends k =
-        let so = after_clear c k.next k.left h (next_step t k.left t.doing c.plan q r now k.next (open_clear c t e h) h.plan pends can reply k.told) in
+        let so = after_clear c k.next k.left h (next_step t k.left t.doing c.plan q r now k.next (open_clear c t e h) h.plan pends can reply k.answered) in
         record { client = subst ClientClear (sym k.client) so.client; answer = subst (λ (o : Option Answer). IfSome o AnswerClear) (sym k.answer) so.answer }
 
     by_vacuum : (v : Option VacuumAt) → c.vacuum ≡ v → pending_by v c.txn ≡ Some q → ReplyPost c v r now result d → StepClear result d
     by_vacuum None e pends k = by_txn c.txn refl pends k
     by_vacuum (Some v) e pends k =
         let is : VacuumClear v = subst (λ (o : Option VacuumAt). IfSome o VacuumClear) e h.vacuum in
-        let so = swept_step v k.0.left k.0.step r now k.0.told (swept_clear v.spans v.removed v.stage now r is.0 is.1 reply) in
+        let so = swept_step v k.0.left k.0.step r now k.0.answered (swept_clear v.spans v.removed v.stage now r is.0 is.1 reply) in
         record {
           client = subst ClientClear (sym k.1) (record { txn = h.txn; plan = h.plan; vacuum = subst (λ (o : Option VacuumAt). IfSome o VacuumClear) (sym k.0.goes) so.0 });
           answer = subst (λ (o : Option Answer). IfSome o AnswerClear) (sym k.0.answer) so.1;

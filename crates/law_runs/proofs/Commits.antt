@@ -7,47 +7,29 @@ use Rattle.std.specs.Ordering.{is_lt}
 use Rattle.std.specs.FinMap.{empty, entries, get, get-empty, get-insert, insert}
 use Rattle.sdb_types.specs.Contents.{CanAnswer, in_span, record_among}
 use Rattle.sdb_types.specs.Order.{key_cmp, same_key}
-use Rattle.sdb_types.specs.declared.key.Key.{Key}
-use Rattle.sdb_types.specs.declared.record.Record.{Record}
-use Rattle.sdb_types.specs.declared.record.Reply.{Reply}
+use Rattle.law_runs.specs.Types.{Check, DecidePhase, DecideStep, Decided, Expected, Key, Outcome, PrepareStep, Read, Record, Reply, Request, Scan, Span, Target, TxId, ValidateStep, Wanted, Write}
 use Rattle.sdb_types.specs.declared.record.Reply.TheVariants as reply
-use Rattle.sdb_types.specs.declared.record.Request.{Request}
 use Rattle.sdb_types.specs.declared.record.Request.TheVariants as ask
-use Rattle.sdb_types.specs.declared.record.Span.{Span}
-use Rattle.sdb_types.specs.declared.txid.TxId.{TxId}
 use Rattle.sdb_types.proofs.Basics.{append_all, by_test, none_some}
 use Rattle.sdb_types.proofs.KeyOrder.{key_exact, key_total}
 use Rattle.sdb_types.proofs.Keys.{same_key_exact}
-use Rattle.sdb_record.specs.declared.access.Read.{Read}
-use Rattle.sdb_record.specs.declared.access.Scan.{Scan}
-use Rattle.sdb_record.specs.declared.coordinator.Decided.{Decided}
 use Rattle.sdb_record.specs.declared.coordinator.Decision.TheVariants as decision
-use Rattle.sdb_record.specs.declared.write.Write.{Write}
 use Rattle.sdb_record.specs.Among.{is_written}
 use Rattle.sdb_record.specs.Coordinator.{decision_in}
 use Rattle.sdb_record.specs.Moved.{is_unchanged, version_of}
 use Rattle.sdb_record.specs.Rolls.{prepared_record}
-use Rattle.sdb_phases.specs.declared.check.Check.{Check}
-use Rattle.sdb_phases.specs.declared.check.Target.{Target}
 use Rattle.sdb_phases.specs.declared.check.Target.TheVariants as target
-use Rattle.sdb_phases.specs.declared.check.Wanted.{Wanted}
-use Rattle.sdb_phases.specs.declared.check.Expected.{Expected}
 use Rattle.sdb_phases.specs.declared.check.Expected.TheVariants as wish
-use Rattle.sdb_phases.specs.declared.step.DecidePhase.{DecidePhase}
 use Rattle.sdb_phases.specs.declared.step.DecidePhase.TheVariants as phase
-use Rattle.sdb_phases.specs.declared.step.DecideStep.{DecideStep}
 use Rattle.sdb_phases.specs.declared.step.DecideStep.TheVariants as decide
-use Rattle.sdb_phases.specs.declared.step.Outcome.{Outcome}
 use Rattle.sdb_phases.specs.declared.step.Outcome.TheVariants as outcome
-use Rattle.sdb_phases.specs.declared.step.PrepareStep.{PrepareStep}
 use Rattle.sdb_phases.specs.declared.step.PrepareStep.TheVariants as prepare
-use Rattle.sdb_phases.specs.declared.step.ValidateStep.{ValidateStep}
 use Rattle.sdb_phases.specs.declared.step.ValidateStep.TheVariants as validate
 use Rattle.sdb_phases.specs.Checks.{Wishes, changed, check_of_read, check_of_scan, checks, difference_at, differs, first_difference, keys_among, least, lesser, wanted, wanted_of, wished_version, wishes, with_reads, with_write, with_writes}
 use Rattle.sdb_phases.specs.Commit.{Back, Checking, Deciding, Forward, Over, Preparing, Stage, Stopping, after_abort, after_check, after_decide, after_prepare, back, checking, forward, pending, preparing, step}
 use Rattle.sdb_phases.specs.Steps.{decide_next, decide_request_at, followed, judged, prepare_step, refused, step_of_row, touched_after, validate_step}
 use Rattle.sdb_phases.specs.Work.{Work, back_of, backs, forward_of, forwards, prepare_of, prepares, is_as_prepared}
-use Rattle.sdb_commit.specs.Phases.{IsNext}
+use Rattle.sdb_txn.specs.Phases.{IsNext}
 use Rattle.sdb_validate.specs.Inside.{Judges}
 use Rattle.law_runs.proofs.Lists.{at_all, filter_all, map_all, option_so}
 use Rattle.law_runs.proofs.Clear.{FoundClear, KeyClear, RecordClear, RecordsClear, ReplyClear, RequestClear, WriteClear, forward_clear, prepared_clear, row_clear, row_key_clear, undo_clear}

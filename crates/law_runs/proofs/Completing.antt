@@ -4,29 +4,18 @@ use Rattle.std.specs.Prelude.{◌&&◌, Contains, if◌then◌else◌, is_some, 
 use Rattle.std.specs.Option.{option_and_then, option_map_or}
 use Rattle.std.specs.Result.{result_ok}
 use Rattle.std.proofs.lemmas.List.Elements.{Contains-append_left, Contains-append_right, Contains-push}
-use Rattle.sdb_types.specs.declared.key.Key.{Key}
-use Rattle.sdb_types.specs.declared.record.Record.{Record}
-use Rattle.sdb_types.specs.declared.record.Reply.{Reply}
+use Rattle.law_runs.specs.Types.{Answer, Decided, Decision, Event, Key, Record, Reply, Request, Script, Statement, Table, TxId}
 use Rattle.sdb_types.specs.declared.record.Reply.TheVariants as reply
-use Rattle.sdb_types.specs.declared.record.Request.{Request}
 use Rattle.sdb_types.specs.declared.record.Request.TheVariants as ask
-use Rattle.sdb_types.specs.declared.txid.TxId.{TxId}
 use Rattle.sdb_types.specs.Columns.{column}
 use Rattle.sdb_types.specs.Contents.{tx_id, tx_state}
 use Rattle.sdb_types.specs.Replies.{is_applied, is_fault}
 use Rattle.sdb_types.proofs.Basics.{clash, none_some, some_is}
-use Rattle.sdb_record.specs.declared.coordinator.Decided.{Decided}
-use Rattle.sdb_record.specs.declared.coordinator.Decision.{Decision}
 use Rattle.sdb_record.specs.declared.coordinator.Decision.TheVariants as decision
 use Rattle.sdb_record.specs.Coordinator.{decision_in, decision_in_value, id_in_values, id_of_key, if_empty, is_coordinator_table}
 use Rattle.sdb_record.specs.Meta.{moment_in, need}
 use Rattle.sdb_record.specs.Names.{tx_created_at}
-use Rattle.sdb_schema.specs.declared.table.Table.{Table}
-use Rattle.sdb_model.specs.declared.answer.Answer.{Answer}
 use Rattle.sdb_model.specs.declared.answer.Answer.TheVariants as answer
-use Rattle.sdb_model.specs.declared.event.Event.{Event}
-use Rattle.sdb_model.specs.declared.script.Script.{Script}
-use Rattle.sdb_model.specs.declared.statement.Statement.{Statement}
 use Rattle.sdb_model.specs.declared.statement.Statement.TheVariants as statement
 use Rattle.sdb_model.specs.Calls.{StoreCall, calls_by, calls_of, end_of, is_stored_reply, decision_found, decision_in_reply, decision_learned, decision_observed, is_of_row, put_by, record_at_key, records_observed}
 use Rattle.sdb_model.specs.Causes.{AreCaused, IsBad, IsCaused, IsCommitOf, IsConflict, IsConflictAtCommit, IsCounted, IsDecided, IsRejected, MayPassMost, MeetsMisfit, PutsRow, before, is_select, may_pass}
@@ -49,7 +38,7 @@ use Rattle.law_answers.proofs.Lists.{each_in, each_kept, kept_in}
 use Rattle.law_answers.proofs.ReadSteps.{shown_read}
 use Rattle.law_answers.proofs.Rolled.{all_resolved}
 use Rattle.law_answers.proofs.Unfit.{shown_bad}
-use Rattle.sdb_execution.specs.Execution.{IsExecution, IsPlayable}
+use Rattle.sdb_client.specs.Execution.{IsExecution, IsPlayable}
 use Rattle.law_runs.specs.Complete.{CommitEnds, IsUncontended, UncontendedCommitsComplete, HasCommitted, IsCoordinatorRow, IsOnTable, IsServed, ObserveNone, ReadsUnresolved, RecoveriesComplete, RecoveryEnds, ResolvedAreNotBusy, SeenAreServed, StatementEnds, StatementsComplete}
 use Rattle.law_runs.specs.Laws.{BusyIsOfReads}
 use Rattle.law_runs.proofs.Busy.{execution_busy}
@@ -153,12 +142,12 @@ observed_by id w m h = by (is_of_row id m.request) refl h
     there (Some None) e k = absurd k
     there (Some (Some row)) e k = (row, found_at m.request m.reply row e, decided_row w row k)
 
-    shown : (t : Bool) → is_applied m.reply ≡ t → is_of_row id m.request ≡ true → IsDecided w (option_and_then (λ row. result_ok (decision_in row)) (if t then put_by m.request else option_and_then (λ found. found) (record_at_key m.request m.reply))) → (PutsRow id w m × (m.reply ≡ reply.Applied)) ⊎ FindsRow m
-    shown true e f k = inl ((f, k), applied m.reply e)
-    shown false e f k = inr (there (record_at_key m.request m.reply) refl k)
+    observed : (t : Bool) → is_applied m.reply ≡ t → is_of_row id m.request ≡ true → IsDecided w (option_and_then (λ row. result_ok (decision_in row)) (if t then put_by m.request else option_and_then (λ found. found) (record_at_key m.request m.reply))) → (PutsRow id w m × (m.reply ≡ reply.Applied)) ⊎ FindsRow m
+    observed true e f k = inl ((f, k), applied m.reply e)
+    observed false e f k = inr (there (record_at_key m.request m.reply) refl k)
 
     by : (b : Bool) → is_of_row id m.request ≡ b → IsDecided w (if b then decision_in_reply m.request m.reply else None) → (PutsRow id w m × (m.reply ≡ reply.Applied)) ⊎ FindsRow m
-    by true e k = shown (is_applied m.reply) refl e k
+    by true e k = observed (is_applied m.reply) refl e k
     by false e k = absurd k
 
 ---- texts
@@ -212,7 +201,7 @@ module _ (script : Script) (events : List Event) (playable : IsPlayable script) 
       committed id of says = by (learned_by decision.Committed id calls says)
         where
           by : (m : StoreCall) × Contains calls m × IsDecided decision.Committed (decision_observed id m) → HasCommitted events client s
-          by (m, has, shown) = put (observed_by id decision.Committed m shown)
+          by (m, has, observed) = put (observed_by id decision.Committed m observed)
             where
               put : (PutsRow id decision.Committed m × (m.reply ≡ reply.Applied)) ⊎ FindsRow m → HasCommitted events client s
               put (inl z) = record { id = id; commit = of; put = m; among = has; puts = z.0; applied = z.1 }
@@ -253,7 +242,7 @@ module _ (script : Script) (events : List Event) (playable : IsPlayable script) 
       commit_ends (answer.BadRecord key) e (inl z) =
           let row : is_coordinator_table key.table ≡ true = (execution_ends script events playable x client s (answer.BadRecord key) h.among (h.is ∙ ap Some e)).bad key (h.is ∙ ap Some e) alone.commit in
           absurd (alone.undecided z.0 z.1 z.2 z.3 (ap (λ (k : Key). is_coordinator_table k.table) z.4 ∙ row))
-      commit_ends (answer.BadRecord key) e (inr z) = none_some z.table (sym (ap (named_table (catalog_at script.catalog events s.taken)) (other z.statement z.over.0)) ∙ z.over.1)
+      commit_ends (answer.BadRecord key) e (inr z) = none_some z.table (sym (ap (named_table (catalog_at script.catalog events s.accepted)) (other z.statement z.over.0)) ∙ z.over.1)
       commit_ends (answer.Refused r) e z = absurd (refused z)
         where
           refused : IsRejected script.catalog (before s events) client s.text (answer.Refused r) ⊎ ((r.kind ≡ 15) × (r.place ≡ 0) × MayPassMost events client s) → ⊥
@@ -339,12 +328,12 @@ module _ (script : Script) (events : List Event) (playable : IsPlayable script) 
             by (inr y) = as_rolled y
 
         -- one on a table is no VACUUM
-        no_vacuum : (y : Statement) (t : Table) → Reads s.text y → named_table (catalog_at script.catalog events s.taken) y ≡ Some t → reads_vacuum s.text ≡ false
+        no_vacuum : (y : Statement) (t : Table) → Reads s.text y → named_table (catalog_at script.catalog events s.accepted) y ≡ Some t → reads_vacuum s.text ≡ false
         no_vacuum y t reads named = by (reads_vacuum s.text) refl
           where
             by : (b : Bool) → reads_vacuum s.text ≡ b → reads_vacuum s.text ≡ false
             by false f = f
-            by true f = none_some t (sym (ap (named_table (catalog_at script.catalog events s.taken)) (one_statement s.text y statement.Vacuum reads ((vacuum_read s.text).0 f))) ∙ named)
+            by true f = none_some t (sym (ap (named_table (catalog_at script.catalog events s.accepted)) (one_statement s.text y statement.Vacuum reads ((vacuum_read s.text).0 f))) ∙ named)
 
         unfit_rolled : (key : Key) → MeetsMisfit script.catalog events client s key → a ≡ answer.BadRecord key → Rolled
         unfit_rolled key z e =
@@ -352,7 +341,7 @@ module _ (script : Script) (events : List Event) (playable : IsPlayable script) 
           where
             stored : AreStoredReplies calls
             stored =
-                each_kept (λ (y : StoreCall). is_stored_reply y.reply ≡ true) (λ y. nat_lt s.taken y.at && nat_le y.at (end_of events s)) (calls_by events client)
+                each_kept (λ (y : StoreCall). is_stored_reply y.reply ≡ true) (λ y. nat_lt s.accepted y.at && nat_le y.at (end_of events s)) (calls_by events client)
                 ((execution_holds script events playable x).caused.each client).stored
 
             rolled : Contains [] r ⊎ IsDealtWith events (reads_vacuum s.text) calls m r → Rolled
@@ -360,7 +349,7 @@ module _ (script : Script) (events : List Event) (playable : IsPlayable script) 
             rolled (inr y) = as_rolled y
 
             by : ObservesBad calls key ⊎ RolledBut events (reads_vacuum s.text) calls [] → Rolled
-            by (inl b) = absurd (sound b.call b.found b.among b.shown (shown_bad calls key stored b))
+            by (inl b) = absurd (sound b.call b.found b.among b.observed (shown_bad calls key stored b))
             by (inr g) = rolled (g m r read.among read.reads read.found read.unresolved)
 
         none_commits_here : (id : TxId) → IsCommitOf events client s id → ⊥

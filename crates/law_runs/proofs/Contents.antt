@@ -9,19 +9,12 @@ use Rattle.std.specs.FinMap.{FinMap, empty, entries, entries_sorted, find, get, 
 use Rattle.std.specs.FinMap.Entries.{below_all}
 use Rattle.sdb_types.specs.Contents.{Contents, after, holds, in_span, put_reply, record_at, record_of, reply_to, rows_among}
 use Rattle.sdb_types.specs.Order.{key_cmp, same_key}
-use Rattle.sdb_types.specs.declared.key.Key.{Key}
-use Rattle.sdb_types.specs.declared.pair.Pair.{Pair}
-use Rattle.sdb_types.specs.declared.record.Condition.{Condition}
-use Rattle.sdb_types.specs.declared.record.Record.{Record}
-use Rattle.sdb_types.specs.declared.record.Reply.{Reply}
+use Rattle.law_runs.specs.Types.{Condition, How, Key, Pair, Record, Reply, Request, Span}
 use Rattle.sdb_types.specs.declared.record.Reply.TheVariants as reply
-use Rattle.sdb_types.specs.declared.record.Request.{Request}
 use Rattle.sdb_types.specs.declared.record.Request.TheVariants as ask
-use Rattle.sdb_types.specs.declared.record.Span.{Span}
 use Rattle.sdb_types.specs.Exact.{equal_of}
 use Rattle.sdb_types.proofs.Basics.{and_parts, by_test, less_of, none_some, truth}
 use Rattle.sdb_types.proofs.KeyOrder.{key_exact, key_total}
-use Rattle.sdb_model.specs.declared.event.How.{How}
 use Rattle.sdb_model.specs.declared.event.How.TheVariants.{Broken, Discarded, Lost, Seen}
 use Rattle.sdb_model.specs.Events.{IsPerformed}
 use Rattle.sdb_model.specs.Exec.{Tables, all_rows, row_of_entry}

@@ -4,22 +4,12 @@ use Rattle.std.specs.Prelude.{IsSome, IsSomeAnd, Contains, ◌↔◌, is_some, m
 use Rattle.std.specs.Option.{option_and_then, option_map}
 use Rattle.std.specs.Result.{result_ok}
 use Rattle.std.specs.FinMap.{empty, get-empty}
-use Rattle.sdb_types.specs.declared.pair.Pair.{Pair}
-use Rattle.sdb_types.specs.declared.record.Record.{Record}
-use Rattle.sdb_types.specs.declared.txid.TxId.{TxId}
+use Rattle.law_runs.specs.Types.{Decided, Event, Pair, Place, Point, Record, Script, Statement, Table, TableDump, TxId}
 use Rattle.sdb_types.specs.Contents.{Contents, record_of}
 use Rattle.sdb_types.specs.Order.{key_cmp}
-use Rattle.sdb_record.specs.declared.coordinator.Decided.{Decided}
 use Rattle.sdb_record.specs.declared.coordinator.Decision.TheVariants as decision
 use Rattle.sdb_record.specs.Coordinator.{coordinator_key_of, decision_in}
-use Rattle.sdb_schema.specs.declared.table.Table.{Table}
-use Rattle.sdb_model.specs.declared.event.Event.{Event}
 use Rattle.sdb_model.specs.declared.event.Event.TheVariants as event
-use Rattle.sdb_model.specs.declared.event.Point.{Point}
-use Rattle.sdb_model.specs.declared.event.TableDump.{TableDump}
-use Rattle.sdb_types.specs.declared.place.Place.{Place}
-use Rattle.sdb_model.specs.declared.script.Script.{Script}
-use Rattle.sdb_model.specs.declared.statement.Statement.{Statement}
 use Rattle.sdb_model.specs.Events.{IsTrace, StoreContents, store_of, table_asked}
 use Rattle.sdb_model.specs.Exec.{Tables, find_table}
 use Rattle.sdb_model.specs.Form.{script_with_places}
@@ -75,7 +65,7 @@ order_on_one at catalog places closing name m events order h o = record {
   recorded = λ id small. subst (λ (d : Option Decided). Contains (map (λ (p : Point). p.id) order) id ↔ IsSomeAnd d (λ d. d.decision ≡ decision.Committed)) (decides catalog places closing name m h id) (o.recorded id small);
   points = λ k d low. o.points k d low ∙ sym (point_moved at events (slice_index_or order k d).id);
   rising = o.rising;
-  taken = λ k d low. subst IsSome (sym (commit_moved at events (slice_index_or order k d).id)) (o.taken k d low);
+  accepted = λ k d low. subst IsSome (sym (commit_moved at events (slice_index_or order k d).id)) (o.accepted k d low);
 }
 
 ---- the whole
@@ -86,11 +76,11 @@ starts_empty name key = one_standing name empty key ∙ ap (λ (o : Option (List
 pub going_is_run_on_stores : (script : Script) (name : Name) (fit : Tables → Bool) (events : List Event) (sys : SystemAt) (doing : ℕ → Option Statement) (opening closing : List StoreContents) (order : List Point)
     → IsFitting script.catalog fit → RunInvariant script.catalog fit (relocated_events (λ ns. name) events) sys doing → IsEnd script events opening closing order
     → (tables : List TableDump) × IsRun script opening closing (record { events = events; order = order; tables = tables })
-going_is_run_on_stores script name fit events sys doing opening closing order fitting going e =
+going_is_run_on_stores script name fit events sys doing opening closing order fitting running e =
     let alone : Script = script_with_places script [] in
     let moved : List Event = relocated_events (λ ns. name) events in
     let s = single script.catalog name script.places events opening e.moments closing empty e.traced e.about e.nothing in
-    let ran = going_is_run alone fit moved sys doing (one_store name empty) (one_store name s.last) s.singles order fitting going
+    let ran = going_is_run alone fit moved sys doing (one_store name empty) (one_store name s.last) s.singles order fitting running
     (follows_moved (λ ns. name) script events e.follows) s.traced (starts_empty name) (order_on_one (λ ns. name) script.catalog script.places closing name s.last events order s.same e.ordered) e.small in
     let at : Name → Name = store_of script.places opening in
     let back : relocated_events at moved ≡ events = put_back name script.places at events opening e.moments closing (λ ns. refl) e.traced in

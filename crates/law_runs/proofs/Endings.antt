@@ -2,27 +2,15 @@
 use Rattle.std.proofs.Common.{◌≡◌, ◌≢◌, ◌⊎◌, inl, inr, ◌+◌, ◌<◌, ℕ, ℤ, true, false, List, [], ◌∷◌, ◌++◌, length, Option, Some, None, IfSome, Result, Ok, Err, refl, sym, ap, subst, ◌∙◌, arith}
 use Rattle.std.specs.Prelude.{Contains, cond, is_some, nat_lt, slice_get}
 use Rattle.std.specs.List.{AllByRecursion}
-use Rattle.sdb_types.specs.declared.key.Key.{Key}
-use Rattle.sdb_types.specs.declared.record.Record.{Record}
-use Rattle.sdb_types.specs.declared.record.Reply.{Reply}
+use Rattle.law_runs.specs.Types.{Answer, DecidePhase, DecideStep, Decided, Decision, Event, How, Key, Next, Outcome, PrepareStep, Progress, Record, Refusal, Reply, Request, Script, Statement, Table, VacuumStep, ValidateStep}
 use Rattle.sdb_types.specs.declared.record.Reply.TheVariants as reply
-use Rattle.sdb_types.specs.declared.record.Request.{Request}
 use Rattle.sdb_types.specs.Contents.{CanAnswer}
 use Rattle.sdb_types.proofs.Basics.{clash, length_more, none_some, some_is}
-use Rattle.sdb_record.specs.declared.coordinator.Decided.{Decided}
-use Rattle.sdb_record.specs.declared.coordinator.Decision.{Decision}
 use Rattle.sdb_record.specs.declared.coordinator.Decision.TheVariants as decision
 use Rattle.sdb_record.specs.Coordinator.{coordinator_key_of, decision_in, is_coordinator_table}
 use Rattle.sdb_record.specs.Meta.{is_moment}
-use Rattle.sdb_schema.specs.declared.table.Table.{Table}
-use Rattle.sdb_model.specs.declared.answer.Answer.{Answer}
 use Rattle.sdb_model.specs.declared.answer.Answer.TheVariants as answer
-use Rattle.sdb_model.specs.declared.answer.Refusal.{Refusal}
-use Rattle.sdb_model.specs.declared.event.Event.{Event}
 use Rattle.sdb_model.specs.declared.event.Event.TheVariants as event
-use Rattle.sdb_model.specs.declared.event.How.{How}
-use Rattle.sdb_model.specs.declared.script.Script.{Script}
-use Rattle.sdb_model.specs.declared.statement.Statement.{Statement}
 use Rattle.sdb_model.specs.declared.statement.Statement.TheVariants as statement
 use Rattle.sdb_model.specs.Calls.{StoreCall, calls_of, clock_at}
 use Rattle.sdb_model.specs.Rows.{Name}
@@ -30,29 +18,21 @@ use Rattle.sdb_model.specs.Sql.{Reads, reads_commit, reads_vacuum}
 use Rattle.sdb_model.specs.Exec.{find_table}
 use Rattle.sdb_model.specs.Tables.{is_data}
 use Rattle.sdb_model.specs.Transactions.{Executed, statements_by}
-use Rattle.sdb_phases.specs.declared.step.DecidePhase.{DecidePhase}
 use Rattle.sdb_phases.specs.declared.step.DecidePhase.TheVariants as phase
-use Rattle.sdb_phases.specs.declared.step.DecideStep.{DecideStep}
 use Rattle.sdb_phases.specs.declared.step.DecideStep.TheVariants as decide
-use Rattle.sdb_phases.specs.declared.step.Outcome.{Outcome}
 use Rattle.sdb_phases.specs.declared.step.Outcome.TheVariants as outcome
-use Rattle.sdb_phases.specs.declared.step.PrepareStep.{PrepareStep}
 use Rattle.sdb_phases.specs.declared.step.PrepareStep.TheVariants as prepare
-use Rattle.sdb_phases.specs.declared.step.ValidateStep.{ValidateStep}
 use Rattle.sdb_phases.specs.declared.step.ValidateStep.TheVariants as validate
 use Rattle.sdb_phases.specs.Checks.{checks}
 use Rattle.sdb_phases.specs.Commit.{Stage, Back, Checking, Deciding, Forward, Over, Preparing, Stopping, after_abort, after_check, after_decide, after_prepare, back, checking, forward, step as commit_step}
 use Rattle.sdb_phases.specs.Steps.{decide_next, followed, prepare_step, step_of_row, touched_after, validate_step}
 use Rattle.sdb_phases.specs.Work.{Work, prepares}
-use Rattle.sdb_commit.specs.Phases.{ended_at}
-use Rattle.sdb_txn.specs.declared.progress.Progress.{Progress}
+use Rattle.sdb_txn.specs.Phases.{ended_at}
 use Rattle.sdb_txn.specs.Txn.{TxnAt, progress_of}
-use Rattle.sdb_read.specs.declared.read.ReadStep.TheVariants as step
-use Rattle.sdb_read.specs.Read.{Asking, Ended, ReadStage, Resolving, read_pending_at, read_result, read_step, request_of}
-use Rattle.sdb_vacuum.specs.declared.work.VacuumStep.{VacuumStep}
+use Rattle.sdb_txn.specs.declared.read.ReadStep.TheVariants as step
+use Rattle.sdb_txn.specs.Read.{Asking, Ended, ReadStage, Resolving, read_pending_at, read_result, read_step, request_of}
 use Rattle.sdb_vacuum.specs.declared.work.VacuumStep.TheVariants as vacuuming
 use Rattle.sdb_vacuum.specs.Vacuum.{VacuumAt}
-use Rattle.sdb_client.specs.declared.next.Next.{Next}
 use Rattle.sdb_client.specs.declared.next.Next.TheVariants as next
 use Rattle.sdb_client.specs.Client.{ClientAt, CommitStartPost, ParsedPost, Parses, StagePost, StatementPost, Taking, TextPost, TextStep, answer_in, answer_of, next_id, next_of}
 use Rattle.sdb_sqltext.proofs.Clauses.{one_statement}
@@ -69,7 +49,7 @@ use Rattle.law_answers.proofs.Calls.{clock_more, made_at, of_within}
 use Rattle.law_answers.proofs.Rolled.{but_still, none_found, reads_so_far}
 use Rattle.law_answers.proofs.RolledSteps.{read_rolls}
 use Rattle.law_answers.proofs.Takings.{none_yet}
-use Rattle.sdb_execution.specs.Execution.{IsExecution, IsPlayable}
+use Rattle.sdb_client.specs.Execution.{IsExecution, IsPlayable}
 use Rattle.law_runs.specs.World.{states_of}
 use Rattle.law_runs.proofs.GivesUp.{each_of}
 use Rattle.law_runs.proofs.ReadLeads.{read_leads}
@@ -213,9 +193,9 @@ ended_bad key (Some (outcome.Unknown u)) e = absurd (cc)
 ended_bad key (Some (outcome.BadRecord k)) e = let same : k ≡ key = cc in ap (λ (x : Key). Some (outcome.BadRecord x)) same
 ended_bad key (Some outcome.NoMemory) e = absurd (cc)
 
----- as a statement is taken
+---- as a statement is accepted
 
--- a COMMIT isn't answered so as it is taken
+-- a COMMIT isn't answered so as it is accepted
 module _ (key : Key) where
   never_begins : (now : ℤ) (h : ClientAt) (o : Option TxnAt) (d : ClientAt) → CommitStartPost now h o (Some (answer.BadRecord key)) d → ⊥
   never_begins now h None d t = let e = t.answer in cc
@@ -238,8 +218,8 @@ module _ (key : Key) where
 
   taken_bad : (q : Taking) (text : List ℕ) (h d : ClientAt) (a : Option Answer) → TextStep q text h a d → a ≡ Some (answer.BadRecord key) → reads_commit text ≡ false
   taken_bad q text h d a t e =
-      let told : TextPost q text h (Some (answer.BadRecord key)) d = subst (λ (o : Option Answer). TextPost q text h o d) e (t.told (λ n. no_memory (sym e ∙ n))) in
-      by_text q text h d told.0 told.1 told.2
+      let answered : TextPost q text h (Some (answer.BadRecord key)) d = subst (λ (o : Option Answer). TextPost q text h o d) e (t.answered (λ n. no_memory (sym e ∙ n))) in
+      by_text q text h d answered.0 answered.1 answered.2
     where
       no_memory : Some (answer.BadRecord key) ≡ Some answer.NoMemory → ⊥
       no_memory z = cc
@@ -250,7 +230,7 @@ taken_ends q events c text h d None t = tt
 taken_ends q events c text h d (Some b) t = record {
   bad = λ key e commit. clash (sym commit ∙ taken_bad key q text h d (Some b) t e);
   moved = λ key found e reads. subst (λ ms. RolledBut (events ++ event.Take c text (Some b) ∷ []) (reads_vacuum text) ms []) (sym (none_yet c events text (Some b))) (none_found (events ++ event.Take c text (Some b) ∷ []) (reads_vacuum text));
-  unfit = λ key e reads sweeps. inr (subst (λ ms. RolledBut (events ++ event.Take c text (Some b) ∷ []) (reads_vacuum text) ms []) (sym (none_yet c events text (Some b))) (none_found (events ++ event.Take c text (Some b) ∷ []) (reads_vacuum text)));
+  unfit = λ key e reads vacuums. inr (subst (λ ms. RolledBut (events ++ event.Take c text (Some b) ∷ []) (reads_vacuum text) ms []) (sym (none_yet c events text (Some b))) (none_found (events ++ event.Take c text (Some b) ∷ []) (reads_vacuum text)));
 }
 
 ---- as a reply comes
@@ -282,7 +262,7 @@ module _ (catalog : List Table) (events : List Event) (c : ℕ) (h d : ClientAt)
   ms = calls_of events c x
 
   more : (a : Option Answer) → calls_of (E a) c (replied_said events x a) ≡ ms ++ made ∷ []
-  more a = calls_more events c store q how r x waits.unanswered waits.taken a
+  more a = calls_more events c store q how r x waits.unanswered waits.accepted a
 
   module _ (clock : clock_at events (length events) ≡ now) (moment : is_moment now ≡ true) (apart : (y : Key) → is_some (find_table catalog y.table) ≡ true → is_data y ≡ true) (about : IsOfTables catalog h) (can : CanAnswer q r) where
     older : AllByRecursion (λ y. y.at < made.at) ms
@@ -311,7 +291,7 @@ module _ (catalog : List Table) (events : List Event) (c : ℕ) (h d : ClientAt)
 
     -- and all of it is where that is Conflict
     reads_moved : (key : Key) (found : Option Record) (z : ReadCall catalog events c x h q r now (Some (answer.Conflict key found)) d) → RolledBut (E (Some (answer.Conflict key found))) (reads_vacuum x.text) (ms ++ made ∷ []) []
-    reads_moved key found z = by (read_step z.x.stage now r) (rolled (Some (answer.Conflict key found)) z) (z.told.told (in_memory key found z.next z.answer))
+    reads_moved key found z = by (read_step z.x.stage now r) (rolled (Some (answer.Conflict key found)) z) (z.answered.answered (in_memory key found z.next z.answer))
       where
         by : (s : ReadStage) → ReadRolls (E (Some (answer.Conflict key found))) (reads_vacuum x.text) (ms ++ made ∷ []) s → StagePost z.t z.p z.access z.x s (read_result s) z.next z.u → RolledBut (E (Some (answer.Conflict key found))) (reads_vacuum x.text) (ms ++ made ∷ []) []
         by Asking g y = absurd (no_more key found z.next z.answer y.0)
@@ -325,7 +305,7 @@ module _ (catalog : List Table) (events : List Event) (c : ℕ) (h d : ClientAt)
 
     -- and all of it is where that is BadRecord, or a record of no form was shown
     reads_unfit : (key : Key) (z : ReadCall catalog events c x h q r now (Some (answer.BadRecord key)) d) → ObservesBad (ms ++ made ∷ []) key ⊎ RolledBut (E (Some (answer.BadRecord key))) (reads_vacuum x.text) (ms ++ made ∷ []) []
-    reads_unfit key z = by (read_step z.x.stage now r) (read_leads catalog apart events c h d x waits store q how r now clock about can (Some (answer.BadRecord key)) z) (rolled (Some (answer.BadRecord key)) z) (z.told.told (bad_memory key z.next z.answer))
+    reads_unfit key z = by (read_step z.x.stage now r) (read_leads catalog apart events c h d x waits store q how r now clock about can (Some (answer.BadRecord key)) z) (rolled (Some (answer.BadRecord key)) z) (z.answered.answered (bad_memory key z.next z.answer))
       where
         by : (s : ReadStage) → LedBy (E None) (ms ++ made ∷ []) s → ReadRolls (E (Some (answer.BadRecord key))) (reads_vacuum x.text) (ms ++ made ∷ []) s → StagePost z.t z.p z.access z.x s (read_result s) z.next z.u
             → ObservesBad (ms ++ made ∷ []) key ⊎ RolledBut (E (Some (answer.BadRecord key))) (reads_vacuum x.text) (ms ++ made ∷ []) []
@@ -341,11 +321,11 @@ module _ (catalog : List Table) (events : List Event) (c : ℕ) (h d : ClientAt)
             inl (subst (ObservesBad (ms ++ made ∷ [])) same l)
         by (Ended step.NoMemory) l g y = absurd y
 
-    call_unfit : (key : Key) → reads_commit x.text ≡ false → reads_vacuum x.text ≡ false → CallOf catalog events c k.told x h q r now (Some (answer.BadRecord key)) d
+    call_unfit : (key : Key) → reads_commit x.text ≡ false → reads_vacuum x.text ≡ false → CallOf catalog events c k.answered x h q r now (Some (answer.BadRecord key)) d
         → ObservesBad (ms ++ made ∷ []) key ⊎ RolledBut (E (Some (answer.BadRecord key))) (reads_vacuum x.text) (ms ++ made ∷ []) []
-    call_unfit key reads sweeps (inl z) = clash (sym (waits.vacuum ∙ ap is_some z.runs) ∙ sweeps)
-    call_unfit key reads sweeps (inr (inl z)) = reads_unfit key z
-    call_unfit key reads sweeps (inr (inr z)) = clash (sym z.is.text ∙ reads)
+    call_unfit key reads vacuums (inl z) = clash (sym (waits.vacuum ∙ ap is_some z.runs) ∙ vacuums)
+    call_unfit key reads vacuums (inr (inl z)) = reads_unfit key z
+    call_unfit key reads vacuums (inr (inr z)) = clash (sym z.is.text ∙ reads)
 
     -- a VACUUM is never answered Conflict
     swept_moved : (key : Key) (found : Option Record) (s : VacuumStep) → Some (answer.Conflict key found) ≡ answer_of s → ⊥
@@ -355,26 +335,26 @@ module _ (catalog : List Table) (events : List Event) (c : ℕ) (h d : ClientAt)
     swept_moved key found (vacuuming.BadRecord other) e = cc
     swept_moved key found vacuuming.NoMemory e = cc
 
-    call_moved : (key : Key) (found : Option Record) → reads_commit x.text ≡ false → CallOf catalog events c k.told x h q r now (Some (answer.Conflict key found)) d → RolledBut (E (Some (answer.Conflict key found))) (reads_vacuum x.text) (ms ++ made ∷ []) []
-    call_moved key found reads (inl z) = absurd (swept_moved key found z.told.step z.told.answer)
+    call_moved : (key : Key) (found : Option Record) → reads_commit x.text ≡ false → CallOf catalog events c k.answered x h q r now (Some (answer.Conflict key found)) d → RolledBut (E (Some (answer.Conflict key found))) (reads_vacuum x.text) (ms ++ made ∷ []) []
+    call_moved key found reads (inl z) = absurd (swept_moved key found z.answered.step z.answered.answer)
     call_moved key found reads (inr (inl z)) = reads_moved key found z
     call_moved key found reads (inr (inr z)) = clash (sym z.is.text ∙ reads)
 
-    call_bad : (key : Key) → reads_commit x.text ≡ true → CallOf catalog events c k.told x h q r now (Some (answer.BadRecord key)) d → is_coordinator_table key.table ≡ true
+    call_bad : (key : Key) → reads_commit x.text ≡ true → CallOf catalog events c k.answered x h q r now (Some (answer.BadRecord key)) d → is_coordinator_table key.table ≡ true
     call_bad key commit (inl z) = absurd (let e = one_statement x.text statement.Commit statement.Vacuum ((commit_read x.text).0 commit) ((vacuum_read x.text).0 (waits.vacuum ∙ ap is_some z.runs)) in cc)
     call_bad key commit (inr (inl z)) = clash (sym commit ∙ z.is.inner.commit)
     call_bad key commit (inr (inr z)) =
-        let row : key ≡ coordinator_key_of z.k.work.id = step_row z.k.work key ms z.k.stage r z.is.stage (ended_bad key (ended_at (commit_step z.k.work z.k.stage r)) (z.answer ∙ ap (λ (y : Progress). answer_in (next_of y)) z.told.answer)) in
+        let row : key ≡ coordinator_key_of z.k.work.id = step_row z.k.work key ms z.k.stage r z.is.stage (ended_bad key (ended_at (commit_step z.k.work z.k.stage r)) (z.answer ∙ ap (λ (y : Progress). answer_in (next_of y)) z.answered.answer)) in
         ap (λ (y : Key). is_coordinator_table y.table) row ∙ coordinators z.k.work.id
 
-    call_ends : (a : Option Answer) → CallOf catalog events c k.told x h q r now a d → SoBy EndsAs AnyWaits (E a) c (replied_said events x a) d a
+    call_ends : (a : Option Answer) → CallOf catalog events c k.answered x h q r now a d → SoBy EndsAs AnyWaits (E a) c (replied_said events x a) d a
     call_ends None z = tt
     call_ends (Some b) z = record {
-      bad = λ key e commit. call_bad key commit (subst (λ (o : Option Answer). CallOf catalog events c k.told x h q r now o d) e z);
+      bad = λ key e commit. call_bad key commit (subst (λ (o : Option Answer). CallOf catalog events c k.answered x h q r now o d) e z);
       moved = λ key found e reads. subst (λ cs. RolledBut (E (Some b)) (reads_vacuum x.text) cs []) (sym (more (Some b)))
-          (subst (λ (o : Option Answer). RolledBut (E o) (reads_vacuum x.text) (ms ++ made ∷ []) []) (sym e) (call_moved key found reads (subst (λ (o : Option Answer). CallOf catalog events c k.told x h q r now o d) e z)));
-      unfit = λ key e reads sweeps. subst (λ cs. ObservesBad cs key ⊎ RolledBut (E (Some b)) (reads_vacuum x.text) cs []) (sym (more (Some b)))
-          (subst (λ (o : Option Answer). ObservesBad (ms ++ made ∷ []) key ⊎ RolledBut (E o) (reads_vacuum x.text) (ms ++ made ∷ []) []) (sym e) (call_unfit key reads sweeps (subst (λ (o : Option Answer). CallOf catalog events c k.told x h q r now o d) e z)));
+          (subst (λ (o : Option Answer). RolledBut (E o) (reads_vacuum x.text) (ms ++ made ∷ []) []) (sym e) (call_moved key found reads (subst (λ (o : Option Answer). CallOf catalog events c k.answered x h q r now o d) e z)));
+      unfit = λ key e reads vacuums. subst (λ cs. ObservesBad cs key ⊎ RolledBut (E (Some b)) (reads_vacuum x.text) cs []) (sym (more (Some b)))
+          (subst (λ (o : Option Answer). ObservesBad (ms ++ made ∷ []) key ⊎ RolledBut (E o) (reads_vacuum x.text) (ms ++ made ∷ []) []) (sym e) (call_unfit key reads vacuums (subst (λ (o : Option Answer). CallOf catalog events c k.answered x h q r now o d) e z)));
     }
 
 ---- every statement
@@ -383,7 +363,7 @@ past_ends : (catalog : List Table) (events : List Event) (e : Event) (c : ℕ) (
 past_ends catalog events e c s past so = record {
   bad = so.bad;
   moved = λ key found is reads. subst (λ cs. RolledBut (events ++ e ∷ []) (reads_vacuum s.text) cs []) (sym past.calls) (but_still events e (reads_vacuum s.text) (calls_of events c s) (of_within c events s) [] (so.moved key found is reads));
-  unfit = λ key is reads sweeps. subst (λ cs. ObservesBad cs key ⊎ RolledBut (events ++ e ∷ []) (reads_vacuum s.text) cs []) (sym past.calls) (still key (so.unfit key is reads sweeps));
+  unfit = λ key is reads vacuums. subst (λ cs. ObservesBad cs key ⊎ RolledBut (events ++ e ∷ []) (reads_vacuum s.text) cs []) (sym past.calls) (still key (so.unfit key is reads vacuums));
 }
   where
     still : (key : Key) → ObservesBad (calls_of events c s) key ⊎ RolledBut events (reads_vacuum s.text) (calls_of events c s) [] → ObservesBad (calls_of events c s) key ⊎ RolledBut (events ++ e ∷ []) (reads_vacuum s.text) (calls_of events c s) []

@@ -6,27 +6,16 @@ use Rattle.std.specs.Option.{option_and_then}
 use Rattle.std.specs.Result.{result_ok}
 use Rattle.std.specs.FinMap.{empty}
 use Rattle.std.proofs.lemmas.List.{length-map}
-use Rattle.sdb_types.specs.declared.key.Key.{Key}
-use Rattle.sdb_types.specs.declared.record.Record.{Record}
-use Rattle.sdb_types.specs.declared.record.Reply.{Reply}
-use Rattle.sdb_types.specs.declared.record.Request.{Request}
-use Rattle.sdb_types.specs.declared.txid.TxId.{TxId}
+use Rattle.law_runs.specs.Types.{Answer, Decided, Event, How, Key, Place, Record, Reply, Request, Statement, Table, TxId}
 use Rattle.sdb_types.specs.Contents.{Contents}
 use Rattle.sdb_types.proofs.Basics.{clash, or_true}
 use Rattle.sdb_types.proofs.Bools.{or_first}
-use Rattle.sdb_record.specs.declared.coordinator.Decided.{Decided}
 use Rattle.sdb_record.specs.declared.coordinator.Decision.TheVariants as decision
 use Rattle.sdb_record.specs.Coordinator.{coordinator_key_of, coordinator_table, decision_in, is_coordinator_table}
 use Rattle.sdb_record.specs.Meta.{id_in}
 use Rattle.sdb_record.specs.Rolls.{image_of}
-use Rattle.sdb_schema.specs.declared.table.Table.{Table}
-use Rattle.sdb_model.specs.declared.answer.Answer.{Answer}
-use Rattle.sdb_model.specs.declared.event.Event.{Event}
 use Rattle.sdb_model.specs.declared.event.Event.TheVariants as event
-use Rattle.sdb_model.specs.declared.event.How.{How}
-use Rattle.sdb_types.specs.declared.place.Place.{Place}
-use Rattle.sdb_model.specs.declared.statement.Statement.{Statement}
-use Rattle.sdb_model.specs.Events.{IsTrace, StoreContents, moment, standing, table_asked}
+use Rattle.sdb_model.specs.Events.{IsTrace, StoreContents, moment, stored_at, table_asked}
 use Rattle.sdb_model.specs.Exec.{Tables, find_table}
 use Rattle.sdb_model.specs.Explained.{Explained, IsCurrent, IsLastBefore, IsLeftBy, IsOfOrLater, IsPrepareOf, IsPreparedAfter, IsTableKey, IsWriter, ReadsCurrent, ContentsExplained, closing_of, AreTransactional}
 use Rattle.sdb_model.specs.Images.{decision_at, image_at}
@@ -140,11 +129,11 @@ module _ (catalog : List Table) (name : Name) (places : List Place) (events : Li
   within : (n : ℕ) → n ≤ length moments → n ≤ length a.singles
   within n low = subst (λ (k : ℕ). n ≤ k) (sym a.long) low
 
-  at_row : (n : ℕ) (id : TxId) → standing places (many n) (coordinator_key_of id) ≡ standing [] (one n) (coordinator_key_of id)
-  at_row n id = a.stands n (coordinator_key_of id) (row_played catalog id)
+  at_row : (n : ℕ) (id : TxId) → stored_at places (many n) (coordinator_key_of id) ≡ stored_at [] (one n) (coordinator_key_of id)
+  at_row n id = a.agrees n (coordinator_key_of id) (row_played catalog id)
 
-  at_key : (n : ℕ) (key : Key) → IsTableKey catalog key → standing places (many n) key ≡ standing [] (one n) key
-  at_key n key table = a.stands n key (table_played catalog key table)
+  at_key : (n : ℕ) (key : Key) → IsTableKey catalog key → stored_at places (many n) key ≡ stored_at [] (one n) key
+  at_key n key table = a.agrees n key (table_played catalog key table)
 
   decided : (n : ℕ) (id : TxId) → decision_at places (many n) id ≡ decision_at [] (one n) id
   decided n id = ap (option_and_then (λ (row : Record). result_ok (decision_in row))) (at_row n id)
@@ -155,7 +144,7 @@ module _ (catalog : List Table) (name : Name) (places : List Place) (events : Li
 
   image : (n : ℕ) (key : Key) → IsTableKey catalog key → image_at places (many n) key ≡ image_at [] (one n) key
   image n key table =
-      ap (option_and_then (λ (r : Record). image_of r (option_and_then (decision_at places (many n)) (id_in r.columns)))) (at_key n key table) ∙ image_of_found n (standing [] (one n) key)
+      ap (option_and_then (λ (r : Record). image_of r (option_and_then (decision_at places (many n)) (id_in r.columns)))) (at_key n key table) ∙ image_of_found n (stored_at [] (one n) key)
 
   recorded_on : (n : ℕ) (id : TxId) → Recorded places (many n) id → Recorded [] (one n) id
   recorded_on n id h = subst (λ (o : Option Decided). IsSomeAnd o (λ d. d.decision ≡ decision.Committed)) (decided n id) h
@@ -189,8 +178,8 @@ module _ (catalog : List Table) (name : Name) (places : List Place) (events : Li
         back = moved p.back;
         at = call_on front c.0 p.put.contact.store p.put.contact.request p.put.contact.how p.put.contact.reply c.1 p.back (p.at ∙ ap (λ (x : Event). front ++ x ∷ p.back) c.2);
         put = put_in name c.0 c.1 id r p.event p.put;
-        before = ap (λ (n : ℕ). standing [] (one n) r.key) (long front) ∙ sym (a.stands (length front) r.key labelled) ∙ p.before;
-        after = ap (λ (n : ℕ). standing [] (one (suc n)) r.key) (long front) ∙ sym (a.stands (suc (length front)) r.key labelled) ∙ p.after;
+        before = ap (λ (n : ℕ). stored_at [] (one n) r.key) (long front) ∙ sym (a.agrees (length front) r.key labelled) ∙ p.before;
+        after = ap (λ (n : ℕ). stored_at [] (one (suc n)) r.key) (long front) ∙ sym (a.agrees (suc (length front)) r.key labelled) ∙ p.after;
       }
 
   prepared_back : (id : TxId) (r : Record) (front : List Event) → IsPreparedAfter [] (moved events) (one_store name m) a.singles id r front → (early : List Event) × (length early ≡ length front) × IsPreparedAfter places events opening moments id r early
@@ -207,8 +196,8 @@ module _ (catalog : List Table) (name : Name) (places : List Place) (events : Li
           back = b.back;
           at = b.same;
           put = put;
-          before = a.stands (length b.early) r.key labelled ∙ ap (λ (n : ℕ). standing [] (one n) r.key) b.long ∙ p.before;
-          after = a.stands (suc (length b.early)) r.key labelled ∙ ap (λ (n : ℕ). standing [] (one (suc n)) r.key) b.long ∙ p.after;
+          before = a.agrees (length b.early) r.key labelled ∙ ap (λ (n : ℕ). stored_at [] (one n) r.key) b.long ∙ p.before;
+          after = a.agrees (suc (length b.early)) r.key labelled ∙ ap (λ (n : ℕ). stored_at [] (one (suc n)) r.key) b.long ∙ p.after;
         },
       )
 
@@ -263,7 +252,7 @@ module _ (catalog : List Table) (name : Name) (places : List Place) (events : Li
     unchanged_resolved = λ front back client store q how r answer key found version same shows still table id x before fits at early p none.
         s.unchanged_resolved (moved front) (moved back) client name q how r answer key found version (call_on front client store q how r answer back same) shows still table id x (moved before) fits at
         (subst (λ (n : ℕ). n < length (moved front)) (sym (long before)) (subst (λ (n : ℕ). length before < n) (sym (long front)) early)) (prepared_on id x before p)
-        (ap (λ (n : ℕ). standing [] (one n) (coordinator_key_of id)) (long front) ∙ sym (at_row (length front) id) ∙ none);
+        (ap (λ (n : ℕ). stored_at [] (one n) (coordinator_key_of id)) (long front) ∙ sym (at_row (length front) id) ∙ none);
   }
 
   ---- what was noted
@@ -318,7 +307,7 @@ pub going_is_explained : (catalog : List Table) (places : List Place) (name : Na
 going_is_explained catalog places name fit events sys doing opening closing moments g none t about h =
     let b = beside catalog places name fit events sys doing opening closing moments g t about h in
     record {
-      standing = standing_back catalog name places events opening moments empty about b.0 (standing_by_run catalog [] (relocated_events (λ ns. name) events) (one_store name empty) b.0.singles none b.1);
+      stored_at = standing_back catalog name places events opening moments empty about b.0 (standing_by_run catalog [] (relocated_events (λ ns. name) events) (one_store name empty) b.0.singles none b.1);
       reads_current = reads_back catalog name places events opening moments empty about b.0 (reads_by_run catalog [] (relocated_events (λ ns. name) events) (one_store name empty) b.0.singles none b.1);
     }
 

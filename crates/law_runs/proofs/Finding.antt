@@ -5,13 +5,8 @@ use Rattle.std.specs.Option.{option_and_then, option_map_or}
 use Rattle.std.specs.Ordering.{is_eq}
 use Rattle.std.specs.Result.{result_ok}
 use Rattle.std.proofs.lemmas.Bool.{cases_lt}
-use Rattle.sdb_types.specs.declared.txid.TxId.{TxId}
-use Rattle.sdb_types.specs.declared.key.Key.{Key}
-use Rattle.sdb_types.specs.declared.pair.Pair.{Pair}
-use Rattle.sdb_types.specs.declared.record.Record.{Record}
-use Rattle.sdb_types.specs.declared.record.Request.{Request}
+use Rattle.law_runs.specs.Types.{Answer, Decided, Event, Image, Key, Pair, Place, Record, Reply, Request, Table, TxId}
 use Rattle.sdb_types.specs.declared.record.Request.TheVariants as ask
-use Rattle.sdb_types.specs.declared.record.Reply.{Reply}
 use Rattle.sdb_types.specs.declared.record.Reply.TheVariants as reply
 use Rattle.sdb_types.specs.declared.record.State.TheVariants as state
 use Rattle.sdb_types.specs.Columns.{column}
@@ -23,22 +18,16 @@ use Rattle.sdb_types.proofs.Bools.{and_both, and_first}
 use Rattle.sdb_types.proofs.KeyOrder.{table_exact}
 use Rattle.sdb_types.proofs.Replies.{record_at-key}
 use Rattle.sdb_types.proofs.Keys.{same_key_tells}
-use Rattle.sdb_schema.specs.declared.table.Table.{Table}
-use Rattle.sdb_record.specs.declared.access.Image.{Image}
-use Rattle.sdb_record.specs.declared.coordinator.Decided.{Decided}
 use Rattle.sdb_record.specs.Coordinator.{coordinator_key_of, coordinator_table, decision_in, is_coordinator_table}
 use Rattle.sdb_record.specs.Meta.{id_in, is_in, is_transactional}
 use Rattle.sdb_record.specs.Rolls.{image_of, image_under, row_of_image}
 use Rattle.sdb_record.proofs.IdLemmas.{id_in_value-fits}
 use Rattle.sdb_record.proofs.ImageLaws.{image-open, image-settled}
-use Rattle.sdb_model.specs.declared.answer.Answer.{Answer}
 use Rattle.sdb_model.specs.declared.answer.Answer.TheVariants as answer
-use Rattle.sdb_model.specs.declared.event.Event.{Event}
 use Rattle.sdb_model.specs.declared.event.Event.TheVariants as event
-use Rattle.sdb_types.specs.declared.place.Place.{Place}
 use Rattle.sdb_model.specs.Calls.{StoreCall, calls_of, decision_observed, end_of, is_read, records_read}
 use Rattle.sdb_model.specs.Counted.{AreResolved, IsPassedOver, IsResolved}
-use Rattle.sdb_model.specs.Events.{Effect, IsTrace, StoreContents, contents_under, moment, standing, store_of, table_asked}
+use Rattle.sdb_model.specs.Events.{Effect, IsTrace, StoreContents, contents_under, moment, stored_at, store_of, table_asked}
 use Rattle.sdb_model.specs.Exec.{find_table}
 use Rattle.sdb_model.specs.Explained.{IsPreparedAfter, IsTableKey, Observes, ContentsExplained, AreTransactional}
 use Rattle.sdb_model.specs.Images.{decision_at, decision_on}
@@ -57,7 +46,7 @@ use Rattle.law_runs.proofs.Others.{PutsAt, stood_or_put}
 ---- one event
 
 -- A put at one key leaves what is at another.
-put_leaves : (places : List Place) (e : Event) (before now : List StoreContents) (k j : Key) → Effect places e before now → PutsAt e k → k ≢ j → standing places now j ≡ standing places before j
+put_leaves : (places : List Place) (e : Event) (before now : List StoreContents) (k j : Key) → Effect places e before now → PutsAt e k → k ≢ j → stored_at places now j ≡ stored_at places before j
 put_leaves places (event.Call client store (ask.PutIf rec c) how r answer) before now k j effect put apart = stays (at_call places store (ask.PutIf rec c) how r before now effect)
   where
     other : same_key j rec.key ≡ false
@@ -74,7 +63,7 @@ put_leaves places (event.Call client store (ask.PutIf rec c) how r answer) befor
     left : (m : Contents) → record_at (after (ask.PutIf rec c) m) j ≡ record_at m j
     left m = after_put rec c m j ∙ ap (λ (s : Bool). if holds c (record_at m rec.key) && s then Some rec else record_at m j) other ∙ off (holds c (record_at m rec.key)) (Some rec) (record_at m j)
 
-    stays : AtCall places (ask.PutIf rec c) r before now → standing places now j ≡ standing places before j
+    stays : AtCall places (ask.PutIf rec c) r before now → stored_at places now j ≡ stored_at places before j
     stays a = elim (a.there j) [ inl x ↦ x.1 ∙ same ∙ sym x.0 | inr x ↦ x.0 ]
       where
         same : record_at a.left j ≡ record_at a.held j
@@ -82,7 +71,7 @@ put_leaves places (event.Call client store (ask.PutIf rec c) how r answer) befor
 put_leaves places e before now k j effect put apart = absurd put
 
 -- what is at a key has that key
-standing_key : (places : List Place) (now : List StoreContents) (key : Key) (r : Record) → standing places now key ≡ Some r → r.key ≡ key
+standing_key : (places : List Place) (now : List StoreContents) (key : Key) (r : Record) → stored_at places now key ≡ Some r → r.key ≡ key
 standing_key places now key r h = by (contents_under now (store_of places now key.table.ns)) h
   where
     own : (o : Option Record) → IfSome o (λ x. x.key ≡ key) → o ≡ Some r → r.key ≡ key
@@ -100,23 +89,23 @@ record IsRead (q : Request) (r : Reply) (key : Key) (found : Option Record) : Ty
   reads : ReadsKey key q
   is : is_read q ≡ true
   table : table_asked q ≡ key.table
-  stood : (places : List Place) (before now : List StoreContents) → AtCall places q r before now → standing places before key ≡ found
-  shown : (x : Record) → found ≡ Some x → Contains (records_read r) x
+  stood : (places : List Place) (before now : List StoreContents) → AtCall places q r before now → stored_at places before key ≡ found
+  observed : (x : Record) → found ≡ Some x → Contains (records_read r) x
 
 read_of : (q : Request) (r : Reply) (key : Key) (found : Option Record) → Observes q r key found → IsRead q r key found
 read_of (ask.Get k) (reply.Found x) key found (same, is) = record {
   reads = same;
   is = refl;
   table = ap (λ (y : Key). y.table) same;
-  stood = λ places before now a. ap (standing places before) (sym same) ∙ sym (get_reply places k (reply.Found x) x before now a refl) ∙ is;
-  shown = λ y e. subst (λ (o : Option Record). Contains (records_read (reply.Found o)) y) (sym (is ∙ e)) (the_first y []);
+  stood = λ places before now a. ap (stored_at places before) (sym same) ∙ sym (get_reply places k (reply.Found x) x before now a refl) ∙ is;
+  observed = λ y e. subst (λ (o : Option Record). Contains (records_read (reply.Found o)) y) (sym (is ∙ e)) (the_first y []);
 }
 read_of (ask.Scan span) (reply.Rows rows) key found (inside, is) = record {
   reads = inside;
   is = refl;
   table = table_exact span.table key.table (equal_of (table_cmp span.table key.table) (and_first (is_eq (table_cmp span.table key.table)) (is_partition span.partition key) inside));
   stood = λ places before now a. sym (scan_reply places span (reply.Rows rows) rows before now a refl key inside) ∙ is;
-  shown = λ y e. among_found rows key y (is ∙ e);
+  observed = λ y e. among_found rows key y (is ∙ e);
 }
 read_of (ask.Get k) r key found h = absurd h
 read_of (ask.Scan span) r key found h = absurd h
@@ -125,7 +114,7 @@ read_of (ask.DeleteIf k c) r key found h = absurd h
 
 ---- decisions
 
--- the image of an open record, by what is told of the decision on its transaction
+-- the image of an open record, by what is answered of the decision on its transaction
 image_told : (decide : TxId → Option Decided) (r : Record) (id : TxId) (d : Decided) → id_in r.columns ≡ Some id → decide id ≡ Some d → image_of r (option_and_then decide (id_in r.columns)) ≡ image_of r (Some d)
 image_told decide r id d writer is = ap (λ (o : Option TxId). image_of r (option_and_then decide o)) writer ∙ ap (image_of r) is
 
@@ -186,7 +175,7 @@ module _ (catalog : List Table) (places : List Place) (events : List Event) (ope
     abbrev n : ℕ
     n = p.n
 
-    stood : standing places (now n) key ≡ w.found
+    stood : stored_at places (now n) key ≡ w.found
     stood = read.stood places (now n) (now (suc n)) p.did
 
     low : n ≤ length moments
@@ -195,8 +184,8 @@ module _ (catalog : List Table) (places : List Place) (events : List Event) (ope
         least : (a b : ℕ) → suc a ≤ b → a ≤ b
         least a b l = omega arith
 
-    taken : s.taken ≤ n
-    taken = least s.taken w.call.at n p.number (within w.call w.among).after
+    accepted : s.accepted ≤ n
+    accepted = least s.accepted w.call.at n p.number (within w.call w.among).after
       where
         least : (a b c : ℕ) → b ≡ 1 + c → a < b → a ≤ c
         least a b c e l = omega (arith, e, l)
@@ -208,17 +197,17 @@ module _ (catalog : List Table) (places : List Place) (events : List Event) (ope
         least a b c e l = omega (arith, e, l)
 
     -- it was shown the image of a moment
-    committed_at : (at : ℕ) → s.taken ≤ at → at < end_of events s → (o : Option Record) → w.found ≡ o → standing places (now at) key ≡ o → option_and_then (λ (r : Record). image_of r (decision_on places (now at) r)) o ≡ option_and_then (meaning_of calls) o → WasCommitted places events opening moments client s key row
-    committed_at at a b o is stands same = record {
+    committed_at : (at : ℕ) → s.accepted ≤ at → at < end_of events s → (o : Option Record) → w.found ≡ o → stored_at places (now at) key ≡ o → option_and_then (λ (r : Record). image_of r (decision_on places (now at) r)) o ≡ option_and_then (meaning_of calls) o → WasCommitted places events opening moments client s key row
+    committed_at at a b o is agreed same = record {
       call = w.call;
       at = at;
       read = (w.among, read.reads);
       within = (a, b);
       image =
-          ap (λ (y : Option Record). option_and_then row_of_image (option_and_then (λ (r : Record). image_of r (decision_on places (now at) r)) y)) stands
+          ap (λ (y : Option Record). option_and_then row_of_image (option_and_then (λ (r : Record). image_of r (decision_on places (now at) r)) y)) agreed
           ∙ ap (option_and_then row_of_image) same
           ∙ ap (λ (y : Option Record). option_and_then row_of_image (option_and_then (meaning_of calls) y)) (sym is)
-          ∙ sym w.stands;
+          ∙ sym w.agrees;
     }
 
     module _ (r : Record) (is : w.found ≡ Some r) (open_still : is_in state.Committed r.columns ≡ false) (d : IsDecidedIn events client s r) where
@@ -226,13 +215,13 @@ module _ (catalog : List Table) (places : List Place) (events : List Event) (ope
       fits = id_in_value-fits (column r.columns tx_id) d.id d.writer
 
       abbrev row_of : ℕ → Option Record
-      row_of at = standing places (now at) (coordinator_key_of d.id)
+      row_of at = stored_at places (now at) (coordinator_key_of d.id)
 
       q : IsAt places opening moments 1 d.look
       q = at_of d.look d.among
 
-      shown : Stands (row_of (suc q.n)) d.decided
-      shown = shown_stands places opening moments 1 d.id d.look d.decided q d.shown
+      observed : Stands (row_of (suc q.n)) d.decided
+      observed = shown_stands places opening moments 1 d.id d.look d.decided q d.observed
 
       -- the decision by which the statement rolled it
       meant : IsMeantBy calls r
@@ -242,7 +231,7 @@ module _ (catalog : List Table) (places : List Place) (events : List Event) (ope
       agrees : meant.decided ≡ d.decided
       agrees =
           let same : meant.id ≡ d.id = some_is meant.id d.id (sym meant.writer ∙ d.writer) in
-          decisions_agree places events opening closing moments trace x.rows_final client client d.id meant.look d.look meant.decided d.decided fits (within meant.look meant.looks.0).among (within d.look d.among).among (subst (λ (id : TxId). decision_observed id meant.look ≡ Some meant.decided) same meant.looks.1) d.shown
+          decisions_agree places events opening closing moments trace x.rows_final client client d.id meant.look d.look meant.decided d.decided fits (within meant.look meant.looks.0).among (within d.look d.among).among (subst (λ (id : TxId). decision_observed id meant.look ≡ Some meant.decided) same meant.looks.1) d.observed
 
       -- so this makes what the record means
       means : meaning_of calls r ≡ image_of r (Some d.decided)
@@ -250,15 +239,15 @@ module _ (catalog : List Table) (places : List Place) (events : List Event) (ope
 
       -- and where there is a row, it is that of the stores
       decided_at : (at : ℕ) (y : Record) → at ≤ length moments → row_of at ≡ Some y → decision_at places (now at) d.id ≡ Some d.decided
-      decided_at at y l stands =
-          ap (option_and_then (λ (z : Record). result_ok (decision_in z))) stands
-          ∙ ap (λ (z : Record). result_ok (decision_in z)) (same_row places opening moments x.rows_final d.id at (suc q.n) y shown.row fits l q.within stands shown.stands)
-          ∙ shown.decided
+      decided_at at y l agrees =
+          ap (option_and_then (λ (z : Record). result_ok (decision_in z))) agreed
+          ∙ ap (λ (z : Record). result_ok (decision_in z)) (same_row places opening moments x.rows_final d.id at (suc q.n) y observed.row fits l q.within agreed observed.agrees)
+          ∙ observed.decided
 
       image_there : (at : ℕ) (y : Record) → at ≤ length moments → row_of at ≡ Some y → image_of r (decision_on places (now at) r) ≡ meaning_of calls r
-      image_there at y l stands = image_told (decision_at places (now at)) r d.id d.decided d.writer (decided_at at y l stands) ∙ sym means
+      image_there at y l agrees = image_told (decision_at places (now at)) r d.id d.decided d.writer (decided_at at y l agreed) ∙ sym means
 
-      here : standing places (now n) key ≡ Some r
+      here : stored_at places (now n) key ≡ Some r
       here = stood ∙ is
 
       own : r.key ≡ key
@@ -272,11 +261,11 @@ module _ (catalog : List Table) (places : List Place) (events : List Event) (ope
             most : (a b l : ℕ) → a < suc b → suc b ≤ l → suc a ≤ l
             most a b l i j = omega (arith, i, j)
 
-        still : standing places (now c.p) key ≡ Some r
+        still : stored_at places (now c.p) key ≡ Some r
         still =
             let u = x.unresolved_prepared n low key r table here open_still in
             let same : u.0 ≡ d.id = some_is u.0 d.id (sym u.2 ∙ d.writer) in
-            ap (standing places (now c.p)) (sym own)
+            ap (stored_at places (now c.p)) (sym own)
             ∙ x.prepared_stands c.p (most c.p (length moments) past) d.id r u.1 fits (subst (IsTableKey catalog) (sym own) table) (more (length u.1) n c.p u.3 c.after) (subst (λ (id : TxId). IsPreparedAfter places events opening moments id r u.1) same u.4) c.none
           where
             most : (a l : ℕ) → suc a ≤ l → a ≤ l
@@ -286,9 +275,9 @@ module _ (catalog : List Table) (places : List Place) (events : List Event) (ope
             more a b l i j = omega (arith, i, j)
 
         apart : coordinator_key_of d.id ≢ key
-        apart e = none_some r (sym c.none ∙ ap (standing places (now c.p)) e ∙ still)
+        apart e = none_some r (sym c.none ∙ ap (stored_at places (now c.p)) e ∙ still)
 
-        put_there : standing places (now (suc c.p)) key ≡ Some r
+        put_there : stored_at places (now (suc c.p)) key ≡ Some r
         put_there =
             let e = effect_at places events opening moments closing c.p trace past in
             put_leaves places e.0 (now c.p) (now (suc c.p)) (coordinator_key_of d.id) key e.1 (puts (stood_or_put places e.0 (now c.p) (now (suc c.p)) (coordinator_key_of d.id) c.row e.1 c.some)) apart ∙ still
@@ -299,7 +288,7 @@ module _ (catalog : List Table) (places : List Place) (events : List Event) (ope
 
         between : WasCommitted places events opening moments client s key row
         between =
-            committed_at (suc c.p) (low_end s.taken n c.p taken c.after) (high_end c.p q.n d.look.at (end_of events s) c.before q.number d.early) (Some r) is put_there (image_there (suc c.p) c.row past c.some)
+            committed_at (suc c.p) (low_end s.accepted n c.p accepted c.after) (high_end c.p q.n d.look.at (end_of events s) c.before q.number d.early) (Some r) is put_there (image_there (suc c.p) c.row past c.some)
           where
             low_end : (a b l : ℕ) → a ≤ b → b ≤ l → a ≤ suc l
             low_end a b l i j = omega (arith, i, j)
@@ -311,23 +300,23 @@ module _ (catalog : List Table) (places : List Place) (events : List Event) (ope
       open_committed = by (row_of n) refl
         where
           by : (o : Option Record) → row_of n ≡ o → WasCommitted places events opening moments client s key row
-          by (Some y) stands = committed_at n taken before_end (Some r) is here (image_there n y low stands)
+          by (Some y) agrees = committed_at n accepted before_end (Some r) is here (image_there n y low agreed)
           by None none = later (cases_lt n (suc q.n))
             where
               below : (a b : ℕ) → a < b → a ≤ b
               below a b l = omega arith
 
               later : (n < suc q.n) ⊎ (suc q.n ≤ n) → WasCommitted places events opening moments client s key row
-              later (inl l) = between (comes row_of n (suc q.n) shown.row (below n (suc q.n) l) none shown.stands)
-              later (inr l) = none_some shown.row (sym none ∙ x.rows_final (suc q.n) n l low d.id shown.row fits shown.stands)
+              later (inl l) = between (comes row_of n (suc q.n) observed.row (below n (suc q.n) l) none observed.agrees)
+              later (inr l) = none_some observed.row (sym none ∙ x.rows_final (suc q.n) n l low d.id observed.row fits observed.agrees)
 
     pub found_committed : FoundDecided events client s key → WasCommitted places events opening moments client s key row
     found_committed decided = by w.found refl
       where
         by : (o : Option Record) → w.found ≡ o → WasCommitted places events opening moments client s key row
-        by None is = committed_at n taken before_end None is (stood ∙ is) refl
+        by None is = committed_at n accepted before_end None is (stood ∙ is) refl
         by (Some r) is = by_test (is_in state.Committed r.columns)
-            (λ firm. committed_at n taken before_end (Some r) is (stood ∙ is) (image-settled r (decision_on places (now n) r) firm ∙ sym (meaning_settled calls r firm)))
+            (λ firm. committed_at n accepted before_end (Some r) is (stood ∙ is) (image-settled r (decision_on places (now n) r) firm ∙ sym (meaning_settled calls r firm)))
             (λ loose. open_committed r is loose (decided w.call r w.among (subst (Observes w.call.request w.call.reply key) is w.shows) loose))
 
   ---- what was rolled
@@ -337,7 +326,7 @@ module _ (catalog : List Table) (places : List Place) (events : List Event) (ope
     data_read m is same = ap (λ (b : Bool). if b then false else is_read m.request) (ap is_coordinator_table same ∙ not_true (is_coordinator_table key.table) ((apart_from catalog none).outside key table)) ∙ is
 
     pub resolved_decided : FoundDecided events client s key
-    resolved_decided m r has shows loose = by (rolled client s m r reader.among reader.finished has (data_read m read.is read.table) (read.shown r refl) (and_both (is_transactional r) (not (is_in state.Committed r.columns)) taken (ap not loose)))
+    resolved_decided m r has shows loose = by (rolled client s m r reader.among reader.finished has (data_read m read.is read.table) (read.observed r refl) (and_both (is_transactional r) (not (is_in state.Committed r.columns)) accepted (ap not loose)))
       where
         read : IsRead m.request m.reply key (Some r)
         read = read_of m.request m.reply key (Some r) shows
@@ -345,8 +334,8 @@ module _ (catalog : List Table) (places : List Place) (events : List Event) (ope
         p : IsAt places opening moments 1 m
         p = at_of m has
 
-        taken : is_transactional r ≡ true
-        taken = all p.n key r (least p.n (length moments) p.within) table (read.stood places (now p.n) (now (suc p.n)) p.did)
+        accepted : is_transactional r ≡ true
+        accepted = all p.n key r (least p.n (length moments) p.within) table (read.stood places (now p.n) (now (suc p.n)) p.did)
           where
             least : (a b : ℕ) → suc a ≤ b → a ≤ b
             least a b l = omega arith
@@ -355,7 +344,7 @@ module _ (catalog : List Table) (places : List Place) (events : List Event) (ope
         by (inl h) =
             let look = later_call m.at calls h.look h.looks.0 in
             let roll = later_call h.look.at calls h.roll h.rolls.0 in
-            record { id = h.id; decided = h.decided; look = h.look; writer = h.writer.0; among = look.0; shown = h.looks.1; early = earlier h.look.at h.roll.at (end_of events s) roll.1 (within h.roll roll.0).until }
+            record { id = h.id; decided = h.decided; look = h.look; writer = h.writer.0; among = look.0; observed = h.looks.1; early = earlier h.look.at h.roll.at (end_of events s) roll.1 (within h.roll roll.0).until }
           where
             earlier : (a b c : ℕ) → a < b → b ≤ c → a < c
             earlier a b c i j = omega (arith, i, j)
@@ -376,7 +365,7 @@ has_row_as catalog was now id events f s key row h = record {
   parts = h.parts;
   begins = h.begins;
   finished = h.finished;
-  shown = f h.first key h.base h.shown;
+  observed = f h.first key h.base h.observed;
   read = h.read;
   made = h.made;
 }

@@ -1,10 +1,8 @@
 -- What is so before the first statement.
 use Rattle.std.proofs.Common.{◌≡◌, ℕ, List, [], length, sym, subst, ◌∙◌, refl}
 use Rattle.std.specs.Prelude.{pos}
-use Rattle.sdb_model.specs.declared.event.Event.{Event}
-use Rattle.sdb_model.specs.declared.script.Script.{Script}
-use Rattle.sdb_execution.specs.declared.slot.ClientSlot.{ClientSlot}
-use Rattle.sdb_execution.specs.Execution.{AreFresh, IsPlayable, initial_client}
+use Rattle.law_runs.specs.Types.{ClientSlot, Event, Script}
+use Rattle.sdb_client.specs.Execution.{AreFresh, IsPlayable, initial_client}
 use Rattle.law_runs.specs.World.{IsClientState, IsWorld}
 
 seat_first : (script : Script) (i : ℕ) → IsClientState script [] i (initial_client i)
@@ -12,7 +10,7 @@ seat_first script i = record {
   number = refl;
   fitted = refl;
   about = record { txn = tt; vacuum = tt };
-  taken = refl;
+  accepted = refl;
   stopped = refl;
   busy = λ e. absurd (cc);
   idle = λ e. record { free = refl; still = tt };

@@ -4,26 +4,19 @@ use Rattle.std.specs.Prelude.{if◌then◌else◌, find, is_some}
 use Rattle.std.specs.FinMap.{empty}
 use Rattle.std.specs.Option.{option_and_then, option_map_or}
 use Rattle.std.proofs.lemmas.List.Elements.{Contains-append_left, Contains-push}
-use Rattle.sdb_types.specs.declared.key.Key.{Key}
-use Rattle.sdb_types.specs.declared.record.Record.{Record}
-use Rattle.sdb_types.specs.declared.record.Reply.{Reply}
+use Rattle.law_runs.specs.Types.{Answer, Event, Key, Record, Reply, Request, Table, Value}
 use Rattle.sdb_types.specs.declared.record.Reply.TheVariants as reply
-use Rattle.sdb_types.specs.declared.record.Request.{Request}
 use Rattle.sdb_types.specs.declared.record.Request.TheVariants as ask
 use Rattle.sdb_record.specs.declared.coordinator.Decision.TheVariants as decision
 use Rattle.sdb_record.proofs.TakenLaws.{prepared-key}
-use Rattle.sdb_schema.specs.declared.table.Table.{Table}
-use Rattle.sdb_model.specs.declared.answer.Answer.{Answer}
 use Rattle.sdb_model.specs.declared.answer.Answer.TheVariants as answer
-use Rattle.sdb_model.specs.declared.event.Event.{Event}
 use Rattle.sdb_model.specs.declared.event.How.TheVariants.{Seen}
-use Rattle.sdb_types.specs.declared.value.Value.{Value}
 use Rattle.sdb_model.specs.Access.{with_row}
 use Rattle.sdb_model.specs.Calls.{StoreCall, calls_of}
 use Rattle.sdb_model.specs.Exec.{Tables}
 use Rattle.sdb_model.specs.Sql.{reads_commit}
 use Rattle.sdb_model.specs.Transactions.{Executed, changes_nothing, commit_of, ends, from_begin, id_of, point, rest_of, statements_by}
-use Rattle.sdb_session.specs.Keys.{keys_on, keys_written, with_keys}
+use Rattle.law_clients.specs.Keys.{keys_on, keys_written, with_keys}
 use Rattle.law_answers.proofs.Conflicts.{prepared_is}
 use Rattle.law_answers.proofs.Given.{IsMiddle}
 use Rattle.law_answers.proofs.Takings.{middle_ends}
@@ -41,7 +34,7 @@ use Rattle.law_runs.proofs.WroteRuns.{running_ended}
 ---- the COMMIT of the first transaction, after one statement
 
 abbrev commit_said : CommitText → Executed
-commit_said t = record { taken = 4; text = t.text; answer = None; reached = 4 }
+commit_said t = record { accepted = 4; text = t.text; answer = None; reached = 4 }
 
 abbrev read_call : Request → Reply → StoreCall
 read_call q r = record { at = 3; store = []; request = q; how = Seen; reply = r }

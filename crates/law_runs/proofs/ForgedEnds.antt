@@ -2,16 +2,10 @@
 use Rattle.std.proofs.Common.{◌≡◌, ◌⊎◌, inl, inr, ℕ, Bool, true, false, List, [], ◌∷◌, Option, Some, refl, sym, ap, ◌∙◌}
 use Rattle.std.specs.Prelude.{◌&&◌, if◌then◌else◌, is_some}
 use Rattle.std.proofs.lemmas.List.Elements.{Contains-push}
-use Rattle.sdb_types.specs.declared.key.Key.{Key}
-use Rattle.sdb_types.specs.declared.record.Record.{Record}
-use Rattle.sdb_types.specs.declared.txid.TxId.{TxId}
+use Rattle.law_runs.specs.Types.{Answer, Event, Key, Record, Statement, Table, TxId}
 use Rattle.sdb_types.proofs.Basics.{clash}
-use Rattle.sdb_schema.specs.declared.table.Table.{Table}
-use Rattle.sdb_model.specs.declared.answer.Answer.{Answer}
 use Rattle.sdb_model.specs.declared.answer.Answer.TheVariants as answer
-use Rattle.sdb_model.specs.declared.event.Event.{Event}
 use Rattle.sdb_model.specs.declared.event.Event.TheVariants as event
-use Rattle.sdb_model.specs.declared.statement.Statement.{Statement}
 use Rattle.sdb_model.specs.declared.statement.Statement.TheVariants as statement
 use Rattle.sdb_model.specs.Causes.{IsChecked, IsRejected, IsUnmet, is_open}
 use Rattle.sdb_model.specs.Exec.{table_of}
@@ -44,15 +38,15 @@ faulted_refused catalog begin commit begins commits law =
     law 1 s answer.Faulted (record { among = Contains-push (b ∷ []) s; is = refl; accepted = stays catalog (event.Take 1 begin (Some answer.Done) ∷ []) commit commits opened; served = λ m has. none_in m has })
     (record {
       commit = commits;
-      unchanged = λ id of. record { observed = λ key found shown moved. unseen key found id shown; agreed = λ key z. none_in z.0 z.3 };
-      undecided = λ m r has shown is. none_in m has;
+      unchanged = λ id of. record { observed = λ key found observed moved. unseen key found id observed; agreed = λ key z. none_in z.0 z.3 };
+      undecided = λ m r has observed is. none_in m has;
     })
   where
     b : Executed
-    b = record { taken = 1; text = begin; answer = Some answer.Done; reached = 1 }
+    b = record { accepted = 1; text = begin; answer = Some answer.Done; reached = 1 }
 
     s : Executed
-    s = record { taken = 2; text = commit; answer = Some answer.Faulted; reached = 2 }
+    s = record { accepted = 2; text = commit; answer = Some answer.Faulted; reached = 2 }
 
     opened : is_open (event.Take 1 begin (Some answer.Done) ∷ []) 1 ≡ true
     opened = ap (λ (t : Bool). if t && true then true else (if ends b && true then false else false)) begins

@@ -6,31 +6,19 @@ use Rattle.std.specs.FinMap.{empty, entries, entries-insert, get, get-insert, ge
 use Rattle.std.specs.List.{flat_map, list_any}
 use Rattle.std.specs.Option.{option_and_then, option_map_or}
 use Rattle.std.specs.Ordering.{is_eq}
-use Rattle.sdb_types.specs.declared.key.Key.{Key}
-use Rattle.sdb_types.specs.declared.pair.Pair.{Pair}
-use Rattle.sdb_types.specs.declared.record.Record.{Record}
-use Rattle.sdb_types.specs.declared.record.Reply.{Reply}
+use Rattle.law_runs.specs.Types.{Answer, Event, Image, Key, Pair, Record, Reply, Request, Statement, Table, Test, TxId, Value}
 use Rattle.sdb_types.specs.declared.record.Reply.TheVariants as reply
-use Rattle.sdb_types.specs.declared.record.Request.{Request}
 use Rattle.sdb_types.specs.declared.record.Request.TheVariants as ask
-use Rattle.sdb_types.specs.declared.txid.TxId.{TxId}
-use Rattle.sdb_types.specs.declared.value.Value.{Value}
 use Rattle.sdb_types.specs.Order.{key_cmp, table_cmp, same_key}
 use Rattle.sdb_types.proofs.KeyOrder.{key_total, table_total, key_exact}
 use Rattle.sdb_types.proofs.Keys.{same_key_self}
 use Rattle.sdb_types.proofs.Basics.{clash, and_false}
 use Rattle.std.proofs.lemmas.List.Elements.{Contains-push}
 use Rattle.sdb_model.specs.Counted.{is_key_of}
-use Rattle.sdb_record.specs.declared.access.Image.{Image}
 use Rattle.sdb_record.specs.Coordinator.{is_coordinator_table}
 use Rattle.sdb_record.specs.Parts.{user_columns}
-use Rattle.sdb_schema.specs.declared.table.Table.{Table}
-use Rattle.sdb_model.specs.declared.answer.Answer.{Answer}
 use Rattle.sdb_model.specs.declared.answer.Answer.TheVariants as answer
-use Rattle.sdb_model.specs.declared.event.Event.{Event}
 use Rattle.sdb_model.specs.declared.event.How.TheVariants.{Seen}
-use Rattle.sdb_model.specs.declared.statement.Statement.{Statement}
-use Rattle.sdb_model.specs.declared.statement.Test.{Test}
 use Rattle.sdb_model.specs.Access.{in_access, with_row}
 use Rattle.sdb_model.specs.Reads.{access_of}
 use Rattle.sdb_model.specs.Calls.{StoreCall, calls_of, put_by}
@@ -185,13 +173,13 @@ module _ (f : StatementOn) where
   answers_on d = ap (λ (o : Option Table). exec_in o f.statement d) f.named
 
   abbrev pub begin_said : Executed
-  begin_said = record { taken = 1; text = f.begin; answer = Some answer.Done; reached = 1 }
+  begin_said = record { accepted = 1; text = f.begin; answer = Some answer.Done; reached = 1 }
 
   pub begun : begins begin_said ≡ true
   begun = ap (λ b. b && true) f.begins
 
   abbrev at_once : Answer → Executed
-  at_once b = record { taken = 2; text = f.text; answer = Some b; reached = 2 }
+  at_once b = record { accepted = 2; text = f.text; answer = Some b; reached = 2 }
 
   -- the call after it, and what is then found
   abbrev pub call : Request → Reply → StoreCall
@@ -201,7 +189,7 @@ module _ (f : StatementOn) where
   view q r = with_found f.catalog nothing_found (found_by (call q r ∷ []))
 
   abbrev pub after_call : Answer → Executed
-  after_call b = record { taken = 2; text = f.text; answer = Some b; reached = 3 }
+  after_call b = record { accepted = 2; text = f.text; answer = Some b; reached = 3 }
 
   module _ (no_commit : reads_commit f.text ≡ false) (b : Answer) (middle : IsMiddle b) (changes : changes_nothing b ≡ false) where
     -- without a call
@@ -395,10 +383,10 @@ forgotten_refused f law = no_count (sym (ap (answer_of f.on.table f.on.statement
     es = counts_twice f
 
     s : Executed
-    s = record { taken = 2; text = f.on.text; answer = Some (answer.Count 1); reached = 3 }
+    s = record { accepted = 2; text = f.on.text; answer = Some (answer.Count 1); reached = 3 }
 
     z : Executed
-    z = record { taken = 4; text = f.on.text; answer = Some (answer.Count 1); reached = 4 }
+    z = record { accepted = 4; text = f.on.text; answer = Some (answer.Count 1); reached = 4 }
 
     plain_s : IsPlain s f.on.statement (answer.Count 1)
     plain_s = record { reads = f.on.reads; answered = refl; middle = record { undone = refl; agrees = refl }; changes = refl; no_commit = insert_commits f }
@@ -431,10 +419,10 @@ pub again_refused : (f : InsertOn) → ReadsAreNew (reads_again f) → ⊥
 again_refused f law = clash (sym found ∙ law first (s ∷ []) z m (record { after = []; statements = statements; no_commit = insert_commits f; call = Contains-push [] m; reads = ap (λ b. if b then false else true) f.on.apart }))
   where
     s : Executed
-    s = record { taken = 2; text = f.on.text; answer = Some (answer.Count 1); reached = 3 }
+    s = record { accepted = 2; text = f.on.text; answer = Some (answer.Count 1); reached = 3 }
 
     z : Executed
-    z = record { taken = 4; text = f.on.text; answer = None; reached = 4 }
+    z = record { accepted = 4; text = f.on.text; answer = None; reached = 4 }
 
     m : StoreCall
     m = record { at = 5; store = []; request = ask.Get (insert_key f); how = Seen; reply = reply.Found None }

@@ -2,17 +2,12 @@
 use Rattle.std.proofs.Common.{◌≡◌, ◌≢◌, ◌⊎◌, inl, inr, ℕ, false, true, List, [], ◌∷◌, Some, refl, ap, ◌∙◌}
 use Rattle.std.specs.Prelude.{if◌then◌else◌, is_some}
 use Rattle.std.proofs.lemmas.List.Elements.{Contains-append_left, Contains-push}
-use Rattle.sdb_types.specs.declared.key.Key.{Key}
-use Rattle.sdb_types.specs.declared.record.Record.{Record}
+use Rattle.law_runs.specs.Types.{Answer, Key, Record, Statement, TxId, Value}
 use Rattle.sdb_types.specs.declared.record.Reply.TheVariants as reply
 use Rattle.sdb_types.specs.declared.record.Request.TheVariants as ask
-use Rattle.sdb_types.specs.declared.txid.TxId.{TxId}
-use Rattle.sdb_types.specs.declared.value.Value.{Value}
 use Rattle.sdb_record.specs.Coordinator.{coordinator_key_of, is_coordinator_table}
-use Rattle.sdb_model.specs.declared.answer.Answer.{Answer}
 use Rattle.sdb_model.specs.declared.answer.Answer.TheVariants as answer
 use Rattle.sdb_model.specs.declared.event.How.TheVariants.{Seen}
-use Rattle.sdb_model.specs.declared.statement.Statement.{Statement}
 use Rattle.sdb_model.specs.Calls.{StoreCall}
 use Rattle.sdb_model.specs.Exec.{table_of}
 use Rattle.sdb_model.specs.Transactions.{Executed}
@@ -24,10 +19,10 @@ use Rattle.law_runs.proofs.Statements.{none_in}
 module _ (f : SelectOn) (key : Key) (r : Record) (h : MeetsMalformed f key r) where
   -- its BEGIN, and the SELECT with its answer
   abbrev begun : Executed
-  begun = record { taken = 1; text = f.on.begin; answer = Some answer.Done; reached = 1 }
+  begun = record { accepted = 1; text = f.on.begin; answer = Some answer.Done; reached = 1 }
 
   abbrev selected : ℕ → Answer → Executed
-  selected n a = record { taken = 2; text = f.on.text; answer = Some a; reached = n }
+  selected n a = record { accepted = 2; text = f.on.text; answer = Some a; reached = n }
 
   abbrev found_at : ℕ → StoreCall
   found_at n = record { at = n; store = []; request = ask.Get key; how = Seen; reply = reply.Found (Some r) }

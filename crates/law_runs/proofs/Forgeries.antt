@@ -2,20 +2,14 @@
 use Rattle.std.proofs.Common.{◌≡◌, ◌⊎◌, inl, inr, ◌<◌, ◌^◌, ℕ, ℤ, pos, true, List, [], ◌∷◌, Option, Some, None, refl, sym, ap, ◌∙◌}
 use Rattle.std.specs.Prelude.{Contains, nat_lt}
 use Rattle.std.proofs.lemmas.List.Elements.{Contains-push, Contains-push_cases}
-use Rattle.sdb_types.specs.declared.key.Key.{Key}
+use Rattle.law_runs.specs.Types.{Answer, Decision, Key, Span, Table, TxId, Write}
 use Rattle.sdb_types.specs.declared.record.Condition.TheVariants as condition
 use Rattle.sdb_types.specs.declared.record.Reply.TheVariants as reply
 use Rattle.sdb_types.specs.declared.record.Request.TheVariants as ask
-use Rattle.sdb_types.specs.declared.record.Span.{Span}
-use Rattle.sdb_types.specs.declared.txid.TxId.{TxId}
 use Rattle.sdb_types.proofs.Basics.{clash, some_is}
-use Rattle.sdb_record.specs.declared.coordinator.Decision.{Decision}
-use Rattle.sdb_record.specs.declared.write.Write.{Write}
 use Rattle.sdb_record.specs.Coordinator.{coordinator_key_of}
 use Rattle.sdb_record.specs.Meta.{is_moment}
 use Rattle.sdb_record.specs.Rolls.{prepared_record}
-use Rattle.sdb_schema.specs.declared.table.Table.{Table}
-use Rattle.sdb_model.specs.declared.answer.Answer.{Answer}
 use Rattle.sdb_model.specs.declared.answer.Answer.TheVariants as answer
 use Rattle.sdb_model.specs.declared.event.How.TheVariants.{Seen}
 use Rattle.sdb_model.specs.Calls.{StoreCall}
@@ -34,7 +28,7 @@ use Rattle.law_runs.proofs.Unprepared.{moment_of}
 
 -- the one statement, with its answer or none
 abbrev said_once : List ℕ → Option Answer → ℕ → Executed
-said_once text a n = record { taken = 1; text = text; answer = a; reached = n }
+said_once text a n = record { accepted = 1; text = text; answer = a; reached = n }
 
 only : {X : Type 0} (x y : X) → Contains (x ∷ []) y → x ≡ y
 only x y has = by (Contains-push_cases [] x y has)
@@ -50,12 +44,12 @@ pub busy_refused : (text : List ℕ) (key : Key) (id : TxId) (at : ℤ) → read
 busy_refused text key id at commit law = clash (sym commit ∙ (law 1 (said_once text (Some (answer.Busy key id at)) 1) key id at (one_has (said_once text (Some (answer.Busy key id at)) 1)) refl).0)
 
 pub idle_busy_refused : (text : List ℕ) (key : Key) (id : TxId) (at : ℤ) → ResolvedAreNotBusy (busy_at_once text key id at) → ⊥
-idle_busy_refused text key id at law = law 1 (said_once text (Some (answer.Busy key id at)) 1) key id at (one_has (said_once text (Some (answer.Busy key id at)) 1)) (λ m r has shown is. none_in m has) refl
+idle_busy_refused text key id at law = law 1 (said_once text (Some (answer.Busy key id at)) 1) key id at (one_has (said_once text (Some (answer.Busy key id at)) 1)) (λ m r has observed is. none_in m has) refl
 
 pub lazy_refused : (t : Table) (text : List ℕ) → reads_vacuum text ≡ true → VacuumsAreComplete (t ∷ []) (counted_at_once text) → ⊥
-lazy_refused t text sweeps law =
+lazy_refused t text vacuums law =
     let s : Executed = said_once text (Some (answer.Count 0)) 1 in
-    let e : spans_asked [] ≡ whole_tables (t ∷ []) = (law 1 s (one_has s) sweeps).scans 0 refl in
+    let e : spans_asked [] ≡ whole_tables (t ∷ []) = (law 1 s (one_has s) vacuums).scans 0 refl in
     no_span e
   where
     no_span : ◌≡◌ {A = List Span} [] (record { table = t.name; partition = None } ∷ []) → ⊥

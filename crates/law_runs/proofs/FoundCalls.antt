@@ -4,26 +4,15 @@ use Rattle.std.specs.Prelude.{◌&&◌, ◌||◌, filter, is_some}
 use Rattle.std.proofs.lemmas.List.Elements.{filter-append}
 use Rattle.std.proofs.lemmas.List.Folds.{list_any-append}
 use Rattle.std.specs.List.{list_any}
-use Rattle.sdb_types.specs.declared.key.Key.{Key}
-use Rattle.sdb_types.specs.declared.record.Record.{Record}
-use Rattle.sdb_types.specs.declared.record.Reply.{Reply}
-use Rattle.sdb_types.specs.declared.record.Request.{Request}
-use Rattle.sdb_types.specs.declared.record.Span.{Span}
+use Rattle.law_runs.specs.Types.{Access, Answer, Doing, Event, How, Key, Next, Progress, Record, Reply, Request, Scan, Span, Table, Write}
 use Rattle.sdb_types.specs.Contents.{CanAnswer}
 use Rattle.sdb_types.proofs.Basics.{clash, either, none_some, or_false, or_true}
-use Rattle.sdb_keyed.specs.Entries.{value_at}
-use Rattle.sdb_record.specs.declared.access.Access.{Access}
+use Rattle.sdb_snapshot.specs.Entries.{value_at}
 use Rattle.sdb_record.specs.declared.access.Access.TheVariants as access
-use Rattle.sdb_record.specs.declared.access.Scan.{Scan}
-use Rattle.sdb_record.specs.declared.write.Write.{Write}
 use Rattle.sdb_record.specs.Meta.{is_moment}
-use Rattle.sdb_schema.specs.declared.table.Table.{Table}
 use Rattle.sdb_schema.specs.Catalog.{is_catalog}
-use Rattle.sdb_model.specs.declared.answer.Answer.{Answer}
 use Rattle.sdb_model.specs.declared.answer.Answer.TheVariants as answer
-use Rattle.sdb_model.specs.declared.event.Event.{Event}
 use Rattle.sdb_model.specs.declared.event.Event.TheVariants as event
-use Rattle.sdb_model.specs.declared.event.How.{How}
 use Rattle.sdb_model.specs.Calls.{StoreCall, calls_of, clock_at}
 use Rattle.sdb_model.specs.Exec.{find_table}
 use Rattle.sdb_model.specs.Rows.{Name}
@@ -31,19 +20,16 @@ use Rattle.sdb_model.specs.Sql.{reads_commit, reads_rollback}
 use Rattle.sdb_model.specs.ReadSet.{has_finished, read_finished}
 use Rattle.sdb_model.specs.Transactions.{Executed, changes_nothing, ends, id_of, is_conflict, is_done}
 use Rattle.sdb_exec.specs.Plans.{Planned}
-use Rattle.sdb_read.specs.declared.read.ReadStep.TheVariants as step
-use Rattle.sdb_read.specs.Read.{Asking, Ended, ReadAt, ReadStage, Resolving, read_result, read_step, request_of}
+use Rattle.sdb_txn.specs.declared.read.ReadStep.TheVariants as step
+use Rattle.sdb_txn.specs.Read.{Asking, Ended, ReadAt, ReadStage, Resolving, read_result, read_step, request_of}
 use Rattle.sdb_snapshot.specs.Sets.{WereRead}
 use Rattle.sdb_snapshot.specs.Reads.{reads_of}
 use Rattle.sdb_snapshot.specs.Seen.{is_scanned, same_span}
-use Rattle.sdb_txn.specs.declared.progress.Progress.{Progress}
 use Rattle.sdb_txn.specs.declared.progress.Progress.TheVariants as progress
-use Rattle.sdb_txn.specs.declared.txn.Doing.{Doing}
 use Rattle.sdb_txn.specs.declared.txn.Doing.TheVariants as doing
 use Rattle.sdb_txn.specs.Txn.{IsCommitting, TxnAt, idle}
-use Rattle.sdb_commit.specs.Phases.{CommitAt}
+use Rattle.sdb_txn.specs.Phases.{CommitAt}
 use Rattle.sdb_phases.specs.Work.{Work}
-use Rattle.sdb_client.specs.declared.next.Next.{Next}
 use Rattle.sdb_client.specs.declared.next.Next.TheVariants as next
 use Rattle.sdb_client.specs.Client.{ClientAt, RowsReadPost, StagePost, after, answer_in, given_answer, given_left, gives, next_of, with_rows_read, resting}
 use Rattle.sdb_client.proofs.Calls.{noting_idle}
@@ -126,10 +112,10 @@ module _ (catalog : List Table) (is : is_catalog catalog ≡ true) (apart : (k :
   done b = executed_with_answer events x b
 
   calls_done : (b : Answer) → calls_of (E (Some b)) c (done b) ≡ ms ++ made ∷ []
-  calls_done b = calls_more events c store q how r x waits.unanswered waits.taken (Some b)
+  calls_done b = calls_more events c store q how r x waits.unanswered waits.accepted (Some b)
 
   abbrev Comes : Option Answer → ClientAt → Type 0
-  Comes None y = IfSome y.txn (SeesRun catalog (E None) c (running_of (E None) c y.begun k.told))
+  Comes None y = IfSome y.txn (SeesRun catalog (E None) c (running_of (E None) c y.begun k.answered))
   Comes (Some b) y = follows.Follows catalog events c h k runs (ev (Some b)) (done b) y
 
   as_comes : (a b : Option Answer) (y : ClientAt) → a ≡ b → d ≡ y → Comes b y → Comes a d
@@ -138,17 +124,17 @@ module _ (catalog : List Table) (is : is_catalog catalog ≡ true) (apart : (k :
   ---- a VACUUM and a COMMIT
 
   sweep_comes : (a : Option Answer) → SweepCall events c x h q r now a d → Comes a d
-  sweep_comes None z = subst (λ (o : Option TxnAt). IfSome o (SeesRun catalog (E None) c (running_of (E None) c d.begun k.told))) (sym (ap (λ (y : ClientAt). y.txn) z.left ∙ z.rests)) tt
+  sweep_comes None z = subst (λ (o : Option TxnAt). IfSome o (SeesRun catalog (E None) c (running_of (E None) c d.begun k.answered))) (sym (ap (λ (y : ClientAt). y.txn) z.left ∙ z.rests)) tt
   sweep_comes (Some b) z = follows.ended_follows catalog events c h k runs (ev (Some b)) (done b) d (inr z.rests) (ap (λ (y : ClientAt). y.txn) z.left ∙ z.rests)
 
   -- it writes what its statements wrote
-  commit_wrote : (a : Option Answer) (z : CommitCall events c k.told x h q r a d) → WroteAs catalog (E a) c (running_of (E a) c h.begun k.told) z.k.work.writes
-  commit_wrote a z = subst (SeesIn catalog (E a) c (running_of (E a) c h.begun k.told) z.t.seen) z.commits (follows.sees_open catalog events c h k runs (ev a) z.t z.opened z.free)
+  commit_wrote : (a : Option Answer) (z : CommitCall events c k.answered x h q r a d) → WroteAs catalog (E a) c (running_of (E a) c h.begun k.answered) z.k.work.writes
+  commit_wrote a z = subst (SeesIn catalog (E a) c (running_of (E a) c h.begun k.answered) z.t.seen) z.commits (follows.sees_open catalog events c h k runs (ev a) z.t z.opened z.free)
 
-  commit_comes : (a : Option Answer) → CommitCall events c k.told x h q r a d → Comes a d
+  commit_comes : (a : Option Answer) → CommitCall events c k.answered x h q r a d → Comes a d
   commit_comes None z =
       let further : z.progress ≡ progress.More = goes_further z.progress z.answer in
-      as_comes None None _ refl (z.left ∙ ap (λ p. after h (next_of p) z.u) further) (commits_see catalog (E None) c (running_of (E None) c h.begun k.told) z.u z.k.work.writes _ (λ y n. ap (λ (w : Work). w.writes) n.0) (commit_wrote None z) (z.told.next further))
+      as_comes None None _ refl (z.left ∙ ap (λ p. after h (next_of p) z.u) further) (commits_see catalog (E None) c (running_of (E None) c h.begun k.answered) z.u z.k.work.writes _ (λ y n. ap (λ (w : Work). w.writes) n.0) (commit_wrote None z) (z.answered.next further))
   commit_comes (Some b) z =
       as_comes (Some b) (Some b) (resting h) refl (z.left ∙ ap (λ (n : Next). after h n z.u) (ends_only z.progress b z.answer))
       (follows.ended_follows catalog events c h k runs (ev (Some b)) (done b) (resting h) (inl (follows.ends_stays (E (Some b)) c (done b) (ends_commit (done b) z.is.text))) refl)
@@ -165,8 +151,8 @@ module _ (catalog : List Table) (is : is_catalog catalog ≡ true) (apart : (k :
     own : IsDataTable (access_table z.access)
     own = reads_data catalog apart events c h d x waits store q how r now ticks about can a z
 
-    sees : (b : Option Answer) → RunsTo catalog (E b) c (running_of (E b) c h.begun k.told) t.seen
-    sees b = subst (SeesIn catalog (E b) c (running_of (E b) c h.begun k.told) t.seen) z.reads (follows.sees_open catalog events c h k runs (ev b) t z.opened z.free)
+    sees : (b : Option Answer) → RunsTo catalog (E b) c (running_of (E b) c h.begun k.answered) t.seen
+    sees b = subst (SeesIn catalog (E b) c (running_of (E b) c h.begun k.answered) t.seen) z.reads (follows.sees_open catalog events c h k runs (ev b) t z.opened z.free)
 
     -- where the reply leads
     leads : LedBy (E None) (ms ++ made ∷ []) (read_step z.x.stage now r)
@@ -177,11 +163,11 @@ module _ (catalog : List Table) (is : is_catalog catalog ≡ true) (apart : (k :
     open_at (Resolving images rec meta y left) i = i.is_open
     open_at (Ended s) i = absurd i
 
-    shown : StageObserves z.x.request (ms ++ made ∷ []) (read_step z.x.stage now r)
-    shown = shows_on z.x.request ms made now moment z.access z.x.stage z.asked.request (open_at z.x.stage z.is.stage) z.is.shows z.pends can
+    observed : StageObserves z.x.request (ms ++ made ∷ []) (read_step z.x.stage now r)
+    observed = shows_on z.x.request ms made now moment z.access z.x.stage z.asked.request (open_at z.x.stage z.is.stage) z.is.shows z.pends can
 
     has_read : (images : List Record) → read_step z.x.stage now r ≡ Ended (step.Images images) → HasRead (request_of z.access) (ms ++ made ∷ []) images []
-    has_read images e = subst (λ (y : Request). HasRead y (ms ++ made ∷ []) images []) z.asked.request (subst (StageObserves z.x.request (ms ++ made ∷ [])) e shown)
+    has_read images e = subst (λ (y : Request). HasRead y (ms ++ made ∷ []) images []) z.asked.request (subst (StageObserves z.x.request (ms ++ made ∷ [])) e observed)
 
     abbrev Left : Next → TxnAt → Type 0
     Left n u = Comes (answer_in n) (after h n u)
@@ -199,12 +185,12 @@ module _ (catalog : List Table) (is : is_catalog catalog ≡ true) (apart : (k :
     further s = sees None
 
     -- its scan is among the scans
-    scans_then : (b : Answer) (images : List Record) → read_step z.x.stage now r ≡ Ended (step.Images images) → HoldsScans (E (Some b)) c (running_of (E (Some b)) c h.begun k.told ++ done b ∷ []) (with_rows_read t z.access images).seen
+    scans_then : (b : Answer) (images : List Record) → read_step z.x.stage now r ≡ Ended (step.Images images) → HoldsScans (E (Some b)) c (running_of (E (Some b)) c h.begun k.answered ++ done b ∷ []) (with_rows_read t z.access images).seen
     scans_then b images e span is =
         noted_scans t z.access images span (has_read images e).first (has_read images e).request
-        (by (either (was_scanned (E (Some b)) c (running_of (E (Some b)) c h.begun k.told) span) (scans_span span (calls_of (E (Some b)) c (done b))) (sym (scanned_more (E (Some b)) c (running_of (E (Some b)) c h.begun k.told) (done b) span) ∙ is)))
+        (by (either (was_scanned (E (Some b)) c (running_of (E (Some b)) c h.begun k.answered) span) (scans_span span (calls_of (E (Some b)) c (done b))) (sym (scanned_more (E (Some b)) c (running_of (E (Some b)) c h.begun k.answered) (done b) span) ∙ is)))
       where
-        by : (was_scanned (E (Some b)) c (running_of (E (Some b)) c h.begun k.told) span ≡ true) ⊎ (scans_span span (calls_of (E (Some b)) c (done b)) ≡ true) → (is_scanned t.seen.scans span ≡ true) ⊎ (is_scan_of span (has_read images e).first.request ≡ true)
+        by : (was_scanned (E (Some b)) c (running_of (E (Some b)) c h.begun k.answered) span ≡ true) ⊎ (scans_span span (calls_of (E (Some b)) c (done b)) ≡ true) → (is_scanned t.seen.scans span ≡ true) ⊎ (is_scan_of span (has_read images e).first.request ≡ true)
         by (inl f) = inl ((sees (Some b)).scans span f)
         by (inr f) = inr (sym (ap (scans_span span) (calls_done b) ∙ ap (λ cs. list_any (λ (m : StoreCall). is_scan_of span m.request) cs) (read_only (ms ++ made ∷ []) z.access images (has_read images e) own) ∙ or_false (is_scan_of span (has_read images e).first.request)) ∙ f)
 
@@ -213,10 +199,10 @@ module _ (catalog : List Table) (is : is_catalog catalog ≡ true) (apart : (k :
         let v : TxnAt = with_rows_read t z.access images in
         let b : Answer = given_answer v (gives p z.access v) in
         follows.given_follows catalog events c h k runs (ev (Some b)) t z.opened z.free (done b) p z.access v
-        (record { is = is; named = z.asked.named; asked = z.asked.asked; taken = z.asked.taken; literals = z.asked.literals; access = z.asked.access }) z.is.text z.is.inner.commit refl
+        (record { is = is; named = z.asked.named; asked = z.asked.asked; accepted = z.asked.accepted; literals = z.asked.literals; access = z.asked.access }) z.is.text z.is.inner.commit refl
         (ap (λ cs. has_finished cs (done b)) (calls_done b) ∙ given_finishes p z.access v (ms ++ made ∷ []) z.asked.asked (read_checks z.access (ms ++ made ∷ []) images (has_read images e) own) own)
         (noting_idle t z.access images, same_writes t z.access images) (sees (Some b))
-        (view_found catalog (view_after catalog (E (Some b)) c (running_of (E (Some b)) c h.begun k.told) (sees (Some b)).run) t z.access images (found_by (calls_of (E (Some b)) c (done b))) (sees (Some b)).sees (kept t z.free z.opened z.access z.x z.reads)
+        (view_found catalog (view_after catalog (E (Some b)) c (running_of (E (Some b)) c h.begun k.answered) (sees (Some b)).run) t z.access images (found_by (calls_of (E (Some b)) c (done b))) (sees (Some b)).sees (kept t z.free z.opened z.access z.x z.reads)
         (λ key. ap (λ cs. value_at (found_by cs) key) (calls_done b) ∙ found_now (ms ++ made ∷ []) z.access images (has_read images e) own key))
         (scans_then b images e)
 
@@ -243,30 +229,30 @@ module _ (catalog : List Table) (is : is_catalog catalog ≡ true) (apart : (k :
     stage_case (Ended step.NoMemory) e n u y = absurd y
 
     read_left : Left z.next z.u
-    read_left = by_next z.next (λ e. as_left z.next (next.Answer answer.NoMemory) z.u (idle t) e (z.told.memory e) (fails answer.NoMemory refl refl)) (λ n. stage_case (read_step z.x.stage now r) refl z.next z.u (z.told.told n))
+    read_left = by_next z.next (λ e. as_left z.next (next.Answer answer.NoMemory) z.u (idle t) e (z.answered.memory e) (fails answer.NoMemory refl refl)) (λ n. stage_case (read_step z.x.stage now r) refl z.next z.u (z.answered.answered n))
 
     read_comes : Comes a d
     read_comes = as_comes a (answer_in z.next) (after h z.next z.u) z.answer z.left read_left
 
-  call_comes : (a : Option Answer) → CallOf catalog events c k.told x h q r now a d → Comes a d
+  call_comes : (a : Option Answer) → CallOf catalog events c k.answered x h q r now a d → Comes a d
   call_comes a (inl z) = sweep_comes a z
   call_comes a (inr (inl z)) = read_comes a z
   call_comes a (inr (inr z)) = commit_comes a z
 
   -- the COMMIT that is answered prepared what was written
-  last_wrote : (b : Answer) → CallOf catalog events c k.told x h q r now (Some b) d → LastWrote catalog (E (Some b)) c k.told (done b)
+  last_wrote : (b : Answer) → CallOf catalog events c k.answered x h q r now (Some b) d → LastWrote catalog (E (Some b)) c k.answered (done b)
   last_wrote b (inl z) reads opened = clash (sym opened ∙ follows.closed catalog events c h k runs (ev (Some b)) z.rests)
   last_wrote b (inr (inl z)) reads opened = clash (sym reads ∙ z.is.inner.commit)
   last_wrote b (inr (inr z)) reads opened =
-      subst (λ n. CommitWrote catalog (E (Some b)) c (running_of (E (Some b)) c n k.told) (id_of c n) (calls_of (E (Some b)) c (done b))) k.begun
+      subst (λ n. CommitWrote catalog (E (Some b)) c (running_of (E (Some b)) c n k.answered) (id_of c n) (calls_of (E (Some b)) c (done b))) k.begun
       (λ statements read.
       subst (λ ks. PreparesAll ks (id_of c h.begun) (calls_of (E (Some b)) c (done b))) (commit_wrote (Some b) z statements read)
       (subst (λ i. PreparesAll (write_keys z.k.work.writes) i (calls_of (E (Some b)) c (done b))) (z.is.same ∙ z.since.id)
-      (subst (PreparesAll (write_keys z.k.work.writes) z.k.work.id) (sym (calls_done b)) (call_prepares catalog events c h d store q how r now k.told x prepares waits (Some b) z))))
+      (subst (PreparesAll (write_keys z.k.work.writes) z.k.work.id) (sym (calls_done b)) (call_prepares catalog events c h d store q how r now k.answered x prepares waits (Some b) z))))
 
   -- So it is after the reply to its call.
-  pub calls_runs : (a : Option Answer) → CallOf catalog events c k.told x h q r now a d → ClientRuns catalog (E a) c d
+  pub calls_runs : (a : Option Answer) → CallOf catalog events c k.answered x h q r now a d → ClientRuns catalog (E a) c d
   calls_runs None z = follows.still_runs catalog events c h k runs (ev None) d (ap (filter is_answered) (silent_said c events store q how r) ∙ answered_of_is catalog events c h k) (call_comes None z)
   calls_runs (Some b) z =
       follows.next_runs catalog events c h k runs (ev (Some b)) (done b) d
-      (ap (filter is_answered) (call_said c events store q how r b k.told x (k.same ∙ ap (λ (o : Option Executed). k.told ++ waiting_of o) waiting)) ∙ filter-append is_answered k.told (done b ∷ []) ∙ ap (λ ss. ss ++ done b ∷ []) (all_answered catalog events c k.told k.answered)) (call_comes (Some b) z) (last_wrote b z)
+      (ap (filter is_answered) (call_said c events store q how r b k.answered x (k.same ∙ ap (λ (o : Option Executed). k.answered ++ waiting_of o) waiting)) ∙ filter-append is_answered k.answered (done b ∷ []) ∙ ap (λ ss. ss ++ done b ∷ []) (all_answered catalog events c k.answered k.answered)) (call_comes (Some b) z) (last_wrote b z)

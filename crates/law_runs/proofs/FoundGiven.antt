@@ -3,21 +3,13 @@ use Rattle.std.proofs.Common.{◌≡◌, ◌⊎◌, inl, inr, ℕ, Bool, true, f
 use Rattle.std.specs.Prelude.{◌&&◌, ◌||◌, if◌then◌else◌, is_some}
 use Rattle.std.specs.List.{list_any}
 use Rattle.std.specs.FinMap.{get}
-use Rattle.sdb_types.specs.declared.key.Key.{Key}
-use Rattle.sdb_types.specs.declared.pair.Pair.{Pair}
+use Rattle.law_runs.specs.Types.{Access, Answer, Event, Image, Key, Keyed, Pair, PlanStep, Statement, Table}
 use Rattle.sdb_types.specs.Order.{same_key}
 use Rattle.sdb_types.proofs.Basics.{clash, or_true}
 use Rattle.sdb_types.proofs.Keys.{same_key_self}
-use Rattle.sdb_record.specs.declared.access.Access.{Access}
-use Rattle.sdb_record.specs.declared.access.Image.{Image}
-use Rattle.sdb_record.specs.declared.write.Keyed.{Keyed}
-use Rattle.sdb_schema.specs.declared.table.Table.{Table}
 use Rattle.sdb_schema.specs.Catalog.{is_catalog}
-use Rattle.sdb_model.specs.declared.answer.Answer.{Answer}
 use Rattle.sdb_model.specs.declared.answer.Answer.TheVariants as answer
-use Rattle.sdb_model.specs.declared.statement.Statement.{Statement}
 use Rattle.sdb_model.specs.declared.statement.Statement.TheVariants as statement
-use Rattle.sdb_model.specs.declared.event.Event.{Event}
 use Rattle.sdb_model.specs.Access.{in_access, with_changes}
 use Rattle.sdb_model.specs.Calls.{StoreCall, calls_of}
 use Rattle.sdb_model.specs.Causes.{refused}
@@ -27,7 +19,6 @@ use Rattle.sdb_model.specs.Sql.{Reads, reads_commit}
 use Rattle.sdb_model.specs.ReadSet.{finds_transactional, has_read, read_finished}
 use Rattle.sdb_model.specs.Transactions.{Executed, changes_nothing, is_effective}
 use Rattle.std.specs.Option.{option_map_or}
-use Rattle.sdb_exec.specs.declared.plan.PlanStep.{PlanStep}
 use Rattle.sdb_exec.specs.declared.plan.PlanStep.TheVariants.{Finished}
 use Rattle.sdb_exec.specs.Plans.{Planned, answer_on, changes_on, columns_at, first_unfit, has_all_literals, step_of}
 use Rattle.sdb_model.specs.Reads.{access_of}
@@ -43,8 +34,8 @@ use Rattle.law_clients.specs.Fitting.{row_is_well_typed}
 use Rattle.law_clients.proofs.InTables.{access_table}
 use Rattle.law_answers.proofs.ReadSteps.{IsDataTable}
 use Rattle.law_clients.proofs.RowsFit.{done_is}
-use Rattle.sdb_session.specs.Keys.{keys_written, with_keys}
-use Rattle.sdb_session.proofs.Keys.{keys_changed, keys_with}
+use Rattle.law_clients.specs.Keys.{keys_written, with_keys}
+use Rattle.law_clients.proofs.Keys.{keys_changed, keys_with}
 use Rattle.law_answers.specs.Unfit.{fits_catalog, fitting_part}
 use Rattle.law_answers.proofs.Fitting.{RowFits, access_fits, all_fitting, exec_fitting, get_fitting, left_at_key, left_fitting, left_outside, rows_fitting}
 use Rattle.law_answers.proofs.Given.{asked_gives, given_middle, unfit_data}
@@ -133,12 +124,12 @@ given_finishes p a v calls asked transactional own = by (first_unfit p.table (ov
 
 ---- a statement
 
--- A statement whose plan is on its access, taken by the catalog.
+-- A statement whose plan is on its access, accepted by the catalog.
 pub record IsPlannedOn (catalog : List Table) (p : Planned) (a : Access) : Type 0 where
   pub is : is_catalog catalog ≡ true
   pub named : named_table catalog p.statement ≡ Some p.table
   pub asked : p.asked ≡ true
-  pub taken : refusal_of catalog p.statement ≡ None
+  pub accepted : refusal_of catalog p.statement ≡ None
   pub literals : has_all_literals p.statement ≡ true
   pub access : a ≡ access_of p.table p.statement
 
@@ -183,7 +174,7 @@ module _ (catalog : List Table) (events : List Event) (c : ℕ) (ss : List Execu
     fits_before q inside = fits_row catalog q (get d q) (access_fits catalog p.table p.statement v.seen on.is on.named fits q inside)
 
     fits_after : (q : Key) → in_access own q ≡ true → is_misfit_row catalog q (get (with_changes d ks) q) ≡ false
-    fits_after q inside = fits_row catalog q (get (with_changes d ks) q) (λ cs found. by cs (left_at_key catalog p.table p.statement v.seen on.is on.named fits on.taken on.literals q cs found))
+    fits_after q inside = fits_row catalog q (get (with_changes d ks) q) (λ cs found. by cs (left_at_key catalog p.table p.statement v.seen on.is on.named fits on.accepted on.literals q cs found))
       where
         by : (cs : List Pair) → (row_is_well_typed catalog q cs ≡ true) ⊎ (get d q ≡ Some cs) → row_is_well_typed catalog q cs ≡ true
         by cs (inl e) = e
@@ -202,7 +193,7 @@ module _ (catalog : List Table) (events : List Event) (c : ℕ) (ss : List Execu
       keys = now.keys;
       rows = λ q.
           ap (λ (x : Answer × Tables). get x.1 q) execs
-          ∙ ap (λ (x : Tables). get x q) (sym (left_fitting catalog p.table p.statement v.seen on.is on.named fits on.taken on.literals))
+          ∙ ap (λ (x : Tables). get x q) (sym (left_fitting catalog p.table p.statement v.seen on.is on.named fits on.accepted on.literals))
           ∙ get_fitting catalog (with_changes d ks) q
           ∙ ap (sieved_at (fits_catalog catalog) q) (left_seen q);
       misfits = λ q. now.misfits q ∙ ap (is_misfit_row catalog q) (sym (get_seen v.seen.read_set v.seen.writes q)) ∙ misfits_same q ∙ ap (is_misfit_row catalog q) (left_seen q);

@@ -3,19 +3,12 @@ use Rattle.std.proofs.Common.{◌≡◌, ℕ, zero, suc, Bool, false, List, [], 
 use Rattle.std.specs.Prelude.{Contains, filter, is_some, length, slice_get, slice_set}
 use Rattle.std.proofs.lemmas.List.{append-nil}
 use Rattle.std.proofs.lemmas.List.Elements.{Contains-push}
-use Rattle.sdb_types.specs.declared.record.Reply.{Reply}
-use Rattle.sdb_types.specs.declared.record.Request.{Request}
-use Rattle.sdb_record.specs.declared.access.Access.{Access}
-use Rattle.sdb_schema.specs.declared.table.Table.{Table}
-use Rattle.sdb_model.specs.declared.answer.Answer.{Answer}
-use Rattle.sdb_model.specs.declared.event.Event.{Event}
+use Rattle.law_runs.specs.Types.{Access, Answer, ClientSlot, Event, How, Reply, Request, Script, Table}
 use Rattle.sdb_model.specs.declared.event.Event.TheVariants as event
-use Rattle.sdb_model.specs.declared.event.How.{How}
-use Rattle.sdb_model.specs.declared.script.Script.{Script}
 use Rattle.sdb_model.specs.Exec.{Tables}
 use Rattle.sdb_model.specs.Rows.{Name}
 use Rattle.sdb_model.specs.Transactions.{Executed, client_of, from_begin, ordinal_of, statements_by}
-use Rattle.sdb_read.specs.Read.{ReadAt}
+use Rattle.sdb_txn.specs.Read.{ReadAt}
 use Rattle.sdb_snapshot.specs.Sets.{WereRead}
 use Rattle.sdb_txn.specs.declared.txn.Doing.TheVariants as doing
 use Rattle.sdb_txn.specs.Txn.{TxnAt}
@@ -26,8 +19,7 @@ use Rattle.law_clients.specs.States.{ClientState, doing_of, system_of}
 use Rattle.law_clients.specs.History.{waiting_of}
 use Rattle.law_clients.proofs.Tellings.{others_silent, said_more}
 use Rattle.law_answers.specs.Invariant.{IsWaiting, Knows}
-use Rattle.sdb_execution.specs.declared.slot.ClientSlot.{ClientSlot}
-use Rattle.sdb_execution.specs.Execution.{AreFresh, CallStep, IsExecution, IsPath, IsPlayable, IsStepFrom, State, TakeStep, client_after, client_stopped, with_client_at}
+use Rattle.sdb_client.specs.Execution.{AreFresh, CallStep, IsExecution, IsPath, IsPlayable, IsStepFrom, State, TakeStep, client_after, client_stopped, with_client_at}
 use Rattle.law_runs.specs.Found.{IsRunOnFound, RunsOnFound, answered_inside, is_answered}
 use Rattle.law_runs.specs.Linked.{on_one}
 use Rattle.law_runs.specs.World.{WorldAt, state_in, states_of, state_of}
@@ -79,7 +71,7 @@ moves_all w e u i c s y number here left h all says own n = subst (λ (x : State
 -- what is so of a statement that waits
 pub wait_so : (w : WorldAt) (W : List Table → List Event → ℕ → Executed → ClientAt → Type 0) → AllSo NothingMore W w → (c : ℕ) (d : ClientAt) → (states_of w.client_slots c).client ≡ d → (k : Knows w.script.catalog w.events c d) (x : Executed) → k.waiting ≡ Some x → IsWaiting w.script.catalog w.events c (is_some d.vacuum) x → W w.script.catalog w.events c x d
 wait_so w W so c d here k x waiting waits =
-    let among : Contains (statements_by c w.events) x = subst (λ (ss : List Executed). Contains ss x) (sym (k.same ∙ ap (λ (o : Option Executed). k.told ++ waiting_of o) waiting)) (Contains-push k.told x) in
+    let among : Contains (statements_by c w.events) x = subst (λ (ss : List Executed). Contains ss x) (sym (k.same ∙ ap (λ (o : Option Executed). k.answered ++ waiting_of o) waiting)) (Contains-push k.answered x) in
     subst (W w.script.catalog w.events c x) here
     (subst (λ (o : Option Answer). SoOver NothingMore W w.script.catalog w.events c x (states_of w.client_slots c).client o) waits.unanswered (so c x among))
 
@@ -91,21 +83,21 @@ module _ (w : WorldAt) (h : Holds w) (all : AllRun w) where
 
   step_take : (c : ℕ) (text : List ℕ) (a : Option Answer) (u : State) (t : TakeStep w.script (state_of w) c text a u) → AllRun (led w (event.Take c text a) u)
   step_take c text a u t =
-      let hand : states_of w.client_slots c ≡ record { client = t.client_slot.client; stopped = t.client_slot.stopped } = hand_at w.client_slots t.place c t.client_slot t.number t.at in
+      let next_state : states_of w.client_slots c ≡ record { client = t.client_slot.client; stopped = t.client_slot.stopped } = hand_at w.client_slots t.place c t.client_slot t.number t.at in
       moves_all w (event.Take c text a) u t.place c t.client_slot (client_after t.client_slot 1 t.client) t.number t.at t.left h all (λ n apart. others_silent w.events n c (event.Take c text a) apart refl)
-      (takes_runs (record { catalog = catalog; now = w.clock; gate = t.gate; fresh = next_id t.client_slot.client }) h.world.playable.catalog h.world.playable.apart w.events c text t.client_slot.client (subst (λ (y : ClientState). Knows catalog w.events c y.client) hand (h.caused.each c)) (subst (λ (y : ClientState). ClientRuns catalog w.events c y.client) hand (all c)) t.idle a t.client t.takes)
+      (takes_runs (record { catalog = catalog; now = w.clock; gate = t.gate; fresh = next_id t.client_slot.client }) h.world.playable.catalog h.world.playable.apart w.events c text t.client_slot.client (subst (λ (y : ClientState). Knows catalog w.events c y.client) next_state (h.caused.each c)) (subst (λ (y : ClientState). ClientRuns catalog w.events c y.client) next_state (all c)) t.idle a t.client t.takes)
 
   step_call : (prepared : AllSo NothingMore WaitPrepares w) (c : ℕ) (store : Name) (q : Request) (how : How) (r : Reply) (a : Option Answer) (u : State) (t : CallStep (state_of w) c q r a u) → AllRun (led w (event.Call c store q how r a) u)
   step_call prepared c store q how r a u t =
       moves_all w (event.Call c store q how r a) u t.place c t.client_slot (client_after t.client_slot 0 t.client) t.number t.at t.left h all (λ n apart. others_silent w.events n c (event.Call c store q how r a) apart refl)
-      (calls_runs catalog h.world.playable.catalog h.world.playable.apart w.events c t.client_slot.client k (subst (λ (y : ClientState). ClientRuns catalog w.events c y.client) hand (all c)) x.0 x.1 waits prepares store q how r w.clock h.world.moment h.caused.clock (h.world.each t.place t.client_slot t.at).about t.can kept t.client a
+      (calls_runs catalog h.world.playable.catalog h.world.playable.apart w.events c t.client_slot.client k (subst (λ (y : ClientState). ClientRuns catalog w.events c y.client) next_state (all c)) x.0 x.1 waits prepares store q how r w.clock h.world.moment h.caused.clock (h.world.each t.place t.client_slot t.at).about t.can kept t.client a
       (call_of catalog w.events c t.client_slot.client k x.0 x.1 q r w.clock a t.client t.pending (h.world.each t.place t.client_slot t.at).fitted t.takes))
     where
-      hand : states_of w.client_slots c ≡ record { client = t.client_slot.client; stopped = t.client_slot.stopped }
-      hand = hand_at w.client_slots t.place c t.client_slot t.number t.at
+      next_state : states_of w.client_slots c ≡ record { client = t.client_slot.client; stopped = t.client_slot.stopped }
+      next_state = hand_at w.client_slots t.place c t.client_slot t.number t.at
 
       k : Knows catalog w.events c t.client_slot.client
-      k = subst (λ (y : ClientState). Knows catalog w.events c y.client) hand (h.caused.each c)
+      k = subst (λ (y : ClientState). Knows catalog w.events c y.client) next_state (h.caused.each c)
 
       x : (y : Executed) × (k.waiting ≡ Some y)
       x = pends_waits catalog w.events c t.client_slot.client q k t.pending
@@ -114,11 +106,11 @@ module _ (w : WorldAt) (h : Holds w) (all : AllRun w) where
       waits = waits_of catalog w.events c t.client_slot.client k x.0 x.1
 
       prepares : WaitPrepares catalog w.events c x.0 t.client_slot.client
-      prepares = wait_so w WaitPrepares prepared c t.client_slot.client (ap (λ (y : ClientState). y.client) hand) k x.0 x.1 waits
+      prepares = wait_so w WaitPrepares prepared c t.client_slot.client (ap (λ (y : ClientState). y.client) next_state) k x.0 x.1 waits
 
       kept : (y : TxnAt) → t.client_slot.client.vacuum ≡ None → t.client_slot.client.txn ≡ Some y → (b : Access) (z : ReadAt) → y.doing ≡ doing.Read b z → WereRead y.seen.read_set y.seen.writes
       kept y free some b z reads =
-          going_kept catalog (tables_are_well_typed catalog) (on_one w.events) (states_of w.client_slots) h.linked c (ap (λ (v : ClientState). v.stopped) hand ∙ t.goes_on) (ap (λ (v : ClientState). v.client.vacuum) hand ∙ free) y (ap (λ (v : ClientState). v.client.txn) hand ∙ some) b z reads
+          going_kept catalog (tables_are_well_typed catalog) (on_one w.events) (states_of w.client_slots) h.linked c (ap (λ (v : ClientState). v.stopped) next_state ∙ t.goes_on) (ap (λ (v : ClientState). v.client.vacuum) next_state ∙ free) y (ap (λ (v : ClientState). v.client.txn) next_state ∙ some) b z reads
 
   pub step_runs : AllSo NothingMore WaitPrepares w → (e : Event) (u : State) → IsStepFrom w.script (state_of w) e u → AllRun (led w e u)
   step_runs prepared (event.Take c text a) u t = step_take c text a u t
@@ -170,9 +162,9 @@ module _ (script : Script) (events : List Event) (playable : IsPlayable script) 
       k : Knows script.catalog events (client_of id) (states_of x.last.client_slots (client_of id)).client
       k = (execution_holds script events playable x).caused.each (client_of id)
 
-      by : (o : Option Executed) → IfSome o (IsWaiting script.catalog events (client_of id) (is_some (states_of x.last.client_slots (client_of id)).client.vacuum)) → running_of events (client_of id) (ordinal_of id) k.told ≡ running_of events (client_of id) (ordinal_of id) (k.told ++ waiting_of o)
-      by None h = ap (running_of events (client_of id) (ordinal_of id)) (sym (append-nil k.told))
-      by (Some y) h = sym (running_waits events (client_of id) (ordinal_of id) k.told y h.unanswered)
+      by : (o : Option Executed) → IfSome o (IsWaiting script.catalog events (client_of id) (is_some (states_of x.last.client_slots (client_of id)).client.vacuum)) → running_of events (client_of id) (ordinal_of id) k.answered ≡ running_of events (client_of id) (ordinal_of id) (k.answered ++ waiting_of o)
+      by None h = ap (running_of events (client_of id) (ordinal_of id)) (sym (append-nil k.answered))
+      by (Some y) h = sym (running_waits events (client_of id) (ordinal_of id) k.answered y h.unanswered)
 
       same : running_of events (client_of id) (ordinal_of id) (answered_of (client_of id) events) ≡ answered_inside events id
       same = ap (running_of events (client_of id) (ordinal_of id)) (answered_of_is script.catalog events (client_of id) (states_of x.last.client_slots (client_of id)).client k) ∙ by k.waiting k.waits ∙ ap (running_of events (client_of id) (ordinal_of id)) (sym k.same)

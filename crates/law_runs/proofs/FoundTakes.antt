@@ -3,16 +3,11 @@ use Rattle.std.proofs.Common.{◌≡◌, ◌⊎◌, inl, inr, ◌+◌, ℕ, suc,
 use Rattle.std.specs.Prelude.{◌&&◌, ◌||◌, if◌then◌else◌, filter, is_some}
 use Rattle.std.proofs.lemmas.List.{append-nil}
 use Rattle.std.proofs.lemmas.List.Elements.{filter-append}
-use Rattle.sdb_types.specs.declared.key.Key.{Key}
+use Rattle.law_runs.specs.Types.{Answer, Event, Key, Refusal, Statement, Table}
 use Rattle.sdb_types.proofs.Basics.{by_test, clash, or_false}
-use Rattle.sdb_schema.specs.declared.table.Table.{Table}
 use Rattle.sdb_schema.specs.Catalog.{is_catalog}
-use Rattle.sdb_model.specs.declared.answer.Answer.{Answer}
 use Rattle.sdb_model.specs.declared.answer.Answer.TheVariants as answer
-use Rattle.sdb_model.specs.declared.answer.Refusal.{Refusal}
-use Rattle.sdb_model.specs.declared.event.Event.{Event}
 use Rattle.sdb_model.specs.declared.event.Event.TheVariants as event
-use Rattle.sdb_model.specs.declared.statement.Statement.{Statement}
 use Rattle.sdb_model.specs.declared.statement.Statement.TheVariants as statement
 use Rattle.sdb_model.specs.Calls.{StoreCall, calls_of}
 use Rattle.sdb_model.specs.Exec.{find_table, named_table, table_of}
@@ -54,7 +49,7 @@ module _ (q : Taking) (is : is_catalog q.catalog ≡ true) (apart : (k : Key) �
 
   -- what it is to come to
   abbrev Comes : Option Answer → ClientAt → Type 0
-  Comes None d = IfSome d.txn (SeesRun q.catalog (E None) c (running_of (E None) c d.begun k.told))
+  Comes None d = IfSome d.txn (SeesRun q.catalog (E None) c (running_of (E None) c d.begun k.answered))
   Comes (Some b) d = steps.Follows q.catalog events c h k runs (event.Take c text (Some b)) (one (Some b)) d
 
   -- as an answer that leaves the client there
@@ -82,10 +77,10 @@ module _ (q : Taking) (is : is_catalog q.catalog ≡ true) (apart : (k : Key) �
       ids : (n : ℕ) → n + 1 ≡ suc n
       ids n = omega arith
 
-      new : running_of (E (Some answer.Done)) c (h.begun + 1) (k.told ++ one (Some answer.Done) ∷ []) ≡ []
+      new : running_of (E (Some answer.Done)) c (h.begun + 1) (k.answered ++ one (Some answer.Done) ∷ []) ≡ []
       new =
-          ap (λ n. running_of (E (Some answer.Done)) c n (k.told ++ one (Some answer.Done) ∷ [])) (ap (λ n. n + 1) k.begun ∙ ids (begun_in k.told))
-          ∙ ap (λ ss. running (E (Some answer.Done)) c (rest_of ss)) (since_new k.told (one (Some answer.Done)) begins_now)
+          ap (λ n. running_of (E (Some answer.Done)) c n (k.answered ++ one (Some answer.Done) ∷ [])) (ap (λ n. n + 1) k.begun ∙ ids (begun_in k.answered))
+          ∙ ap (λ ss. running (E (Some answer.Done)) c (rest_of ss)) (since_new k.answered (one (Some answer.Done)) begins_now)
 
   begin_comes : (o : Option TxnAt) (a : Option Answer) (d : ClientAt) → h.txn ≡ o → Reads text statement.Begin → BeginPost q.gate q.fresh h o a d → Comes a d
   begin_comes None a d e reads t = gate_comes q.gate.vacuum_runs a d e reads t
@@ -120,12 +115,12 @@ module _ (q : Taking) (is : is_catalog q.catalog ≡ true) (apart : (k : Key) �
     still : t.doing ≡ doing.Idle
     still = subst (λ (o : Option TxnAt). IfSome o (λ u. u.doing ≡ doing.Idle)) some idle.still
 
-    sees : (a : Option Answer) → RunsTo q.catalog (E a) c (running_of (E a) c h.begun k.told) t.seen
-    sees a = subst (SeesIn q.catalog (E a) c (running_of (E a) c h.begun k.told) t.seen) still (steps.sees_open q.catalog events c h k runs (event.Take c text a) t some idle.free)
+    sees : (a : Option Answer) → RunsTo q.catalog (E a) c (running_of (E a) c h.begun k.answered) t.seen
+    sees a = subst (SeesIn q.catalog (E a) c (running_of (E a) c h.begun k.answered) t.seen) still (steps.sees_open q.catalog events c h k runs (event.Take c text a) t some idle.free)
 
     -- it scans nothing
-    scans : (a : Option Answer) → HoldsScans (E a) c (running_of (E a) c h.begun k.told ++ one a ∷ []) t.seen
-    scans a span e = (sees a).scans span (sym (scanned_more (E a) c (running_of (E a) c h.begun k.told) (one a) span ∙ ap (λ ms. was_scanned (E a) c (running_of (E a) c h.begun k.told) span || scans_span span ms) (none_yet c events text a) ∙ or_false (was_scanned (E a) c (running_of (E a) c h.begun k.told) span)) ∙ e)
+    scans : (a : Option Answer) → HoldsScans (E a) c (running_of (E a) c h.begun k.answered ++ one a ∷ []) t.seen
+    scans a span e = (sees a).scans span (sym (scanned_more (E a) c (running_of (E a) c h.begun k.answered) (one a) span ∙ ap (λ ms. was_scanned (E a) c (running_of (E a) c h.begun k.answered) span || scans_span span ms) (none_yet c events text a) ∙ or_false (was_scanned (E a) c (running_of (E a) c h.begun k.answered) span)) ∙ e)
 
     abbrev given : Statement → Table → Answer
     given st table = given_answer t (gives (plan_of table st) (access_of table st) t)
@@ -138,21 +133,21 @@ module _ (q : Taking) (is : is_catalog q.catalog ≡ true) (apart : (k : Key) �
         own = subst IsDataTable (sym (own_table table st)) (apart (record { table = table.name; partition = []; clustering = [] }) (ap is_some (found_itself q.catalog (table_of st) table named)))
 
     rows_comes : (st : Statement) (table : Table) (a : Option Answer) (d : ClientAt) → Reads text st → reads_commit text ≡ false → refusal_of q.catalog st ≡ None → named_table q.catalog st ≡ Some table → RowsPost (plan_of table st) (access_of table st) h t a d → Comes a d
-    rows_comes st table a d reads no_commit taken named x = by_test (is_covered t.seen (access_of table st)) (λ b. let z = x.known b in as_comes a d (Some (given st table)) (holding h (given_left t (gives (plan_of table st) (access_of table st) t))) z.0 z.1 known) (λ b. let z = x.unknown b in as_comes a d None _ z.0 z.1 (sees None))
+    rows_comes st table a d reads no_commit accepted named x = by_test (is_covered t.seen (access_of table st)) (λ b. let z = x.known b in as_comes a d (Some (given st table)) (holding h (given_left t (gives (plan_of table st) (access_of table st) t))) z.0 z.1 known) (λ b. let z = x.unknown b in as_comes a d None _ z.0 z.1 (sees None))
       where
         known : Comes (Some (given st table)) (holding h (given_left t (gives (plan_of table st) (access_of table st) t)))
         known =
             steps.given_follows q.catalog events c h k runs (event.Take c text (Some (given st table))) t some idle.free (one (Some (given st table))) (plan_of table st) (access_of table st) t
-            (record { is = is; named = named; asked = refl; taken = taken; literals = literals_read text st reads; access = refl }) reads no_commit refl (finished_here st table named) (still, refl) (sees (Some (given st table)))
-            (subst (λ (ms : List StoreCall). IsViewOf q.catalog (with_found q.catalog (view_after q.catalog (E (Some (given st table))) c (running_of (E (Some (given st table))) c h.begun k.told) (sees (Some (given st table))).run) (found_by ms)) t.seen) (sym (none_yet c events text (Some (given st table)))) (sees (Some (given st table))).sees)
+            (record { is = is; named = named; asked = refl; accepted = accepted; literals = literals_read text st reads; access = refl }) reads no_commit refl (finished_here st table named) (still, refl) (sees (Some (given st table)))
+            (subst (λ (ms : List StoreCall). IsViewOf q.catalog (with_found q.catalog (view_after q.catalog (E (Some (given st table))) c (running_of (E (Some (given st table))) c h.begun k.answered) (sees (Some (given st table))).run) (found_by ms)) t.seen) (sym (none_yet c events text (Some (given st table)))) (sees (Some (given st table))).sees)
             (scans (Some (given st table)))
 
     table_comes : (st : Statement) (a : Option Answer) (d : ClientAt) → Reads text st → reads_commit text ≡ false → TablePost q.catalog st h t a d → Comes a d
     table_comes st a d reads no_commit x = by_refusal (refusal_of q.catalog st) refl
       where
         by_table : (o : Option Table) → refusal_of q.catalog st ≡ None → named_table q.catalog st ≡ o → Comes a d
-        by_table (Some table) taken named = rows_comes st table a d reads no_commit taken named (x.reads table taken named)
-        by_table None taken named = absurd (let y : Some (record { kind = 6; place = 0 }) ≡ None = sym (ap (λ (o : Option Table). refusal_by o st) named) ∙ taken in cc)
+        by_table (Some table) accepted named = rows_comes st table a d reads no_commit accepted named (x.reads table accepted named)
+        by_table None accepted named = absurd (let y : Some (record { kind = 6; place = 0 }) ≡ None = sym (ap (λ (o : Option Table). refusal_by o st) named) ∙ accepted in cc)
 
         by_refusal : (o : Option Refusal) → refusal_of q.catalog st ≡ o → Comes a d
         by_refusal (Some r) f = answer_comes (answer.Refused r) a d (x.refused r f) (inl refl)
@@ -164,7 +159,7 @@ module _ (q : Taking) (is : is_catalog q.catalog ≡ true) (apart : (k : Key) �
 
   commit_comes : (o : Option TxnAt) (a : Option Answer) (d : ClientAt) → h.txn ≡ o → CommitStartPost q.now h o a d → Comes a d
   commit_comes None a d e t = answer_comes _ a d t (inl refl)
-  commit_comes (Some x) a d e t = as_comes a d None (holding h (committing x q.now)) t.0 t.1 (steps.runs_wrote q.catalog (E None) c (running_of (E None) c h.begun k.told) x.seen (sees x e None))
+  commit_comes (Some x) a d e t = as_comes a d None (holding h (committing x q.now)) t.0 t.1 (steps.runs_wrote q.catalog (E None) c (running_of (E None) c h.begun k.answered) x.seen (sees x e None))
 
   ---- each text
 
@@ -195,17 +190,17 @@ module _ (q : Taking) (is : is_catalog q.catalog ≡ true) (apart : (k : Key) �
       by false = steps.same_follows q.catalog events c h k runs (event.Take c text (Some answer.NoMemory)) (one (Some answer.NoMemory)) (inl none)
 
   takes_comes : (a : Option Answer) (d : ClientAt) → TextStep q text h a d → Comes a d
-  takes_comes a d t = by_memory a (λ e. as_comes a d (Some answer.NoMemory) (out_of_memory text h) e (t.memory e) starved_comes) (λ n. let x = t.told n in text_comes x.0 a d x.1 x.2)
+  takes_comes a d t = by_memory a (λ e. as_comes a d (Some answer.NoMemory) (out_of_memory text h) e (t.memory e) starved_comes) (λ n. let x = t.answered n in text_comes x.0 a d x.1 x.2)
 
-  -- So it is after it has taken a statement.
+  -- So it is after it has accepted a statement.
   pub takes_runs : (a : Option Answer) (d : ClientAt) → TextStep q text h a d → ClientRuns q.catalog (E a) c d
   takes_runs a d t = by a (takes_comes a d t)
     where
-      now : (b : Option Answer) → answered_of c (E b) ≡ k.told ++ filter is_answered (one b ∷ [])
+      now : (b : Option Answer) → answered_of c (E b) ≡ k.answered ++ filter is_answered (one b ∷ [])
       now b = ap (filter is_answered) (take_said c events text b) ∙ filter-append is_answered (statements_by c events) (one b ∷ []) ∙ ap (λ ss. ss ++ filter is_answered (one b ∷ [])) (answered_of_is q.catalog events c h k)
 
       by : (b : Option Answer) → Comes b d → ClientRuns q.catalog (E b) c d
-      by None z = steps.still_runs q.catalog events c h k runs (event.Take c text None) d (now None ∙ append-nil k.told) z
+      by None z = steps.still_runs q.catalog events c h k runs (event.Take c text None) d (now None ∙ append-nil k.answered) z
       by (Some b) z =
           steps.next_runs q.catalog events c h k runs (event.Take c text (Some b)) (one (Some b)) d (now (Some b)) z
-          (λ reads opened. none_wrote q.catalog (E (Some b)) c (running_of (E (Some b)) c (begun_in k.told) k.told) (id_of c (begun_in k.told)) (calls_of (E (Some b)) c (one (Some b))) (none_yet c events text (Some b)))
+          (λ reads opened. none_wrote q.catalog (E (Some b)) c (running_of (E (Some b)) c (begun_in k.answered) k.answered) (id_of c (begun_in k.answered)) (calls_of (E (Some b)) c (one (Some b))) (none_yet c events text (Some b)))

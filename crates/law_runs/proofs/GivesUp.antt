@@ -3,56 +3,35 @@ use Rattle.std.proofs.Common.{◌≡◌, ◌⊎◌, inl, inr, ◌<◌, ◌^◌, 
 use Rattle.std.specs.Prelude.{Contains, is_some, if◌then◌else◌, nat_lt}
 use Rattle.std.specs.List.{AllByRecursion}
 use Rattle.std.proofs.lemmas.List.Elements.{Contains-append_left, Contains-append_right, Contains-push, Contains-push_cases}
-use Rattle.sdb_types.specs.declared.key.Key.{Key}
-use Rattle.sdb_types.specs.declared.record.Record.{Record}
-use Rattle.sdb_types.specs.declared.record.Reply.{Reply}
+use Rattle.law_runs.specs.Types.{Access, Answer, Decided, Decision, Doing, Event, How, Key, Meta, Next, Progress, ReadStep, Record, RecoverPhase, RecoverStep, Reply, Request, Script, Span, Table, TxId, VacuumStep}
 use Rattle.sdb_types.specs.declared.record.Reply.TheVariants as reply
-use Rattle.sdb_types.specs.declared.record.Request.{Request}
-use Rattle.sdb_types.specs.declared.record.Span.{Span}
-use Rattle.sdb_types.specs.declared.txid.TxId.{TxId}
-use Rattle.sdb_record.specs.declared.coordinator.Decided.{Decided}
-use Rattle.sdb_record.specs.declared.coordinator.Decision.{Decision}
 use Rattle.sdb_record.specs.declared.coordinator.Decision.TheVariants as decision
-use Rattle.sdb_record.specs.declared.meta.Meta.{Meta}
 use Rattle.sdb_record.specs.Coordinator.{decision_in, is_expired}
 use Rattle.sdb_record.specs.Rolls.{is_tombstone}
-use Rattle.sdb_model.specs.declared.event.Event.{Event}
 use Rattle.sdb_model.specs.Calls.{StoreCall, calls_after, calls_of, clock_at, is_read, key_asked}
 use Rattle.law_clients.specs.About.{IsDoingIn, IsIn, IsOfTables, IsStageIn, IsVacuumStageIn, IsVacuumIn, IsWorkIn}
 use Rattle.law_runs.proofs.Unprepared.{base_of}
-use Rattle.sdb_phases.specs.declared.step.RecoverPhase.{RecoverPhase}
 use Rattle.sdb_phases.specs.declared.step.RecoverPhase.TheVariants as phase
-use Rattle.sdb_phases.specs.declared.step.RecoverStep.{RecoverStep}
 use Rattle.sdb_phases.specs.declared.step.RecoverStep.TheVariants as steps
 use Rattle.sdb_phases.specs.Recover.{recover_next, roll_to, recover_request_at}
-use Rattle.sdb_read.specs.Read.{Asking, Bad, Ended, Firm, Kind, Open, ReadStage, Resolving, answered, kind_of, read_step, resolved, settle, settle_one, read_pending_at, read_result, request_of}
-use Rattle.sdb_vacuum.specs.declared.work.VacuumStep.{VacuumStep}
+use Rattle.sdb_txn.specs.Read.{Asking, Bad, Ended, Firm, Kind, Open, ReadStage, Resolving, answered, kind_of, read_step, resolved, settle, settle_one, read_pending_at, read_result, request_of}
 use Rattle.sdb_vacuum.specs.declared.work.VacuumStep.TheVariants as vacuuming
 use Rattle.sdb_vacuum.specs.Vacuum as vacuum
 use Rattle.sdb_vacuum.specs.Vacuum.{First, Gives, VacuumAt, VacuumStage, vacuum_step}
 use Rattle.law_runs.specs.Laws.{DecisionsAreDue, GivesUp, HasExpired, IsOwnDecision, WritesRow, row_put}
-use Rattle.sdb_record.specs.declared.access.Access.{Access}
-use Rattle.sdb_model.specs.declared.answer.Answer.{Answer}
 use Rattle.law_runs.proofs.Statements.{AreKept, IsPast, SoBy, calls_more, known, none_in, replied_said, statements_so}
 use Rattle.law_runs.proofs.Replies.{CallOf, CommitCall, ReadCall, SweepCall, call_of}
 use Rattle.sdb_client.specs.Client.{ClientAt, StagePost, after, answer_of, next_id, next_of, vacuum_left}
-use Rattle.sdb_commit.specs.Phases.{CommitAt}
-use Rattle.sdb_txn.specs.declared.txn.Doing.{Doing}
+use Rattle.sdb_txn.specs.Phases.{CommitAt}
 use Rattle.sdb_txn.specs.Txn.{IsCommitting as GoesOn, TxnAt, committing, reading}
 use Rattle.law_runs.proofs.Steps.{Holds, execution_holds}
-use Rattle.sdb_model.specs.declared.event.How.{How}
 use Rattle.law_answers.specs.Invariant.{IsAnswered, IsWaiting, Knows}
 use Rattle.sdb_model.specs.Causes.{IsCommitOf}
-use Rattle.sdb_execution.specs.Execution.{IsExecution, IsPlayable, State, TakeStep}
+use Rattle.sdb_client.specs.Execution.{IsExecution, IsPlayable, State, TakeStep}
 use Rattle.sdb_model.specs.Rows.{Name}
-use Rattle.sdb_client.specs.declared.next.Next.{Next}
-use Rattle.sdb_txn.specs.declared.progress.Progress.{Progress}
-use Rattle.sdb_read.specs.declared.read.ReadStep.{ReadStep}
 use Rattle.law_answers.specs.Reads.{ReadsBy, ResolvesBy}
 use Rattle.sdb_model.specs.Transactions.{Executed, statements_by}
-use Rattle.sdb_model.specs.declared.script.Script.{Script}
 use Rattle.law_answers.specs.Vacuums.{VacuumStageBy}
-use Rattle.sdb_schema.specs.declared.table.Table.{Table}
 use Rattle.law_runs.proofs.Takes.{TakenAs, taken_as}
 use Rattle.sdb_phases.specs.Work.{Work, look_of}
 use Rattle.law_runs.specs.World.{WorldAt, states_of, state_of}
@@ -78,7 +57,7 @@ use Rattle.sdb_model.specs.declared.event.Event.TheVariants as event
 use Rattle.sdb_client.specs.declared.next.Next.TheVariants as next
 use Rattle.sdb_txn.specs.declared.progress.Progress.TheVariants as progress
 use Rattle.sdb_types.specs.declared.record.State.TheVariants as state
-use Rattle.sdb_read.specs.declared.read.ReadStep.TheVariants as step
+use Rattle.sdb_txn.specs.declared.read.ReadStep.TheVariants as step
 use Rattle.sdb_model.specs.Tables.{is_data}
 
 ---- where a recovery gives a transaction up
@@ -274,24 +253,24 @@ abbrev pub OwnWrites : Work → List StoreCall → Type 0
 OwnWrites p calls = (m : StoreCall) (id : TxId) → Contains calls m → id.0 < 2 ^ 128 → WritesRow id m → (id ≡ p.id) × (d : Decision) × (m.request ≡ row_put p.id d p.now)
 
 abbrev pub DoingGives : List Event → List StoreCall → ℤ → Doing → Type 0
-DoingGives events calls taken (doing.Read a x) = AllGive events calls × StageGives events calls x.stage
-DoingGives events calls taken (doing.Commit k) = (k.work.now ≡ taken) × OwnWrites k.work calls
-DoingGives events calls taken doing.Idle = AllGive events calls
-DoingGives events calls taken doing.Over = AllGive events calls
+DoingGives events calls accepted (doing.Read a x) = AllGive events calls × StageGives events calls x.stage
+DoingGives events calls accepted (doing.Commit k) = (k.work.now ≡ accepted) × OwnWrites k.work calls
+DoingGives events calls accepted doing.Idle = AllGive events calls
+DoingGives events calls accepted doing.Over = AllGive events calls
 
 abbrev pub TxnGives : List Event → List StoreCall → ℤ → Option TxnAt → Type 0
-TxnGives events calls taken None = AllGive events calls
-TxnGives events calls taken (Some t) = DoingGives events calls taken t.doing
+TxnGives events calls accepted None = AllGive events calls
+TxnGives events calls accepted (Some t) = DoingGives events calls accepted t.doing
 
 abbrev pub HandGives : List Event → List StoreCall → ℤ → Option VacuumAt → Option TxnAt → Type 0
-HandGives events calls taken None o = TxnGives events calls taken o
-HandGives events calls taken (Some v) o = AllGive events calls × SweepGives events calls v.stage
+HandGives events calls accepted None o = TxnGives events calls accepted o
+HandGives events calls accepted (Some v) o = AllGive events calls × SweepGives events calls v.stage
 
 abbrev pub AreDue : List Event → ℕ → Executed → Type 0
 AreDue events c s = (m : StoreCall) (id : TxId) → Contains (calls_of events c s) m → id.0 < 2 ^ 128 → WritesRow id m → IsOwnDecision events c s id m ⊎ GivesUp events (calls_of events c s) m id
 
 abbrev pub WaitDue : List Event → ℕ → Executed → ClientAt → Type 0
-WaitDue events c s h = HandGives events (calls_of events c s) (clock_at events s.taken) h.vacuum h.txn
+WaitDue events c s h = HandGives events (calls_of events c s) (clock_at events s.accepted) h.vacuum h.txn
 
 ---- it stays
 
@@ -338,7 +317,7 @@ carries_same c events e s same = record {
 all_same : (c : ℕ) (events : List Event) (e : Event) (s : Executed) → calls_of (events ++ e ∷ []) c s ≡ calls_of events c s → AllGive events (calls_of events c s) → AllGive (events ++ e ∷ []) (calls_of (events ++ e ∷ []) c s)
 all_same c events e s same all m id has fits puts = gives_on events (events ++ e ∷ []) (calls_of events c s) (calls_of (events ++ e ∷ []) c s) (carries_same c events e s same) m id (all m id (subst (λ (ms : List StoreCall). Contains ms m) same has) fits puts)
 
-still_gives : (c : ℕ) (events : List Event) (e : Event) (s : Executed) → calls_of (events ++ e ∷ []) c s ≡ calls_of events c s → clock_at (events ++ e ∷ []) s.taken ≡ clock_at events s.taken → (v : Option VacuumAt) (o : Option TxnAt) → HandGives events (calls_of events c s) (clock_at events s.taken) v o → HandGives (events ++ e ∷ []) (calls_of (events ++ e ∷ []) c s) (clock_at (events ++ e ∷ []) s.taken) v o
+still_gives : (c : ℕ) (events : List Event) (e : Event) (s : Executed) → calls_of (events ++ e ∷ []) c s ≡ calls_of events c s → clock_at (events ++ e ∷ []) s.accepted ≡ clock_at events s.accepted → (v : Option VacuumAt) (o : Option TxnAt) → HandGives events (calls_of events c s) (clock_at events s.accepted) v o → HandGives (events ++ e ∷ []) (calls_of (events ++ e ∷ []) c s) (clock_at (events ++ e ∷ []) s.accepted) v o
 still_gives c events e s same shows = by_vacuum
   where
     all : AllGive events (calls_of events c s) → AllGive (events ++ e ∷ []) (calls_of (events ++ e ∷ []) c s)
@@ -358,17 +337,17 @@ still_gives c events e s same shows = by_vacuum
     by_sweep (vacuum.Removing b left) h = tt
     by_sweep vacuum.Over h = tt
 
-    by_doing : (x : Doing) → DoingGives events (calls_of events c s) (clock_at events s.taken) x → DoingGives (events ++ e ∷ []) (calls_of (events ++ e ∷ []) c s) (clock_at (events ++ e ∷ []) s.taken) x
+    by_doing : (x : Doing) → DoingGives events (calls_of events c s) (clock_at events s.accepted) x → DoingGives (events ++ e ∷ []) (calls_of (events ++ e ∷ []) c s) (clock_at (events ++ e ∷ []) s.accepted) x
     by_doing (doing.Read a x) h = (all h.0, by_stage x.stage h.1)
     by_doing (doing.Commit k) h = (h.0 ∙ sym shows, subst (OwnWrites k.work) (sym same) h.1)
     by_doing doing.Idle h = all h
     by_doing doing.Over h = all h
 
-    by_txn : (o : Option TxnAt) → TxnGives events (calls_of events c s) (clock_at events s.taken) o → TxnGives (events ++ e ∷ []) (calls_of (events ++ e ∷ []) c s) (clock_at (events ++ e ∷ []) s.taken) o
+    by_txn : (o : Option TxnAt) → TxnGives events (calls_of events c s) (clock_at events s.accepted) o → TxnGives (events ++ e ∷ []) (calls_of (events ++ e ∷ []) c s) (clock_at (events ++ e ∷ []) s.accepted) o
     by_txn None h = all h
     by_txn (Some t) h = by_doing t.doing h
 
-    by_vacuum : (v : Option VacuumAt) (o : Option TxnAt) → HandGives events (calls_of events c s) (clock_at events s.taken) v o → HandGives (events ++ e ∷ []) (calls_of (events ++ e ∷ []) c s) (clock_at (events ++ e ∷ []) s.taken) v o
+    by_vacuum : (v : Option VacuumAt) (o : Option TxnAt) → HandGives events (calls_of events c s) (clock_at events s.accepted) v o → HandGives (events ++ e ∷ []) (calls_of (events ++ e ∷ []) c s) (clock_at (events ++ e ∷ []) s.accepted) v o
     by_vacuum None o h = by_txn o h
     by_vacuum (Some v) o h = (all h.0, by_sweep v.stage h.1)
 
@@ -379,7 +358,7 @@ past_due events e c s past due m id has fits puts = by (due m id (subst (λ (ms 
     by (inl own) = inl (record { commit = past.commit id own.commit; decision = own.decision; asks = own.asks ∙ ap (row_put id own.decision) (sym past.clock) })
     by (inr gives) = inr (gives_on events (events ++ e ∷ []) (calls_of events c s) (calls_of (events ++ e ∷ []) c s) (carries_same c events e s past.calls) m id gives)
 
----- a statement is taken
+---- a statement is accepted
 
 no_calls : (events : List Event) (calls : List StoreCall) → calls ≡ [] → AllGive events calls
 no_calls events calls none m id has fits puts = none_in m (subst (λ (ms : List StoreCall). Contains ms m) none has)
@@ -403,21 +382,21 @@ takes_due w u c text None t h = by (taken_as (record { catalog = w.script.catalo
         one_plus : (n : ℕ) → n + 1 ≡ 1 + n
         one_plus n = omega arith
 
-    taken : ℤ
-    taken = clock_at E (1 + length w.events)
+    accepted : ℤ
+    accepted = clock_at E (1 + length w.events)
 
-    commits : (v : Option VacuumAt) (x : TxnAt) → v ≡ None → HandGives E calls taken v (Some (committing x w.clock))
+    commits : (v : Option VacuumAt) (x : TxnAt) → v ≡ None → HandGives E calls accepted v (Some (committing x w.clock))
     commits None x e = (sym shows, λ m id has fits puts. none_in m (subst (λ (ms : List StoreCall). Contains ms m) (none_yet c w.events text None) has))
     commits (Some v) x e = none_some v (sym e)
 
-    reads : (v : Option VacuumAt) (x : TxnAt) (a : Access) → v ≡ None → HandGives E calls taken v (Some (reading x a))
+    reads : (v : Option VacuumAt) (x : TxnAt) (a : Access) → v ≡ None → HandGives E calls accepted v (Some (reading x a))
     reads None x a e = (none, tt)
     reads (Some v) x a e = none_some v (sym e)
 
-    by : TakenAs (record { catalog = w.script.catalog; now = w.clock; gate = t.gate; fresh = next_id t.client_slot.client }) t.client_slot.client t.client → HandGives E calls taken t.client.vacuum t.client.txn
-    by (inl z) = subst (λ (y : ClientAt). HandGives E calls taken y.vacuum y.txn) (sym z.left) (commits t.client_slot.client.vacuum z.t t.idle.free)
-    by (inr (inl z)) = subst (λ (y : ClientAt). HandGives E calls taken y.vacuum y.txn) (sym z.left) (none, tt)
-    by (inr (inr z)) = subst (λ (y : ClientAt). HandGives E calls taken y.vacuum y.txn) (sym z.left) (reads t.client_slot.client.vacuum z.t z.access t.idle.free)
+    by : TakenAs (record { catalog = w.script.catalog; now = w.clock; gate = t.gate; fresh = next_id t.client_slot.client }) t.client_slot.client t.client → HandGives E calls accepted t.client.vacuum t.client.txn
+    by (inl z) = subst (λ (y : ClientAt). HandGives E calls accepted y.vacuum y.txn) (sym z.left) (commits t.client_slot.client.vacuum z.t t.idle.free)
+    by (inr (inl z)) = subst (λ (y : ClientAt). HandGives E calls accepted y.vacuum y.txn) (sym z.left) (none, tt)
+    by (inr (inr z)) = subst (λ (y : ClientAt). HandGives E calls accepted y.vacuum y.txn) (sym z.left) (reads t.client_slot.client.vacuum z.t z.access t.idle.free)
 
 ---- a call is made
 
@@ -437,7 +416,7 @@ module _ (catalog : List Table) (events : List Event) (c : ℕ) (h d : ClientAt)
   ms = calls_of events c x
 
   more : (a : Option Answer) → calls_of (E a) c (replied_said events x a) ≡ ms ++ made ∷ []
-  more a = calls_more events c store q how r x waits.unanswered waits.taken a
+  more a = calls_more events c store q how r x waits.unanswered waits.accepted a
 
   older : AllByRecursion (λ y. y.at < made.at) ms
   older = each_of ms (λ y has. let low = of_within c events x y has in omega (arith, low))
@@ -497,15 +476,15 @@ module _ (catalog : List Table) (events : List Event) (c : ℕ) (h d : ClientAt)
       )
 
   -- what was so of its calls, with this one
-  comes : (a : Option Answer) → AllGive (E a) (ms ++ made ∷ []) → (a ≡ None → HandGives (E None) (ms ++ made ∷ []) (clock_at (E None) x.taken) d.vacuum d.txn) → SoBy AreDue WaitDue (E a) c (replied_said events x a) d a
-  comes None all left = subst (λ (cs : List StoreCall). HandGives (E None) cs (clock_at (E None) x.taken) d.vacuum d.txn) (sym (more None)) (left refl)
+  comes : (a : Option Answer) → AllGive (E a) (ms ++ made ∷ []) → (a ≡ None → HandGives (E None) (ms ++ made ∷ []) (clock_at (E None) x.accepted) d.vacuum d.txn) → SoBy AreDue WaitDue (E a) c (replied_said events x a) d a
+  comes None all left = subst (λ (cs : List StoreCall). HandGives (E None) cs (clock_at (E None) x.accepted) d.vacuum d.txn) (sym (more None)) (left refl)
   comes (Some b) all left = λ m id has fits puts. inr (subst (λ (cs : List StoreCall). GivesUp (E (Some b)) cs m id) (sym (more (Some b))) (all m id (subst (λ (cs : List StoreCall). Contains cs m) (more (Some b)) has) fits puts))
 
-  sweeps : (a : Option Answer) → SweepCall events c x h q r now a d → SoBy AreDue WaitDue (E a) c (replied_said events x a) d a
-  sweeps a z = comes a (all_more a was.0 (λ id fits puts. by_stage a z.v.stage inside z.is.1 z.pends was.1 id fits puts)) (λ e. goes e)
+  vacuums : (a : Option Answer) → SweepCall events c x h q r now a d → SoBy AreDue WaitDue (E a) c (replied_said events x a) d a
+  vacuums a z = comes a (all_more a was.0 (λ id fits puts. by_stage a z.v.stage inside z.is.1 z.pends was.1 id fits puts)) (λ e. goes e)
     where
       was : AllGive events ms × SweepGives events ms z.v.stage
-      was = subst (λ (v : Option VacuumAt). HandGives events ms (clock_at events x.taken) v h.txn) z.runs so
+      was = subst (λ (v : Option VacuumAt). HandGives events ms (clock_at events x.accepted) v h.txn) z.runs so
 
       inside : IsVacuumStageIn catalog z.v.stage
       inside = (subst (λ (o : Option VacuumAt). IfSome o (IsVacuumIn catalog)) z.runs about.vacuum).0
@@ -533,19 +512,19 @@ module _ (catalog : List Table) (events : List Event) (c : ℕ) (h d : ClientAt)
       more_step (vacuuming.BadRecord key) e = absurd (cc)
       more_step vacuuming.NoMemory e = absurd (cc)
 
-      goes : a ≡ None → HandGives (E None) (ms ++ made ∷ []) (clock_at (E None) x.taken) d.vacuum d.txn
+      goes : a ≡ None → HandGives (E None) (ms ++ made ∷ []) (clock_at (E None) x.accepted) d.vacuum d.txn
       goes e =
-          let further : z.told.step ≡ vacuuming.More = more_step z.told.step (sym e ∙ z.told.answer) in
-          let left : d.vacuum ≡ Some z.told.left = z.told.goes ∙ ap (λ (s : VacuumStep). vacuum_left s z.told.left) further in
+          let further : z.answered.step ≡ vacuuming.More = more_step z.answered.step (sym e ∙ z.answered.answer) in
+          let left : d.vacuum ≡ Some z.answered.left = z.answered.goes ∙ ap (λ (s : VacuumStep). vacuum_left s z.answered.left) further in
           let all : AllGive (E None) (ms ++ made ∷ []) = all_more None was.0 (λ id fits puts. by_stage None z.v.stage inside z.is.1 z.pends was.1 id fits puts) in
-          subst (λ (v : Option VacuumAt). HandGives (E None) (ms ++ made ∷ []) (clock_at (E None) x.taken) v d.txn) (sym left)
-          (all, left_gives (E None) (ms ++ made ∷ []) (vacuum_step z.v now r) z.told.left z.told.step z.told.told (sweep_gives (E None) (ms ++ made ∷ []) z.v.spans z.v.removed z.v.stage now r (looks z.v.stage z.is.1 z.pends)))
+          subst (λ (v : Option VacuumAt). HandGives (E None) (ms ++ made ∷ []) (clock_at (E None) x.accepted) v d.txn) (sym left)
+          (all, left_gives (E None) (ms ++ made ∷ []) (vacuum_step z.v now r) z.answered.left z.answered.step z.answered.answered (sweep_gives (E None) (ms ++ made ∷ []) z.v.spans z.v.removed z.v.stage now r (looks z.v.stage z.is.1 z.pends)))
 
   reads : (a : Option Answer) → ReadCall catalog events c x h q r now a d → SoBy AreDue WaitDue (E a) c (replied_said events x a) d a
   reads a z = comes a (all_more a was.0 (λ id fits puts. by_stage a z.x.stage inside z.is.stage asks was.1 id fits puts)) (λ e. goes e)
     where
       was : AllGive events ms × StageGives events ms z.x.stage
-      was = subst (DoingGives events ms (clock_at events x.taken)) z.reads (subst (TxnGives events ms (clock_at events x.taken)) z.opened (subst (λ (v : Option VacuumAt). HandGives events ms (clock_at events x.taken) v h.txn) z.free so))
+      was = subst (DoingGives events ms (clock_at events x.accepted)) z.reads (subst (TxnGives events ms (clock_at events x.accepted)) z.opened (subst (λ (v : Option VacuumAt). HandGives events ms (clock_at events x.accepted) v h.txn) z.free so))
 
       asks : read_pending_at (request_of z.access) z.x.stage ≡ Some q
       asks = subst (λ (y : Request). read_pending_at y z.x.stage ≡ Some q) z.asked.request z.pends
@@ -573,32 +552,32 @@ module _ (catalog : List Table) (events : List Event) (c : ℕ) (h d : ClientAt)
       all : AllGive (E None) (ms ++ made ∷ [])
       all = all_more None was.0 (λ id fits puts. by_stage None z.x.stage inside z.is.stage asks was.1 id fits puts)
 
-      goes : a ≡ None → HandGives (E None) (ms ++ made ∷ []) (clock_at (E None) x.taken) d.vacuum d.txn
+      goes : a ≡ None → HandGives (E None) (ms ++ made ∷ []) (clock_at (E None) x.accepted) d.vacuum d.txn
       goes e =
           let again : z.next ≡ next.Call = calls_again z.next (sym e ∙ z.answer) in
           let left : d ≡ record h { txn = Some z.u } = z.left ∙ ap (λ (n : Next). after h n z.u) again in
-          subst (λ (y : ClientAt). HandGives (E None) (ms ++ made ∷ []) (clock_at (E None) x.taken) y.vacuum y.txn) (sym left)
-          (subst (λ (v : Option VacuumAt). HandGives (E None) (ms ++ made ∷ []) (clock_at (E None) x.taken) v (Some z.u)) (sym z.free) (by (read_result (read_step z.x.stage now r)) (subst (λ (m : Next). StagePost z.t z.p z.access z.x (read_step z.x.stage now r) (read_result (read_step z.x.stage now r)) m z.u) again (z.told.told (λ n. other (sym again ∙ n))))))
+          subst (λ (y : ClientAt). HandGives (E None) (ms ++ made ∷ []) (clock_at (E None) x.accepted) y.vacuum y.txn) (sym left)
+          (subst (λ (v : Option VacuumAt). HandGives (E None) (ms ++ made ∷ []) (clock_at (E None) x.accepted) v (Some z.u)) (sym z.free) (by (read_result (read_step z.x.stage now r)) (subst (λ (m : Next). StagePost z.t z.p z.access z.x (read_step z.x.stage now r) (read_result (read_step z.x.stage now r)) m z.u) again (z.answered.answered (λ n. other (sym again ∙ n))))))
         where
           other : next.Call ≡ next.Answer answer.NoMemory → ⊥
           other n = cc
 
-          by : (s : ReadStep) → StagePost z.t z.p z.access z.x (read_step z.x.stage now r) s next.Call z.u → DoingGives (E None) (ms ++ made ∷ []) (clock_at (E None) x.taken) z.u.doing
-          by step.More n = subst (λ (y : TxnAt). DoingGives (E None) (ms ++ made ∷ []) (clock_at (E None) x.taken) y.doing) (sym n.1) (all, step_gives (E None) (ms ++ made ∷ []) z.x.stage now r (looks z.x.stage z.is.stage asks))
+          by : (s : ReadStep) → StagePost z.t z.p z.access z.x (read_step z.x.stage now r) s next.Call z.u → DoingGives (E None) (ms ++ made ∷ []) (clock_at (E None) x.accepted) z.u.doing
+          by step.More n = subst (λ (y : TxnAt). DoingGives (E None) (ms ++ made ∷ []) (clock_at (E None) x.accepted) y.doing) (sym n.1) (all, step_gives (E None) (ms ++ made ∷ []) z.x.stage now r (looks z.x.stage z.is.stage asks))
           by (step.Images images) n = absurd n
           by (step.Busy key id at) n = absurd (let y = n.0 in cc)
           by step.Faulted n = absurd (let y = n.0 in cc)
           by (step.BadRecord key) n = absurd (let y = n.0 in cc)
           by step.NoMemory n = absurd n
 
-  commits : (a : Option Answer) → CommitCall events c k.told x h q r a d → SoBy AreDue WaitDue (E a) c (replied_said events x a) d a
+  commits : (a : Option Answer) → CommitCall events c k.answered x h q r a d → SoBy AreDue WaitDue (E a) c (replied_said events x a) d a
   commits a z = by a refl
     where
-      was : (z.k.work.now ≡ clock_at events x.taken) × OwnWrites z.k.work ms
-      was = subst (DoingGives events ms (clock_at events x.taken)) z.commits (subst (TxnGives events ms (clock_at events x.taken)) z.opened (subst (λ (v : Option VacuumAt). HandGives events ms (clock_at events x.taken) v h.txn) z.free so))
+      was : (z.k.work.now ≡ clock_at events x.accepted) × OwnWrites z.k.work ms
+      was = subst (DoingGives events ms (clock_at events x.accepted)) z.commits (subst (TxnGives events ms (clock_at events x.accepted)) z.opened (subst (λ (v : Option VacuumAt). HandGives events ms (clock_at events x.accepted) v h.txn) z.free so))
 
-      shows : (b : Option Answer) → z.k.work.now ≡ clock_at (E b) x.taken
-      shows b = was.0 ∙ sym (clock_same events (event.Call c store q how r b) x.taken waits.taken)
+      shows : (b : Option Answer) → z.k.work.now ≡ clock_at (E b) x.accepted
+      shows b = was.0 ∙ sym (clock_same events (event.Call c store q how r b) x.accepted waits.accepted)
 
       fits_own : z.k.work.id.0 < 2 ^ 128
       fits_own = subst (λ (i : TxId). i.0 < 2 ^ 128) (sym (z.is.same ∙ z.since.id)) (id_fits c h.begun z.since.client k.small)
@@ -615,8 +594,8 @@ module _ (catalog : List Table) (events : List Event) (c : ℕ) (h d : ClientAt)
               subst (λ (y : StoreCall). (id ≡ z.k.work.id) × (n : Decision) × (y.request ≡ row_put z.k.work.id n z.k.work.now)) same
               (commit_writes catalog apart id z.k.work z.k.stage q z.pends inside.writes z.writes fits fits_own (subst (λ (y : StoreCall). WritesRow id y) (sym same) puts))
 
-      doing_own : (y : Doing) (P : CommitAt → Type 0) → ((i : CommitAt) → P i → i.work ≡ z.k.work) → GoesOn y P → DoingGives (E None) (ms ++ made ∷ []) (clock_at (E None) x.taken) y
-      doing_own (doing.Commit i) P f g = subst (λ (w : Work). (w.now ≡ clock_at (E None) x.taken) × OwnWrites w (ms ++ made ∷ [])) (sym (f i g)) (shows None, all)
+      doing_own : (y : Doing) (P : CommitAt → Type 0) → ((i : CommitAt) → P i → i.work ≡ z.k.work) → GoesOn y P → DoingGives (E None) (ms ++ made ∷ []) (clock_at (E None) x.accepted) y
+      doing_own (doing.Commit i) P f g = subst (λ (w : Work). (w.now ≡ clock_at (E None) x.accepted) × OwnWrites w (ms ++ made ∷ [])) (sym (f i g)) (shows None, all)
       doing_own doing.Idle P f g = absurd g
       doing_own (doing.Read b y) P f g = absurd g
       doing_own doing.Over P f g = absurd g
@@ -625,21 +604,21 @@ module _ (catalog : List Table) (events : List Event) (c : ℕ) (h d : ClientAt)
       by None e =
           let further : z.progress ≡ progress.More = goes_further z.progress (sym e ∙ z.answer) in
           let left : d ≡ record h { txn = Some z.u } = z.left ∙ ap (λ (n : Progress). after h (next_of n) z.u) further in
-          subst (λ (cs : List StoreCall). HandGives (E None) cs (clock_at (E None) x.taken) d.vacuum d.txn) (sym (more None))
-          (subst (λ (y : ClientAt). HandGives (E None) (ms ++ made ∷ []) (clock_at (E None) x.taken) y.vacuum y.txn) (sym left)
-          (subst (λ (v : Option VacuumAt). HandGives (E None) (ms ++ made ∷ []) (clock_at (E None) x.taken) v (Some z.u)) (sym z.free) (doing_own z.u.doing _ (λ i g. g.0) (z.told.next further))))
+          subst (λ (cs : List StoreCall). HandGives (E None) cs (clock_at (E None) x.accepted) d.vacuum d.txn) (sym (more None))
+          (subst (λ (y : ClientAt). HandGives (E None) (ms ++ made ∷ []) (clock_at (E None) x.accepted) y.vacuum y.txn) (sym left)
+          (subst (λ (v : Option VacuumAt). HandGives (E None) (ms ++ made ∷ []) (clock_at (E None) x.accepted) v (Some z.u)) (sym z.free) (doing_own z.u.doing _ (λ i g. g.0) (z.answered.next further))))
       by (Some b) e = λ m id has fits puts.
           let own = all m id (subst (λ (cs : List StoreCall). Contains cs m) (more (Some b)) has) fits puts in
-          let told : statements_by c events ≡ k.told ++ x ∷ [] = k.same ∙ ap (λ (o : Option Executed). k.told ++ waiting_of o) waiting in
+          let acked : statements_by c events ≡ k.answered ++ x ∷ [] = k.same ∙ ap (λ (o : Option Executed). k.answered ++ waiting_of o) waiting in
           inl (record {
             commit = subst (IsCommitOf (E (Some b)) c (executed_with_answer events x b)) (sym (own.0 ∙ z.is.same))
-                (commit_is (E (Some b)) c h.begun k.told (executed_with_answer events x b) z.t k.small (call_said c events store q how r b k.told x told) z.is.text (ends_commit (executed_with_answer events x b) z.is.text) z.since);
+                (commit_is (E (Some b)) c h.begun k.answered (executed_with_answer events x b) z.t k.small (call_said c events store q how r b k.answered x acked) z.is.text (ends_commit (executed_with_answer events x b) z.is.text) z.since);
             decision = own.1;
             asks = own.2 ∙ ap (λ (i : TxId). row_put i own.1 z.k.work.now) (sym own.0) ∙ ap (row_put id own.1) (shows (Some b));
           })
 
-  call_due : (a : Option Answer) → CallOf catalog events c k.told x h q r now a d → SoBy AreDue WaitDue (E a) c (replied_said events x a) d a
-  call_due a (inl z) = sweeps a z
+  call_due : (a : Option Answer) → CallOf catalog events c k.answered x h q r now a d → SoBy AreDue WaitDue (E a) c (replied_said events x a) d a
+  call_due a (inl z) = vacuums a z
   call_due a (inr (inl z)) = reads a z
   call_due a (inr (inr z)) = commits a z
 
@@ -671,12 +650,12 @@ execution_due script events playable x client s m id has call fits puts = by s.a
         unanswered (inl y) = none_some y.given (sym none ∙ y.is)
         unanswered (inr e) = e
 
-    by_doing : (o : Option VacuumAt) (y : Option TxnAt) → h.vacuum ≡ o → h.txn ≡ y → s.answer ≡ None → HandGives events (calls_of events client s) (clock_at events s.taken) o y → IsOwnDecision events client s id m ⊎ GivesUp events (calls_of events client s) m id
+    by_doing : (o : Option VacuumAt) (y : Option TxnAt) → h.vacuum ≡ o → h.txn ≡ y → s.answer ≡ None → HandGives events (calls_of events client s) (clock_at events s.accepted) o y → IsOwnDecision events client s id m ⊎ GivesUp events (calls_of events client s) m id
     by_doing (Some v) y e f none so = inr (so.0 m id call fits puts)
     by_doing None None e f none so = inr (so m id call fits puts)
     by_doing None (Some t) e f none so = doing_so t.doing refl so
       where
-        doing_so : (z : Doing) → t.doing ≡ z → DoingGives events (calls_of events client s) (clock_at events s.taken) z → IsOwnDecision events client s id m ⊎ GivesUp events (calls_of events client s) m id
+        doing_so : (z : Doing) → t.doing ≡ z → DoingGives events (calls_of events client s) (clock_at events s.accepted) z → IsOwnDecision events client s id m ⊎ GivesUp events (calls_of events client s) m id
         doing_so (doing.Read a z) g so = inr (so.0 m id call fits puts)
         doing_so doing.Idle g so = inr (so m id call fits puts)
         doing_so doing.Over g so = inr (so m id call fits puts)

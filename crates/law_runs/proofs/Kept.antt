@@ -1,22 +1,16 @@
 -- What is so of a world stays so.
 use Rattle.std.proofs.Common.{◌≡◌, ℕ, zero, suc, ℤ, ◌+◌, true, false, List, [], ◌∷◌, ◌++◌, Option, Some, None, refl, sym, ap, subst, ◌∙◌, slice_set, add-zero}
 use Rattle.std.specs.Prelude.{is_none, slice_get, IsSome}
-use Rattle.sdb_types.specs.declared.record.Reply.{Reply}
-use Rattle.sdb_types.specs.declared.record.Request.{Request}
+use Rattle.law_runs.specs.Types.{Answer, ClientSlot, Event, How, Reply, Request, Script}
 use Rattle.sdb_record.specs.Meta.{is_moment}
-use Rattle.sdb_model.specs.declared.answer.Answer.{Answer}
-use Rattle.sdb_model.specs.declared.event.Event.{Event}
 use Rattle.sdb_model.specs.declared.event.Event.TheVariants as event
-use Rattle.sdb_model.specs.declared.event.How.{How}
-use Rattle.sdb_model.specs.declared.script.Script.{Script}
 use Rattle.sdb_model.specs.Rows.{Name}
 use Rattle.law_protocol.specs.Spread.{IsAbout}
 use Rattle.sdb_client.specs.Client.{ClientAt}
 use Rattle.law_clients.specs.About.{IsOfTables}
 use Rattle.law_clients.specs.States.{IsAfter}
-use Rattle.sdb_execution.specs.declared.slot.ClientSlot.{ClientSlot}
 use Rattle.law_runs.specs.World.{IsClientState, IsWorld, WorldAt, at_moment, with_event, with_client}
-use Rattle.sdb_execution.specs.Execution.{client_after, client_stopped}
+use Rattle.sdb_client.specs.Execution.{client_after, client_stopped}
 use Rattle.law_runs.proofs.Seats.{set_here, set_length, set_other, suc_is}
 use Rattle.law_runs.proofs.Ties.{IsApart, apart_pending, apart_stopped, apart_taken, own_call_pending, own_call_stopped, own_call_taken, own_stop_pending, own_stop_stopped, own_stop_taken, own_take_pending, own_take_stopped, own_take_taken}
 use Rattle.sdb_types.proofs.Basics.{some_is, all_last as all_more}
@@ -34,7 +28,7 @@ seat_stays script es e j s apart h = record {
   number = h.number;
   fitted = h.fitted;
   about = h.about;
-  taken = h.taken ∙ sym (apart_taken (suc j) es e apart);
+  accepted = h.accepted ∙ sym (apart_taken (suc j) es e apart);
   stopped = h.stopped ∙ sym (apart_stopped (suc j) es e apart);
   busy = λ t. h.busy (sym (apart_pending (suc j) es e apart) ∙ t);
   idle = λ t. h.idle (sym (apart_pending (suc j) es e apart) ∙ t);
@@ -89,7 +83,7 @@ module _ (script : Script) (es : List Event) (i : ℕ) (s : ClientSlot) (h : IsC
     number = after.number ∙ h.number;
     fitted = after.fitted;
     about = about;
-    taken = ap (λ (n : ℕ). n + 1) h.taken ∙ sym (own_take_taken (suc i) es text a);
+    accepted = ap (λ (n : ℕ). n + 1) h.accepted ∙ sym (own_take_taken (suc i) es text a);
     stopped = h.stopped ∙ sym (own_take_stopped (suc i) es text a);
     busy = λ t. after.busy (none_true a (sym (own_take_pending (suc i) es text a) ∙ t));
     idle = λ t. after.idle (none_false a (sym (own_take_pending (suc i) es text a) ∙ t));
@@ -100,7 +94,7 @@ module _ (script : Script) (es : List Event) (i : ℕ) (s : ClientSlot) (h : IsC
     number = after.number ∙ h.number;
     fitted = after.fitted;
     about = about;
-    taken = add-zero s.taken ∙ h.taken ∙ sym (own_call_taken (suc i) es store q how r a);
+    accepted = add-zero s.accepted ∙ h.accepted ∙ sym (own_call_taken (suc i) es store q how r a);
     stopped = h.stopped ∙ sym (own_call_stopped (suc i) es store q how r a);
     busy = λ t. after.busy (none_true a (sym (own_call_pending (suc i) es store q how r a) ∙ t));
     idle = λ t. after.idle (none_false a (sym (own_call_pending (suc i) es store q how r a) ∙ t));
@@ -111,7 +105,7 @@ seat_stops script es i s h = record {
   number = h.number;
   fitted = h.fitted;
   about = h.about;
-  taken = h.taken ∙ sym (own_stop_taken (suc i) es);
+  accepted = h.accepted ∙ sym (own_stop_taken (suc i) es);
   stopped = sym (own_stop_stopped (suc i) es);
   busy = λ t. h.busy (sym (own_stop_pending (suc i) es) ∙ t);
   idle = λ t. h.idle (sym (own_stop_pending (suc i) es) ∙ t);

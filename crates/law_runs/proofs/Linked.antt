@@ -2,19 +2,13 @@
 use Rattle.std.proofs.Common.{◌≡◌, ℕ, zero, suc, ◌<◌, ◌^◌, Bool, true, false, List, [], ◌∷◌, ◌++◌, length, Option, Some, None, refl, sym, ap, subst, ◌∙◌}
 use Rattle.std.specs.Prelude.{◌==◌, slice_get, slice_set}
 use Rattle.std.proofs.lemmas.Bool.{eqb-false, eqb-true, ne_eqb}
-use Rattle.sdb_types.specs.declared.record.Reply.{Reply}
-use Rattle.sdb_types.specs.declared.record.Request.{Request}
+use Rattle.law_runs.specs.Types.{Answer, ClientSlot, Event, How, Reply, Request, Statement, Table}
 use Rattle.sdb_types.specs.Contents.{CanAnswer}
 use Rattle.sdb_record.specs.Meta.{is_moment}
-use Rattle.sdb_model.specs.declared.answer.Answer.{Answer}
-use Rattle.sdb_model.specs.declared.event.Event.{Event}
 use Rattle.sdb_model.specs.declared.event.Event.TheVariants as event
-use Rattle.sdb_model.specs.declared.event.How.{How}
-use Rattle.sdb_model.specs.declared.statement.Statement.{Statement}
 use Rattle.sdb_model.specs.Rows.{Name}
 use Rattle.sdb_model.specs.Exec.{Tables}
 use Rattle.law_protocol.specs.History.{at}
-use Rattle.sdb_schema.specs.declared.table.Table.{Table}
 use Rattle.law_protocol.specs.Spread.{relocated_event}
 use Rattle.law_protocol.proofs.Moved.{moved_more}
 use Rattle.sdb_client.specs.Client.{ClientAt as Client, ReplyPost, Taking, nothing_done, next_id, TextStep}
@@ -27,8 +21,7 @@ use Rattle.law_clients.specs.States.{ClientState, IsGated, IsReady, IsWaiting, d
 use Rattle.law_clients.proofs.Replied.{replies_so}
 use Rattle.law_clients.proofs.Taken.{kept_at, mapped_at}
 use Rattle.law_clients.proofs.Whole.{takes_so}
-use Rattle.sdb_execution.specs.declared.slot.ClientSlot.{ClientSlot}
-use Rattle.sdb_execution.specs.Execution.{AreFresh, IsPlayable, client_after, client_stopped}
+use Rattle.sdb_client.specs.Execution.{AreFresh, IsPlayable, client_after, client_stopped}
 use Rattle.law_runs.specs.World.{WorldAt, state_in, states_of, with_event, with_client}
 use Rattle.law_runs.specs.Linked.{IsLinked, on_one, one_name}
 use Rattle.law_runs.proofs.Seats.{hands_moved}
@@ -88,10 +81,10 @@ linked_takes w i s q text a d playable same here goes ready gated takes numbered
 
 pub linked_calls : (w : WorldAt) (i : ℕ) (s : ClientSlot) (store : Name) (how : How) (q : Request) (r : Reply) (a : Option Answer) (d : Client) → IsPlayable w.script → slice_get w.client_slots i ≡ Some s → s.stopped ≡ false → IsWaiting w.script.catalog (states_of w.client_slots) (suc i) q → CanAnswer q r → ReplyPost s.client s.client.vacuum r w.clock a d → is_moment w.clock ≡ true
     → IsLinked w → IsLinked (with_event (with_client w i (client_after s 0 d)) (event.Call (suc i) store q how r a))
-linked_calls w i s store how q r a d playable here goes waiting can told moment g =
+linked_calls w i s store how q r a d playable here goes waiting can answered moment g =
     linked_by w i s (client_after s 0 d) (event.Call (suc i) store q how r a) here
     (subst (λ (b : Bool). RunInvariant w.script.catalog (tables_are_well_typed w.script.catalog) (on_one w.events ++ event.Call (suc i) one_name q how r a ∷ []) (system_of (at (states_of w.client_slots) (suc i) (record { client = d; stopped = b }))) (doing_of (at (states_of w.client_slots) (suc i) (record { client = d; stopped = b })))) (sym goes)
-    (replies_so w.script.catalog (on_one w.events) (states_of w.client_slots) g (record { client = suc i; store = one_name; request = q; how = how; reply = r; now = w.clock }) playable.catalog (record { waiting = waiting; can = can; moment = moment }) playable.apart a d (on_hand (λ (h : ClientState). ReplyPost h.client h.client.vacuum r w.clock a d) w.client_slots i s here told)))
+    (replies_so w.script.catalog (on_one w.events) (states_of w.client_slots) g (record { client = suc i; store = one_name; request = q; how = how; reply = r; now = w.clock }) playable.catalog (record { waiting = waiting; can = can; moment = moment }) playable.apart a d (on_hand (λ (h : ClientState). ReplyPost h.client h.client.vacuum r w.clock a d) w.client_slots i s here answered)))
 
 ---- a client stops
 
@@ -101,7 +94,7 @@ free_doing catalog fit events sys doing other c stopped same g = record {
   plan = g.plan;
   labelled = g.labelled;
   past = g.past;
-  told = g.told;
+  answered = g.answered;
   ran = g.ran;
   same = g.same;
   turned = g.turned;
@@ -111,15 +104,15 @@ free_doing catalog fit events sys doing other c stopped same g = record {
   as_read = g.as_read;
 }
   where
-    by : (e : ℕ) (b : Bool) → (e == c) ≡ b → ClientInvariant catalog fit g.plan g.past e (other e) (sys.clients e) (g.told e) (g.ran e)
+    by : (e : ℕ) (b : Bool) → (e == c) ≡ b → ClientInvariant catalog fit g.plan g.past e (other e) (sys.clients e) (g.answered e) (g.ran e)
     by e true t =
         let here : sys.clients e ≡ Stopped = ap sys.clients (eqb-true e c t) ∙ stopped in
         record {
           ended = (g.clients e).ended;
           opened = (g.clients e).opened;
-          hand = subst (λ (x : ClientAt). IsOpenOf (other e) (g.told e) (g.ran e (length (g.told e).whole)) x) (sym here) tt;
+          next_state = subst (λ (x : ClientAt). IsOpenOf (other e) (g.answered e) (g.ran e (length (g.answered e).whole)) x) (sym here) tt;
         }
-    by e false t = subst (λ (o : Option Statement). ClientInvariant catalog fit g.plan g.past e o (sys.clients e) (g.told e) (g.ran e)) (same e (λ k. eqb-false e c t k)) (g.clients e)
+    by e false t = subst (λ (o : Option Statement). ClientInvariant catalog fit g.plan g.past e o (sys.clients e) (g.answered e) (g.ran e)) (same e (λ k. eqb-false e c t k)) (g.clients e)
 
 abbrev stopped_hand : ClientSlot → ClientState
 stopped_hand s = record { client = s.client; stopped = true }

@@ -4,18 +4,13 @@ use Rattle.std.specs.Prelude.{Contains, is_some}
 use Rattle.std.specs.List.{AllByRecursion}
 use Rattle.std.proofs.lemmas.Bool.{and_parts}
 use Rattle.std.proofs.lemmas.List.Elements.{Contains-push_cases}
-use Rattle.sdb_types.specs.declared.record.Record.{Record}
-use Rattle.sdb_types.specs.declared.record.Reply.{Reply}
+use Rattle.law_runs.specs.Types.{Answer, Event, Record, Reply, Script, Statement}
 use Rattle.sdb_types.specs.declared.record.Reply.TheVariants as reply
 use Rattle.sdb_types.specs.declared.record.State.TheVariants as state
 use Rattle.sdb_types.specs.Replies.{is_fault}
 use Rattle.sdb_types.proofs.Basics.{clash}
 use Rattle.sdb_record.specs.Meta.{is_in, is_transactional, is_unresolved}
-use Rattle.sdb_model.specs.declared.answer.Answer.{Answer}
 use Rattle.sdb_model.specs.declared.answer.Answer.TheVariants as answer
-use Rattle.sdb_model.specs.declared.event.Event.{Event}
-use Rattle.sdb_model.specs.declared.script.Script.{Script}
-use Rattle.sdb_model.specs.declared.statement.Statement.{Statement}
 use Rattle.sdb_model.specs.declared.statement.Statement.TheVariants as statement
 use Rattle.sdb_model.specs.Calls.{StoreCall, calls_of, records_read}
 use Rattle.sdb_model.specs.Causes.{HasReply}
@@ -24,7 +19,7 @@ use Rattle.sdb_model.specs.Transactions.{Executed, statements_by}
 use Rattle.law_clients.proofs.Taken.{other_no_commit}
 use Rattle.law_answers.proofs.Lists.{each_in}
 use Rattle.law_answers.proofs.Takings.{no_sweep}
-use Rattle.sdb_execution.specs.Execution.{IsExecution, IsPlayable}
+use Rattle.sdb_client.specs.Execution.{IsExecution, IsPlayable}
 use Rattle.law_runs.specs.Complete.{IsOnTable}
 use Rattle.law_runs.specs.Malformed.{FindsMalformed, IsTransactional, MalformedAreAnswered, MalformedEndAtOnce, MalformedEnds, VacuumsMeetMalformed}
 use Rattle.law_runs.proofs.MalformedReads.{IsOpenIn, first_is, inside, none_bad, passes}
@@ -143,10 +138,10 @@ module _ (script : Script) (events : List Event) (playable : IsPlayable script) 
 
   -- So does a VACUUM.
   pub execution_sweeps_malformed : VacuumsMeetMalformed events
-  execution_sweeps_malformed client s a before r has is sweeps f =
+  execution_sweeps_malformed client s a before r has is vacuums f =
       ends_as (calls_of events client s) before r f a
       (λ e. (execution_caused script events playable x).caused.caused client s answer.Faulted has (is ∙ ap Some e))
-      (scans_end script events playable x client s a has is sweeps f.read f.among f.reads)
+      (scans_end script events playable x client s a has is vacuums f.read f.among f.reads)
 
   -- At once where each record before it is committed.
   pub execution_ends_at_once : MalformedEndAtOnce events

@@ -5,27 +5,19 @@ use Rattle.std.specs.List.{AllByRecursion}
 use Rattle.std.proofs.lemmas.Bool.{and_parts}
 use Rattle.std.proofs.lemmas.List.{append-nil}
 use Rattle.std.proofs.lemmas.List.Elements.{Contains-append_left, Contains-append_right, Contains-push}
-use Rattle.sdb_types.specs.declared.key.Key.{Key}
-use Rattle.sdb_types.specs.declared.record.Record.{Record}
-use Rattle.sdb_types.specs.declared.record.Reply.{Reply}
+use Rattle.law_runs.specs.Types.{Decided, Key, Meta, ReadStep, Record, RecoverPhase, RecoverStep, Reply, TxId}
 use Rattle.sdb_types.specs.declared.record.Reply.TheVariants as reply
 use Rattle.sdb_types.specs.declared.record.State.TheVariants as state
-use Rattle.sdb_types.specs.declared.txid.TxId.{TxId}
 use Rattle.sdb_types.proofs.Basics.{append_all, clash}
-use Rattle.sdb_record.specs.declared.coordinator.Decided.{Decided}
 use Rattle.sdb_record.specs.declared.coordinator.Decision.TheVariants as decision
-use Rattle.sdb_record.specs.declared.meta.Meta.{Meta}
 use Rattle.sdb_record.specs.Coordinator.{coordinator_key_of, decision_in, is_expired}
 use Rattle.sdb_record.specs.Meta.{id_in, is_in, is_transactional, is_unresolved}
 use Rattle.sdb_model.specs.Calls.{records_read}
-use Rattle.sdb_phases.specs.declared.step.RecoverPhase.{RecoverPhase}
 use Rattle.sdb_phases.specs.declared.step.RecoverPhase.TheVariants as recover
-use Rattle.sdb_phases.specs.declared.step.RecoverStep.{RecoverStep}
 use Rattle.sdb_phases.specs.declared.step.RecoverStep.TheVariants as steps
 use Rattle.sdb_phases.specs.Recover.{recover_next, roll_to, undecided}
-use Rattle.sdb_read.specs.declared.read.ReadStep.{ReadStep}
-use Rattle.sdb_read.specs.declared.read.ReadStep.TheVariants as step
-use Rattle.sdb_read.specs.Read.{Asking, Bad, Ended, Firm, Kind, Open, ReadStage, Resolving, answered, kind_of, resolved, settle, settle_one}
+use Rattle.sdb_txn.specs.declared.read.ReadStep.TheVariants as step
+use Rattle.sdb_txn.specs.Read.{Asking, Bad, Ended, Firm, Kind, Open, ReadStage, Resolving, answered, kind_of, resolved, settle, settle_one}
 use Rattle.law_clients.proofs.Meta.{meta_of}
 use Rattle.law_answers.proofs.ReadSteps.{bad_is, open_is}
 use Rattle.law_answers.proofs.Showing.{firm_checked}
@@ -86,18 +78,18 @@ passes r e = (and_parts (is_transactional r) (not (is_in state.Committed r.colum
 
 -- What passes the checks comes before the first that doesn't.
 pub inside : (before passed rest left : List Record) (r x : Record) → before ++ r ∷ rest ≡ passed ++ x ∷ left → AllByRecursion IsTransactional passed → IsTransactional x → is_transactional r ≡ false → Contains before x
-inside [] [] rest left r x e all taken bad =
+inside [] [] rest left r x e all accepted bad =
     let same : r ≡ x = cc in
-    clash (sym taken ∙ ap is_transactional (sym same) ∙ bad)
-inside [] (y ∷ ys) rest left r x e all taken bad =
+    clash (sym accepted ∙ ap is_transactional (sym same) ∙ bad)
+inside [] (y ∷ ys) rest left r x e all accepted bad =
     let same : r ≡ y = cc in
     clash (sym all.0 ∙ ap is_transactional (sym same) ∙ bad)
-inside (b ∷ bs) [] rest left r x e all taken bad =
+inside (b ∷ bs) [] rest left r x e all accepted bad =
     let same : b ≡ x = cc in
     subst (Contains (b ∷ bs)) same (Contains-append_left (b ∷ []) bs b (Contains-push [] b))
-inside (b ∷ bs) (y ∷ ys) rest left r x e all taken bad =
+inside (b ∷ bs) (y ∷ ys) rest left r x e all accepted bad =
     let tail : bs ++ r ∷ rest ≡ ys ++ x ∷ left = cc in
-    Contains-append_right (b ∷ []) bs x (inside bs ys rest left r x tail all.1 taken bad)
+    Contains-append_right (b ∷ []) bs x (inside bs ys rest left r x tail all.1 accepted bad)
 
 -- The first that doesn't is one.
 pub first_is : (before passed rest left : List Record) (r x : Record) → before ++ r ∷ rest ≡ passed ++ x ∷ left → AllByRecursion IsTransactional before → AllByRecursion IsTransactional passed → is_transactional r ≡ false → is_transactional x ≡ false → r ≡ x
@@ -121,11 +113,11 @@ none_bad (b ∷ bs) rest r all bad = none_bad bs rest r all.1 bad
 
 -- one more has passed
 pub past_more : (rows left : List Record) (r : Record) → IsPast rows (r ∷ left) → IsTransactional r → IsPast rows left
-past_more rows left r h taken = record { passed = h.passed ++ r ∷ []; split = h.split ∙ sym (append_assoc h.passed (r ∷ []) left); all = append_all IsTransactional h.passed (r ∷ []) h.all (taken, tt) }
+past_more rows left r h accepted = record { passed = h.passed ++ r ∷ []; split = h.split ∙ sym (append_assoc h.passed (r ∷ []) left); all = append_all IsTransactional h.passed (r ∷ []) h.all (accepted, tt) }
 
 settled_so : (rows images left : List Record) → IsPast rows left → LedSo rows (settle images left)
 settled_so rows images [] h = subst (AllByRecursion IsTransactional) (sym (h.split ∙ append-nil h.passed)) h.all
-settled_so rows images (r ∷ left) h = by (kind_of r) refl (λ taken. settled_so rows (images ++ r ∷ []) left (past_more rows left r h taken))
+settled_so rows images (r ∷ left) h = by (kind_of r) refl (λ accepted. settled_so rows (images ++ r ∷ []) left (past_more rows left r h accepted))
   where
     by : (k : Kind) → kind_of r ≡ k → (IsTransactional r → LedSo rows (settle (images ++ r ∷ []) left)) → LedSo rows (settle_one k images r left (settle (images ++ r ∷ []) left))
     by Firm e rest = rest (firm_checked r e)

@@ -3,30 +3,20 @@ use Rattle.std.proofs.Common.{◌≡◌, ◌≢◌, ◌⊎◌, inl, inr, ℕ, �
 use Rattle.std.specs.Prelude.{Contains, is_some}
 use Rattle.std.specs.List.{AllByRecursion}
 use Rattle.std.proofs.lemmas.List.Elements.{Contains-push_cases}
-use Rattle.sdb_types.specs.declared.record.Record.{Record}
-use Rattle.sdb_types.specs.declared.record.Reply.{Reply}
-use Rattle.sdb_types.specs.declared.record.Request.{Request}
+use Rattle.law_runs.specs.Types.{Access, Answer, Doing, Event, How, Next, Record, Reply, Request, Script, Table}
 use Rattle.sdb_types.proofs.Basics.{clash, none_some, some_is}
-use Rattle.sdb_record.specs.declared.access.Access.{Access}
-use Rattle.sdb_schema.specs.declared.table.Table.{Table}
-use Rattle.sdb_model.specs.declared.answer.Answer.{Answer}
 use Rattle.sdb_model.specs.declared.answer.Answer.TheVariants as answer
-use Rattle.sdb_model.specs.declared.event.Event.{Event}
 use Rattle.sdb_model.specs.declared.event.Event.TheVariants as event
-use Rattle.sdb_model.specs.declared.event.How.{How}
-use Rattle.sdb_model.specs.declared.script.Script.{Script}
 use Rattle.sdb_model.specs.Calls.{StoreCall, calls_of, records_read}
 use Rattle.sdb_model.specs.ReadSet.{reads_rows}
 use Rattle.sdb_model.specs.Rows.{Name}
 use Rattle.sdb_model.specs.Sql.{reads_commit, reads_vacuum}
 use Rattle.sdb_model.specs.Transactions.{Executed, statements_by}
 use Rattle.sdb_exec.specs.Plans.{Planned}
-use Rattle.sdb_read.specs.declared.read.ReadStep.TheVariants as step
-use Rattle.sdb_read.specs.Read.{Asking, Ended, ReadAt, ReadStage, Resolving, read_pending_at, read_result, read_step}
-use Rattle.sdb_txn.specs.declared.txn.Doing.{Doing}
+use Rattle.sdb_txn.specs.declared.read.ReadStep.TheVariants as step
+use Rattle.sdb_txn.specs.Read.{Asking, Ended, ReadAt, ReadStage, Resolving, read_pending_at, read_result, read_step}
 use Rattle.sdb_txn.specs.declared.txn.Doing.TheVariants as doing
 use Rattle.sdb_txn.specs.Txn.{TxnAt}
-use Rattle.sdb_client.specs.declared.next.Next.{Next}
 use Rattle.sdb_client.specs.declared.next.Next.TheVariants as next
 use Rattle.sdb_client.specs.Client.{CallPost, ClientAt, StagePost, after, answer_in}
 use Rattle.law_clients.specs.History.{executed_of_take}
@@ -35,7 +25,7 @@ use Rattle.law_answers.specs.Reads.{ReadsBy}
 use Rattle.law_answers.proofs.Calls.{made_at}
 use Rattle.law_answers.proofs.RolledSteps.{recovery_unread}
 use Rattle.law_answers.proofs.Takings.{none_yet}
-use Rattle.sdb_execution.specs.Execution.{IsExecution, IsPlayable}
+use Rattle.sdb_client.specs.Execution.{IsExecution, IsPlayable}
 use Rattle.law_runs.specs.Malformed.{IsTransactional}
 use Rattle.law_runs.specs.World.{states_of}
 use Rattle.law_runs.proofs.MalformedReads.{BusyIn, FirstBad, IsOpenIn, IsPast, LedSo, RowOf, answered_so, opens, resolved_so}
@@ -142,10 +132,10 @@ module _ (calls : List StoreCall) (m : StoreCall) (now : ℤ) where
   has_asked q (Resolving images rec meta p left) e stage is = subst (LedSo (rec ∷ left)) is (resolved_so (rec ∷ left) rec meta left (record { passed = []; split = refl; all = tt }) stage.is_open images p now m.reply)
   has_asked q (Ended s) e stage is = none_some m.request e
 
-module _ (t : TxnAt) (p : Planned) (a : Access) (x : ReadAt) (r : Reply) (now : ℤ) (n : Next) (u : TxnAt) (told : CallPost t p a x r now n u) (calls : List StoreCall) (led : LedTo calls (read_step x.stage now r)) where
+module _ (t : TxnAt) (p : Planned) (a : Access) (x : ReadAt) (r : Reply) (now : ℤ) (n : Next) (u : TxnAt) (answered : CallPost t p a x r now n u) (calls : List StoreCall) (led : LedTo calls (read_step x.stage now r)) where
   -- a read that goes on
   left_so : n ≡ next.Call → (read_step x.stage now r ≡ Asking → ⊥) → DoingSo u.doing calls
-  left_so e asked = by (read_step x.stage now r) refl led (subst (λ (m : Next). StagePost t p a x (read_step x.stage now r) (read_result (read_step x.stage now r)) m u) e (told.told (λ k. other (sym e ∙ k))))
+  left_so e asked = by (read_step x.stage now r) refl led (subst (λ (m : Next). StagePost t p a x (read_step x.stage now r) (read_result (read_step x.stage now r)) m u) e (answered.answered (λ k. other (sym e ∙ k))))
     where
       other : next.Call ≡ next.Answer answer.NoMemory → ⊥
       other k = cc
@@ -162,7 +152,7 @@ module _ (t : TxnAt) (p : Planned) (a : Access) (x : ReadAt) (r : Reply) (now : 
 
   -- The rows by the answer, where it isn't out of memory.
   told_so : (b : Answer) → Some b ≡ answer_in n → b ≢ answer.NoMemory → (rows : List Record) → LedSo rows (read_step x.stage now r) → AllByRecursion IsTransactional rows ⊎ EndsEarly rows b
-  told_so b e some rows = by (read_step x.stage now r) (told.told (λ k. some (some_is b answer.NoMemory (e ∙ ap answer_in k))))
+  told_so b e some rows = by (read_step x.stage now r) (answered.answered (λ k. some (some_is b answer.NoMemory (e ∙ ap answer_in k))))
     where
       is : (d : Answer) → n ≡ next.Answer d → d ≡ b
       is d k = sym (some_is b d (e ∙ ap answer_in k))
@@ -199,7 +189,7 @@ module _ (t : TxnAt) (p : Planned) (a : Access) (x : ReadAt) (r : Reply) (now : 
 
 ---- a call is made
 
-module _ (catalog : List Table) (events : List Event) (c : ℕ) (h d : ClientAt) (store : Name) (q : Request) (how : How) (r : Reply) (now : ℤ) (told : List Executed) (x : Executed) (waits : IsWaiting catalog events c (is_some h.vacuum) x) (so : WaitSo events c x h) where
+module _ (catalog : List Table) (events : List Event) (c : ℕ) (h d : ClientAt) (store : Name) (q : Request) (how : How) (r : Reply) (now : ℤ) (answered : List Executed) (x : Executed) (waits : IsWaiting catalog events c (is_some h.vacuum) x) (so : WaitSo events c x h) where
   abbrev E : Option Answer → List Event
   E a = events ++ event.Call c store q how r a ∷ []
 
@@ -207,7 +197,7 @@ module _ (catalog : List Table) (events : List Event) (c : ℕ) (h d : ClientAt)
   made = made_at events store q how r
 
   more : (a : Option Answer) → calls_of (E a) c (replied_said events x a) ≡ calls_of events c x ++ made ∷ []
-  more a = calls_more events c store q how r x waits.unanswered waits.taken a
+  more a = calls_more events c store q how r x waits.unanswered waits.accepted a
 
   -- it is no statement that reads
   others : (a : Option Answer) → (reads_commit x.text ≡ false → reads_vacuum x.text ≡ false → ⊥) → SoBy AnsweredSo WaitSo (E a) c (replied_said events x a) d a
@@ -224,15 +214,15 @@ module _ (catalog : List Table) (events : List Event) (c : ℕ) (h d : ClientAt)
       led e f = step_so (calls_of events c x) made now z.x.request z.x.stage z.pends z.is.stage (before e f)
 
       by : (b : Option Answer) → a ≡ b → SoBy AnsweredSo WaitSo (E b) c (replied_said events x b) d b
-      by (Some b) e = λ f g. subst (EndsBy (Some b)) (sym (more (Some b))) (answers_so z.t z.p z.access z.x r now z.next z.u z.told (calls_of events c x ++ made ∷ []) (led f g) b (sym e ∙ z.answer))
+      by (Some b) e = λ f g. subst (EndsBy (Some b)) (sym (more (Some b))) (answers_so z.t z.p z.access z.x r now z.next z.u z.answered (calls_of events c x ++ made ∷ []) (led f g) b (sym e ∙ z.answer))
       by None e = λ f g.
           let again : z.next ≡ next.Call = calls_again z.next (sym e ∙ z.answer) in
           let left : d.txn ≡ Some z.u = ap (λ (y : ClientAt). y.txn) (z.left ∙ ap (λ (n : Next). after h n z.u) again) in
           subst (TxnSo d.txn) (sym (more None))
           (subst (λ (o : Option TxnAt). TxnSo o (calls_of events c x ++ made ∷ [])) (sym left)
-          (left_so z.t z.p z.access z.x r now z.next z.u z.told (calls_of events c x ++ made ∷ []) (led f g) again (has_asked (calls_of events c x) made now z.x.request z.x.stage z.pends z.is.stage)))
+          (left_so z.t z.p z.access z.x r now z.next z.u z.answered (calls_of events c x ++ made ∷ []) (led f g) again (has_asked (calls_of events c x) made now z.x.request z.x.stage z.pends z.is.stage)))
 
-  call_so : (a : Option Answer) → CallOf catalog events c told x h q r now a d → SoBy AnsweredSo WaitSo (E a) c (replied_said events x a) d a
+  call_so : (a : Option Answer) → CallOf catalog events c answered x h q r now a d → SoBy AnsweredSo WaitSo (E a) c (replied_said events x a) d a
   call_so a (inl z) = others a (λ e f. clash (sym (waits.vacuum ∙ ap is_some z.runs) ∙ f))
   call_so a (inr (inl z)) = reads a z
   call_so a (inr (inr z)) = others a (λ e f. clash (sym z.is.text ∙ e))
@@ -248,12 +238,12 @@ so_kept = record {
   answered = λ catalog events e c s past so f g. subst (EndsBy s.answer) (sym past.calls) (so f g);
   waiting = λ catalog events e c s h still so f g. subst (TxnSo h.txn) (sym still.calls) (so f g);
   takes = λ w u c text a t h. take_so w.events c text a t.client;
-  calls = λ w u c store q how r a t h k x waiting waits so. call_so w.script.catalog w.events c t.client_slot.client t.client store q how r w.clock k.told x waits so a
+  calls = λ w u c store q how r a t h k x waiting waits so. call_so w.script.catalog w.events c t.client_slot.client t.client store q how r w.clock k.answered x waits so a
       (call_of w.script.catalog w.events c t.client_slot.client k x waiting q r w.clock a t.client t.pending (h.world.each t.place t.client_slot t.at).fitted t.takes);
 }
 
 -- Of each call by which a statement of an execution read rows, that reads and is answered so.
 pub reads_end : (script : Script) (events : List Event) → IsPlayable script → IsExecution script events → (client : ℕ) (s : Executed) (a : Answer) → Contains (statements_by client events) s → s.answer ≡ Some a → reads_commit s.text ≡ false → reads_vacuum s.text ≡ false → EachRead (λ m. IsEndOf (calls_of events client s) m a) (calls_of events client s)
-reads_end script events playable x client s a has is commit sweeps =
+reads_end script events playable x client s a has is commit vacuums =
     let so : AnsweredSo events client s = subst (λ (o : Option Answer). SoBy AnsweredSo WaitSo events client s (states_of x.last.client_slots client).client o) is (statements_so (λ catalog. AnsweredSo) (λ catalog. WaitSo) so_kept script events playable x client s has) in
-    subst (λ (o : Option Answer). EndsBy o (calls_of events client s)) is (so commit sweeps)
+    subst (λ (o : Option Answer). EndsBy o (calls_of events client s)) is (so commit vacuums)

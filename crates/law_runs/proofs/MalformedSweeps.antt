@@ -6,36 +6,23 @@ use Rattle.std.specs.Option.{option_map}
 use Rattle.std.proofs.lemmas.List.{append-nil}
 use Rattle.std.proofs.lemmas.List.Elements.{Contains-push_cases}
 use Rattle.sdb_types.specs.declared.record.Condition.TheVariants as condition
-use Rattle.sdb_types.specs.declared.record.Record.{Record}
-use Rattle.sdb_types.specs.declared.record.Reply.{Reply}
+use Rattle.law_runs.specs.Types.{Answer, Event, How, Meta, Record, RecoverPhase, RecoverStep, Reply, Request, Script, Span, Table, TxId, VacuumStep}
 use Rattle.sdb_types.specs.declared.record.Reply.TheVariants as reply
-use Rattle.sdb_types.specs.declared.record.Request.{Request}
 use Rattle.sdb_types.specs.declared.record.Request.TheVariants as ask
-use Rattle.sdb_types.specs.declared.record.Span.{Span}
 use Rattle.sdb_types.specs.declared.record.State.TheVariants as state
-use Rattle.sdb_types.specs.declared.txid.TxId.{TxId}
 use Rattle.sdb_types.proofs.Basics.{clash, none_some, some_is}
-use Rattle.sdb_record.specs.declared.meta.Meta.{Meta}
 use Rattle.sdb_record.specs.Meta.{id_in}
 use Rattle.sdb_record.specs.Rolls.{is_tombstone, remove_request}
-use Rattle.sdb_schema.specs.declared.table.Table.{Table}
-use Rattle.sdb_model.specs.declared.answer.Answer.{Answer}
 use Rattle.sdb_model.specs.declared.answer.Answer.TheVariants as answer
-use Rattle.sdb_model.specs.declared.event.Event.{Event}
 use Rattle.sdb_model.specs.declared.event.Event.TheVariants as event
-use Rattle.sdb_model.specs.declared.event.How.{How}
-use Rattle.sdb_model.specs.declared.script.Script.{Script}
 use Rattle.sdb_model.specs.Calls.{StoreCall, calls_of, is_read, records_read}
 use Rattle.sdb_model.specs.ReadSet.{reads_rows}
 use Rattle.sdb_model.specs.Rows.{Name}
 use Rattle.sdb_model.specs.Sql.{reads_vacuum}
 use Rattle.sdb_model.specs.Transactions.{Executed, statements_by}
-use Rattle.sdb_phases.specs.declared.step.RecoverPhase.{RecoverPhase}
-use Rattle.sdb_phases.specs.declared.step.RecoverStep.{RecoverStep}
 use Rattle.sdb_phases.specs.declared.step.RecoverStep.TheVariants as steps
 use Rattle.sdb_phases.specs.Recover.{recover_next}
-use Rattle.sdb_read.specs.Read.{Bad, Firm, Kind, Open, kind_of}
-use Rattle.sdb_vacuum.specs.declared.work.VacuumStep.{VacuumStep}
+use Rattle.sdb_txn.specs.Read.{Bad, Firm, Kind, Open, kind_of}
 use Rattle.sdb_vacuum.specs.declared.work.VacuumStep.TheVariants as vacuuming
 use Rattle.sdb_vacuum.specs.Vacuum.{Gives, Over, Removing, Resolving, Scanning, Tombstone, VacuumAt, VacuumStage, answered, first_of, first_one, next_of_row, next_table, pending_at, removal_answered, resolved, step_at, tombstone_or, vacuum_step, with_call}
 use Rattle.sdb_client.specs.Client.{ClientAt, VacuumPost, after, answer_of, next_of, vacuum_left}
@@ -47,7 +34,7 @@ use Rattle.law_answers.proofs.ReadSteps.{bad_is, open_is}
 use Rattle.law_answers.proofs.RolledSteps.{recovery_unread}
 use Rattle.law_answers.proofs.Showing.{firm_checked, unread_rows}
 use Rattle.law_answers.proofs.Takings.{none_yet}
-use Rattle.sdb_execution.specs.Execution.{IsExecution, IsPlayable}
+use Rattle.sdb_client.specs.Execution.{IsExecution, IsPlayable}
 use Rattle.law_runs.specs.Malformed.{IsTransactional}
 use Rattle.law_runs.specs.World.{states_of}
 use Rattle.law_runs.proofs.MalformedReads.{FirstBad, IsPast, RowOf, passes, past_more, recovered_so, ComesTo, row_of}
@@ -100,14 +87,14 @@ module _ (rows : List Record) where
 
   rows_so : (ss : List Span) (n : ℕ) (left : List Record) → IsPast rows left → SweptSo rows (next_of_row ss n (first_of left))
   rows_so ss n [] h = next_so ss n (subst AllPass (sym (h.split ∙ append-nil h.passed)) h.all)
-  rows_so ss n (r ∷ left) h = by (kind_of r) refl (λ taken. rows_so ss n left (past_more rows left r h taken))
+  rows_so ss n (r ∷ left) h = by (kind_of r) refl (λ accepted. rows_so ss n left (past_more rows left r h accepted))
     where
       by_mark : (b : Bool) → IsPast rows left → SweptSo rows (next_of_row ss n (first_of left)) → SweptSo rows (next_of_row ss n (cond b (Tombstone r left) (first_of left)))
       by_mark true past rest = inr past
       by_mark false past rest = rest
 
       by : (k : Kind) → kind_of r ≡ k → (IsTransactional r → SweptSo rows (next_of_row ss n (first_of left))) → SweptSo rows (next_of_row ss n (first_one k r left (first_of left)))
-      by Firm e rest = let taken = firm_checked r e in by_mark (is_tombstone r) (past_more rows left r h taken) (rest taken)
+      by Firm e rest = let accepted = firm_checked r e in by_mark (is_tombstone r) (past_more rows left r h accepted) (rest accepted)
       by (Open meta) e rest = inr h
       by Bad e rest = inr (inl (record { found = r; left = left; past = h; malformed = bad_is r e; same = refl }))
 
@@ -220,7 +207,7 @@ given_so rows x (vacuuming.Count n) v g h = subst (λ (y : VacuumAt × VacuumSte
 given_so rows x vacuuming.Faulted v g h = tt
 given_so rows x (vacuuming.BadRecord key) v g h = subst (λ (y : VacuumAt × VacuumStep). SweptSo rows y) (sym (pair x v (vacuuming.BadRecord key) g)) h
 
-module _ (catalog : List Table) (events : List Event) (c : ℕ) (h d : ClientAt) (store : Name) (q : Request) (how : How) (r : Reply) (now : ℤ) (told : List Executed) (x : Executed) (waits : IsWaiting catalog events c (is_some h.vacuum) x) (so : WaitsSo events c x h) where
+module _ (catalog : List Table) (events : List Event) (c : ℕ) (h d : ClientAt) (store : Name) (q : Request) (how : How) (r : Reply) (now : ℤ) (acked : List Executed) (x : Executed) (waits : IsWaiting catalog events c (is_some h.vacuum) x) (so : WaitsSo events c x h) where
   abbrev E : Option Answer → List Event
   E a = events ++ event.Call c store q how r a ∷ []
 
@@ -231,29 +218,29 @@ module _ (catalog : List Table) (events : List Event) (c : ℕ) (h d : ClientAt)
   ms = calls_of events c x
 
   more : (a : Option Answer) → calls_of (E a) c (replied_said events x a) ≡ ms ++ made ∷ []
-  more a = calls_more events c store q how r x waits.unanswered waits.taken a
+  more a = calls_more events c store q how r x waits.unanswered waits.accepted a
 
   -- no VACUUM runs
   rests : (a : Option Answer) → h.vacuum ≡ None → d.vacuum ≡ None → SoBy SweepsSo WaitsSo (E a) c (replied_said events x a) d a
   rests None free left = subst (λ (o : Option VacuumAt). VacuumSo o (calls_of (E None) c x)) (sym left) tt
   rests (Some b) free left = λ is. clash (sym is ∙ waits.vacuum ∙ ap is_some free)
 
-  sweeps : (a : Option Answer) → SweepCall events c x h q r now a d → SoBy SweepsSo WaitsSo (E a) c (replied_said events x a) d a
-  sweeps a z = by a refl
+  vacuums : (a : Option Answer) → SweepCall events c x h q r now a d → SoBy SweepsSo WaitsSo (E a) c (replied_said events x a) d a
+  vacuums a z = by a refl
     where
-      led : EachRead (λ m. SweptSo (records_read m.reply) (z.told.left, z.told.step)) (ms ++ made ∷ [])
-      led m has reads = given_so (records_read m.reply) (vacuum_step z.v now r) z.told.step z.told.left z.told.told (led_so ms made z.v.spans z.v.removed now z.v.stage z.is.1 z.pends (subst (λ (o : Option VacuumAt). VacuumSo o ms) z.runs so) m has reads)
+      led : EachRead (λ m. SweptSo (records_read m.reply) (z.answered.left, z.answered.step)) (ms ++ made ∷ [])
+      led m has reads = given_so (records_read m.reply) (vacuum_step z.v now r) z.answered.step z.answered.left z.answered.answered (led_so ms made z.v.spans z.v.removed now z.v.stage z.is.1 z.pends (subst (λ (o : Option VacuumAt). VacuumSo o ms) z.runs so) m has reads)
 
       by : (b : Option Answer) → a ≡ b → SoBy SweepsSo WaitsSo (E b) c (replied_said events x b) d b
       by None e =
-          let further : z.told.step ≡ vacuuming.More = more_of z.told.step (sym e ∙ z.told.answer) in
-          let left : d.vacuum ≡ Some z.told.left = z.told.goes ∙ ap (λ (s : VacuumStep). vacuum_left s z.told.left) further in
+          let further : z.answered.step ≡ vacuuming.More = more_of z.answered.step (sym e ∙ z.answered.answer) in
+          let left : d.vacuum ≡ Some z.answered.left = z.answered.goes ∙ ap (λ (s : VacuumStep). vacuum_left s z.answered.left) further in
           subst (VacuumSo d.vacuum) (sym (more None))
-          (subst (λ (o : Option VacuumAt). VacuumSo o (ms ++ made ∷ [])) (sym left) (λ m has reads. subst (λ (s : VacuumStep). SweptSo (records_read m.reply) (z.told.left, s)) further (led m has reads)))
-      by (Some b) e = λ is. subst (EndsBy (Some b)) (sym (more (Some b))) (λ m has reads. ends_so (records_read m.reply) z.told.step b z.told.left (sym e ∙ z.told.answer) (led m has reads))
+          (subst (λ (o : Option VacuumAt). VacuumSo o (ms ++ made ∷ [])) (sym left) (λ m has reads. subst (λ (s : VacuumStep). SweptSo (records_read m.reply) (z.answered.left, s)) further (led m has reads)))
+      by (Some b) e = λ is. subst (EndsBy (Some b)) (sym (more (Some b))) (λ m has reads. ends_so (records_read m.reply) z.answered.step b z.answered.left (sym e ∙ z.answered.answer) (led m has reads))
 
-  call_so : (a : Option Answer) → CallOf catalog events c told x h q r now a d → SoBy SweepsSo WaitsSo (E a) c (replied_said events x a) d a
-  call_so a (inl z) = sweeps a z
+  call_so : (a : Option Answer) → CallOf catalog events c acked x h q r now a d → SoBy SweepsSo WaitsSo (E a) c (replied_said events x a) d a
+  call_so a (inl z) = vacuums a z
   call_so a (inr (inl z)) = rests a z.free (ap (λ (y : ClientAt). y.vacuum) z.left ∙ after_keeps h z.next z.u ∙ z.free)
   call_so a (inr (inr z)) = rests a z.free (ap (λ (y : ClientAt). y.vacuum) z.left ∙ after_keeps h (next_of z.progress) z.u ∙ z.free)
 
@@ -272,12 +259,12 @@ so_kept = record {
   answered = λ catalog events e c s past so is. subst (EndsBy s.answer) (sym past.calls) (so is);
   waiting = λ catalog events e c s h still so. subst (VacuumSo h.vacuum) (sym still.calls) so;
   takes = λ w u c text a t h. take_so w.events c text a t.client;
-  calls = λ w u c store q how r a t h k x waiting waits so. call_so w.script.catalog w.events c t.client_slot.client t.client store q how r w.clock k.told x waits so a
+  calls = λ w u c store q how r a t h k x waiting waits so. call_so w.script.catalog w.events c t.client_slot.client t.client store q how r w.clock k.answered x waits so a
       (call_of w.script.catalog w.events c t.client_slot.client k x waiting q r w.clock a t.client t.pending (h.world.each t.place t.client_slot t.at).fitted t.takes);
 }
 
 -- Of each scan of a VACUUM of an execution, that is answered so.
 pub scans_end : (script : Script) (events : List Event) → IsPlayable script → IsExecution script events → (client : ℕ) (s : Executed) (a : Answer) → Contains (statements_by client events) s → s.answer ≡ Some a → reads_vacuum s.text ≡ true → EachRead (λ m. AllPass (records_read m.reply) ⊎ EndsEarly (records_read m.reply) a) (calls_of events client s)
-scans_end script events playable x client s a has is sweeps =
+scans_end script events playable x client s a has is vacuums =
     let so : SweepsSo events client s = subst (λ (o : Option Answer). SoBy SweepsSo WaitsSo events client s (states_of x.last.client_slots client).client o) is (statements_so (λ catalog. SweepsSo) (λ catalog. WaitsSo) so_kept script events playable x client s has) in
-    subst (λ (o : Option Answer). EndsBy o (calls_of events client s)) is (so sweeps)
+    subst (λ (o : Option Answer). EndsBy o (calls_of events client s)) is (so vacuums)

@@ -1,12 +1,9 @@
 -- What several stores hold at each moment is what the one store holds then.
 use Rattle.std.proofs.Common.{◌≡◌, ℕ, zero, suc, true, List, [], ◌∷◌, length, refl, sym, ap, subst, ◌∙◌}
-use Rattle.sdb_types.specs.declared.key.Key.{Key}
+use Rattle.law_runs.specs.Types.{Event, Key, Place, Table}
 use Rattle.sdb_types.specs.Contents.{Contents}
-use Rattle.sdb_schema.specs.declared.table.Table.{Table}
-use Rattle.sdb_model.specs.declared.event.Event.{Event}
-use Rattle.sdb_types.specs.declared.place.Place.{Place}
 use Rattle.sdb_model.specs.Rows.{Name}
-use Rattle.sdb_model.specs.Events.{Effect, IsTrace, StoreContents, moment, standing}
+use Rattle.sdb_model.specs.Events.{Effect, IsTrace, StoreContents, moment, stored_at}
 use Rattle.law_protocol.specs.Spread.{AreAbout, HoldAs, relocated_event, relocated_events, one_store}
 use Rattle.law_protocol.proofs.Single.{single}
 use Rattle.law_protocol.proofs.Told.{one_standing}
@@ -18,9 +15,9 @@ pub record Alone (catalog : List Table) (name : Name) (places : List Place) (eve
   pub last : List StoreContents
   pub traced : IsTrace [] (relocated_events (λ ns. name) events) (one_store name m) singles last
   pub long : length singles ≡ length moments
-  pub stands : (n : ℕ) (key : Key) → is_table_of_run catalog key.table ≡ true → standing places (moment before moments n) key ≡ standing [] (moment (one_store name m) singles n) key
+  pub agrees : (n : ℕ) (key : Key) → is_table_of_run catalog key.table ≡ true → stored_at places (moment before moments n) key ≡ stored_at [] (moment (one_store name m) singles n) key
 
-held_here : (catalog : List Table) (name : Name) (places : List Place) (before : List StoreContents) (m : Contents) → HoldAs catalog places before m → (key : Key) → is_table_of_run catalog key.table ≡ true → standing places before key ≡ standing [] (one_store name m) key
+held_here : (catalog : List Table) (name : Name) (places : List Place) (before : List StoreContents) (m : Contents) → HoldAs catalog places before m → (key : Key) → is_table_of_run catalog key.table ≡ true → stored_at places before key ≡ stored_at [] (one_store name m) key
 held_here catalog name places before m h key about = h.at key about ∙ sym (one_standing name m key)
 
 -- the effect of a trace's lone event
@@ -36,17 +33,17 @@ alone_more catalog name places e es before s ss m now effect h rest = record {
   last = rest.last;
   traced = (effect, rest.traced);
   long = ap suc rest.long;
-  stands = at;
+  agrees = at;
 }
   where
-    at : (n : ℕ) (key : Key) → is_table_of_run catalog key.table ≡ true → standing places (moment before (s ∷ ss) n) key ≡ standing [] (moment (one_store name m) (one_store name now ∷ rest.singles) n) key
+    at : (n : ℕ) (key : Key) → is_table_of_run catalog key.table ≡ true → stored_at places (moment before (s ∷ ss) n) key ≡ stored_at [] (moment (one_store name m) (one_store name now ∷ rest.singles) n) key
     at zero = held_here catalog name places before m h
-    at (suc n) = rest.stands n
+    at (suc n) = rest.agrees n
 
 pub alone : (catalog : List Table) (name : Name) (places : List Place) (events : List Event) (before : List StoreContents) (moments : List (List StoreContents)) (closing : List StoreContents) (m : Contents) → IsTrace places events before moments closing → AreAbout catalog events → HoldAs catalog places before m → Alone catalog name places events before moments m
-alone catalog name places [] before [] closing m t about h = record { singles = []; last = one_store name m; traced = refl; long = refl; stands = at }
+alone catalog name places [] before [] closing m t about h = record { singles = []; last = one_store name m; traced = refl; long = refl; agrees = at }
   where
-    at : (n : ℕ) (key : Key) → is_table_of_run catalog key.table ≡ true → standing places (moment before [] n) key ≡ standing [] (moment (one_store name m) [] n) key
+    at : (n : ℕ) (key : Key) → is_table_of_run catalog key.table ≡ true → stored_at places (moment before [] n) key ≡ stored_at [] (moment (one_store name m) [] n) key
     at zero = held_here catalog name places before m h
     at (suc n) = held_here catalog name places before m h
 alone catalog name places [] before (s ∷ ss) closing m t about h = absurd t

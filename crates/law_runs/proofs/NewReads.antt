@@ -2,35 +2,24 @@
 use Rattle.std.proofs.Common.{◌≡◌, ◌⊎◌, inl, inr, ℕ, ℤ, Bool, true, false, cond, List, [], ◌∷◌, ◌++◌, Option, Some, None, IfSome, refl, sym, ap, subst, ◌∙◌}
 use Rattle.std.specs.Prelude.{◌||◌, Contains, filter, is_some, take_while}
 use Rattle.std.specs.List.{AllByRecursion, list_any}
-use Rattle.sdb_types.specs.declared.key.Key.{Key}
-use Rattle.sdb_types.specs.declared.record.Record.{Record}
-use Rattle.sdb_types.specs.declared.record.Reply.{Reply}
-use Rattle.sdb_types.specs.declared.record.Request.{Request}
+use Rattle.law_runs.specs.Types.{Access, Answer, Doing, Event, How, Key, Next, Record, Reply, Request, Statement, Table}
 use Rattle.sdb_types.specs.declared.record.Request.TheVariants as ask
 use Rattle.sdb_types.specs.Order.{same_key}
 use Rattle.sdb_types.proofs.Basics.{all_last, by_test, clash, none_some, or_false, some_is}
-use Rattle.sdb_keyed.specs.Entries.{value_at}
-use Rattle.sdb_record.specs.declared.access.Access.{Access}
+use Rattle.sdb_snapshot.specs.Entries.{value_at}
 use Rattle.sdb_record.specs.declared.access.Access.TheVariants as access
-use Rattle.sdb_schema.specs.declared.table.Table.{Table}
-use Rattle.sdb_model.specs.declared.answer.Answer.{Answer}
-use Rattle.sdb_model.specs.declared.event.Event.{Event}
 use Rattle.sdb_model.specs.declared.event.Event.TheVariants as event
-use Rattle.sdb_model.specs.declared.event.How.{How}
-use Rattle.sdb_model.specs.declared.statement.Statement.{Statement}
 use Rattle.sdb_model.specs.Calls.{StoreCall, calls_of}
 use Rattle.sdb_model.specs.ReadSet.{reads_rows}
 use Rattle.sdb_model.specs.Rows.{Name}
 use Rattle.sdb_model.specs.Sql.{reads_commit}
 use Rattle.sdb_model.specs.Transactions.{Executed, ends, from_begin, rest_of}
-use Rattle.sdb_read.specs.Read.{Asking, Ended, ReadStage, Resolving, read_pending_at, request_of}
+use Rattle.sdb_txn.specs.Read.{Asking, Ended, ReadStage, Resolving, read_pending_at, request_of}
 use Rattle.sdb_snapshot.specs.Seen.{Seen}
 use Rattle.sdb_txn.specs.declared.progress.Progress.TheVariants as progress
-use Rattle.sdb_txn.specs.declared.txn.Doing.{Doing}
 use Rattle.sdb_txn.specs.declared.txn.Doing.TheVariants as doing
 use Rattle.sdb_txn.specs.Txn.{IsCommitting, TxnAt}
-use Rattle.sdb_commit.specs.Phases.{CommitAt}
-use Rattle.sdb_client.specs.declared.next.Next.{Next}
+use Rattle.sdb_txn.specs.Phases.{CommitAt}
 use Rattle.sdb_client.specs.declared.next.Next.TheVariants as next
 use Rattle.sdb_client.specs.Client.{ClientAt, IsIdle, Taking, after, is_covered, next_id, next_of, TextStep}
 use Rattle.law_clients.specs.History.{executed_with_answer, executed_of_take}
@@ -201,12 +190,12 @@ module _ (catalog : List Table) (events : List Event) (c : ℕ) (h d : ClientAt)
     call_new None (inr (inl z)) =
         let again : z.next ≡ next.Call = calls_again z.next z.answer in
         let left : d.txn ≡ Some z.u = ap (λ (y : ClientAt). y.txn) (z.left ∙ ap (λ (n : Next). after h n z.u) again) in
-        subst (λ (o : Option TxnAt). TxnNew o (calls_of (E None) c x)) (sym (left ∙ ap Some (reads_again z.t z.p z.access z.x r now z.next z.u z.told again)))
-        (subst (λ (ms : List StoreCall). (is_covered z.t.seen z.access ≡ false) × ReadsAccess z.access ms) (sym (calls_more events c store q how r x waits.unanswered waits.taken None)) (access_more None z))
+        subst (λ (o : Option TxnAt). TxnNew o (calls_of (E None) c x)) (sym (left ∙ ap Some (reads_again z.t z.p z.access z.x r now z.next z.u z.answered again)))
+        (subst (λ (ms : List StoreCall). (is_covered z.t.seen z.access ≡ false) × ReadsAccess z.access ms) (sym (calls_more events c store q how r x waits.unanswered waits.accepted None)) (access_more None z))
     call_new None (inr (inr z)) =
         let further : z.progress ≡ progress.More = goes_further z.progress z.answer in
         let left : d.txn ≡ Some z.u = ap (λ (y : ClientAt). y.txn) (z.left ∙ ap (λ p. after h (next_of p) z.u) further) in
-        subst (λ (o : Option TxnAt). TxnNew o (calls_of (E None) c x)) (sym left) (commits_new z.u.seen z.u.doing _ (calls_of (E None) c x) (z.told.next further))
+        subst (λ (o : Option TxnAt). TxnNew o (calls_of (E None) c x)) (sym left) (commits_new z.u.seen z.u.doing _ (calls_of (E None) c x) (z.answered.next further))
 
 -- So it stays by each step.
 pub new_kept : AreKept NothingMore WaitNew
@@ -214,7 +203,7 @@ new_kept = record {
   answered = λ catalog events e c s past so. tt;
   waiting = λ catalog events e c s h still so. subst (TxnNew h.txn) (sym still.calls) so;
   takes = λ w u c text a t h. take_new (record { catalog = w.script.catalog; now = w.clock; gate = t.gate; fresh = next_id t.client_slot.client }) text t.client_slot.client t.client a w.events c t.idle t.takes;
-  calls = λ w u c store q how r a t h k x waiting waits so. call_new w.script.catalog w.events c t.client_slot.client t.client store q how r w.clock k.told x so waits a
+  calls = λ w u c store q how r a t h k x waiting waits so. call_new w.script.catalog w.events c t.client_slot.client t.client store q how r w.clock k.answered x so waits a
       (call_of w.script.catalog w.events c t.client_slot.client k x waiting q r w.clock a t.client t.pending (h.world.each t.place t.client_slot t.at).fitted t.takes);
 }
 
@@ -223,18 +212,18 @@ pub access_new : (catalog : List Table) (events : List Event) (c : ℕ) (ss : Li
 access_new catalog events c ss s a z runs uncovered all no_commit m among reads = subst (IsNewRead events c ss) (sym (each_in (λ (y : StoreCall). reads_rows y ≡ true → y.request ≡ request_of a) (calls_of events c z) m all among reads)) (new_of catalog events c ss s a runs uncovered)
 
 -- a statement that is answered by a call
-pub answered_new : (catalog : List Table) (events : List Event) (c : ℕ) (h d : ClientAt) (k : Knows catalog events c h) (runs : ClientRuns catalog events c h) (store : Name) (q : Request) (how : How) (r : Reply) (now : ℤ) (x : Executed) (b : Answer) → IsWaiting catalog events c (is_some h.vacuum) x → WaitNew catalog events c x h → CallOf catalog events c k.told x h q r now (Some b) d
-    → open_after k.told ≡ true → StatementNew (events ++ event.Call c store q how r (Some b) ∷ []) c (running_of (events ++ event.Call c store q how r (Some b) ∷ []) c (begun_in k.told) k.told) (executed_with_answer events x b)
+pub answered_new : (catalog : List Table) (events : List Event) (c : ℕ) (h d : ClientAt) (k : Knows catalog events c h) (runs : ClientRuns catalog events c h) (store : Name) (q : Request) (how : How) (r : Reply) (now : ℤ) (x : Executed) (b : Answer) → IsWaiting catalog events c (is_some h.vacuum) x → WaitNew catalog events c x h → CallOf catalog events c k.answered x h q r now (Some b) d
+    → open_after k.answered ≡ true → StatementNew (events ++ event.Call c store q how r (Some b) ∷ []) c (running_of (events ++ event.Call c store q how r (Some b) ∷ []) c (begun_in k.answered) k.answered) (executed_with_answer events x b)
 answered_new catalog events c h d k runs store q how r now x b waits so (inl z) opened = clash (sym opened ∙ closed catalog events c h k runs (event.Call c store q how r (Some b)) z.rests)
 answered_new catalog events c h d k runs store q how r now x b waits so (inr (inr z)) opened = λ no_commit. clash (sym z.is.text ∙ no_commit)
 answered_new catalog events c h d k runs store q how r now x b waits so (inr (inl z)) opened =
     let e : Event = event.Call c store q how r (Some b) in
-    let more = access_more catalog events c h d store q how r now k.told x so (Some b) z in
-    subst (λ n. StatementNew (events ++ e ∷ []) c (running_of (events ++ e ∷ []) c n k.told) (executed_with_answer events x b)) k.begun
-    (access_new catalog (events ++ e ∷ []) c (running_of (events ++ e ∷ []) c h.begun k.told) z.t.seen z.access (executed_with_answer events x b)
-    (subst (SeesIn catalog (events ++ e ∷ []) c (running_of (events ++ e ∷ []) c h.begun k.told) z.t.seen) z.reads (sees_open catalog events c h k runs e z.t z.opened z.free)) more.0
-    (subst (ReadsAccess z.access) (sym (calls_more events c store q how r x waits.unanswered waits.taken (Some b))) more.1))
+    let more = access_more catalog events c h d store q how r now k.answered x so (Some b) z in
+    subst (λ n. StatementNew (events ++ e ∷ []) c (running_of (events ++ e ∷ []) c n k.answered) (executed_with_answer events x b)) k.begun
+    (access_new catalog (events ++ e ∷ []) c (running_of (events ++ e ∷ []) c h.begun k.answered) z.t.seen z.access (executed_with_answer events x b)
+    (subst (SeesIn catalog (events ++ e ∷ []) c (running_of (events ++ e ∷ []) c h.begun k.answered) z.t.seen) z.reads (sees_open catalog events c h k runs e z.t z.opened z.free)) more.0
+    (subst (ReadsAccess z.access) (sym (calls_more events c store q how r x waits.unanswered waits.accepted (Some b))) more.1))
 
--- one that is answered as it is taken
+-- one that is answered as it is accepted
 pub taken_new : (events : List Event) (c : ℕ) (text : List ℕ) (a : Option Answer) (ss : List Executed) → StatementNew (events ++ event.Take c text a ∷ []) c ss (executed_of_take events text a)
 taken_new events c text a ss no_commit m among reads = none_in m (subst (λ (ms : List StoreCall). Contains ms m) (none_yet c events text a) among)

@@ -5,15 +5,11 @@ use Rattle.std.specs.List.{AllByRecursion}
 use Rattle.std.proofs.lemmas.List.{append-nil}
 use Rattle.std.proofs.lemmas.List.Elements.{Contains-push, filter-append}
 use Rattle.sdb_types.proofs.Basics.{clash}
-use Rattle.sdb_schema.specs.declared.table.Table.{Table}
-use Rattle.sdb_model.specs.declared.answer.Answer.{Answer}
-use Rattle.sdb_model.specs.declared.event.Event.{Event}
+use Rattle.law_runs.specs.Types.{Answer, Doing, Event, Script, Table}
 use Rattle.sdb_model.specs.declared.event.Event.TheVariants as event
-use Rattle.sdb_model.specs.declared.script.Script.{Script}
 use Rattle.sdb_model.specs.Calls.{calls_of}
 use Rattle.sdb_model.specs.Transactions.{Executed, client_of, ends, from_begin, ordinal_of, rest_of, statements_by, through_end}
 use Rattle.sdb_exec.specs.Plans.{Planned}
-use Rattle.sdb_txn.specs.declared.txn.Doing.{Doing}
 use Rattle.sdb_txn.specs.declared.txn.Doing.TheVariants as doing
 use Rattle.sdb_txn.specs.Txn.{TxnAt}
 use Rattle.sdb_vacuum.specs.Vacuum.{VacuumAt}
@@ -25,7 +21,7 @@ use Rattle.law_clients.proofs.Tellings.{others_silent, said_more}
 use Rattle.law_answers.specs.Invariant.{IsAnswered, IsDoing, IsWaiting, Knows, DoingByHistory, ClientByHistory, begun_in, open_after}
 use Rattle.law_answers.proofs.Calls.{call_said, silent_said}
 use Rattle.law_answers.proofs.Noting.{take_open}
-use Rattle.sdb_execution.specs.Execution.{IsExecution, IsPath, IsPlayable, IsStepFrom, State}
+use Rattle.sdb_client.specs.Execution.{IsExecution, IsPath, IsPlayable, IsStepFrom, State}
 use Rattle.law_runs.specs.Found.{IsNewRead, ReadsAreNew, is_answered, takes_part}
 use Rattle.law_runs.specs.World.{WorldAt, states_of, state_of}
 use Rattle.law_runs.proofs.OngoingReads.{NothingMore}
@@ -52,14 +48,14 @@ rests_new : (catalog : List Table) (events : List Event) (e : Event) (c : ℕ) (
 rests_new catalog events e c h k says new = subst (AllNew (events ++ e ∷ []) c) (sym (ap (filter is_answered) says)) (all_stay catalog events e c (answered_of c events) (answered_each catalog events c h k) new)
 
 -- where a statement is answered
-ends_new : (catalog : List Table) (events : List Event) (e : Event) (c : ℕ) (h : ClientAt) (k : Knows catalog events c h) (z : Executed) → answered_of c (events ++ e ∷ []) ≡ k.told ++ z ∷ [] → AllNew events c (answered_of c events) → (open_after k.told ≡ true → StatementNew (events ++ e ∷ []) c (running_of (events ++ e ∷ []) c (begun_in k.told) k.told) z)
+ends_new : (catalog : List Table) (events : List Event) (e : Event) (c : ℕ) (h : ClientAt) (k : Knows catalog events c h) (z : Executed) → answered_of c (events ++ e ∷ []) ≡ k.answered ++ z ∷ [] → AllNew events c (answered_of c events) → (open_after k.answered ≡ true → StatementNew (events ++ e ∷ []) c (running_of (events ++ e ∷ []) c (begun_in k.answered) k.answered) z)
     → AllNew (events ++ e ∷ []) c (answered_of c (events ++ e ∷ []))
-ends_new catalog events e c h k z same new last = subst (AllNew (events ++ e ∷ []) c) (sym same) (all_more (events ++ e ∷ []) c k.told z k.counted.paired (all_stay catalog events e c k.told k.answered (subst (AllNew events c) (answered_of_is catalog events c h k) new)) last)
+ends_new catalog events e c h k z same new last = subst (AllNew (events ++ e ∷ []) c) (sym same) (all_more (events ++ e ∷ []) c k.answered z k.counted.paired (all_stay catalog events e c k.answered k.answered (subst (AllNew events c) (answered_of_is catalog events c h k) new)) last)
 
 -- what a statement that waits reads
 wait_new : (w : WorldAt) → AllSo NothingMore WaitNew w → (c : ℕ) (d : ClientAt) → (states_of w.client_slots c).client ≡ d → (k : Knows w.script.catalog w.events c d) (x : Executed) → k.waiting ≡ Some x → IsWaiting w.script.catalog w.events c (is_some d.vacuum) x → WaitNew w.script.catalog w.events c x d
 wait_new w so c d here k x waiting waits =
-    let among : Contains (statements_by c w.events) x = subst (λ (ss : List Executed). Contains ss x) (sym (k.same ∙ ap (λ (o : Option Executed). k.told ++ waiting_of o) waiting)) (Contains-push k.told x) in
+    let among : Contains (statements_by c w.events) x = subst (λ (ss : List Executed). Contains ss x) (sym (k.same ∙ ap (λ (o : Option Executed). k.answered ++ waiting_of o) waiting)) (Contains-push k.answered x) in
     subst (WaitNew w.script.catalog w.events c x) here
     (subst (λ (o : Option Answer). SoOver NothingMore WaitNew w.script.catalog w.events c x (states_of w.client_slots c).client o) waits.unanswered (so c x among))
 
@@ -85,7 +81,7 @@ module _ (w : WorldAt) (h : Holds w) (all : AllRun w) (so : AllSo NothingMore Wa
       by None e = subst (AllNew (w.events ++ event.Take c text None ∷ []) c) (sym (now None ∙ append-nil (answered_of c w.events))) (all_stay catalog w.events (event.Take c text None) c (answered_of c w.events) (answered_each catalog w.events c (states_of w.client_slots c).client k) (new c))
       by (Some b) e =
           ends_new catalog w.events (event.Take c text (Some b)) c (states_of w.client_slots c).client k (executed_of_take w.events text (Some b)) (now (Some b) ∙ ap (λ ss. ss ++ executed_of_take w.events text (Some b) ∷ []) (answered_of_is catalog w.events c (states_of w.client_slots c).client k)) (new c)
-          (λ opened. taken_new w.events c text (Some b) (running_of (w.events ++ event.Take c text (Some b) ∷ []) c (begun_in k.told) k.told))
+          (λ opened. taken_new w.events c text (Some b) (running_of (w.events ++ event.Take c text (Some b) ∷ []) c (begun_in k.answered) k.answered))
 
   step_new : (e : Event) (u : State) → IsStepFrom w.script (state_of w) e u → AllReadNew (led w e u)
   step_new (event.Take c text a) u t n = by_nat c n (λ same. subst (λ (x : ℕ). AllNew (w.events ++ event.Take c text a ∷ []) x (answered_of x (w.events ++ event.Take c text a ∷ []))) same (take_step c text a)) (λ apart. others_new (event.Take c text a) n (others_silent w.events n c (event.Take c text a) apart refl))
@@ -94,11 +90,11 @@ module _ (w : WorldAt) (h : Holds w) (all : AllRun w) (so : AllSo NothingMore Wa
   step_new (event.Idle d) u t n = others_new (event.Idle d) n (said_more n w.events (event.Idle d))
   step_new (event.Call c store q how r a) u t n = by_nat c n (λ same. subst (λ (x : ℕ). AllNew (w.events ++ event.Call c store q how r a ∷ []) x (answered_of x (w.events ++ event.Call c store q how r a ∷ []))) same (by a refl)) (λ apart. others_new (event.Call c store q how r a) n (others_silent w.events n c (event.Call c store q how r a) apart refl))
     where
-      hand : states_of w.client_slots c ≡ record { client = t.client_slot.client; stopped = t.client_slot.stopped }
-      hand = hand_at w.client_slots t.place c t.client_slot t.number t.at
+      next_state : states_of w.client_slots c ≡ record { client = t.client_slot.client; stopped = t.client_slot.stopped }
+      next_state = hand_at w.client_slots t.place c t.client_slot t.number t.at
 
       k : Knows catalog w.events c t.client_slot.client
-      k = subst (λ (y : ClientState). Knows catalog w.events c y.client) hand (h.caused.each c)
+      k = subst (λ (y : ClientState). Knows catalog w.events c y.client) next_state (h.caused.each c)
 
       x : (y : Executed) × (k.waiting ≡ Some y)
       x = pends_waits catalog w.events c t.client_slot.client q k t.pending
@@ -110,9 +106,9 @@ module _ (w : WorldAt) (h : Holds w) (all : AllRun w) (so : AllSo NothingMore Wa
       by None e = rests_new catalog w.events (event.Call c store q how r None) c t.client_slot.client k (silent_said c w.events store q how r) (new c)
       by (Some b) e =
           ends_new catalog w.events (event.Call c store q how r (Some b)) c t.client_slot.client k (executed_with_answer w.events x.0 b)
-          (ap (filter is_answered) (call_said c w.events store q how r b k.told x.0 (k.same ∙ ap (λ (o : Option Executed). k.told ++ waiting_of o) x.1)) ∙ filter-append is_answered k.told (executed_with_answer w.events x.0 b ∷ []) ∙ ap (λ ss. ss ++ executed_with_answer w.events x.0 b ∷ []) (all_answered catalog w.events c k.told k.answered)) (new c)
-          (answered_new catalog w.events c t.client_slot.client t.client k (subst (λ (y : ClientState). ClientRuns catalog w.events c y.client) hand (all c)) store q how r w.clock x.0 b waits (wait_new w so c t.client_slot.client (ap (λ (y : ClientState). y.client) hand) k x.0 x.1 waits)
-          (subst (λ (o : Option Answer). CallOf catalog w.events c k.told x.0 t.client_slot.client q r w.clock o t.client) e (call_of catalog w.events c t.client_slot.client k x.0 x.1 q r w.clock a t.client t.pending (h.world.each t.place t.client_slot t.at).fitted t.takes)))
+          (ap (filter is_answered) (call_said c w.events store q how r b k.answered x.0 (k.same ∙ ap (λ (o : Option Executed). k.answered ++ waiting_of o) x.1)) ∙ filter-append is_answered k.answered (executed_with_answer w.events x.0 b ∷ []) ∙ ap (λ ss. ss ++ executed_with_answer w.events x.0 b ∷ []) (all_answered catalog w.events c k.answered k.answered)) (new c)
+          (answered_new catalog w.events c t.client_slot.client t.client k (subst (λ (y : ClientState). ClientRuns catalog w.events c y.client) next_state (all c)) store q how r w.clock x.0 b waits (wait_new w so c t.client_slot.client (ap (λ (y : ClientState). y.client) next_state) k x.0 x.1 waits)
+          (subst (λ (o : Option Answer). CallOf catalog w.events c k.answered x.0 t.client_slot.client q r w.clock o t.client) e (call_of catalog w.events c t.client_slot.client k x.0 x.1 q r w.clock a t.client t.pending (h.world.each t.place t.client_slot t.at).fitted t.takes)))
 
 ---- a whole execution
 
@@ -178,30 +174,30 @@ module _ (script : Script) (events : List Event) (playable : IsPlayable script) 
     k = (execution_holds script events playable x).caused.each c
 
     -- the statement that waits reads new
-    waiting_new : (w : Executed) → k.waiting ≡ Some w → IsWaiting script.catalog events c (is_some h.vacuum) w → open_after k.told ≡ true → StatementNew events c (running_of events c (begun_in k.told) k.told) w
-    waiting_new w waiting waits opened = by_vacuum h.vacuum (subst (λ (o : Option Executed). ClientByHistory events c h.begun k.told o h.plan h.txn h.vacuum) waiting k.stands)
+    waiting_new : (w : Executed) → k.waiting ≡ Some w → IsWaiting script.catalog events c (is_some h.vacuum) w → open_after k.answered ≡ true → StatementNew events c (running_of events c (begun_in k.answered) k.answered) w
+    waiting_new w waiting waits opened = by_vacuum h.vacuum (subst (λ (o : Option Executed). ClientByHistory events c h.begun k.answered o h.plan h.txn h.vacuum) waiting k.agrees)
       where
         so : TxnNew h.txn (calls_of events c w)
         so = wait_new (record { script = script; client_slots = x.last.client_slots; events = events; clock = x.last.clock }) (statements_so NothingMore WaitNew new_kept script events playable x) c h refl k w waiting waits
 
-        sees : IfSome h.txn (SeesRun script.catalog events c (running_of events c h.begun k.told))
+        sees : IfSome h.txn (SeesRun script.catalog events c (running_of events c h.begun k.answered))
         sees = subst (λ ss. IfSome h.txn (SeesRun script.catalog events c (running_of events c h.begun ss))) (answered_of_is script.catalog events c h k) (all_run script events playable x c).sees
 
-        by_doing : (t : TxnAt) (p : Option Planned) (d : Doing) → IsDoing events c t p (Some w) d → DoingNew t.seen d (calls_of events c w) → SeesIn script.catalog events c (running_of events c h.begun k.told) t.seen d → StatementNew events c (running_of events c (begun_in k.told) k.told) w
+        by_doing : (t : TxnAt) (p : Option Planned) (d : Doing) → IsDoing events c t p (Some w) d → DoingNew t.seen d (calls_of events c w) → SeesIn script.catalog events c (running_of events c h.begun k.answered) t.seen d → StatementNew events c (running_of events c (begun_in k.answered) k.answered) w
         by_doing t p doing.Idle i n s = absurd (none_is (sym i))
           where
             none_is : ◌≡◌ {A = Option Executed} None (Some w) → ⊥
             none_is e = cc
         by_doing t None (doing.Read a y) i n s = absurd i
-        by_doing t (Some p) (doing.Read a y) i n s = subst (λ m. StatementNew events c (running_of events c m k.told) w) k.begun (access_new script.catalog events c (running_of events c h.begun k.told) t.seen a w s n.0 n.1)
+        by_doing t (Some p) (doing.Read a y) i n s = subst (λ m. StatementNew events c (running_of events c m k.answered) w) k.begun (access_new script.catalog events c (running_of events c h.begun k.answered) t.seen a w s n.0 n.1)
         by_doing t p (doing.Commit y) i n s = λ no_commit. clash (sym i.text ∙ no_commit)
         by_doing t p doing.Over i n s = absurd i
 
-        by_txn : (o : Option TxnAt) → DoingByHistory events c h.begun k.told (Some w) h.plan o → TxnNew o (calls_of events c w) → IfSome o (SeesRun script.catalog events c (running_of events c h.begun k.told)) → StatementNew events c (running_of events c (begun_in k.told) k.told) w
+        by_txn : (o : Option TxnAt) → DoingByHistory events c h.begun k.answered (Some w) h.plan o → TxnNew o (calls_of events c w) → IfSome o (SeesRun script.catalog events c (running_of events c h.begun k.answered)) → StatementNew events c (running_of events c (begun_in k.answered) k.answered) w
         by_txn None s n v = clash (sym opened ∙ s.1)
         by_txn (Some t) s n v = by_doing t h.plan t.doing s.2 n v
 
-        by_vacuum : (v : Option VacuumAt) → ClientByHistory events c h.begun k.told (Some w) h.plan h.txn v → StatementNew events c (running_of events c (begun_in k.told) k.told) w
+        by_vacuum : (v : Option VacuumAt) → ClientByHistory events c h.begun k.answered (Some w) h.plan h.txn v → StatementNew events c (running_of events c (begun_in k.answered) k.answered) w
         by_vacuum None s = by_txn h.txn s so sees
         by_vacuum (Some v) s = clash (sym opened ∙ s.1)
 
@@ -209,12 +205,12 @@ module _ (script : Script) (events : List Event) (playable : IsPlayable script) 
     each_new : AllNew events c (statements_by c events)
     each_new = subst (AllNew events c) (sym k.same) (by k.waiting refl k.waits)
       where
-        before : AllNew events c k.told
+        before : AllNew events c k.answered
         before = subst (AllNew events c) (answered_of_is script.catalog events c h k) (all_new c)
 
-        by : (o : Option Executed) → k.waiting ≡ o → IfSome o (IsWaiting script.catalog events c (is_some h.vacuum)) → AllNew events c (k.told ++ waiting_of o)
-        by None e w = subst (AllNew events c) (sym (append-nil k.told)) before
-        by (Some y) e w = all_more events c k.told y k.counted.paired before (waiting_new y e w)
+        by : (o : Option Executed) → k.waiting ≡ o → IfSome o (IsWaiting script.catalog events c (is_some h.vacuum)) → AllNew events c (k.answered ++ waiting_of o)
+        by None e w = subst (AllNew events c) (sym (append-nil k.answered)) before
+        by (Some y) e w = all_more events c k.answered y k.counted.paired before (waiting_new y e w)
 
   -- The reads of each transaction are new.
   pub execution_new : ReadsAreNew events

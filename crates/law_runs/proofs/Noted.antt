@@ -4,18 +4,13 @@ use Rattle.std.specs.Prelude.{◌==◌, ◌&&◌, filter, find, if◌then◌else
 use Rattle.std.specs.List.{cons_option, enumerate_from, filter_map, flat_map, list_all}
 use Rattle.std.specs.Option.{option_and_then, option_map, option_map_or}
 use Rattle.std.proofs.lemmas.List.{length-map}
-use Rattle.sdb_types.specs.declared.txid.TxId.{TxId}
-use Rattle.sdb_types.specs.declared.record.Record.{Record}
-use Rattle.sdb_types.specs.declared.record.Reply.{Reply}
+use Rattle.law_runs.specs.Types.{Answer, Event, Record, Reply, Request, TxId}
 use Rattle.sdb_types.specs.declared.record.Reply.TheVariants as reply
-use Rattle.sdb_types.specs.declared.record.Request.{Request}
 use Rattle.sdb_types.specs.declared.record.Request.TheVariants as ask
 use Rattle.sdb_types.specs.declared.record.State.TheVariants as state
 use Rattle.sdb_record.specs.Coordinator.{is_coordinator_table}
 use Rattle.sdb_record.specs.Meta.{is_in, is_transactional}
-use Rattle.sdb_model.specs.declared.answer.Answer.{Answer}
 use Rattle.sdb_model.specs.declared.answer.Answer.TheVariants as answer
-use Rattle.sdb_model.specs.declared.event.Event.{Event}
 use Rattle.sdb_model.specs.declared.event.Event.TheVariants as event
 use Rattle.sdb_model.specs.Calls.{StoreCall, calls_by, calls_of, end_of, made_by, put_by, records_read}
 use Rattle.sdb_model.specs.Events.{table_asked}
@@ -82,9 +77,9 @@ module _ (at : Name → Name) where
 
   of_moved : (events : List Event) (c : ℕ) (s : Executed) → calls_of (relocated_events at events) c s ≡ map moved_made (calls_of events c s)
   of_moved events c s =
-      ap (λ n. filter (λ m. nat_lt s.taken m.at && nat_le m.at n) (calls_by (relocated_events at events) c)) (end_moved events s)
-      ∙ ap (filter (λ m. nat_lt s.taken m.at && nat_le m.at (end_of events s))) (calls_from c 1 events)
-      ∙ kept_moved (λ m. nat_lt s.taken m.at && nat_le m.at (end_of events s)) (λ m. refl) (calls_by events c)
+      ap (λ n. filter (λ m. nat_lt s.accepted m.at && nat_le m.at n) (calls_by (relocated_events at events) c)) (end_moved events s)
+      ∙ ap (filter (λ m. nat_lt s.accepted m.at && nat_le m.at (end_of events s))) (calls_from c 1 events)
+      ∙ kept_moved (λ m. nat_lt s.accepted m.at && nat_le m.at (end_of events s)) (λ m. refl) (calls_by events c)
 
   put_moved : (ms : List StoreCall) (r : Record) → option_and_then (λ m. put_by m.request) (find (rolls r) (map moved_made ms)) ≡ option_and_then (λ m. put_by m.request) (find (rolls r) ms)
   put_moved [] r = refl

@@ -2,18 +2,10 @@
 use Rattle.std.proofs.Common.{◌≡◌, ℕ, Bool, true, List, [], Option, Some, sym, subst, ◌∙◌}
 use Rattle.std.specs.Prelude.{IsSome, IsSomeAnd, is_some}
 use Rattle.std.specs.FinMap.{empty}
-use Rattle.sdb_types.specs.declared.key.Key.{Key}
-use Rattle.sdb_types.specs.declared.key.TableName.{TableName}
-use Rattle.sdb_types.specs.declared.record.Record.{Record}
-use Rattle.sdb_types.specs.declared.txid.TxId.{TxId}
-use Rattle.sdb_record.specs.declared.coordinator.Decided.{Decided}
+use Rattle.law_runs.specs.Types.{Decided, Event, Key, Record, Script, Statement, Table, TableName, TxId}
 use Rattle.sdb_record.specs.declared.coordinator.Decision.TheVariants as decision
 use Rattle.sdb_record.specs.Coordinator.{is_coordinator_table}
-use Rattle.sdb_schema.specs.declared.table.Table.{Table}
-use Rattle.sdb_model.specs.declared.event.Event.{Event}
-use Rattle.sdb_model.specs.declared.script.Script.{Script}
-use Rattle.sdb_model.specs.declared.statement.Statement.{Statement}
-use Rattle.sdb_model.specs.Events.{StoreContents, standing}
+use Rattle.sdb_model.specs.Events.{StoreContents, stored_at}
 use Rattle.sdb_model.specs.Exec.{Tables, find_table}
 use Rattle.sdb_model.specs.Rows.{Name}
 use Rattle.sdb_model.specs.Transactions.{Recorded}
@@ -52,18 +44,18 @@ module _ (script : Script) (name : Name) (fit : Tables → Bool) (events : List 
   points_on_stores =
       let h = have_points [] moved (one_store name empty) (one_store name one.last) laws in
       record {
-        taken = λ id small r. subst IsSome (commit_moved (λ ns. name) events id) (h.taken id small (recorded_there id r));
+        accepted = λ id small r. subst IsSome (commit_moved (λ ns. name) events id) (h.accepted id small (recorded_there id r));
         some = λ id small r none. h.some id small (recorded_there id r) (point_moved (λ ns. name) events id ∙ none);
         apart = λ id other small low r q differ same. h.apart id other small low (recorded_there id r) (recorded_there other q) differ (point_moved (λ ns. name) events id ∙ same ∙ sym (point_moved (λ ns. name) events other));
       }
 
-  stands_there : (k : Key) (r : Record) → is_table_of_run script.catalog k.table ≡ true → standing script.places closing k ≡ Some r → standing [] (one_store name one.last) k ≡ Some r
+  stands_there : (k : Key) (r : Record) → is_table_of_run script.catalog k.table ≡ true → stored_at script.places closing k ≡ Some r → stored_at [] (one_store name one.last) k ≡ Some r
   stands_there k r about h = one_standing name one.last k ∙ sym (one.same.at k about) ∙ h
 
   pub sound_on_stores : AreSound script.catalog script.places closing
   sound_on_stores =
       let h = are_known [] moved (one_store name empty) (one_store name one.last) laws in
       record {
-        taken = λ k r about of_data stands. h.taken k r of_data (stands_there k r about stands);
-        rows = λ k row of_rows stands. h.rows k row of_rows (stands_there k row (rows_played script.catalog k.table of_rows) stands);
+        accepted = λ k r about of_data agrees. h.accepted k r of_data (stands_there k r about agrees);
+        rows = λ k row of_rows agrees. h.rows k row of_rows (stands_there k row (rows_played script.catalog k.table of_rows) agrees);
       }

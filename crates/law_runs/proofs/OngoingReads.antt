@@ -1,18 +1,13 @@
 -- A statement's read that goes on.
 use Rattle.std.proofs.Common.{◌≡◌, ℕ, ℤ, List, sym, subst, ◌∙◌}
-use Rattle.sdb_types.specs.declared.record.Reply.{Reply}
-use Rattle.sdb_record.specs.declared.access.Access.{Access}
-use Rattle.sdb_schema.specs.declared.table.Table.{Table}
+use Rattle.law_runs.specs.Types.{Access, Event, Next, ReadStep, Reply, Table}
 use Rattle.sdb_model.specs.declared.answer.Answer.TheVariants as answer
-use Rattle.sdb_model.specs.declared.event.Event.{Event}
 use Rattle.sdb_model.specs.Transactions.{Executed}
 use Rattle.sdb_exec.specs.Plans.{Planned}
-use Rattle.sdb_read.specs.declared.read.ReadStep.{ReadStep}
-use Rattle.sdb_read.specs.declared.read.ReadStep.TheVariants as step
-use Rattle.sdb_read.specs.Read.{ReadAt, read_result, read_step}
+use Rattle.sdb_txn.specs.declared.read.ReadStep.TheVariants as step
+use Rattle.sdb_txn.specs.Read.{ReadAt, read_result, read_step}
 use Rattle.sdb_txn.specs.declared.txn.Doing.TheVariants as doing
 use Rattle.sdb_txn.specs.Txn.{TxnAt}
-use Rattle.sdb_client.specs.declared.next.Next.{Next}
 use Rattle.sdb_client.specs.declared.next.Next.TheVariants as next
 use Rattle.sdb_client.specs.Client.{CallPost, StagePost}
 
@@ -22,7 +17,7 @@ NothingMore catalog events c s = Unit {0}
 
 -- a read that goes on
 pub reads_again : (t : TxnAt) (p : Planned) (a : Access) (x : ReadAt) (r : Reply) (now : ℤ) (n : Next) (u : TxnAt) → CallPost t p a x r now n u → n ≡ next.Call → u ≡ record t { doing = doing.Read a (record x { stage = read_step x.stage now r }) }
-reads_again t p a x r now n u leads e = by (read_result (read_step x.stage now r)) (subst (λ (m : Next). StagePost t p a x (read_step x.stage now r) (read_result (read_step x.stage now r)) m u) e (leads.told (λ k. other (sym e ∙ k))))
+reads_again t p a x r now n u leads e = by (read_result (read_step x.stage now r)) (subst (λ (m : Next). StagePost t p a x (read_step x.stage now r) (read_result (read_step x.stage now r)) m u) e (leads.answered (λ k. other (sym e ∙ k))))
   where
     other : next.Call ≡ next.Answer answer.NoMemory → ⊥
     other k = cc

@@ -3,10 +3,7 @@ use Rattle.std.proofs.Common.{◌≡◌, ◌≢◌, ℕ, zero, suc, ◌<◌, ◌
 use Rattle.std.specs.Prelude.{◌↔◌, ◌==◌, All, Contains, IsSome, slice_index_or}
 use Rattle.std.proofs.lemmas.Bool.Decides.{nat_tests}
 use Rattle.std.proofs.lemmas.List.Elements.{All-contains, All-contains_itself, All-weaker}
-use Rattle.sdb_types.specs.declared.txid.TxId.{TxId}
-use Rattle.sdb_model.specs.declared.event.Event.{Event}
-use Rattle.sdb_model.specs.declared.event.Point.{Point}
-use Rattle.sdb_types.specs.declared.place.Place.{Place}
+use Rattle.law_runs.specs.Types.{Event, Place, Point, TxId}
 use Rattle.sdb_model.specs.Events.{StoreContents}
 use Rattle.sdb_model.specs.Transactions.{IsOrder, Recorded, commit_of, ArePointsApart}
 use Rattle.law_runs.specs.Order.{HasRisen}
@@ -48,7 +45,7 @@ is_order places events closing recorded order fits are have risen = record {
   recorded = λ id small. (λ c. of_recorded id (risen.among id c).0, λ r. risen.whole apart id ((are id small).1 r) (have.some id small r));
   points = risen.points;
   rising = risen.rising;
-  taken = of_points (λ id. IsSome (commit_of events id)) order (λ id c. let among = (risen.among id c).0 in have.taken id (small_of id among) (of_recorded id among));
+  accepted = of_points (λ id. IsSome (commit_of events id)) order (λ id c. let among = (risen.among id c).0 in have.accepted id (small_of id among) (of_recorded id among));
 }
   where
     small_of : (id : TxId) → Contains recorded id → id.0 < 2 ^ 128

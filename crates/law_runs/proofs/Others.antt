@@ -1,14 +1,8 @@
 -- In the coordinator's table records are at the keys of transactions' rows alone.
 use Rattle.std.proofs.Common.{◌≡◌, ◌≢◌, ℕ, ◌<◌, ◌^◌, Bool, true, false, List, [], ◌∷◌, Option, Some, None, ◌⊎◌, inl, inr, refl, sym, ap, subst, ◌∙◌}
 use Rattle.std.specs.Prelude.{◌&&◌, if◌then◌else◌}
-use Rattle.sdb_types.specs.declared.key.Key.{Key}
-use Rattle.sdb_types.specs.declared.pair.Pair.{Pair}
-use Rattle.sdb_types.specs.declared.txid.TxId.{TxId}
-use Rattle.sdb_types.specs.declared.record.Record.{Record}
-use Rattle.sdb_types.specs.declared.record.State.{State}
-use Rattle.sdb_types.specs.declared.record.Request.{Request}
+use Rattle.law_runs.specs.Types.{Event, Key, Pair, Place, Record, Reply, Request, State, TxId}
 use Rattle.sdb_types.specs.declared.record.Request.TheVariants as ask
-use Rattle.sdb_types.specs.declared.record.Reply.{Reply}
 use Rattle.sdb_types.specs.Contents.{Contents, after, holds, record_at}
 use Rattle.sdb_types.specs.Order.{same_key}
 use Rattle.sdb_types.proofs.Keys.{same_key_tells}
@@ -20,10 +14,8 @@ use Rattle.sdb_record.proofs.ImageLaws.{row-key}
 use Rattle.sdb_record.proofs.RollLaws.{forward-key}
 use Rattle.sdb_record.proofs.TakenLaws.{prepared-key}
 use Rattle.sdb_record.specs.Rolls.{undo}
-use Rattle.sdb_model.specs.declared.event.Event.{Event}
 use Rattle.sdb_model.specs.declared.event.Event.TheVariants as event
-use Rattle.sdb_types.specs.declared.place.Place.{Place}
-use Rattle.sdb_model.specs.Events.{Effect, StoreContents, standing}
+use Rattle.sdb_model.specs.Events.{Effect, StoreContents, stored_at}
 use Rattle.sdb_model.specs.ReadSet.{KeyRead, ReadItem, SpanRead}
 use Rattle.law_protocol.specs.History.{Action, Other, Begins, Takes, Prepares, Checks, Decides, Aborts, Rolls, Removes, Ends, Stops, History, ProtocolState}
 use Rattle.law_protocol.specs.Lawful.{IsCallOf, IsLawful, IsUnchanged, IsEnabled, MayRoll, Labelled, id, is_quiet}
@@ -72,7 +64,7 @@ left_or_put (ask.DeleteIf key c) m k row h = by (holds c (record_at m key) && sa
     by true h = absurd (cc)
     by false h = inl h
 
-call_left_or_put : (places : List Place) (q : Request) (r : Reply) (before now : List StoreContents) (k : Key) (row : Record) → AtCall places q r before now → standing places now k ≡ Some row → (standing places before k ≡ Some row) ⊎ PutsBy q k
+call_left_or_put : (places : List Place) (q : Request) (r : Reply) (before now : List StoreContents) (k : Key) (row : Record) → AtCall places q r before now → stored_at places now k ≡ Some row → (stored_at places before k ≡ Some row) ⊎ PutsBy q k
 call_left_or_put places q r before now k row a h = elim (a.there k) [
   | inl x ↦ elim a.moved [
     | inl m ↦ elim (left_or_put q a.held k row (sym (x.1 ∙ ap (λ c. record_at c k) m.0) ∙ h)) [ inl stood ↦ inl (x.0 ∙ stood) | inr put ↦ inr put ]
@@ -81,12 +73,12 @@ call_left_or_put places q r before now k row a h = elim (a.there k) [
   | inr x ↦ inl (sym x.0 ∙ h)
 ]
 
-pub stood_or_put : (places : List Place) (e : Event) (before now : List StoreContents) (k : Key) (row : Record) → Effect places e before now → standing places now k ≡ Some row → (standing places before k ≡ Some row) ⊎ PutsAt e k
-stood_or_put places (event.Take client text answer) before now k row same h = inl (ap (λ s. standing places s k) (sym same) ∙ h)
+pub stood_or_put : (places : List Place) (e : Event) (before now : List StoreContents) (k : Key) (row : Record) → Effect places e before now → stored_at places now k ≡ Some row → (stored_at places before k ≡ Some row) ⊎ PutsAt e k
+stood_or_put places (event.Take client text answer) before now k row same h = inl (ap (λ s. stored_at places s k) (sym same) ∙ h)
 stood_or_put places (event.Call client store q how r answer) before now k row c h = call_left_or_put places q r before now k row (at_call places store q how r before now c) h
-stood_or_put places (event.Stop client) before now k row same h = inl (ap (λ s. standing places s k) (sym same) ∙ h)
-stood_or_put places (event.Clock moment) before now k row same h = inl (ap (λ s. standing places s k) (sym same) ∙ h)
-stood_or_put places (event.Idle client) before now k row same h = inl (ap (λ s. standing places s k) (sym same) ∙ h)
+stood_or_put places (event.Stop client) before now k row same h = inl (ap (λ s. stored_at places s k) (sym same) ∙ h)
+stood_or_put places (event.Clock moment) before now k row same h = inl (ap (λ s. stored_at places s k) (sym same) ∙ h)
+stood_or_put places (event.Idle client) before now k row same h = inl (ap (λ s. stored_at places s k) (sym same) ∙ h)
 
 ---- where an event puts
 
@@ -136,12 +128,12 @@ puts_row plan w past e Other q knows m row put = absurd (quiet_puts_none e q m p
 puts_row plan w past e (Begins t c) q knows m row put = absurd (subst (λ x. PutsAt x q) m.take put)
 puts_row plan w past e (Takes t) q knows m row put = absurd (subst (λ x. PutsAt x q) m.take put)
 puts_row plan w past e (Prepares t k word) q knows m row put =
-    let taken = subst (λ (x : ProtocolState). x.taken t ≡ true) knows.talks m.within.taken in
-    data_apart k q ((knows.planned t taken).write k m.write m.at).1 row (sym (prepared-key m.write (id t) (plan t).now ∙ write_key (plan t) k m.write m.at) ∙ called e m.client _ m.r q m.call put)
+    let accepted = subst (λ (x : ProtocolState). x.accepted t ≡ true) knows.talks m.within.accepted in
+    data_apart k q ((knows.planned t accepted).write k m.write m.at).1 row (sym (prepared-key m.write (id t) (plan t).now ∙ write_key (plan t) k m.write m.at) ∙ called e m.client _ m.r q m.call put)
 puts_row plan w past e (Checks t i) q knows m row put = absurd (check_puts_none (plan t) m.item m.q m.r q m.unchanged (called e m.client m.q m.r q m.call put))
 puts_row plan w past e (Decides t word) q knows m row put = record {
   t = t;
-  fits = taken_fits w t knows.inv.begun knows.fits (subst (λ (x : ProtocolState). x.taken t ≡ true) knows.talks m.within.taken);
+  fits = taken_fits w t knows.inv.begun knows.fits (subst (λ (x : ProtocolState). x.accepted t ≡ true) knows.talks m.within.accepted);
   same = sym (called e m.client _ m.r q m.call put) ∙ row-key (id t) Committed (plan t).now;
 }
 puts_row plan w past e (Aborts t moment word) q knows m row put = record {
@@ -160,7 +152,7 @@ puts_row plan w past e (Stops c) q knows m row put = absurd (subst (λ x. PutsAt
 ---- every event
 
 -- After a lawful list of events from empty stores, each record of the coordinator's table is at the key of a transaction's row.
-pub only_rows : (plan : ℕ → Plan) (places : List Place) (opening : List StoreContents) (past : List Labelled) (ss : List (List StoreContents)) (k : Key) (row : Record) → StartsEmpty places opening → IsLawful plan past → IsTraced places opening past ss → is_data k ≡ false → standing places (closing opening ss) k ≡ Some row → IsRowKey k
+pub only_rows : (plan : ℕ → Plan) (places : List Place) (opening : List StoreContents) (past : List Labelled) (ss : List (List StoreContents)) (k : Key) (row : Record) → StartsEmpty places opening → IsLawful plan past → IsTraced places opening past ss → is_data k ≡ false → stored_at places (closing opening ss) k ≡ Some row → IsRowKey k
 only_rows plan places opening [] [] k row empty l t outside h = absurd (none (sym (empty k) ∙ h))
   where
     none : ◌≡◌ {A = Option Record} None (Some row) → ⊥

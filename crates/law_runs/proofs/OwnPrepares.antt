@@ -1,48 +1,35 @@
--- Each call that prepares is one of its transaction's own COMMIT, and puts the moment at which that was taken.
+-- Each call that prepares is one of its transaction's own COMMIT, and puts the moment at which that was accepted.
 use Rattle.std.proofs.Common.{◌≡◌, ◌⊎◌, inl, inr, ◌<◌, ◌^◌, ◌+◌, ℕ, ℤ, Bool, true, false, List, [], ◌∷◌, ◌++◌, length, Option, Some, None, refl, sym, ap, subst, ◌∙◌, arith}
 use Rattle.std.specs.Prelude.{◌&&◌, ◌||◌, Contains, is_some}
 use Rattle.std.proofs.lemmas.List.Elements.{Contains-push_cases}
-use Rattle.sdb_types.specs.declared.record.Record.{Record}
-use Rattle.sdb_types.specs.declared.record.Reply.{Reply}
-use Rattle.sdb_types.specs.declared.record.Request.{Request}
-use Rattle.sdb_types.specs.declared.txid.TxId.{TxId}
+use Rattle.law_runs.specs.Types.{Access, Answer, Doing, Event, How, Next, Progress, ReadStep, Record, Reply, Request, Script, Table, TxId}
 use Rattle.sdb_types.proofs.Basics.{clash, id_fits, length_more, none_some, some_is}
-use Rattle.sdb_record.specs.declared.access.Access.{Access}
 use Rattle.sdb_record.specs.Meta.{moment_in}
 use Rattle.sdb_record.specs.Names.{tx_prepared_at}
-use Rattle.sdb_schema.specs.declared.table.Table.{Table}
-use Rattle.sdb_model.specs.declared.answer.Answer.{Answer}
 use Rattle.sdb_model.specs.declared.answer.Answer.TheVariants as answer
-use Rattle.sdb_model.specs.declared.event.Event.{Event}
 use Rattle.sdb_model.specs.declared.event.Event.TheVariants as event
-use Rattle.sdb_model.specs.declared.event.How.{How}
-use Rattle.sdb_model.specs.declared.script.Script.{Script}
 use Rattle.sdb_model.specs.Calls.{StoreCall, calls_of, clock_at, put_by}
 use Rattle.sdb_model.specs.Causes.{IsCommitOf}
 use Rattle.sdb_model.specs.Rows.{Name}
 use Rattle.sdb_model.specs.Sql.{reads_commit, reads_rollback}
 use Rattle.sdb_model.specs.Transactions.{Executed, ends, id_of, is_conflict, is_done, prepares, statements_by}
 use Rattle.sdb_phases.specs.Work.{Work}
-use Rattle.sdb_read.specs.declared.read.ReadStep.{ReadStep}
-use Rattle.sdb_read.specs.declared.read.ReadStep.TheVariants as step
-use Rattle.sdb_read.specs.Read.{ReadAt, read_pending_at, read_result, read_step}
-use Rattle.sdb_txn.specs.declared.progress.Progress.{Progress}
+use Rattle.sdb_txn.specs.declared.read.ReadStep.TheVariants as step
+use Rattle.sdb_txn.specs.Read.{ReadAt, read_pending_at, read_result, read_step}
 use Rattle.sdb_txn.specs.declared.progress.Progress.TheVariants as progress
-use Rattle.sdb_txn.specs.declared.txn.Doing.{Doing}
 use Rattle.sdb_txn.specs.declared.txn.Doing.TheVariants as doing
 use Rattle.sdb_txn.specs.Txn.{IsCommitting as GoesOn, TxnAt, committing, reading, work_of}
 use Rattle.sdb_vacuum.specs.Vacuum.{VacuumAt}
-use Rattle.sdb_client.specs.declared.next.Next.{Next}
 use Rattle.sdb_client.specs.declared.next.Next.TheVariants as next
 use Rattle.sdb_client.specs.Client.{CallPost, ClientAt, IsIdle, StagePost, Taking, after, answer_in, next_id, next_of, TextStep}
 use Rattle.sdb_exec.specs.Plans.{Planned}
 use Rattle.law_clients.specs.History.{executed_with_answer, executed_of_take, waiting_of}
-use Rattle.sdb_commit.specs.Phases.{CommitAt}
+use Rattle.sdb_txn.specs.Phases.{CommitAt}
 use Rattle.law_answers.specs.Invariant.{IsAnswered, IsDoing, IsOpenAs, IsWaiting, Knows, DoingByHistory, ClientByHistory}
 use Rattle.law_answers.proofs.Calls.{call_said, clock_more, clock_same, made_at}
 use Rattle.law_answers.proofs.Ends.{commit_is}
 use Rattle.law_answers.proofs.Takings.{none_yet}
-use Rattle.sdb_execution.specs.Execution.{IsExecution, IsPlayable, State, TakeStep}
+use Rattle.sdb_client.specs.Execution.{IsExecution, IsPlayable, State, TakeStep}
 use Rattle.law_runs.specs.Laws.{IsOwnPrepare, PreparesAreOwn}
 use Rattle.law_runs.specs.World.{WorldAt, states_of, state_of}
 use Rattle.law_runs.proofs.Takes.{TakenAs, taken_as}
@@ -65,7 +52,7 @@ PreparesFor p calls = (m : StoreCall) (id : TxId) (r : Record) → Contains call
 
 abbrev PreparesBy : Option Work → List Event → ℕ → Executed → Type 0
 PreparesBy None events c s = NonePrepares (calls_of events c s)
-PreparesBy (Some p) events c s = (p.now ≡ clock_at events s.taken) × PreparesFor p (calls_of events c s)
+PreparesBy (Some p) events c s = (p.now ≡ clock_at events s.accepted) × PreparesFor p (calls_of events c s)
 
 -- what a client commits
 abbrev pub work_doing : Doing → Option Work
@@ -102,7 +89,7 @@ for_more p calls m h now x id r has puts = by (Contains-push_cases calls m x has
     by (inl old) = h x id r old puts
     by (inr same) = now id r (subst (λ (y : StoreCall). PutsFor y id r) (sym same) puts)
 
----- a statement is taken
+---- a statement is accepted
 
 work_rests : (v : Option VacuumAt) → work_in v None ≡ None
 work_rests None = refl
@@ -112,7 +99,7 @@ work_reads : (v : Option VacuumAt) (t : TxnAt) (a : Access) → work_in v (Some 
 work_reads None t a = refl
 work_reads (Some v) t a = refl
 
--- a COMMIT that is taken goes by the moment at which it is
+-- a COMMIT that is accepted goes by the moment at which it is
 taken_now : (q : Taking) (h d : ClientAt) → IsIdle h → (p : Work) → work_in d.vacuum d.txn ≡ Some p → (text : List ℕ) → TextStep q text h None d → p.now ≡ q.now
 taken_now q h d idle p here text takes = by (taken_as q text h d takes)
   where
@@ -153,7 +140,7 @@ takes_own w u c text None t h = by (work_in t.client.vacuum t.client.txn) refl
 
 -- a read that goes on commits nothing
 read_left : (t : TxnAt) (p : Planned) (a : Access) (x : ReadAt) (r : Reply) (now : ℤ) (n : Next) (u : TxnAt) → CallPost t p a x r now n u → n ≡ next.Call → work_doing u.doing ≡ None
-read_left t p a x r now n u told e = by (read_result (read_step x.stage now r)) (subst (λ (m : Next). StagePost t p a x (read_step x.stage now r) (read_result (read_step x.stage now r)) m u) e (told.told (λ k. other (sym e ∙ k))))
+read_left t p a x r now n u answered e = by (read_result (read_step x.stage now r)) (subst (λ (m : Next). StagePost t p a x (read_step x.stage now r) (read_result (read_step x.stage now r)) m u) e (answered.answered (λ k. other (sym e ∙ k))))
   where
     other : next.Call ≡ next.Answer answer.NoMemory → ⊥
     other k = cc
@@ -201,7 +188,7 @@ module _ (catalog : List Table) (events : List Event) (c : ℕ) (h d : ClientAt)
   made = made_at events store q how r
 
   more : (a : Option Answer) → calls_of (E a) c (replied_said events x a) ≡ calls_of events c x ++ made ∷ []
-  more a = calls_more events c store q how r x waits.unanswered waits.taken a
+  more a = calls_more events c store q how r x waits.unanswered waits.accepted a
 
   -- none of its calls prepares
   rests : (a : Option Answer) → NonePrepares (calls_of events c x ++ made ∷ []) → (a ≡ None → work_in d.vacuum d.txn ≡ None) → SoBy AreOwn WaitsOwn (E a) c (replied_said events x a) d a
@@ -211,8 +198,8 @@ module _ (catalog : List Table) (events : List Event) (c : ℕ) (h d : ClientAt)
   before : (o : Option Work) → work_in h.vacuum h.txn ≡ o → PreparesBy o events c x
   before o e = subst (λ (y : Option Work). PreparesBy y events c x) e so
 
-  sweeps : (a : Option Answer) → SweepCall events c x h q r now a d → SoBy AreOwn WaitsOwn (E a) c (replied_said events x a) d a
-  sweeps a z = rests a
+  vacuums : (a : Option Answer) → SweepCall events c x h q r now a d → SoBy AreOwn WaitsOwn (E a) c (replied_said events x a) d a
+  vacuums a z = rests a
       (none_more (calls_of events c x) made (before None (ap (λ (v : Option VacuumAt). work_in v h.txn) z.runs)) (λ id. sweep_no id (calls_of events c x) z.v.stage q z.is.1 z.pends))
       (λ e. ap (λ (o : Option TxnAt). work_in d.vacuum o) (ap (λ (y : ClientAt). y.txn) z.left ∙ z.rests) ∙ work_rests d.vacuum)
 
@@ -223,9 +210,9 @@ module _ (catalog : List Table) (events : List Event) (c : ℕ) (h d : ClientAt)
       (λ e.
       let again : z.next ≡ next.Call = calls_again z.next (sym e ∙ z.answer) in
       let left : d ≡ record h { txn = Some z.u } = z.left ∙ ap (λ (n : Next). after h n z.u) again in
-      ap (λ (y : ClientAt). work_in y.vacuum y.txn) left ∙ ap (λ (v : Option VacuumAt). work_in v (Some z.u)) z.free ∙ read_left z.t z.p z.access z.x r now z.next z.u z.told again)
+      ap (λ (y : ClientAt). work_in y.vacuum y.txn) left ∙ ap (λ (v : Option VacuumAt). work_in v (Some z.u)) z.free ∙ read_left z.t z.p z.access z.x r now z.next z.u z.answered again)
 
-  commits : (a : Option Answer) → CommitCall events c k.told x h q r a d → SoBy AreOwn WaitsOwn (E a) c (replied_said events x a) d a
+  commits : (a : Option Answer) → CommitCall events c k.answered x h q r a d → SoBy AreOwn WaitsOwn (E a) c (replied_said events x a) d a
   commits a z = by a refl
     where
       p : Work
@@ -247,20 +234,20 @@ module _ (catalog : List Table) (events : List Event) (c : ℕ) (h d : ClientAt)
       by None e =
           let further : z.progress ≡ progress.More = goes_further z.progress (sym e ∙ z.answer) in
           let left : d ≡ record h { txn = Some z.u } = z.left ∙ ap (λ (n : Progress). after h (next_of n) z.u) further in
-          let here : work_in d.vacuum d.txn ≡ Some p = ap (λ (y : ClientAt). work_in y.vacuum y.txn) left ∙ ap (λ (v : Option VacuumAt). work_in v (Some z.u)) z.free ∙ work_goes z.u.doing p _ (λ y g. g.0) (z.told.next further) in
+          let here : work_in d.vacuum d.txn ≡ Some p = ap (λ (y : ClientAt). work_in y.vacuum y.txn) left ∙ ap (λ (v : Option VacuumAt). work_in v (Some z.u)) z.free ∙ work_goes z.u.doing p _ (λ y g. g.0) (z.answered.next further) in
           subst (λ (o : Option Work). PreparesBy o (E None) c x) (sym here)
-          (was.0 ∙ sym (clock_same events (event.Call c store q how r None) x.taken waits.taken), subst (PreparesFor p) (sym (more None)) all)
+          (was.0 ∙ sym (clock_same events (event.Call c store q how r None) x.accepted waits.accepted), subst (PreparesFor p) (sym (more None)) all)
       by (Some b) e = λ m id y has puts.
           let found = all m id y (subst (λ (ms : List StoreCall). Contains ms m) (more (Some b)) has) puts in
-          let told : statements_by c events ≡ k.told ++ x ∷ [] = k.same ∙ ap (λ (o : Option Executed). k.told ++ waiting_of o) waiting in
+          let answered : statements_by c events ≡ k.answered ++ x ∷ [] = k.same ∙ ap (λ (o : Option Executed). k.answered ++ waiting_of o) waiting in
           record {
             commit = subst (IsCommitOf (E (Some b)) c (executed_with_answer events x b)) (sym (found.0 ∙ z.is.same))
-                (commit_is (E (Some b)) c h.begun k.told (executed_with_answer events x b) z.t k.small (call_said c events store q how r b k.told x told) z.is.text (ends_commit (executed_with_answer events x b) z.is.text) z.since);
-            moment = found.1 ∙ ap Some (was.0 ∙ sym (clock_same events (event.Call c store q how r (Some b)) x.taken waits.taken));
+                (commit_is (E (Some b)) c h.begun k.answered (executed_with_answer events x b) z.t k.small (call_said c events store q how r b k.answered x answered) z.is.text (ends_commit (executed_with_answer events x b) z.is.text) z.since);
+            moment = found.1 ∙ ap Some (was.0 ∙ sym (clock_same events (event.Call c store q how r (Some b)) x.accepted waits.accepted));
           }
 
-  call_own : (a : Option Answer) → CallOf catalog events c k.told x h q r now a d → SoBy AreOwn WaitsOwn (E a) c (replied_said events x a) d a
-  call_own a (inl z) = sweeps a z
+  call_own : (a : Option Answer) → CallOf catalog events c k.answered x h q r now a d → SoBy AreOwn WaitsOwn (E a) c (replied_said events x a) d a
+  call_own a (inl z) = vacuums a z
   call_own a (inr (inl z)) = reads a z
   call_own a (inr (inr z)) = commits a z
 
@@ -286,24 +273,24 @@ own_kept = record {
 
 -- the COMMIT that waits is one of its transaction
 pub commit_waits : (catalog : List Table) (events : List Event) (c : ℕ) (h : ClientAt) (k : Knows catalog events c h) (s : Executed) → k.waiting ≡ Some s → (p : Work) → work_in h.vacuum h.txn ≡ Some p → IsCommitOf events c s p.id
-commit_waits catalog events c h k s waiting p here = by_vacuum h.vacuum (subst (λ (o : Option Executed). ClientByHistory events c h.begun k.told o h.plan h.txn h.vacuum) waiting k.stands) here
+commit_waits catalog events c h k s waiting p here = by_vacuum h.vacuum (subst (λ (o : Option Executed). ClientByHistory events c h.begun k.answered o h.plan h.txn h.vacuum) waiting k.agrees) here
   where
-    told : statements_by c events ≡ k.told ++ s ∷ []
-    told = k.same ∙ ap (λ (o : Option Executed). k.told ++ waiting_of o) waiting
+    answered : statements_by c events ≡ k.answered ++ s ∷ []
+    answered = k.same ∙ ap (λ (o : Option Executed). k.answered ++ waiting_of o) waiting
 
-    by_doing : (t : TxnAt) (x : Doing) → IsOpenAs c h.begun k.told t → IsDoing events c t h.plan (Some s) x → work_doing x ≡ Some p → IsCommitOf events c s p.id
+    by_doing : (t : TxnAt) (x : Doing) → IsOpenAs c h.begun k.answered t → IsDoing events c t h.plan (Some s) x → work_doing x ≡ Some p → IsCommitOf events c s p.id
     by_doing t (doing.Commit y) since is e =
         let same : t.id ≡ p.id = sym is.same ∙ ap (λ (w : Work). w.id) (some_is y.work p e) in
-        subst (IsCommitOf events c s) same (commit_is events c h.begun k.told s t k.small told is.text (ends_commit s is.text) since)
+        subst (IsCommitOf events c s) same (commit_is events c h.begun k.answered s t k.small answered is.text (ends_commit s is.text) since)
     by_doing t doing.Idle since is e = none_some p e
     by_doing t (doing.Read a x) since is e = none_some p e
     by_doing t doing.Over since is e = none_some p e
 
-    by_txn : (o : Option TxnAt) → DoingByHistory events c h.begun k.told (Some s) h.plan o → work_txn o ≡ Some p → IsCommitOf events c s p.id
+    by_txn : (o : Option TxnAt) → DoingByHistory events c h.begun k.answered (Some s) h.plan o → work_txn o ≡ Some p → IsCommitOf events c s p.id
     by_txn None z e = none_some p e
     by_txn (Some t) z e = by_doing t t.doing z.1 z.2 e
 
-    by_vacuum : (v : Option VacuumAt) → ClientByHistory events c h.begun k.told (Some s) h.plan h.txn v → work_in v h.txn ≡ Some p → IsCommitOf events c s p.id
+    by_vacuum : (v : Option VacuumAt) → ClientByHistory events c h.begun k.answered (Some s) h.plan h.txn v → work_in v h.txn ≡ Some p → IsCommitOf events c s p.id
     by_vacuum None z e = by_txn h.txn z e
     by_vacuum (Some v) z e = none_some p e
 

@@ -3,21 +3,15 @@ use Rattle.std.proofs.Common.{◌≡◌, ℕ, zero, suc, true, List, [], ◌∷�
 use Rattle.std.specs.List.{AllByRecursion}
 use Rattle.std.specs.FinMap.{empty}
 use Rattle.sdb_types.specs.Contents.{Contents}
-use Rattle.sdb_types.specs.declared.record.Reply.{Reply}
-use Rattle.sdb_types.specs.declared.record.Request.{Request}
+use Rattle.law_runs.specs.Types.{Answer, ClientSlot, Event, How, Reply, Request, Script}
 use Rattle.sdb_types.proofs.Basics.{some_is}
-use Rattle.sdb_model.specs.declared.answer.Answer.{Answer}
-use Rattle.sdb_model.specs.declared.event.Event.{Event}
 use Rattle.sdb_model.specs.declared.event.Event.TheVariants as event
-use Rattle.sdb_model.specs.declared.event.How.{How}
-use Rattle.sdb_model.specs.declared.script.Script.{Script}
 use Rattle.sdb_model.specs.Events.{IsCall, IsTrace, StoreContents}
 use Rattle.sdb_model.specs.Plain.{is_one_line, HasLines}
 use Rattle.sdb_model.specs.Rows.{Name}
 use Rattle.law_protocol.specs.Spread.{HoldAs, relocated_events, one_store}
 use Rattle.law_protocol.proofs.Single.{Single, one_held, one_left, single}
-use Rattle.sdb_execution.specs.declared.slot.ClientSlot.{ClientSlot}
-use Rattle.sdb_execution.specs.Execution.{AreFresh, CallStep, IsPath, State, TakeStep, client_after, client_stopped, with_client_at}
+use Rattle.sdb_client.specs.Execution.{AreFresh, CallStep, IsPath, State, TakeStep, client_after, client_stopped, with_client_at}
 use Rattle.law_runs.specs.Laws.{ExecutionOf}
 use Rattle.law_runs.specs.Moments.{TraceOf}
 use Rattle.law_runs.proofs.Steps.{execution_about}
@@ -65,7 +59,7 @@ record StepClear (e : Event) (u : State) : Type 0 where
 
 take_clear : (script : Script) (s u : State) (c : ℕ) (text : List ℕ) (a : Option Answer) → HasLines script → TakeStep script s c text a u → SeatsClear s.client_slots → StepClear (event.Take c text a) u
 take_clear script s u c text a lines t h =
-    let one : is_one_line text ≡ true = lines c t.client_slot.taken text t.next in
+    let one : is_one_line text ≡ true = lines c t.client_slot.accepted text t.next in
     let so = takes_clear _ text t.client_slot.client t.client a one t.idle (get_all SeatClear s.client_slots t.place t.client_slot h t.at) t.takes in
     record { event = (one, so.answer); client_slots = state_clear s u t.place (client_after t.client_slot 1 t.client) t.left h so.client }
 

@@ -7,40 +7,28 @@ use Rattle.std.specs.FinMap.{empty}
 use Rattle.std.proofs.lemmas.List.Elements.{All-from_recursion, recursion_from_All}
 use Rattle.sdb_types.specs.Contents.{Contents, record_at}
 use Rattle.sdb_types.specs.Fits.{record_fits}
-use Rattle.sdb_types.specs.declared.key.Key.{Key}
-use Rattle.sdb_types.specs.declared.pair.Pair.{Pair}
-use Rattle.sdb_types.specs.declared.record.Record.{Record}
-use Rattle.sdb_types.specs.declared.record.Reply.{Reply}
+use Rattle.law_runs.specs.Types.{Answer, Decided, Event, Image, Key, Pair, Place, Record, Reply, Request, Table, TableDump, Value}
 use Rattle.sdb_types.specs.declared.record.Reply.TheVariants as reply
-use Rattle.sdb_types.specs.declared.record.Request.{Request}
 use Rattle.sdb_types.specs.declared.record.Request.TheVariants as ask
 use Rattle.sdb_types.specs.declared.record.State.TheVariants as state
-use Rattle.sdb_types.specs.declared.value.Value.{Value}
 use Rattle.sdb_types.proofs.Bools.{and_both, and_first, and_second}
 use Rattle.sdb_types.proofs.Basics.{none_some}
 use Rattle.sdb_types.proofs.Replies.{record_at-key}
-use Rattle.sdb_record.specs.declared.access.Image.{Image}
-use Rattle.sdb_record.specs.declared.coordinator.Decided.{Decided}
 use Rattle.sdb_record.specs.declared.coordinator.Decision.TheVariants as decision
 use Rattle.sdb_record.specs.Coordinator.{is_coordinator_table}
 use Rattle.sdb_record.specs.Meta.{is_in}
 use Rattle.sdb_record.specs.Parts.{before_record}
 use Rattle.sdb_record.specs.Rolls.{forward_record, image_of, image_under, row_of_image}
-use Rattle.sdb_schema.specs.declared.table.Table.{Table}
 use Rattle.sdb_schema.specs.Catalog.{rises, is_above_name}
-use Rattle.sdb_model.specs.declared.answer.Answer.{Answer}
 use Rattle.sdb_model.specs.declared.answer.Answer.TheVariants as answer
-use Rattle.sdb_model.specs.declared.event.Event.{Event}
 use Rattle.sdb_model.specs.declared.event.Event.TheVariants as event
-use Rattle.sdb_model.specs.declared.event.TableDump.{TableDump}
-use Rattle.sdb_types.specs.declared.place.Place.{Place}
-use Rattle.sdb_model.specs.Events.{StoreContents, standing}
+use Rattle.sdb_model.specs.Events.{StoreContents, stored_at}
 use Rattle.sdb_model.specs.Exec.{Tables, all_rows, find_table, is_row_of, projected, sorted}
 use Rattle.sdb_model.specs.Images.{decision_on, row_at}
 use Rattle.sdb_model.specs.Plain.{HasPlainParts, IsFoundAt, IsPlain, IsPlainAnswer, IsPlainDump, IsPlainEvent, IsPlainGiven, IsPlainRow, are_rising, starts_after, values_are_plain, HasLines}
 use Rattle.sdb_model.specs.Serial.{AreImages, dumps_of, serial}
-use Rattle.sdb_reading.specs.OneLine.{AnswerHasNoLf, EventHasNoLf, KeyHasNoLf, RecordHasNoLf, ReplyHasNoLf, RequestHasNoLf, ValueHasNoLf, ValuesHaveNoLf}
-use Rattle.sdb_reading.proofs.LineLaws.{event_one, row_one}
+use Rattle.sdb_report.specs.OneLine.{AnswerHasNoLf, EventHasNoLf, KeyHasNoLf, RecordHasNoLf, ReplyHasNoLf, RequestHasNoLf, ValueHasNoLf, ValuesHaveNoLf}
+use Rattle.sdb_report.proofs.LineLaws.{event_one, row_one}
 use Rattle.law_protocol.specs.Spread.{HoldAs}
 use Rattle.law_runs.specs.Laws.{ExecutionOf}
 use Rattle.law_runs.specs.Moments.{TraceOf}
@@ -195,7 +183,7 @@ row_of_clear (Some r) h = image_clear r h
 
 module _ (catalog : List Table) (places : List Place) (closing : List StoreContents) (last : Contents) (same : HoldAs catalog places closing last) (held : HeldClear last) where
   -- the row at a key whose store's record is known
-  row_clear : (q : Key) (o : Option Record) (row : List Pair) → standing places closing q ≡ o → record_at last q ≡ o → row_at places closing q ≡ Some row → KeyClear q × ColumnsClear row
+  row_clear : (q : Key) (o : Option Record) (row : List Pair) → stored_at places closing q ≡ o → record_at last q ≡ o → row_at places closing q ≡ Some row → KeyClear q × ColumnsClear row
   row_clear q None row s e h = none_some row (sym (ap (λ (x : Option Record). option_and_then row_of_image (option_and_then (λ r. image_of r (decision_on places closing r)) x)) s) ∙ h)
   row_clear q (Some r) row s e h =
       let clear : RecordClear r = held q r e in
@@ -210,8 +198,8 @@ module _ (catalog : List Table) (places : List Place) (closing : List StoreConte
     where
       by : (b : Bool) → is_some (find_table catalog q.table) ≡ b → cond b (row_at places closing q) None ≡ Some row → KeyClear q × ColumnsClear row
       by true t k =
-          let played : is_table_of_run catalog q.table ≡ true = ap (λ (x : Bool). x || is_coordinator_table q.table) t in
-          row_clear q (standing places closing q) row refl (sym (same.at q played)) k
+          let correct : is_table_of_run catalog q.table ≡ true = ap (λ (x : Bool). x || is_coordinator_table q.table) t in
+          row_clear q (stored_at places closing q) row refl (sym (same.at q correct)) k
       by false t k = none_some row k
 
 abbrev DumpClear : TableDump → Type 0
@@ -252,10 +240,10 @@ module _ (r : LineRun) (fits : outcome_fits r.outcome) where
   whole = execution_clear execution (record { opening = r.opening; closing = r.closing; moments = r.run.moments; trace = r.run.consistent; nothing = r.nothing }) r.lines
 
   abbrev final : Tables
-  final = (serial r.script.catalog r.run.told.bodies empty).1
+  final = (serial r.script.catalog r.run.answered.bodies empty).1
 
   printed_clear : AllByRecursion DumpClear (dumps_of r.script.catalog final)
-  printed_clear = dumps_clear final (tables_clear r.script.catalog r.script.places r.closing whole.last whole.same whole.clear.held final r.run.told.images) r.script.catalog
+  printed_clear = dumps_clear final (tables_clear r.script.catalog r.script.places r.closing whole.last whole.same whole.clear.held final r.run.answered.images) r.script.catalog
 
   pub run_plain : IsPlain r.outcome
   run_plain = record {
@@ -264,6 +252,6 @@ module _ (r : LineRun) (fits : outcome_fits r.outcome) where
     order_counted = fits.order_counted;
     order = fits.order;
     tables_counted = fits.tables_counted;
-    tables = All-from_recursion IsPlainDump r.outcome.tables (dumps_plain r.outcome.tables (recursion_from_All dump_fits r.outcome.tables fits.tables) (subst (λ (ds : List TableDump). AllByRecursion DumpClear ds) (sym r.run.told.printed) printed_clear));
-    rising = ap are_rising r.run.told.printed ∙ dumps_rise final r.script.catalog (and_first (rises r.script.catalog) _ r.playable.catalog);
+    tables = All-from_recursion IsPlainDump r.outcome.tables (dumps_plain r.outcome.tables (recursion_from_All dump_fits r.outcome.tables fits.tables) (subst (λ (ds : List TableDump). AllByRecursion DumpClear ds) (sym r.run.answered.printed) printed_clear));
+    rising = ap are_rising r.run.answered.printed ∙ dumps_rise final r.script.catalog (and_first (rises r.script.catalog) _ r.playable.catalog);
   }

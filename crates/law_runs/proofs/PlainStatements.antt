@@ -6,36 +6,22 @@ use Rattle.std.specs.Ordering.{is_eq, is_lt}
 use Rattle.sdb_types.specs.Columns.{column, with_column}
 use Rattle.sdb_types.specs.Fits.{fits_int}
 use Rattle.sdb_types.specs.Order.{key_cmp}
-use Rattle.sdb_types.specs.declared.key.Key.{Key}
-use Rattle.sdb_types.specs.declared.key.TableName.{TableName}
-use Rattle.sdb_types.specs.declared.pair.Pair.{Pair}
-use Rattle.sdb_types.specs.declared.record.Record.{Record}
-use Rattle.sdb_types.specs.declared.value.Value.{Value}
+use Rattle.law_runs.specs.Types.{Access, Answer, Image, Insert, Key, Keyed, Kind, Pair, PlanStep, Record, Statement, Table, TableName, Test, Value}
 use Rattle.sdb_types.specs.declared.value.Value.TheVariants as value
-use Rattle.sdb_record.specs.declared.access.Access.{Access}
 use Rattle.sdb_record.specs.declared.access.Access.TheVariants as access
-use Rattle.sdb_record.specs.declared.access.Image.{Image}
 use Rattle.sdb_record.specs.declared.write.Change.TheVariants as change
-use Rattle.sdb_record.specs.declared.write.Keyed.{Keyed}
 use Rattle.sdb_record.specs.Rolls.{new_columns}
-use Rattle.sdb_schema.specs.declared.table.Kind.{Kind}
 use Rattle.sdb_schema.specs.declared.table.Kind.TheVariants as kind
-use Rattle.sdb_schema.specs.declared.table.Table.{Table}
 use Rattle.sdb_schema.specs.Order.{row_key_cmp}
-use Rattle.sdb_model.specs.declared.answer.Answer.{Answer}
 use Rattle.sdb_model.specs.declared.answer.Answer.TheVariants as answer
-use Rattle.sdb_model.specs.declared.statement.Insert.{Insert}
-use Rattle.sdb_model.specs.declared.statement.Statement.{Statement}
 use Rattle.sdb_model.specs.declared.statement.Statement.TheVariants as statement
-use Rattle.sdb_model.specs.declared.statement.Test.{Test}
 use Rattle.sdb_model.specs.declared.statement.Test.TheVariants.{Compare, IsNull, NotNull}
 use Rattle.sdb_model.specs.Exec.{cut, key_of, literal_in, nat_of, passes, placed, projected, projected_names, sorted, with_named, with_sets}
 use Rattle.sdb_model.specs.Rows.{Name, at_kind, is_key_column, kind_of_column, literal_at, order_names, same_name, value_in, value_of}
-use Rattle.sdb_exec.specs.declared.plan.PlanStep.{PlanStep}
 use Rattle.sdb_exec.specs.declared.plan.PlanStep.TheVariants.{Finished, Read as Wants}
 use Rattle.sdb_exec.specs.Plans.{Planned, answer_on, changes_on, columns_at, finished, first_unfit, is_unfit, put_row, step_at, step_of}
 use Rattle.sdb_model.specs.Reads.{access_by, access_for, access_of, all_fixed, fixed, is_equals, joined}
-use Rattle.sdb_reading.specs.OneLine.{ValueHasNoLf}
+use Rattle.sdb_report.specs.OneLine.{ValueHasNoLf}
 use Rattle.law_runs.proofs.Lists.{filter_all, find_all, insert_all, map_all, option_so, take_all}
 use Rattle.law_runs.proofs.Clear.{AreClear, ColumnsClear, KeyClear, RecordClear, column_clear, column_set}
 

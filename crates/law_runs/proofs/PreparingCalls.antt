@@ -2,20 +2,14 @@
 use Rattle.std.proofs.Common.{◌≡◌, inl, inr, ◌<◌, ℕ, ℤ, List, [], ◌∷◌, ◌++◌, Option, Some, None, IfSome, sym, ap, subst, ◌∙◌}
 use Rattle.std.specs.Prelude.{is_some}
 use Rattle.std.specs.List.{AllByRecursion}
-use Rattle.sdb_types.specs.declared.record.Reply.{Reply}
-use Rattle.sdb_types.specs.declared.record.Request.{Request}
-use Rattle.sdb_schema.specs.declared.table.Table.{Table}
-use Rattle.sdb_model.specs.declared.answer.Answer.{Answer}
-use Rattle.sdb_model.specs.declared.event.Event.{Event}
+use Rattle.law_runs.specs.Types.{Answer, Doing, Event, How, Reply, Request, Table}
 use Rattle.sdb_model.specs.declared.event.Event.TheVariants as event
-use Rattle.sdb_model.specs.declared.event.How.{How}
 use Rattle.sdb_model.specs.Calls.{StoreCall, calls_of}
 use Rattle.sdb_model.specs.Rows.{Name}
 use Rattle.sdb_model.specs.Transactions.{Executed}
 use Rattle.sdb_phases.specs.Commit.{preparing}
-use Rattle.sdb_commit.specs.Phases.{CommitAt, IsNext}
+use Rattle.sdb_txn.specs.Phases.{CommitAt, IsNext}
 use Rattle.sdb_txn.specs.declared.progress.Progress.TheVariants as progress
-use Rattle.sdb_txn.specs.declared.txn.Doing.{Doing}
 use Rattle.sdb_txn.specs.declared.txn.Doing.TheVariants as doing
 use Rattle.sdb_txn.specs.Txn.{IsCommitting, TxnAt, work_of}
 use Rattle.sdb_client.specs.declared.next.Next.TheVariants as next
@@ -73,7 +67,7 @@ module _ (catalog : List Table) (events : List Event) (c : ℕ) (h d : ClientAt)
   made = made_at events store q how r
 
   older : AllByRecursion (λ m. m.at < made.at) (calls_of events c x)
-  older = subst (AllByRecursion (λ m. m.at < made.at)) (sym (calls_open c events x (end_waiting events x waits.unanswered))) (later_within c events x.taken)
+  older = subst (AllByRecursion (λ m. m.at < made.at)) (sym (calls_open c events x (end_waiting events x waits.unanswered))) (later_within c events x.accepted)
 
   module _ (a : Option Answer) (z : CommitCall events c past x h q r a d) where
     prepares_here : CommitPrepares z.k.work (calls_of events c x) z.k.stage
@@ -95,12 +89,12 @@ module _ (catalog : List Table) (events : List Event) (c : ℕ) (h d : ClientAt)
   call_waits None (inr (inl z)) =
       let again : z.next ≡ next.Call = calls_again z.next z.answer in
       let left : d.txn ≡ Some z.u = ap (λ (y : ClientAt). y.txn) (z.left ∙ ap (λ n. after h n z.u) again) in
-      subst (λ (o : Option TxnAt). TxnPrepares o (calls_of (E None) c x)) (sym (left ∙ ap Some (reads_again z.t z.p z.access z.x r now z.next z.u z.told again))) tt
+      subst (λ (o : Option TxnAt). TxnPrepares o (calls_of (E None) c x)) (sym (left ∙ ap Some (reads_again z.t z.p z.access z.x r now z.next z.u z.answered again))) tt
   call_waits None (inr (inr z)) =
       let further : z.progress ≡ progress.More = goes_further z.progress z.answer in
       let left : d.txn ≡ Some z.u = ap (λ (y : ClientAt). y.txn) (z.left ∙ ap (λ p. after h (next_of p) z.u) further) in
       subst (λ (o : Option TxnAt). TxnPrepares o (calls_of (E None) c x)) (sym left)
-      (subst (DoingPrepares z.u.doing) (sym (calls_more events c store q how r x waits.unanswered waits.taken None)) (goes_on_so z.u.doing (calls_of events c x ++ made ∷ []) _ (then_prepares None z) (z.told.next further)))
+      (subst (DoingPrepares z.u.doing) (sym (calls_more events c store q how r x waits.unanswered waits.accepted None)) (goes_on_so z.u.doing (calls_of events c x ++ made ∷ []) _ (then_prepares None z) (z.answered.next further)))
 
 -- So it stays by each step.
 pub prepares_kept : AreKept NothingMore WaitPrepares
@@ -108,6 +102,6 @@ prepares_kept = record {
   answered = λ catalog events e c s past so. tt;
   waiting = λ catalog events e c s h still so. subst (TxnPrepares h.txn) (sym still.calls) so;
   takes = λ w u c text a t h. take_prepares (record { catalog = w.script.catalog; now = w.clock; gate = t.gate; fresh = next_id t.client_slot.client }) text t.client_slot.client t.client a w.events c t.idle t.takes;
-  calls = λ w u c store q how r a t h k x waiting waits so. call_waits w.script.catalog w.events c t.client_slot.client t.client store q how r w.clock k.told x so waits a
+  calls = λ w u c store q how r a t h k x waiting waits so. call_waits w.script.catalog w.events c t.client_slot.client t.client store q how r w.clock k.answered x so waits a
       (call_of w.script.catalog w.events c t.client_slot.client k x waiting q r w.clock a t.client t.pending (h.world.each t.place t.client_slot t.at).fitted t.takes);
 }

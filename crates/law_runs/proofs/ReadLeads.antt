@@ -2,23 +2,16 @@
 use Rattle.std.proofs.Common.{◌≡◌, ◌+◌, ◌<◌, ℕ, ℤ, true, List, [], ◌∷◌, ◌++◌, length, Option, Some, None, IfSome, sym, ap, subst, ◌∙◌, arith}
 use Rattle.std.specs.Prelude.{is_some}
 use Rattle.std.specs.List.{AllByRecursion}
-use Rattle.sdb_types.specs.declared.key.Key.{Key}
-use Rattle.sdb_types.specs.declared.record.Record.{Record}
-use Rattle.sdb_types.specs.declared.record.Reply.{Reply}
-use Rattle.sdb_types.specs.declared.record.Request.{Request}
+use Rattle.law_runs.specs.Types.{Answer, Event, How, Key, Record, Reply, Request, Table}
 use Rattle.sdb_types.specs.Contents.{CanAnswer}
 use Rattle.sdb_types.proofs.Basics.{all_each, length_more}
-use Rattle.sdb_schema.specs.declared.table.Table.{Table}
-use Rattle.sdb_model.specs.declared.answer.Answer.{Answer}
-use Rattle.sdb_model.specs.declared.event.Event.{Event}
 use Rattle.sdb_model.specs.declared.event.Event.TheVariants as event
-use Rattle.sdb_model.specs.declared.event.How.{How}
 use Rattle.sdb_model.specs.Calls.{StoreCall, calls_of, clock_at}
 use Rattle.sdb_model.specs.Exec.{find_table, table_of}
 use Rattle.sdb_model.specs.Rows.{Name}
 use Rattle.sdb_model.specs.Tables.{is_data}
 use Rattle.sdb_model.specs.Transactions.{Executed}
-use Rattle.sdb_read.specs.Read.{Asking, Ended, ReadStage, Resolving, read_pending_at, read_step}
+use Rattle.sdb_txn.specs.Read.{Asking, Ended, ReadStage, Resolving, read_pending_at, read_step}
 use Rattle.sdb_txn.specs.declared.txn.Doing.TheVariants as doing
 use Rattle.sdb_txn.specs.Txn.{TxnAt}
 use Rattle.sdb_client.specs.Client.{ClientAt}
@@ -44,7 +37,7 @@ module _ (catalog : List Table) (apart : (k : Key) → is_some (find_table catal
 
   -- the calls so far came before it
   older : AllByRecursion (λ (m : StoreCall). m.at < made.at) ms
-  older = subst (AllByRecursion (λ (m : StoreCall). m.at < made.at)) (sym (calls_open c events x (end_waiting events x waits.unanswered))) (later_within c events x.taken)
+  older = subst (AllByRecursion (λ (m : StoreCall). m.at < made.at)) (sym (calls_open c events x (end_waiting events x waits.unanswered))) (later_within c events x.accepted)
 
   clock_now : clock_at E made.at ≡ now
   clock_now = ap (clock_at E) (sym (length_more events (event.Call c store q how r None) ∙ one_plus (length events))) ∙ clock_more events (event.Call c store q how r None) ∙ ticks

@@ -3,20 +3,11 @@ use Rattle.std.proofs.Common.{◌≡◌, ◌≤◌, ◌+◌, ◌⊎◌, inl, inr
 use Rattle.std.specs.Prelude.{is_some}
 use Rattle.std.specs.List.{count_by}
 use Rattle.std.proofs.lemmas.List.Sums.{fold-append}
-use Rattle.sdb_types.specs.declared.record.Record.{Record}
-use Rattle.sdb_types.specs.declared.record.Reply.{Reply}
+use Rattle.law_runs.specs.Types.{Access, Answer, Doing, Event, How, Meta, Next, ReadStep, Record, RecoverPhase, RecoverStep, Reply, Request, Script, Table}
 use Rattle.sdb_types.specs.declared.record.Reply.TheVariants as reply
-use Rattle.sdb_types.specs.declared.record.Request.{Request}
 use Rattle.sdb_types.proofs.Basics.{clash, none_some}
-use Rattle.sdb_record.specs.declared.access.Access.{Access}
-use Rattle.sdb_record.specs.declared.meta.Meta.{Meta}
-use Rattle.sdb_schema.specs.declared.table.Table.{Table}
-use Rattle.sdb_model.specs.declared.answer.Answer.{Answer}
 use Rattle.sdb_model.specs.declared.answer.Answer.TheVariants as answer
-use Rattle.sdb_model.specs.declared.event.Event.{Event}
 use Rattle.sdb_model.specs.declared.event.Event.TheVariants as event
-use Rattle.sdb_model.specs.declared.event.How.{How}
-use Rattle.sdb_model.specs.declared.script.Script.{Script}
 use Rattle.sdb_model.specs.declared.statement.Statement.TheVariants as statement
 use Rattle.sdb_model.specs.Calls.{StoreCall, calls_of}
 use Rattle.sdb_model.specs.ReadSet.{reads_rows}
@@ -24,19 +15,14 @@ use Rattle.sdb_model.specs.Rows.{Name}
 use Rattle.sdb_model.specs.Sql.{reads_begin, reads_commit, reads_rollback, reads_vacuum}
 use Rattle.sdb_model.specs.Transactions.{Executed}
 use Rattle.sdb_exec.specs.Plans.{Planned}
-use Rattle.sdb_phases.specs.declared.step.RecoverPhase.{RecoverPhase}
-use Rattle.sdb_phases.specs.declared.step.RecoverStep.{RecoverStep}
 use Rattle.sdb_phases.specs.declared.step.RecoverStep.TheVariants as steps
 use Rattle.sdb_phases.specs.Recover.{recover_next}
-use Rattle.sdb_read.specs.declared.read.ReadStep.{ReadStep}
-use Rattle.sdb_read.specs.declared.read.ReadStep.TheVariants as step
-use Rattle.sdb_read.specs.Read.{Asking, Bad, Ended, Firm, IsAsking, Kind, Open, ReadAt, ReadStage, Resolving, answered, kind_of, read_pending_at, read_result, read_step, resolved, settle, settle_one}
+use Rattle.sdb_txn.specs.declared.read.ReadStep.TheVariants as step
+use Rattle.sdb_txn.specs.Read.{Asking, Bad, Ended, Firm, IsAsking, Kind, Open, ReadAt, ReadStage, Resolving, answered, kind_of, read_pending_at, read_result, read_step, resolved, settle, settle_one}
 use Rattle.sdb_sqltext.proofs.Clauses.{one_statement}
 use Rattle.sdb_sqltext.proofs.OneWord.{commit_read, rollback_read, vacuum_read}
-use Rattle.sdb_txn.specs.declared.txn.Doing.{Doing}
 use Rattle.sdb_txn.specs.declared.txn.Doing.TheVariants as doing
 use Rattle.sdb_txn.specs.Txn.{TxnAt}
-use Rattle.sdb_client.specs.declared.next.Next.{Next}
 use Rattle.sdb_client.specs.declared.next.Next.TheVariants as next
 use Rattle.sdb_client.specs.Client.{CallPost, ClientAt, StagePost, after}
 use Rattle.law_clients.specs.History.{executed_of_take}
@@ -44,7 +30,7 @@ use Rattle.law_answers.specs.Invariant.{IsWaiting}
 use Rattle.law_answers.proofs.Calls.{made_at}
 use Rattle.law_answers.proofs.RolledSteps.{recovery_unread}
 use Rattle.law_answers.proofs.Takings.{none_yet}
-use Rattle.sdb_execution.specs.Execution.{IsExecution, IsPlayable}
+use Rattle.sdb_client.specs.Execution.{IsExecution, IsPlayable}
 use Rattle.law_runs.specs.Laws.{ReadsAreFew, ReadsOnce}
 use Rattle.law_runs.specs.World.{states_of}
 use Rattle.law_runs.proofs.OwnPrepares.{calls_again}
@@ -179,7 +165,7 @@ stage_so (Ended s) calls h once = once
 
 -- a read that goes on
 left_so : (t : TxnAt) (p : Planned) (a : Access) (x : ReadAt) (r : Reply) (now : ℤ) (n : Next) (u : TxnAt) (calls : List StoreCall) → CallPost t p a x r now n u → n ≡ next.Call → ReadsOnce calls → DoingReads u.doing calls
-left_so t p a x r now n u calls told e once = by (read_result (read_step x.stage now r)) (subst (λ (m : Next). StagePost t p a x (read_step x.stage now r) (read_result (read_step x.stage now r)) m u) e (told.told (λ k. other (sym e ∙ k))))
+left_so t p a x r now n u calls acked e once = by (read_result (read_step x.stage now r)) (subst (λ (m : Next). StagePost t p a x (read_step x.stage now r) (read_result (read_step x.stage now r)) m u) e (acked.answered (λ k. other (sym e ∙ k))))
   where
     other : next.Call ≡ next.Answer answer.NoMemory → ⊥
     other k = cc
@@ -197,9 +183,9 @@ left_so t p a x r now n u calls told e once = by (read_result (read_step x.stage
 -- a COMMIT and a VACUUM are neither a BEGIN nor a ROLLBACK
 no_rollback : (text : List ℕ) → reads_rollback text ≡ true → (reads_commit text ≡ true) ⊎ (reads_vacuum text ≡ true) → ⊥
 no_rollback text back (inl commit) = let e = one_statement text statement.Rollback statement.Commit ((rollback_read text).0 back) ((commit_read text).0 commit) in cc
-no_rollback text back (inr sweeps) = let e = one_statement text statement.Rollback statement.Vacuum ((rollback_read text).0 back) ((vacuum_read text).0 sweeps) in cc
+no_rollback text back (inr vacuums) = let e = one_statement text statement.Rollback statement.Vacuum ((rollback_read text).0 back) ((vacuum_read text).0 vacuums) in cc
 
-module _ (catalog : List Table) (events : List Event) (c : ℕ) (h d : ClientAt) (store : Name) (q : Request) (how : How) (r : Reply) (now : ℤ) (told : List Executed) (x : Executed) (waits : IsWaiting catalog events c (is_some h.vacuum) x) (so : WaitFew events c x h) where
+module _ (catalog : List Table) (events : List Event) (c : ℕ) (h d : ClientAt) (store : Name) (q : Request) (how : How) (r : Reply) (now : ℤ) (acked : List Executed) (x : Executed) (waits : IsWaiting catalog events c (is_some h.vacuum) x) (so : WaitFew events c x h) where
   abbrev E : Option Answer → List Event
   E a = events ++ event.Call c store q how r a ∷ []
 
@@ -207,7 +193,7 @@ module _ (catalog : List Table) (events : List Event) (c : ℕ) (h d : ClientAt)
   made = made_at events store q how r
 
   more : (a : Option Answer) → calls_of (E a) c (replied_said events x a) ≡ calls_of events c x ++ made ∷ []
-  more a = calls_more events c store q how r x waits.unanswered waits.taken a
+  more a = calls_more events c store q how r x waits.unanswered waits.accepted a
 
   -- it is no statement that reads
   ends : (a : Option Answer) → (BeginsOrRollsBack x.text → ⊥) → (reads_commit x.text ≡ false → reads_vacuum x.text ≡ false → ⊥) → SoBy AreFew WaitFew (E a) c (replied_said events x a) d a
@@ -218,12 +204,12 @@ module _ (catalog : List Table) (events : List Event) (c : ℕ) (h d : ClientAt)
   never_ends is (inl begin) = clash (sym begin ∙ waits.begin)
   never_ends is (inr back) = no_rollback x.text back is
 
-  sweeps : (a : Option Answer) → SweepCall events c x h q r now a d → SoBy AreFew WaitFew (E a) c (replied_said events x a) d a
-  sweeps a z =
+  vacuums : (a : Option Answer) → SweepCall events c x h q r now a d → SoBy AreFew WaitFew (E a) c (replied_said events x a) d a
+  vacuums a z =
       let is : reads_vacuum x.text ≡ true = waits.vacuum ∙ ap is_some z.runs in
       ends a (never_ends (inr is)) (λ e f. clash (sym is ∙ f))
 
-  commits : (a : Option Answer) → CommitCall events c told x h q r a d → SoBy AreFew WaitFew (E a) c (replied_said events x a) d a
+  commits : (a : Option Answer) → CommitCall events c acked x h q r a d → SoBy AreFew WaitFew (E a) c (replied_said events x a) d a
   commits a z = ends a (never_ends (inl z.is.text)) (λ e f. clash (sym z.is.text ∙ e))
 
   reads : (a : Option Answer) → ReadCall catalog events c x h q r now a d → SoBy AreFew WaitFew (E a) c (replied_said events x a) d a
@@ -249,12 +235,12 @@ module _ (catalog : List Table) (events : List Event) (c : ℕ) (h d : ClientAt)
       by None e =
           let again : z.next ≡ next.Call = calls_again z.next (sym e ∙ z.answer) in
           let left : d.txn ≡ Some z.u = ap (λ (y : ClientAt). y.txn) (z.left ∙ ap (λ (n : Next). after h n z.u) again) in (
-            λ f g. subst (λ (o : Option TxnAt). TxnReads o (calls_of (E None) c x)) (sym left) (left_so z.t z.p z.access z.x r now z.next z.u (calls_of (E None) c x) z.told again (subst ReadsOnce (sym (more None)) (once f g))),
+            λ f g. subst (λ (o : Option TxnAt). TxnReads o (calls_of (E None) c x)) (sym left) (left_so z.t z.p z.access z.x r now z.next z.u (calls_of (E None) c x) z.answered again (subst ReadsOnce (sym (more None)) (once f g))),
             λ y. absurd (never y),
           )
 
-  call_few : (a : Option Answer) → CallOf catalog events c told x h q r now a d → SoBy AreFew WaitFew (E a) c (replied_said events x a) d a
-  call_few a (inl z) = sweeps a z
+  call_few : (a : Option Answer) → CallOf catalog events c acked x h q r now a d → SoBy AreFew WaitFew (E a) c (replied_said events x a) d a
+  call_few a (inl z) = vacuums a z
   call_few a (inr (inl z)) = reads a z
   call_few a (inr (inr z)) = commits a z
 
@@ -269,7 +255,7 @@ few_kept = record {
   answered = λ catalog events e c s past so. (λ f g. subst ReadsOnce (sym past.calls) (so.0 f g), λ z. past.calls ∙ so.1 z);
   waiting = λ catalog events e c s h still so. (λ f g. subst (TxnReads h.txn) (sym still.calls) (so.0 f g), λ z. still.calls ∙ so.1 z);
   takes = λ w u c text a t h. take_few w.events c text a t.client;
-  calls = λ w u c store q how r a t h k x waiting waits so. call_few w.script.catalog w.events c t.client_slot.client t.client store q how r w.clock k.told x waits so a
+  calls = λ w u c store q how r a t h k x waiting waits so. call_few w.script.catalog w.events c t.client_slot.client t.client store q how r w.clock k.answered x waits so a
       (call_of w.script.catalog w.events c t.client_slot.client k x waiting q r w.clock a t.client t.pending (h.world.each t.place t.client_slot t.at).fitted t.takes);
 }
 

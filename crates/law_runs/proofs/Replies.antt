@@ -2,24 +2,16 @@
 use Rattle.std.proofs.Common.{◌≡◌, ◌⊎◌, inl, inr, ℕ, ℤ, List, Option, Some, None, IfSome, refl, subst}
 use Rattle.std.specs.List.{AllByRecursion}
 use Rattle.sdb_types.proofs.Basics.{none_some}
-use Rattle.sdb_types.specs.declared.record.Reply.{Reply}
-use Rattle.sdb_types.specs.declared.record.Request.{Request}
-use Rattle.sdb_schema.specs.declared.table.Table.{Table}
-use Rattle.sdb_record.specs.declared.access.Access.{Access}
-use Rattle.sdb_model.specs.declared.answer.Answer.{Answer}
-use Rattle.sdb_model.specs.declared.event.Event.{Event}
+use Rattle.law_runs.specs.Types.{Access, Answer, Doing, Event, Next, Progress, Reply, Request, Table}
 use Rattle.sdb_model.specs.Calls.{calls_of}
 use Rattle.sdb_model.specs.Transactions.{Executed, id_of}
 use Rattle.sdb_exec.specs.Plans.{Planned}
-use Rattle.sdb_commit.specs.Phases.{CommitAt}
+use Rattle.sdb_txn.specs.Phases.{CommitAt}
 use Rattle.sdb_phases.specs.Commit.{pending as commit_pending}
-use Rattle.sdb_read.specs.Read.{ReadAt, read_pending}
-use Rattle.sdb_txn.specs.declared.progress.Progress.{Progress}
-use Rattle.sdb_txn.specs.declared.txn.Doing.{Doing}
+use Rattle.sdb_txn.specs.Read.{ReadAt, read_pending}
 use Rattle.sdb_txn.specs.declared.txn.Doing.TheVariants as doing
 use Rattle.sdb_txn.specs.Txn.{CommitPost, TxnAt, pending_in}
 use Rattle.sdb_vacuum.specs.Vacuum.{VacuumAt, vacuum_pending}
-use Rattle.sdb_client.specs.declared.next.Next.{Next}
 use Rattle.sdb_client.specs.Client.{CallPost, ClientAt, IsIdle, NextPost, OpenTxnPost, ReplyPost, VacuumPost, after, answer_in, client_pending, next_of, pending_by, pending_of}
 use Rattle.sdb_record.specs.Rolls.{IsWrite}
 use Rattle.law_clients.specs.States.{IsAskedBy, IsFitted, IsFittedBy, IsUsing, IsUsingTxn}
@@ -29,15 +21,15 @@ use Rattle.law_answers.specs.Invariant.{IsCommitting, IsDoing, IsOpenAs, IsReadi
 
 -- A client that waits for a statement has none without an answer.
 pub idle_rests : (catalog : List Table) (events : List Event) (c : ℕ) (h : ClientAt) (k : Knows catalog events c h) → IsIdle h → k.waiting ≡ None
-idle_rests catalog events c h k idle = by h.txn idle.still (subst (ClientByHistory events c h.begun k.told k.waiting h.plan h.txn) idle.free k.stands)
+idle_rests catalog events c h k idle = by h.txn idle.still (subst (ClientByHistory events c h.begun k.answered k.waiting h.plan h.txn) idle.free k.agrees)
   where
-    by : (o : Option TxnAt) → IfSome o (λ t. t.doing ≡ doing.Idle) → DoingByHistory events c h.begun k.told k.waiting h.plan o → k.waiting ≡ None
+    by : (o : Option TxnAt) → IfSome o (λ t. t.doing ≡ doing.Idle) → DoingByHistory events c h.begun k.answered k.waiting h.plan o → k.waiting ≡ None
     by None still s = s.0
     by (Some t) still s = subst (IsDoing events c t h.plan k.waiting) still s.2
 
 -- A client that has a call pending has a statement without an answer.
 pub pends_waits : (catalog : List Table) (events : List Event) (c : ℕ) (h : ClientAt) (q : Request) (k : Knows catalog events c h) → client_pending h ≡ Some q → (x : Executed) × (k.waiting ≡ Some x)
-pends_waits catalog events c h q k pending = by_vacuum h.vacuum k.waiting k.stands pending
+pends_waits catalog events c h q k pending = by_vacuum h.vacuum k.waiting k.agrees pending
   where
     by_doing : (t : TxnAt) (p : Option Planned) (w : Option Executed) (d : Doing) → IsDoing events c t p w d → pending_in d ≡ Some q → (x : Executed) × (w ≡ Some x)
     by_doing t p (Some w) d i e = (w, refl)
@@ -47,11 +39,11 @@ pends_waits catalog events c h q k pending = by_vacuum h.vacuum k.waiting k.stan
     by_doing t p None (doing.Commit x) i e = absurd i
     by_doing t p None doing.Over i e = absurd i
 
-    by_txn : (o : Option TxnAt) (w : Option Executed) → DoingByHistory events c h.begun k.told w h.plan o → pending_of o ≡ Some q → (x : Executed) × (w ≡ Some x)
+    by_txn : (o : Option TxnAt) (w : Option Executed) → DoingByHistory events c h.begun k.answered w h.plan o → pending_of o ≡ Some q → (x : Executed) × (w ≡ Some x)
     by_txn None w s e = none_some q e
     by_txn (Some t) w s e = by_doing t h.plan w t.doing s.2 e
 
-    by_vacuum : (v : Option VacuumAt) (w : Option Executed) → ClientByHistory events c h.begun k.told w h.plan h.txn v → pending_by v h.txn ≡ Some q → (x : Executed) × (w ≡ Some x)
+    by_vacuum : (v : Option VacuumAt) (w : Option Executed) → ClientByHistory events c h.begun k.answered w h.plan h.txn v → pending_by v h.txn ≡ Some q → (x : Executed) × (w ≡ Some x)
     by_vacuum None w s e = by_txn h.txn w s e
     by_vacuum (Some v) None s e = absurd s
     by_vacuum (Some v) (Some x) s e = (x, refl)
@@ -65,7 +57,7 @@ pub record SweepCall (events : List Event) (c : ℕ) (w : Executed) (h : ClientA
   pub rests : h.txn ≡ None
   pub is : VacuumBy (calls_of events c w) v
   pub pends : vacuum_pending v ≡ Some q
-  pub told : VacuumPost v r now a d.vacuum
+  pub answered : VacuumPost v r now a d.vacuum
   pub left : d ≡ record h { vacuum = d.vacuum }
 
 -- It is a call of a statement that reads.
@@ -83,7 +75,7 @@ pub record ReadCall (catalog : List Table) (events : List Event) (c : ℕ) (w : 
   pub pends : read_pending x ≡ Some q
   pub next : Next
   pub u : TxnAt
-  pub told : CallPost t p access x r now next u
+  pub answered : CallPost t p access x r now next u
   pub answer : a ≡ answer_in next
   pub left : d ≡ after h next u
 
@@ -100,15 +92,15 @@ pub record CommitCall (events : List Event) (c : ℕ) (told_so : List Executed) 
   pub pends : commit_pending k.work k.stage ≡ Some q
   pub progress : Progress
   pub u : TxnAt
-  pub told : CommitPost t k r progress u
+  pub answered : CommitPost t k r progress u
   pub answer : a ≡ answer_in (next_of progress)
   pub left : d ≡ after h (next_of progress) u
 
 abbrev pub CallOf : List Table → List Event → ℕ → List Executed → Executed → ClientAt → Request → Reply → ℤ → Option Answer → ClientAt → Type 0
-CallOf catalog events c told w h q r now a d = SweepCall events c w h q r now a d ⊎ ReadCall catalog events c w h q r now a d ⊎ CommitCall events c told w h q r a d
+CallOf catalog events c answered w h q r now a d = SweepCall events c w h q r now a d ⊎ ReadCall catalog events c w h q r now a d ⊎ CommitCall events c answered w h q r a d
 
-pub call_of : (catalog : List Table) (events : List Event) (c : ℕ) (h : ClientAt) (k : Knows catalog events c h) (w : Executed) → k.waiting ≡ Some w → (q : Request) (r : Reply) (now : ℤ) (a : Option Answer) (d : ClientAt) → client_pending h ≡ Some q → IsFitted catalog h → ReplyPost h h.vacuum r now a d → CallOf catalog events c k.told w h q r now a d
-call_of catalog events c h k w waits q r now a d pending fitted told = by_vacuum h.vacuum refl (subst (λ (o : Option Executed). ClientByHistory events c h.begun k.told o h.plan h.txn h.vacuum) waits k.stands) pending told
+pub call_of : (catalog : List Table) (events : List Event) (c : ℕ) (h : ClientAt) (k : Knows catalog events c h) (w : Executed) → k.waiting ≡ Some w → (q : Request) (r : Reply) (now : ℤ) (a : Option Answer) (d : ClientAt) → client_pending h ≡ Some q → IsFitted catalog h → ReplyPost h h.vacuum r now a d → CallOf catalog events c k.answered w h q r now a d
+call_of catalog events c h k w waits q r now a d pending fitted answered = by_vacuum h.vacuum refl (subst (λ (o : Option Executed). ClientByHistory events c h.begun k.answered o h.plan h.txn h.vacuum) waits k.agrees) pending answered
   where
     asked_of : (t : TxnAt) (access : Access) (x : ReadAt) (p : Planned) → h.vacuum ≡ None → h.txn ≡ Some t → h.plan ≡ Some p → t.doing ≡ doing.Read access x → IsAskedBy catalog p access x
     asked_of t access x p free opened plan does =
@@ -118,13 +110,13 @@ call_of catalog events c h k w waits q r now a d pending fitted told = by_vacuum
 
     writes_of : (t : TxnAt) (x : CommitAt) → h.vacuum ≡ None → h.txn ≡ Some t → t.doing ≡ doing.Commit x → AllByRecursion IsWrite x.work.writes
     writes_of t x free opened does =
-        let counted = subst (λ (o : Option Executed). IfSome o (λ y. WaitCounted catalog y.text (id_of c h.begun) (read_items_since events c h.begun k.told) (calls_of events c y) h.vacuum h.txn)) waits k.counted.waits in
-        let txn = subst (λ (v : Option VacuumAt). WaitCounted catalog w.text (id_of c h.begun) (read_items_since events c h.begun k.told) (calls_of events c w) v h.txn) free counted in
-        let one = subst (OpenCounted w.text (id_of c h.begun) (read_items_since events c h.begun k.told) (calls_of events c w)) opened txn in
-        (subst (DoingCounted w.text (id_of c h.begun) (read_items_since events c h.begun k.told) (calls_of events c w)) does one).2
+        let counted = subst (λ (o : Option Executed). IfSome o (λ y. WaitCounted catalog y.text (id_of c h.begun) (read_items_since events c h.begun k.answered) (calls_of events c y) h.vacuum h.txn)) waits k.counted.waits in
+        let txn = subst (λ (v : Option VacuumAt). WaitCounted catalog w.text (id_of c h.begun) (read_items_since events c h.begun k.answered) (calls_of events c w) v h.txn) free counted in
+        let one = subst (OpenCounted w.text (id_of c h.begun) (read_items_since events c h.begun k.answered) (calls_of events c w)) opened txn in
+        (subst (DoingCounted w.text (id_of c h.begun) (read_items_since events c h.begun k.answered) (calls_of events c w)) does one).2
 
-    by_doing : (t : TxnAt) (x : Doing) (p : Option Planned) (n : Next) (u : TxnAt) → h.vacuum ≡ None → h.txn ≡ Some t → t.doing ≡ x → h.plan ≡ p → IsOpenAs c h.begun k.told t → IsDoing events c t p (Some w) x → pending_in x ≡ Some q → NextPost t x p r now n u → a ≡ answer_in n → d ≡ after h n u
-        → ReadCall catalog events c w h q r now a d ⊎ CommitCall events c k.told w h q r a d
+    by_doing : (t : TxnAt) (x : Doing) (p : Option Planned) (n : Next) (u : TxnAt) → h.vacuum ≡ None → h.txn ≡ Some t → t.doing ≡ x → h.plan ≡ p → IsOpenAs c h.begun k.answered t → IsDoing events c t p (Some w) x → pending_in x ≡ Some q → NextPost t x p r now n u → a ≡ answer_in n → d ≡ after h n u
+        → ReadCall catalog events c w h q r now a d ⊎ CommitCall events c k.answered w h q r a d
     by_doing t doing.Idle p n u free opened does plan since i e z is left = none_some q e
     by_doing t (doing.Read access x) None n u free opened does plan since i e z is left = absurd z
     by_doing t (doing.Read access x) (Some p) n u free opened does plan since i e z is left = inl (record {
@@ -141,7 +133,7 @@ call_of catalog events c h k w waits q r now a d pending fitted told = by_vacuum
       pends = e;
       next = n;
       u = u;
-      told = z;
+      answered = z;
       answer = is;
       left = left;
     })
@@ -158,16 +150,16 @@ call_of catalog events c h k w waits q r now a d pending fitted told = by_vacuum
       pends = e;
       progress = z.progress;
       u = u;
-      told = z.told;
+      answered = z.answered;
       answer = subst (λ (m : Next). a ≡ answer_in m) z.next is;
       left = subst (λ (m : Next). d ≡ after h m u) z.next left;
     })
     by_doing t doing.Over p n u free opened does plan since i e z is left = none_some q e
 
-    by_txn : (o : Option TxnAt) → h.vacuum ≡ None → h.txn ≡ o → DoingByHistory events c h.begun k.told (Some w) h.plan o → pending_of o ≡ Some q → OpenTxnPost h o r now a d → ReadCall catalog events c w h q r now a d ⊎ CommitCall events c k.told w h q r a d
+    by_txn : (o : Option TxnAt) → h.vacuum ≡ None → h.txn ≡ o → DoingByHistory events c h.begun k.answered (Some w) h.plan o → pending_of o ≡ Some q → OpenTxnPost h o r now a d → ReadCall catalog events c w h q r now a d ⊎ CommitCall events c k.answered w h q r a d
     by_txn None free opened s e z = none_some q e
-    by_txn (Some t) free opened s e z = by_doing t t.doing h.plan z.next z.left free opened refl refl s.1 s.2 e z.told z.answer z.client
+    by_txn (Some t) free opened s e z = by_doing t t.doing h.plan z.next z.left free opened refl refl s.1 s.2 e z.answered z.answer z.client
 
-    by_vacuum : (v : Option VacuumAt) → h.vacuum ≡ v → ClientByHistory events c h.begun k.told (Some w) h.plan h.txn v → pending_by v h.txn ≡ Some q → ReplyPost h v r now a d → CallOf catalog events c k.told w h q r now a d
+    by_vacuum : (v : Option VacuumAt) → h.vacuum ≡ v → ClientByHistory events c h.begun k.answered (Some w) h.plan h.txn v → pending_by v h.txn ≡ Some q → ReplyPost h v r now a d → CallOf catalog events c k.answered w h q r now a d
     by_vacuum None free s e z = inr (by_txn h.txn free refl s e z)
-    by_vacuum (Some v) runs s e z = inl (record { v = v; runs = runs; rests = s.0; is = s.2; pends = e; told = z.0; left = z.1 })
+    by_vacuum (Some v) runs s e z = inl (record { v = v; runs = runs; rests = s.0; is = s.2; pends = e; answered = z.0; left = z.1 })

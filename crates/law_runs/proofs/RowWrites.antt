@@ -4,12 +4,7 @@ use Rattle.std.specs.Prelude.{filter, not, slice_get}
 use Rattle.std.specs.List.{AllByRecursion}
 use Rattle.std.specs.Option.{option_map}
 use Rattle.std.specs.Ordering.{is_eq}
-use Rattle.sdb_types.specs.declared.key.Key.{Key}
-use Rattle.sdb_types.specs.declared.record.Condition.{Condition}
-use Rattle.sdb_types.specs.declared.record.Record.{Record}
-use Rattle.sdb_types.specs.declared.record.Request.{Request}
-use Rattle.sdb_types.specs.declared.txid.TxId.{TxId}
-use Rattle.sdb_types.specs.declared.value.Value.{Value}
+use Rattle.law_runs.specs.Types.{Check, Condition, DecidePhase, Decision, Key, Meta, Read, Record, RecoverPhase, Request, Scan, Table, TxId, Value, Write}
 use Rattle.sdb_types.specs.declared.value.Value.TheVariants as value
 use Rattle.sdb_types.specs.Columns.{column}
 use Rattle.sdb_types.specs.Contents.{tx_id}
@@ -17,12 +12,7 @@ use Rattle.sdb_types.specs.Exact.{equal_of}
 use Rattle.sdb_types.specs.Order.{key_cmp}
 use Rattle.sdb_types.proofs.Basics.{append_all as each_append, clash, none_some, some_is}
 use Rattle.sdb_types.proofs.KeyOrder.{key_exact}
-use Rattle.sdb_record.specs.declared.access.Read.{Read}
-use Rattle.sdb_record.specs.declared.access.Scan.{Scan}
-use Rattle.sdb_record.specs.declared.coordinator.Decision.{Decision}
 use Rattle.sdb_record.specs.declared.coordinator.Decision.TheVariants as decision
-use Rattle.sdb_record.specs.declared.meta.Meta.{Meta}
-use Rattle.sdb_record.specs.declared.write.Write.{Write}
 use Rattle.sdb_record.specs.Among.{is_written}
 use Rattle.sdb_record.specs.Coordinator.{coordinator_key_of, coordinator_row_of, id_of_key}
 use Rattle.sdb_record.specs.Meta.{id_in, id_in_value}
@@ -31,12 +21,8 @@ use Rattle.sdb_record.specs.Rolls.{IsBaseOf, IsWrite, forward_record, prepared_r
 use Rattle.sdb_record.proofs.IdLemmas.{id_of_text-is}
 use Rattle.sdb_record.proofs.ImageLaws.{key-of-id}
 use Rattle.sdb_record.proofs.TakenLaws.{prepared-key}
-use Rattle.sdb_schema.specs.declared.table.Table.{Table}
 use Rattle.sdb_model.specs.Calls.{is_of_row, is_read, key_asked}
-use Rattle.sdb_phases.specs.declared.check.Check.{Check}
-use Rattle.sdb_phases.specs.declared.step.DecidePhase.{DecidePhase}
 use Rattle.sdb_phases.specs.declared.step.DecidePhase.TheVariants as decide
-use Rattle.sdb_phases.specs.declared.step.RecoverPhase.{RecoverPhase}
 use Rattle.sdb_phases.specs.declared.step.RecoverPhase.TheVariants as phase
 use Rattle.sdb_phases.specs.Checks.{check_of_read, check_of_scan, checks}
 use Rattle.sdb_phases.specs.Commit.{Stage, Preparing, Checking, Deciding, Forward, Stopping, Back, Over, pending}
@@ -133,7 +119,7 @@ module _ (catalog : List Table) (apart : (k : Key) → IsIn catalog k → is_dat
   decide_writes p decide.Again q e fits own w = absurd (read_not (look_of p.id) refl (as_asked (look_of p.id) q e w))
   decide_writes p decide.Ended q e fits own w = none_some q e
 
-  -- A COMMIT puts its own, with the moment at which it was taken.
+  -- A COMMIT puts its own, with the moment at which it was accepted.
   pub commit_writes : (p : Work) (s : Stage) (q : Request) → pending p s ≡ Some q → AreWritesIn catalog p.writes → AllByRecursion IsWrite p.writes → id.0 < 2 ^ 128 → p.id.0 < 2 ^ 128 → Writes q → OwnPut p q
   commit_writes p (Preparing i) q e inside writes fits own w =
       let x = mapped_at (prepare_of p.id p.now) p.writes i q e in

@@ -7,15 +7,9 @@ use Rattle.std.proofs.lemmas.List.Folds.{list_any-append}
 use Rattle.std.proofs.lemmas.List.{append-nil, append_assoc}
 use Rattle.std.proofs.lemmas.List.Elements.{filter-append}
 use Rattle.std.proofs.lemmas.List.Sums.{take_while-cons}
-use Rattle.sdb_types.specs.declared.key.Key.{Key}
-use Rattle.sdb_types.specs.declared.record.Span.{Span}
+use Rattle.law_runs.specs.Types.{Answer, Event, Key, Record, Span, Statement, Table}
 use Rattle.sdb_types.specs.Order.{key_cmp}
-use Rattle.sdb_types.specs.declared.record.Record.{Record}
 use Rattle.sdb_types.proofs.Basics.{clash, or_false, map_last}
-use Rattle.sdb_schema.specs.declared.table.Table.{Table}
-use Rattle.sdb_model.specs.declared.answer.Answer.{Answer}
-use Rattle.sdb_model.specs.declared.event.Event.{Event}
-use Rattle.sdb_model.specs.declared.statement.Statement.{Statement}
 use Rattle.sdb_model.specs.Calls.{calls_of}
 use Rattle.sdb_model.specs.ReadSet.{has_finished}
 use Rattle.sdb_model.specs.Sql.{Reads}
@@ -28,7 +22,7 @@ use Rattle.law_answers.proofs.CountsNotes.{open_only}
 use Rattle.law_answers.proofs.Lists.{each_kept, filter_same, since_more, since_none}
 use Rattle.law_answers.proofs.Noting.{since_all, take_ends, take_open}
 use Rattle.law_runs.specs.Found.{AllRunAs, IsRunOnFound, RunsAs, View, exec_on, finds, found_by, is_answered, meets_misfit, takes_part, nothing_found, run_on_found, run_one, scans_span, was_scanned, with_found}
-use Rattle.sdb_session.specs.Keys.{keys_written, with_keys}
+use Rattle.law_clients.specs.Keys.{keys_written, with_keys}
 use Rattle.law_runs.specs.Written.{keys_of, written_on_found}
 use Rattle.law_runs.proofs.Views.{IsViewOf}
 use Rattle.law_runs.proofs.Writing.{write_keys, written_more}

@@ -1,9 +1,6 @@
 -- Events that are tied to their clients, and agree with stores whose tables began empty, are a run of the laws.
 use Rattle.std.proofs.Common.{◌≡◌, ℕ, Bool, List, Option, subst}
-use Rattle.sdb_schema.specs.declared.table.Table.{Table}
-use Rattle.sdb_model.specs.declared.event.Event.{Event}
-use Rattle.sdb_types.specs.declared.place.Place.{Place}
-use Rattle.sdb_model.specs.declared.statement.Statement.{Statement}
+use Rattle.law_runs.specs.Types.{Event, Place, Statement, Table}
 use Rattle.sdb_model.specs.Events.{IsTrace, StoreContents}
 use Rattle.sdb_model.specs.Exec.{Tables}
 use Rattle.law_protocol.specs.Explained.{IsRunOf, events_of, newest_first}
@@ -38,9 +35,9 @@ lawful_run catalog fit events sys doing places opening end moments g trace empty
   labelled = g.labelled;
   same = g.same;
   run = record { empty = empty; lawful = subst (IsLawful g.plan) g.turned g.system.lawful; traced = (turned catalog fit events sys doing places opening end moments g trace).0 };
-  faithful = clients_faithful g.plan (events_of g.labelled) (newest_first g.labelled) sys g.told
+  faithful = clients_faithful g.plan (events_of g.labelled) (newest_first g.labelled) sys g.answered
       (subst (λ ps. SystemOk g.plan ps sys) g.turned g.system)
-      (subst (λ ps. AllStories (events_of g.labelled) ps sys g.told) g.turned (subst (λ es. AllStories es g.past sys g.told) g.same g.stories));
+      (subst (λ ps. AllStories (events_of g.labelled) ps sys g.answered) g.turned (subst (λ es. AllStories es g.past sys g.answered) g.same g.stories));
   as_read = subst (λ ps. AreReadSets g.plan (events_of g.labelled) ps) g.turned (subst (λ es. AreReadSets g.plan es g.past) g.same (going_is_noted catalog fit events sys doing g));
 }
 

@@ -3,7 +3,7 @@ use Rattle.std.proofs.Common.{◌≡◌, ◌≢◌, ℕ, zero, suc, Bool, true, 
 use Rattle.std.specs.Prelude.{◌==◌, slice_get}
 use Rattle.std.proofs.lemmas.Bool.{eqb-false, eqb-true, ne_eqb}
 use Rattle.law_protocol.specs.History.{at}
-use Rattle.sdb_execution.specs.declared.slot.ClientSlot.{ClientSlot}
+use Rattle.sdb_client.specs.declared.slot.ClientSlot.{ClientSlot}
 use Rattle.law_runs.specs.World.{state_in, states_of}
 use Rattle.sdb_types.proofs.Basics.{none_some}
 

@@ -2,20 +2,14 @@
 use Rattle.std.proofs.Common.{◌≡◌, ◌≢◌, ◌<◌, ◌^◌, ℕ, Bool, true, false, List, take, drop, Option, Some, None, refl, sym, ap, ◌∙◌, subst}
 use Rattle.std.specs.Prelude.{◌&&◌, not, IsOk, Result, Ok, Err, is_ok}
 use Rattle.std.specs.Option.{option_map}
-use Rattle.sdb_types.specs.declared.key.Key.{Key}
-use Rattle.sdb_types.specs.declared.record.Record.{Record}
+use Rattle.law_runs.specs.Types.{Decided, Decision, Event, Key, Place, Record, Table}
 use Rattle.sdb_types.specs.declared.record.State.TheVariants.{Committed}
-use Rattle.sdb_schema.specs.declared.table.Table.{Table}
-use Rattle.sdb_record.specs.declared.coordinator.Decided.{Decided}
-use Rattle.sdb_record.specs.declared.coordinator.Decision.{Decision}
 use Rattle.sdb_record.specs.Coordinator.{coordinator_key_of, coordinator_row_of, coordinator_table, decision_in, is_coordinator_table}
 use Rattle.sdb_record.specs.Meta.{checked, is_in, is_transactional, is_unresolved}
 use Rattle.sdb_record.specs.Parts.{are_stored}
 use Rattle.sdb_record.proofs.ImageLaws.{prepared-unresolved, row-decision}
-use Rattle.sdb_record.proofs.RollLaws.{forward-taken}
-use Rattle.sdb_model.specs.declared.event.Event.{Event}
-use Rattle.sdb_types.specs.declared.place.Place.{Place}
-use Rattle.sdb_model.specs.Events.{StoreContents, standing}
+use Rattle.sdb_record.proofs.RollLaws.{forward-accepted}
+use Rattle.sdb_model.specs.Events.{StoreContents, stored_at}
 use Rattle.sdb_model.specs.Exec.{find_table}
 use Rattle.law_protocol.specs.Explained.{IsRunOf, newest_first}
 use Rattle.law_protocol.specs.History.{Final, Held, History, Standing}
@@ -41,7 +35,7 @@ held_unresolved plan t k planned fits writes = prepared-unresolved (write_there 
 
 firm_taken : (plan : ℕ → Plan) (t : ℕ) (k : Key) → IsPlanned plan t → t < 2 ^ 128 → written (plan t) k ≢ None → is_transactional (record_left_by plan t k) ≡ true
 unfolding record_left_by
-firm_taken plan t k planned fits writes = forward-taken (record_prepared_by plan t k) (plan t).now (held_unresolved plan t k planned fits writes) planned.moment
+firm_taken plan t k planned fits writes = forward-accepted (record_prepared_by plan t k) (plan t).now (held_unresolved plan t k planned fits writes) planned.moment
 
 left : (a b : Bool) → (a && b) ≡ true → a ≡ true
 left true b h = refl
@@ -65,20 +59,20 @@ some_is : (x y : Record) → Some x ≡ Some y → x ≡ y
 some_is x y e = cc
 
 -- Each record that is there passes the checks.
-taken_held : (plan : ℕ → Plan) (places : List Place) (w : History) (past : List Labelled) (shelves : List StoreContents) → Whole plan places w past shelves → (k : Key) (r : Record) → is_data k ≡ true → standing places shelves k ≡ Some r → is_transactional r ≡ true
-taken_held plan places w past shelves i k r outside at = by (w.rows k) refl (sym (i.held.records k outside) ∙ at)
+taken_held : (plan : ℕ → Plan) (places : List Place) (w : History) (past : List Labelled) (store_contents : List StoreContents) → Whole plan places w past store_contents → (k : Key) (r : Record) → is_data k ≡ true → stored_at places store_contents k ≡ Some r → is_transactional r ≡ true
+taken_held plan places w past store_contents i k r outside at = by (w.rows k) refl (sym (i.held.records k outside) ∙ at)
   where
     by : (s : Option Standing) → w.rows k ≡ s → option_map (record_for plan k) s ≡ Some r → is_transactional r ≡ true
     by None e h = absurd (cc)
     by (Some (Final t)) e h =
         let writer = i.all.one.firm k t e in
-        let taken = writer_taken plan w k t i.all.one.taken writer in
-        subst (λ x. is_transactional x ≡ true) (some_is (record_left_by plan t k) r h) (firm_taken plan t k (i.knows.planned t taken) (taken_fits w t i.all.one.begun i.knows.fits taken) writer.1)
+        let accepted = writer_taken plan w k t i.all.one.accepted writer in
+        subst (λ x. is_transactional x ≡ true) (some_is (record_left_by plan t k) r h) (firm_taken plan t k (i.knows.planned t accepted) (taken_fits w t i.all.one.begun i.knows.fits accepted) writer.1)
     by (Some (Held t)) e h =
         let took_effect = i.all.one.held k t e in
-        let taken = took_is_taken w t k i.all.one.taken took_effect in
+        let accepted = took_is_taken w t k i.all.one.accepted took_effect in
         let asked = ((i.all.one.took_effect t k).0 took_effect).0 in
-        subst (λ x. is_transactional x ≡ true) (some_is (record_prepared_by plan t k) r h) (held_taken (record_prepared_by plan t k) (held_unresolved plan t k (i.knows.planned t taken) (taken_fits w t i.all.one.begun i.knows.fits taken) (i.all.one.asked t k asked)))
+        subst (λ x. is_transactional x ≡ true) (some_is (record_prepared_by plan t k) r h) (held_taken (record_prepared_by plan t k) (held_unresolved plan t k (i.knows.planned t accepted) (taken_fits w t i.all.one.begun i.knows.fits accepted) (i.all.one.asked t k asked)))
 
 -- also at each moment before
 pub taken_at : (plan : ℕ → Plan) (places : List Place) (opening : List StoreContents) (labelled : List Labelled) (moments : List (List StoreContents)) (catalog : List Table) → IsRunOf plan places opening (newest_first labelled) (newest_first moments) → find_table catalog coordinator_table ≡ None → AreTransactional catalog places opening moments
@@ -86,17 +80,17 @@ taken_at plan places opening labelled moments catalog run none n key r low table
     let c = cut plan places opening labelled moments n run low in
     let first = early_run plan places opening (take n labelled) (drop n labelled) (take n moments) (drop n moments) c.same c.whole in
     taken_held plan places (history plan places opening (newest_first (take n labelled)) (newest_first (take n moments))) (newest_first (take n labelled)) (closing opening (newest_first (take n moments)))
-    (whole_of plan places opening (newest_first (take n labelled)) (newest_first (take n moments)) first) key r ((apart_from catalog none).outside key table) (ap (λ s. standing places s key) (sym (at_cut opening moments n c.size)) ∙ at)
+    (whole_of plan places opening (newest_first (take n labelled)) (newest_first (take n moments)) first) key r ((apart_from catalog none).outside key table) (ap (λ s. stored_at places s key) (sym (at_cut opening moments n c.size)) ∙ at)
 
 module _ (places : List Place) (events : List Event) (opening end : List StoreContents) (b : ByLaws places events opening end) where
   whole : Whole b.plan places (history b.plan places opening (newest_first b.labelled) b.held) (newest_first b.labelled) (closing opening b.held)
   whole = whole_of b.plan places opening (newest_first b.labelled) b.held b.run
 
-  record_taken : (k : Key) (r : Record) → is_data k ≡ true → standing places end k ≡ Some r → is_transactional r ≡ true
-  record_taken k r outside at = taken_held b.plan places (history b.plan places opening (newest_first b.labelled) b.held) (newest_first b.labelled) (closing opening b.held) whole k r outside (ap (λ s. standing places s k) b.end_is ∙ at)
+  record_taken : (k : Key) (r : Record) → is_data k ≡ true → stored_at places end k ≡ Some r → is_transactional r ≡ true
+  record_taken k r outside at = taken_held b.plan places (history b.plan places opening (newest_first b.labelled) b.held) (newest_first b.labelled) (closing opening b.held) whole k r outside (ap (λ s. stored_at places s k) b.end_is ∙ at)
 
-  row_ok : (t : ℕ) (row : Record) → t < 2 ^ 128 → standing places end (coordinator_key_of (id t)) ≡ Some row → IsOk (decision_in row)
-  row_ok t row fits at = by ((history b.plan places opening (newest_first b.labelled) b.held).row t) refl (sym (whole.held.rows t fits) ∙ ap (λ s. standing places s (coordinator_key_of (id t))) b.end_is ∙ at)
+  row_ok : (t : ℕ) (row : Record) → t < 2 ^ 128 → stored_at places end (coordinator_key_of (id t)) ≡ Some row → IsOk (decision_in row)
+  row_ok t row fits at = by ((history b.plan places opening (newest_first b.labelled) b.held).row t) refl (sym (whole.held.rows t fits) ∙ ap (λ s. stored_at places s (coordinator_key_of (id t))) b.end_is ∙ at)
     where
       w : History
       w = history b.plan places opening (newest_first b.labelled) b.held
@@ -108,14 +102,14 @@ module _ (places : List Place) (events : List Event) (opening end : List StoreCo
           apart : Some d ≡ None → ⊥
           apart x = absurd (cc)
 
-  each_row : (k : Key) (row : Record) → is_coordinator_table k.table ≡ true → standing places end k ≡ Some row → IsOk (decision_in row)
+  each_row : (k : Key) (row : Record) → is_coordinator_table k.table ≡ true → stored_at places end k ≡ Some row → IsOk (decision_in row)
   each_row k row of_rows at =
-      let key = only_rows b.plan places opening (newest_first b.labelled) b.held k row b.run.empty b.run.lawful b.run.traced (ap not of_rows) (ap (λ s. standing places s k) b.end_is ∙ at) in
-      row_ok key.t row key.fits (ap (standing places end) (sym key.same) ∙ at)
+      let key = only_rows b.plan places opening (newest_first b.labelled) b.held k row b.run.empty b.run.lawful b.run.traced (ap not of_rows) (ap (λ s. stored_at places s k) b.end_is ∙ at) in
+      row_ok key.t row key.fits (ap (stored_at places end) (sym key.same) ∙ at)
 
   pub are_known : AreKnown places end
   are_known = record {
-    taken = record_taken;
+    accepted = record_taken;
     meta = λ k r outside at. meta_ok r (record_taken k r outside at);
     rows = each_row;
   }

@@ -4,16 +4,9 @@ use Rattle.std.specs.Prelude.{Contains, is_some, slice_get, slice_set}
 use Rattle.std.proofs.lemmas.Bool.{ne_eqb}
 use Rattle.std.proofs.lemmas.List.{append-nil}
 use Rattle.std.proofs.lemmas.List.Elements.{Contains-append_cases, Contains-append_left, Contains-push, Contains-push_cases}
-use Rattle.sdb_types.specs.declared.record.Reply.{Reply}
-use Rattle.sdb_types.specs.declared.record.Request.{Request}
-use Rattle.sdb_types.specs.declared.txid.TxId.{TxId}
+use Rattle.law_runs.specs.Types.{Answer, ClientSlot, Event, How, Reply, Request, Script, Table, TxId}
 use Rattle.sdb_types.proofs.Basics.{length_more, none_some, some_is}
-use Rattle.sdb_schema.specs.declared.table.Table.{Table}
-use Rattle.sdb_model.specs.declared.answer.Answer.{Answer}
-use Rattle.sdb_model.specs.declared.event.Event.{Event}
 use Rattle.sdb_model.specs.declared.event.Event.TheVariants as event
-use Rattle.sdb_model.specs.declared.event.How.{How}
-use Rattle.sdb_model.specs.declared.script.Script.{Script}
 use Rattle.sdb_model.specs.Calls.{StoreCall, calls_of, clock_at, made_by}
 use Rattle.sdb_model.specs.Causes.{IsCommitOf}
 use Rattle.sdb_model.specs.Rows.{Name}
@@ -29,8 +22,7 @@ use Rattle.law_answers.proofs.Knowing.{calls_wait}
 use Rattle.law_answers.proofs.Later.{commit_stays}
 use Rattle.law_answers.proofs.Lists.{each_in}
 use Rattle.law_answers.proofs.Passing.{Grows}
-use Rattle.sdb_execution.specs.declared.slot.ClientSlot.{ClientSlot}
-use Rattle.sdb_execution.specs.Execution.{CallStep, IsExecution, IsPath, IsPlayable, IsStepFrom, State, TakeStep, client_after, client_stopped}
+use Rattle.sdb_client.specs.Execution.{CallStep, IsExecution, IsPath, IsPlayable, IsStepFrom, State, TakeStep, client_after, client_stopped}
 use Rattle.law_runs.specs.World.{WorldAt, state_in, states_of, state_of, with_event, with_client}
 use Rattle.law_runs.proofs.Kept.{by_nat}
 use Rattle.law_runs.proofs.Replies.{idle_rests, pends_waits}
@@ -46,18 +38,18 @@ replied_said events x (Some b) = executed_with_answer events x b
 pub record IsPast (events : List Event) (e : Event) (c : ℕ) (s : Executed) : Type 0 where
   pub given : Answer
   pub is : s.answer ≡ Some given
-  pub taken : s.taken ≤ length events
+  pub accepted : s.accepted ≤ length events
   pub answered : s.reached ≤ length events
   pub calls : calls_of (events ++ e ∷ []) c s ≡ calls_of events c s
-  pub clock : clock_at (events ++ e ∷ []) s.taken ≡ clock_at events s.taken
+  pub clock : clock_at (events ++ e ∷ []) s.accepted ≡ clock_at events s.accepted
   pub commit : (id : TxId) → IsCommitOf events c s id → IsCommitOf (events ++ e ∷ []) c s id
 
 -- A statement that waits for its answer, at an event of others.
 pub record IsStill (events : List Event) (e : Event) (c : ℕ) (s : Executed) : Type 0 where
   pub unanswered : s.answer ≡ None
-  pub taken : s.taken ≤ length events
+  pub accepted : s.accepted ≤ length events
   pub calls : calls_of (events ++ e ∷ []) c s ≡ calls_of events c s
-  pub clock : clock_at (events ++ e ∷ []) s.taken ≡ clock_at events s.taken
+  pub clock : clock_at (events ++ e ∷ []) s.accepted ≡ clock_at events s.accepted
 
 -- one is so of a statement that was answered, another of one that waits while its client is so
 abbrev pub SoBy : (List Event → ℕ → Executed → Type 0) → (List Event → ℕ → Executed → ClientAt → Type 0) → List Event → ℕ → Executed → ClientAt → Option Answer → Type 0
@@ -94,10 +86,10 @@ in_waiting (Some w) s h = by (Contains-push_cases [] w s h)
 
 -- each was answered, or is the one that waits
 pub known : (catalog : List Table) (events : List Event) (c : ℕ) (h : ClientAt) (k : Knows catalog events c h) (s : Executed) → Contains (statements_by c events) s → IsAnswered catalog events c s ⊎ (k.waiting ≡ Some s)
-known catalog events c h k s has = by (Contains-append_cases k.told (waiting_of k.waiting) s (subst (λ (ss : List Executed). Contains ss s) k.same has))
+known catalog events c h k s has = by (Contains-append_cases k.answered (waiting_of k.waiting) s (subst (λ (ss : List Executed). Contains ss s) k.same has))
   where
-    by : Contains k.told s ⊎ Contains (waiting_of k.waiting) s → IsAnswered catalog events c s ⊎ (k.waiting ≡ Some s)
-    by (inl t) = inl (each_in (IsAnswered catalog events c) k.told s k.answered t)
+    by : Contains k.answered s ⊎ Contains (waiting_of k.waiting) s → IsAnswered catalog events c s ⊎ (k.waiting ≡ Some s)
+    by (inl t) = inl (each_in (IsAnswered catalog events c) k.answered s k.answered t)
     by (inr t) = inr (in_waiting k.waiting s t)
 
 pub waits_of : (catalog : List Table) (events : List Event) (c : ℕ) (h : ClientAt) (k : Knows catalog events c h) (s : Executed) → k.waiting ≡ Some s → IsWaiting catalog events c (is_some h.vacuum) s
@@ -107,25 +99,25 @@ past_of : (catalog : List Table) (events : List Event) (e : Event) (c : ℕ) (s 
 past_of catalog events e c s grows x = record {
   given = x.given;
   is = x.is;
-  taken = x.taken;
+  accepted = x.accepted;
   answered = x.answered;
   calls = calls_stay c events e s x.given x.is x.answered;
-  clock = clock_same events e s.taken x.taken;
+  clock = clock_same events e s.accepted x.accepted;
   commit = λ id h. commit_stays c events (events ++ e ∷ []) s x.given id grows x.is h;
 }
 
 ---- the call of the statement that waits
 
-module _ (events : List Event) (c : ℕ) (store : Name) (q : Request) (how : How) (r : Reply) (x : Executed) (unanswered : x.answer ≡ None) (taken : x.taken ≤ length events) where
+module _ (events : List Event) (c : ℕ) (store : Name) (q : Request) (how : How) (r : Reply) (x : Executed) (unanswered : x.answer ≡ None) (accepted : x.accepted ≤ length events) where
   long : (a : Option Answer) → length (events ++ event.Call c store q how r a ∷ []) ≡ 1 + length events
   long a = length_more events (event.Call c store q how r a) ∙ one_plus (length events)
     where
       one_plus : (n : ℕ) → n + 1 ≡ 1 + n
       one_plus n = omega arith
 
-  later : (a : Option Answer) → later_calls (events ++ event.Call c store q how r a ∷ []) c x.taken ≡ calls_of events c x ++ made_at events store q how r ∷ []
+  later : (a : Option Answer) → later_calls (events ++ event.Call c store q how r a ∷ []) c x.accepted ≡ calls_of events c x ++ made_at events store q how r ∷ []
   later a =
-      later_more c events (event.Call c store q how r a) x.taken (made_at events store q how r) taken refl (own_made c events store q how r a)
+      later_more c events (event.Call c store q how r a) x.accepted (made_at events store q how r) accepted refl (own_made c events store q how r a)
       ∙ ap (λ (ms : List StoreCall). ms ++ made_at events store q how r ∷ []) (sym (calls_open c events x (end_waiting events x unanswered)))
 
   -- its calls are those before and this one
@@ -157,7 +149,7 @@ module _ (A : List Table → List Event → ℕ → Executed → Type 0) (W : Li
       by (inr waiting) =
           let x : IsWaiting catalog events c (is_some h.vacuum) s = waits_of catalog events c h k s waiting in
           subst (λ (o : Option Answer). SoOver A W catalog (events ++ e ∷ []) c s h o) (sym x.unanswered)
-          (kept.waiting catalog events e c s h (record { unanswered = x.unanswered; taken = x.taken; calls = calls_wait catalog c events e s none x.unanswered; clock = clock_same events e s.taken x.taken }) (subst (λ (o : Option Answer). SoOver A W catalog events c s h o) x.unanswered (so s before)))
+          (kept.waiting catalog events e c s h (record { unanswered = x.unanswered; accepted = x.accepted; calls = calls_wait catalog c events e s none x.unanswered; clock = clock_same events e s.accepted x.accepted }) (subst (λ (o : Option Answer). SoOver A W catalog events c s h o) x.unanswered (so s before)))
 
   -- its client takes a statement
   own_take : (catalog : List Table) (events : List Event) (c : ℕ) (h d : ClientAt) (text : List ℕ) (a : Option Answer) (k : Knows catalog events c h) → k.waiting ≡ None → ((s : Executed) → Contains (statements_by c events) s → SoOver A W catalog events c s h s.answer) → SoOver A W catalog (events ++ event.Take c text a ∷ []) c (executed_of_take events text a) d a
@@ -192,18 +184,18 @@ module _ (A : List Table → List Event → ℕ → Executed → Type 0) (W : Li
           let same : x ≡ s = some_is x s (sym waiting ∙ e) in
           subst (λ (y : Executed). SoOver A W catalog (events ++ event.Call c store q how r None ∷ []) c y d y.answer) same
           (subst (λ (o : Option Answer). SoOver A W catalog (events ++ event.Call c store q how r None ∷ []) c x d o) (sym waits.unanswered) now)
-  own_call catalog events c h d store q how r (Some b) k x waiting waits so now s has = by (Contains-push_cases k.told (executed_with_answer events x b) s (subst (λ (ss : List Executed). Contains ss s) says has))
+  own_call catalog events c h d store q how r (Some b) k x waiting waits so now s has = by (Contains-push_cases k.answered (executed_with_answer events x b) s (subst (λ (ss : List Executed). Contains ss s) says has))
     where
-      told : statements_by c events ≡ k.told ++ x ∷ []
-      told = k.same ∙ ap (λ (o : Option Executed). k.told ++ waiting_of o) waiting
+      answered : statements_by c events ≡ k.answered ++ x ∷ []
+      answered = k.same ∙ ap (λ (o : Option Executed). k.answered ++ waiting_of o) waiting
 
-      says : statements_by c (events ++ event.Call c store q how r (Some b) ∷ []) ≡ k.told ++ executed_with_answer events x b ∷ []
-      says = call_said c events store q how r b k.told x told
+      says : statements_by c (events ++ event.Call c store q how r (Some b) ∷ []) ≡ k.answered ++ executed_with_answer events x b ∷ []
+      says = call_said c events store q how r b k.answered x answered
 
-      by : Contains k.told s ⊎ (executed_with_answer events x b ≡ s) → SoOver A W catalog (events ++ event.Call c store q how r (Some b) ∷ []) c s d s.answer
+      by : Contains k.answered s ⊎ (executed_with_answer events x b ≡ s) → SoOver A W catalog (events ++ event.Call c store q how r (Some b) ∷ []) c s d s.answer
       by (inl t) =
-          old_one catalog events (event.Call c store q how r (Some b)) c h d s (inr (inr (k.told, x, executed_with_answer events x b, told, waits.unanswered, says))) (each_in (IsAnswered catalog events c) k.told s k.answered t)
-          (so s (subst (λ (ss : List Executed). Contains ss s) (sym told) (Contains-append_left k.told (x ∷ []) s t)))
+          old_one catalog events (event.Call c store q how r (Some b)) c h d s (inr (inr (k.answered, x, executed_with_answer events x b, answered, waits.unanswered, says))) (each_in (IsAnswered catalog events c) k.answered s k.answered t)
+          (so s (subst (λ (ss : List Executed). Contains ss s) (sym answered) (Contains-append_left k.answered (x ∷ []) s t)))
       by (inr same) = subst (λ (y : Executed). SoOver A W catalog (events ++ event.Call c store q how r (Some b) ∷ []) c y d y.answer) same now
 
 ---- the clients by their numbers
@@ -213,7 +205,7 @@ other_hand : (client_slots : List ClientSlot) (i : ℕ) (t : ClientSlot) (c : �
 other_hand client_slots i t zero n = refl
 other_hand client_slots i t (suc j) n = ap (λ (o : Option ClientSlot). state_in o (suc j)) (set_other client_slots i j t (λ e. n (ap suc (sym e))))
 
--- a client is told of as it was read
+-- a client is answered of as it was read
 pub at_hand : (P : ClientAt → Type 0) (client_slots : List ClientSlot) (i : ℕ) (s : ClientSlot) → slice_get client_slots i ≡ Some s → P (states_of client_slots (suc i)).client → P s.client
 at_hand P client_slots i s here p = subst (λ (o : Option ClientSlot). P (state_in o (suc i)).client) here p
 
@@ -266,7 +258,7 @@ module _ (A : List Table → List Event → ℕ → Executed → Type 0) (W : Li
       waiting_so : (i : ℕ) (k : Knows w.script.catalog w.events (suc i) t.client_slot.client) (x : Executed) → k.waiting ≡ Some x → IsWaiting w.script.catalog w.events (suc i) (is_some t.client_slot.client.vacuum) x → ((y : Executed) → Contains (statements_by (suc i) w.events) y → SoOver A W w.script.catalog w.events (suc i) y t.client_slot.client y.answer) → W w.script.catalog w.events (suc i) x t.client_slot.client
       waiting_so i k x waiting waits here =
           subst (λ (o : Option Answer). SoOver A W w.script.catalog w.events (suc i) x t.client_slot.client o) waits.unanswered
-          (here x (subst (λ (ss : List Executed). Contains ss x) (sym (k.same ∙ ap (λ (o : Option Executed). k.told ++ waiting_of o) waiting)) (Contains-push k.told x)))
+          (here x (subst (λ (ss : List Executed). Contains ss x) (sym (k.same ∙ ap (λ (o : Option Executed). k.answered ++ waiting_of o) waiting)) (Contains-push k.answered x)))
 
       at_number : (w : WorldAt) (u : State) (c : ℕ) (store : Name) (q : Request) (how : How) (r : Reply) (a : Option Answer) (t : CallStep (state_of w) c q r a u) → Holds w → (i : ℕ) → c ≡ suc i → (k : Knows w.script.catalog w.events (suc i) t.client_slot.client) (x : Executed) → k.waiting ≡ Some x → IsWaiting w.script.catalog w.events (suc i) (is_some t.client_slot.client.vacuum) x → W w.script.catalog w.events (suc i) x t.client_slot.client
           → SoOver A W w.script.catalog (w.events ++ event.Call (suc i) store q how r a ∷ []) (suc i) (replied_said w.events x a) t.client a

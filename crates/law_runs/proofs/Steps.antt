@@ -3,14 +3,10 @@ use Rattle.std.proofs.Common.{◌≡◌, ℕ, suc, ℤ, ◌<◌, ◌^◌, false,
 use Rattle.std.specs.Prelude.{◌-◌, slice_get}
 use Rattle.std.proofs.lemmas.List.{append-nil}
 use Rattle.std.proofs.lemmas.Option.{slice_get_within}
-use Rattle.sdb_types.specs.declared.record.Request.{Request}
-use Rattle.sdb_schema.specs.declared.table.Table.{Table}
-use Rattle.sdb_model.specs.declared.event.Event.{Event}
+use Rattle.law_runs.specs.Types.{ClientSlot, Doing, Event, Request, Script, Table}
 use Rattle.sdb_model.specs.declared.event.Event.TheVariants as event
-use Rattle.sdb_model.specs.declared.script.Script.{Script}
 use Rattle.law_protocol.specs.Spread.{AreAbout}
 use Rattle.sdb_client.specs.Client.{ClientAt, IsIdle, Taking, client_pending, next_id}
-use Rattle.sdb_txn.specs.declared.txn.Doing.{Doing}
 use Rattle.sdb_txn.specs.declared.txn.Doing.TheVariants as doing
 use Rattle.sdb_txn.specs.Txn.{TxnAt}
 use Rattle.sdb_vacuum.specs.Vacuum.{VacuumAt}
@@ -20,8 +16,7 @@ use Rattle.law_clients.specs.States.{ClientState, IsFitted, IsFittedBy, IsReady,
 use Rattle.law_clients.proofs.ClientIn.{asks_in, replies_in, takes_in}
 use Rattle.law_clients.proofs.Fitted.{replies_fitted, takes_fitted}
 use Rattle.law_answers.specs.Invariant.{AnswersHaveCauses}
-use Rattle.sdb_execution.specs.declared.slot.ClientSlot.{ClientSlot}
-use Rattle.sdb_execution.specs.Execution.{IsExecution, IsInitial, IsPath, IsPlayable, IsReachedBy, IsStepFrom, State, client_after, client_stopped, with_client_at}
+use Rattle.sdb_client.specs.Execution.{IsExecution, IsInitial, IsPath, IsPlayable, IsReachedBy, IsStepFrom, State, client_after, client_stopped, with_client_at}
 use Rattle.law_runs.specs.World.{IsClientState, IsWorld, WorldAt, states_of, state_of, with_event, with_client}
 use Rattle.law_runs.specs.Linked.{HaveCauses, IsLinked, on_one}
 use Rattle.law_runs.proofs.Ties.{call_apart, clock_apart, idle_apart, stop_apart, take_apart}

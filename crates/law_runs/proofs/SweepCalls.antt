@@ -3,24 +3,18 @@
 use Rattle.std.proofs.Common.{◌≡◌, ◌≤◌, ◌+◌, ◌*◌, ℕ, ℤ, suc, Bool, true, false, List, [], ◌∷◌, ◌++◌, length, Some, None, refl, sym, ap, ◌∙◌, arith}
 use Rattle.std.specs.Prelude.{if◌then◌else◌, filter, is_some}
 use Rattle.std.proofs.lemmas.List.Sums.{fold-append}
-use Rattle.sdb_types.specs.declared.record.Record.{Record}
-use Rattle.sdb_types.specs.declared.record.Reply.{Reply}
+use Rattle.law_runs.specs.Types.{Meta, Record, RecoverPhase, RecoverStep, Reply, Span, Table}
 use Rattle.sdb_types.specs.declared.record.Reply.TheVariants as reply
 use Rattle.sdb_types.specs.declared.record.Request.TheVariants as ask
-use Rattle.sdb_types.specs.declared.record.Span.{Span}
 use Rattle.sdb_types.proofs.Basics.{none_some, some_is}
 use Rattle.sdb_record.specs.declared.access.Access.TheVariants as access
-use Rattle.sdb_record.specs.declared.meta.Meta.{Meta}
 use Rattle.sdb_record.specs.Rolls.{is_tombstone}
-use Rattle.sdb_schema.specs.declared.table.Table.{Table}
 use Rattle.sdb_model.specs.Calls.{StoreCall, records_read}
 use Rattle.sdb_model.specs.Counted.{unresolved_in}
 use Rattle.sdb_model.specs.ReadSet.{reads_rows}
-use Rattle.sdb_phases.specs.declared.step.RecoverPhase.{RecoverPhase}
-use Rattle.sdb_phases.specs.declared.step.RecoverStep.{RecoverStep}
 use Rattle.sdb_phases.specs.declared.step.RecoverStep.TheVariants as steps
 use Rattle.sdb_phases.specs.Recover.{recover_next}
-use Rattle.sdb_read.specs.Read.{Bad, Firm, Kind, Open, kind_of}
+use Rattle.sdb_txn.specs.Read.{Bad, Firm, Kind, Open, kind_of}
 use Rattle.sdb_vacuum.specs.Vacuum.{First, Malformed, Nothing, Over, Removing, Resolving, Scanning, Tombstone, Unresolved, VacuumAt, VacuumStage, answered, first_of, first_one, next_of_row, with_call, next_table, pending_at, removal_answered, resolved, step_at, tombstone_or}
 use Rattle.law_answers.specs.Counts.{opens, rest_at}
 use Rattle.law_answers.proofs.Counts.{IsNearer, calls_more, opens_first, opens_more, opens_one, recover_nearer}

@@ -6,32 +6,21 @@ use Rattle.std.specs.Option.{option_map}
 use Rattle.std.proofs.lemmas.List.{append-nil}
 use Rattle.std.proofs.lemmas.List.Elements.{Contains-append_cases, Contains-append_left, Contains-append_right, Contains-push, Contains-push_cases, filter_map-append}
 use Rattle.sdb_types.specs.declared.record.Condition.TheVariants as condition
-use Rattle.sdb_types.specs.declared.record.Record.{Record}
-use Rattle.sdb_types.specs.declared.record.Reply.{Reply}
+use Rattle.law_runs.specs.Types.{Decided, Meta, Record, RecoverPhase, RecoverStep, Reply, Request, Span, State, Table, TxId, VacuumStep}
 use Rattle.sdb_types.specs.declared.record.Reply.TheVariants as reply
-use Rattle.sdb_types.specs.declared.record.Request.{Request}
 use Rattle.sdb_types.specs.declared.record.Request.TheVariants as ask
-use Rattle.sdb_types.specs.declared.record.Span.{Span}
-use Rattle.sdb_types.specs.declared.record.State.{State}
 use Rattle.sdb_types.specs.declared.record.State.TheVariants as state
-use Rattle.sdb_types.specs.declared.txid.TxId.{TxId}
 use Rattle.sdb_types.proofs.Basics.{and_parts, clash, none_some, some_is}
-use Rattle.sdb_record.specs.declared.coordinator.Decided.{Decided}
 use Rattle.sdb_record.specs.declared.coordinator.Decision.TheVariants as decision
-use Rattle.sdb_record.specs.declared.meta.Meta.{Meta}
 use Rattle.sdb_record.specs.Coordinator.{decision_in, is_expired}
 use Rattle.sdb_record.specs.Meta.{checked, id_in, is_committed, is_in, is_transactional}
 use Rattle.sdb_record.specs.Parts.{before_record}
 use Rattle.sdb_record.specs.Rolls.{is_tombstone, remove_request, undo}
-use Rattle.sdb_schema.specs.declared.table.Table.{Table}
 use Rattle.sdb_model.specs.Calls.{StoreCall, is_removal, put_by, records_read}
-use Rattle.sdb_phases.specs.declared.step.RecoverPhase.{RecoverPhase}
 use Rattle.sdb_phases.specs.declared.step.RecoverPhase.TheVariants as phase
-use Rattle.sdb_phases.specs.declared.step.RecoverStep.{RecoverStep}
 use Rattle.sdb_phases.specs.declared.step.RecoverStep.TheVariants as steps
 use Rattle.sdb_phases.specs.Recover.{recover_next, recover_request_at, roll_to, is_as_found}
-use Rattle.sdb_read.specs.Read.{Bad, Firm, Kind, Open, kind_of, opened}
-use Rattle.sdb_vacuum.specs.declared.work.VacuumStep.{VacuumStep}
+use Rattle.sdb_txn.specs.Read.{Bad, Firm, Kind, Open, kind_of, opened}
 use Rattle.sdb_vacuum.specs.declared.work.VacuumStep.TheVariants as step
 use Rattle.sdb_vacuum.specs.Vacuum.{First, Malformed, Nothing, Over, Removing, Resolving, Scanning, Tombstone, Unresolved, VacuumAt, VacuumStage, answered, first_of, first_one, next_of_row, with_call, next_table, pending_at, removal_answered, resolved, step_at, tombstone_or}
 use Rattle.sdb_vacuum.proofs.Counts.{open_state}

@@ -3,19 +3,10 @@ use Rattle.std.proofs.Common.{◌≡◌, ◌⊎◌, inl, inr, ◌<◌, ℕ, ℤ,
 use Rattle.std.proofs.lemmas.List.{length-map}
 use Rattle.std.specs.Prelude.{◌||◌, Contains, is_some}
 use Rattle.std.specs.List.{AllByRecursion, count_by}
-use Rattle.sdb_types.specs.declared.key.Key.{Key}
-use Rattle.sdb_types.specs.declared.record.Reply.{Reply}
-use Rattle.sdb_types.specs.declared.record.Request.{Request}
-use Rattle.sdb_types.specs.declared.record.Span.{Span}
+use Rattle.law_runs.specs.Types.{Answer, Event, How, Key, Next, Reply, Request, Script, Span, Statement, Table, VacuumStep}
 use Rattle.sdb_types.proofs.Basics.{clash, none_some}
-use Rattle.sdb_schema.specs.declared.table.Table.{Table}
-use Rattle.sdb_model.specs.declared.answer.Answer.{Answer}
 use Rattle.sdb_model.specs.declared.answer.Answer.TheVariants as answer
-use Rattle.sdb_model.specs.declared.event.Event.{Event}
 use Rattle.sdb_model.specs.declared.event.Event.TheVariants as event
-use Rattle.sdb_model.specs.declared.event.How.{How}
-use Rattle.sdb_model.specs.declared.script.Script.{Script}
-use Rattle.sdb_model.specs.declared.statement.Statement.{Statement}
 use Rattle.sdb_model.specs.declared.statement.Statement.TheVariants as statement
 use Rattle.sdb_model.specs.Calls.{StoreCall, calls_of}
 use Rattle.sdb_model.specs.Causes.{IsCaused, IsCounted, removes}
@@ -24,11 +15,9 @@ use Rattle.sdb_model.specs.Sql.{reads_vacuum}
 use Rattle.sdb_model.specs.Transactions.{Executed}
 use Rattle.sdb_sqltext.proofs.Clauses.{one_statement}
 use Rattle.sdb_sqltext.proofs.OneWord.{vacuum_read}
-use Rattle.sdb_vacuum.specs.declared.work.VacuumStep.{VacuumStep}
 use Rattle.sdb_vacuum.specs.declared.work.VacuumStep.TheVariants as vacuuming
 use Rattle.sdb_vacuum.specs.Vacuum.{Gives, Scanning, VacuumAt, begun as sweeping, spans_of, vacuum_step, whole}
 use Rattle.sdb_txn.specs.Txn.{TxnAt}
-use Rattle.sdb_client.specs.declared.next.Next.{Next}
 use Rattle.sdb_client.specs.declared.next.Next.TheVariants as next
 use Rattle.sdb_client.specs.Client.{ClientAt, ParsedPost, Taking, TextPost, VacuumStartPost, after, answer_of, next_id, next_of, vacuum_left, TextStep}
 use Rattle.law_clients.specs.History.{executed_of_take}
@@ -37,7 +26,7 @@ use Rattle.law_answers.proofs.ReadSteps.{IsDataTable}
 use Rattle.law_answers.specs.Invariant.{IsAnswered, IsWaiting, Knows}
 use Rattle.law_answers.proofs.Calls.{made_at, of_within}
 use Rattle.law_answers.proofs.Takings.{none_yet}
-use Rattle.sdb_execution.specs.Execution.{IsExecution, IsPlayable, State, TakeStep}
+use Rattle.sdb_client.specs.Execution.{IsExecution, IsPlayable, State, TakeStep}
 use Rattle.law_runs.specs.Vacuums.{IsVacuumMost, ScansTables, VacuumsAreComplete, spans_asked, whole_tables}
 use Rattle.law_runs.specs.World.{WorldAt, states_of, state_of}
 use Rattle.law_runs.proofs.GivesUp.{each_of}
@@ -69,7 +58,7 @@ SweepsSo catalog events c s = reads_vacuum s.text ≡ true → HasSwept catalog 
 abbrev pub WaitsSweeping : List Table → List Event → ℕ → Executed → ClientAt → Type 0
 WaitsSweeping catalog events c s h = GoesOver catalog (calls_of events c s) h.vacuum
 
----- it is taken
+---- it is accepted
 
 most_first : (t : Table) (ts : List Table) → MostLeft (t ∷ ts) [] (sweeping (t ∷ ts))
 most_first t ts = by (length (spans_of ts)) (length ts) (length-map ts whole)
@@ -87,24 +76,24 @@ module _ (n : ℕ) where
   by_vacuum false (x ∷ xs) h d t = absurd (let e = t.0 in cc)
 
   by_text : (q : Taking) (text : List ℕ) (h d : ClientAt) → reads_vacuum text ≡ true → TextPost q text h (Some (answer.Count n)) d → q.catalog ≡ []
-  by_text q text h d sweeps (Ok st, says, told) =
-      let same : statement.Vacuum ≡ st = one_statement text statement.Vacuum st ((vacuum_read text).0 sweeps) says in
-      by_vacuum (is_some h.txn || q.gate.open_elsewhere) q.catalog h d (subst (λ (x : Statement). ParsedPost q (Ok x) h (Some (answer.Count n)) d) (sym same) told)
-  by_text q text h d sweeps (Err r, says, told) = absurd (let e = told.answer in cc)
+  by_text q text h d vacuums (Ok st, says, answered) =
+      let same : statement.Vacuum ≡ st = one_statement text statement.Vacuum st ((vacuum_read text).0 vacuums) says in
+      by_vacuum (is_some h.txn || q.gate.open_elsewhere) q.catalog h d (subst (λ (x : Statement). ParsedPost q (Ok x) h (Some (answer.Count n)) d) (sym same) answered)
+  by_text q text h d vacuums (Err r, says, answered) = absurd (let e = answered.answer in cc)
 
-  -- a VACUUM that is counted as it is taken has no table to scan
+  -- a VACUUM that is counted as it is accepted has no table to scan
   taken_count : (q : Taking) (text : List ℕ) (h d : ClientAt) (a : Option Answer) → reads_vacuum text ≡ true → TextStep q text h a d → a ≡ Some (answer.Count n) → q.catalog ≡ []
-  taken_count q text h d a sweeps t e = by_text q text h d sweeps (subst (λ (o : Option Answer). TextPost q text h o d) e (t.told (λ k. no_memory (sym e ∙ k))))
+  taken_count q text h d a vacuums t e = by_text q text h d vacuums (subst (λ (o : Option Answer). TextPost q text h o d) e (t.answered (λ k. no_memory (sym e ∙ k))))
     where
       no_memory : Some (answer.Count n) ≡ Some answer.NoMemory → ⊥
       no_memory z = cc
 
 takes_sweeps : (w : WorldAt) (u : State) (c : ℕ) (text : List ℕ) (a : Option Answer) (t : TakeStep w.script (state_of w) c text a u) → Holds w → SoBy (SweepsSo w.script.catalog) (WaitsSweeping w.script.catalog) (w.events ++ event.Take c text a ∷ []) c (executed_of_take w.events text a) t.client a
-takes_sweeps w u c text (Some b) t h = λ sweeps. subst (HasSwept w.script.catalog (executed_of_take w.events text (Some b))) (sym (none_yet c w.events text (Some b))) (record {
+takes_sweeps w u c text (Some b) t h = λ vacuums. subst (HasSwept w.script.catalog (executed_of_take w.events text (Some b))) (sym (none_yet c w.events text (Some b))) (record {
   in_order = (whole_tables w.script.catalog, refl);
   most = omega arith;
   deletes = no_deletes [] refl;
-  done = λ n e. (sym (ap whole_tables (taken_count n (record { catalog = w.script.catalog; now = w.clock; gate = t.gate; fresh = next_id t.client_slot.client }) text t.client_slot.client t.client (Some b) sweeps t.takes e)), λ m r f. none_in m f.among);
+  done = λ n e. (sym (ap whole_tables (taken_count n (record { catalog = w.script.catalog; now = w.clock; gate = t.gate; fresh = next_id t.client_slot.client }) text t.client_slot.client t.client (Some b) vacuums t.takes e)), λ m r f. none_in m f.among);
 })
 takes_sweeps w u c text None t h = subst (λ (ms : List StoreCall). GoesOver w.script.catalog ms t.client.vacuum) (sym (none_yet c w.events text None)) (by (taken_as (record { catalog = w.script.catalog; now = w.clock; gate = t.gate; fresh = next_id t.client_slot.client }) text t.client_slot.client t.client t.takes))
   where
@@ -141,7 +130,7 @@ after_keeps h next.Call u = refl
 after_keeps h (next.Answer a) u = refl
 after_keeps h (next.End a) u = refl
 
-module _ (catalog : List Table) (events : List Event) (c : ℕ) (h d : ClientAt) (store : Name) (q : Request) (how : How) (r : Reply) (now : ℤ) (told : List Executed) (x : Executed) (waits : IsWaiting catalog events c (is_some h.vacuum) x) (about : IsOfTables catalog h) (apart : (k : Key) → IsIn catalog k → is_data k ≡ true) (so : WaitsSweeping catalog events c x h) where
+module _ (catalog : List Table) (events : List Event) (c : ℕ) (h d : ClientAt) (store : Name) (q : Request) (how : How) (r : Reply) (now : ℤ) (answered : List Executed) (x : Executed) (waits : IsWaiting catalog events c (is_some h.vacuum) x) (about : IsOfTables catalog h) (apart : (k : Key) → IsIn catalog k → is_data k ≡ true) (so : WaitsSweeping catalog events c x h) where
   abbrev E : Option Answer → List Event
   E a = events ++ event.Call c store q how r a ∷ []
 
@@ -152,7 +141,7 @@ module _ (catalog : List Table) (events : List Event) (c : ℕ) (h d : ClientAt)
   ms = calls_of events c x
 
   more : (a : Option Answer) → calls_of (E a) c (replied_said events x a) ≡ ms ++ made ∷ []
-  more a = calls_more events c store q how r x waits.unanswered waits.taken a
+  more a = calls_more events c store q how r x waits.unanswered waits.accepted a
 
   older : AllByRecursion (λ y. y.at < made.at) ms
   older = each_of ms (λ y has. let low = of_within c events x y has in omega (arith, low))
@@ -162,8 +151,8 @@ module _ (catalog : List Table) (events : List Event) (c : ℕ) (h d : ClientAt)
   rests None free left = subst (GoesOver catalog (calls_of (E None) c x)) (sym left) tt
   rests (Some b) free left = λ is. clash (sym is ∙ waits.vacuum ∙ ap is_some free)
 
-  sweeps : (a : Option Answer) → SweepCall events c x h q r now a d → SoBy (SweepsSo catalog) (WaitsSweeping catalog) (E a) c (replied_said events x a) d a
-  sweeps a z = by a refl
+  vacuums : (a : Option Answer) → SweepCall events c x h q r now a d → SoBy (SweepsSo catalog) (WaitsSweeping catalog) (E a) c (replied_said events x a) d a
+  vacuums a z = by a refl
     where
       was : AllDelete ms × Going catalog ms z.v × MostLeft catalog ms z.v
       was = subst (GoesOver catalog ms) z.runs so
@@ -180,25 +169,25 @@ module _ (catalog : List Table) (events : List Event) (c : ℕ) (h d : ClientAt)
       led : LedTo catalog (ms ++ made ∷ []) (vacuum_step z.v now r).0 (vacuum_step z.v now r).1
       led = sweep_led catalog ms made older z.v now z.is.1 z.pends was.1
 
-      counted : (n : ℕ) → z.told.step ≡ vacuuming.Count n → (spans_asked (ms ++ made ∷ []) ≡ whole_tables catalog) × AllDeleted (ms ++ made ∷ [])
-      counted n e = subst (LedTo catalog (ms ++ made ∷ []) (vacuum_step z.v now r).0) (sym (subst (λ (s : VacuumStep). Gives (vacuum_step z.v now r) z.told.left s) e z.told.told).1) led
+      counted : (n : ℕ) → z.answered.step ≡ vacuuming.Count n → (spans_asked (ms ++ made ∷ []) ≡ whole_tables catalog) × AllDeleted (ms ++ made ∷ [])
+      counted n e = subst (LedTo catalog (ms ++ made ∷ []) (vacuum_step z.v now r).0) (sym (subst (λ (s : VacuumStep). Gives (vacuum_step z.v now r) z.answered.left s) e z.answered.answered).1) led
 
       by : (b : Option Answer) → a ≡ b → SoBy (SweepsSo catalog) (WaitsSweeping catalog) (E b) c (replied_said events x b) d b
       by None e =
-          let further : z.told.step ≡ vacuuming.More = more_of z.told.step (sym e ∙ z.told.answer) in
-          let gives : Gives (vacuum_step z.v now r) z.told.left vacuuming.More = subst (λ (s : VacuumStep). Gives (vacuum_step z.v now r) z.told.left s) further z.told.told in
-          let left : d.vacuum ≡ Some (vacuum_step z.v now r).0 = z.told.goes ∙ ap (λ (s : VacuumStep). vacuum_left s z.told.left) further ∙ ap Some gives.0 in
+          let further : z.answered.step ≡ vacuuming.More = more_of z.answered.step (sym e ∙ z.answered.answer) in
+          let gives : Gives (vacuum_step z.v now r) z.answered.left vacuuming.More = subst (λ (s : VacuumStep). Gives (vacuum_step z.v now r) z.answered.left s) further z.answered.answered in
+          let left : d.vacuum ≡ Some (vacuum_step z.v now r).0 = z.answered.goes ∙ ap (λ (s : VacuumStep). vacuum_left s z.answered.left) further ∙ ap Some gives.0 in
           subst (λ (cs : List StoreCall). GoesOver catalog cs d.vacuum) (sym (more None))
           (subst (GoesOver catalog (ms ++ made ∷ [])) (sym left) (deletes, subst (LedTo catalog (ms ++ made ∷ []) (vacuum_step z.v now r).0) (sym gives.1) led, most_more catalog ms made z.v now of_data z.pends was.2))
       by (Some b) e = λ is. subst (HasSwept catalog (replied_said events x (Some b))) (sym (more (Some b))) (record {
         in_order = (z.v.spans, in_order catalog ms made older z.v z.is.1 z.pends was.1.scanned);
         most = most_enough catalog ms made z.v z.pends was.2;
         deletes = deletes;
-        done = λ n f. counted n (count_of z.told.step n (sym f ∙ sym e ∙ z.told.answer));
+        done = λ n f. counted n (count_of z.answered.step n (sym f ∙ sym e ∙ z.answered.answer));
       })
 
-  call_sweeps : (a : Option Answer) → CallOf catalog events c told x h q r now a d → SoBy (SweepsSo catalog) (WaitsSweeping catalog) (E a) c (replied_said events x a) d a
-  call_sweeps a (inl z) = sweeps a z
+  call_sweeps : (a : Option Answer) → CallOf catalog events c answered x h q r now a d → SoBy (SweepsSo catalog) (WaitsSweeping catalog) (E a) c (replied_said events x a) d a
+  call_sweeps a (inl z) = vacuums a z
   call_sweeps a (inr (inl z)) = rests a z.free (ap (λ (y : ClientAt). y.vacuum) z.left ∙ after_keeps h z.next z.u ∙ z.free)
   call_sweeps a (inr (inr z)) = rests a z.free (ap (λ (y : ClientAt). y.vacuum) z.left ∙ after_keeps h (next_of z.progress) z.u ∙ z.free)
 
@@ -206,21 +195,21 @@ module _ (catalog : List Table) (events : List Event) (c : ℕ) (h d : ClientAt)
 
 pub sweeps_kept : AreKept SweepsSo WaitsSweeping
 sweeps_kept = record {
-  answered = λ catalog events e c s past so sweeps. subst (HasSwept catalog s) (sym past.calls) (so sweeps);
+  answered = λ catalog events e c s past so vacuums. subst (HasSwept catalog s) (sym past.calls) (so vacuums);
   waiting = λ catalog events e c s h still so. subst (λ (ms : List StoreCall). GoesOver catalog ms h.vacuum) (sym still.calls) so;
   takes = takes_sweeps;
-  calls = λ w u c store q how r a t h k x waiting waits so. call_sweeps w.script.catalog w.events c t.client_slot.client t.client store q how r w.clock k.told x waits (h.world.each t.place t.client_slot t.at).about h.world.playable.apart so a
+  calls = λ w u c store q how r a t h k x waiting waits so. call_sweeps w.script.catalog w.events c t.client_slot.client t.client store q how r w.clock k.answered x waits (h.world.each t.place t.client_slot t.at).about h.world.playable.apart so a
       (call_of w.script.catalog w.events c t.client_slot.client k x waiting q r w.clock a t.client t.pending (h.world.each t.place t.client_slot t.at).fitted t.takes);
 }
 
 -- the count of a VACUUM is that of its deletes that were applied
 counts_of : (events : List Event) (client : ℕ) (s : Executed) (n : ℕ) (catalog : List Table) → reads_vacuum s.text ≡ true → IsCaused catalog events client s (answer.Count n) → n ≡ count_by removes (calls_of events client s)
-counts_of events client s n catalog sweeps (st, reads, counted) =
-    subst (λ (x : Statement). IsCounted events client s x n) (one_statement s.text st statement.Vacuum reads ((vacuum_read s.text).0 sweeps)) counted
+counts_of events client s n catalog vacuums (st, reads, counted) =
+    subst (λ (x : Statement). IsCounted events client s x n) (one_statement s.text st statement.Vacuum reads ((vacuum_read s.text).0 vacuums)) counted
 
 -- Each VACUUM of an execution sweeps the tables.
 pub execution_sweeps : (script : Script) (events : List Event) → IsPlayable script → IsExecution script events → VacuumsAreComplete script.catalog events
-execution_sweeps script events playable x client s has sweeps = full (by s.answer refl (statements_so SweepsSo WaitsSweeping sweeps_kept script events playable x client s has))
+execution_sweeps script events playable x client s has vacuums = full (by s.answer refl (statements_so SweepsSo WaitsSweeping sweeps_kept script events playable x client s has))
   where
     h : ClientAt
     h = (states_of x.last.client_slots client).client
@@ -235,13 +224,13 @@ execution_sweeps script events playable x client s has sweeps = full (by s.answe
       deletes = y.deletes;
       scans = λ n e. (y.done n e).0;
       deleted = λ n m r e f. (y.done n e).1 m r f;
-      counts = λ n e. counts_of events client s n script.catalog sweeps ((execution_caused script events playable x).caused.caused client s (answer.Count n) has e);
+      counts = λ n e. counts_of events client s n script.catalog vacuums ((execution_caused script events playable x).caused.caused client s (answer.Count n) has e);
     }
 
     -- one that waits is the VACUUM that runs
     runs : s.answer ≡ None → (v : Option VacuumAt) → h.vacuum ≡ v → GoesOver script.catalog (calls_of events client s) v → HasSwept script.catalog s (calls_of events client s)
     runs none (Some v) e so = record { in_order = (_, so.1.scanned); most = most_so_far script.catalog (calls_of events client s) v so.2; deletes = so.0; done = λ n f. none_some (answer.Count n) (sym none ∙ f) }
-    runs none None e so = clash (sym sweeps ∙ (waits (known script.catalog events client h k s has)).vacuum ∙ ap is_some e)
+    runs none None e so = clash (sym vacuums ∙ (waits (known script.catalog events client h k s has)).vacuum ∙ ap is_some e)
       where
         waits : IsAnswered script.catalog events client s ⊎ (k.waiting ≡ Some s) → IsWaiting script.catalog events client (is_some h.vacuum) s
         waits (inl y) = none_some y.given (sym none ∙ y.is)
@@ -249,4 +238,4 @@ execution_sweeps script events playable x client s has sweeps = full (by s.answe
 
     by : (o : Option Answer) → s.answer ≡ o → SoBy (SweepsSo script.catalog) (WaitsSweeping script.catalog) events client s h o → HasSwept script.catalog s (calls_of events client s)
     by None e so = runs e h.vacuum refl so
-    by (Some b) e so = so sweeps
+    by (Some b) e so = so vacuums

@@ -1,10 +1,7 @@
 -- What a client does that takes a statement and gives no answer yet.
 use Rattle.std.proofs.Common.{◌≡◌, ◌⊎◌, inl, inr, ℕ, Bool, true, false, List, [], ◌∷◌, Option, Some, None, Result, Ok, Err, refl, sym, ap, ◌∙◌}
 use Rattle.std.specs.Prelude.{◌||◌, is_some}
-use Rattle.sdb_record.specs.declared.access.Access.{Access}
-use Rattle.sdb_schema.specs.declared.table.Table.{Table}
-use Rattle.sdb_model.specs.declared.answer.Refusal.{Refusal}
-use Rattle.sdb_model.specs.declared.statement.Statement.{Statement}
+use Rattle.law_runs.specs.Types.{Access, Refusal, Statement, Table}
 use Rattle.sdb_model.specs.declared.statement.Statement.TheVariants as statement
 use Rattle.sdb_model.specs.Exec.{named_table}
 use Rattle.sdb_model.specs.Refused.{refusal_by, refusal_of}
@@ -63,12 +60,12 @@ module _ (q : Taking) (h d : ClientAt) where
   table_as st x t = by_refusal (refusal_of q.catalog st) refl
     where
       by_covered : (table : Table) (b : Bool) → is_covered x.seen (access_of table st) ≡ b → refusal_of q.catalog st ≡ None → named_table q.catalog st ≡ Some table → TakenAs q h d
-      by_covered table true e taken named = absurd (let k = ((t.reads table taken named).known e).0 in cc)
-      by_covered table false e taken named = inr (inr (record { t = x; access = access_of table st; plan = plan_of table st; unread = e; left = ((t.reads table taken named).unknown e).1 }))
+      by_covered table true e accepted named = absurd (let k = ((t.reads table accepted named).known e).0 in cc)
+      by_covered table false e accepted named = inr (inr (record { t = x; access = access_of table st; plan = plan_of table st; unread = e; left = ((t.reads table accepted named).unknown e).1 }))
 
       by_table : (o : Option Table) → refusal_of q.catalog st ≡ None → named_table q.catalog st ≡ o → TakenAs q h d
-      by_table (Some table) taken named = by_covered table (is_covered x.seen (access_of table st)) refl taken named
-      by_table None taken named = absurd (let y : Some (record { kind = 6; place = 0 }) ≡ None = sym (ap (λ (o : Option Table). refusal_by o st) named) ∙ taken in cc)
+      by_table (Some table) accepted named = by_covered table (is_covered x.seen (access_of table st)) refl accepted named
+      by_table None accepted named = absurd (let y : Some (record { kind = 6; place = 0 }) ≡ None = sym (ap (λ (o : Option Table). refusal_by o st) named) ∙ accepted in cc)
 
       by_refusal : (o : Option Refusal) → refusal_of q.catalog st ≡ o → TakenAs q h d
       by_refusal (Some r) f = absurd (let e = (t.refused r f).answer in cc)
@@ -95,4 +92,4 @@ module _ (q : Taking) (h d : ClientAt) where
 
 -- It is a COMMIT, a VACUUM over some table, or reads.
 pub taken_as : (q : Taking) (text : List ℕ) (h d : ClientAt) → TextStep q text h None d → TakenAs q h d
-taken_as q text h d takes = let told = takes.told (λ e. cc) in text_as q h d told.0 told.2
+taken_as q text h d takes = let answered = takes.answered (λ e. cc) in text_as q h d answered.0 answered.2

@@ -4,30 +4,21 @@ use Rattle.std.specs.Prelude.{nat_le, nat_lt, not, ◌^◌, ◌&&◌}
 use Rattle.std.specs.List.{AllByRecursion}
 use Rattle.std.specs.Str.{is_utf8}
 use Rattle.hex.specs.Hex.{decode_of}
-use Rattle.hex.specs.declared.error.FromHexError.{FromHexError}
+use Rattle.law_runs.specs.Types.{FromHexError, Insert, Keyword, Pair, Placed, Sign, Statement, Test, Token, Value}
 use Rattle.sdb_types.specs.Identifier.{is_start}
-use Rattle.sdb_types.specs.declared.pair.Pair.{Pair}
-use Rattle.sdb_types.specs.declared.value.Value.{Value}
 use Rattle.sdb_types.specs.declared.value.Value.TheVariants as value
 use Rattle.sdb_types.proofs.Basics.{append_all}
 use Rattle.sdb_types.proofs.Bools.{and_first, and_second}
-use Rattle.sdb_model.specs.declared.statement.Insert.{Insert}
-use Rattle.sdb_model.specs.declared.statement.Statement.{Statement}
 use Rattle.sdb_model.specs.declared.statement.Statement.TheVariants as statement
-use Rattle.sdb_model.specs.declared.statement.Test.{Test}
 use Rattle.sdb_model.specs.declared.statement.Test.TheVariants.{Compare, IsNull, NotNull}
-use Rattle.sdb_model.specs.declared.token.Keyword.{Keyword}
 use Rattle.sdb_model.specs.declared.token.Keyword.TheVariants as word
-use Rattle.sdb_model.specs.declared.token.Placed.{Placed}
-use Rattle.sdb_model.specs.declared.token.Sign.{Sign}
 use Rattle.sdb_model.specs.declared.token.Sign.TheVariants as sign
-use Rattle.sdb_model.specs.declared.token.Token.{Token}
 use Rattle.sdb_model.specs.declared.token.Token.TheVariants.{Word, Name, Overlong, Number, Text, Blob, Sign as Mark}
 use Rattle.sdb_model.specs.Plain.{is_no_lf, is_one_line}
 use Rattle.sdb_model.specs.Sql.{Reads, Spells, Tokens, columns_tokens, insert_tokens, limit_tokens, literal_token, literal_tokens, names_tokens, separated, set_tokens, statement_tokens, table_tokens, test_tokens, tokens_of, where_tokens}
 use Rattle.sdb_model.specs.SqlTokens.{Bad, Lexed, Lexeme, Wide, begins, begins_blob, behind, blob_in, blob_token, closes, digits_len, enclosed, first_token, is_digit, is_gap, is_single_quote, keyword_of, letter_at, lexed, minus, name_token, negative_at, number_at, number_of, onto_text, or_word, quote_place, quoted_name_at, sign_of, sign_token, text_at, text_token, token_at, tokens_from, word_at, word_len, word_or_name}
-use Rattle.sdb_reading.specs.OneLine.{ValueHasNoLf}
-use Rattle.sdb_reading.proofs.LineLaws.{lines_joined}
+use Rattle.sdb_report.specs.OneLine.{ValueHasNoLf}
+use Rattle.sdb_report.proofs.LineLaws.{lines_joined}
 use Rattle.law_runs.proofs.Clear.{AreClear}
 use Rattle.law_runs.proofs.PlainStatements.{StatementClear, TestClear, TestsClear}
 

@@ -3,23 +3,14 @@ use Rattle.std.proofs.Common.{◌≡◌, ◌<◌, ◌^◌, ℤ, Bool, true, fals
 use Rattle.std.specs.Prelude.{◌||◌, filter, not, slice_get}
 use Rattle.std.specs.List.{AllByRecursion}
 use Rattle.std.specs.Option.{option_map}
-use Rattle.sdb_types.specs.declared.record.Condition.{Condition}
+use Rattle.law_runs.specs.Types.{Access, Check, Condition, DecidePhase, Decision, Meta, Read, Record, RecoverPhase, Request, Scan, TxId, Write}
 use Rattle.sdb_types.specs.declared.record.Condition.TheVariants as condition
-use Rattle.sdb_types.specs.declared.record.Record.{Record}
-use Rattle.sdb_types.specs.declared.record.Request.{Request}
 use Rattle.sdb_types.specs.declared.record.Request.TheVariants as ask
 use Rattle.sdb_types.specs.declared.record.State.TheVariants as state
-use Rattle.sdb_types.specs.declared.txid.TxId.{TxId}
 use Rattle.sdb_types.specs.Contents.{is_version}
 use Rattle.sdb_types.proofs.Basics.{append_all as each_append, clash, none_some, some_is}
-use Rattle.sdb_record.specs.declared.access.Access.{Access}
 use Rattle.sdb_record.specs.declared.access.Access.TheVariants as access
-use Rattle.sdb_record.specs.declared.access.Read.{Read}
-use Rattle.sdb_record.specs.declared.access.Scan.{Scan}
-use Rattle.sdb_record.specs.declared.coordinator.Decision.{Decision}
 use Rattle.sdb_record.specs.declared.coordinator.Decision.TheVariants as decision
-use Rattle.sdb_record.specs.declared.meta.Meta.{Meta}
-use Rattle.sdb_record.specs.declared.write.Write.{Write}
 use Rattle.sdb_record.specs.Among.{is_written}
 use Rattle.sdb_record.specs.Coordinator.{coordinator_row_of}
 use Rattle.sdb_record.specs.Meta.{id_in, is_moment, is_unresolved, moment_in, moment_in_value}
@@ -30,20 +21,17 @@ use Rattle.sdb_record.proofs.ImageLaws.{prepared-version, version-writer}
 use Rattle.sdb_record.proofs.RollLaws.{forward-committed}
 use Rattle.sdb_record.proofs.TakenLaws.{prepared-columns, time-fits}
 use Rattle.sdb_record.proofs.WriteLaws.{marked-time, with_base}
-use Rattle.sdb_read.proofs.Images.{before_firm}
+use Rattle.sdb_txn.proofs.Images.{before_firm}
 use Rattle.sdb_model.specs.Calls.{put_by, StoreCall}
 use Rattle.sdb_model.specs.Transactions.{prepares}
-use Rattle.sdb_phases.specs.declared.check.Check.{Check}
-use Rattle.sdb_phases.specs.declared.step.DecidePhase.{DecidePhase}
 use Rattle.sdb_phases.specs.declared.step.DecidePhase.TheVariants as decide
-use Rattle.sdb_phases.specs.declared.step.RecoverPhase.{RecoverPhase}
 use Rattle.sdb_phases.specs.declared.step.RecoverPhase.TheVariants as phase
 use Rattle.sdb_phases.specs.Checks.{check_of_read, check_of_scan, checks}
 use Rattle.sdb_phases.specs.Commit.{Stage, Preparing, Checking, Deciding, Forward, Stopping, Back, Over, pending}
 use Rattle.sdb_phases.specs.Recover.{recover_back, recover_forward, recover_request_at, is_as_found}
 use Rattle.sdb_phases.specs.Steps.{decide_request_at}
 use Rattle.sdb_phases.specs.Work.{Work, abort_of, back_of, decide_of, forward_of, look_of, prepare_of, is_as_prepared}
-use Rattle.sdb_read.specs.Read.{Asking, Ended, ReadStage, Resolving, read_pending_at, request_of}
+use Rattle.sdb_txn.specs.Read.{Asking, Ended, ReadStage, Resolving, read_pending_at, request_of}
 use Rattle.sdb_vacuum.specs.Vacuum as vacuum
 use Rattle.sdb_vacuum.specs.Vacuum.{VacuumStage, pending_at}
 use Rattle.law_protocol.proofs.Points.{firm_no}
@@ -136,7 +124,7 @@ module _ (id : TxId) where
   moment_is : (p : Work) (w : Write) → is_moment p.now ≡ true → moment_in (prepared_record w p.id p.now).columns tx_prepared_at ≡ Some p.now
   moment_is p w is = moment_of w p.id p.now is
 
-  -- A COMMIT prepares for its own transaction, with the moment at which it was taken.
+  -- A COMMIT prepares for its own transaction, with the moment at which it was accepted.
   pub commit_own : (p : Work) (s : Stage) (q : Request) (r : Record) → pending p s ≡ Some q → AllByRecursion IsWrite p.writes → id.0 < 2 ^ 128 → p.id.0 < 2 ^ 128 → is_moment p.now ≡ true → prepares id q ≡ true → put_by q ≡ Some r → (id ≡ p.id) × (moment_in r.columns tx_prepared_at ≡ Some p.now)
   commit_own p (Preparing i) q r e writes fits own moment is put =
       let x = mapped_at (prepare_of p.id p.now) p.writes i q e in

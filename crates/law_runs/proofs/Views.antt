@@ -6,27 +6,22 @@ use Rattle.std.specs.List.{AllByRecursion, cons_option, filter_map, flat_map, li
 use Rattle.std.specs.Option.{option_map}
 use Rattle.std.proofs.lemmas.List.{append-nil}
 use Rattle.std.proofs.lemmas.List.Folds.{list_any-append}
-use Rattle.sdb_types.specs.declared.key.Key.{Key}
-use Rattle.sdb_schema.specs.declared.table.Table.{Table}
+use Rattle.law_runs.specs.Types.{Access, Key, Pair, Record, Reply, Table}
 use Rattle.sdb_exec.proofs.Laid.{sieved_at}
-use Rattle.sdb_types.specs.declared.pair.Pair.{Pair}
-use Rattle.sdb_types.specs.declared.record.Record.{Record}
-use Rattle.sdb_types.specs.declared.record.Reply.{Reply}
 use Rattle.sdb_types.specs.declared.record.Reply.TheVariants as reply
 use Rattle.sdb_types.specs.Contents.{CanAnswer, record_among}
 use Rattle.sdb_types.specs.Order.{same_key}
 use Rattle.sdb_types.proofs.Basics.{or_else, or_false}
 use Rattle.sdb_types.proofs.KeyOrder.{key_exact, key_total}
 use Rattle.sdb_types.proofs.Keys.{same_key_exact, same_key_is}
-use Rattle.sdb_keyed.specs.Entries.{value_at}
-use Rattle.sdb_record.specs.declared.access.Access.{Access}
+use Rattle.sdb_snapshot.specs.Entries.{value_at}
 use Rattle.sdb_record.specs.declared.access.Access.TheVariants as access
 use Rattle.sdb_record.specs.Among.{write_among}
 use Rattle.sdb_model.specs.Access.{with_row}
 use Rattle.sdb_model.specs.Calls.{StoreCall, records_read}
 use Rattle.sdb_model.specs.Exec.{Tables}
 use Rattle.sdb_model.specs.ReadSet.{meaning_of, reads_rows}
-use Rattle.sdb_read.specs.Read.{request_of}
+use Rattle.sdb_txn.specs.Read.{request_of}
 use Rattle.sdb_snapshot.specs.Sets.{WereRead}
 use Rattle.sdb_snapshot.specs.Reads.{is_key_read}
 use Rattle.sdb_snapshot.specs.Rows.{row_found}
@@ -219,7 +214,7 @@ module _ (calls : List StoreCall) where
       ap (λ ms. value_at (flat_map (λ (m : StoreCall). found_in calls m.request m.reply) ms) q) (read_only a images h own)
       ∙ ap (λ es. value_at es q) (append-nil (found_in calls h.first.request h.first.reply))
       ∙ ap (λ x. value_at (found_in calls x h.first.reply) q) h.request
-      ∙ found_one a h.first.reply images (map (λ e. e.0) h.steps) h.can h.told (h.rows ∙ append-nil (map (λ e. e.0) h.steps)) (h.images_are ∙ steps_mean h.steps h.settled) q
+      ∙ found_one a h.first.reply images (map (λ e. e.0) h.steps) h.can h.answered (h.rows ∙ append-nil (map (λ e. e.0) h.steps)) (h.images_are ∙ steps_mean h.steps h.settled) q
 
 ---- what a client sees
 

@@ -1,13 +1,9 @@
 -- The keys that statements write, as one statement more runs, and those of the writes that they leave.
 use Rattle.std.proofs.Common.{◌≡◌, ℕ, List, [], ◌∷◌, ◌++◌, map, Option, Some, None, refl, sym, ap, ◌∙◌}
-use Rattle.sdb_types.specs.declared.key.Key.{Key}
-use Rattle.sdb_record.specs.declared.write.Write.{Write}
-use Rattle.sdb_schema.specs.declared.table.Table.{Table}
-use Rattle.sdb_model.specs.declared.event.Event.{Event}
-use Rattle.sdb_model.specs.declared.statement.Statement.{Statement}
+use Rattle.law_runs.specs.Types.{Event, Key, Statement, Table, Write}
 use Rattle.sdb_model.specs.Calls.{calls_of}
 use Rattle.sdb_model.specs.Transactions.{Executed}
-use Rattle.sdb_session.specs.Keys.{with_keys}
+use Rattle.law_clients.specs.Keys.{with_keys}
 use Rattle.sdb_sqltext.proofs.Clauses.{one_statement}
 use Rattle.law_runs.specs.Found.{AllRunAs, RunsAs, View, finds, found_by, run_on_found, run_one, with_found}
 use Rattle.law_runs.specs.Written.{keys_by, written_on_found}

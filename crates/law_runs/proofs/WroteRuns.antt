@@ -5,17 +5,13 @@ use Rattle.std.specs.List.{AllByRecursion}
 use Rattle.std.specs.Option.{option_and_then}
 use Rattle.std.proofs.lemmas.List.{append-nil}
 use Rattle.std.proofs.lemmas.List.Elements.{All-contains_itself, recursion_from_All}
-use Rattle.sdb_types.specs.declared.txid.TxId.{TxId}
+use Rattle.law_runs.specs.Types.{Doing, Event, Script, Table, TxId}
 use Rattle.sdb_types.proofs.Basics.{clash, none_some, some_is}
-use Rattle.sdb_schema.specs.declared.table.Table.{Table}
-use Rattle.sdb_model.specs.declared.event.Event.{Event}
-use Rattle.sdb_model.specs.declared.script.Script.{Script}
 use Rattle.sdb_model.specs.Calls.{calls_of}
 use Rattle.sdb_model.specs.Sql.{reads_commit}
 use Rattle.sdb_model.specs.Transactions.{Executed, client_of, commit_of, ends, from_begin, id_of, ordinal_of, rest_of, statements_by}
 use Rattle.sdb_model.proofs.Basics.{id_again}
 use Rattle.sdb_exec.specs.Plans.{Planned}
-use Rattle.sdb_txn.specs.declared.txn.Doing.{Doing}
 use Rattle.sdb_txn.specs.declared.txn.Doing.TheVariants as doing
 use Rattle.sdb_txn.specs.Txn.{TxnAt}
 use Rattle.sdb_vacuum.specs.Vacuum.{VacuumAt}
@@ -24,7 +20,7 @@ use Rattle.law_clients.specs.History.{waiting_of}
 use Rattle.law_answers.specs.Invariant.{IsDoing, IsOpenAs, IsWaiting, Knows, DoingByHistory, ClientByHistory, begun_in}
 use Rattle.law_answers.specs.Rolled.{AnsweredWereSeen}
 use Rattle.law_answers.proofs.Noting.{each_middle, since_all, take_ends, take_open}
-use Rattle.sdb_execution.specs.Execution.{IsExecution, IsPlayable}
+use Rattle.sdb_client.specs.Execution.{IsExecution, IsPlayable}
 use Rattle.law_runs.specs.Found.{answered_inside, is_answered, takes_part}
 use Rattle.law_runs.specs.Written.{CommitsPrepareWritten, DecisionsFollowPoints, PreparesAll, PreparesAreAsMany, keys_of}
 use Rattle.law_runs.specs.World.{WorldAt, states_of}
@@ -90,19 +86,19 @@ module _ (script : Script) (events : List Event) (playable : IsPlayable script) 
     k = (execution_holds script events playable x).caused.each c
 
     abbrev Wrote : Executed → ℕ → Type 0
-    Wrote y n = CommitWrote catalog events c (running_of events c n k.told) (id_of c n) (calls_of events c y)
+    Wrote y n = CommitWrote catalog events c (running_of events c n k.answered) (id_of c n) (calls_of events c y)
 
     -- the COMMIT that waits has prepared what was written
-    waiting_wrote : (y : Executed) → k.waiting ≡ Some y → IsWaiting catalog events c (is_some h.vacuum) y → LastWrote catalog events c k.told y
-    waiting_wrote y waiting waits reads opened = by_vacuum h.vacuum (subst (λ (o : Option Executed). ClientByHistory events c h.begun k.told o h.plan h.txn h.vacuum) waiting k.stands)
+    waiting_wrote : (y : Executed) → k.waiting ≡ Some y → IsWaiting catalog events c (is_some h.vacuum) y → LastWrote catalog events c k.answered y
+    waiting_wrote y waiting waits reads opened = by_vacuum h.vacuum (subst (λ (o : Option Executed). ClientByHistory events c h.begun k.answered o h.plan h.txn h.vacuum) waiting k.agrees)
       where
         so : TxnPrepares h.txn (calls_of events c y)
         so = wait_so w WaitPrepares prepared c h refl k y waiting waits
 
-        sees : IfSome h.txn (SeesRun catalog events c (running_of events c h.begun k.told))
+        sees : IfSome h.txn (SeesRun catalog events c (running_of events c h.begun k.answered))
         sees = subst (λ ss. IfSome h.txn (SeesRun catalog events c (running_of events c h.begun ss))) (answered_of_is catalog events c h k) (all_run script events playable x c).sees
 
-        by_doing : (t : TxnAt) (p : Option Planned) (d : Doing) → IsOpenAs c h.begun k.told t → IsDoing events c t p (Some y) d → DoingPrepares d (calls_of events c y) → SeesIn catalog events c (running_of events c h.begun k.told) t.seen d → Wrote y (begun_in k.told)
+        by_doing : (t : TxnAt) (p : Option Planned) (d : Doing) → IsOpenAs c h.begun k.answered t → IsDoing events c t p (Some y) d → DoingPrepares d (calls_of events c y) → SeesIn catalog events c (running_of events c h.begun k.answered) t.seen d → Wrote y (begun_in k.answered)
         by_doing t p doing.Idle o i n s = absurd (none_is (sym i))
           where
             none_is : ◌≡◌ {A = Option Executed} None (Some y) → ⊥
@@ -114,11 +110,11 @@ module _ (script : Script) (events : List Event) (playable : IsPlayable script) 
             (λ statements read. subst (λ ks. PreparesAll ks (id_of c h.begun) (calls_of events c y)) (s statements read) (subst (λ (id : TxId). PreparesAll (write_keys z.work.writes) id (calls_of events c y)) (i.same ∙ o.id) n.sofar))
         by_doing t p doing.Over o i n s = absurd i
 
-        by_txn : (o : Option TxnAt) → DoingByHistory events c h.begun k.told (Some y) h.plan o → TxnPrepares o (calls_of events c y) → IfSome o (SeesRun catalog events c (running_of events c h.begun k.told)) → Wrote y (begun_in k.told)
+        by_txn : (o : Option TxnAt) → DoingByHistory events c h.begun k.answered (Some y) h.plan o → TxnPrepares o (calls_of events c y) → IfSome o (SeesRun catalog events c (running_of events c h.begun k.answered)) → Wrote y (begun_in k.answered)
         by_txn None s n v = clash (sym opened ∙ s.1)
         by_txn (Some t) s n v = by_doing t h.plan t.doing s.1 s.2 n v
 
-        by_vacuum : (v : Option VacuumAt) → ClientByHistory events c h.begun k.told (Some y) h.plan h.txn v → Wrote y (begun_in k.told)
+        by_vacuum : (v : Option VacuumAt) → ClientByHistory events c h.begun k.answered (Some y) h.plan h.txn v → Wrote y (begun_in k.answered)
         by_vacuum None s = by_txn h.txn s so sees
         by_vacuum (Some v) s = clash (sym opened ∙ s.1)
 
@@ -126,12 +122,12 @@ module _ (script : Script) (events : List Event) (playable : IsPlayable script) 
     all_wrote : CommitsWrote catalog events c (statements_by c events)
     all_wrote = subst (CommitsWrote catalog events c) (sym k.same) (by k.waiting refl k.waits)
       where
-        before : CommitsWrote catalog events c k.told
+        before : CommitsWrote catalog events c k.answered
         before = subst (CommitsWrote catalog events c) (answered_of_is catalog events c h k) (all_run script events playable x c).commits
 
-        by : (o : Option Executed) → k.waiting ≡ o → IfSome o (IsWaiting catalog events c (is_some h.vacuum)) → CommitsWrote catalog events c (k.told ++ waiting_of o)
-        by None e v = subst (CommitsWrote catalog events c) (sym (append-nil k.told)) before
-        by (Some y) e v = commits_more catalog events c k.told y k.counted.paired before (waiting_wrote y e v)
+        by : (o : Option Executed) → k.waiting ≡ o → IfSome o (IsWaiting catalog events c (is_some h.vacuum)) → CommitsWrote catalog events c (k.answered ++ waiting_of o)
+        by None e v = subst (CommitsWrote catalog events c) (sym (append-nil k.answered)) before
+        by (Some y) e v = commits_more catalog events c k.answered y k.counted.paired before (waiting_wrote y e v)
 
   -- it is one of its client's statements
   commit_said : (id : TxId) (s : Executed) → commit_of events id ≡ Some s → Contains (statements_by (client_of id) events) s

@@ -1,20 +1,13 @@
 -- Completeness: which answers are left to a statement whose calls the stores serve.
 use Rattle.std.specs.Prelude.{◌≡◌, ◌≢◌, ◌⊎◌, ℕ, ℤ, true, false, List, Option, Some, Contains, is_some}
-use Rattle.sdb_types.specs.declared.key.Key.{Key}
-use Rattle.sdb_types.specs.declared.record.Record.{Record}
+use Rattle.law_runs.specs.Types.{Answer, Event, Insert, Key, Record, Statement, Table, TxId}
 use Rattle.sdb_types.specs.declared.record.Reply.TheVariants as reply
-use Rattle.sdb_types.specs.declared.txid.TxId.{TxId}
 use Rattle.sdb_types.specs.Replies.{is_fault}
 use Rattle.sdb_record.specs.declared.coordinator.Decision.TheVariants as decision
 use Rattle.sdb_record.specs.Coordinator.{is_coordinator_table}
 use Rattle.sdb_record.specs.Meta.{is_unresolved}
-use Rattle.sdb_schema.specs.declared.table.Table.{Table}
-use Rattle.sdb_model.specs.declared.answer.Answer.{Answer}
 use Rattle.sdb_model.specs.declared.answer.Answer.TheVariants as answer
-use Rattle.sdb_model.specs.declared.event.Event.{Event}
 use Rattle.sdb_model.specs.declared.event.How.TheVariants.{Seen}
-use Rattle.sdb_model.specs.declared.statement.Insert.{Insert}
-use Rattle.sdb_model.specs.declared.statement.Statement.{Statement}
 use Rattle.sdb_model.specs.declared.statement.Statement.TheVariants as statement
 use Rattle.sdb_model.specs.Calls.{StoreCall, calls_of, records_observed, records_read}
 use Rattle.sdb_model.specs.Causes.{HasChanged, IsBad, IsBusy, IsChecked, IsCommitOf, IsConflictAtScan, IsCounted, IsIn, IsRebased, IsRejected, IsUnmet, MayPassMost, MeetsMisfit, PutsRow, before, is_select}
@@ -49,7 +42,7 @@ IsUnresolved r = is_unresolved r ≡ true
 abbrev pub IsCoordinatorRow : Record → Type 0
 IsCoordinatorRow r = is_coordinator_table r.key.table ≡ true
 
--- A statement that has this answer was not to be rejected when it was taken, and the stores served its calls.
+-- A statement that has this answer was not to be rejected when it was accepted, and the stores served its calls.
 pub record IsServed (catalog : List Table) (events : List Event) (client : ℕ) (s : Executed) (a : Answer) : Type 0 where
   pub among : Contains (statements_by client events) s
   pub is : s.answer ≡ Some a

@@ -1,8 +1,6 @@
 -- What calls show of the decisions on transactions.
 use Rattle.std.specs.Prelude.{◌≡◌, ◌<◌, ◌^◌, ℕ, List, Some, Contains}
-use Rattle.sdb_types.specs.declared.txid.TxId.{TxId}
-use Rattle.sdb_record.specs.declared.coordinator.Decided.{Decided}
-use Rattle.sdb_model.specs.declared.event.Event.{Event}
+use Rattle.law_runs.specs.Types.{Decided, Event, TxId}
 use Rattle.sdb_model.specs.Calls.{StoreCall, calls_by, decision_observed}
 
 -- All calls that show a decision on a transaction show the same one, whichever clients made them.

@@ -1,15 +1,9 @@
 -- What the calls of a statement showed of the transactions whose records they found.
 use Rattle.std.specs.Prelude.{◌≡◌, ℕ, ◌<◌, true, false, List, Option, Some, Contains}
-use Rattle.sdb_types.specs.declared.txid.TxId.{TxId}
-use Rattle.sdb_types.specs.declared.key.Key.{Key}
-use Rattle.sdb_types.specs.declared.pair.Pair.{Pair}
-use Rattle.sdb_types.specs.declared.record.Record.{Record}
+use Rattle.law_runs.specs.Types.{Decided, Event, Key, Pair, Record, Table, TxId}
 use Rattle.sdb_types.specs.declared.record.State.TheVariants as state
-use Rattle.sdb_schema.specs.declared.table.Table.{Table}
-use Rattle.sdb_record.specs.declared.coordinator.Decided.{Decided}
 use Rattle.sdb_record.specs.Meta.{id_in, is_in}
 use Rattle.sdb_model.specs.ReadSet.{has_read}
-use Rattle.sdb_model.specs.declared.event.Event.{Event}
 use Rattle.sdb_model.specs.Calls.{StoreCall, calls_of, decision_observed, end_of}
 use Rattle.sdb_model.specs.Explained.{IsTableKey, Observes}
 use Rattle.sdb_model.specs.DirtyReads.{WasFound}
@@ -23,7 +17,7 @@ pub record IsDecidedIn (events : List Event) (client : ℕ) (s : Executed) (r : 
   pub look : StoreCall
   pub writer : id_in r.columns ≡ Some id
   pub among : Contains (calls_of events client s) look
-  pub shown : decision_observed id look ≡ Some decided
+  pub observed : decision_observed id look ≡ Some decided
   pub early : look.at < end_of events s
 
 -- Of each record that a statement's calls found at a key, and that isn't committed, they showed the decision.

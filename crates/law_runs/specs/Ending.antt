@@ -1,9 +1,7 @@
 -- Where the events of clients end.
 use Rattle.std.specs.Prelude.{◌<◌, ◌^◌, All, List}
 use Rattle.std.specs.FinMap.{empty}
-use Rattle.sdb_model.specs.declared.event.Event.{Event}
-use Rattle.sdb_model.specs.declared.event.Point.{Point}
-use Rattle.sdb_model.specs.declared.script.Script.{Script}
+use Rattle.law_runs.specs.Types.{Event, Point, Script}
 use Rattle.sdb_model.specs.Events.{IsTrace, StoreContents}
 use Rattle.sdb_model.specs.Follows.{Follows}
 use Rattle.sdb_model.specs.Transactions.{IsOrder}

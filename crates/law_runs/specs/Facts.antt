@@ -4,12 +4,10 @@ use Rattle.std.specs.Int.{w64}
 use Rattle.std.specs.Str.{IsUtf8}
 use Rattle.sdb_types.specs.Fits.{key_fits, record_fits}
 use Rattle.sdb_types.specs.Identifier.{is_name}
-use Rattle.sdb_model.specs.declared.answer.Answer.{Answer}
+use Rattle.law_runs.specs.Types.{Answer, Event, TableDump}
 use Rattle.sdb_model.specs.declared.answer.Answer.TheVariants as answer
-use Rattle.sdb_model.specs.declared.event.Event.{Event}
 use Rattle.sdb_model.specs.declared.event.Event.TheVariants as event
 use Rattle.sdb_model.specs.declared.event.Outcome.{Outcome}
-use Rattle.sdb_model.specs.declared.event.TableDump.{TableDump}
 use Rattle.sdb_model.specs.Plain.{IsPlainPoint, id_is_plain, is_counted, refusal_is_plain, reply_is_plain, request_is_plain, table_is_plain, values_are_plain}
 
 abbrev pub answer_fits : Answer → Type 0

@@ -1,33 +1,19 @@
 -- Events that no execution has, as values: each is refused by what one law says.
 use Rattle.std.specs.Prelude.{◌≡◌, ◌≢◌, ◌<◌, ◌^◌, true, false, pos, ℕ, ℤ, List, [], ◌∷◌, ◌++◌, ◌+◌, Some, None}
-use Rattle.sdb_types.specs.declared.key.Key.{Key}
+use Rattle.law_runs.specs.Types.{Answer, Decision, Event, Insert, Key, Record, Reply, Request, Select, Statement, Table, TxId, Update, Value, Write}
 use Rattle.sdb_types.specs.declared.record.Condition.TheVariants as condition
-use Rattle.sdb_types.specs.declared.record.Record.{Record}
-use Rattle.sdb_types.specs.declared.record.Reply.{Reply}
 use Rattle.sdb_types.specs.declared.record.Reply.TheVariants as reply
-use Rattle.sdb_types.specs.declared.record.Request.{Request}
 use Rattle.sdb_types.specs.declared.record.Request.TheVariants as ask
 use Rattle.sdb_types.specs.declared.record.State.TheVariants as state
-use Rattle.sdb_types.specs.declared.txid.TxId.{TxId}
-use Rattle.sdb_types.specs.declared.value.Value.{Value}
-use Rattle.sdb_record.specs.declared.coordinator.Decision.{Decision}
 use Rattle.sdb_record.specs.declared.coordinator.Decision.TheVariants as decision
-use Rattle.sdb_record.specs.declared.write.Write.{Write}
 use Rattle.sdb_record.specs.Coordinator.{is_coordinator_table}
 use Rattle.sdb_record.specs.Meta.{is_in, is_moment, is_transactional}
 use Rattle.sdb_record.specs.Parts.{user_columns}
 use Rattle.sdb_record.specs.Rolls.{is_tombstone, prepared_record}
-use Rattle.sdb_schema.specs.declared.table.Table.{Table}
-use Rattle.sdb_model.specs.declared.answer.Answer.{Answer}
 use Rattle.sdb_model.specs.declared.answer.Answer.TheVariants as answer
-use Rattle.sdb_model.specs.declared.event.Event.{Event}
 use Rattle.sdb_model.specs.declared.event.Event.TheVariants as event
 use Rattle.sdb_model.specs.declared.event.How.TheVariants.{Seen}
-use Rattle.sdb_model.specs.declared.statement.Insert.{Insert}
-use Rattle.sdb_model.specs.declared.statement.Select.{Select}
-use Rattle.sdb_model.specs.declared.statement.Statement.{Statement}
 use Rattle.sdb_model.specs.declared.statement.Statement.TheVariants as statement
-use Rattle.sdb_model.specs.declared.statement.Update.{Update}
 use Rattle.sdb_model.specs.Access.{in_access}
 use Rattle.sdb_model.specs.Exec.{key_of, named_table}
 use Rattle.sdb_model.specs.Reads.{access_of}
@@ -44,7 +30,7 @@ IsOtherMoment id now = (id.0 < 2 ^ 128) × (is_moment now ≡ true) × (now ≢ 
 abbrev pub IsOfOther : TxId → Type 0
 IsOfOther id = (id.0 < 2 ^ 128) × (client_of id ≢ 1)
 
--- A statement is answered Busy as it is taken.
+-- A statement is answered Busy as it is accepted.
 abbrev pub busy_at_once : List ℕ → Key → TxId → ℤ → List Event
 busy_at_once text key id at = event.Take 1 text (Some (answer.Busy key id at)) ∷ []
 
@@ -52,7 +38,7 @@ busy_at_once text key id at = event.Take 1 text (Some (answer.Busy key id at)) �
 abbrev pub counted_at_once : List ℕ → List Event
 counted_at_once text = event.Take 1 text (Some (answer.Count 0)) ∷ []
 
--- A COMMIT in a transaction is answered Faulted as it is taken.
+-- A COMMIT in a transaction is answered Faulted as it is accepted.
 abbrev pub faults_at_once : List ℕ → List ℕ → List Event
 faults_at_once begin commit = event.Take 1 begin (Some answer.Done) ∷ event.Take 1 commit (Some answer.Faulted) ∷ []
 
@@ -60,7 +46,7 @@ faults_at_once begin commit = event.Take 1 begin (Some answer.Done) ∷ event.Ta
 abbrev pub reads_and_is_done : List ℕ → Key → List Event
 reads_and_is_done text key = event.Take 1 text None ∷ event.Call 1 [] (ask.Get key) Seen (reply.Found None) (Some answer.Done) ∷ []
 
--- A statement that is taken when the clock shows 0 prepares a record with this moment.
+-- A statement that is accepted when the clock shows 0 prepares a record with this moment.
 abbrev pub prepares_at : List ℕ → Write → TxId → ℤ → List Event
 prepares_at text w id now = event.Take 1 text None ∷ event.Call 1 [] (ask.PutIf (prepared_record w id now) condition.Absent) Seen reply.Applied None ∷ []
 
@@ -133,7 +119,7 @@ pub record MeetsMalformed (f : SelectOn) (key : Key) (r : Record) : Type 0 where
   pub inside : key.table ≡ f.on.table.name
   pub malformed : is_transactional r ≡ false
 
--- a transaction's first statement, which is answered as it is taken
+-- a transaction's first statement, which is answered as it is accepted
 abbrev pub answered_at_once : StatementOn → Answer → List Event
 answered_at_once f a = event.Take 1 f.begin (Some answer.Done) ∷ event.Take 1 f.text (Some a) ∷ []
 

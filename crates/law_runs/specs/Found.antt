@@ -3,22 +3,12 @@ use Rattle.std.specs.Prelude.{◌≡◌, Bool, false, not, if◌then◌else◌, 
 use Rattle.std.specs.FinMap.{empty}
 use Rattle.std.specs.List.{filter_map, flat_map, list_any}
 use Rattle.std.specs.Option.{option_and_then, option_map_or}
-use Rattle.sdb_types.specs.declared.key.Key.{Key}
-use Rattle.sdb_types.specs.declared.record.Record.{Record}
-use Rattle.sdb_types.specs.declared.record.Reply.{Reply}
+use Rattle.law_runs.specs.Types.{Answer, Event, Key, Pair, Record, Reply, Request, Span, Statement, Table, TxId}
 use Rattle.sdb_types.specs.declared.record.Reply.TheVariants as reply
-use Rattle.sdb_types.specs.declared.record.Request.{Request}
 use Rattle.sdb_types.specs.declared.record.Request.TheVariants as ask
-use Rattle.sdb_types.specs.declared.record.Span.{Span}
-use Rattle.sdb_types.specs.declared.txid.TxId.{TxId}
 use Rattle.sdb_types.specs.Order.{same_key}
 use Rattle.sdb_record.specs.Rolls.{row_of_image}
-use Rattle.sdb_schema.specs.declared.table.Table.{Table}
-use Rattle.sdb_model.specs.declared.answer.Answer.{Answer}
-use Rattle.sdb_model.specs.declared.event.Event.{Event}
-use Rattle.sdb_model.specs.declared.statement.Statement.{Statement}
 use Rattle.sdb_model.specs.Access.{in_access, with_row}
-use Rattle.sdb_types.specs.declared.pair.Pair.{Pair}
 use Rattle.sdb_model.specs.Calls.{StoreCall, calls_of}
 use Rattle.sdb_model.specs.Exec.{Tables, exec, named_table}
 use Rattle.sdb_model.specs.Reads.{access_of}

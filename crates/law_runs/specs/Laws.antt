@@ -1,20 +1,14 @@
 -- What the laws of executions speak of.
 use Rattle.std.specs.Prelude.{◌≡◌, ◌⊎◌, ◌<◌, ◌≤◌, ◌^◌, ℕ, ℤ, true, false, List, [], None, Some, Contains, codes}
 use Rattle.std.specs.List.{count_by}
-use Rattle.sdb_types.specs.declared.key.Key.{Key}
+use Rattle.law_runs.specs.Types.{Decision, Event, Key, Record, Request, Script, TxId}
 use Rattle.sdb_types.specs.declared.record.Condition.TheVariants as condition
-use Rattle.sdb_types.specs.declared.record.Record.{Record}
 use Rattle.sdb_types.specs.declared.record.Reply.TheVariants as reply
-use Rattle.sdb_types.specs.declared.record.Request.{Request}
 use Rattle.sdb_types.specs.declared.record.Request.TheVariants as ask
-use Rattle.sdb_types.specs.declared.txid.TxId.{TxId}
-use Rattle.sdb_record.specs.declared.coordinator.Decision.{Decision}
 use Rattle.sdb_record.specs.declared.coordinator.Decision.TheVariants as decision
 use Rattle.sdb_record.specs.Coordinator.{coordinator_key_of, coordinator_row_of, is_expired}
 use Rattle.sdb_record.specs.Meta.{id_in, is_unresolved, moment_in}
 use Rattle.sdb_model.specs.declared.answer.Answer.TheVariants as answer
-use Rattle.sdb_model.specs.declared.event.Event.{Event}
-use Rattle.sdb_model.specs.declared.script.Script.{Script}
 use Rattle.sdb_model.specs.Follows.{Follows}
 use Rattle.sdb_model.specs.ReadSet.{reads_rows}
 use Rattle.sdb_model.specs.Sql.{reads_begin, reads_commit, reads_rollback, reads_vacuum}
@@ -24,7 +18,7 @@ use Rattle.sdb_model.specs.Transactions.{Executed, prepares, statements_by}
 use Rattle.law_clients.specs.Invariant.{RunInvariant}
 use Rattle.law_clients.specs.Fitting.{tables_are_well_typed}
 use Rattle.law_clients.specs.States.{doing_of, system_of}
-use Rattle.sdb_execution.specs.Execution.{IsExecution, IsPlayable}
+use Rattle.sdb_client.specs.Execution.{IsExecution, IsPlayable}
 use Rattle.law_runs.specs.World.{states_of}
 use Rattle.law_runs.specs.Linked.{on_one}
 
@@ -65,10 +59,10 @@ pub record PreparedBy (events : List Event) (client : ℕ) (s : Executed) (m : S
   pub is : prepares id m.request ≡ true
   pub puts : put_by m.request ≡ Some r
 
--- The statement is the COMMIT of that transaction, and the record has the moment that the clock showed when this was taken.
+-- The statement is the COMMIT of that transaction, and the record has the moment that the clock showed when this was accepted.
 pub record IsOwnPrepare (events : List Event) (client : ℕ) (s : Executed) (id : TxId) (r : Record) : Type 0 where
   pub commit : IsCommitOf events client s id
-  pub moment : moment_in r.columns (codes "tx_prepared_at") ≡ Some (clock_at events s.taken)
+  pub moment : moment_in r.columns (codes "tx_prepared_at") ≡ Some (clock_at events s.accepted)
 
 -- This holds of each.
 abbrev pub PreparesAreOwn : List Event → Type 0
@@ -91,11 +85,11 @@ WritesRow id m = (is_of_row id m.request ≡ true) × (is_read m.request ≡ fal
 abbrev pub row_put : TxId → Decision → ℤ → Request
 row_put id d now = ask.PutIf (coordinator_row_of id d now) condition.Absent
 
--- The statement is the COMMIT of the transaction, and puts its row with the moment that the clock showed when this was taken.
+-- The statement is the COMMIT of the transaction, and puts its row with the moment that the clock showed when this was accepted.
 pub record IsOwnDecision (events : List Event) (client : ℕ) (s : Executed) (id : TxId) (m : StoreCall) : Type 0 where
   pub commit : IsCommitOf events client s id
   pub decision : Decision
-  pub asks : m.request ≡ row_put id decision (clock_at events s.taken)
+  pub asks : m.request ≡ row_put id decision (clock_at events s.accepted)
 
 -- After a read among the calls had found an unresolved record of a transaction, a get of its row found none, while the clock showed 15 seconds
 -- or more than the record's moment.

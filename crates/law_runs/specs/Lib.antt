@@ -1,3 +1,4 @@
+pub mod Types
 pub mod Ending
 pub mod Order
 pub mod Points

@@ -1,17 +1,9 @@
 -- Events with a trace of the stores that agrees with them at every moment.
 use Rattle.std.specs.Prelude.{◌≡◌, Bool, List, None, Option, ℕ}
 use Rattle.std.specs.FinMap.{empty}
-use Rattle.sdb_types.specs.declared.key.Key.{Key}
-use Rattle.sdb_types.specs.declared.pair.Pair.{Pair}
+use Rattle.law_runs.specs.Types.{Event, Key, Pair, Place, Point, Script, Statement, Table, TableDump}
 use Rattle.sdb_record.specs.Coordinator.{coordinator_table}
-use Rattle.sdb_schema.specs.declared.table.Table.{Table}
-use Rattle.sdb_model.specs.declared.event.Event.{Event}
 use Rattle.sdb_model.specs.declared.event.Outcome.{Outcome}
-use Rattle.sdb_model.specs.declared.event.Point.{Point}
-use Rattle.sdb_model.specs.declared.event.TableDump.{TableDump}
-use Rattle.sdb_types.specs.declared.place.Place.{Place}
-use Rattle.sdb_model.specs.declared.script.Script.{Script}
-use Rattle.sdb_model.specs.declared.statement.Statement.{Statement}
 use Rattle.sdb_model.specs.Calls.{calls_of}
 use Rattle.sdb_model.specs.Events.{IsTrace, StoreContents}
 use Rattle.sdb_model.specs.Exec.{Tables, find_table}
@@ -99,37 +91,37 @@ pub record InvariantOnOne (catalog : List Table) : Type 0 where
   pub events : List Event
   pub sys : SystemAt
   pub doing : ℕ → Option Statement
-  pub going : RunInvariant catalog fit (relocated_events (λ ns. name) events) sys doing
+  pub running : RunInvariant catalog fit (relocated_events (λ ns. name) events) sys doing
 
 -- Such events, about the tables of a catalog, agree with stores that held nothing of these to begin with.
 pub record TracedOnStores : Type 0 where
   pub catalog : List Table
-  pub going : InvariantOnOne catalog
+  pub running : InvariantOnOne catalog
   pub apart : find_table catalog coordinator_table ≡ None
   pub places : List Place
   pub opening : List StoreContents
   pub closing : List StoreContents
   pub moments : List (List StoreContents)
-  pub trace : IsTrace places going.events opening moments closing
-  pub about : AreAbout catalog going.events
+  pub trace : IsTrace places running.events opening moments closing
+  pub about : AreAbout catalog running.events
   pub nothing : HoldAs catalog places opening empty
 
 -- Such events agree with the stores of a script, whose tables held nothing to begin with.
 pub record TraceOnStores (script : Script) : Type 0 where
-  pub going : InvariantOnOne script.catalog
+  pub running : InvariantOnOne script.catalog
   pub opening : List StoreContents
   pub closing : List StoreContents
-  pub labelled : IsTraceOnEmpty script going.events opening closing
+  pub labelled : IsTraceOnEmpty script running.events opening closing
 
 -- Such events end on the stores of a script, with the order of what is recorded.
 pub record EndOnStores (script : Script) : Type 0 where
-  pub going : InvariantOnOne script.catalog
-  pub fitting : IsFitting script.catalog going.fit
+  pub running : InvariantOnOne script.catalog
+  pub fitting : IsFitting script.catalog running.fit
   pub opening : List StoreContents
   pub closing : List StoreContents
   pub order : List Point
-  pub ends : IsEnd script going.events opening closing order
+  pub ends : IsEnd script running.events opening closing order
 
 -- their outcome, with tables to print
 abbrev pub outcome_on : {script : Script} → EndOnStores script → List TableDump → Outcome
-outcome_on e tables = record { events = e.going.events; order = e.order; tables = tables }
+outcome_on e tables = record { events = e.running.events; order = e.order; tables = tables }

@@ -1,16 +1,12 @@
 -- What a VACUUM does: which tables it scans, and which records it deletes.
 use Rattle.std.specs.Prelude.{◌≡◌, ◌⊎◌, ◌<◌, ◌≤◌, ◌+◌, ◌*◌, ◌&&◌, ℕ, Bool, true, if◌then◌else◌, List, ◌++◌, filter, length, map, Option, Some, None, is_some, Contains}
 use Rattle.std.specs.List.{count_by, filter_map, sum_by}
-use Rattle.sdb_types.specs.declared.record.Record.{Record}
-use Rattle.sdb_types.specs.declared.record.Request.{Request}
+use Rattle.law_runs.specs.Types.{Event, Record, Request, Span, Table}
 use Rattle.sdb_types.specs.declared.record.Request.TheVariants as ask
-use Rattle.sdb_types.specs.declared.record.Span.{Span}
 use Rattle.sdb_types.specs.declared.record.State.TheVariants as state
 use Rattle.sdb_record.specs.Meta.{is_in, is_transactional}
 use Rattle.sdb_record.specs.Rolls.{is_tombstone, remove_request}
-use Rattle.sdb_schema.specs.declared.table.Table.{Table}
 use Rattle.sdb_model.specs.declared.answer.Answer.TheVariants as answer
-use Rattle.sdb_model.specs.declared.event.Event.{Event}
 use Rattle.sdb_model.specs.Calls.{StoreCall, calls_after, calls_of, is_removal, put_by, records_read}
 use Rattle.sdb_model.specs.Causes.{removes}
 use Rattle.sdb_model.specs.Counted.{unresolved_in}

@@ -1,15 +1,13 @@
 -- The state of a run: the clients of a script, and the events so far.
 use Rattle.std.specs.Prelude.{◌≡◌, ℕ, zero, suc, ℤ, true, false, List, [], ◌∷◌, ◌++◌, length, Option, Some, None, slice_get, slice_set}
 use Rattle.sdb_record.specs.Meta.{is_moment}
-use Rattle.sdb_model.specs.declared.event.Event.{Event}
-use Rattle.sdb_model.specs.declared.script.Script.{Script}
+use Rattle.law_runs.specs.Types.{ClientSlot, Event, Script}
 use Rattle.sdb_model.specs.Follows.{has_stopped, is_pending, takes_of}
 use Rattle.law_protocol.specs.Spread.{AreAbout}
 use Rattle.sdb_client.specs.Client.{IsBusy, IsIdle, nothing_done}
 use Rattle.law_clients.specs.About.{IsOfTables}
 use Rattle.law_clients.specs.States.{ClientState, IsFitted}
-use Rattle.sdb_execution.specs.declared.slot.ClientSlot.{ClientSlot}
-use Rattle.sdb_execution.specs.Execution.{IsPlayable, State}
+use Rattle.sdb_client.specs.Execution.{IsPlayable, State}
 
 -- the script, its clients in their order, the events so far, and the moment
 pub record WorldAt : Type 0 where
@@ -46,13 +44,13 @@ states_of client_slots (suc i) = state_in (slice_get client_slots i) (suc i)
 
 ---- what holds between two steps
 
--- A client is where the events leave it: it has taken that many statements, has stopped, and waits for a reply where its last event
+-- A client is where the events leave it: it has accepted that many statements, has stopped, and waits for a reply where its last event
 -- has no answer.
 pub record IsClientState (script : Script) (events : List Event) (i : ℕ) (s : ClientSlot) : Type 0 where
   pub number : s.client.number ≡ suc i
   pub fitted : IsFitted script.catalog s.client
   pub about : IsOfTables script.catalog s.client
-  pub taken : s.taken ≡ takes_of (suc i) events
+  pub accepted : s.accepted ≡ takes_of (suc i) events
   pub stopped : s.stopped ≡ has_stopped (suc i) events
   pub busy : is_pending (suc i) events ≡ true → IsBusy s.client
   pub idle : is_pending (suc i) events ≡ false → IsIdle s.client

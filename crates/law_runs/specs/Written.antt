@@ -1,22 +1,17 @@
 -- The keys that a transaction's statements write, and which of them its COMMIT prepares.
 use Rattle.std.specs.Prelude.{◌≡◌, ◌<◌, ◌≤◌, ◌^◌, true, ℕ, ℤ, List, [], ◌∷◌, length, take, filter, Option, Some, None, Contains}
 use Rattle.std.specs.List.{filter_map}
-use Rattle.sdb_types.specs.declared.key.Key.{Key}
-use Rattle.sdb_types.specs.declared.record.Record.{Record}
+use Rattle.law_runs.specs.Types.{Event, Key, Record, Statement, Table, TxId}
 use Rattle.sdb_types.specs.declared.record.Reply.TheVariants as reply
-use Rattle.sdb_types.specs.declared.txid.TxId.{TxId}
 use Rattle.sdb_types.specs.Replies.{is_applied}
 use Rattle.sdb_record.specs.declared.coordinator.Decision.TheVariants as decision
-use Rattle.sdb_schema.specs.declared.table.Table.{Table}
-use Rattle.sdb_model.specs.declared.event.Event.{Event}
 use Rattle.sdb_model.specs.declared.event.How.TheVariants.{Seen}
-use Rattle.sdb_model.specs.declared.statement.Statement.{Statement}
 use Rattle.sdb_model.specs.Calls.{StoreCall, calls_before, calls_of, key_asked}
 use Rattle.sdb_model.specs.Causes.{IsCommitOf}
 use Rattle.sdb_model.specs.Counted.{prepares_in}
 use Rattle.sdb_model.specs.Exec.{Tables}
 use Rattle.sdb_model.specs.Transactions.{Executed, point, prepares}
-use Rattle.sdb_session.specs.Keys.{keys_written, with_keys}
+use Rattle.law_clients.specs.Keys.{keys_written, with_keys}
 use Rattle.law_runs.specs.Found.{AllRunAs, View, answered_inside, finds, nothing_found, run_one, with_found}
 use Rattle.law_runs.specs.Laws.{row_put}
 

@@ -1,7 +1,6 @@
 //! Where the events of clients end.
 ghost use Rattle.std.specs.Prelude.{List};
-ghost use Rattle.sdb_model.specs.declared.event.TableDump.{TableDump};
-ghost use Rattle.sdb_model.specs.declared.script.Script.{Script};
+ghost use Rattle.law_runs.specs.Types.{Script, TableDump};
 ghost use Rattle.sdb_model.specs.Serial.{IsRun};
 ghost use Rattle.law_runs.specs.Traces.{EndOnStores, outcome_on};
 

@@ -7,7 +7,7 @@ ghost use Rattle.law_runs.specs.Traces.{TracedOnStores};
 /// is there at every moment is explained by the events, whatever the stores held in between, and what each recorded transaction
 /// read is current at its point.
 pub fn invariant_gives_explained_on_stores()
-    ensures { (t : TracedOnStores) → Explained t.catalog t.places t.going.events t.opening t.moments }
+    ensures { (t : TracedOnStores) → Explained t.catalog t.places t.running.events t.opening t.moments }
 {}
 
 /// There each record that was at a key of a table at any moment passes the checks.

@@ -6,9 +6,11 @@ ghost use Rattle.sdb_types.specs.Fits.{record_fits};
 ghost use Rattle.sdb_model.specs.Plain.{IsPlainPoint, condition_is_plain, id_is_plain, refusal_is_plain, reply_is_plain, request_is_plain, span_is_plain, table_is_plain, values_are_plain};
 ghost use Rattle.law_runs.specs.Facts.{answer_fits, dump_fits, event_fits, given_fits, outcome_fits};
 
-use sdb_facts::{key_facts, name_facts, record_facts, table_facts, values_facts};
 use sdb_model::{Answer, Event, Outcome, Point, Refusal, TableDump};
-use sdb_types::{Condition, Record, Reply, Request, Span, TxId, Txt, Values};
+use sdb_types::{
+    Condition, Record, Reply, Request, Span, TxId, Txt, Values, key_facts, name_facts,
+    record_facts, table_facts, values_facts,
+};
 
 fn span_facts(span: &Span)
     ensures { span_is_plain span.now }

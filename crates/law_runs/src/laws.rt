@@ -1,16 +1,8 @@
 //! Laws of executions, whatever the stores reply.
 ghost use Rattle.std.specs.Prelude.{[], ◌∷◌, ◌≡◌, ◌≢◌, List, Some, pos, take, true, ℕ, ℤ};
-ghost use Rattle.sdb_types.specs.declared.key.Key.{Key};
-ghost use Rattle.sdb_types.specs.declared.record.Record.{Record};
-ghost use Rattle.sdb_types.specs.declared.record.Reply.{Reply};
-ghost use Rattle.sdb_types.specs.declared.record.Request.{Request};
-ghost use Rattle.sdb_types.specs.declared.txid.TxId.{TxId};
-ghost use Rattle.sdb_types.specs.declared.value.Value.{Value};
-ghost use Rattle.sdb_record.specs.declared.coordinator.Decision.{Decision};
-ghost use Rattle.sdb_record.specs.declared.write.Write.{Write};
-ghost use Rattle.sdb_schema.specs.declared.table.Table.{Table};
+ghost use Rattle.law_runs.specs.Types.{Decision, Key, Record, Reply, Request, Table, TxId, Value, Write};
 ghost use Rattle.sdb_model.specs.Sql.{reads_begin, reads_commit, reads_vacuum};
-ghost use Rattle.sdb_execution.specs.Execution.{IsExecution};
+ghost use Rattle.sdb_client.specs.Execution.{IsExecution};
 ghost use Rattle.sdb_model.specs.Causes.{AreCaused};
 ghost use Rattle.sdb_model.specs.Counted.{AreCounted, AreResolved};
 ghost use Rattle.law_protocol.specs.Spread.{AreAbout};
@@ -60,7 +52,7 @@ pub fn busy_is_of_reads()
 {}
 
 /// A call that prepares for a transaction is one of its own COMMIT, and the record that it puts has the moment that the clock showed when that
-/// COMMIT was taken. So a record expires 15 seconds after its transaction's COMMIT was taken.
+/// COMMIT was accepted. So a record expires 15 seconds after its transaction's COMMIT was accepted.
 pub fn prepares_are_own()
     ensures { (x : ExecutionOf) → PreparesAreOwn x.events }
 {}
@@ -178,7 +170,7 @@ pub fn forged_events_are_refused()
     ensures busy { (text : List ℕ) (key : Key) (id : TxId) (at : ℤ) → reads_commit text ≡ true → BusyIsOfReads (busy_at_once text key id at) → ⊥ }
     ensures idle_busy { (text : List ℕ) (key : Key) (id : TxId) (at : ℤ) → ResolvedAreNotBusy (busy_at_once text key id at) → ⊥ }
     ensures faulted { (catalog : List Table) (begin commit : List ℕ) → reads_begin begin ≡ true → reads_commit commit ≡ true → UncontendedCommitsComplete catalog (faults_at_once begin commit) → ⊥ }
-    ensures swept { (t : Table) (text : List ℕ) → reads_vacuum text ≡ true → VacuumsAreComplete (t ∷ []) (counted_at_once text) → ⊥ }
+    ensures vacuumed { (t : Table) (text : List ℕ) → reads_vacuum text ≡ true → VacuumsAreComplete (t ∷ []) (counted_at_once text) → ⊥ }
     ensures begun { (text : List ℕ) (key : Key) → reads_begin text ≡ true → ReadsAreFew (reads_and_is_done text key) → ⊥ }
     ensures prepared { (text : List ℕ) (w : Write) (id : TxId) (now : ℤ) → IsOtherMoment id now → PreparesAreOwn (prepares_at text w id now) → ⊥ }
     ensures decided { (text : List ℕ) (id : TxId) (d : Decision) (now : ℤ) → IsOfOther id → DecisionsAreDue (decides_at_once text id d now) → ⊥ }

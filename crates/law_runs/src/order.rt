@@ -1,8 +1,6 @@
 //! The order of the recorded transactions.
 ghost use Rattle.std.specs.Prelude.{List};
-ghost use Rattle.sdb_types.specs.declared.txid.TxId.{TxId};
-ghost use Rattle.sdb_model.specs.declared.event.Event.{Event};
-ghost use Rattle.sdb_model.specs.declared.event.Point.{Point};
+ghost use Rattle.law_runs.specs.Types.{Event, Point, TxId};
 ghost use Rattle.sdb_model.specs.Transactions.{IsOrder};
 ghost use Rattle.law_protocol.specs.Runs.{AreOfIds};
 ghost use Rattle.law_runs.specs.Order.{AreIds, HasRisen, RisenIds};

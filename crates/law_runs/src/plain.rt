@@ -1,7 +1,7 @@
 //! Laws of the outcomes of runs.
 ghost use Rattle.std.specs.Prelude.{All};
 ghost use Rattle.sdb_model.specs.Plain.{IsPlain, HasLines};
-ghost use Rattle.sdb_reading.specs.OneLine.{EventHasNoLf};
+ghost use Rattle.sdb_report.specs.OneLine.{EventHasNoLf};
 ghost use Rattle.law_runs.specs.Laws.{ExecutionOf};
 ghost use Rattle.law_runs.specs.Moments.{TraceOf};
 ghost use Rattle.law_runs.specs.Facts.{outcome_fits};

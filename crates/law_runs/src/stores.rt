@@ -7,6 +7,6 @@ ghost use Rattle.law_runs.specs.Traces.{TraceOnStores};
 /// Where the run invariant holds of events, as made on one store, which agree with the stores of a script whose tables held nothing, each
 /// recorded transaction has its point, and what is in the tables is sound.
 pub fn invariant_gives_end_on_stores()
-    ensures points { (script : Script) (p : TraceOnStores script) → HavePoints script.places p.going.events p.closing }
+    ensures points { (script : Script) (p : TraceOnStores script) → HavePoints script.places p.running.events p.closing }
     ensures sound { (script : Script) (p : TraceOnStores script) → AreSound script.catalog script.places p.closing }
 {}

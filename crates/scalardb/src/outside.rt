@@ -92,7 +92,7 @@ impl<'a> Time<'a> {
 }
 
 impl Clock for Time<'_> {
-    ghost told = { λ _. None };
+    ghost answered = { λ _. None };
 
     fn now(&mut self) -> i64 {
         millis(self.rt)
@@ -139,7 +139,7 @@ impl RandomIds {
 }
 
 impl Ids for RandomIds {
-    ghost told = { λ _. None };
+    ghost answered = { λ _. None };
 
     fn draw(&mut self) -> u128 {
         let id = self.next;

@@ -44,7 +44,7 @@ pub fn run_on_own<R: Source, W: Sink, C: Clock, I: Ids>(
     ids: &mut I,
 ) -> Status
     requires new { IsNewStore (⟦<Kept<MemStore> as Store>⟧.state database) }
-    ensures ended { HasEndedOn own_attached (map string_bytes words.now) (outside (stream R.remaining R.faults) (stream W.written W.faults) C.told I.told
+    ensures ended { HasEndedOn own_attached (map string_bytes words.now) (outside (stream R.remaining R.faults) (stream W.written W.faults) C.answered I.answered
         input.old input.new output.old output.new clock.old clock.new ids.old ids.new) result }
 {
     let (Ok(names), Ok(ordered), Ok(hashed), Ok(kept)) = (
@@ -77,7 +77,7 @@ pub fn run_over_file<R: Source, W: Sink, C: Clock, I: Ids>(
     ids: &mut I,
 ) -> Status
     requires new { IsNewStore (⟦<Kept<MemStore> as Store>⟧.state database) }
-    ensures ended { HasEndedOver (codes "file" ∷ []) (map string_bytes words.now) (outside (stream R.remaining R.faults) (stream W.written W.faults) C.told I.told
+    ensures ended { HasEndedOver (codes "file" ∷ []) (map string_bytes words.now) (outside (stream R.remaining R.faults) (stream W.written W.faults) C.answered I.answered
         input.old input.new output.old output.new clock.old clock.new ids.old ids.new) result }
 {
     let (Ok(name), Ok(names)) = (Name::new(alloc, "file"), store_names(alloc)) else {
@@ -114,7 +114,7 @@ pub fn run_over_files<R: Source, W: Sink, C: Clock, I: Ids>(
     ids: &mut I,
 ) -> Status
     requires new { IsNewStore (⟦<Kept<MemStore> as Store>⟧.state database) }
-    ensures ended { HasEndedOver (codes "file" ∷ codes "file2" ∷ []) (map string_bytes words.now) (outside (stream R.remaining R.faults) (stream W.written W.faults) C.told I.told
+    ensures ended { HasEndedOver (codes "file" ∷ codes "file2" ∷ []) (map string_bytes words.now) (outside (stream R.remaining R.faults) (stream W.written W.faults) C.answered I.answered
         input.old input.new output.old output.new clock.old clock.new ids.old ids.new) result }
 {
     let (Ok(before), Ok(names)) = (file_names(alloc), store_names(alloc)) else {

@@ -7,14 +7,12 @@ use Rattle.std.proofs.lemmas.List.{length-map}
 use Rattle.std.specs.Str.{bytes_eq}
 use Rattle.sdb_types.proofs.Basics.{all_each, clash}
 use Rattle.sdb_model.specs.declared.script.Act.TheVariants as act
-use Rattle.sdb_model.specs.declared.script.Move.{Move}
+use Rattle.sdb_app.specs.Types.{Move, Outcome, Place}
 use Rattle.sdb_model.specs.declared.script.Move.TheVariants as move
-use Rattle.sdb_types.specs.declared.place.Place.{Place}
-use Rattle.sdb_execution.specs.Execution.{IsPlayable}
+use Rattle.sdb_client.specs.Execution.{IsPlayable}
 use Rattle.sdb_world.specs.Step.{CanFollow, CanMove}
 use Rattle.sdb_bench.specs.Script.{IsOfNine, bench_script_of}
 use Rattle.sdb_stores.specs.Views.{Attached, StoreView as Counted, names_of}
-use Rattle.sdb_model.specs.declared.event.Outcome.{Outcome}
 use Rattle.sdb_model.specs.Events.{StoreContents}
 use Rattle.sdb_model.specs.Serial.{IsRun}
 use Rattle.sdb_bench.specs.Counts.{bench_text_of, uneven_of}
@@ -76,14 +74,14 @@ placeable stores n first last has_first has_last =
 name_there : (stores : List (List ℕ)) (i : ℕ) → i < length stores → Contains stores (name_at stores i)
 name_there stores i within = subst (λ (n : List ℕ). Contains stores n) (sym (unwrap_or-slice_get stores i [])) (Contains-get_or stores i [] within)
 
-named_count : (shelves : List Counted) → length (names_of shelves) ≡ length shelves
-named_count shelves = length-map shelves (λ (s : Counted). s.name)
+named_count : (store_contents : List Counted) → length (names_of store_contents) ≡ length store_contents
+named_count store_contents = length-map store_contents (λ (s : Counted). s.name)
 
 -- The places of a bench over attached stores can be made.
-pub placed_over : (n : ℕ) (shelves : List Counted) → 0 < length shelves → CanBePlaced (names_of shelves) (bench_over n (names_of shelves)).places
-placed_over n shelves some =
-    let count = named_count shelves in
-    placeable (names_of shelves) n (name_at (names_of shelves) 0) (name_at (names_of shelves) (length (names_of shelves) - 1)) (name_there (names_of shelves) 0 (omega arith)) (name_there (names_of shelves) (length (names_of shelves) - 1) (omega arith))
+pub placed_over : (n : ℕ) (store_contents : List Counted) → 0 < length store_contents → CanBePlaced (names_of store_contents) (bench_over n (names_of store_contents)).places
+placed_over n store_contents some =
+    let count = named_count store_contents in
+    placeable (names_of store_contents) n (name_at (names_of store_contents) 0) (name_at (names_of store_contents) (length (names_of store_contents) - 1)) (name_there (names_of store_contents) 0 (omega arith)) (name_there (names_of store_contents) (length (names_of store_contents) - 1) (omega arith))
 
 -- What is counted over its outcome.
 pub benched_on : (n : ℕ) (old : Attached) (left : List Counted) (o : Outcome) (answer : List ℕ) → IsReportable (bench_over n (names_of old.views)) old left o → answer ≡ bench_text_of n o
@@ -92,5 +90,5 @@ benched_on n old left o answer made is even = record {
   outcome = o;
   made = made;
   text = is;
-  even = λ all. even _ _ _ _ (made.played all).run;
+  even = λ all. even _ _ _ _ (made.correct all).run;
 }

@@ -3,7 +3,7 @@ use Rattle.std.proofs.Common.{◌≡◌, ℕ, true, false, List, [], ◌∷◌, 
 use Rattle.std.specs.Prelude.{nat_le, if◌then◌else◌}
 use Rattle.std.specs.List.{list_all, cons_option}
 use Rattle.std.specs.Option.{option_map, option_map_or, option_and_then}
-use Rattle.std.specs.declared.cmp.Ordering.{Ordering}
+use Rattle.sdb_app.specs.Types.{Column, Kind, Ordering, SchemaFault, Table, TableName, TableRefused}
 use Rattle.std.specs.declared.cmp.Ordering.TheVariants.{Less, Equal, Greater}
 use Rattle.std.specs.Ordering.{nat_cmp, match_ordering, ordering_reverse}
 use Rattle.std.specs.Cmp.Lexicographic.{slice_cmp}
@@ -14,18 +14,12 @@ use Rattle.json.specs.Lex.{tokens}
 use Rattle.serde_json.specs.Data.{Data, null, boolean, number, string, array, object, Members, no_members, member, put}
 use Rattle.serde_json.specs.Find.{as_object, get}
 use Rattle.serde_json.specs.Read.{max_depth, number_of, of_items, of_json, of_members}
-use Rattle.sdb_types.specs.declared.key.TableName.{TableName}
 use Rattle.sdb_types.specs.Identifier.{is_name}
 use Rattle.sdb_types.proofs.Bools.{and_both}
 use Rattle.sdb_record.specs.Parts.{is_column_name}
-use Rattle.sdb_schema.specs.declared.table.Column.{Column}
-use Rattle.sdb_schema.specs.declared.table.Kind.{Kind}
-use Rattle.sdb_schema.specs.declared.table.Table.{Table}
-use Rattle.sdb_schema.specs.declared.make.TableRefused.{TableRefused}
 use Rattle.sdb_schema.specs.Table as table
 use Rattle.sdb_schema.specs.Catalog.{is_catalog, rises, is_above_name}
 use Rattle.sdb_schema.proofs.TableLaws.{made}
-use Rattle.sdb_loader.specs.declared.fault.SchemaFault.{SchemaFault}
 use Rattle.sdb_loader.specs.declared.fault.SchemaFault.TheVariants as fault
 use Rattle.sdb_loader.specs.Fields.{columns, columns_among, columns_in, kind_given}
 use Rattle.sdb_loader.specs.Words.{table_named}

@@ -2,14 +2,9 @@
 use Rattle.std.proofs.Common.{◌≡◌, ◌∙◌, refl, Result, Ok, Err, IfErr, ℕ, ◌≤◌, ◌<◌, List, [], Option, None, length, sym, ap, subst, arith}
 use Rattle.std.specs.FinMap.{empty}
 use Rattle.std.specs.Prelude.{slice_get, IsErrAnd}
-use Rattle.sdb_types.specs.declared.key.Key.{Key}
-use Rattle.sdb_types.specs.declared.pair.Pair.{Pair}
+use Rattle.sdb_app.specs.Types.{Event, Key, Outcome, Pair, Place, Script}
 use Rattle.sdb_record.specs.Coordinator.{coordinator_table}
-use Rattle.sdb_model.specs.declared.event.Event.{Event}
 use Rattle.sdb_stores.specs.Views.{Attached, StoreView as Counted, AreDistinct, HaveRisen, names_of, total_faults}
-use Rattle.sdb_model.specs.declared.event.Outcome.{Outcome}
-use Rattle.sdb_types.specs.declared.place.Place.{Place}
-use Rattle.sdb_model.specs.declared.script.Script.{Script}
 use Rattle.sdb_model.specs.declared.answer.Answer.TheVariants as answer
 use Rattle.sdb_model.specs.Counted.{AreResolved}
 use Rattle.sdb_model.specs.Events.{StoreContents, store_of}
@@ -32,7 +27,7 @@ use Rattle.law_answers.proofs.ShowsWhole.{answers_own}
 use Rattle.law_runs.specs.DirtyReads.{ReadBy}
 use Rattle.law_runs.proofs.Finding.{answers_as, answers_committed}
 use Rattle.sdb_world.specs.Broken.{BreaksWithin}
-use Rattle.sdb_execution.specs.Execution.{IsExecution, IsPlayable}
+use Rattle.sdb_client.specs.Execution.{IsExecution, IsPlayable}
 use Rattle.law_runs.proofs.Steps.{execution_caused}
 use Rattle.law_runs.proofs.Beginnings.{no_coordinator}
 use Rattle.sdb_world.specs.Explained.{IsExplained, HasNoDirtyReads}
@@ -109,7 +104,7 @@ pub kept_after : (old mid new : Attached) → mid.views ≡ old.views → ((at :
 kept_after old mid new same where_known goes = record {
   names = goes.names ∙ ap names_of same;
   counted = subst (λ (ss : List Counted). total_faults ss ≤ total_faults new.views) same goes.counted;
-  where_known = λ at told. goes.where_known at (where_known at told);
+  where_known = λ at answered. goes.where_known at (where_known at answered);
 }
 
 -- so are stores of which none has changed
@@ -125,7 +120,7 @@ pub kept_more : (old mid new : Attached) → AreKept old mid → AreKept mid new
 kept_more old mid new first second = record {
   names = second.names ∙ first.names;
   counted = let a = first.counted in let b = second.counted in omega arith;
-  where_known = λ at told. second.where_known at (first.where_known at told);
+  where_known = λ at answered. second.where_known at (first.where_known at answered);
 }
 
 -- stores that are the same go on to tell
@@ -153,11 +148,11 @@ ready_after script mid then same goes fit none quiet = record {
 shown_of : (script : Script) (opening : List StoreContents) (events : List Event) → find_table script.catalog coordinator_table ≡ None → AnswersHaveCauses script.catalog events → AreResolved events → IsExplained script events opening → HasNoDirtyReads script events opening
 shown_of script opening events none caused resolved explained moments end traced =
     let at = explained moments end traced in
-    answers_committed script.catalog script.places events opening end moments none traced at.explained.standing at.taken resolved
-    (answers_as script.catalog (WasRead script.catalog events) (ReadBy script.catalog events) events read (answers_own script.catalog events caused.shown))
+    answers_committed script.catalog script.places events opening end moments none traced at.explained.stored_at at.accepted resolved
+    (answers_as script.catalog (WasRead script.catalog events) (ReadBy script.catalog events) events read (answers_own script.catalog events caused.observed))
   where
     read : (c : ℕ) (s : Executed) (key : Key) (row : Option (List Pair)) → WasRead script.catalog events c s key row → ReadBy script.catalog events c s key row
-    read c s key row w = (record { among = w.0; finished = w.1.told; no_vacuum = w.1.no_vacuum }, w.1.table, w.1.found)
+    read c s key row w = (record { among = w.0; finished = w.1.answered; no_vacuum = w.1.no_vacuum }, w.1.table, w.1.found)
 
 played_on : (script : Script) (old mid then : Attached) (new : List StoreContents) (o : Outcome) → mid.places ≡ script.places → mid.views ≡ old.views → GoOn mid then → AreUsable script.catalog mid
     → first_key (opening_in script.catalog mid) ≡ None → HoldTheSame mid then → (AreReady script then → IsRun script (contents_of_views then.views) new o) → (AreReady script then → IsExplained script o.events (contents_of_views then.views)) → AnswersHaveCauses script.catalog o.events → find_table script.catalog coordinator_table ≡ None → AreResolved o.events → IsPlayable script → HasLines script → IsExecution script o.events → outcome_fits o → IsCorrect script (contents_of_views old.views) new o
@@ -165,7 +160,7 @@ played_on script old mid then new o same still goes fit none quiet run explained
   empty = sym (ap (λ (ss : List StoreContents). first_key (opening_records script.catalog script.places ss)) (ap contents_of_views still)) ∙ sym (ap (λ (xs : List Place). first_key (opening_records script.catalog xs (contents_of_views mid.views))) same) ∙ none;
   run = run_now;
   explained = explained_now;
-  shown = shown_of script (contents_of_views old.views) o.events apart caused resolved explained_now;
+  observed = shown_of script (contents_of_views old.views) o.events apart caused resolved explained_now;
   plain = run_plain (record { script = script; opening = contents_of_views old.views; closing = new; outcome = o; playable = playable; lines = lines; executed = executed; nothing = nothing_now; run = run_now }) fits;
 }
   where
@@ -188,8 +183,8 @@ outcome_is script old mid then new o same still where_known goes more fit none n
   caused = caused.caused;
   broken = subst (λ (ss : List Counted). BreaksWithin [] o.events ss new.views) still (breaks_after [] o.events mid then new.views goes broken);
   empty = subst (λ (ss : List Counted). HoldNothing (run_tables script.catalog) (placed_as script old ss)) still (nothing_as (placed_as script old mid.views) mid (shows_placed script old mid same where_known) (run_tables script.catalog) nothing);
-  read = read_as (placed_as script old new.views) (known_before then new) (shows_placed script old (known_before then new) ((more.places ∙ goes.places) ∙ same) (λ at tells. goes.where_known at (where_known at tells))) script.catalog o read;
-  played = λ all. played_on script old mid then (contents_of_views new.views) o same still goes (fit all) (none (fit all)) (quiet (fit all)) run explained caused (no_coordinator script playable) resolved playable lines executed fits;
+  read = read_as (placed_as script old new.views) (known_before then new) (shows_placed script old (known_before then new) ((more.places ∙ goes.places) ∙ same) (λ at is_known. goes.where_known at (where_known at is_known))) script.catalog o read;
+  correct = λ all. played_on script old mid then (contents_of_views new.views) o same still goes (fit all) (none (fit all)) (quiet (fit all)) run explained caused (no_coordinator script playable) resolved playable lines executed fits;
 }
   where
     caused : AnswersHaveCauses script.catalog o.events
@@ -211,11 +206,11 @@ found_first script old mid left key same still where_known fit h = record {
 -- the record that is bad in the end is one of the script's tables
 pub found_bad : (script : Script) (old mid then new : Attached) (key : Key) → mid.places ≡ script.places → ((at : ℕ) → old.known at → mid.known at) → GoOn mid then → GoOn then new → (ContentsAreKnown script old → AreReady script then) → IsBadAfter script then new key → IsBadFound script old new.views key
 found_bad script old mid then new key same where_known goes more ready h = record {
-  odd = odd_as (placed_as script old new.views) (known_before then new) (shows_placed script old (known_before then new) ((more.places ∙ goes.places) ∙ same) (λ at tells. goes.where_known at (where_known at tells))) script.catalog key h.odd;
+  odd = odd_as (placed_as script old new.views) (known_before then new) (shows_placed script old (known_before then new) ((more.places ∙ goes.places) ∙ same) (λ at is_known. goes.where_known at (where_known at is_known))) script.catalog key h.odd;
   foreign = λ all. h.foreign (ready all);
 }
 
----- stores whose places were taken away first
+---- stores whose places were accepted away first
 
 made_of : (script : Script) (before mid : Attached) (new : List Counted) (o : Outcome) → mid.views ≡ before.views → ((at : ℕ) → before.known at → mid.known at) → IsReportable script mid new o → IsReportable script before new o
 made_of script before mid new o same where_known made = record {
@@ -226,7 +221,7 @@ made_of script before mid new o same where_known made = record {
   broken = subst (λ (ss : List Counted). BreaksWithin [] o.events ss new) same made.broken;
   empty = nothing_as (placed_as script before before.views) (placed_as script mid mid.views) (shows_less (placed_as script before before.views) (placed_as script mid mid.views) refl (sym same) where_known) (run_tables script.catalog) made.empty;
   read = read_as (placed_as script before new) (placed_as script mid new) (shows_less (placed_as script before new) (placed_as script mid new) refl refl where_known) script.catalog o made.read;
-  played = λ all. subst (λ (ss : List Counted). IsCorrect script (contents_of_views ss) (contents_of_views new) o) same (made.played (tell_on script before mid same where_known all));
+  correct = λ all. subst (λ (ss : List Counted). IsCorrect script (contents_of_views ss) (contents_of_views new) o) same (made.correct (tell_on script before mid same where_known all));
 }
 
 -- what stopped a play

@@ -4,8 +4,8 @@ use Rattle.sdb_stores.specs.Views.{Attached, StoreView as Counted, names_of, tot
 use Rattle.sdb_words.specs.declared.command.Command.{Command}
 use Rattle.sdb_words.specs.declared.command.Command.TheVariants as command
 use Rattle.sdb_words.specs.Commands.{AreWordsOf}
-use Rattle.sdb_retire.specs.Dropped.{IsRetired}
-use Rattle.sdb_retire.specs.Retired.{Sides}
+use Rattle.sdb_contents.specs.Dropped.{IsRetired}
+use Rattle.sdb_contents.specs.Retired.{Sides}
 use Rattle.sdb_app.specs.Ends.{AreKeptBut, AreKeptOr}
 use Rattle.sdb_app.specs.Ends.AreKeptOr.{Dropped, Kept}
 use Rattle.sdb_app.specs.Promise.{AnswersOnce, Drops, WordsDrop}
@@ -41,7 +41,7 @@ but_before name before mid new same where_known h = record {
   after = λ i most t. h.after i most (where_known (i + 1) t);
 }
 
--- words that are those of a command, over stores whose places were taken away first
+-- words that are those of a command, over stores whose places were accepted away first
 pub kept_words : (words : List (List ℕ)) (c : Command) (before mid new : Attached) → mid.views ≡ before.views → ((at : ℕ) → before.known at → mid.known at) → AreWordsOf (names_of mid.views) c words → AreKeptOr (Drops c) mid new
     → AreKeptOr (WordsDrop (names_of before.views) words) before new
 kept_words words c before mid new same where_known are (Kept h) = Kept (kept_more before mid new (kept_same before mid same where_known) h)

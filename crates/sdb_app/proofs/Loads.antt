@@ -1,18 +1,12 @@
 -- What `load` and `export` promise of their work, begun with the places that there were before.
 use Rattle.std.proofs.Common.{◌≡◌, ◌∙◌, ◌≤◌, ℕ, ℤ, List, Option, inl, inr, refl, subst, sym}
-use Rattle.sdb_types.specs.declared.key.TableName.{TableName}
-use Rattle.sdb_schema.specs.declared.table.Table.{Table}
-use Rattle.sdb_types.specs.declared.value.Value.{Value}
-use Rattle.sdb_data.specs.declared.fault.Mode.{Mode}
-use Rattle.sdb_tables.specs.declared.fault.ExportRefused.{ExportRefused}
-use Rattle.sdb_tables.specs.declared.fault.ExportRefused.TheVariants as refused
-use Rattle.sdb_tables.specs.Ends.{Ends as TableEnds, IsSessionBefore, IsSessionOver}
-use Rattle.sdb_tables.specs.declared.load.Load.{Load}
-use Rattle.sdb_tables.specs.Exports.{IsExport, IsNotExported, IsExportOutOfMemory}
-use Rattle.sdb_tables.specs.Loads.{IsLoad, IsLoadOfOutOfMemory}
-use Rattle.sdb_types.specs.declared.place.Place.{Place}
+use Rattle.sdb_app.specs.Types.{ExportRefused, Load, Mode, Place, Table, TableName, Value}
+use Rattle.sdb_shell.specs.declared.export_refused.ExportRefused.TheVariants as refused
+use Rattle.sdb_shell.specs.Ends.{Ends as TableEnds, IsSessionBefore, IsSessionOver}
+use Rattle.sdb_shell.specs.Exports.{IsExport, IsNotExported, IsExportOutOfMemory}
+use Rattle.sdb_shell.specs.Loads.{IsLoad, IsLoadOfOutOfMemory}
 use Rattle.sdb_stores.specs.Views.{Attached, StoreView as Counted, total_faults}
-use Rattle.sdb_session.specs.Session.{Exchange}
+use Rattle.law_clients.specs.Session.{Exchange}
 use Rattle.sdb_app.specs.declared.status.Status.{Status}
 use Rattle.sdb_app.specs.Ends.{Draws, Work}
 use Rattle.sdb_app.specs.Export.{IsExported, StopsExport}
@@ -45,7 +39,7 @@ starved_export catalog t e low high o n h = record {
   back = h.back;
   es = h.es;
   statements = h.statements;
-  taken = h.taken;
+  accepted = h.accepted;
   session = session_before_on catalog e low high h.es o n h.session;
 }
 
@@ -110,8 +104,8 @@ exported_before before work d name text same where_known h = record {
     begin = h.exported.begin;
     select = h.exported.select;
     commit = h.exported.commit;
-    taken = h.exported.taken;
-    shown = h.exported.shown;
+    accepted = h.exported.accepted;
+    observed = h.exported.observed;
     session = taken_before before work d h.catalog h.places h.mid _ where_known h.exported.session;
   };
   unread = h.unread;
@@ -143,8 +137,8 @@ exported_on catalog t old new low high clock clock_then ids ids_then text o n h 
   begin = h.begin;
   select = h.select;
   commit = h.commit;
-  taken = h.taken;
-  shown = h.shown;
+  accepted = h.accepted;
+  observed = h.observed;
   session = session_less catalog old new low high clock clock_then ids ids_then _ o n h.session;
 }
 

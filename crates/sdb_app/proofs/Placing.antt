@@ -7,10 +7,8 @@ use Rattle.std.specs.Str.{bytes_eq}
 use Rattle.std.proofs.Math.Numerals.{add-one}
 use Rattle.std.proofs.lemmas.Option.{slice_get_within, get_or_from_slice_get}
 use Rattle.std.proofs.lemmas.Slice.Eq.{bytes_eq-Decides}
-use Rattle.sdb_types.specs.declared.key.TableName.{TableName}
-use Rattle.sdb_schema.specs.declared.table.Table.{Table}
+use Rattle.sdb_app.specs.Types.{Place, Table, TableName}
 use Rattle.sdb_stores.specs.Views.{Attached, StoreView as Counted, AreDistinct, home, names_of, place_of, route_of}
-use Rattle.sdb_types.specs.declared.place.Place.{Place}
 use Rattle.sdb_stores.proofs.Distinct.{apart}
 use Rattle.sdb_model.specs.Rows.{Name}
 use Rattle.sdb_model.specs.Events.{store_of}
@@ -43,7 +41,7 @@ homed_by (p ∷ ps) names h ns =
     (λ t. subst (λ (b : Bool). IfSome (option_map (λ (x : Place). x.store) (cond b (Some p) (find (λ (x : Place). bytes_eq x.ns ns) ps))) (λ store. IsSome (place_of store names))) (sym t) (h 0 p refl))
     (λ t. subst (λ (b : Bool). IfSome (option_map (λ (x : Place). x.store) (cond b (Some p) (find (λ (x : Place). bytes_eq x.ns ns) ps))) (λ store. IsSome (place_of store names))) (sym t) (homed_by ps names (λ k q e. h (suc k) q e) ns))
 
-named_there : (shelves : List Counted) (at : ℕ) (name : Name) → slice_get (names_of shelves) at ≡ Some name → (s : Counted) × (slice_get shelves at ≡ Some s) × (s.name ≡ name)
+named_there : (store_contents : List Counted) (at : ℕ) (name : Name) → slice_get (names_of store_contents) at ≡ Some name → (s : Counted) × (slice_get store_contents at ≡ Some s) × (s.name ≡ name)
 named_there [] at name e = absurd (none_some name e)
 named_there (s ∷ ss) zero name e = (s, refl, some_is s.name name e)
 named_there (s ∷ ss) (suc at) name e = named_there ss at name e
@@ -56,15 +54,15 @@ Tell catalog places stores = (at : ℕ) (store : Counted) (table : TableName) �
 pub fit_for : (catalog : List Table) (places : List Place) (stores : Attached) → stores.places ≡ places → CanBePlaced (names_of stores.views) places → 0 < length stores.views → AreDistinct (names_of stores.views) → Tell catalog places stores → AreUsable catalog stores
 fit_for catalog places stores same h some distinct where_known =
     let ps = stores.places in
-    let shelves = stores.views in
-    let homed = homed_by ps (names_of shelves) (λ k p e. attached_at (names_of shelves) places k p h (ap (λ (xs : List Place). slice_get xs k) (sym same) ∙ e)) in
+    let store_contents = stores.views in
+    let homed = homed_by ps (names_of store_contents) (λ k p e. attached_at (names_of store_contents) places k p h (ap (λ (xs : List Place). slice_get xs k) (sym same) ∙ e)) in
     record {
       some = some;
       distinct = distinct;
       homed = homed;
       where_known = λ table about.
-          let there = named_there shelves (home table.ns ps (names_of shelves)) (store_of ps (contents_of_views shelves) table.ns) (named_home ps shelves table.ns some (homed table.ns)) in
-          where_known (home table.ns ps (names_of shelves)) there.0 table there.1 about (sym (ap (λ (xs : List Place). store_of xs (contents_of_views shelves) table.ns) same) ∙ sym there.2);
+          let there = named_there store_contents (home table.ns ps (names_of store_contents)) (store_of ps (contents_of_views store_contents) table.ns) (named_home ps store_contents table.ns some (homed table.ns)) in
+          where_known (home table.ns ps (names_of store_contents)) there.0 table there.1 about (sym (ap (λ (xs : List Place). store_of xs (contents_of_views store_contents) table.ns) same) ∙ sym there.2);
     }
 
 ---- one place more

@@ -5,7 +5,7 @@ use Rattle.std.specs.List.{list_all, AllByRecursion}
 use Rattle.std.specs.Option.{option_map_or}
 use Rattle.std.specs.Ordering.{is_eq}
 use Rattle.std.proofs.lemmas.List.Folds.{list_all-append}
-use Rattle.sdb_types.specs.declared.key.TableName.{TableName}
+use Rattle.sdb_app.specs.Types.{Act, Move, Script, ScriptClient, Table, TableName}
 use Rattle.sdb_types.specs.Exact.{equal_of}
 use Rattle.sdb_types.specs.Order.{table_cmp}
 use Rattle.sdb_types.proofs.Bools.{and_first, and_second}
@@ -13,15 +13,10 @@ use Rattle.sdb_types.proofs.KeyOrder.{table_exact}
 use Rattle.sdb_record.specs.Coordinator.{coordinator_table, is_coordinator_table}
 use Rattle.sdb_record.specs.Names.{same_name}
 use Rattle.sdb_record.proofs.NameLemmas.{same_name-true}
-use Rattle.sdb_schema.specs.declared.table.Table.{Table}
 use Rattle.sdb_schema.specs.Catalog.{is_catalog}
 use Rattle.sdb_loader.specs.Words.{names_table}
-use Rattle.sdb_model.specs.declared.script.Act.{Act}
 use Rattle.sdb_model.specs.declared.script.Act.TheVariants as act
-use Rattle.sdb_model.specs.declared.script.Move.{Move}
 use Rattle.sdb_model.specs.declared.script.Move.TheVariants as move
-use Rattle.sdb_model.specs.declared.script.Script.{Script}
-use Rattle.sdb_model.specs.declared.script.ScriptClient.{ScriptClient}
 use Rattle.sdb_model.specs.Exec.{find_table}
 use Rattle.sdb_model.specs.Follows.{texts_of}
 use Rattle.sdb_model.specs.Form.{client_line, lines_of, onto_first}
@@ -32,7 +27,7 @@ use Rattle.sdb_script.specs.Whole.{IsScript}
 use Rattle.sdb_app.specs.Run.{CanBePlaced}
 use Rattle.sdb_script.proofs.OneLine.{json_may, may_name}
 use Rattle.sdb_script.proofs.Pieces.{no_some}
-use Rattle.sdb_execution.specs.Execution.{IsPlayable}
+use Rattle.sdb_client.specs.Execution.{IsPlayable}
 use Rattle.sdb_world.specs.Step.{CanAct, CanFollow, CanMove}
 use Rattle.sdb_app.proofs.CatalogRead.{catalog_read}
 use Rattle.sdb_types.proofs.Basics.{by_test, some_is, nat_at_most as at_most}

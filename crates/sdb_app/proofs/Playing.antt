@@ -1,26 +1,20 @@
 -- A world that has followed its script on stores that were ready has played it, and its outcome is that of a run.
 use Rattle.std.proofs.Common.{◌≡◌, ◌∙◌, List, [], ◌++◌, Result, Ok, Err, IfErr, IfOk, refl, sym, ap, subst}
 use Rattle.std.specs.FinMap.{empty}
-use Rattle.sdb_types.specs.declared.key.Key.{Key}
+use Rattle.sdb_app.specs.Types.{CallRefused, ClosingRefused, Event, Key, Outcome, Place, Script}
 use Rattle.sdb_stores.specs.Views.{Attached}
-use Rattle.sdb_model.specs.declared.event.Event.{Event}
-use Rattle.sdb_model.specs.declared.event.Outcome.{Outcome}
-use Rattle.sdb_types.specs.declared.place.Place.{Place}
-use Rattle.sdb_model.specs.declared.script.Script.{Script}
 use Rattle.sdb_model.specs.Events.{IsTrace, StoreContents}
 use Rattle.sdb_model.specs.Follows.{AreOfMoves, Follows}
 use Rattle.sdb_model.specs.Serial.{IsRun}
 use Rattle.law_protocol.specs.Spread.{HoldAs}
 use Rattle.sdb_contents.specs.Board.{AreUsable, GoOn, Refuses, known_before, contents_of_views}
-use Rattle.sdb_contents.specs.declared.refused.CallRefused.{CallRefused}
 use Rattle.sdb_contents.specs.declared.refused.CallRefused.TheVariants as call
 use Rattle.sdb_contents.specs.Refused.{Refuses as ClosingRefuses}
-use Rattle.sdb_contents.specs.declared.dump_refused.ClosingRefused.{ClosingRefused}
 use Rattle.sdb_contents.specs.declared.dump_refused.ClosingRefused.TheVariants as closing
 use Rattle.sdb_world.specs.Broken.{BreaksWithin}
 use Rattle.sdb_world.specs.Explained.{IsExplained}
 use Rattle.law_runs.specs.World.{WorldAt, state_of}
-use Rattle.sdb_execution.specs.Execution.{IsExecution, IsInitial}
+use Rattle.sdb_client.specs.Execution.{IsExecution, IsInitial}
 use Rattle.sdb_world.specs.Ran.{HasNotRun, HasRun, HasRunOn, IsOutcomeOf, IsRunExplained, IsReadWhereKnown}
 use Rattle.sdb_contents.specs.Held.{IsOddIn}
 use Rattle.sdb_app.proofs.WhereKnown.{ShowsAs, odd_as, read_as, shows_less}
@@ -62,8 +56,8 @@ module _ (script : Script) (w v : WorldAt) (old mid : Attached) (same : w.script
   vs = came.gone.script ∙ same
 
   -- it has played its script
-  played : AreReady script old → HasRunOn v (contents_of_views old.views) mid
-  played ready = record {
+  correct : AreReady script old → HasRunOn v (contents_of_views old.views) mid
+  correct ready = record {
     fit = goes.fit v.script.catalog (subst (λ (s : Script). AreUsable s.catalog old) (sym vs) ready.fit);
     as_placed = goes.places ∙ ready.placed_so ∙ ap (λ (s : Script). s.places) (sym vs);
     ran = has_played old mid script w v same none initial came ready;
@@ -71,15 +65,15 @@ module _ (script : Script) (w v : WorldAt) (old mid : Attached) (same : w.script
 
   -- its outcome is that of a run
   pub run_played : (new : Attached) (o : Outcome) → IsOutcomeOf v mid new o → AreReady script old → IsRun script (contents_of_views old.views) (contents_of_views new.views) o
-  run_played new o out ready = subst (λ (s : Script). IsRun s (contents_of_views old.views) (contents_of_views new.views) o) vs (out (contents_of_views old.views) (played ready))
+  run_played new o out ready = subst (λ (s : Script). IsRun s (contents_of_views old.views) (contents_of_views new.views) o) vs (out (contents_of_views old.views) (correct ready))
 
   -- what was there at each moment is explained by its events
   pub explained_played : (events : List Event) → IsRunExplained v mid events → AreReady script old → IsExplained script events (contents_of_views old.views)
-  explained_played events out ready = subst (λ (s : Script). IsExplained s events (contents_of_views old.views)) vs (out (contents_of_views old.views) (played ready).ran)
+  explained_played events out ready = subst (λ (s : Script). IsExplained s events (contents_of_views old.views)) vs (out (contents_of_views old.views) (correct ready).ran)
 
   -- and there is one
   pub none_played : HasNotRun v mid → AreReady script old → ⊥
-  none_played never ready = never (contents_of_views old.views) (played ready)
+  none_played never ready = never (contents_of_views old.views) (correct ready)
 
 -- What it has read in the end, and a record that was bad then, seen from its beginning.
 module _ (script : Script) (w v : WorldAt) (old mid : Attached) (same : w.script ≡ script) (came : HasFollowed old mid w v) (goes : GoOn old mid) (new : Attached) where

@@ -1,22 +1,16 @@
 -- What `retire` promises of its work, begun with the places that there were before, and where less is known.
 use Rattle.std.proofs.Common.{◌≡◌, inl, inr, ℕ, List, [], ◌∷◌, refl, subst}
 use Rattle.std.specs.List.{AllByRecursion}
-use Rattle.sdb_types.specs.declared.key.Key.{Key}
-use Rattle.sdb_types.specs.declared.key.TableName.{TableName}
-use Rattle.sdb_types.specs.declared.record.Record.{Record}
+use Rattle.sdb_app.specs.Types.{Entry, Key, Record, RetireRefused, Seen, Survey, TableName}
 use Rattle.sdb_stores.specs.Views.{Attached, StoreView as Counted, index_at}
-use Rattle.sdb_catalog.specs.declared.entry.Entry.{Entry}
 use Rattle.sdb_catalog.specs.Calls.{with_states}
-use Rattle.sdb_retire.specs.declared.refused.RetireRefused.{RetireRefused}
-use Rattle.sdb_retire.specs.declared.refused.RetireRefused.TheVariants as refused
-use Rattle.sdb_retire.specs.declared.seen.Seen.{Seen}
-use Rattle.sdb_retire.specs.declared.survey.Survey.{Survey}
-use Rattle.sdb_retire.specs.Copying.{IsSeen, WasUnmet}
-use Rattle.sdb_retire.specs.Dropped.{HoldsStill, IsRetired, OpensTheSame}
-use Rattle.sdb_retire.specs.Read.{AreOpened, IsBadRow}
-use Rattle.sdb_retire.specs.Retired.{AreKnown, AreAllMoved, IsBarred, IsBlockedCopy, IsLeft, IsSurvey, IsUnmoved, IsUnmovedKnown, OthersArePreserved, Sides, writes_of}
-use Rattle.sdb_retire.specs.Writes.{GoOn, IsScanned, Write}
-use Rattle.sdb_retire.proofs.Making.{all_less}
+use Rattle.sdb_contents.specs.declared.retire_refused.RetireRefused.TheVariants as refused
+use Rattle.sdb_contents.specs.Copying.{IsSeen, WasUnmet}
+use Rattle.sdb_contents.specs.Dropped.{HoldsStill, IsRetired, OpensTheSame}
+use Rattle.sdb_contents.specs.Read.{AreOpened, IsBadRow}
+use Rattle.sdb_contents.specs.Retired.{AreKnown, AreAllMoved, IsBarred, IsBlockedCopy, IsLeft, IsSurvey, IsUnmoved, IsUnmovedKnown, OthersArePreserved, Sides, writes_of}
+use Rattle.sdb_contents.specs.Writes.{GoOn, IsScanned, Write}
+use Rattle.sdb_contents.proofs.Making.{all_less}
 use Rattle.sdb_app.specs.declared.status.Status.{Status}
 use Rattle.sdb_app.specs.Ends.{Stream, Work, work_on}
 use Rattle.sdb_app.specs.Retire.{IsStoreRetired, IsUnretired, StopsRetire, moved_text}
@@ -33,7 +27,7 @@ shown_less : (before old : Attached) → KnowLess before old → (at : ℕ) (tab
 shown_less before old less at table rows h = record { lawful = h.lawful; known = λ t. h.known (less at t) }
 
 opened_less : (before old : Attached) → KnowLess before old → (s : Sides) (es : List Entry) → AreOpened s.from s.to 0 old es → AreOpened s.from s.to 0 (with_states before old.views) es
-opened_less before old less s es h = record { rows = h.rows; shown = shown_less before old less 0 _ h.rows h.shown; opens = h.opens }
+opened_less before old less s es h = record { rows = h.rows; observed = shown_less before old less 0 _ h.rows h.observed; opens = h.opens }
 
 seen_less : (before old : Attached) → KnowLess before old → (from to : ℕ) (ss : List Seen) → AllByRecursion (IsSeen from to old) ss → AllByRecursion (IsSeen from to (with_states before old.views)) ss
 seen_less before old less from to [] h = h
@@ -54,7 +48,7 @@ known_more before old less s h = record { first = less 0 h.first; from = less (i
 moved_less : (before old : Attached) → KnowLess before old → (s : Sides) (n : ℕ) (mid : List Counted) → AreAllMoved s n old (with_states old mid) → AreAllMoved s n (with_states before old.views) (with_states before mid)
 moved_less before old less s n mid h = record {
   survey = h.survey;
-  shown = survey_less before old less s h.survey h.shown;
+  observed = survey_less before old less s h.survey h.observed;
   count = h.count;
   start = h.start;
   read = λ i t. h.read i (less i t);
@@ -77,7 +71,7 @@ opens_less before old new less s h = record {
 ---- what stopped it, where less is known
 
 bad_row_less : (before old : Attached) → KnowLess before old → (s : Sides) (key : Key) → IsBadRow s.from s.to 0 old key → IsBadRow s.from s.to 0 (with_states before old.views) key
-bad_row_less before old less s key h = record { rows = h.rows; shown = shown_less before old less 0 _ h.rows h.shown; bad = h.bad }
+bad_row_less before old less s key h = record { rows = h.rows; observed = shown_less before old less 0 _ h.rows h.observed; bad = h.bad }
 
 blocked_less : (before old : Attached) → KnowLess before old → (s : Sides) (key : Key) → IsBlockedCopy s old key → IsBlockedCopy s (with_states before old.views) key
 blocked_less before old less s key h =
@@ -119,7 +113,7 @@ unmet_less before old new less ws key h =
 unmoved_less : (before old new : Attached) → KnowLess before old → (s : Sides) (cause : RetireRefused) → IsUnmoved s old new cause → IsUnmoved s (with_states before old.views) (with_states before new.views) cause
 unmoved_less before old new less s refused.StoreFault h = h
 unmoved_less before old new less s (refused.BadRow key) (inl h) = inl (barred_less before old new less s key h)
-unmoved_less before old new less s (refused.BadRow key) (inr h) = inr (record { survey = h.survey; shown = survey_less before old less s h.survey h.shown; met = unmet_less before old new.views less _ key h.met })
+unmoved_less before old new less s (refused.BadRow key) (inr h) = inr (record { survey = h.survey; observed = survey_less before old less s h.survey h.observed; met = unmet_less before old new.views less _ key h.met })
 unmoved_less before old new less s refused.NoMemory h = tt
 
 unmoved_known_less : (before old new : Attached) → KnowLess before old → (s : Sides) (cause : RetireRefused) → IsUnmovedKnown s old new cause → IsUnmovedKnown s (with_states before old.views) (with_states before new.views) cause
@@ -130,7 +124,7 @@ unmoved_known_less before old new less s refused.NoMemory h = tt
 left_less : (before old new : Attached) → KnowLess before old → (s : Sides) → IsLeft s old new → IsLeft s (with_states before old.views) (with_states before new.views)
 left_less before old new less s (inl held) = inl (λ i t. held i (less i t))
 left_less before old new less s (inr h) =
-    inr (record { survey = h.survey; shown = survey_less before old less s h.survey h.shown; held = record { done = h.held.done; later = h.held.later; parts = h.held.parts; held = λ i t. h.held.held i (less i t) } })
+    inr (record { survey = h.survey; observed = survey_less before old less s h.survey h.observed; held = record { done = h.held.done; later = h.held.later; parts = h.held.parts; held = λ i t. h.held.held i (less i t) } })
 
 holds_less : (before old new : Attached) → KnowLess before old → (name : List ℕ) → HoldsStill name old new → HoldsStill name (with_states before old.views) (with_states before new.views)
 holds_less before old new less name h = record { attached = h.attached; contents = λ t. h.contents (less (index_at old name) t) }
@@ -139,7 +133,7 @@ holds_less before old new less name h = record { attached = h.attached; contents
 
 -- the work of a command, where less is known of the stores before it
 abbrev work_less : Attached → List Counted → Work → Work
-work_less before shelves work = begun_with (with_states before shelves) work
+work_less before store_contents work = begun_with (with_states before store_contents) work
 
 retired_less : (before : Attached) (work : Work) → KnowLess before work.old → (s : Sides) (text : List ℕ) → IsStoreRetired s work text → IsStoreRetired s (work_less before work.old.views work) text
 retired_less before work less s text h = record {

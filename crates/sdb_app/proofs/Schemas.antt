@@ -2,15 +2,10 @@
 use Rattle.std.proofs.Common.{◌≡◌, ◌∙◌, ℕ, List, [], ◌∷◌, drop, inr, length, refl, sym, ap, subst, slice_set}
 use Rattle.std.specs.Prelude.{slice_get}
 use Rattle.std.proofs.Math.Seq.{take-length}
-use Rattle.sdb_types.specs.declared.record.Request.{Request}
-use Rattle.sdb_types.specs.declared.record.Reply.{Reply}
-use Rattle.sdb_schema.specs.declared.table.Table.{Table}
-use Rattle.sdb_types.specs.declared.place.Place.{Place}
+use Rattle.sdb_app.specs.Types.{CatalogRefused, Entry, Place, Reply, Request, Table}
 use Rattle.sdb_stores.specs.Views.{Attached, StoreView as Counted, HaveRisen, names_of}
-use Rattle.sdb_catalog.specs.declared.entry.Entry.{Entry}
 use Rattle.sdb_catalog.specs.declared.outcome.Outcome.{Outcome}
 use Rattle.sdb_catalog.specs.declared.outcome.Outcome.TheVariants as outcome
-use Rattle.sdb_catalog.specs.declared.refused.CatalogRefused.{CatalogRefused}
 use Rattle.sdb_catalog.specs.declared.refused.CatalogRefused.TheVariants as refused
 use Rattle.sdb_catalog.specs.Calls.{Called, IsRead, IsUnread, first_contents, with_states}
 use Rattle.sdb_catalog.specs.Known.{IsLeftBy, IsStoredIn, first_name, state_after, state_of}
@@ -31,11 +26,11 @@ called_before q r before mid new same where_known h = record {
   stood = ap (λ (ss : List Counted). slice_get ss 0) (sym same) ∙ h.stood;
   rest = h.rest ∙ ap (λ (ss : List Counted). slice_set ss 0 h.now) same;
   name = h.name;
-  performed = λ told. h.performed (where_known 0 told);
+  performed = λ answered. h.performed (where_known 0 answered);
   lawful = h.lawful;
   counted = h.counted;
   cause = h.cause;
-  where_known = λ i told. told;
+  where_known = λ i answered. answered;
 }
 
 pub read_before : (before mid : Attached) (new : List Counted) (es : List Entry) → mid.views ≡ before.views → ((at : ℕ) → before.known at → mid.known at) → IsRead mid new es → IsRead before new es
@@ -95,7 +90,7 @@ schema_kept_before before work places answer same where_known h = record {
   catalog = h.catalog;
   read = h.read;
   stored = stored_before places h.catalog answer before work.old work.left same where_known h.stored;
-  known = λ told. subst (λ (ss : List Counted). IsStoredIn (names_of ss) places h.catalog answer (first_contents ss) (first_contents work.left)) same (h.known (where_known 0 told));
+  known = λ answered. subst (λ (ss : List Counted). IsStoredIn (names_of ss) places h.catalog answer (first_contents ss) (first_contents work.left)) same (h.known (where_known 0 answered));
   others = h.others ∙ ap (λ (ss : List Counted). drop 1 ss) same;
 }
 
@@ -105,7 +100,7 @@ schema_stops_before before work places s same where_known (Unkept catalog cause 
     Unkept catalog cause read
     (record {
       refused = unread_before before work.old work.left cause same where_known unkept.refused;
-      known = λ told. subst (λ (ss : List Counted). IsLeftBy cause (names_of ss) places catalog (first_contents ss) (first_contents work.left)) same (unkept.known (where_known 0 told));
+      known = λ answered. subst (λ (ss : List Counted). IsLeftBy cause (names_of ss) places catalog (first_contents ss) (first_contents work.left)) same (unkept.known (where_known 0 answered));
       others = unkept.others ∙ ap (λ (ss : List Counted). drop 1 ss) same;
     }) is
 

@@ -2,20 +2,17 @@
 use Rattle.std.proofs.Common.{◌≡◌, ◌∙◌, ℕ, ℤ, List, [], ◌∷◌, ◌++◌, drop, map, length, Option, refl, sym, ap, subst}
 use Rattle.std.specs.Prelude.{IfSome, IsSome, ◌<◌}
 use Rattle.sdb_types.specs.Bytes.{HasRisen}
-use Rattle.sdb_schema.specs.declared.table.Table.{Table}
-use Rattle.sdb_types.specs.declared.place.Place.{Place}
+use Rattle.sdb_app.specs.Types.{CatalogRefused, Place, SessionRefused, Table}
 use Rattle.sdb_stores.specs.Views.{Attached, StoreView as Counted, AreDistinct, home, names_of, place_of, route_of}
 use Rattle.sdb_contents.specs.Board.{AreUsable, contents_of_views}
 use Rattle.sdb_catalog.specs.Calls.{first_contents}
 use Rattle.sdb_catalog.specs.Known.{IsBadIn, IsCatalogIn}
-use Rattle.sdb_catalog.specs.declared.refused.CatalogRefused.{CatalogRefused}
-use Rattle.sdb_session.specs.Database.{Database, database_of}
-use Rattle.sdb_session.specs.Session.{AreNewIds, Exchange, IsSerialSession, faults_in}
-use Rattle.sdb_session.specs.Turns.{IsWellFormed}
-use Rattle.sdb_answer.specs.Answering.{database_in}
-use Rattle.sdb_answer.specs.Drawn.{drawn_id}
-use Rattle.sdb_answer.specs.Sessions.{FaultsWithin, IsSession}
-use Rattle.sdb_shell.specs.declared.refused.SessionRefused.{SessionRefused}
+use Rattle.law_clients.specs.Database.{Database, database_of}
+use Rattle.law_clients.specs.Session.{AreNewIds, Exchange, IsSerialSession, faults_in}
+use Rattle.law_clients.specs.SessionTurns.{IsWellFormed}
+use Rattle.sdb_shell.specs.Answering.{database_in}
+use Rattle.sdb_shell.specs.Drawn.{drawn_id}
+use Rattle.sdb_shell.specs.Sessions.{FaultsWithin, IsSession}
 use Rattle.sdb_shell.specs.declared.refused.SessionRefused.TheVariants as refused
 use Rattle.sdb_shell.specs.Session.{CutShort, IsAnsweredSoFar, IsCutSession, IsWhole, Refused, Starves}
 use Rattle.sdb_app.specs.declared.status.Status.{Status}
@@ -51,7 +48,7 @@ session_less catalog old new old' new' clock clock_then ids ids_then es o n so =
   spare = so.spare;
   draws = so.draws;
   begun = so.begun;
-  taken = so.taken;
+  accepted = so.accepted;
   faults = subst (λ (ss : List Counted). FaultsWithin (faults_in es) ss new'.views) o.views (subst (λ (ss : List Counted). FaultsWithin (faults_in es) old.views ss) n.views so.faults);
   serial = λ f. subst (λ (d : Database). (w : IsWellFormed catalog d) → AreNewIds catalog d (map drawn_id (so.drawn ++ so.spare ∷ [])) → IsSerialSession catalog d (database_in new') w.tables es) (same_database old' old o)
       (λ w ids. subst (λ (d : Database). IsSerialSession catalog (database_in old) d w.tables es) (same_database new' new n) (so.serial (fit_more catalog old' old o f) w ids));
@@ -61,7 +58,7 @@ pub whole_less : (catalog : List Table) (old new old' new' : Attached) (clock cl
 whole_less catalog old new old' new' clock clock_then ids ids_then written written_then remaining remaining_then o n h = record {
   text = h.text;
   es = h.es;
-  taken = h.taken;
+  accepted = h.accepted;
   ends = h.ends;
   most = h.most;
   fit = h.fit;
@@ -74,7 +71,7 @@ so_far_less : (catalog : List Table) (old new old' new' : Attached) (clock clock
 so_far_less catalog old new old' new' clock clock_then ids ids_then written written_then left left_then used n o l h = record {
   lines = h.lines;
   es = h.es;
-  taken = h.taken;
+  accepted = h.accepted;
   fit = h.fit;
   counted = h.counted;
   number = h.number;
@@ -101,7 +98,7 @@ cut_less catalog old new old' new' clock clock_then ids ids_then written written
   last = h.last;
   ahead = h.ahead;
   written_mid = h.written_mid;
-  taken = h.taken;
+  accepted = h.accepted;
   fit = h.fit;
   fits = h.fits;
   some = h.some;
@@ -126,22 +123,22 @@ cut_less catalog old new old' new' clock clock_then ids ids_then written written
 pub opened_before : (before : Attached) (work : Work) (catalog : List Table) (places : List Place) (mid : List Counted) → work.old.views ≡ before.views → ((at : ℕ) → before.known at → work.old.known at) → IsCatalogOpened work catalog places mid → IsCatalogOpened (begun_with before work) catalog places mid
 opened_before before work catalog places mid same where_known h = record {
   opened = record { entries = h.opened.entries; read = read_before before work.old mid h.opened.entries same where_known h.opened.read; tables = h.opened.tables; placed = h.opened.placed };
-  known = λ told. subst (λ (ss : List Counted). IsCatalogIn (names_of ss) (first_contents ss) catalog places) same (h.known (where_known 0 told));
-  unchanged = λ told. h.unchanged (where_known 0 told) ∙ ap first_contents same;
+  known = λ answered. subst (λ (ss : List Counted). IsCatalogIn (names_of ss) (first_contents ss) catalog places) same (h.known (where_known 0 answered));
+  unchanged = λ answered. h.unchanged (where_known 0 answered) ∙ ap first_contents same;
   others = h.others ∙ ap (λ (ss : List Counted). drop 1 ss) same;
 }
 
 pub unopened_before : (before : Attached) (work : Work) (cause : CatalogRefused) → work.old.views ≡ before.views → ((at : ℕ) → before.known at → work.old.known at) → IsCatalogUnopened work cause → IsCatalogUnopened (begun_with before work) cause
 unopened_before before work cause same where_known h = record {
   refused = unread_before before work.old work.left cause same where_known h.refused;
-  bad = λ told. subst (λ (ss : List Counted). IsBadIn (names_of ss) (first_contents ss) cause) same (h.bad (where_known 0 told));
-  unchanged = λ told. h.unchanged (where_known 0 told) ∙ ap first_contents same;
+  bad = λ answered. subst (λ (ss : List Counted). IsBadIn (names_of ss) (first_contents ss) cause) same (h.bad (where_known 0 answered));
+  unchanged = λ answered. h.unchanged (where_known 0 answered) ∙ ap first_contents same;
   others = h.others ∙ ap (λ (ss : List Counted). drop 1 ss) same;
 }
 
 -- stores with these places, as they are known from the call's begin
-pub less_before : (before : Attached) (work : Work) (places : List Place) (shelves : List Counted) → ((at : ℕ) → before.known at → work.old.known at) → AreLess (stores_with (begun_with before work) places shelves) (stores_with work places shelves)
-less_before before work places shelves where_known = record { places = refl; views = refl; where_known = where_known }
+pub less_before : (before : Attached) (work : Work) (places : List Place) (store_contents : List Counted) → ((at : ℕ) → before.known at → work.old.known at) → AreLess (stores_with (begun_with before work) places store_contents) (stores_with work places store_contents)
+less_before before work places store_contents where_known = record { places = refl; views = refl; where_known = where_known }
 
 fault_before : (before : Attached) (run : Ends) (e : SessionRefused) → IfFault run e → IfFault (record run { work = begun_with before run.work }) e
 fault_before before run refused.ReadFault f = f

@@ -1,14 +1,9 @@
 -- What is said of known contents alone, as other views of the same stores have it.
 use Rattle.std.proofs.Common.{◌≡◌, ◌∙◌, ℕ, List, None, refl, sym, ap, subst}
 use Rattle.std.specs.Prelude.{slice_get}
-use Rattle.sdb_types.specs.declared.key.Key.{Key}
-use Rattle.sdb_types.specs.declared.key.TableName.{TableName}
+use Rattle.sdb_app.specs.Types.{Key, Outcome, Place, Script, Table, TableName}
 use Rattle.sdb_record.specs.Coordinator.{coordinator_table}
-use Rattle.sdb_schema.specs.declared.table.Table.{Table}
 use Rattle.sdb_stores.specs.Views.{Attached, StoreView as Counted, names_of}
-use Rattle.sdb_types.specs.declared.place.Place.{Place}
-use Rattle.sdb_model.specs.declared.event.Outcome.{Outcome}
-use Rattle.sdb_model.specs.declared.script.Script.{Script}
 use Rattle.sdb_model.specs.Events.{StoreContents}
 use Rattle.sdb_model.specs.Images.{decision_at}
 use Rattle.sdb_model.specs.Transactions.{Recorded}
@@ -41,7 +36,7 @@ shows_placed script old b same where_known = record {
 
 -- the same places and contents, of which no more are known
 pub shows_less : (a b : Attached) → a.places ≡ b.places → a.views ≡ b.views → ((at : ℕ) → a.known at → b.known at) → ShowsAs a b
-shows_less a b places shelves where_known = record { places = places; views = shelves; fit = λ table f. fit_for_as a b table (sym places) (ap names_of (sym shelves)) where_known f }
+shows_less a b places store_contents where_known = record { places = places; views = store_contents; fit = λ table f. fit_for_as a b table (sym places) (ap names_of (sym store_contents)) where_known f }
 
 module _ (a b : Attached) (s : ShowsAs a b) where
   -- what is so of the places and contents of one is so of those of the other
@@ -64,7 +59,7 @@ module _ (a b : Attached) (s : ShowsAs a b) where
 
   pub odd_as : (catalog : List Table) (key : Key) → IsOddIn catalog b key → IsOddIn catalog a key
   odd_as catalog key h = record {
-    played = h.played;
+    correct = h.correct;
     decide = h.decide;
     decisions = λ coordinator. over (λ (ps : List Place) (ss : List StoreContents). AreDecisions ps ss h.decide) (h.decisions (s.fit coordinator_table coordinator));
     odd = λ fit. over (λ (ps : List Place) (ss : List StoreContents). IsOddAt catalog ps ss h.decide key) (h.odd (s.fit key.table fit));
@@ -88,4 +83,4 @@ module _ (a b : Attached) (s : ShowsAs a b) where
 
 -- stores that hold what they held, seen from an entry
 pub known_from : (script : Script) (old mid : Attached) (left : Attached) → mid.views ≡ old.views → ((at : ℕ) → old.known at → mid.known at) → KnownAreUnchanged mid left → KnownAreUnchanged old (placed_as script old left.views)
-known_from script old mid left same where_known h at store tells here = h at store (where_known at tells) (ap (λ (ss : List Counted). slice_get ss at) same ∙ here)
+known_from script old mid left same where_known h at store is_known here = h at store (where_known at is_known) (ap (λ (ss : List Counted). slice_get ss at) same ∙ here)

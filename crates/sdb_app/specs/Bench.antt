@@ -1,8 +1,7 @@
 -- What the program promises of a bench.
 use Rattle.std.specs.Prelude.{◌≡◌, ℕ, ◌-◌, List, [], length, slice_get, unwrap_or}
 use Rattle.sdb_stores.specs.Views.{Attached, StoreView as Counted, names_of}
-use Rattle.sdb_model.specs.declared.event.Outcome.{Outcome}
-use Rattle.sdb_model.specs.declared.script.Script.{Script}
+use Rattle.sdb_app.specs.Types.{Outcome, Script}
 use Rattle.sdb_model.specs.Rows.{Name}
 use Rattle.sdb_bench.specs.Counts.{bench_text_of, uneven_of}
 use Rattle.sdb_bench.specs.Script.{bench_script_of}

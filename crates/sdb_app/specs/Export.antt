@@ -1,11 +1,8 @@
 -- What the program promises of a table that is exported.
 use Rattle.std.specs.Prelude.{◌≡◌, ℕ, List}
-use Rattle.sdb_types.specs.declared.key.TableName.{TableName}
-use Rattle.sdb_schema.specs.declared.table.Table.{Table}
-use Rattle.sdb_tables.specs.declared.fault.ExportRefused.{ExportRefused}
-use Rattle.sdb_tables.specs.declared.fault.ExportRefused.TheVariants as refused
-use Rattle.sdb_tables.specs.Exports.{IsExport, IsNotExported}
-use Rattle.sdb_types.specs.declared.place.Place.{Place}
+use Rattle.sdb_app.specs.Types.{ExportRefused, Place, Table, TableName}
+use Rattle.sdb_shell.specs.declared.export_refused.ExportRefused.TheVariants as refused
+use Rattle.sdb_shell.specs.Exports.{IsExport, IsNotExported}
 use Rattle.sdb_stores.specs.Views.{StoreView as Counted}
 use Rattle.sdb_app.specs.declared.status.Status.{Status}
 use Rattle.sdb_app.specs.declared.status.Status.TheVariants as status

@@ -9,14 +9,14 @@ use Rattle.sdb_app.specs.Ends.{Stream}
 
 -- All of the input was read, to its end, and is this text, no longer than an input may be.
 pub record IsInput (input rest : Stream) (text : List ℕ) : Type 0 where
-  pub taken : Takes text input.bytes rest.bytes
+  pub accepted : Takes text input.bytes rest.bytes
   pub ended : IsAtEnd rest.bytes
   pub small : length text ≤ most_bytes
 
 -- More bytes were read than an input may have, the first too many of them in this line.
 pub record IsInputLong (input rest : Stream) (n : ℕ) (which : Which) : Type 0 where
   pub text : List ℕ
-  pub taken : Takes text input.bytes rest.bytes
+  pub accepted : Takes text input.bytes rest.bytes
   pub long : most_bytes < length text
   pub line : n ≡ last_line text
   pub limit : which ≡ InputBytes

@@ -1,19 +1,13 @@
 -- What the program promises of rows that are loaded into a table.
 use Rattle.std.specs.Prelude.{◌≡◌, ℕ, List, Some, None, Ok, Err}
-use Rattle.sdb_types.specs.declared.key.TableName.{TableName}
-use Rattle.sdb_types.specs.declared.value.Value.{Value}
+use Rattle.sdb_app.specs.Types.{CatalogRefused, CsvFault, Mode, Place, Table, TableName, Value}
 use Rattle.sdb_types.specs.Bytes.{HasRisen}
-use Rattle.sdb_schema.specs.declared.table.Table.{Table}
 use Rattle.sdb_schema.specs.Catalog.{table_named}
-use Rattle.sdb_data.specs.declared.fault.CsvFault.{CsvFault}
-use Rattle.sdb_data.specs.declared.fault.Mode.{Mode}
 use Rattle.sdb_data.specs.Tables.{table_in}
-use Rattle.sdb_tables.specs.Ends.{Ends as TableEnds}
-use Rattle.sdb_tables.specs.Loads.{IsLoad, IsLoadOfOutOfMemory}
-use Rattle.sdb_tables.specs.Statements.{load_of, rows_after}
-use Rattle.sdb_types.specs.declared.place.Place.{Place}
+use Rattle.sdb_shell.specs.Ends.{Ends as TableEnds}
+use Rattle.sdb_shell.specs.Loads.{IsLoad, IsLoadOfOutOfMemory}
+use Rattle.sdb_shell.specs.Statements.{load_of, rows_after}
 use Rattle.sdb_stores.specs.Views.{StoreView as Counted}
-use Rattle.sdb_catalog.specs.declared.refused.CatalogRefused.{CatalogRefused}
 use Rattle.sdb_app.specs.declared.status.InputFault.{InputFault}
 use Rattle.sdb_app.specs.declared.status.InputFault.TheVariants.{Csv}
 use Rattle.sdb_app.specs.declared.status.Status.{Status}

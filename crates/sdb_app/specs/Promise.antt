@@ -16,8 +16,8 @@ use Rattle.sdb_app.specs.Sql.{HasEndedSession}
 use Rattle.sdb_app.specs.Load.{IsLoaded, StopsLoad}
 use Rattle.sdb_app.specs.Export.{IsExported, StopsExport}
 use Rattle.sdb_app.specs.Retire.{IsStoreRetired, StopsRetire}
-use Rattle.sdb_retire.specs.Dropped.{MayRetire}
-use Rattle.sdb_retire.specs.Retired.{sides}
+use Rattle.sdb_contents.specs.Dropped.{MayRetire}
+use Rattle.sdb_contents.specs.Retired.{sides}
 
 -- What a command promises of the text that it answers, and why it ends otherwise, before anything is written.
 pub record Promise : Type 1 where

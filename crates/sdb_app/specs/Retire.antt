@@ -2,11 +2,11 @@
 use Rattle.std.specs.Prelude.{◌≡◌, ℕ, List, ◌++◌, ◌∷◌, [], codes, decimal, remove, Some}
 use Rattle.sdb_stores.specs.Views.{StoreView as Counted, names_of, place_of}
 use Rattle.sdb_catalog.specs.Calls.{with_states}
-use Rattle.sdb_retire.specs.declared.refused.RetireRefused.{RetireRefused}
-use Rattle.sdb_retire.specs.declared.refused.RetireRefused.TheVariants as refused
-use Rattle.sdb_retire.specs.Dropped.{HoldsStill, OpensTheSame}
-use Rattle.sdb_retire.specs.Retired.{AreKnown, AreAllMoved, IsLeft, IsUnmoved, IsUnmovedKnown, OthersArePreserved, Sides}
-use Rattle.sdb_retire.specs.Writes.{GoOn}
+use Rattle.sdb_contents.specs.declared.retire_refused.RetireRefused.{RetireRefused}
+use Rattle.sdb_contents.specs.declared.retire_refused.RetireRefused.TheVariants as refused
+use Rattle.sdb_contents.specs.Dropped.{HoldsStill, OpensTheSame}
+use Rattle.sdb_contents.specs.Retired.{AreKnown, AreAllMoved, IsLeft, IsUnmoved, IsUnmovedKnown, OthersArePreserved, Sides}
+use Rattle.sdb_contents.specs.Writes.{GoOn}
 use Rattle.sdb_app.specs.declared.status.Status.{Status}
 use Rattle.sdb_app.specs.declared.status.Status.TheVariants as status
 use Rattle.sdb_app.specs.Ends.{Work}

@@ -2,14 +2,9 @@
 use Rattle.std.specs.Prelude.{◌≡◌, ◌≢◌, ◌⊎◌, ℕ, ◌<◌, true, List, [], length, map, slice_get, All, Contains, Option, None, Some}
 use Rattle.std.specs.List.{AllPairs}
 use Rattle.std.specs.FinMap.{empty}
-use Rattle.sdb_types.specs.declared.key.Key.{Key}
-use Rattle.sdb_types.specs.declared.key.TableName.{TableName}
+use Rattle.sdb_app.specs.Types.{CallRefused, ClosingRefused, Key, Outcome, Place, Script, ScriptRefused, Table, TableName}
 use Rattle.sdb_types.specs.Bytes.{HasRisen, Takes, IsAtEnd}
-use Rattle.sdb_schema.specs.declared.table.Table.{Table}
 use Rattle.sdb_stores.specs.Views.{Attached, StoreView as Counted, HaveRisen, names_of}
-use Rattle.sdb_model.specs.declared.event.Outcome.{Outcome}
-use Rattle.sdb_types.specs.declared.place.Place.{Place}
-use Rattle.sdb_model.specs.declared.script.Script.{Script}
 use Rattle.sdb_model.specs.Causes.{AreCaused}
 use Rattle.sdb_model.specs.Events.{StoreContents, store_of}
 use Rattle.sdb_model.specs.Follows.{Follows}
@@ -17,20 +12,17 @@ use Rattle.sdb_model.specs.Plain.{IsPlain}
 use Rattle.sdb_model.specs.Report.{report_text_of}
 use Rattle.sdb_model.specs.Rows.{Name}
 use Rattle.sdb_model.specs.Serial.{IsRun}
-use Rattle.sdb_script.specs.declared.fault.ScriptRefused.{ScriptRefused}
 use Rattle.sdb_script.specs.declared.fault.ScriptRefused.TheVariants.{BadLine, Limit as Limited, NoMemory as OutOfMemory}
 use Rattle.sdb_script.specs.Lines.{most_bytes}
 use Rattle.sdb_script.specs.Whole.{IsScript, IsRefused as IsRefusedText}
 use Rattle.law_protocol.specs.Spread.{HoldAs}
 use Rattle.sdb_contents.specs.Board.{AreUsable, HoldTheSame, KnownAreUnchanged, known_before, contents_of_views}
 use Rattle.sdb_contents.specs.Opening.{HoldNothing, IsFirstKey, first_key, opening_in, opening_records, run_tables}
-use Rattle.sdb_contents.specs.declared.refused.CallRefused.{CallRefused}
 use Rattle.sdb_contents.specs.declared.refused.CallRefused.TheVariants as call
 use Rattle.sdb_contents.specs.Held.{IsOddIn}
-use Rattle.sdb_contents.specs.declared.dump_refused.ClosingRefused.{ClosingRefused}
 use Rattle.sdb_contents.specs.declared.dump_refused.ClosingRefused.TheVariants as closing
 use Rattle.sdb_world.specs.Broken.{BreaksWithin}
-use Rattle.sdb_execution.specs.Execution.{IsExecution, IsPlayable}
+use Rattle.sdb_client.specs.Execution.{IsExecution, IsPlayable}
 use Rattle.sdb_world.specs.Explained.{IsExplained, HasNoDirtyReads}
 use Rattle.sdb_world.specs.Ran.{IsReadWhereKnown}
 use Rattle.sdb_app.specs.declared.status.InputFault.TheVariants.{Line}
@@ -42,7 +34,7 @@ use Rattle.sdb_model.specs.Tables.{is_table_of_run}
 -- The input was read to its end and is the text of a script over these stores.
 pub record IsScriptRead (stores : List Name) (old_input new_input : Option (List ℕ)) (script : Script) : Type 0 where
   pub text : List ℕ
-  pub taken : Takes text old_input new_input
+  pub accepted : Takes text old_input new_input
   pub ended : IsAtEnd new_input
   pub form : IsScript stores text script
 
@@ -59,12 +51,12 @@ pub record IsCorrect (script : Script) (opening closing : List StoreContents) (o
   pub empty : first_key (opening_records script.catalog script.places opening) ≡ None
   pub run : IsRun script opening closing outcome
   pub explained : IsExplained script outcome.events opening
-  pub shown : HasNoDirtyReads script outcome.events opening
+  pub observed : HasNoDirtyReads script outcome.events opening
   pub plain : IsPlain outcome
 
 -- The stores of a call with the places of a script, in this state. Those are known that were known at the entry.
 abbrev pub placed_as : Script → Attached → List Counted → Attached
-placed_as script stores shelves = record { places = script.places; views = shelves; known = stores.known }
+placed_as script stores store_contents = record { places = script.places; views = store_contents; known = stores.known }
 
 -- One outcome of a script on any stores: its events follow the script's moves, and are an execution of its clients by the protocol,
 -- whatever the stores reply. So the laws of executions are laws of outcomes. Each answer has its cause among the events. No more calls are
@@ -78,7 +70,7 @@ pub record IsReportable (script : Script) (old : Attached) (new : List Counted) 
   pub broken : BreaksWithin [] outcome.events old.views new
   pub empty : HoldNothing (run_tables script.catalog) (placed_as script old old.views)
   pub read : IsReadWhereKnown script.catalog (placed_as script old new) outcome
-  pub played : ContentsAreKnown script old → IsCorrect script (contents_of_views old.views) (contents_of_views new) outcome
+  pub correct : ContentsAreKnown script old → IsCorrect script (contents_of_views old.views) (contents_of_views new) outcome
 
 -- A script was read, and this is the report of one outcome of it. Where the stores of its tables have known contents, no other plain outcome
 -- has this report.
@@ -108,7 +100,7 @@ pub record IsBadFound (script : Script) (old : Attached) (left : List Counted) (
 -- script, and the rest is left.
 pub record IsRefused (stores : List Name) (old_input new_input : Option (List ℕ)) (r : ScriptRefused) : Type 0 where
   pub text : List ℕ
-  pub taken : Takes text old_input new_input
+  pub accepted : Takes text old_input new_input
   pub whole : IsAtEnd new_input ⊎ (most_bytes < length text)
   pub refused : IsRefusedText stores text r
 

@@ -1,12 +1,9 @@
 -- What the program promises of a schema that is stored.
 use Rattle.std.specs.Prelude.{◌≡◌, ℕ, List, drop, Ok, Err}
 use Rattle.sdb_types.specs.Bytes.{HasRisen}
-use Rattle.sdb_schema.specs.declared.table.Table.{Table}
-use Rattle.sdb_loader.specs.declared.fault.SchemaFault.{SchemaFault}
+use Rattle.sdb_app.specs.Types.{CatalogRefused, Place, SchemaFault, Table}
 use Rattle.sdb_loader.specs.Described.{catalog_in}
-use Rattle.sdb_types.specs.declared.place.Place.{Place}
 use Rattle.sdb_stores.specs.Views.{names_of}
-use Rattle.sdb_catalog.specs.declared.refused.CatalogRefused.{CatalogRefused}
 use Rattle.sdb_catalog.specs.declared.refused.CatalogRefused.TheVariants as refused
 use Rattle.sdb_catalog.specs.Calls.{IsUnread, first_contents}
 use Rattle.sdb_catalog.specs.Known.{IsLeftBy, IsStoredIn}

@@ -1,14 +1,11 @@
 -- What the program promises of a session.
 use Rattle.std.specs.Prelude.{◌≡◌, List, [], drop}
 use Rattle.sdb_types.specs.Bytes.{HasRisen}
-use Rattle.sdb_schema.specs.declared.table.Table.{Table}
-use Rattle.sdb_types.specs.declared.place.Place.{Place}
+use Rattle.sdb_app.specs.Types.{CatalogRefused, Place, SessionRefused, Table}
 use Rattle.sdb_stores.specs.Views.{Attached, StoreView as Counted}
-use Rattle.sdb_catalog.specs.declared.refused.CatalogRefused.{CatalogRefused}
 use Rattle.sdb_catalog.specs.Calls.{IsOpened, IsUnread, ContentsAreUnchanged}
 use Rattle.sdb_catalog.specs.Known.{IsKnownBad, IsKnownCatalog}
 use Rattle.sdb_script.specs.declared.fault.LineFault.TheVariants.{Text}
-use Rattle.sdb_shell.specs.declared.refused.SessionRefused.{SessionRefused}
 use Rattle.sdb_shell.specs.declared.refused.SessionRefused.TheVariants as refused
 use Rattle.sdb_shell.specs.Session.{IsCutSession, IsWhole}
 use Rattle.sdb_app.specs.declared.status.InputFault.TheVariants.{Line}
@@ -21,7 +18,7 @@ use Rattle.sdb_app.specs.Schema.{status_of_catalog}
 
 -- The stores of a call with these places, when they showed this.
 abbrev pub stores_with : Work → List Place → List Counted → Attached
-stores_with work places shelves = record { places = places; views = shelves; known = work.old.known }
+stores_with work places store_contents = record { places = places; views = store_contents; known = work.old.known }
 
 -- The catalog of the first store was opened, and its namespaces are placed so. The stores hold what they held.
 pub record IsCatalogOpened (work : Work) (catalog : List Table) (places : List Place) (mid : List Counted) : Type 0 where

@@ -6,8 +6,8 @@ ghost use Rattle.sdb_app.specs.Export.{IsExported, StopsExport, status_of_export
 use crate::schema::catalog_status;
 use crate::status::Status;
 use sdb_catalog::open_catalog;
+use sdb_shell::{ExportRefused, export_table};
 use sdb_stores::Registry;
-use sdb_tables::{ExportRefused, export_table};
 use sdb_types::{Clock, Ids, Octets, TableName};
 use std::alloc::Global;
 
@@ -33,9 +33,9 @@ pub fn export<S: Registry, C: Clock, I: Ids>(
     requires some { 0 < length (S.state stores.old).views }
     requires unplaced { (S.state stores.old).places ≡ [] }
     ensures answered { IfOk result (λ text. (input : Stream) → IsExported name.now (work_on (S.state stores.old) (S.state stores.new) input)
-        (draws C.told I.told clock.old clock.new ids.old ids.new) text) }
+        (draws C.answered I.answered clock.old clock.new ids.old ids.new) text) }
     ensures err { IfErr result (λ s. (input : Stream) → StopsExport name.now (work_on (S.state stores.old) (S.state stores.new) input)
-        (draws C.told I.told clock.old clock.new ids.old ids.new) s) }
+        (draws C.answered I.answered clock.old clock.new ids.old ids.new) s) }
     ensures kept { AreKept (S.state stores.old) (S.state stores.new) }
 {
     let catalog = match open_catalog(alloc, stores) {

@@ -12,8 +12,8 @@ use sdb_data::{CsvRefused, Mode, read_table};
 use sdb_model::Which;
 use sdb_schema::Table;
 use sdb_script::{MOST_SCRIPT_BYTES, last_line};
+use sdb_shell::load_rows;
 use sdb_stores::Registry;
-use sdb_tables::load_rows;
 use sdb_types::{Clock, Ids, Octets, Seq, Source, TableName, Values};
 use std::alloc::Global;
 
@@ -58,9 +58,9 @@ pub fn load<S: Registry, R: Source, C: Clock, I: Ids>(
     requires unplaced { (S.state stores.old).places ≡ [] }
     requires size { IsWithin most_rows size }
     ensures answered { IfOk result (λ text. IsLoaded name.now mode size (work_of S.state (stream R.remaining R.faults) stores.old stores.new input.old input.new)
-        (draws C.told I.told clock.old clock.new ids.old ids.new) text) }
+        (draws C.answered I.answered clock.old clock.new ids.old ids.new) text) }
     ensures err { IfErr result (StopsLoad name.now mode size (work_of S.state (stream R.remaining R.faults) stores.old stores.new input.old input.new)
-        (draws C.told I.told clock.old clock.new ids.old ids.new)) }
+        (draws C.answered I.answered clock.old clock.new ids.old ids.new)) }
     ensures kept { AreKept (S.state stores.old) (S.state stores.new) }
     ensures counted { R.faults input.old ≤ R.faults input.new }
 {

@@ -8,7 +8,7 @@ ghost use Rattle.sdb_contents.specs.Board.{AreUsable, GoOn, HoldTheSame, known_b
 ghost use Rattle.sdb_contents.specs.Opening.{HoldNothing, first_key, opening_in, run_tables};
 ghost use Rattle.sdb_contents.specs.Held.{IsOddIn};
 ghost use Rattle.sdb_world.specs.Broken.{BreaksWithin};
-ghost use Rattle.sdb_execution.specs.Execution.{IsExecution, IsPlayable};
+ghost use Rattle.sdb_client.specs.Execution.{IsExecution, IsPlayable};
 ghost use Rattle.sdb_world.specs.Explained.{IsExplained};
 ghost use Rattle.sdb_world.specs.Ran.{HasNotRun, IsOutcomeOf, IsRunExplained, IsReadWhereKnown};
 ghost use Rattle.law_runs.specs.World.{IsWorld};

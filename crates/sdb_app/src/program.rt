@@ -47,9 +47,9 @@ fn answer<S: Registry, R: Source, C: Clock, I: Ids>(
     requires names { names.now ≡ names_of (S.state stores.old).views }
     requires once { AnswersOnce (names_of (S.state stores.old).views) command.now }
     ensures answered { IfOk result (λ text. (promise_of command.now (work_of S.state (stream R.remaining R.faults) stores.old stores.new input.old input.new)
-        (draws C.told I.told clock.old clock.new ids.old ids.new)).answers text) }
+        (draws C.answered I.answered clock.old clock.new ids.old ids.new)).answers text) }
     ensures err { IfErr result (promise_of command.now (work_of S.state (stream R.remaining R.faults) stores.old stores.new input.old input.new)
-        (draws C.told I.told clock.old clock.new ids.old ids.new)).stops }
+        (draws C.answered I.answered clock.old clock.new ids.old ids.new)).stops }
     ensures kept { AreKeptOr (Drops command.now) (S.state stores.old) (S.state stores.new) }
     ensures counted { R.faults input.old ≤ R.faults input.new }
 {
@@ -101,7 +101,7 @@ fn answer_once<S: Registry, R: Source, W: Sink, C: Clock, I: Ids>(
     requires names { names.now ≡ names_of (S.state stores.old).views }
     requires once { AnswersOnce (names_of (S.state stores.old).views) command.now }
     ensures ended { EndsOnce command.now (work_of S.state (stream R.remaining R.faults) stores.old stores.new input.old input.new)
-        (draws C.told I.told clock.old clock.new ids.old ids.new) (stream W.written W.faults output.old) (stream W.written W.faults output.new) result }
+        (draws C.answered I.answered clock.old clock.new ids.old ids.new) (stream W.written W.faults output.old) (stream W.written W.faults output.new) result }
     ensures kept { AreKeptOr (Drops command.now) (S.state stores.old) (S.state stores.new) }
     ensures counted { R.faults input.old ≤ R.faults input.new }
     ensures counted_output { W.faults output.old ≤ W.faults output.new }
@@ -128,7 +128,7 @@ fn perform<S: Registry, R: Source, W: Sink, C: Clock, I: Ids>(
     requires distinct { AreDistinct (names_of (S.state stores.old).views) }
     requires names { names.now ≡ names_of (S.state stores.old).views }
     requires once { command.now ≢ Command.Sql → AnswersOnce (names_of (S.state stores.old).views) command.now }
-    ensures ended { EndsAs command.now (ends (views S.state (stream R.remaining R.faults) (stream W.written W.faults) C.told I.told)
+    ensures ended { EndsAs command.now (ends (views S.state (stream R.remaining R.faults) (stream W.written W.faults) C.answered I.answered)
         stores.old stores.new input.old input.new output.old output.new clock.old clock.new ids.old ids.new) result }
     ensures kept { AreKeptOr (Drops command.now) (S.state stores.old) (S.state stores.new) }
     ensures counted { R.faults input.old ≤ R.faults input.new }
@@ -157,7 +157,7 @@ pub fn run<S: Registry, R: Source, W: Sink, C: Clock, I: Ids>(
 ) -> Status
     requires { 0 < length (S.state stores.old).views }
     // It ends as the command of these words may end, or as words of no command do.
-    ensures ended { HasEnded (map string_bytes words.now) (ends (views S.state (stream R.remaining R.faults) (stream W.written W.faults) C.told I.told)
+    ensures ended { HasEnded (map string_bytes words.now) (ends (views S.state (stream R.remaining R.faults) (stream W.written W.faults) C.answered I.answered)
         stores.old stores.new input.old input.new output.old output.new clock.old clock.new ids.old ids.new) result }
     ensures kept { AreKeptOr (WordsDrop (names_of (S.state stores.old).views) (map string_bytes words.now)) (S.state stores.old) (S.state stores.new) }
     ensures counted { R.faults input.old ≤ R.faults input.new }

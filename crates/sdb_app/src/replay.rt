@@ -8,10 +8,9 @@ ghost use Rattle.sdb_app.specs.Run.{IsReplayed, IsScriptRead, IsUnread, StopsRep
 use crate::input::read_bytes;
 use crate::play::play;
 use crate::status::{InputFault, Status};
-use sdb_model::{Outcome, Script};
+use sdb_model::{Outcome, Script, report_text};
 use sdb_script::{ScriptRefused, read_script};
 use sdb_stores::Registry;
-use sdb_texts::report_text;
 use sdb_types::{Names, Octets, Source};
 use std::alloc::Global;
 

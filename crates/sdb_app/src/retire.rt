@@ -1,14 +1,14 @@
 //! The command `retire`: everything in a store moves to another, and the store is dropped.
 ghost use Rattle.std.specs.Prelude.{◌≡◌, IfOk, IfErr};
 ghost use Rattle.sdb_stores.specs.Views.{names_of};
-ghost use Rattle.sdb_retire.specs.Dropped.{MayRetire};
-ghost use Rattle.sdb_retire.specs.Retired.{sides};
+ghost use Rattle.sdb_contents.specs.Dropped.{MayRetire};
+ghost use Rattle.sdb_contents.specs.Retired.{sides};
 ghost use Rattle.sdb_app.specs.Ends.{AreKeptOr, Stream, work_on};
 ghost use Rattle.sdb_app.specs.Retire.{IsStoreRetired, StopsRetire, moved_text, status_of_retire};
 
 use crate::status::Status;
 use itoa::Buffer;
-use sdb_retire::{RetireRefused, retire as retire_store};
+use sdb_contents::{RetireRefused, retire as retire_store};
 use sdb_stores::Registry;
 use sdb_types::{Name, NoMemory, Octets};
 use std::alloc::Global;

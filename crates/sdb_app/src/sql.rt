@@ -37,7 +37,7 @@ pub fn sql<S: Registry, R: Source, W: Sink, C: Clock, I: Ids>(
 ) -> Status
     requires some { 0 < length (S.state stores.old).views }
     requires unplaced { (S.state stores.old).places ≡ [] }
-    ensures ended { HasEndedSession (ends (views S.state (stream R.remaining R.faults) (stream W.written W.faults) C.told I.told)
+    ensures ended { HasEndedSession (ends (views S.state (stream R.remaining R.faults) (stream W.written W.faults) C.answered I.answered)
         stores.old stores.new input.old input.new output.old output.new clock.old clock.new ids.old ids.new) result }
     ensures kept { AreKept (S.state stores.old) (S.state stores.new) }
     ensures counted { R.faults input.old ≤ R.faults input.new }

@@ -5,9 +5,8 @@ ghost use Rattle.sdb_app.specs.Status.{code_of, line_of, which_name as which_nam
 
 use sdb_data::CsvFault;
 use sdb_loader::SchemaFault;
-use sdb_model::{Answer, Which};
+use sdb_model::{Answer, Which, answer_text, key_text};
 use sdb_script::LineFault;
-use sdb_texts::{answer_text, key_text};
 use sdb_types::{Key, NoMemory, Txt};
 use std::alloc::Global;
 

@@ -4,10 +4,7 @@ use Rattle.std.specs.Prelude.{is_some}
 use Rattle.std.specs.List.{AllByRecursion}
 use Rattle.std.specs.FinMap.{empty, entries, entries-insert, from_entries, get, insert, len-empty, len-entries}
 use Rattle.std.specs.FinMap.Entries.{put}
-use Rattle.sdb_types.specs.declared.key.Key.{Key}
-use Rattle.sdb_types.specs.declared.key.TableName.{TableName}
-use Rattle.sdb_types.specs.declared.pair.Pair.{Pair}
-use Rattle.sdb_types.specs.declared.value.Value.{Value}
+use Rattle.sdb_bench.specs.Types.{Image, Key, Pair, Table, TableName, Test, Update, Value}
 use Rattle.sdb_types.specs.declared.value.Value.TheVariants as value
 use Rattle.sdb_types.specs.Columns.{column, is_null, put_pair, take_out}
 use Rattle.sdb_types.specs.Fits.{fits_int}
@@ -16,13 +13,9 @@ use Rattle.sdb_types.proofs.Basics.{all_each, cond_by}
 use Rattle.sdb_types.proofs.ColumnLemmas.{by_order}
 use Rattle.sdb_types.proofs.ColumnMap.{column-put_same}
 use Rattle.sdb_types.proofs.KeyOrder.{key_exact, key_total}
-use Rattle.sdb_schema.specs.declared.table.Table.{Table}
-use Rattle.sdb_record.specs.declared.access.Image.{Image}
 use Rattle.sdb_model.specs.declared.statement.Statement.TheVariants as statement
 use Rattle.sdb_model.specs.declared.statement.Comparison.TheVariants.{Eq}
-use Rattle.sdb_model.specs.declared.statement.Test.{Test}
 use Rattle.sdb_model.specs.declared.statement.Test.TheVariants.{Compare}
-use Rattle.sdb_model.specs.declared.statement.Update.{Update}
 use Rattle.sdb_model.specs.Exec.{Tables, entry_of_row, exec, exec_in, key_of, left_by, named_table, passes, row_of_entry, updated}
 use Rattle.sdb_model.specs.Rows.{literal_at}
 use Rattle.sdb_bench.specs.declared.side.Side.{Side}

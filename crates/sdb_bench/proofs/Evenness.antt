@@ -6,9 +6,7 @@ use Rattle.std.specs.Cmp.{tied_itself}
 use Rattle.std.specs.FinMap.{entries}
 use Rattle.std.specs.Ordering.{is_eq, is_lt}
 use Rattle.std.proofs.lemmas.List.Sums.{sum_by-cons}
-use Rattle.sdb_types.specs.declared.key.TableName.{TableName}
-use Rattle.sdb_types.specs.declared.pair.Pair.{Pair}
-use Rattle.sdb_types.specs.declared.value.Value.{Value}
+use Rattle.sdb_bench.specs.Types.{Image, Pair, Table, TableName, Value}
 use Rattle.sdb_types.specs.declared.value.Value.TheVariants as value
 use Rattle.sdb_types.specs.Columns.{column}
 use Rattle.sdb_types.specs.Exact.{equal_of}
@@ -16,9 +14,7 @@ use Rattle.sdb_types.specs.Order.{table_cmp, value_cmp}
 use Rattle.sdb_types.specs.ValueLaws.{value_exact, value_total}
 use Rattle.sdb_types.proofs.Basics.{all_each, append_all, by_test}
 use Rattle.sdb_types.proofs.KeyOrder.{table_exact}
-use Rattle.sdb_schema.specs.declared.table.Table.{Table}
 use Rattle.sdb_schema.specs.Order.{row_key_cmp}
-use Rattle.sdb_record.specs.declared.access.Image.{Image}
 use Rattle.sdb_model.specs.Exec.{Tables, all_rows, is_row_of, placed, row_of_entry, projected, sorted}
 use Rattle.sdb_model.specs.Serial.{dump_of, dumps_of}
 use Rattle.sdb_bench.specs.declared.side.Side.{Side}

@@ -6,7 +6,7 @@ use Rattle.sdb_model.specs.declared.statement.Statement.{Statement}
 use Rattle.sdb_model.specs.Follows.{texts_of}
 use Rattle.sdb_model.specs.Plain.{HasLines, is_one_line}
 use Rattle.sdb_model.specs.Sql.{statement_text_of}
-use Rattle.sdb_reading.proofs.LineLaws.{decimal_one, lines_joined}
+use Rattle.sdb_report.proofs.LineLaws.{decimal_one, lines_joined}
 use Rattle.sdb_bench.specs.declared.side.Side.{Side}
 use Rattle.sdb_bench.specs.declared.side.Side.TheVariants.{Left, Right}
 use Rattle.sdb_bench.specs.Setup.{insert_of, namespace_of, update_of}

@@ -4,14 +4,9 @@ use Rattle.std.specs.Prelude.{All, ◌==◌, slice_index}
 use Rattle.std.specs.List.{AllByRecursion}
 use Rattle.std.specs.List.Sorted.{IsStrictlyIncreasing}
 use Rattle.std.specs.FinMap.{empty}
-use Rattle.sdb_types.specs.declared.pair.Pair.{Pair}
-use Rattle.sdb_types.specs.declared.txid.TxId.{TxId}
+use Rattle.sdb_bench.specs.Types.{Event, Outcome, Pair, Point, Statement, TxId}
 use Rattle.sdb_types.specs.Order.{key_cmp}
 use Rattle.sdb_types.proofs.Basics.{all_each, by_test, clash, eq_of}
-use Rattle.sdb_model.specs.declared.event.Event.{Event}
-use Rattle.sdb_model.specs.declared.event.Outcome.{Outcome}
-use Rattle.sdb_model.specs.declared.event.Point.{Point}
-use Rattle.sdb_model.specs.declared.statement.Statement.{Statement}
 use Rattle.sdb_model.specs.Events.{StoreContents}
 use Rattle.sdb_model.specs.Exec.{Tables, exec}
 use Rattle.sdb_model.specs.Serial.{AreBodies, AreRead, IsRun, run_body, serial}
@@ -74,11 +69,11 @@ AreOnce [] = Unit {0}
 AreOnce (p ∷ ps) = AllByRecursion (λ q. p.id ≡ q.id → ⊥) ps × AreOnce ps
 
 after_setup : (n : ℕ) (events : List Event) → AreTaken (bench_clients n) events → (ps : List Point) (bs : List (List Statement)) (d : Tables) → AreBodies events ps bs → AllByRecursion IsOther ps → IsEven d → IsEven (serial bench_catalog bs d).1
-after_setup n events taken [] [] d read other h = h
-after_setup n events taken [] (b ∷ bs) d read other h = absurd read
-after_setup n events taken (p ∷ ps) [] d read other h = absurd read
-after_setup n events taken (p ∷ ps) (b ∷ bs) d read other h =
-    after_setup n events taken ps bs (after_body b d) read.1 other.1 (other_even b d (other_body n events p.id b taken other.0 read.0) h)
+after_setup n events accepted [] [] d read other h = h
+after_setup n events accepted [] (b ∷ bs) d read other h = absurd read
+after_setup n events accepted (p ∷ ps) [] d read other h = absurd read
+after_setup n events accepted (p ∷ ps) (b ∷ bs) d read other h =
+    after_setup n events accepted ps bs (after_body b d) read.1 other.1 (other_even b d (other_body n events p.id b accepted other.0 read.0) h)
 
 same_id : (id : TxId) → (id.0 == setup_id.0) ≡ true → id ≡ setup_id
 same_id id e = let same : id.0 ≡ setup_id.0 = eq_of id.0 setup_id.0 e in λ i. record { 0 = same i }
@@ -87,18 +82,18 @@ other_id : (id : TxId) → (id.0 == setup_id.0) ≡ false → id ≡ setup_id �
 other_id id e same = clash (sym (ap (λ (x : TxId). x.0 == setup_id.0) same) ∙ e)
 
 before_setup : (n : ℕ) (events : List Event) → AreTaken (bench_clients n) events → (ps : List Point) (bs : List (List Statement)) (d : Tables) → AreBodies events ps bs → AreOnce ps → HasNone d → IsEven (serial bench_catalog bs d).1
-before_setup n events taken [] [] d read once h = (all_zero, none_zero d h)
-before_setup n events taken [] (b ∷ bs) d read once h = absurd read
-before_setup n events taken (p ∷ ps) [] d read once h = absurd read
-before_setup n events taken (p ∷ ps) (b ∷ bs) d read once h =
+before_setup n events accepted [] [] d read once h = (all_zero, none_zero d h)
+before_setup n events accepted [] (b ∷ bs) d read once h = absurd read
+before_setup n events accepted (p ∷ ps) [] d read once h = absurd read
+before_setup n events accepted (p ∷ ps) (b ∷ bs) d read once h =
     by_test (p.id.0 == setup_id.0)
     (λ e.
     let own : p.id ≡ setup_id = same_id p.id e in
-    let inserts : AllByRecursion IsInsert b = setup_body n events b taken (subst (λ (id : TxId). AreRead (body events id) b) own read.0) in
-    after_setup n events taken ps bs (after_body b d) read.1 (all_each (λ q. p.id ≡ q.id → ⊥) IsOther ps (λ q apart same. apart (own ∙ sym same)) once.0) (setup_even b d inserts h))
+    let inserts : AllByRecursion IsInsert b = setup_body n events b accepted (subst (λ (id : TxId). AreRead (body events id) b) own read.0) in
+    after_setup n events accepted ps bs (after_body b d) read.1 (all_each (λ q. p.id ≡ q.id → ⊥) IsOther ps (λ q apart same. apart (own ∙ sym same)) once.0) (setup_even b d inserts h))
     (λ e.
-    let updates : AllByRecursion IsUpdate b = other_body n events p.id b taken (other_id p.id e) read.0 in
-    before_setup n events taken ps bs (after_body b d) read.1 once.1 (other_none b d updates h))
+    let updates : AllByRecursion IsUpdate b = other_body n events p.id b accepted (other_id p.id e) read.0 in
+    before_setup n events accepted ps bs (after_body b d) read.1 once.1 (other_none b d updates h))
 
 ---- an order has each transaction once
 
@@ -142,8 +137,8 @@ are_once f (p ∷ ps) points r =
 pub run_is_even : (n : ℕ) (first last : List ℕ) (opening closing : List StoreContents) (outcome : Outcome) → IsRun (bench_script_of n first last) opening closing outcome → uneven_of outcome.tables ≡ 0
 unfolding bench_script_of
 run_is_even n first last opening closing outcome run =
-    let taken = all_taken (bench_script_of n first last) outcome.events run.follows in
+    let accepted = all_taken (bench_script_of n first last) outcome.events run.follows in
     let once = are_once (point outcome.events) outcome.order (at_points (point outcome.events) outcome.order run.order.points) run.order.rising in
     let none : HasNone (empty {X = List Pair} {R = key_cmp}) = subst (AllByRecursion (λ e. ⊥)) (sym no_entries) tt in
-    let even = before_setup n outcome.events taken outcome.order run.told.bodies empty run.told.read once none in
-    ap uneven_of run.told.printed ∙ even_dumps (serial bench_catalog run.told.bodies empty).1 even
+    let even = before_setup n outcome.events accepted outcome.order run.answered.bodies empty run.answered.read once none in
+    ap uneven_of run.answered.printed ∙ even_dumps (serial bench_catalog run.answered.bodies empty).1 even

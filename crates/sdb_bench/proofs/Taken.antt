@@ -1,18 +1,11 @@
--- Where events follow a script, each client has taken the texts of its statements in their order.
+-- Where events follow a script, each client has accepted the texts of its statements in their order.
 use Rattle.std.proofs.Common.{◌≡◌, ℕ, zero, suc, ◌+◌, Bool, true, false, cond, List, [], ◌∷◌, ◌++◌, map, take, length, Some, None, refl, sym, ap, subst, ◌∙◌, arith, append-nil}
 use Rattle.std.specs.Prelude.{MatchBool, ◌==◌, slice_get, count_by}
 use Rattle.std.proofs.lemmas.List.Sums.{sum_by-append, sum_by-cons}
-use Rattle.sdb_types.specs.declared.record.Reply.{Reply}
-use Rattle.sdb_model.specs.declared.answer.Answer.{Answer}
-use Rattle.sdb_model.specs.declared.event.Event.{Event}
+use Rattle.sdb_bench.specs.Types.{Act, Answer, Event, How, Move, Reply, Script, ScriptClient}
 use Rattle.sdb_model.specs.declared.event.Event.TheVariants as event
-use Rattle.sdb_model.specs.declared.event.How.{How}
-use Rattle.sdb_model.specs.declared.script.Act.{Act}
 use Rattle.sdb_model.specs.declared.script.Act.TheVariants as act
-use Rattle.sdb_model.specs.declared.script.Move.{Move}
 use Rattle.sdb_model.specs.declared.script.Move.TheVariants as move
-use Rattle.sdb_model.specs.declared.script.Script.{Script}
-use Rattle.sdb_model.specs.declared.script.ScriptClient.{ScriptClient}
 use Rattle.sdb_model.specs.Follows.{AreOfMoves, AreStepsOf, Follows, IsActed, IsCallOf, IsHowOfDiscard, IsHowOfLose, IsHowOfStep, IsOfMove, IsRest, IsStep, IsTakeOf, has_work, is_pending, takes_of, is_take_of, texts_of}
 use Rattle.sdb_model.specs.Transactions.{Executed, statements_by, statements_after, with_answer}
 use Rattle.sdb_types.proofs.Basics.{assoc, by_test, eq_of, map_last, none_some, some_is}
@@ -21,11 +14,11 @@ use Rattle.law_clients.proofs.Tellings.{said_more}
 abbrev pub taken_texts : List Executed → List (List ℕ)
 taken_texts = map (λ s. s.text)
 
--- the texts that each client has taken are the first of its script
+-- the texts that each client has accepted are the first of its script
 abbrev pub AreTaken : List ScriptClient → List Event → Type 0
 AreTaken clients past = (c : ℕ) → taken_texts (statements_by c past) ≡ take (takes_of c past) (texts_of clients c)
 
--- a text that is taken is its client's next one
+-- a text that is accepted is its client's next one
 abbrev pub MayCome : List ScriptClient → List Event → Event → Type 0
 MayCome clients past (event.Take c text answer) = slice_get (texts_of clients c) (takes_of c past) ≡ Some text
 MayCome clients past _ = Unit {0}
@@ -65,7 +58,7 @@ event_more : (clients : List ScriptClient) (c : ℕ) (past : List Event) (n : �
     → taken_texts (statements_by c past) ≡ take (takes_of c past) (texts_of clients c)
     → taken_texts (statements_after c (statements_by c past) (n, e)) ≡ take (takes_of c past + one_if (is_take_of c e)) (texts_of clients c)
 event_more clients c past n (event.Take d text answer) may h =
-    let s : Executed = record { taken = n; text = text; answer = answer; reached = n } in
+    let s : Executed = record { accepted = n; text = text; answer = answer; reached = n } in
     by_test (d == c)
     (λ t.
     let here : slice_get (texts_of clients c) (takes_of c past) ≡ Some text = subst (λ (x : ℕ). slice_get (texts_of clients x) (takes_of x past) ≡ Some text) (eq_of d c t) may in

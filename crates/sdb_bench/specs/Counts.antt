@@ -2,13 +2,10 @@
 use Rattle.std.specs.Prelude.{ℕ, pos, ◌-◌, Bool, true, false, not, ◌&&◌, nat_le, List, [], ◌∷◌, ◌++◌, count_by, sum_by, codes, decimal, Option, Some, None, slice_get}
 use Rattle.std.specs.List.{list_any}
 use Rattle.std.specs.Ordering.{is_eq}
-use Rattle.sdb_types.specs.declared.value.Value.{Value}
+use Rattle.sdb_bench.specs.Types.{Event, Outcome, TableDump, Value}
 use Rattle.sdb_types.specs.declared.value.Value.TheVariants as value
 use Rattle.sdb_types.specs.Order.{value_cmp}
-use Rattle.sdb_model.specs.declared.event.Event.{Event}
 use Rattle.sdb_model.specs.declared.event.Event.TheVariants as event
-use Rattle.sdb_model.specs.declared.event.Outcome.{Outcome}
-use Rattle.sdb_model.specs.declared.event.TableDump.{TableDump}
 use Rattle.sdb_model.specs.Transactions.{is_committed_answer}
 use Rattle.sdb_bench.specs.Draws.{numbers_below}
 

@@ -1,3 +1,4 @@
+pub mod Types
 pub mod Draws
 pub mod Setup
 pub mod Script

@@ -1,15 +1,11 @@
 -- The tables of a bench, and its statements.
 use Rattle.std.specs.Prelude.{ℕ, pos, List, [], ◌∷◌, ◌++◌, map, codes}
 use Rattle.std.specs.List.{flat_map}
-use Rattle.sdb_types.specs.declared.key.TableName.{TableName}
-use Rattle.sdb_types.specs.declared.value.Value.{Value}
+use Rattle.sdb_bench.specs.Types.{Column, Statement, Table, TableName, Value}
 use Rattle.sdb_types.specs.declared.value.Value.TheVariants as value
-use Rattle.sdb_schema.specs.declared.table.Column.{Column}
 use Rattle.sdb_schema.specs.declared.table.Direction.TheVariants.{Asc}
 use Rattle.sdb_schema.specs.declared.table.Kind.TheVariants.{Int}
-use Rattle.sdb_schema.specs.declared.table.Table.{Table}
 use Rattle.sdb_model.specs.declared.statement.Comparison.TheVariants.{Eq}
-use Rattle.sdb_model.specs.declared.statement.Statement.{Statement}
 use Rattle.sdb_model.specs.declared.statement.Statement.TheVariants as statement
 use Rattle.sdb_model.specs.declared.statement.Test.TheVariants.{Compare}
 use Rattle.sdb_bench.specs.declared.side.Side.{Side}

@@ -1,10 +1,9 @@
 //! Laws of a bench.
 ghost use Rattle.std.specs.Prelude.{◌≡◌, ◌<◌, ◌^◌, ℕ, List, Some, false, is_some, length, slice_get, true};
 ghost use Rattle.std.specs.List.{AllByRecursion};
-ghost use Rattle.sdb_types.specs.declared.key.TableName.{TableName};
+ghost use Rattle.sdb_bench.specs.Types.{Outcome, TableName};
 ghost use Rattle.sdb_record.specs.Coordinator.{is_coordinator_table};
 ghost use Rattle.sdb_schema.specs.Catalog.{is_catalog};
-ghost use Rattle.sdb_model.specs.declared.event.Outcome.{Outcome};
 ghost use Rattle.sdb_model.specs.Events.{StoreContents};
 ghost use Rattle.sdb_model.specs.Exec.{find_table};
 ghost use Rattle.sdb_model.specs.Follows.{texts_of};

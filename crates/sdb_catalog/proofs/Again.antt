@@ -5,19 +5,13 @@ use Rattle.std.specs.List.{list_all, filter_map}
 use Rattle.std.specs.Option.{option_map_or}
 use Rattle.serde_json.specs.Data.{Data, string}
 use Rattle.serde_json.specs.View.{items_of}
-use Rattle.sdb_types.specs.declared.key.TableName.{TableName}
+use Rattle.sdb_catalog.specs.Types.{Column, Direction, Kind, Order, Table, TableName, TableRefused}
 use Rattle.sdb_types.proofs.Bools.{and_first, and_second, and_both}
 use Rattle.sdb_record.specs.Names.{same_name}
 use Rattle.sdb_record.specs.Parts.{is_column_name}
 use Rattle.sdb_record.proofs.NameLemmas.{same_name-true}
-use Rattle.sdb_schema.specs.declared.table.Kind.{Kind}
 use Rattle.sdb_schema.specs.declared.table.Kind.TheVariants as kind
-use Rattle.sdb_schema.specs.declared.table.Direction.{Direction}
 use Rattle.sdb_schema.specs.declared.table.Direction.TheVariants.{Asc, Desc}
-use Rattle.sdb_schema.specs.declared.table.Column.{Column}
-use Rattle.sdb_schema.specs.declared.table.Order.{Order}
-use Rattle.sdb_schema.specs.declared.table.Table.{Table}
-use Rattle.sdb_schema.specs.declared.make.TableRefused.{TableRefused}
 use Rattle.sdb_schema.specs.Table.{refuse, none_of, first_unknown, key_names, order_names, has_column, checked_table, in_order, rises, is_table}
 use Rattle.sdb_schema.proofs.ColumnOrder.{in_order-rising}
 use Rattle.sdb_loader.specs.Words.{direction_named, kind_named, order_named}

@@ -4,9 +4,7 @@ use Rattle.std.specs.Prelude.{slice_get}
 use Rattle.sdb_types.specs.declared.record.Reply.TheVariants as reply
 use Rattle.sdb_types.specs.Contents.{Contents, after}
 use Rattle.sdb_store.specs.Store.{Performs}
-use Rattle.sdb_types.specs.declared.record.Request.{Request}
-use Rattle.sdb_types.specs.declared.record.Reply.{Reply}
-use Rattle.sdb_types.specs.declared.place.Place.{Place}
+use Rattle.sdb_catalog.specs.Types.{Place, Reply, Request}
 use Rattle.sdb_stores.specs.Views.{Attached, StoreView, IsCallAt, HaveRisen, home, home_in, names_of, total_faults}
 use Rattle.sdb_stores.proofs.Called.{same_names, grown}
 use Rattle.sdb_catalog.specs.declared.refused.CatalogRefused.{CatalogRefused}

@@ -3,22 +3,19 @@ use Rattle.std.proofs.Common.{◌≡◌, ℕ, ◌+◌, ◌≤◌, List, [], ◌�
 use Rattle.std.specs.Prelude.{filter, nat_lt, codes}
 use Rattle.std.specs.List.{list_all}
 use Rattle.std.specs.Str.{bytes_eq}
-use Rattle.std.specs.declared.cmp.Ordering.{Ordering}
+use Rattle.sdb_catalog.specs.Types.{Ordering, Record, Table, TableName}
 use Rattle.std.specs.declared.cmp.Ordering.TheVariants.{Less, Equal, Greater}
 use Rattle.std.specs.Ordering.{is_lt, ordering_then}
 use Rattle.std.proofs.lemmas.Bool.Decides.{nat_tests}
 use Rattle.std.proofs.lemmas.List.{length-map}
 use Rattle.std.proofs.lemmas.List.Elements.{filter-append}
 use Rattle.std.proofs.lemmas.List.Sums.{length-filter}
-use Rattle.sdb_types.specs.declared.key.TableName.{TableName}
-use Rattle.sdb_types.specs.declared.record.Record.{Record}
 use Rattle.sdb_types.specs.Contents.{in_span, rise, starts_after}
 use Rattle.sdb_types.specs.Identifier.{is_name}
 use Rattle.sdb_types.specs.Order.{key_cmp, name_cmp, table_cmp, table_text}
 use Rattle.sdb_types.proofs.Bools.{and_first, and_second, and_both}
 use Rattle.sdb_types.proofs.KeyOrder.{by_text, table_total}
 use Rattle.sdb_record.specs.Parts.{is_column_name}
-use Rattle.sdb_schema.specs.declared.table.Table.{Table}
 use Rattle.sdb_schema.specs.Catalog.{rises, is_above_name}
 use Rattle.sdb_schema.specs.Table.{is_table}
 use Rattle.sdb_loader.specs.Words.{is_open}

@@ -8,7 +8,7 @@ use Rattle.std.specs.Str.{bytes_eq}
 use Rattle.std.specs.FinMap.{insert}
 use Rattle.std.proofs.lemmas.List.{map-append}
 use Rattle.std.proofs.lemmas.Slice.Eq.{bytes_eq-Decides}
-use Rattle.sdb_types.specs.declared.record.Record.{Record}
+use Rattle.sdb_catalog.specs.Types.{Place, Record, Table}
 use Rattle.sdb_types.specs.declared.record.Reply.TheVariants.{Applied, NotMet}
 use Rattle.sdb_types.specs.declared.record.Condition.TheVariants.{Absent}
 use Rattle.sdb_types.specs.Contents.{Contents, holds, in_span, put_reply, record_at, rows_in}
@@ -16,9 +16,7 @@ use Rattle.sdb_types.specs.Identifier.{is_name}
 use Rattle.sdb_types.specs.Order.{key_cmp, table_cmp}
 use Rattle.sdb_types.proofs.Bools.{and_first, and_second, and_both}
 use Rattle.sdb_types.proofs.KeyOrder.{table_total}
-use Rattle.sdb_schema.specs.declared.table.Table.{Table}
 use Rattle.sdb_schema.specs.Catalog.{rises}
-use Rattle.sdb_types.specs.declared.place.Place.{Place}
 use Rattle.sdb_stores.specs.Views.{Attached, StoreView, route_of}
 use Rattle.sdb_catalog.specs.declared.entry.Entry.{Entry}
 use Rattle.sdb_catalog.specs.declared.outcome.Outcome.{Outcome}

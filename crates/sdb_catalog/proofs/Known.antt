@@ -5,16 +5,12 @@ use Rattle.std.specs.FinMap.{insert}
 use Rattle.std.specs.Option.{option_map_or}
 use Rattle.std.specs.Str.{bytes_eq}
 use Rattle.std.proofs.lemmas.Slice.Eq.{bytes_eq-Decides}
-use Rattle.sdb_types.specs.declared.record.Record.{Record}
+use Rattle.sdb_catalog.specs.Types.{Place, Record, Reply, Request, Table}
 use Rattle.sdb_types.specs.declared.record.Condition.TheVariants.{Absent}
-use Rattle.sdb_types.specs.declared.record.Reply.{Reply}
 use Rattle.sdb_types.specs.declared.record.Reply.TheVariants.{Applied, NotMet, Rows}
-use Rattle.sdb_types.specs.declared.record.Request.{Request}
 use Rattle.sdb_types.specs.declared.record.Request.TheVariants.{Scan}
 use Rattle.sdb_types.specs.Contents.{Contents, holds, put_reply, record_at, rows_in}
 use Rattle.sdb_store.specs.Store.{Performs}
-use Rattle.sdb_schema.specs.declared.table.Table.{Table}
-use Rattle.sdb_types.specs.declared.place.Place.{Place}
 use Rattle.sdb_stores.specs.Views.{Attached, StoreView, names_of, route_of}
 use Rattle.sdb_catalog.specs.declared.entry.Entry.{Entry}
 use Rattle.sdb_catalog.specs.declared.outcome.Outcome.{Outcome}

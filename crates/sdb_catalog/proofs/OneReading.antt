@@ -1,14 +1,10 @@
 -- Rows open in one way.
 use Rattle.std.proofs.Common.{◌≡◌, ◌<◌, ◌^◌, ℕ, List, [], ◌∷◌, ◌++◌, map, inl, inr, refl, sym, ap, subst, ◌∙◌, append_assoc, append-nil, Ok}
-use Rattle.sdb_types.specs.declared.key.Key.{Key}
-use Rattle.sdb_types.specs.declared.key.TableName.{TableName}
-use Rattle.sdb_types.specs.declared.record.Record.{Record}
-use Rattle.sdb_types.specs.declared.txid.TxId.{TxId}
+use Rattle.sdb_catalog.specs.Types.{Key, Record, Table, TableName, TxId}
 use Rattle.sdb_types.specs.Order.{table_text}
 use Rattle.sdb_types.specs.TxId.{id_text}
 use Rattle.sdb_record.specs.Ids.{id_of_text}
 use Rattle.sdb_record.proofs.IdLemmas.{id_of_text-id_text}
-use Rattle.sdb_schema.specs.declared.table.Table.{Table}
 use Rattle.sdb_loader.specs.Words.{table_named}
 use Rattle.sdb_loader.specs.Described.{described_table}
 use Rattle.sdb_loader.proofs.WordLaws.{table_named-text}

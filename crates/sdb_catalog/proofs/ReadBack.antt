@@ -8,10 +8,9 @@ use Rattle.std.proofs.lemmas.Slice.Eq.{bytes_eq-Decides}
 use Rattle.sdb_types.specs.Contents.{rows_in}
 use Rattle.sdb_types.specs.Identifier.{is_name}
 use Rattle.sdb_types.proofs.Bools.{and_first, and_second}
-use Rattle.sdb_schema.specs.declared.table.Table.{Table}
+use Rattle.sdb_catalog.specs.Types.{Place, Table}
 use Rattle.sdb_schema.specs.Catalog.{is_catalog, rises}
 use Rattle.sdb_schema.specs.Table.{is_table}
-use Rattle.sdb_types.specs.declared.place.Place.{Place}
 use Rattle.sdb_stores.specs.Views.{Attached, StoreView, names_of}
 use Rattle.sdb_catalog.specs.declared.entry.Entry.{Entry}
 use Rattle.sdb_catalog.specs.Calls.{first_contents, metadata_span, with_states}
@@ -74,9 +73,9 @@ module _ (places : List Place) (first : List ℕ) where
         | false ↦ λ q. store_at us i t (omega arith) is
       ] refl
 
-pub read_back : (opened : List Table) (now : List Place) (shelves : List StoreView) → IsCatalogIn (names_of shelves) (first_contents shelves) opened now → IsAsStored shelves opened now
-read_back opened now shelves found = λ places catalog kept.
-    let same : found.entries ≡ first_entries places kept.first catalog = one_reading (names_of shelves) (rows_in metadata_span (first_contents shelves)) found.entries (first_entries places kept.first catalog) found.opens kept.rows in
+pub read_back : (opened : List Table) (now : List Place) (store_contents : List StoreView) → IsCatalogIn (names_of store_contents) (first_contents store_contents) opened now → IsAsStored store_contents opened now
+read_back opened now store_contents found = λ places catalog kept.
+    let same : found.entries ≡ first_entries places kept.first catalog = one_reading (names_of store_contents) (rows_in metadata_span (first_contents store_contents)) found.entries (first_entries places kept.first catalog) found.opens kept.rows in
     record {
       same = found.tables ∙ ap tables_of same ∙ kept.tables;
       first = kept.first;

@@ -16,8 +16,7 @@ use Rattle.serde_json.specs.Written.{outline, items_outline, members_outline, ha
 use Rattle.serde_json.proofs.Texts.{print-outline}
 use Rattle.sdb_types.specs.Order.{name_cmp}
 use Rattle.sdb_types.proofs.Bools.{and_first, and_second, and_both}
-use Rattle.sdb_schema.specs.declared.table.Column.{Column}
-use Rattle.sdb_schema.specs.declared.table.Table.{Table}
+use Rattle.sdb_catalog.specs.Types.{Column, Table}
 use Rattle.sdb_schema.specs.Table.{rises}
 use Rattle.sdb_catalog.proofs.Members.{AreRead, keys_rise, members_of, members_read}
 use Rattle.sdb_catalog.specs.Definition.{columns_data, definition_of, definition_text, kind_text, order_text}

@@ -7,15 +7,12 @@ use Rattle.std.proofs.Math.Seq.{take-suc}
 use Rattle.std.proofs.lemmas.Grind.{flat_map-append}
 use Rattle.std.proofs.lemmas.List.{map-append}
 use Rattle.std.proofs.lemmas.Option.{slice_get_within, get_or_from_slice_get}
-use Rattle.sdb_types.specs.declared.record.Reply.{Reply}
-use Rattle.sdb_types.specs.declared.record.Request.{Request}
+use Rattle.sdb_catalog.specs.Types.{Place, Reply, Request, Table}
 use Rattle.sdb_types.specs.Order.{table_cmp}
 use Rattle.sdb_types.proofs.Bools.{and_first, and_second, and_both}
-use Rattle.sdb_schema.specs.declared.table.Table.{Table}
 use Rattle.sdb_schema.specs.Catalog.{is_catalog, rises as names_rise, with_table}
 use Rattle.sdb_schema.specs.Table.{is_table, rises}
 use Rattle.sdb_schema.proofs.CatalogLaws.{with_table-is}
-use Rattle.sdb_types.specs.declared.place.Place.{Place}
 use Rattle.sdb_stores.specs.Views.{Attached, StoreView, names_of}
 use Rattle.sdb_catalog.specs.declared.entry.Entry.{Entry}
 use Rattle.sdb_catalog.specs.declared.outcome.Outcome.{Outcome}
@@ -26,7 +23,7 @@ use Rattle.sdb_catalog.specs.Written.{AreWritten, HasWritten, IsStored, IsWritte
 use Rattle.sdb_catalog.proofs.Again.{rising_columns}
 use Rattle.sdb_catalog.proofs.Reading.{own_rises}
 
----- what was told at first goes on being told
+---- what was answered at first goes on being answered
 
 called_from : (q : Request) (r : Reply) (old mid : Attached) (new : List StoreView) → ((i : ℕ) → old.known i → mid.known i) → Called q r mid new → Called q r (with_states old mid.views) new
 called_from q r old mid new goes call = record {

@@ -2,15 +2,10 @@
 use Rattle.std.specs.Prelude.{◌≡◌, ◌⊎◌, ℕ, ◌≤◌, List, [], ◌∷◌, drop, None}
 use Rattle.std.specs.FinMap.{empty}
 use Rattle.std.specs.Option.{option_or}
-use Rattle.sdb_types.specs.declared.key.Key.{Key}
-use Rattle.sdb_types.specs.declared.record.Request.{Request}
+use Rattle.sdb_catalog.specs.Types.{Key, Record, Reply, Request, Span, Table}
 use Rattle.sdb_types.specs.declared.record.Request.TheVariants.{Scan}
-use Rattle.sdb_types.specs.declared.record.Record.{Record}
-use Rattle.sdb_types.specs.declared.record.Reply.{Reply}
 use Rattle.sdb_types.specs.declared.record.Reply.TheVariants.{Rows}
-use Rattle.sdb_types.specs.declared.record.Span.{Span}
 use Rattle.sdb_types.specs.Contents.{Contents, after}
-use Rattle.sdb_schema.specs.declared.table.Table.{Table}
 use Rattle.sdb_stores.specs.Views.{Attached, StoreView, IsCallAt, HaveRisen, names_of, route_of, total_faults}
 use Rattle.sdb_catalog.specs.declared.entry.Entry.{Entry}
 use Rattle.sdb_catalog.specs.declared.refused.CatalogRefused.{CatalogRefused}
@@ -20,7 +15,7 @@ use Rattle.sdb_catalog.specs.Opened.{Opens, IsFirstBad, store_in, tables_of}
 
 -- the same stores, once they show this
 abbrev pub with_states : Attached → List StoreView → Attached
-with_states stores shelves = record { places = stores.places; views = shelves; known = stores.known }
+with_states stores store_contents = record { places = stores.places; views = store_contents; known = stores.known }
 
 -- One call on the first store, which answers and changes as a map does where it had known contents at the beginning. Every other
 -- store stays as it was.

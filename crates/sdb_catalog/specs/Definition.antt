@@ -3,13 +3,9 @@ use Rattle.std.specs.Prelude.{ℕ, List, [], ◌∷◌, ◌++◌, map, codes}
 use Rattle.serde_json.specs.Data.{Data, string, array, object, Members, no_members, member}
 use Rattle.serde_json.specs.View.{items_of}
 use Rattle.serde_json.specs.Written.{compact_text}
-use Rattle.sdb_schema.specs.declared.table.Kind.{Kind}
+use Rattle.sdb_catalog.specs.Types.{Column, Direction, Kind, Order, Table}
 use Rattle.sdb_schema.specs.declared.table.Kind.TheVariants as kind
-use Rattle.sdb_schema.specs.declared.table.Direction.{Direction}
 use Rattle.sdb_schema.specs.declared.table.Direction.TheVariants.{Asc, Desc}
-use Rattle.sdb_schema.specs.declared.table.Column.{Column}
-use Rattle.sdb_schema.specs.declared.table.Order.{Order}
-use Rattle.sdb_schema.specs.declared.table.Table.{Table}
 use Rattle.sdb_loader.specs.Fields.{clustering_key, columns, partition_key, secondary_index}
 
 abbrev pub kind_text : Kind → List ℕ

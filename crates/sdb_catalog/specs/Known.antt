@@ -3,11 +3,8 @@ use Rattle.std.specs.Prelude.{◌≡◌, ◌⊎◌, ℕ, Bool, true, false, List
 use Rattle.std.specs.FinMap.{insert}
 use Rattle.std.specs.Option.{option_map_or}
 use Rattle.std.specs.Str.{bytes_eq}
-use Rattle.sdb_types.specs.declared.key.Key.{Key}
-use Rattle.sdb_types.specs.declared.record.Record.{Record}
+use Rattle.sdb_catalog.specs.Types.{Key, Place, Record, Table}
 use Rattle.sdb_types.specs.Contents.{Contents, record_at, rows_in}
-use Rattle.sdb_schema.specs.declared.table.Table.{Table}
-use Rattle.sdb_types.specs.declared.place.Place.{Place}
 use Rattle.sdb_stores.specs.Views.{Attached, names_of, route_of}
 use Rattle.sdb_catalog.specs.declared.entry.Entry.{Entry}
 use Rattle.sdb_catalog.specs.declared.outcome.Outcome.{Outcome}

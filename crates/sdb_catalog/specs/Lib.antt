@@ -1,3 +1,4 @@
+pub mod Types
 pub mod Definition
 pub mod Rows
 pub mod Borrowed

@@ -2,9 +2,8 @@
 use Rattle.std.specs.Prelude.{◌≡◌, ℕ, true, List, [], map, Some, slice_get, Contains}
 use Rattle.std.specs.List.{list_all}
 use Rattle.sdb_types.specs.Contents.{rows_in}
-use Rattle.sdb_schema.specs.declared.table.Table.{Table}
+use Rattle.sdb_catalog.specs.Types.{Place, Table}
 use Rattle.sdb_loader.specs.Words.{names_table}
-use Rattle.sdb_types.specs.declared.place.Place.{Place}
 use Rattle.sdb_stores.specs.Views.{Attached, StoreView, names_of, route_of}
 use Rattle.sdb_catalog.specs.declared.entry.Entry.{Entry}
 use Rattle.sdb_catalog.specs.Calls.{first_contents, metadata_span}

@@ -1,10 +1,7 @@
 //! Laws of the definitions that contracts cite.
 ghost use Rattle.std.specs.Prelude.{◌≡◌, ◌∷◌, [], ℕ, List, map, true, Ok};
-ghost use Rattle.sdb_types.specs.declared.key.Key.{Key};
-ghost use Rattle.sdb_types.specs.declared.record.Record.{Record};
-ghost use Rattle.sdb_schema.specs.declared.table.Table.{Table};
+ghost use Rattle.sdb_catalog.specs.Types.{Key, Place, Record, Table};
 ghost use Rattle.sdb_schema.specs.Table.{is_table};
-ghost use Rattle.sdb_types.specs.declared.place.Place.{Place};
 ghost use Rattle.sdb_loader.specs.Described.{described_table};
 ghost use Rattle.sdb_catalog.specs.declared.entry.Entry.{Entry};
 ghost use Rattle.sdb_catalog.specs.Definition.{definition_text};

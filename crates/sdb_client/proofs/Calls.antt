@@ -1,31 +1,21 @@
 -- What the call of a read leads its statement to.
 use Rattle.std.proofs.Common.{◌≡◌, ◌≢◌, ℤ, Bool, true, List, [], ◌∷◌, Option, Some, None, refl, sym, ap, subst, ◌∙◌, take, slice_get, is_some, cond, ◌++◌, ◌⊎◌, inl, inr}
-use Rattle.sdb_types.specs.declared.key.Key.{Key}
-use Rattle.sdb_types.specs.declared.txid.TxId.{TxId}
-use Rattle.sdb_types.specs.declared.record.Record.{Record}
-use Rattle.sdb_types.specs.declared.record.Reply.{Reply}
-use Rattle.sdb_record.specs.declared.access.Access.{Access}
+use Rattle.sdb_client.specs.Types.{Access, Answer, Doing, Image, Key, Mark, Progress, ReadStep, Record, Reply, TxId}
 use Rattle.sdb_record.specs.declared.access.Access.TheVariants as access
-use Rattle.sdb_record.specs.declared.access.Image.{Image}
-use Rattle.sdb_model.specs.declared.answer.Answer.{Answer}
 use Rattle.sdb_model.specs.declared.answer.Answer.TheVariants as answer
 use Rattle.sdb_exec.specs.Plans.{Planned, step_of}
-use Rattle.sdb_read.specs.declared.read.ReadStep.{ReadStep}
-use Rattle.sdb_read.specs.declared.read.ReadStep.TheVariants as step
-use Rattle.sdb_read.specs.Read.{ReadAt, ReadStage, read_result, read_step}
-use Rattle.sdb_keyed.specs.Entries.{value_at}
+use Rattle.sdb_txn.specs.declared.read.ReadStep.TheVariants as step
+use Rattle.sdb_txn.specs.Read.{ReadAt, ReadStage, read_result, read_step}
+use Rattle.sdb_snapshot.specs.Entries.{value_at}
 use Rattle.sdb_snapshot.proofs.Keys.{value_last}
 use Rattle.sdb_snapshot.specs.Reads.{ReadRecord, is_key_read}
-use Rattle.sdb_snapshot.specs.declared.snapshot.Mark.{Mark}
 use Rattle.sdb_snapshot.specs.Sets.{IsSetInvariant}
 use Rattle.sdb_snapshot.specs.Seen.{Seen, forgotten, mark_of, overlay}
 use Rattle.sdb_txn.proofs.Notes.{kept_cut}
-use Rattle.sdb_txn.specs.declared.txn.Doing.{Doing}
 use Rattle.sdb_txn.specs.declared.txn.Doing.TheVariants as doing
 use Rattle.sdb_model.specs.Reads.{access_of}
 use Rattle.sdb_client.specs.Inside.{IsKeyRead, IsReadOf}
 use Rattle.sdb_snapshot.proofs.Forgotten.{get_forgotten, scan_forgotten}
-use Rattle.sdb_txn.specs.declared.progress.Progress.{Progress}
 use Rattle.sdb_txn.specs.declared.progress.Progress.TheVariants as progress
 use Rattle.sdb_txn.specs.Txn.{IfReading, ImagesPost as ImagesEnd, ReadPost, StepPost, TxnAt, idle}
 use Rattle.sdb_client.specs.declared.next.Next.{Next}
@@ -41,7 +31,7 @@ IsPlain (progress.Rows rows) = ⊥
 IsPlain (progress.Conflict key found) = ⊥
 IsPlain g = Unit {0}
 
--- what a statement is told then
+-- what a statement is answered then
 abbrev pub plain_next : Progress → Next
 plain_next progress.More = next.Call
 plain_next (progress.Busy key id at) = next.Answer (answer.Busy key id at)
@@ -70,7 +60,7 @@ plain_stage t u p a x after step.Faulted g plain h = (ap plain_next h.0, h.1)
 plain_stage t u p a x after (step.BadRecord key) g plain h = (ap plain_next h.0, h.1)
 plain_stage t u p a x after step.NoMemory g plain h = absurd h
 
--- only out of memory is told as such
+-- only out of memory is answered as such
 memory_alone : (t u : TxnAt) (a : Access) (x : ReadAt) (after : ReadStage) (s : ReadStep) (g : Progress) → IsPlain g → StepPost t a x after s g u → plain_next g ≢ next.Answer answer.NoMemory
 memory_alone t u a x after step.More g plain h e = absurd (let same : next.Call ≡ next.Answer answer.NoMemory = sym (ap plain_next h.0) ∙ e in cc)
 memory_alone t u a x after (step.Images images) g plain h e = absurd (no_images t u a images g plain h)
@@ -81,12 +71,12 @@ memory_alone t u a x after step.NoMemory g plain h e = h
 
 told_call : (t u : TxnAt) (p : Planned) (a : Access) (x : ReadAt) (r : Reply) (now : ℤ) (g : Progress) → g ≢ progress.NoMemory → IsPlain g → ReadPost t a x r now g u → CallPost t p a x r now (plain_next g) u
 told_call t u p a x r now g some plain h = record {
-  memory = λ e. absurd (memory_alone t u a x (read_step x.stage now r) (read_result (read_step x.stage now r)) g plain (h.told some) e);
-  told = λ n. plain_stage t u p a x (read_step x.stage now r) (read_result (read_step x.stage now r)) g plain (h.told some);
+  memory = λ e. absurd (memory_alone t u a x (read_step x.stage now r) (read_result (read_step x.stage now r)) g plain (h.answered some) e);
+  answered = λ n. plain_stage t u p a x (read_step x.stage now r) (read_result (read_step x.stage now r)) g plain (h.answered some);
 }
 
 pub plain_call : (t u : TxnAt) (p : Planned) (a : Access) (x : ReadAt) (r : Reply) (now : ℤ) (g : Progress) → IsPlain g → ReadPost t a x r now g u → CallPost t p a x r now (plain_next g) u
-plain_call t u p a x r now progress.NoMemory plain h = record { memory = λ e. h.memory refl; told = λ n. absurd (n refl) }
+plain_call t u p a x r now progress.NoMemory plain h = record { memory = λ e. h.memory refl; answered = λ n. absurd (n refl) }
 plain_call t u p a x r now (progress.Rows rows) plain h = absurd plain
 plain_call t u p a x r now (progress.Conflict key found) plain h = absurd plain
 plain_call t u p a x r now progress.More plain h = told_call t u p a x r now progress.More (λ e. cc) plain h
@@ -114,7 +104,7 @@ moved_stage t u p a x after step.NoMemory key found h = absurd h
 pub moved_call : (t u : TxnAt) (p : Planned) (a : Access) (x : ReadAt) (r : Reply) (now : ℤ) (key : Key) (found : Option Record) → ReadPost t a x r now (progress.Conflict key found) u → CallPost t p a x r now (next.End (answer.Conflict key found)) u
 moved_call t u p a x r now key found h = record {
   memory = λ e. absurd (cc);
-  told = λ n. moved_stage t u p a x (read_step x.stage now r) (read_result (read_step x.stage now r)) key found (h.told (λ e. cc));
+  answered = λ n. moved_stage t u p a x (read_step x.stage now r) (read_result (read_step x.stage now r)) key found (h.answered (λ e. cc));
 }
 
 ---- rows
@@ -144,7 +134,7 @@ noted_stage t u a x after (step.BadRecord k) rows h = absurd (let e = h.0 in cc)
 noted_stage t u a x after step.NoMemory rows h = absurd h
 
 pub rows_noted : (t u : TxnAt) (a : Access) (x : ReadAt) (r : Reply) (now : ℤ) (rows : List Image) → ReadPost t a x r now (progress.Rows rows) u → IsNoted t u a (read_result (read_step x.stage now r)) rows
-rows_noted t u a x r now rows h = noted_stage t u a x (read_step x.stage now r) (read_result (read_step x.stage now r)) rows (h.told (λ e. cc))
+rows_noted t u a x r now rows h = noted_stage t u a x (read_step x.stage now r) (read_result (read_step x.stage now r)) rows (h.answered (λ e. cc))
 
 -- without what was recorded after a mark
 abbrev pub cut : Mark → TxnAt → TxnAt
@@ -182,16 +172,16 @@ answer_or n = answer.NoMemory
 
 pub rows_call : (t u v : TxnAt) (p : Planned) (a : Access) (x : ReadAt) (r : Reply) (now : ℤ) (rows : List Image) (m : Mark) (z : Answer) → m ≡ mark_of t.seen → IsNoted t u a (read_result (read_step x.stage now r)) rows
     → (z ≢ answer.NoMemory → z ≡ given_answer u (step_of p rows)) → (z ≢ answer.NoMemory → v ≡ given_left u (step_of p rows)) → (z ≡ answer.NoMemory → v ≡ cut m u) → CallPost t p a x r now (next.Answer z) v
-rows_call t u v p a x r now rows m z e h told left memory =
+rows_call t u v p a x r now rows m z e h answered left memory =
     let same : cut m u ≡ idle t = cut_is t u a (read_result (read_step x.stage now r)) rows m e h in
     let gave : step_of p rows ≡ gives p a (with_rows_read t a h.images) = ap (step_of p) (h.rows ∙ ap (λ (w : TxnAt). overlay a w.seen) h.with_read) in
     record {
       memory = λ q. memory (ap answer_or q) ∙ same;
-      told = λ n.
+      answered = λ n.
           let some : z ≢ answer.NoMemory = λ q. n (ap next.Answer q) in
           subst (λ (s : ReadStep). StagePost t p a x (read_step x.stage now r) s (next.Answer z) v) (sym h.ended) (
             h.as_read,
-            told some ∙ ap (given_answer u) gave ∙ ap (λ (w : TxnAt). given_answer w (gives p a (with_rows_read t a h.images))) h.with_read,
+            answered some ∙ ap (given_answer u) gave ∙ ap (λ (w : TxnAt). given_answer w (gives p a (with_rows_read t a h.images))) h.with_read,
             left some ∙ ap (given_left u) gave ∙ ap (λ (w : TxnAt). given_left w (gives p a (with_rows_read t a h.images))) h.with_read,
           );
     }
@@ -236,10 +226,10 @@ rows_read doing.Over t u p r now rows at h = absurd at
 
 pub rows_told : (d : Doing) (t u v : TxnAt) (p : Planned) (r : Reply) (now : ℤ) (rows : List Image) (m : Mark) (z : Answer) → m ≡ mark_of t.seen → IfReading d (λ a x. ReadPost t a x r now (progress.Rows rows) u)
     → (z ≢ answer.NoMemory → z ≡ given_answer u (step_of p rows)) → (z ≢ answer.NoMemory → v ≡ given_left u (step_of p rows)) → (z ≡ answer.NoMemory → v ≡ cut m u) → IfReading d (λ a x. CallPost t p a x r now (next.Answer z) v)
-rows_told (doing.Read a x) t u v p r now rows m z e h told left memory = rows_call t u v p a x r now rows m z e (rows_noted t u a x r now rows h) told left memory
-rows_told doing.Idle t u v p r now rows m z e h told left memory = tt
-rows_told (doing.Commit k) t u v p r now rows m z e h told left memory = tt
-rows_told doing.Over t u v p r now rows m z e h told left memory = tt
+rows_told (doing.Read a x) t u v p r now rows m z e h answered left memory = rows_call t u v p a x r now rows m z e (rows_noted t u a x r now rows h) answered left memory
+rows_told doing.Idle t u v p r now rows m z e h answered left memory = tt
+rows_told (doing.Commit k) t u v p r now rows m z e h answered left memory = tt
+rows_told doing.Over t u v p r now rows m z e h answered left memory = tt
 
 pub plain_told : (d : Doing) (t u : TxnAt) (p : Planned) (r : Reply) (now : ℤ) (g : Progress) → IsPlain g → IfReading d (λ a x. ReadPost t a x r now g u) → IfReading d (λ a x. CallPost t p a x r now (plain_next g) u)
 plain_told (doing.Read a x) t u p r now g plain h = plain_call t u p a x r now g plain h
@@ -247,7 +237,7 @@ plain_told doing.Idle t u p r now g plain h = tt
 plain_told (doing.Commit k) t u p r now g plain h = tt
 plain_told doing.Over t u p r now g plain h = tt
 
--- what out of memory, and what no read is told, are told as
+-- what out of memory, and what no read is answered, are answered as
 pub other_told : (d : Doing) (t u : TxnAt) (p : Planned) (r : Reply) (now : ℤ) (g : Progress) → (g ≡ progress.NoMemory) ⊎ ((g ≡ progress.Committed) ⊎ (((id : TxId) × (g ≡ progress.Expired id)) ⊎ ((id : TxId) × (g ≡ progress.Unknown id)))) → IfReading d (λ a x. ReadPost t a x r now g u) → IfReading d (λ a x. CallPost t p a x r now (next.Answer answer.NoMemory) u)
 other_told d t u p r now g (inl e) h = plain_told d t u p r now progress.NoMemory tt (subst (λ (y : Progress). IfReading d (λ a x. ReadPost t a x r now y u)) e h)
 other_told d t u p r now g (inr (inl e)) h = plain_told d t u p r now progress.Committed tt (subst (λ (y : Progress). IfReading d (λ a x. ReadPost t a x r now y u)) e h)

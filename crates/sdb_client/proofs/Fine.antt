@@ -4,17 +4,12 @@ use Rattle.std.specs.Prelude.{find, is_ok, Result}
 use Rattle.std.specs.Option.{option_map, option_map_or}
 use Rattle.std.specs.List.{list_all}
 use Rattle.std.proofs.lemmas.Bool.{and_parts}
-use Rattle.sdb_types.specs.declared.pair.Pair.{Pair}
-use Rattle.sdb_types.specs.declared.key.Key.{Key}
-use Rattle.sdb_types.specs.declared.value.Value.{Value}
+use Rattle.sdb_client.specs.Types.{Column, Key, Pair, Table, TableRefused, Value}
 use Rattle.sdb_types.specs.Columns.{are_columns, with_column}
 use Rattle.sdb_types.proofs.Bools.{and_both}
 use Rattle.sdb_types.proofs.ColumnLemmas.{with_column-are_columns}
 use Rattle.sdb_record.specs.Names.{is_user, same_name}
 use Rattle.sdb_record.specs.Parts.{are_user_columns, is_column_name, is_user_pair}
-use Rattle.sdb_schema.specs.declared.table.Column.{Column}
-use Rattle.sdb_schema.specs.declared.table.Table.{Table}
-use Rattle.sdb_schema.specs.declared.make.TableRefused.{TableRefused}
 use Rattle.sdb_schema.specs.Table.{refuse, none_of, first_unknown, first_listed_twice, first_repeated, first_reserved, checked_table, is_table, is_reserved, key_names, rises}
 use Rattle.sdb_schema.specs.Rows.{fits_table, is_of_column, is_stored_in, is_value_of}
 use Rattle.sdb_model.specs.Rows.{Name, is_key_column, literal_at}

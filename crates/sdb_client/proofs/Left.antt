@@ -1,17 +1,12 @@
 -- What a call leaves of its client.
 use Rattle.std.proofs.Common.{◌≡◌, ◌≢◌, ℤ, Bool, true, false, cond, Option, Some, None, refl, sym, ap, subst, ◌∙◌, ◌⊎◌, inl, inr, IsSome}
-use Rattle.sdb_types.specs.declared.record.Reply.{Reply}
-use Rattle.sdb_record.specs.declared.access.Access.{Access}
-use Rattle.sdb_model.specs.declared.answer.Answer.{Answer}
+use Rattle.sdb_client.specs.Types.{Access, Answer, Doing, Outcome, PlanStep, Progress, ReadStep, Reply}
 use Rattle.sdb_model.specs.declared.answer.Answer.TheVariants as answer
 use Rattle.sdb_model.specs.Transactions.{changes_nothing}
-use Rattle.sdb_exec.specs.declared.plan.PlanStep.{PlanStep}
 use Rattle.sdb_exec.specs.declared.plan.PlanStep.TheVariants.{Finished, Read as Wants}
 use Rattle.sdb_exec.specs.Plans.{Planned}
-use Rattle.sdb_read.specs.declared.read.ReadStep.{ReadStep}
-use Rattle.sdb_read.specs.declared.read.ReadStep.TheVariants as step
-use Rattle.sdb_read.specs.Read.{ReadAt, ReadStage, read_result, read_step}
-use Rattle.sdb_txn.specs.declared.txn.Doing.{Doing}
+use Rattle.sdb_txn.specs.declared.read.ReadStep.TheVariants as step
+use Rattle.sdb_txn.specs.Read.{ReadAt, ReadStage, read_result, read_step}
 use Rattle.sdb_txn.specs.declared.txn.Doing.TheVariants as doing
 use Rattle.sdb_txn.specs.Txn.{IfReading, TxnAt, idle, CommitPost, IfCommitting, IsCommitting, pending_in, progress_of}
 use Rattle.sdb_client.specs.declared.next.Next.{Next}
@@ -23,12 +18,10 @@ use Rattle.sdb_client.proofs.Taken.{memory_or}
 use Rattle.sdb_client.proofs.Pending.{commit_goes, step_asks}
 use Rattle.sdb_phases.specs.Work.{Work}
 use Rattle.sdb_phases.specs.Commit.{step as commit_step}
-use Rattle.sdb_phases.specs.declared.step.Outcome.{Outcome}
 use Rattle.sdb_phases.specs.declared.step.Outcome.TheVariants as outcome
-use Rattle.sdb_commit.specs.Phases.{CommitAt, IsNext, ended_at}
-use Rattle.sdb_txn.specs.declared.progress.Progress.{Progress}
+use Rattle.sdb_txn.specs.Phases.{CommitAt, IsNext, ended_at}
 use Rattle.sdb_txn.specs.declared.progress.Progress.TheVariants as progress
-use Rattle.sdb_read.specs.Read.{read_pending_at}
+use Rattle.sdb_txn.specs.Read.{read_pending_at}
 
 ---- reads
 
@@ -60,12 +53,12 @@ answer_apart : (z : Answer) → z ≢ answer.NoMemory → next.Answer z ≢ next
 answer_apart z n e = n (ap Rattle.sdb_client.proofs.Calls.answer_or e)
 
 call_left : (t u : TxnAt) (p : Planned) (a : Access) (x : ReadAt) (r : Reply) (now : ℤ) (n : Next) → IsReadOf (doing.Read a x) p → CallPost t p a x r now n u → IsLeft n u (Some p)
-call_left t u p a x r now next.Call at h = call_stage t u p a x (read_step x.stage now r) (read_result (read_step x.stage now r)) refl at (step_asks x.request x.stage now r at.2) (h.told (λ e. cc))
+call_left t u p a x r now next.Call at h = call_stage t u p a x (read_step x.stage now r) (read_result (read_step x.stage now r)) refl at (step_asks x.request x.stage now r at.2) (h.answered (λ e. cc))
 call_left t u p a x r now (next.Answer z) at h = by (memory_or z)
   where
     by : (z ≡ answer.NoMemory) ⊎ (z ≢ answer.NoMemory) → u.doing ≡ doing.Idle
     by (inl e) = ap (λ (v : TxnAt). v.doing) (h.memory (ap next.Answer e))
-    by (inr n) = answer_stage t u p a x (read_step x.stage now r) (read_result (read_step x.stage now r)) z (h.told (answer_apart z n))
+    by (inr n) = answer_stage t u p a x (read_step x.stage now r) (read_result (read_step x.stage now r)) z (h.answered (answer_apart z n))
 call_left t u p a x r now (next.End z) at h = tt
 
 -- the plan of a statement whose read goes on is the same
@@ -96,22 +89,22 @@ none_ended (Some (outcome.BadRecord key)) e = absurd (cc)
 none_ended (Some outcome.NoMemory) e = absurd (cc)
 
 goes_on : (d : Doing) (k : CommitAt) (r : Reply) → IsCommitPending k.work k.stage → ended_at (commit_step k.work k.stage r) ≡ None → IsCommitting d (λ m. (m.work ≡ k.work) × IsNext k.work k.stage r m.stage) → IsUnder d None
-goes_on (doing.Commit m) k r going e h = subst (λ (p : Work). IsCommitPending p m.stage) (sym h.0) (commit_goes k.work k.stage r m.stage going h.1 e)
-goes_on doing.Idle k r going e h = absurd h
-goes_on (doing.Read a x) k r going e h = absurd h
-goes_on doing.Over k r going e h = absurd h
+goes_on (doing.Commit m) k r running e h = subst (λ (p : Work). IsCommitPending p m.stage) (sym h.0) (commit_goes k.work k.stage r m.stage running h.1 e)
+goes_on doing.Idle k r running e h = absurd h
+goes_on (doing.Read a x) k r running e h = absurd h
+goes_on doing.Over k r running e h = absurd h
 
 told_left : (t u : TxnAt) (k : CommitAt) (r : Reply) (g : Progress) → IsCommitPending k.work k.stage → CommitPost t k r g u → IsLeft (next_of g) u None
-told_left t u k r progress.More going h = goes_on u.doing k r going (none_ended (ended_at (commit_step k.work k.stage r)) h.answer) (h.next refl)
-told_left t u k r (progress.Rows rows) going h = tt
-told_left t u k r (progress.Busy key id m) going h = tt
-told_left t u k r progress.Faulted going h = tt
-told_left t u k r (progress.BadRecord key) going h = tt
-told_left t u k r progress.NoMemory going h = tt
-told_left t u k r (progress.Conflict key found) going h = tt
-told_left t u k r progress.Committed going h = tt
-told_left t u k r (progress.Expired id) going h = tt
-told_left t u k r (progress.Unknown id) going h = tt
+told_left t u k r progress.More running h = goes_on u.doing k r running (none_ended (ended_at (commit_step k.work k.stage r)) h.answer) (h.next refl)
+told_left t u k r (progress.Rows rows) running h = tt
+told_left t u k r (progress.Busy key id m) running h = tt
+told_left t u k r progress.Faulted running h = tt
+told_left t u k r (progress.BadRecord key) running h = tt
+told_left t u k r progress.NoMemory running h = tt
+told_left t u k r (progress.Conflict key found) running h = tt
+told_left t u k r progress.Committed running h = tt
+told_left t u k r (progress.Expired id) running h = tt
+told_left t u k r (progress.Unknown id) running h = tt
 
 pub commit_left : (d : Doing) (t u : TxnAt) (o : Option Planned) (r : Reply) (g : Progress) (n : Next) → IsSome (pending_in d) → o ≡ None → n ≡ next_of g → IsUnder d o → IfCommitting d (λ k. CommitPost t k r g u) → IsLeft n u None
 commit_left d t u o r g n asks is same under h = subst (λ (m : Next). IsLeft m u None) (sym same) (by d asks (subst (IsUnder d) is under) h)
@@ -132,4 +125,4 @@ after_is c (next.End z) u q same = refl
 pub reply_told : (c d : ClientAt) (t o : Option TxnAt) (q : Option Planned) (r : Reply) (now : ℤ) (n : Next) (result : Option Answer) → OpenNext t c.plan r now n o → (n ≡ next.Call → q ≡ c.plan) → result ≡ answer_in n → d ≡ record c { txn = txn_after o n; plan = plan_after q n } → OpenTxnPost c t r now result d
 reply_told c d None o q r now n result h same answers is = absurd h
 reply_told c d (Some t) None q r now n result h same answers is = absurd h
-reply_told c d (Some t) (Some u) q r now n result h same answers is = record { next = n; left = u; told = h; answer = answers; client = is ∙ after_is c n u q same }
+reply_told c d (Some t) (Some u) q r now n result h same answers is = record { next = n; left = u; answered = h; answer = answers; client = is ∙ after_is c n u q same }

@@ -6,3 +6,5 @@ pub mod Taken
 pub mod Left
 pub mod Pending
 pub mod Waits
+pub mod Fresh
+pub mod Paths

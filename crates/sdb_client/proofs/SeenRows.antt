@@ -8,9 +8,7 @@ use Rattle.std.specs.Cmp.{tied_itself}
 use Rattle.std.specs.FinMap.{entries, entries_sorted, find, get, get-entries, is_sorted}
 use Rattle.std.specs.FinMap.Entries.{below_all}
 use Rattle.std.proofs.lemmas.Bool.{and_parts}
-use Rattle.sdb_types.specs.declared.key.Key.{Key}
-use Rattle.sdb_types.specs.declared.pair.Pair.{Pair}
-use Rattle.sdb_types.specs.declared.record.Record.{Record}
+use Rattle.sdb_client.specs.Types.{Access, Change, Image, Key, Pair, Record, Write}
 use Rattle.sdb_types.specs.Order.{key_cmp, same_key}
 use Rattle.sdb_types.specs.Columns.{are_columns}
 use Rattle.sdb_types.proofs.Bools.{and_first}
@@ -18,11 +16,7 @@ use Rattle.sdb_types.proofs.KeyOrder.{key_total}
 use Rattle.sdb_record.proofs.ColumnLaws.{are_columns-filter}
 use Rattle.sdb_record.specs.Parts.{are_stored, is_user_pair, user_columns}
 use Rattle.sdb_record.specs.Rolls.{IsBaseOf, is_change, is_tombstone, row_of_change, row_of_image}
-use Rattle.sdb_record.specs.declared.access.Access.{Access}
-use Rattle.sdb_record.specs.declared.access.Image.{Image}
-use Rattle.sdb_record.specs.declared.write.Change.{Change}
 use Rattle.sdb_record.specs.declared.write.Change.TheVariants as change
-use Rattle.sdb_record.specs.declared.write.Write.{Write}
 use Rattle.sdb_record.specs.Among.{write_among}
 use Rattle.sdb_model.specs.Exec.{Tables, row_of_entry}
 use Rattle.sdb_model.specs.Access.{in_access, rows_at}

@@ -1,12 +1,9 @@
 -- What the taking of a statement rests on.
 use Rattle.std.proofs.Common.{◌≡◌, ◌≢◌, ℕ, true, List, Option, Some, None, Err, refl, sym, ap, subst, ◌∙◌, ◌⊎◌, inl, inr}
 use Rattle.std.specs.Prelude.{IfSome}
-use Rattle.sdb_schema.specs.declared.table.Table.{Table}
+use Rattle.sdb_client.specs.Types.{Answer, Refusal, Statement, Table}
 use Rattle.sdb_schema.specs.Catalog.{is_catalog}
-use Rattle.sdb_model.specs.declared.answer.Answer.{Answer}
 use Rattle.sdb_model.specs.declared.answer.Answer.TheVariants as answer
-use Rattle.sdb_model.specs.declared.answer.Refusal.{Refusal}
-use Rattle.sdb_model.specs.declared.statement.Statement.{Statement}
 use Rattle.sdb_model.specs.Refused.{refusal_by, refusal_on}
 use Rattle.sdb_model.specs.Sql.{Refuses}
 use Rattle.sdb_exec.specs.Plans.{Planned, has_all_literals}
@@ -57,12 +54,12 @@ pub plan_fine : (catalog : List Table) (st : Statement) (p : Planned) → is_cat
 plan_fine catalog st p is whole h = record {
   asked = h.asked;
   table = named_is_table catalog st p.table is h.table;
-  taken = subst (λ (s : Statement). refusal_on p.table s ≡ None) (sym h.statement) (ap (λ (o : Option Table). refusal_by o st) (sym h.table) ∙ h.taken);
+  accepted = subst (λ (s : Statement). refusal_on p.table s ≡ None) (sym h.statement) (ap (λ (o : Option Table). refusal_by o st) (sym h.table) ∙ h.accepted);
   literals = subst (λ (s : Statement). has_all_literals s ≡ true) (sym h.statement) whole;
 }
 
 ---- texts
 
 pub unread_told : (q : Taking) (text : List ℕ) (o : Option Refusal) (z : Answer) (c d : ClientAt) → IfSome o (Refuses text) → IfSome o (λ r. (z ≡ answer.Refused r) × (d ≡ c)) → (o ≡ None → (z ≡ answer.NoMemory)) → Some z ≢ Some answer.NoMemory → TextPost q text c (Some z) d
-unread_told q text None z c d refuses told memory n = absurd (n (ap Some (memory refl)))
-unread_told q text (Some r) z c d refuses told memory n = (Err r, refuses, record { answer = ap Some told.0; same = told.1 })
+unread_told q text None z c d refuses answered memory n = absurd (n (ap Some (memory refl)))
+unread_told q text (Some r) z c d refuses answered memory n = (Err r, refuses, record { answer = ap Some answered.0; same = answered.1 })

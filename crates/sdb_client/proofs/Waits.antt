@@ -1,9 +1,8 @@
 -- A client without a pending call waits for a statement.
 use Rattle.std.proofs.Common.{◌≡◌, Option, Some, None, refl, subst}
 use Rattle.std.specs.Prelude.{IfSome, IsSome}
-use Rattle.sdb_types.specs.declared.record.Request.{Request}
+use Rattle.sdb_client.specs.Types.{Doing, Request}
 use Rattle.sdb_exec.specs.Plans.{Planned}
-use Rattle.sdb_txn.specs.declared.txn.Doing.{Doing}
 use Rattle.sdb_txn.specs.declared.txn.Doing.TheVariants as doing
 use Rattle.sdb_txn.specs.Txn.{TxnAt, pending_in}
 use Rattle.sdb_vacuum.specs.Vacuum.{VacuumAt}

@@ -5,21 +5,15 @@ use Rattle.std.specs.Option.{option_map}
 use Rattle.std.specs.Ordering.{is_eq}
 use Rattle.std.specs.List.{AllByRecursion, list_all}
 use Rattle.std.proofs.lemmas.Bool.{and_parts}
-use Rattle.sdb_types.specs.declared.key.Key.{Key}
-use Rattle.sdb_types.specs.declared.pair.Pair.{Pair}
+use Rattle.sdb_client.specs.Types.{Change, Image, Key, Keyed, Pair, Statement, Table}
 use Rattle.sdb_types.specs.Order.{key_cmp}
 use Rattle.sdb_types.specs.Columns.{are_columns}
 use Rattle.sdb_types.proofs.Bools.{and_both}
 use Rattle.sdb_record.specs.Parts.{are_user_columns}
 use Rattle.sdb_record.specs.Rolls.{is_change}
-use Rattle.sdb_record.specs.declared.access.Image.{Image}
-use Rattle.sdb_record.specs.declared.write.Change.{Change}
 use Rattle.sdb_record.specs.declared.write.Change.TheVariants as change
-use Rattle.sdb_record.specs.declared.write.Keyed.{Keyed}
-use Rattle.sdb_schema.specs.declared.table.Table.{Table}
 use Rattle.sdb_schema.specs.Table.{is_table}
 use Rattle.sdb_schema.specs.Rows.{fits_table}
-use Rattle.sdb_model.specs.declared.statement.Statement.{Statement}
 use Rattle.sdb_model.specs.declared.statement.Statement.TheVariants as statement
 use Rattle.sdb_model.specs.Exec.{key_of, passes, with_sets}
 use Rattle.sdb_exec.specs.Plans.{Planned, change_is_well_typed, changes_on, columns_at, finished, first_unfit, is_unfit, put_row, step_at, step_of}
@@ -94,7 +88,7 @@ all_fit t (r ∷ rs) h =
 of_unfit : (read_set : List ReadRecord) (p : Planned) (rows : List Image) (o : Option Key) → IsValidPlan p → AllByRecursion (IsSeenRow read_set) rows → IsKeyRead read_set (access_of p.table p.statement) → first_unfit p.table rows ≡ o → MayWrite read_set (finished p.table p.statement rows o)
 of_unfit read_set p rows (Some key) valid h read e = tt
 of_unfit read_set p rows None valid h read e =
-    are_changes read_set p.table valid.table (changes_on p.table p.statement rows) (changes_seen read_set p.table p.statement rows h read) (changes_fit p.table p.statement rows valid.literals valid.taken (all_fit p.table rows e))
+    are_changes read_set p.table valid.table (changes_on p.table p.statement rows) (changes_seen read_set p.table p.statement rows h read) (changes_fit p.table p.statement rows valid.literals valid.accepted (all_fit p.table rows e))
 
 pub may_write : (s : Seen) (p : Planned) → IsValidPlan p → IsSetInvariant s.read_set s.writes → IsKeyRead s.read_set (access_of p.table p.statement) → MayWrite s.read_set (step_of p (overlay (access_of p.table p.statement) s))
 may_write s p valid kept read =

@@ -1,41 +1,26 @@
 -- A client, and where each statement and each reply leads it.
 use Rattle.std.specs.Prelude.{◌≡◌, ◌≢◌, ℕ, ℤ, ◌+◌, nat_lt, Bool, true, false, not, ◌&&◌, ◌||◌, if◌then◌else◌, List, [], ◌∷◌, length, Option, Some, None, IfSome, IsSome, IsSomeAnd, ◌⊎◌, is_some, Result, Ok, Err, slice_get}
-use Rattle.sdb_types.specs.declared.txid.TxId.{TxId}
-use Rattle.sdb_types.specs.declared.key.Key.{Key}
-use Rattle.sdb_types.specs.declared.record.Record.{Record}
-use Rattle.sdb_types.specs.declared.record.Reply.{Reply}
-use Rattle.sdb_types.specs.declared.record.Request.{Request}
-use Rattle.sdb_record.specs.declared.access.Access.{Access}
+use Rattle.sdb_client.specs.Types.{Access, Answer, Doing, Key, Keyed, PlanStep, Progress, ReadStep, Record, Refusal, Reply, Request, Statement, Table, TxId, VacuumStep}
 use Rattle.sdb_record.specs.declared.access.Access.TheVariants as access
-use Rattle.sdb_record.specs.declared.write.Keyed.{Keyed}
-use Rattle.sdb_schema.specs.declared.table.Table.{Table}
-use Rattle.sdb_model.specs.declared.answer.Answer.{Answer}
 use Rattle.sdb_model.specs.declared.answer.Answer.TheVariants as answer
-use Rattle.sdb_model.specs.declared.answer.Refusal.{Refusal}
-use Rattle.sdb_model.specs.declared.statement.Statement.{Statement}
 use Rattle.sdb_model.specs.declared.statement.Statement.TheVariants as statement
 use Rattle.sdb_model.specs.Causes.{refused}
 use Rattle.sdb_model.specs.Exec.{named_table}
 use Rattle.sdb_model.specs.Refused.{refusal_of}
 use Rattle.sdb_model.specs.Sql.{Reads, Refuses, reads_commit}
 use Rattle.sdb_model.specs.Transactions.{changes_nothing, id_of}
-use Rattle.sdb_exec.specs.declared.plan.PlanStep.{PlanStep}
 use Rattle.sdb_exec.specs.declared.plan.PlanStep.TheVariants.{Finished, Read as Wants}
 use Rattle.sdb_exec.specs.Plans.{Planned, step_of}
 use Rattle.sdb_model.specs.Reads.{access_of}
-use Rattle.sdb_commit.specs.Phases.{CommitAt}
-use Rattle.sdb_read.specs.declared.read.ReadStep.{ReadStep}
-use Rattle.sdb_read.specs.declared.read.ReadStep.TheVariants as step
-use Rattle.sdb_read.specs.Read.{ReadAt, ReadStage, read_result, read_step}
+use Rattle.sdb_txn.specs.Phases.{CommitAt}
+use Rattle.sdb_txn.specs.declared.read.ReadStep.TheVariants as step
+use Rattle.sdb_txn.specs.Read.{ReadAt, ReadStage, read_result, read_step}
 use Rattle.sdb_snapshot.specs.Reads.{IsFirstDifference, IsUnmoved, is_key_read}
 use Rattle.sdb_snapshot.specs.Seen.{Seen, is_scanned, overlay, with_get, with_scan, with_written}
 use Rattle.sdb_snapshot.specs.Written.{most_writes}
-use Rattle.sdb_txn.specs.declared.progress.Progress.{Progress}
 use Rattle.sdb_txn.specs.declared.progress.Progress.TheVariants as progress
-use Rattle.sdb_txn.specs.declared.txn.Doing.{Doing}
 use Rattle.sdb_txn.specs.declared.txn.Doing.TheVariants as doing
 use Rattle.sdb_txn.specs.Txn.{TxnAt, CommitPost, begun, committing, idle, pending, reading}
-use Rattle.sdb_vacuum.specs.declared.work.VacuumStep.{VacuumStep}
 use Rattle.sdb_vacuum.specs.declared.work.VacuumStep.TheVariants as vacuuming
 use Rattle.sdb_vacuum.specs.Vacuum.{VacuumAt, Gives, begun as sweeping, vacuum_pending, vacuum_step}
 use Rattle.sdb_client.specs.declared.gate.Gate.{Gate}
@@ -127,9 +112,9 @@ abbrev pub is_covered : Seen → Access → Bool
 is_covered s (access.Get key) = is_key_read s.read_set key
 is_covered s (access.Scan span) = is_scanned s.scans span
 
----- a statement that is taken
+---- a statement that is accepted
 
--- What a statement is taken with: the catalog, the moment, what other clients do, and the id of a transaction that it begins.
+-- What a statement is accepted with: the catalog, the moment, what other clients do, and the id of a transaction that it begins.
 pub record Taking : Type 0 where
   pub catalog : List Table
   pub now : ℤ
@@ -214,7 +199,7 @@ TextPost q text c result d = (x : Result Statement Refusal) × Parses text x × 
 abbrev pub out_of_memory : List ℕ → ClientAt → ClientAt
 out_of_memory text c = if reads_commit text then resting c else c
 
----- a reply that is taken
+---- a reply that is accepted
 
 -- the transaction with what a read has found
 abbrev pub with_rows_read : TxnAt → Access → List Record → TxnAt
@@ -250,7 +235,7 @@ StagePost t p a x after step.NoMemory n u = ⊥
 -- A reply leads a statement where the definition of its read says; or it is out of memory, and has recorded no read.
 pub record CallPost (t : TxnAt) (p : Planned) (a : Access) (x : ReadAt) (r : Reply) (now : ℤ) (n : Next) (u : TxnAt) : Type 0 where
   pub memory : n ≡ next.Answer answer.NoMemory → u ≡ idle t
-  pub told : n ≢ next.Answer answer.NoMemory → StagePost t p a x (read_step x.stage now r) (read_result (read_step x.stage now r)) n u
+  pub answered : n ≢ next.Answer answer.NoMemory → StagePost t p a x (read_step x.stage now r) (read_result (read_step x.stage now r)) n u
 
 -- the answer of a COMMIT's call; none where another is pending
 abbrev pub next_of : Progress → Next
@@ -280,7 +265,7 @@ after c (next.End a) u = resting c
 -- A call of a COMMIT leads where the definition of a COMMIT says, and its answer ends the transaction.
 pub record CommitNext (t : TxnAt) (k : CommitAt) (r : Reply) (n : Next) (u : TxnAt) : Type 0 where
   pub progress : Progress
-  pub told : CommitPost t k r progress u
+  pub answered : CommitPost t k r progress u
   pub next : n ≡ next_of progress
 
 -- What a reply leads to, by what the transaction does.
@@ -293,7 +278,7 @@ NextPost t d p r now n u = ⊥
 pub record TxnPost (c : ClientAt) (t : TxnAt) (r : Reply) (now : ℤ) (result : Option Answer) (d : ClientAt) : Type 0 where
   pub next : Next
   pub left : TxnAt
-  pub told : NextPost t t.doing c.plan r now next left
+  pub answered : NextPost t t.doing c.plan r now next left
   pub answer : result ≡ answer_in next
   pub client : d ≡ after c next left
 
@@ -318,7 +303,7 @@ vacuum_left s v = None
 pub record VacuumPost (v : VacuumAt) (r : Reply) (now : ℤ) (result : Option Answer) (w : Option VacuumAt) : Type 0 where
   pub step : VacuumStep
   pub left : VacuumAt
-  pub told : Gives (vacuum_step v now r) left step
+  pub answered : Gives (vacuum_step v now r) left step
   pub answer : result ≡ answer_of step
   pub goes : w ≡ vacuum_left step left
 
@@ -330,4 +315,4 @@ ReplyPost c None r now result d = OpenTxnPost c c.txn r now result d
 -- What the taking of a text by a client comes to: that, or out of memory.
 pub record TextStep (q : Taking) (text : List ℕ) (c : ClientAt) (result : Option Answer) (d : ClientAt) : Type 0 where
   pub memory : result ≡ Some answer.NoMemory → d ≡ out_of_memory text c
-  pub told : result ≢ Some answer.NoMemory → TextPost q text c result d
+  pub answered : result ≢ Some answer.NoMemory → TextPost q text c result d

@@ -1,32 +1,23 @@
 -- The representation invariant of a client.
 use Rattle.std.specs.Prelude.{◌≡◌, ◌<◌, ◌≤◌, ℤ, length, IsSome, IsSomeAnd, true, false, List, Option, Some, None}
-use Rattle.sdb_types.specs.declared.record.Reply.{Reply}
-use Rattle.sdb_types.specs.declared.record.Request.{Request}
-use Rattle.sdb_schema.specs.declared.table.Table.{Table}
+use Rattle.sdb_client.specs.Types.{Access, Answer, Doing, Image, PlanStep, Progress, Reply, Request, Statement, Table}
 use Rattle.sdb_schema.specs.Table.{is_table}
-use Rattle.sdb_model.specs.declared.statement.Statement.{Statement}
 use Rattle.sdb_model.specs.Exec.{named_table}
 use Rattle.sdb_model.specs.Refused.{refusal_of, refusal_on}
-use Rattle.sdb_exec.specs.declared.plan.PlanStep.{PlanStep}
 use Rattle.sdb_exec.specs.declared.plan.PlanStep.TheVariants.{Finished, Read as Wants}
 use Rattle.sdb_exec.specs.Plans.{Planned, has_all_literals}
 use Rattle.sdb_model.specs.Reads.{access_of}
-use Rattle.sdb_record.specs.declared.access.Image.{Image}
 use Rattle.sdb_phases.specs.Work.{Work}
 use Rattle.sdb_phases.specs.Checks.{checks}
 use Rattle.sdb_phases.specs.Steps.{decide_request_at}
 use Rattle.sdb_phases.specs.Commit.{Stage, Preparing, Checking, Deciding, Forward, Stopping, Back, Over}
-use Rattle.sdb_read.specs.Read.{read_pending}
+use Rattle.sdb_txn.specs.Read.{read_pending}
 use Rattle.sdb_snapshot.specs.Reads.{ReadRecord, is_key_read}
 use Rattle.sdb_snapshot.specs.Written.{AreChanges}
-use Rattle.sdb_txn.specs.declared.progress.Progress.{Progress}
 use Rattle.sdb_txn.specs.declared.progress.Progress.TheVariants as progress
-use Rattle.sdb_txn.specs.declared.txn.Doing.{Doing}
 use Rattle.sdb_txn.specs.declared.txn.Doing.TheVariants as doing
 use Rattle.sdb_txn.specs.Txn.{TxnAt, reading}
-use Rattle.sdb_record.specs.declared.access.Access.{Access}
 use Rattle.sdb_record.specs.declared.access.Access.TheVariants as access
-use Rattle.sdb_model.specs.declared.answer.Answer.{Answer}
 use Rattle.sdb_model.specs.declared.statement.Statement.TheVariants as statement
 use Rattle.sdb_client.specs.declared.next.Next.{Next}
 use Rattle.sdb_client.specs.declared.next.Next.TheVariants as next
@@ -37,7 +28,7 @@ use Rattle.sdb_client.specs.Client.{ClientAt, NextPost, given_answer, given_left
 pub record IsValidPlan (p : Planned) : Type 0 where
   pub asked : p.asked ≡ true
   pub table : is_table p.table ≡ true
-  pub taken : refusal_on p.table p.statement ≡ None
+  pub accepted : refusal_on p.table p.statement ≡ None
   pub literals : has_all_literals p.statement ≡ true
 
 -- the plan of a statement that the catalog doesn't refuse
@@ -45,7 +36,7 @@ pub record IsPlanOf (catalog : List Table) (st : Statement) (p : Planned) : Type
   pub table : named_table catalog st ≡ Some p.table
   pub statement : p.statement ≡ st
   pub asked : p.asked ≡ true
-  pub taken : refusal_of catalog st ≡ None
+  pub accepted : refusal_of catalog st ≡ None
 
 -- what a plan gives may be written
 abbrev pub MayWrite : List ReadRecord → PlanStep → Type 0

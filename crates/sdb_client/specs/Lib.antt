@@ -1,2 +1,4 @@
+pub mod Types
 pub mod Client
 pub mod Inside
+pub mod Execution

@@ -18,7 +18,7 @@ fn read_took(txn: &mut Txn, plan: &mut Plan, reply: Reply, now: i64) -> Next
     requires at { IsReadOf txn.old.doing plan.old }
     requires pending { IsSome (pending txn.old) }
     requires reply { CanGet (pending txn.old) reply }
-    ensures told { IfReading txn.old.doing (λ a x. CallPost txn.old plan.old a x reply now result txn.new) }
+    ensures answered { IfReading txn.old.doing (λ a x. CallPost txn.old plan.old a x reply now result txn.new) }
     ensures plan { result ≡ Next.Call → plan.new ≡ plan.old }
 {
     let mark = txn.mark();
@@ -39,7 +39,7 @@ fn took(txn: &mut Txn, plan: &mut Option<Plan>, reply: Reply, now: i64) -> Next
     requires under { IsUnder txn.old.doing plan.old }
     requires pending { IsSome (pending txn.old) }
     requires reply { CanGet (pending txn.old) reply }
-    ensures told { NextPost txn.old txn.old.doing plan.old reply now result txn.new }
+    ensures answered { NextPost txn.old txn.old.doing plan.old reply now result txn.new }
     ensures left { IsLeft result txn.new plan.new }
     ensures plan { result ≡ Next.Call → plan.new ≡ plan.old }
 {
@@ -54,7 +54,7 @@ pub fn take_reply(txn: &mut Option<Txn>, plan: &mut Option<Plan>, reply: Reply, 
     requires client { IsClient txn.old plan.old }
     requires pending { IsSome (pending_of txn.old) }
     requires reply { CanGet (pending_of txn.old) reply }
-    ensures told { OpenNext txn.old plan.old reply now result txn.new }
+    ensures answered { OpenNext txn.old plan.old reply now result txn.new }
     ensures client { IsClient (txn_after txn.new result) (plan_after plan.new result) }
     ensures plan { result ≡ Next.Call → plan.new ≡ plan.old }
 {

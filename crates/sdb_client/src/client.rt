@@ -16,8 +16,7 @@ use crate::vacuum::vacuum_advance;
 use sdb_exec::Plan;
 use sdb_model::{Answer, Statement};
 use sdb_schema::Catalog;
-use sdb_sqltext::{ParseRefused, parse_statement};
-use sdb_sqltokens::reads_commit;
+use sdb_sqltext::{ParseRefused, parse_statement, reads_commit};
 use sdb_txn::{Progress, Txn};
 use sdb_types::{Reply, Request, TxId, Txt};
 use sdb_vacuum::Vacuum;
@@ -142,7 +141,7 @@ impl Client {
         requires idle { IsIdle self.old }
         requires short { length text.now < 2 ^ 32 }
         ensures memory { result ≡ Some answer.NoMemory → self.new ≡ out_of_memory text.now self.old }
-        ensures told { result ≢ Some answer.NoMemory → TextPost (record { catalog = catalog.now; now = now; gate = gate; fresh = fresh }) text.now self.old result self.new }
+        ensures answered { result ≢ Some answer.NoMemory → TextPost (record { catalog = catalog.now; now = now; gate = gate; fresh = fresh }) text.now self.old result self.new }
     {
         match parse_statement(self.alloc, text.as_str()) {
             Ok(statement) => self.take_statement(catalog, &statement, gate, fresh, now),
@@ -155,7 +154,7 @@ impl Client {
         requires idle { IsIdle self.old }
         requires place { IfSome (refusal_of refused) (λ r. r.place < 2 ^ 32) }
         ensures memory { refusal_of refused ≡ None → (result ≡ answer.NoMemory) × (self.new ≡ out_of_memory text.now self.old) }
-        ensures told { IfSome (refusal_of refused) (λ r. (result ≡ answer.Refused r) × (self.new ≡ self.old)) }
+        ensures answered { IfSome (refusal_of refused) (λ r. (result ≡ answer.Refused r) × (self.new ≡ self.old)) }
     {
         match refused.refusal() {
             Some(refusal) => Answer::Refused(refusal),
@@ -180,7 +179,7 @@ impl Client {
         requires idle { IsIdle self.old }
         requires literals { has_all_literals statement.now ≡ true }
         ensures memory { result ≡ Some answer.NoMemory → self.new ≡ left_by statement.now self.old }
-        ensures told { result ≢ Some answer.NoMemory → StatementPost (record { catalog = catalog.now; now = now; gate = gate; fresh = fresh }) statement.now self.old result self.new }
+        ensures answered { result ≢ Some answer.NoMemory → StatementPost (record { catalog = catalog.now; now = now; gate = gate; fresh = fresh }) statement.now self.old result self.new }
     {
         match statement {
             Statement::Begin => Some(self.begin(gate, fresh)),
@@ -194,7 +193,7 @@ impl Client {
     fn begin(&mut self, gate: Gate, fresh: TxId) -> Answer
         requires idle { IsIdle self.old }
         ensures memory { result ≡ answer.NoMemory → self.new ≡ self.old }
-        ensures told { result ≢ answer.NoMemory → BeginPost gate fresh self.old self.old.txn (Some result) self.new }
+        ensures answered { result ≢ answer.NoMemory → BeginPost gate fresh self.old self.old.txn (Some result) self.new }
     {
         if self.txn.is_some() {
             return refused(4);
@@ -217,7 +216,7 @@ impl Client {
     fn commit(&mut self, now: i64) -> Option<Answer>
         requires idle { IsIdle self.old }
         ensures memory { result ≡ Some answer.NoMemory → self.new ≡ resting self.old }
-        ensures told { result ≢ Some answer.NoMemory → CommitStartPost now self.old self.old.txn result self.new }
+        ensures answered { result ≢ Some answer.NoMemory → CommitStartPost now self.old self.old.txn result self.new }
     {
         match &mut self.txn {
             Some(txn) => match txn.commit(now) {
@@ -234,7 +233,7 @@ impl Client {
     fn rollback(&mut self) -> Answer
         requires idle { IsIdle self.old }
         ensures some { result ≢ answer.NoMemory }
-        ensures told { RollbackPost self.old self.old.txn (Some result) self.new }
+        ensures answered { RollbackPost self.old self.old.txn (Some result) self.new }
     {
         match self.txn.take() {
             Some(txn) => {
@@ -249,7 +248,7 @@ impl Client {
     fn vacuum(&mut self, catalog: &Catalog, gate: Gate) -> Option<Answer>
         requires idle { IsIdle self.old }
         ensures memory { result ≡ Some answer.NoMemory → self.new ≡ self.old }
-        ensures told { result ≢ Some answer.NoMemory → VacuumStartPost (is_some self.old.txn || gate.open_elsewhere) catalog.now self.old result self.new }
+        ensures answered { result ≢ Some answer.NoMemory → VacuumStartPost (is_some self.old.txn || gate.open_elsewhere) catalog.now self.old result self.new }
     {
         if self.is_open() || gate.open_elsewhere {
             return Some(Answer::OpenTransactions);
@@ -262,7 +261,7 @@ impl Client {
         requires idle { IsIdle self.old }
         requires closed { self.old.txn ≡ None }
         ensures memory { result ≡ Some answer.NoMemory → self.new ≡ self.old }
-        ensures told { result ≢ Some answer.NoMemory → VacuumStartPost false catalog.now self.old result self.new }
+        ensures answered { result ≢ Some answer.NoMemory → VacuumStartPost false catalog.now self.old result self.new }
     {
         if catalog.len() == 0 {
             return Some(Answer::Count(0));
@@ -281,7 +280,7 @@ impl Client {
         requires idle { IsIdle self.old }
         requires literals { has_all_literals statement.now ≡ true }
         ensures memory { result ≡ Some answer.NoMemory → self.new ≡ self.old }
-        ensures told { result ≢ Some answer.NoMemory → AskPost catalog.now statement.now self.old self.old.txn result self.new }
+        ensures answered { result ≢ Some answer.NoMemory → AskPost catalog.now statement.now self.old self.old.txn result self.new }
     {
         match &mut self.txn {
             Some(txn) => ask(self.alloc, txn, &mut self.plan, catalog, statement),

@@ -8,7 +8,13 @@ mod finish;
 mod gate;
 mod next;
 mod plan;
+mod slot;
+mod slots;
+mod stored;
 mod vacuum;
 
 pub use client::Client;
 pub use gate::Gate;
+pub use slot::ClientSlot;
+pub use slots::{fresh_slots, gate_at};
+pub use stored::prove_order;

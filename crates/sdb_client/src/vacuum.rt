@@ -27,7 +27,7 @@ fn advance(vacuum: &mut Option<Vacuum>, reply: Reply, now: i64) -> VacuumStep
 pub fn vacuum_advance(vacuum: &mut Option<Vacuum>, reply: Reply, now: i64) -> Option<Answer>
     requires pending { IsSome (vacuum_asked vacuum.old) }
     requires reply { CanGet (vacuum_asked vacuum.old) reply }
-    ensures told { IfSome vacuum.old (λ v. VacuumPost v reply now result vacuum.new) }
+    ensures answered { IfSome vacuum.old (λ v. VacuumPost v reply now result vacuum.new) }
     ensures asks { IfSome vacuum.new (λ w. IsSome (vacuum_pending w)) }
 {
     let step = advance(vacuum, reply, now);

@@ -6,11 +6,7 @@ use Rattle.std.proofs.lemmas.Bool.{eqb-true}
 use Rattle.std.proofs.lemmas.Bool.Decides.{nat_tests}
 use Rattle.std.proofs.lemmas.List.{append-nil, nil_from_length, length-append}
 use Rattle.std.proofs.lemmas.List.Elements.{All-from_recursion}
-use Rattle.sdb_types.specs.declared.value.Value.{Value}
-use Rattle.sdb_types.specs.declared.pair.Pair.{Pair}
-use Rattle.sdb_types.specs.declared.key.Key.{Key}
-use Rattle.sdb_types.specs.declared.key.TableName.{TableName}
-use Rattle.sdb_types.specs.declared.record.Record.{Record}
+use Rattle.sdb_codec.specs.Types.{Key, Pair, Record, TableName, Value}
 use Rattle.sdb_types.specs.Identifier.{is_part, is_identifier, is_name}
 use Rattle.sdb_types.specs.Order.{table_text}
 use Rattle.sdb_types.specs.Columns.{is_null, starts_above, are_columns}

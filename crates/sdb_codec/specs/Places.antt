@@ -6,9 +6,8 @@ use Rattle.std.specs.List.{flat_map}
 use Rattle.std.specs.Str.{IsUtf8}
 use Rattle.std.specs.Ordering.{is_lt}
 use Rattle.std.specs.Int.{w16, to_be_bytes}
-use Rattle.sdb_types.specs.declared.value.Value.{Value}
+use Rattle.sdb_codec.specs.Types.{TableName, Value}
 use Rattle.sdb_types.specs.declared.value.Value.TheVariants as value
-use Rattle.sdb_types.specs.declared.key.TableName.{TableName}
 use Rattle.sdb_types.specs.Identifier.{is_name}
 use Rattle.sdb_types.specs.Columns.{is_null}
 use Rattle.sdb_types.specs.Order.{name_cmp, table_text}

@@ -1,7 +1,6 @@
 //! Laws of the spelling of records and keys.
 ghost use Rattle.std.specs.Prelude.{◌≡◌, ℕ, List};
-ghost use Rattle.sdb_types.specs.declared.key.Key.{Key};
-ghost use Rattle.sdb_types.specs.declared.record.Record.{Record};
+ghost use Rattle.sdb_codec.specs.Types.{Key, Record};
 ghost use Rattle.sdb_types.specs.Fits.{key_fits, record_fits};
 ghost use Rattle.sdb_codec.specs.Spelling.{key_bytes, record_bytes, KeyIsEncodable, RecordIsEncodable};
 ghost use Rattle.sdb_codec.specs.Places.{Due, IsFirstWrong};

@@ -7,21 +7,14 @@ use Rattle.std.specs.Ordering.{is_eq}
 use Rattle.std.proofs.lemmas.Option.{slice_get_within}
 use Rattle.std.proofs.Math.Numerals.{add-one}
 use Rattle.std.proofs.lemmas.List.{length-map, length-take-le, map-append}
-use Rattle.sdb_types.specs.declared.key.Key.{Key}
-use Rattle.sdb_types.specs.declared.key.TableName.{TableName}
-use Rattle.sdb_types.specs.declared.txid.TxId.{TxId}
-use Rattle.sdb_types.specs.declared.record.Record.{Record}
+use Rattle.sdb_contents.specs.Types.{Decided, Key, Place, Record, Table, TableDump, TableName, TxId}
 use Rattle.sdb_types.specs.Contents.{are_rows_of, in_span, rise}
 use Rattle.sdb_types.specs.Exact.{equal_of}
 use Rattle.sdb_types.specs.Order.{table_cmp}
 use Rattle.sdb_types.proofs.Bools.{and_first, and_second}
 use Rattle.sdb_types.proofs.KeyOrder.{table_exact}
-use Rattle.sdb_record.specs.declared.coordinator.Decided.{Decided}
 use Rattle.sdb_record.specs.Coordinator.{coordinator_table, is_coordinator_table}
-use Rattle.sdb_schema.specs.declared.table.Table.{Table}
 use Rattle.sdb_stores.specs.Views.{Attached}
-use Rattle.sdb_types.specs.declared.place.Place.{Place}
-use Rattle.sdb_model.specs.declared.event.TableDump.{TableDump}
 use Rattle.sdb_model.specs.Events.{StoreContents}
 use Rattle.sdb_model.specs.Exec.{find_table}
 use Rattle.sdb_model.specs.Images.{decision_at}
@@ -214,7 +207,7 @@ row_odd catalog stores rows key found of first =
     let named = unlike_of coordinator_table is_decided rows key of first in
     let decide = decision_at stores.places (contents_of_views stores.views) in
     record {
-      played = coordinator_played catalog key.table named;
+      correct = coordinator_played catalog key.table named;
       decide = decide;
       decisions = λ fit. record { at = λ id small. refl };
       odd = λ fit. odd_row catalog stores.places (contents_of_views stores.views) decide key (ap (first_unlike is_decided) (sym (found (subst (λ (n : TableName). AreUsableFor n stores) named fit))) ∙ first);
@@ -237,7 +230,7 @@ record_odd catalog old mid rows decide recorded key r goes stay first =
     let t = first.table in
     let named = first.ill_formed.named in
     record {
-      played = ap (is_table_of_run catalog) named ∙ played_at catalog first.at t first.there;
+      correct = ap (is_table_of_run catalog) named ∙ played_at catalog first.at t first.there;
       decide = decide;
       decisions = decisions_are old rows decide recorded r;
       odd = λ fit.

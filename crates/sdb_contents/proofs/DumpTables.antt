@@ -7,18 +7,12 @@ use Rattle.std.specs.List.{cons_option, filter_map}
 use Rattle.std.specs.Option.{option_map, option_and_then}
 use Rattle.std.specs.Ordering.{eq_by_cmp, is_eq, is_lt}
 use Rattle.std.specs.Cmp.{tied_itself}
-use Rattle.std.specs.declared.cmp.Ordering.{Ordering}
+use Rattle.sdb_contents.specs.Types.{Image, Key, Ordering, Pair, Record, Table, TableName}
 use Rattle.std.specs.declared.cmp.Ordering.TheVariants.{Less, Equal, Greater}
-use Rattle.sdb_types.specs.declared.key.Key.{Key}
-use Rattle.sdb_types.specs.declared.key.TableName.{TableName}
-use Rattle.sdb_types.specs.declared.pair.Pair.{Pair}
-use Rattle.sdb_types.specs.declared.record.Record.{Record}
 use Rattle.sdb_types.specs.Contents.{Contents, in_span, record_at, record_of, rows_in}
 use Rattle.sdb_types.specs.Exact.{equal_of}
 use Rattle.sdb_types.specs.Order.{key_cmp, table_cmp}
 use Rattle.sdb_types.proofs.KeyOrder.{key_exact, key_total, table_exact, table_total}
-use Rattle.sdb_record.specs.declared.access.Image.{Image}
-use Rattle.sdb_schema.specs.declared.table.Table.{Table}
 use Rattle.sdb_model.specs.Exec.{Tables, all_rows, is_row_of, row_of_entry}
 use Rattle.sdb_types.proofs.Basics.{by_test, and_true as inside_is, first_t, second_t, both_t, clash as true_false}
 use Rattle.sdb_contents.specs.Opening.{whole}

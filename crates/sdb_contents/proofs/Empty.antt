@@ -10,11 +10,8 @@ use Rattle.std.proofs.Math.Numerals.{add-one}
 use Rattle.std.proofs.lemmas.List.{append-nil}
 use Rattle.std.proofs.lemmas.Bool.{eqb-false, eqb-true}
 use Rattle.std.proofs.lemmas.Option.{slice_get-get_or, slice_get-map, slice_get_within}
-use Rattle.sdb_types.specs.declared.key.Key.{Key}
-use Rattle.sdb_types.specs.declared.key.TableName.{TableName}
-use Rattle.sdb_types.specs.declared.record.Record.{Record}
+use Rattle.sdb_contents.specs.Types.{Key, Place, Record, Reply, Table, TableName}
 use Rattle.sdb_types.specs.declared.record.Request.TheVariants as ask
-use Rattle.sdb_types.specs.declared.record.Reply.{Reply}
 use Rattle.sdb_types.specs.declared.record.Reply.TheVariants as reply
 use Rattle.sdb_types.specs.Contents.{Contents, are_rows_of, record_at, record_of, rise, rows_in, in_span, record_among}
 use Rattle.sdb_types.specs.Order.{key_cmp, table_cmp}
@@ -22,9 +19,7 @@ use Rattle.sdb_types.proofs.KeyOrder.{table_exact, table_total}
 use Rattle.sdb_types.proofs.Bools.{and_first, and_second}
 use Rattle.sdb_types.specs.Exact.{equal_of}
 use Rattle.law_protocol.proofs.Shown.{row_there}
-use Rattle.sdb_schema.specs.declared.table.Table.{Table}
 use Rattle.sdb_stores.specs.Views.{Attached, StoreView as Counted, home, home_in, names_of}
-use Rattle.sdb_types.specs.declared.place.Place.{Place}
 use Rattle.sdb_model.specs.Rows.{Name}
 use Rattle.sdb_model.specs.Events.{StoreContents, contents_under, store_of}
 use Rattle.law_protocol.specs.Spread.{HoldAs}
@@ -65,12 +60,12 @@ none_each f [] e = tt
 none_each f (t ∷ ts) e = let both = no_append (f t) (flat_map f ts) e in (both.0, none_each f ts both.1)
 
 -- where there is no first record, there is none
-pub no_record : (catalog : List Table) (places : List Place) (shelves : List StoreContents) → first_key (opening_records catalog places shelves) ≡ None → HoldAs catalog places shelves empty
-no_record catalog places shelves e =
-    let each = none_each (records_of places shelves) (run_tables catalog) (none_first (opening_records catalog places shelves) e) in
+pub no_record : (catalog : List Table) (places : List Place) (store_contents : List StoreContents) → first_key (opening_records catalog places store_contents) ≡ None → HoldAs catalog places store_contents empty
+no_record catalog places store_contents e =
+    let each = none_each (records_of places store_contents) (run_tables catalog) (none_first (opening_records catalog places store_contents) e) in
     record {
       at = λ key about.
-          none_there (contents_under shelves (store_of places shelves key.table.ns)) key (of_played (λ (t : TableName). records_of places shelves t ≡ []) catalog key.table each about) ∙ sym (nothing_at key);
+          none_there (contents_under store_contents (store_of places store_contents key.table.ns)) key (of_played (λ (t : TableName). records_of places store_contents t ≡ []) catalog key.table each about) ∙ sym (nothing_at key);
     }
 
 -- the rows that a scan found are those of its table

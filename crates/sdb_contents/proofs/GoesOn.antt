@@ -5,14 +5,9 @@ use Rattle.std.proofs.lemmas.Bool.{eqb-false, eqb-true}
 use Rattle.std.proofs.lemmas.List.{get_or-set_other, length-map, length-set}
 use Rattle.std.proofs.lemmas.List.Quantifiers.{any-set}
 use Rattle.std.proofs.lemmas.Option.{get_or_from_slice_get, slice_get_within}
-use Rattle.sdb_types.specs.declared.key.TableName.{TableName}
-use Rattle.sdb_types.specs.declared.record.Request.{Request}
-use Rattle.sdb_types.specs.declared.record.Reply.{Reply}
+use Rattle.sdb_contents.specs.Types.{Event, Place, Reply, Request, Table, TableName}
 use Rattle.sdb_stores.specs.Views.{Attached, StoreView as Counted, AreDistinct, HaveRisen, IsCallAt, names_of, home, home_in, place_of, route_of}
-use Rattle.sdb_types.specs.declared.place.Place.{Place}
 use Rattle.sdb_stores.proofs.Called.{same_names, grown, not_fewer}
-use Rattle.sdb_schema.specs.declared.table.Table.{Table}
-use Rattle.sdb_model.specs.declared.event.Event.{Event}
 use Rattle.sdb_model.specs.Rows.{Name}
 use Rattle.sdb_model.specs.Events.{StoreContents, IsTrace, Effect}
 use Rattle.sdb_contents.specs.Board.{AreUsable, AreUsableFor, GoOn, IsFull, KnownAreUnchanged, Refuses, known_before}
@@ -91,10 +86,10 @@ fit_for_before old new table g f = fit_for_as (known_before old new) old table (
 
 -- what is known of stores stays known
 pub known_none : (stores : Attached) → KnownAreUnchanged stores stores
-known_none stores at store tells here = subst (λ (o : Option Counted). IsSomeAnd o (λ now. now.contents ≡ store.contents)) (sym here) refl
+known_none stores at store is_known here = subst (λ (o : Option Counted). IsSomeAnd o (λ now. now.contents ≡ store.contents)) (sym here) refl
 
 pub known_more : (a b c : Attached) → GoOn a b → KnownAreUnchanged a b → KnownAreUnchanged b c → KnownAreUnchanged a c
-known_more a b c g first then at store tells here = by (slice_get b.views at) refl (first at store tells here)
+known_more a b c g first then at store is_known here = by (slice_get b.views at) refl (first at store is_known here)
   where
     on : (o : Option Counted) (mid : Counted) → mid.contents ≡ store.contents → IsSomeAnd o (λ now. now.contents ≡ mid.contents) → IsSomeAnd o (λ now. now.contents ≡ store.contents)
     on None mid e h = h
@@ -102,7 +97,7 @@ known_more a b c g first then at store tells here = by (slice_get b.views at) re
 
     by : (o : Option Counted) → slice_get b.views at ≡ o → IsSomeAnd o (λ now. now.contents ≡ store.contents) → IsSomeAnd (slice_get c.views at) (λ now. now.contents ≡ store.contents)
     by None e h = absurd h
-    by (Some mid) e h = on (slice_get c.views at) mid h (then at mid (g.where_known at tells) e)
+    by (Some mid) e h = on (slice_get c.views at) mid h (then at mid (g.where_known at is_known) e)
 
 pub goes_call : (at : ℕ) (old new : Attached) (q : Request) (r : Reply) → new.places ≡ old.places → IsCallAt at q r old new → GoOn old new
 goes_call at old new q r places call =

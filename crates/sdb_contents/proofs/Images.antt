@@ -7,13 +7,8 @@ use Rattle.std.specs.List.{AllByRecursion, cons_option, filter_map, list_all}
 use Rattle.std.specs.Option.{option_and_then, option_map, option_map_or}
 use Rattle.std.specs.Ordering.{is_eq}
 use Rattle.std.specs.Result.{result_ok}
-use Rattle.sdb_types.specs.declared.key.Key.{Key}
-use Rattle.sdb_types.specs.declared.key.TableName.{TableName}
-use Rattle.sdb_types.specs.declared.pair.Pair.{Pair}
-use Rattle.sdb_types.specs.declared.txid.TxId.{TxId}
-use Rattle.sdb_types.specs.declared.value.Value.{Value}
+use Rattle.sdb_contents.specs.Types.{Decided, Image, Key, Pair, Place, Record, Table, TableName, TxId, Value}
 use Rattle.sdb_types.specs.declared.value.Value.TheVariants as value
-use Rattle.sdb_types.specs.declared.record.Record.{Record}
 use Rattle.sdb_types.specs.Columns.{column}
 use Rattle.sdb_types.specs.Contents.{Contents, in_span, record_at, rise, rows_among, rows_in, tx_id, record_among}
 use Rattle.sdb_types.specs.Exact.{equal_of}
@@ -21,17 +16,13 @@ use Rattle.sdb_types.specs.Order.{key_cmp, table_cmp}
 use Rattle.sdb_types.proofs.Bools.{and_first}
 use Rattle.sdb_types.proofs.KeyOrder.{key_exact, key_total, table_exact}
 use Rattle.sdb_types.proofs.Replies.{rows_in-are_rows_of}
-use Rattle.sdb_record.specs.declared.access.Image.{Image}
-use Rattle.sdb_record.specs.declared.coordinator.Decided.{Decided}
 use Rattle.sdb_record.specs.Coordinator.{coordinator_key_of, coordinator_table, decision_in}
 use Rattle.sdb_record.specs.Meta.{id_in, id_in_value, is_transactional}
 use Rattle.sdb_record.specs.Rolls.{image_of, row_of_image}
 use Rattle.sdb_record.proofs.IdLemmas.{id_of_text-is}
 use Rattle.law_protocol.proofs.Shown.{row_there}
-use Rattle.sdb_schema.specs.declared.table.Table.{Table}
 use Rattle.sdb_schema.specs.Rows.{fits_table}
-use Rattle.sdb_types.specs.declared.place.Place.{Place}
-use Rattle.sdb_model.specs.Events.{StoreContents, contents_under, standing, store_of}
+use Rattle.sdb_model.specs.Events.{StoreContents, contents_under, stored_at, store_of}
 use Rattle.sdb_model.specs.Exec.{Tables, all_rows, find_table, is_row_of, projected, sorted}
 use Rattle.sdb_model.specs.Images.{decision_at, decision_on, row_at}
 use Rattle.sdb_model.specs.Serial.{AreImages, dump_of, dumps_of}
@@ -53,40 +44,40 @@ id_small : (o : Option Value) (id : TxId) → id_in_value o ≡ Some id → id.0
 id_small (Some (value.Text text)) id e = (id_of_text-is text id e).0
 id_small _ id e = absurd (none_some id e)
 
-decision_same : (places : List Place) (shelves : List StoreContents) (decide : TxId → Option Decided) (r : Record) → AreDecisions places shelves decide → decision_on places shelves r ≡ option_and_then decide (id_in r.columns)
-decision_same places shelves decide r are = by (id_in r.columns) refl
+decision_same : (places : List Place) (store_contents : List StoreContents) (decide : TxId → Option Decided) (r : Record) → AreDecisions places store_contents decide → decision_on places store_contents r ≡ option_and_then decide (id_in r.columns)
+decision_same places store_contents decide r are = by (id_in r.columns) refl
   where
-    by : (o : Option TxId) → id_in r.columns ≡ o → option_and_then (decision_at places shelves) o ≡ option_and_then decide o
+    by : (o : Option TxId) → id_in r.columns ≡ o → option_and_then (decision_at places store_contents) o ≡ option_and_then decide o
     by None e = refl
     by (Some id) e = sym (are.at id (id_small (column r.columns tx_id) id e))
 
-row_same : (places : List Place) (shelves : List StoreContents) (decide : TxId → Option Decided) (found : Option Record) → AreDecisions places shelves decide → option_and_then row_of_image (option_and_then (λ r. image_of r (decision_on places shelves r)) found) ≡ option_and_then (row_by decide) found
-row_same places shelves decide None are = refl
-row_same places shelves decide (Some r) are = ap (λ (d : Option Decided). option_and_then row_of_image (image_of r d)) (decision_same places shelves decide r are)
+row_same : (places : List Place) (store_contents : List StoreContents) (decide : TxId → Option Decided) (found : Option Record) → AreDecisions places store_contents decide → option_and_then row_of_image (option_and_then (λ r. image_of r (decision_on places store_contents r)) found) ≡ option_and_then (row_by decide) found
+row_same places store_contents decide None are = refl
+row_same places store_contents decide (Some r) are = ap (λ (d : Option Decided). option_and_then row_of_image (image_of r d)) (decision_same places store_contents decide r are)
 
 -- which records are well formed is the same under the decisions of what the stores hold
-well_formed_same : (places : List Place) (shelves : List StoreContents) (decide : TxId → Option Decided) (t : Table) (r : Record) → AreDecisions places shelves decide → is_well_formed (decision_at places shelves) t r ≡ is_well_formed decide t r
-well_formed_same places shelves decide t r are = ap (λ (d : Option Decided). is_transactional r && option_map_or (fits_table t r.key) (option_and_then row_of_image (image_of r d)) true) (decision_same places shelves decide r are)
+well_formed_same : (places : List Place) (store_contents : List StoreContents) (decide : TxId → Option Decided) (t : Table) (r : Record) → AreDecisions places store_contents decide → is_well_formed (decision_at places store_contents) t r ≡ is_well_formed decide t r
+well_formed_same places store_contents decide t r are = ap (λ (d : Option Decided). is_transactional r && option_map_or (fits_table t r.key) (option_and_then row_of_image (image_of r d)) true) (decision_same places store_contents decide r are)
 
-pub ill_formed_same : (places : List Place) (shelves : List StoreContents) (decide : TxId → Option Decided) (t : Table) (r : Record) → AreDecisions places shelves decide → is_well_formed decide t r ≡ false → is_well_formed (decision_at places shelves) t r ≡ false
-ill_formed_same places shelves decide t r are h = well_formed_same places shelves decide t r are ∙ h
+pub ill_formed_same : (places : List Place) (store_contents : List StoreContents) (decide : TxId → Option Decided) (t : Table) (r : Record) → AreDecisions places store_contents decide → is_well_formed decide t r ≡ false → is_well_formed (decision_at places store_contents) t r ≡ false
+ill_formed_same places store_contents decide t r are h = well_formed_same places store_contents decide t r are ∙ h
 
 -- so is the first that isn't
-pub first_ill_formed_same : (places : List Place) (shelves : List StoreContents) (decide : TxId → Option Decided) (t : Table) (rs : List Record) → AreDecisions places shelves decide → first_unlike (is_well_formed (decision_at places shelves) t) rs ≡ first_unlike (is_well_formed decide t) rs
-first_ill_formed_same places shelves decide t rs are =
-    ap (option_map (λ (r : Record). r.key)) (found_same (λ r. not (is_well_formed (decision_at places shelves) t r)) (λ r. not (is_well_formed decide t r)) rs (λ r. ap not (well_formed_same places shelves decide t r are)))
+pub first_ill_formed_same : (places : List Place) (store_contents : List StoreContents) (decide : TxId → Option Decided) (t : Table) (rs : List Record) → AreDecisions places store_contents decide → first_unlike (is_well_formed (decision_at places store_contents) t) rs ≡ first_unlike (is_well_formed decide t) rs
+first_ill_formed_same places store_contents decide t rs are =
+    ap (option_map (λ (r : Record). r.key)) (found_same (λ r. not (is_well_formed (decision_at places store_contents) t r)) (λ r. not (is_well_formed decide t r)) rs (λ r. ap not (well_formed_same places store_contents decide t r are)))
 
 -- the decision in a transaction's row, among those of the coordinator's table
-pub decision_there : (places : List Place) (shelves : List StoreContents) (id : TxId) → decision_among (records_of places shelves coordinator_table) id ≡ decision_at places shelves id
+pub decision_there : (places : List Place) (store_contents : List StoreContents) (id : TxId) → decision_among (records_of places store_contents coordinator_table) id ≡ decision_at places store_contents id
 unfolding coordinator_key_of
-decision_there places shelves id = ap (option_and_then (λ (row : Record). result_ok (decision_in row))) (by (contents_under shelves (store_of places shelves coordinator_table.ns)))
+decision_there places store_contents id = ap (option_and_then (λ (row : Record). result_ok (decision_in row))) (by (contents_under store_contents (store_of places store_contents coordinator_table.ns)))
   where
     by : (o : Option Contents) → record_among (option_map_or (rows_in (whole coordinator_table)) o []) (coordinator_key_of id) ≡ option_map_or (λ (m : Contents). record_at m (coordinator_key_of id)) o None
     by None = refl
     by (Some m) = row_there (whole coordinator_table) (coordinator_key_of id) m refl
 
-pub records_rise : (places : List Place) (shelves : List StoreContents) (table : TableName) → rise (records_of places shelves table) ≡ true
-records_rise places shelves table = by (contents_under shelves (store_of places shelves table.ns))
+pub records_rise : (places : List Place) (store_contents : List StoreContents) (table : TableName) → rise (records_of places store_contents table) ≡ true
+records_rise places store_contents table = by (contents_under store_contents (store_of places store_contents table.ns))
   where
     by : (o : Option Contents) → rise (option_map_or (rows_in (whole table)) o []) ≡ true
     by None = refl
@@ -108,35 +99,35 @@ rows_there decide t d None h =
     ∙ ap (λ (es : List (Key × List Pair)). filter_map (image_by decide) (rows_among (whole t.name) es)) nothing
 rows_there decide t d (Some m) h = table_rows (row_by decide) t m d (record { at = h })
 
-table_dump : (catalog : List Table) (places : List Place) (shelves : List StoreContents) (decide : TxId → Option Decided) (d : Tables) (t : Table) → is_some (find_table catalog t.name) ≡ true → AreDecisions places shelves decide → AreImages catalog places shelves d
-    → dump_by decide t (records_of places shelves t.name) ≡ dump_of d t
-table_dump catalog places shelves decide d t known are images =
+table_dump : (catalog : List Table) (places : List Place) (store_contents : List StoreContents) (decide : TxId → Option Decided) (d : Tables) (t : Table) → is_some (find_table catalog t.name) ≡ true → AreDecisions places store_contents decide → AreImages catalog places store_contents d
+    → dump_by decide t (records_of places store_contents t.name) ≡ dump_of d t
+table_dump catalog places store_contents decide d t known are images =
     ap (λ (rs : List Image). record { name = t.name; rows = map (projected t None) (sorted t rs) })
-    (sym (rows_there decide t d (contents_under shelves (store_of places shelves t.name.ns)) (λ key inside.
+    (sym (rows_there decide t d (contents_under store_contents (store_of places store_contents t.name.ns)) (λ key inside.
     let named : t.name ≡ key.table = name_of t key inside in
     let here : is_some (find_table catalog key.table) ≡ true = ap (λ (x : TableName). is_some (find_table catalog x)) (sym named) ∙ known in
-    images key ∙ ap (λ (b : Bool). cond b (row_at places shelves key) None) here ∙ row_same places shelves decide (standing places shelves key) are
-    ∙ ap (λ (x : TableName). option_and_then (row_by decide) (option_map_or (λ (m : Contents). record_at m key) (contents_under shelves (store_of places shelves x.ns)) None)) (sym named))))
+    images key ∙ ap (λ (b : Bool). cond b (row_at places store_contents key) None) here ∙ row_same places store_contents decide (stored_at places store_contents key) are
+    ∙ ap (λ (x : TableName). option_and_then (row_by decide) (option_map_or (λ (m : Contents). record_at m key) (contents_under store_contents (store_of places store_contents x.ns)) None)) (sym named))))
 
 each_dump : {A B : Type 0} (f g : A → B) (xs : List A) → AllByRecursion (λ x. f x ≡ g x) xs → map f xs ≡ map g xs
 each_dump f g [] h = refl
 each_dump f g (x ∷ xs) h = let rest = each_dump f g xs h.1 in let here = h.0 in λ i. here i ∷ rest i
 
 -- what is printed of the stores' records is what the plain tables hold
-pub dumps_are : (catalog : List Table) (places : List Place) (shelves : List StoreContents) (decide : TxId → Option Decided) (d : Tables) → AreDecisions places shelves decide → AreImages catalog places shelves d
-    → map (λ t. dump_by decide t (records_of places shelves t.name)) catalog ≡ dumps_of catalog d
-dumps_are catalog places shelves decide d are images =
-    each_dump (λ t. dump_by decide t (records_of places shelves t.name)) (dump_of d) catalog
-    (all_each (λ (t : Table). is_some (find_table catalog t.name) ≡ true) (λ (t : Table). dump_by decide t (records_of places shelves t.name) ≡ dump_of d t) catalog
-    (λ t known. table_dump catalog places shelves decide d t known are images) (each_found catalog))
+pub dumps_are : (catalog : List Table) (places : List Place) (store_contents : List StoreContents) (decide : TxId → Option Decided) (d : Tables) → AreDecisions places store_contents decide → AreImages catalog places store_contents d
+    → map (λ t. dump_by decide t (records_of places store_contents t.name)) catalog ≡ dumps_of catalog d
+dumps_are catalog places store_contents decide d are images =
+    each_dump (λ t. dump_by decide t (records_of places store_contents t.name)) (dump_of d) catalog
+    (all_each (λ (t : Table). is_some (find_table catalog t.name) ≡ true) (λ (t : Table). dump_by decide t (records_of places store_contents t.name) ≡ dump_of d t) catalog
+    (λ t known. table_dump catalog places store_contents decide d t known are images) (each_found catalog))
 
 -- the dump of a table's records is the same under the decisions of what the stores hold
-pub dump_same : (places : List Place) (shelves : List StoreContents) (decide : TxId → Option Decided) (t : Table) (rs : List Record) → AreDecisions places shelves decide → dump_by (decision_at places shelves) t rs ≡ dump_by decide t rs
-dump_same places shelves decide t rs are = ap (λ (images : List Image). record { name = t.name; rows = map (projected t None) (sorted t images) }) (each_image rs)
+pub dump_same : (places : List Place) (store_contents : List StoreContents) (decide : TxId → Option Decided) (t : Table) (rs : List Record) → AreDecisions places store_contents decide → dump_by (decision_at places store_contents) t rs ≡ dump_by decide t rs
+dump_same places store_contents decide t rs are = ap (λ (images : List Image). record { name = t.name; rows = map (projected t None) (sorted t images) }) (each_image rs)
   where
-    image_same : (r : Record) → image_by (decision_at places shelves) r ≡ image_by decide r
-    image_same r = ap (λ (d : Option Decided). option_map (λ (columns : List Pair). record { key = r.key; columns = columns }) (option_and_then row_of_image (image_of r d))) (decision_same places shelves decide r are)
+    image_same : (r : Record) → image_by (decision_at places store_contents) r ≡ image_by decide r
+    image_same r = ap (λ (d : Option Decided). option_map (λ (columns : List Pair). record { key = r.key; columns = columns }) (option_and_then row_of_image (image_of r d))) (decision_same places store_contents decide r are)
 
-    each_image : (xs : List Record) → filter_map (image_by (decision_at places shelves)) xs ≡ filter_map (image_by decide) xs
+    each_image : (xs : List Record) → filter_map (image_by (decision_at places store_contents)) xs ≡ filter_map (image_by decide) xs
     each_image [] = refl
-    each_image (x ∷ xs) = ap (λ (o : Option Image). cons_option o (filter_map (image_by (decision_at places shelves)) xs)) (image_same x) ∙ ap (cons_option (image_by decide x)) (each_image xs)
+    each_image (x ∷ xs) = ap (λ (o : Option Image). cons_option o (filter_map (image_by (decision_at places store_contents)) xs)) (image_same x) ∙ ap (cons_option (image_by decide x)) (each_image xs)

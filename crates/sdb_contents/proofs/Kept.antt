@@ -1,11 +1,7 @@
 -- The row of a record's committed image.
 use Rattle.std.proofs.Common.{◌≡◌, ◌∙◌, ◌<◌, ◌^◌, List, Option, Some, Ok, ap, sym}
 use Rattle.std.specs.Option.{option_and_then}
-use Rattle.sdb_types.specs.declared.pair.Pair.{Pair}
-use Rattle.sdb_types.specs.declared.txid.TxId.{TxId}
-use Rattle.sdb_types.specs.declared.record.Record.{Record}
-use Rattle.sdb_record.specs.declared.coordinator.Decided.{Decided}
-use Rattle.sdb_record.specs.declared.meta.Meta.{Meta}
+use Rattle.sdb_contents.specs.Types.{Decided, Meta, Pair, Record, TxId}
 use Rattle.sdb_record.specs.Meta.{checked, id_in}
 use Rattle.sdb_record.specs.Rolls.{image_of, row_of_image}
 use Rattle.sdb_record.proofs.ImageLaws.{checked-version, version-writer}

@@ -4,21 +4,14 @@ use Rattle.std.specs.Prelude.{◌&&◌, IsSomeAnd}
 use Rattle.std.specs.Option.{option_map_or}
 use Rattle.std.specs.Ordering.{is_eq}
 use Rattle.std.specs.Cmp.{tied_itself}
-use Rattle.sdb_types.specs.declared.key.Key.{Key}
-use Rattle.sdb_types.specs.declared.key.TableName.{TableName}
-use Rattle.sdb_types.specs.declared.txid.TxId.{TxId}
-use Rattle.sdb_types.specs.declared.record.Record.{Record}
+use Rattle.sdb_contents.specs.Types.{Decided, Key, Place, Record, Table, TableDump, TableName, TxId}
 use Rattle.sdb_types.specs.Contents.{Contents, in_span, record_among, record_at, rows_in}
 use Rattle.sdb_types.proofs.KeyOrder.{table_total}
-use Rattle.sdb_record.specs.declared.coordinator.Decided.{Decided}
 use Rattle.sdb_record.specs.declared.coordinator.Decision.TheVariants as decision
 use Rattle.sdb_record.specs.Coordinator.{coordinator_table}
 use Rattle.law_protocol.proofs.Shown.{row_there}
-use Rattle.sdb_schema.specs.declared.table.Table.{Table}
 use Rattle.sdb_stores.specs.Views.{Attached}
-use Rattle.sdb_types.specs.declared.place.Place.{Place}
-use Rattle.sdb_model.specs.declared.event.TableDump.{TableDump}
-use Rattle.sdb_model.specs.Events.{StoreContents, contents_under, standing, store_of}
+use Rattle.sdb_model.specs.Events.{StoreContents, contents_under, stored_at, store_of}
 use Rattle.sdb_model.specs.Images.{decision_at}
 use Rattle.sdb_model.specs.Transactions.{Recorded}
 use Rattle.sdb_contents.specs.Board.{AreUsable, AreUsableFor, GoOn, HoldTheSame, KnownAreUnchanged, known_before, contents_of_views}
@@ -35,8 +28,8 @@ use Rattle.sdb_contents.proofs.Images.{decision_there, dump_same, first_ill_form
 use Rattle.sdb_model.specs.Tables.{is_table_of_run}
 
 -- the record at a key is the one among those of its table
-standing_there : (places : List Place) (shelves : List StoreContents) (key : Key) → record_among (records_of places shelves key.table) key ≡ standing places shelves key
-standing_there places shelves key = by (contents_under shelves (store_of places shelves key.table.ns))
+standing_there : (places : List Place) (store_contents : List StoreContents) (key : Key) → record_among (records_of places store_contents key.table) key ≡ stored_at places store_contents key
+standing_there places store_contents key = by (contents_under store_contents (store_of places store_contents key.table.ns))
   where
     inside : in_span (whole key.table) key ≡ true
     inside = ap (λ (b : Bool). b && true) (ap is_eq (tied_itself table_total key.table))
@@ -46,15 +39,15 @@ standing_there places shelves key = by (contents_under shelves (store_of places 
     by (Some m) = row_there (whole key.table) key m inside
 
 -- under the decisions of what the stores hold it is odd too
-decided_odd : (catalog : List Table) (places : List Place) (shelves : List StoreContents) (decide : TxId → Option Decided) (key : Key) → AreDecisions places shelves decide → IsOddAt catalog places shelves decide key → IsOddAt catalog places shelves (decision_at places shelves) key
-decided_odd catalog places shelves decide key are o = record { found = o.found; stands = o.stands; odd = by o.odd }
+decided_odd : (catalog : List Table) (places : List Place) (store_contents : List StoreContents) (decide : TxId → Option Decided) (key : Key) → AreDecisions places store_contents decide → IsOddAt catalog places store_contents decide key → IsOddAt catalog places store_contents (decision_at places store_contents) key
+decided_odd catalog places store_contents decide key are o = record { found = o.found; agrees = o.agrees; odd = by o.odd }
   where
-    by : IsOdd catalog decide o.found → IsOdd catalog (decision_at places shelves) o.found
-    by (inl i) = inl (record { table = i.table; listed = i.listed; named = i.named; ill_formed = ill_formed_same places shelves decide i.table o.found are i.ill_formed })
+    by : IsOdd catalog decide o.found → IsOdd catalog (decision_at places store_contents) o.found
+    by (inl i) = inl (record { table = i.table; listed = i.listed; named = i.named; ill_formed = ill_formed_same places store_contents decide i.table o.found are i.ill_formed })
     by (inr row) = inr row
 
 module _ (old new : Attached) (goes : GoOn old new) (stay : KnownAreUnchanged old new) where
-  standing_later : (key : Key) → AreUsableFor key.table (known_before old new) → standing new.places (contents_of_views new.views) key ≡ standing old.places (contents_of_views old.views) key
+  standing_later : (key : Key) → AreUsableFor key.table (known_before old new) → stored_at new.places (contents_of_views new.views) key ≡ stored_at old.places (contents_of_views old.views) key
   standing_later key fit =
       sym (standing_there new.places (contents_of_views new.views) key)
       ∙ ap (λ (rs : List Record). record_among rs key) (records_stay old new key.table goes stay (fit_for_before old new key.table goes fit))
@@ -71,12 +64,12 @@ module _ (old new : Attached) (goes : GoOn old new) (stay : KnownAreUnchanged ol
 
   pub odd_later : (catalog : List Table) (key : Key) → IsOddIn catalog old key → IsOddIn catalog (known_before old new) key
   odd_later catalog key odd = record {
-    played = odd.played;
+    correct = odd.correct;
     decide = odd.decide;
     decisions = λ fit. record { at = λ id small. (odd.decisions (fit_for_before old new coordinator_table goes fit)).at id small ∙ sym (decision_later id fit) };
     odd = λ fit.
         let o = odd.odd (fit_for_before old new key.table goes fit) in
-        record { found = o.found; stands = standing_later key fit ∙ o.stands; odd = o.odd };
+        record { found = o.found; agrees = standing_later key fit ∙ o.agrees; odd = o.odd };
   }
 
   pub dumps_later : (catalog : List Table) (dumps : List TableDump) → AreDumpsWhereKnown catalog old dumps → AreDumpsWhereKnown catalog (known_before old new) dumps
@@ -104,4 +97,4 @@ module _ (old new : Attached) (goes : GoOn old new) (stay : KnownAreUnchanged ol
       let fit_now : (table : TableName) → is_table_of_run catalog table ≡ true → AreUsableFor table (known_before old new) = λ table about. fit_for_as old (known_before old new) table goes.places goes.names (λ at t. t) (fit_for catalog old table about fit) in
       subst (λ (ss : List StoreContents). IsOddAt catalog old.places ss (decision_at old.places ss) key) still
       (subst (λ (ps : List Place). IsOddAt catalog ps (contents_of_views new.views) (decision_at ps (contents_of_views new.views)) key) goes.places
-      (decided_odd catalog new.places (contents_of_views new.views) odd.decide key (odd.decisions (fit_now coordinator_table (coordinator_played catalog coordinator_table refl))) (odd.odd (fit_now key.table odd.played))))
+      (decided_odd catalog new.places (contents_of_views new.views) odd.decide key (odd.decisions (fit_now coordinator_table (coordinator_played catalog coordinator_table refl))) (odd.odd (fit_now key.table odd.correct))))

@@ -5,10 +5,8 @@ use Rattle.std.specs.Option.{option_map}
 use Rattle.std.proofs.lemmas.Bool.{eqb-false, eqb-true}
 use Rattle.std.proofs.lemmas.List.{get_or-set_other, get_or-set_same, length-set}
 use Rattle.std.proofs.lemmas.Option.{get_or_from_slice_get, slice_get-get_or, slice_get-map, slice_get_within}
-use Rattle.sdb_types.specs.declared.key.TableName.{TableName}
-use Rattle.sdb_types.specs.declared.record.Request.{Request}
+use Rattle.sdb_contents.specs.Types.{Reply, Request, TableName}
 use Rattle.sdb_types.specs.declared.record.Request.TheVariants as ask
-use Rattle.sdb_types.specs.declared.record.Reply.{Reply}
 use Rattle.sdb_types.specs.declared.record.Reply.TheVariants as reply
 use Rattle.sdb_types.specs.Contents.{Contents, after}
 use Rattle.sdb_store.specs.Store.{Performs}
@@ -56,7 +54,7 @@ kept q (reply.NotMet found) old new e p = p.1 ∙ stays q old e
 
 -- a read leaves each store of known contents as it was
 pub known_stay : (at : ℕ) (q : Request) (r : Reply) (old new : Attached) → IsCallAt at q r old new → is_read q ≡ true → KnownAreUnchanged old new
-known_stay at q r old new call read i store tells here =
+known_stay at q r old new call read i store is_known here =
     subst (λ (ss : List Counted). IsSomeAnd (slice_get ss i) (λ now. now.contents ≡ store.contents)) (sym call.rest) (by (i == at) refl)
   where
     by : (b : Bool) → (i == at) ≡ b → IsSomeAnd (slice_get (slice_set old.views at call.now) i) (λ now. now.contents ≡ store.contents)
@@ -68,7 +66,7 @@ known_stay at q r old new call read i store tells here =
         ap (slice_get (slice_set old.views at call.now)) same
         ∙ slice_get-get_or (slice_set old.views at call.now) at call.now (subst (λ (n : ℕ). at < n) (sym (length-set old.views at call.now)) within)
         ∙ ap Some (get_or-set_same old.views at call.now call.now within) in
-        let held : call.now.contents ≡ store.contents = kept q r call.before.contents call.now.contents read (call.performed (subst old.known same tells)) ∙ ap (λ (x : Counted). x.contents) before in
+        let held : call.now.contents ≡ store.contents = kept q r call.before.contents call.now.contents read (call.performed (subst old.known same is_known)) ∙ ap (λ (x : Counted). x.contents) before in
         subst (λ (o : Option Counted). IsSomeAnd o (λ now. now.contents ≡ store.contents)) (sym there) held
     by false e =
         let within : i < length old.views = slice_get_within old.views i store here in

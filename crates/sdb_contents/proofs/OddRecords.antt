@@ -4,10 +4,7 @@ use Rattle.std.specs.Prelude.{Contains, find, not, slice_get}
 use Rattle.std.specs.List.{AllByRecursion, list_all}
 use Rattle.std.specs.Option.{option_map, option_map_or}
 use Rattle.std.specs.Ordering.{is_eq}
-use Rattle.sdb_types.specs.declared.key.Key.{Key}
-use Rattle.sdb_types.specs.declared.key.TableName.{TableName}
-use Rattle.sdb_types.specs.declared.record.Record.{Record}
-use Rattle.sdb_types.specs.declared.txid.TxId.{TxId}
+use Rattle.sdb_contents.specs.Types.{Decided, Key, Place, Record, Table, TableName, TxId}
 use Rattle.sdb_types.specs.Contents.{Contents, in_span, record_at, rise, rows_in}
 use Rattle.sdb_types.specs.Exact.{equal_of}
 use Rattle.sdb_types.specs.Order.{table_cmp}
@@ -15,11 +12,8 @@ use Rattle.sdb_types.proofs.Bools.{and_first, and_second}
 use Rattle.sdb_types.proofs.KeyOrder.{table_exact}
 use Rattle.sdb_types.proofs.Replies.{rows_in-are_rows_of}
 use Rattle.sdb_record.specs.Coordinator.{coordinator_table, is_coordinator_table}
-use Rattle.sdb_record.specs.declared.coordinator.Decided.{Decided}
 use Rattle.law_protocol.proofs.Shown.{row_there}
-use Rattle.sdb_schema.specs.declared.table.Table.{Table}
-use Rattle.sdb_types.specs.declared.place.Place.{Place}
-use Rattle.sdb_model.specs.Events.{StoreContents, contents_under, standing, store_of}
+use Rattle.sdb_model.specs.Events.{StoreContents, contents_under, stored_at, store_of}
 use Rattle.sdb_contents.specs.Opening.{records_of, whole}
 use Rattle.sdb_contents.specs.Decided.{is_decided}
 use Rattle.sdb_contents.specs.Dumped.{is_well_formed}
@@ -41,14 +35,14 @@ all_in p (x ∷ rs) r all among = elim (first_or_later x r rs among) [
 ]
 
 -- a record of a table, in the order of its scan, is at its key
-pub record Scanned (places : List Place) (shelves : List StoreContents) (table : TableName) (r : Record) : Type 0 where
-  pub stands : standing places shelves r.key ≡ Some r
+pub record Scanned (places : List Place) (store_contents : List StoreContents) (table : TableName) (r : Record) : Type 0 where
+  pub agrees : stored_at places store_contents r.key ≡ Some r
   pub table_is : table ≡ r.key.table
 
-scanned : (places : List Place) (shelves : List StoreContents) (table : TableName) (r : Record) → Contains (records_of places shelves table) r → Scanned places shelves table r
-scanned places shelves table r among = by (contents_under shelves (store_of places shelves table.ns)) refl among
+scanned : (places : List Place) (store_contents : List StoreContents) (table : TableName) (r : Record) → Contains (records_of places store_contents table) r → Scanned places store_contents table r
+scanned places store_contents table r among = by (contents_under store_contents (store_of places store_contents table.ns)) refl among
   where
-    by : (o : Option Contents) → contents_under shelves (store_of places shelves table.ns) ≡ o → Contains (option_map_or (rows_in (whole table)) o []) r → Scanned places shelves table r
+    by : (o : Option Contents) → contents_under store_contents (store_of places store_contents table.ns) ≡ o → Contains (option_map_or (rows_in (whole table)) o []) r → Scanned places store_contents table r
     by None e h = absurd (none_in r h)
     by (Some m) e h =
         let lawful = rows_in-are_rows_of (whole table) m in
@@ -56,38 +50,38 @@ scanned places shelves table r among = by (contents_under shelves (store_of plac
         let found : record_at m r.key ≡ Some r = sym (row_there (whole table) r.key m within) ∙ row_found (rows_in (whole table) m) r (and_first (rise (rows_in (whole table) m)) (list_all (λ x. in_span (whole table) x.key) (rows_in (whole table) m)) lawful) h in
         let named : table ≡ r.key.table = table_exact table r.key.table (equal_of (table_cmp table r.key.table) (and_first (is_eq (table_cmp table r.key.table)) true within)) in
         record {
-          stands = ap (λ (t : TableName). option_map_or (λ (x : Contents). record_at x r.key) (contents_under shelves (store_of places shelves t.ns)) None) (sym named) ∙ ap (λ (x : Option Contents). option_map_or (λ (y : Contents). record_at y r.key) x None) e ∙ found;
+          agrees = ap (λ (t : TableName). option_map_or (λ (x : Contents). record_at x r.key) (contents_under store_contents (store_of places store_contents t.ns)) None) (sym named) ∙ ap (λ (x : Option Contents). option_map_or (λ (y : Contents). record_at y r.key) x None) e ∙ found;
           table_is = named;
         }
 
 -- the first record that isn't so
-pub record Unlike (places : List Place) (shelves : List StoreContents) (table : TableName) (is_so : Record → Bool) (key : Key) : Type 0 where
+pub record Unlike (places : List Place) (store_contents : List StoreContents) (table : TableName) (is_so : Record → Bool) (key : Key) : Type 0 where
   pub found : Record
-  pub stands : standing places shelves key ≡ Some found
+  pub agrees : stored_at places store_contents key ≡ Some found
   pub table_is : table ≡ found.key.table
   pub bad : is_so found ≡ false
 
-unlike : (places : List Place) (shelves : List StoreContents) (table : TableName) (is_so : Record → Bool) (key : Key) → first_unlike is_so (records_of places shelves table) ≡ Some key → Unlike places shelves table is_so key
-unlike places shelves table is_so key h = by (find (λ r. not (is_so r)) (records_of places shelves table)) refl h
+unlike : (places : List Place) (store_contents : List StoreContents) (table : TableName) (is_so : Record → Bool) (key : Key) → first_unlike is_so (records_of places store_contents table) ≡ Some key → Unlike places store_contents table is_so key
+unlike places store_contents table is_so key h = by (find (λ r. not (is_so r)) (records_of places store_contents table)) refl h
   where
-    by : (o : Option Record) → find (λ r. not (is_so r)) (records_of places shelves table) ≡ o → option_map (λ (r : Record). r.key) o ≡ Some key → Unlike places shelves table is_so key
+    by : (o : Option Record) → find (λ r. not (is_so r)) (records_of places store_contents table) ≡ o → option_map (λ (r : Record). r.key) o ≡ Some key → Unlike places store_contents table is_so key
     by None e k = absurd (none_some key k)
     by (Some r) e k =
-        let there = found_in_list (λ (x : Record). not (is_so x)) (records_of places shelves table) r e in
-        let s = scanned places shelves table r there.0 in
-        record { found = r; stands = ap (standing places shelves) (sym (some_is r.key key k)) ∙ s.stands; table_is = s.table_is; bad = not_so (is_so r) there.1 }
+        let there = found_in_list (λ (x : Record). not (is_so x)) (records_of places store_contents table) r e in
+        let s = scanned places store_contents table r there.0 in
+        record { found = r; agrees = ap (stored_at places store_contents) (sym (some_is r.key key k)) ∙ s.agrees; table_is = s.table_is; bad = not_so (is_so r) there.1 }
 
 -- of the coordinator's table
-pub odd_row : (catalog : List Table) (places : List Place) (shelves : List StoreContents) (decide : TxId → Option Decided) (key : Key) → first_unlike is_decided (records_of places shelves coordinator_table) ≡ Some key → IsOddAt catalog places shelves decide key
-odd_row catalog places shelves decide key h =
-    let u = unlike places shelves coordinator_table is_decided key h in
-    record { found = u.found; stands = u.stands; odd = inr (ap is_coordinator_table (sym u.table_is), u.bad) }
+pub odd_row : (catalog : List Table) (places : List Place) (store_contents : List StoreContents) (decide : TxId → Option Decided) (key : Key) → first_unlike is_decided (records_of places store_contents coordinator_table) ≡ Some key → IsOddAt catalog places store_contents decide key
+odd_row catalog places store_contents decide key h =
+    let u = unlike places store_contents coordinator_table is_decided key h in
+    record { found = u.found; agrees = u.agrees; odd = inr (ap is_coordinator_table (sym u.table_is), u.bad) }
 
 -- of a table of the catalog
-pub odd_record : (catalog : List Table) (places : List Place) (shelves : List StoreContents) (decide : TxId → Option Decided) (t : Table) (key : Key) → Contains catalog t → first_ill_formed decide places shelves t ≡ Some key → IsOddAt catalog places shelves decide key
-odd_record catalog places shelves decide t key listed h =
-    let u = unlike places shelves t.name (is_well_formed decide t) key h in
-    record { found = u.found; stands = u.stands; odd = inl (record { table = t; listed = listed; named = u.table_is; ill_formed = u.bad }) }
+pub odd_record : (catalog : List Table) (places : List Place) (store_contents : List StoreContents) (decide : TxId → Option Decided) (t : Table) (key : Key) → Contains catalog t → first_ill_formed decide places store_contents t ≡ Some key → IsOddAt catalog places store_contents decide key
+odd_record catalog places store_contents decide t key listed h =
+    let u = unlike places store_contents t.name (is_well_formed decide t) key h in
+    record { found = u.found; agrees = u.agrees; odd = inl (record { table = t; listed = listed; named = u.table_is; ill_formed = u.bad }) }
 
 ---- table by table
 

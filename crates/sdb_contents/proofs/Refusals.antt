@@ -4,8 +4,7 @@ use Rattle.std.specs.Prelude.{IsErrAnd, find, not, slice_get}
 use Rattle.std.specs.Option.{option_map}
 use Rattle.std.proofs.lemmas.List.{take_more}
 use Rattle.std.proofs.lemmas.Option.{slice_get-get_or}
-use Rattle.sdb_types.specs.declared.key.Key.{Key}
-use Rattle.sdb_types.specs.declared.record.Record.{Record}
+use Rattle.sdb_contents.specs.Types.{Key, Record}
 use Rattle.sdb_stores.specs.Views.{Attached, StoreView as Counted, HaveRisen}
 use Rattle.sdb_contents.specs.Board.{GoOn, Refuses as CallRefuses}
 use Rattle.sdb_contents.specs.declared.refused.CallRefused.{CallRefused}

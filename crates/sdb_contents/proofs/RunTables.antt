@@ -6,14 +6,13 @@ use Rattle.std.specs.Ordering.{is_eq, is_lt}
 use Rattle.std.specs.Cmp.{tied_itself}
 use Rattle.std.proofs.Math.Numerals.{add-one}
 use Rattle.std.proofs.lemmas.List.{map-append}
-use Rattle.sdb_types.specs.declared.key.TableName.{TableName}
+use Rattle.sdb_contents.specs.Types.{Table, TableName}
 use Rattle.sdb_types.specs.Exact.{equal_of}
 use Rattle.sdb_types.specs.Order.{table_cmp}
 use Rattle.sdb_types.proofs.Bools.{and_first, and_second}
 use Rattle.sdb_types.proofs.KeyOrder.{table_exact, table_total}
 use Rattle.sdb_record.specs.Coordinator.{coordinator_table, is_coordinator_table}
 use Rattle.sdb_record.proofs.NameLemmas.{same_name-true}
-use Rattle.sdb_schema.specs.declared.table.Table.{Table}
 use Rattle.sdb_model.specs.Exec.{find_table}
 use Rattle.sdb_contents.specs.Opening.{run_tables, table_names}
 use Rattle.sdb_contents.proofs.Lists.{take_suc}
@@ -96,9 +95,9 @@ of_found P (t ∷ ts) table all h =
 
 -- what is so of each that is looked at is so of each of the run's
 pub of_played : (P : TableName → Type 0) (catalog : List Table) (table : TableName) → AllByRecursion P (run_tables catalog) → is_table_of_run catalog table ≡ true → P table
-of_played P catalog table all played =
+of_played P catalog table all correct =
     let both = without_one P (table_names catalog) (length (take_while (λ (n : TableName). is_lt (table_cmp n coordinator_table)) (table_names catalog))) coordinator_table all in
-    elim (or_cases (is_some (find_table catalog table)) (is_coordinator_table table) played) [
+    elim (or_cases (is_some (find_table catalog table)) (is_coordinator_table table) correct) [
       | inl found ↦ of_found P catalog table both.1 found
       | inr is ↦ subst P (sym (coordinator_is table is)) both.0
     ]

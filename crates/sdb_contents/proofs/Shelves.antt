@@ -44,18 +44,18 @@ later_names s ss d i j e less inside = d (suc i) (suc j) e (omega arith) (omega 
 ---- the store of a name
 
 -- the store that is somewhere is the one of its name
-pub held_at : (shelves : List Counted) (at : ℕ) (s : Counted) → AreDistinct (names_of shelves) → slice_get shelves at ≡ Some s → contents_under (contents_of_views shelves) s.name ≡ Some s.contents
+pub held_at : (store_contents : List Counted) (at : ℕ) (s : Counted) → AreDistinct (names_of store_contents) → slice_get store_contents at ≡ Some s → contents_under (contents_of_views store_contents) s.name ≡ Some s.contents
 held_at [] at s d e = absurd (cc (e))
 held_at (x ∷ xs) zero s d e = let same : x ≡ s = some_is x s e in rw (same, same_name-itself s.name) refl
 held_at (x ∷ xs) (suc at) s d e = rw (other_name x.name s.name (apart_first x xs d at s e)) (held_at xs at s (later_names x xs d) e)
 
 -- where a name isn't among them, nothing becomes of them
-unchanged : (shelves : List Counted) (name : Name) (c : Contents) → ((k : ℕ) (x : Counted) → slice_get shelves k ≡ Some x → x.name ≢ name) → with_contents (contents_of_views shelves) name c ≡ contents_of_views shelves
+unchanged : (store_contents : List Counted) (name : Name) (c : Contents) → ((k : ℕ) (x : Counted) → slice_get store_contents k ≡ Some x → x.name ≢ name) → with_contents (contents_of_views store_contents) name c ≡ contents_of_views store_contents
 unchanged [] name c n = refl
 unchanged (x ∷ xs) name c n = rw (other_name x.name name (n 0 x refl)) (ap (λ ss. record { name = x.name; contents = x.contents } ∷ ss) (unchanged xs name c (λ k y e. n (suc k) y e)))
 
 -- one store set is the contents of its name set
-pub set_there : (shelves : List Counted) (at : ℕ) (s now : Counted) → AreDistinct (names_of shelves) → slice_get shelves at ≡ Some s → now.name ≡ s.name → contents_of_views (slice_set shelves at now) ≡ with_contents (contents_of_views shelves) s.name now.contents
+pub set_there : (store_contents : List Counted) (at : ℕ) (s now : Counted) → AreDistinct (names_of store_contents) → slice_get store_contents at ≡ Some s → now.name ≡ s.name → contents_of_views (slice_set store_contents at now) ≡ with_contents (contents_of_views store_contents) s.name now.contents
 set_there [] at s now d e name = absurd (cc (e))
 set_there (x ∷ xs) zero s now d e name =
     let same : x ≡ s = some_is x s e in
@@ -65,7 +65,7 @@ set_there (x ∷ xs) (suc at) s now d e name =
     rw (other_name x.name s.name (apart_first x xs d at s e)) (ap (λ ss. record { name = x.name; contents = x.contents } ∷ ss) (set_there xs at s now (later_names x xs d) e name))
 
 -- a store with the contents that it had
-pub set_still : (shelves : List Counted) (at : ℕ) (s now : Counted) → slice_get shelves at ≡ Some s → now.name ≡ s.name → now.contents ≡ s.contents → contents_of_views (slice_set shelves at now) ≡ contents_of_views shelves
+pub set_still : (store_contents : List Counted) (at : ℕ) (s now : Counted) → slice_get store_contents at ≡ Some s → now.name ≡ s.name → now.contents ≡ s.contents → contents_of_views (slice_set store_contents at now) ≡ contents_of_views store_contents
 set_still [] at s now e name held = absurd (cc (e))
 set_still (x ∷ xs) zero s now e name held =
     let same : x ≡ s = some_is x s e in
@@ -83,7 +83,7 @@ find_named (p ∷ ps) ns = by (find_named ps ns) (bytes_eq p.ns ns) refl
     by rest true e = rw (same_bytes p.ns ns ∙ e, e) refl
     by rest false e = rw (same_bytes p.ns ns ∙ e, e) rest
 
-first_shown : (shelves : List Counted) → 0 < length shelves → slice_get (names_of shelves) 0 ≡ Some (first_name (contents_of_views shelves))
+first_shown : (store_contents : List Counted) → 0 < length store_contents → slice_get (names_of store_contents) 0 ≡ Some (first_name (contents_of_views store_contents))
 first_shown [] some = absurd (omega arith)
 first_shown (s ∷ ss) some = refl
 
@@ -94,17 +94,17 @@ stands_there names store at e =
     let here : get_or names at [] ≡ store = (bytes_eq-Decides (get_or names at []) store).0 found.1 in
     slice_get-get_or names at [] found.0 ∙ ap Some here
 
-named : (o : Option Place) (shelves : List Counted) → 0 < length shelves → IfSome (option_map (λ (p : Place). p.store) o) (λ store. IsSome (place_of store (names_of shelves)))
-    → slice_get (names_of shelves) (home_of (option_map (λ (p : Place). p.store) o) (names_of shelves)) ≡ Some (option_map_or (λ (p : Place). p.store) o (first_name (contents_of_views shelves)))
-named None shelves some homed = first_shown shelves some
-named (Some p) shelves some homed = by (place_of p.store (names_of shelves)) refl homed
+named : (o : Option Place) (store_contents : List Counted) → 0 < length store_contents → IfSome (option_map (λ (p : Place). p.store) o) (λ store. IsSome (place_of store (names_of store_contents)))
+    → slice_get (names_of store_contents) (home_of (option_map (λ (p : Place). p.store) o) (names_of store_contents)) ≡ Some (option_map_or (λ (p : Place). p.store) o (first_name (contents_of_views store_contents)))
+named None store_contents some homed = first_shown store_contents some
+named (Some p) store_contents some homed = by (place_of p.store (names_of store_contents)) refl homed
   where
-    by : (o : Option ℕ) → place_of p.store (names_of shelves) ≡ o → IsSome o → slice_get (names_of shelves) (home_of (Some p.store) (names_of shelves)) ≡ Some p.store
+    by : (o : Option ℕ) → place_of p.store (names_of store_contents) ≡ o → IsSome o → slice_get (names_of store_contents) (home_of (Some p.store) (names_of store_contents)) ≡ Some p.store
     by None e h = absurd (cc (h))
-    by (Some at) e h = rw e (stands_there (names_of shelves) p.store at e)
+    by (Some at) e h = rw e (stands_there (names_of store_contents) p.store at e)
 
 -- the store of a namespace, by its place among the stores, is the one of its name
-pub named_home : (places : List Place) (shelves : List Counted) (ns : Name) → 0 < length shelves → IfSome (route_of ns places) (λ store. IsSome (place_of store (names_of shelves))) → slice_get (names_of shelves) (home ns places (names_of shelves)) ≡ Some (store_of places (contents_of_views shelves) ns)
-named_home places shelves ns some homed =
-    named (find (λ (p : Place). bytes_eq p.ns ns) places) shelves some homed
-    ∙ ap (λ o. Some (option_map_or (λ (p : Place). p.store) o (first_name (contents_of_views shelves)))) (sym (find_named places ns))
+pub named_home : (places : List Place) (store_contents : List Counted) (ns : Name) → 0 < length store_contents → IfSome (route_of ns places) (λ store. IsSome (place_of store (names_of store_contents))) → slice_get (names_of store_contents) (home ns places (names_of store_contents)) ≡ Some (store_of places (contents_of_views store_contents) ns)
+named_home places store_contents ns some homed =
+    named (find (λ (p : Place). bytes_eq p.ns ns) places) store_contents some homed
+    ∙ ap (λ o. Some (option_map_or (λ (p : Place). p.store) o (first_name (contents_of_views store_contents)))) (sym (find_named places ns))

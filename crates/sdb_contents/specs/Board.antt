@@ -1,12 +1,8 @@
 -- The stores that a run uses, and what its calls do to them.
 use Rattle.std.specs.Prelude.{◌≡◌, ℕ, ◌<◌, ◌≤◌, ◌-◌, ◌^◌, true, List, length, map, slice_get, Any, Some, IfSome, IsSome, IsSomeAnd}
-use Rattle.sdb_types.specs.declared.key.TableName.{TableName}
-use Rattle.sdb_types.specs.declared.record.Request.{Request}
-use Rattle.sdb_types.specs.declared.record.Reply.{Reply}
+use Rattle.sdb_contents.specs.Types.{How, Reply, Request, Table, TableName}
 use Rattle.sdb_types.specs.declared.record.Reply.TheVariants as reply
-use Rattle.sdb_schema.specs.declared.table.Table.{Table}
 use Rattle.sdb_stores.specs.Views.{Attached, StoreView as Counted, AreDistinct, AreUnchanged, HaveRisen, IsCallAt, home_in, names_of, place_of, route_of, total_faults}
-use Rattle.sdb_model.specs.declared.event.How.{How}
 use Rattle.sdb_model.specs.declared.event.How.TheVariants.{Seen, Lost, Broken, Discarded}
 use Rattle.sdb_model.specs.Events.{StoreContents, IsCall, store_of, table_asked}
 use Rattle.sdb_contents.specs.declared.refused.CallRefused.{CallRefused}
@@ -15,7 +11,7 @@ use Rattle.sdb_model.specs.Tables.{is_table_of_run}
 
 -- the stores as events see them: without their counts of faults
 abbrev pub contents_of_views : List Counted → List StoreContents
-contents_of_views shelves = map (λ s. record { name = s.name; contents = s.contents }) shelves
+contents_of_views store_contents = map (λ s. record { name = s.name; contents = s.contents }) store_contents
 
 -- The store of each table of a run over a catalog has known contents.
 abbrev pub AreKnown : List Table → Attached → Type 0
@@ -52,7 +48,7 @@ known_before old new = record { places = new.places; views = new.views; known = 
 
 -- The count of some store is the greatest value of its type.
 abbrev pub IsFull : List Counted → Type 0
-IsFull shelves = Any (λ s. 2 ^ 64 - 1 ≤ s.faults) shelves
+IsFull store_contents = Any (λ s. 2 ^ 64 - 1 ≤ s.faults) store_contents
 
 -- Calls change no name and no place, faults add up, a count at its greatest value stays there, stores that are fit for a run stay so, and
 -- known contents stay known.

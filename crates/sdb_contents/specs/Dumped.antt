@@ -2,16 +2,10 @@
 use Rattle.std.specs.Prelude.{◌&&◌, Bool, true, List, Option, None, map}
 use Rattle.std.specs.List.{filter_map}
 use Rattle.std.specs.Option.{option_map, option_and_then, option_map_or}
-use Rattle.sdb_types.specs.declared.pair.Pair.{Pair}
-use Rattle.sdb_types.specs.declared.txid.TxId.{TxId}
-use Rattle.sdb_types.specs.declared.record.Record.{Record}
-use Rattle.sdb_record.specs.declared.access.Image.{Image}
-use Rattle.sdb_record.specs.declared.coordinator.Decided.{Decided}
+use Rattle.sdb_contents.specs.Types.{Decided, Image, Pair, Record, Table, TableDump, TxId}
 use Rattle.sdb_record.specs.Meta.{id_in, is_transactional}
 use Rattle.sdb_record.specs.Rolls.{image_of, row_of_image}
-use Rattle.sdb_schema.specs.declared.table.Table.{Table}
 use Rattle.sdb_schema.specs.Rows.{fits_table}
-use Rattle.sdb_model.specs.declared.event.TableDump.{TableDump}
 use Rattle.sdb_model.specs.Exec.{projected, sorted}
 
 -- the row of a record's committed image, under the decision on its writer

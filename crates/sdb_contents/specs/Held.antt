@@ -1,13 +1,8 @@
 -- What stores hold in the end, as a closing dump shows it.
 use Rattle.std.specs.Prelude.{◌≡◌, ℕ, ◌<◌, ◌^◌, ◌↔◌, Contains, List, map, slice_get, true, Option, Some, None}
-use Rattle.sdb_types.specs.declared.key.Key.{Key}
-use Rattle.sdb_types.specs.declared.txid.TxId.{TxId}
-use Rattle.sdb_record.specs.declared.coordinator.Decided.{Decided}
+use Rattle.sdb_contents.specs.Types.{Decided, Key, Place, Table, TableDump, TxId}
 use Rattle.sdb_record.specs.Coordinator.{coordinator_table}
-use Rattle.sdb_schema.specs.declared.table.Table.{Table}
 use Rattle.sdb_stores.specs.Views.{Attached}
-use Rattle.sdb_model.specs.declared.event.TableDump.{TableDump}
-use Rattle.sdb_types.specs.declared.place.Place.{Place}
 use Rattle.sdb_model.specs.Events.{StoreContents}
 use Rattle.sdb_model.specs.Exec.{Tables}
 use Rattle.sdb_model.specs.Images.{decision_at}
@@ -54,8 +49,8 @@ AreRecorded ids stores = (id : TxId) → id.0 < 2 ^ 128 → Contains ids id ↔ 
 ---- records that stop a dump
 
 -- Decisions are those of the coordinator's table.
-pub record AreDecisions (places : List Place) (shelves : List StoreContents) (decide : TxId → Option Decided) : Type 0 where
-  pub at : (id : TxId) → id.0 < 2 ^ 128 → decide id ≡ decision_at places shelves id
+pub record AreDecisions (places : List Place) (store_contents : List StoreContents) (decide : TxId → Option Decided) : Type 0 where
+  pub at : (id : TxId) → id.0 < 2 ^ 128 → decide id ≡ decision_at places store_contents id
 
 -- the key of the first record of a table that isn't well formed under decisions on transactions
 abbrev pub first_ill_formed_in : (TxId → Option Decided) → Attached → Table → Option Key
@@ -91,7 +86,7 @@ IsFirstOdd catalog stores key = AreUsable catalog stores → first_odd catalog s
 -- The key is of a table of the run, and the record there breaks the rules of its table, where the contents of its store are known. Its image
 -- is judged under decisions on transactions that are those of the coordinator's table, where the contents of that one's store are known.
 pub record IsOddIn (catalog : List Table) (stores : Attached) (key : Key) : Type 0 where
-  pub played : is_table_of_run catalog key.table ≡ true
+  pub correct : is_table_of_run catalog key.table ≡ true
   pub decide : TxId → Option Decided
   pub decisions : AreUsableFor coordinator_table stores → AreDecisions stores.places (contents_of_views stores.views) decide
   pub odd : AreUsableFor key.table stores → IsOddAt catalog stores.places (contents_of_views stores.views) decide key

@@ -1,3 +1,4 @@
+pub mod Types
 pub mod Board
 pub mod Opening
 pub mod Decided
@@ -5,3 +6,14 @@ pub mod Dumped
 pub mod Held
 pub mod Odd
 pub mod Refused
+pub mod Commits
+pub mod Order
+pub mod Stopped
+pub mod Writes
+pub mod Moving
+pub mod Copying
+pub mod Read
+pub mod Retired
+pub mod Joined
+pub mod Imaged
+pub mod Dropped

@@ -3,16 +3,11 @@ use Rattle.std.specs.Prelude.{◌≡◌, ℕ, ◌<◌, List, [], ◌∷◌, map,
 use Rattle.std.specs.List.{flat_map}
 use Rattle.std.specs.Option.{option_map_or}
 use Rattle.std.specs.Ordering.{is_lt}
-use Rattle.sdb_types.specs.declared.key.Key.{Key}
-use Rattle.sdb_types.specs.declared.key.TableName.{TableName}
-use Rattle.sdb_types.specs.declared.record.Record.{Record}
-use Rattle.sdb_types.specs.declared.record.Span.{Span}
+use Rattle.sdb_contents.specs.Types.{Key, Place, Record, Span, Table, TableName}
 use Rattle.sdb_types.specs.Contents.{rows_in}
 use Rattle.sdb_types.specs.Order.{table_cmp}
 use Rattle.sdb_record.specs.Coordinator.{coordinator_table}
-use Rattle.sdb_schema.specs.declared.table.Table.{Table}
 use Rattle.sdb_stores.specs.Views.{Attached}
-use Rattle.sdb_types.specs.declared.place.Place.{Place}
 use Rattle.sdb_model.specs.Events.{StoreContents, contents_under, store_of}
 use Rattle.sdb_contents.specs.Board.{AreUsableFor, contents_of_views}
 
@@ -30,7 +25,7 @@ run_tables catalog = insert (table_names catalog) (length (take_while (λ n. is_
 
 -- the records of a table, in the order of their keys, in the store where it is kept
 abbrev pub records_of : List Place → List StoreContents → TableName → List Record
-records_of places shelves table = option_map_or (rows_in (whole table)) (contents_under shelves (store_of places shelves table.ns)) []
+records_of places store_contents table = option_map_or (rows_in (whole table)) (contents_under store_contents (store_of places store_contents table.ns)) []
 
 -- the same, as stores hold them
 abbrev pub records_in : Attached → TableName → List Record
@@ -38,7 +33,7 @@ records_in stores table = records_of stores.places (contents_of_views stores.vie
 
 -- all records of a run's tables, table by table, in the order of their names
 abbrev pub opening_records : List Table → List Place → List StoreContents → List Record
-opening_records catalog places shelves = flat_map (records_of places shelves) (run_tables catalog)
+opening_records catalog places store_contents = flat_map (records_of places store_contents) (run_tables catalog)
 
 -- the same, as stores hold them
 abbrev pub opening_in : List Table → Attached → List Record

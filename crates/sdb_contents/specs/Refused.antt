@@ -1,8 +1,7 @@
 -- Why a closing dump stopped.
 use Rattle.std.specs.Prelude.{Bool, not, List, Option, find}
 use Rattle.std.specs.Option.{option_map}
-use Rattle.sdb_types.specs.declared.key.Key.{Key}
-use Rattle.sdb_types.specs.declared.record.Record.{Record}
+use Rattle.sdb_contents.specs.Types.{Key, Record}
 use Rattle.sdb_stores.specs.Views.{Attached, HaveRisen}
 use Rattle.sdb_contents.specs.declared.refused.CallRefused.{CallRefused}
 use Rattle.sdb_contents.specs.declared.refused.CallRefused.TheVariants as call

@@ -24,7 +24,7 @@ fn row_under(
     rec: &Record,
 ) -> Result<Option<Columns>, ClosingRefused>
     ensures row { IfOk result (λ row. row ≡ row_by (decided decisions.now) rec.now) }
-    ensures taken { OnOk result (is_transactional rec.now ≡ true) }
+    ensures accepted { OnOk result (is_transactional rec.now ≡ true) }
     ensures err { IfErr result (Refuses (λ key. (key ≡ rec.now.key) × (is_transactional rec.now ≡ false)) ⊥) }
 {
     let Some(meta) = meta_of(alloc, rec).ok() else {

@@ -52,8 +52,8 @@ and-false true = refl
 and-false false = refl
 
 -- no column takes a field that isn't UTF-8
-pub not-taken : (h : Head) (field : List ℕ) → is_utf8 field ≡ false → false ≡ suits h field
-not-taken h field u =
+pub not-accepted : (h : Head) (field : List ℕ) → is_utf8 field ≡ false → false ≡ suits h field
+not-accepted h field u =
     let other : is_null_field field ≡ false = false_from_ne_true (is_null_field field) (λ q.
     let e : field ≡ null_field = (bytes_eq-Decides field null_field).0 q in
     let t : is_utf8 field ≡ true = ap is_utf8 e ∙ null-utf8 in

@@ -23,7 +23,7 @@ use Rattle.sdb_data.specs.Fields.{suits, value_at}
 
 -- a fault with a place, counted from 1
 abbrev pub at_place : (ℕ → CsvFault) → Option ℕ → Option CsvFault
-at_place told place = option_map (λ i. told (i + 1)) place
+at_place answered place = option_map (λ i. answered (i + 1)) place
 
 abbrev pub not_text : List (List ℕ) → Option CsvFault
 not_text fields = if list_all is_utf8 fields then None else Some fault.NotUtf8
@@ -122,7 +122,7 @@ cell_of fields x = value_at x.kind (get_or fields x.place [])
 
 -- the values of a record, in the order of their columns' names
 abbrev pub row_of : List ColumnTaken → List (List ℕ) → List Value
-row_of taken fields = map (cell_of fields) taken
+row_of accepted fields = map (cell_of fields) accepted
 
 -- the name of a column that is named, as a text
 abbrev pub named_at : List (List ℕ) → Column → Option Value

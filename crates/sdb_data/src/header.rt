@@ -237,15 +237,15 @@ pub fn columns_taken(
     columns: &[Column],
     header: &[Txt],
 ) -> Result<Seq<ColumnTaken>, NoMemory>
-    ensures { IfOk result (λ taken. taken ≡ spec.columns_taken columns.now header.now) }
+    ensures { IfOk result (λ accepted. accepted ≡ spec.columns_taken columns.now header.now) }
 {
-    let mut taken = Seq::new(alloc);
+    let mut accepted = Seq::new(alloc);
     for column in columns {
         if let Some(found) = taken_at(header, column) {
-            taken.push(found)?;
+            accepted.push(found)?;
         }
     }
-    Ok(taken)
+    Ok(accepted)
 }
 
 fn named_at(alloc: Global, header: &[Txt], column: &Column) -> Result<Option<Value>, NoMemory>

@@ -44,11 +44,11 @@ fn record_fault(heads: &[Head], fields: &ByteRecord) -> Option<CsvFault>
 }
 
 // The values of a record, in the order of their columns' names.
-fn row_of(alloc: Global, taken: &[ColumnTaken], fields: &ByteRecord) -> Result<Values, NoMemory>
-    ensures { IfOk result (λ row. row ≡ spec.row_of taken.now (fields_of fields.now)) }
+fn row_of(alloc: Global, accepted: &[ColumnTaken], fields: &ByteRecord) -> Result<Values, NoMemory>
+    ensures { IfOk result (λ row. row ≡ spec.row_of accepted.now (fields_of fields.now)) }
 {
     let mut row = Values::new(alloc);
-    for cell in taken {
+    for cell in accepted {
         row.push(value_at(alloc, cell.kind, field_at(fields, cell.place))?)?;
     }
     Ok(row)
@@ -59,11 +59,11 @@ fn add_rows(
     alloc: Global,
     rows: &mut Seq<Values>,
     heads: &[Head],
-    taken: &[ColumnTaken],
+    accepted: &[ColumnTaken],
     records: &[ByteRecord],
 ) -> Result<(), CsvRefused>
     requires { length records.now + 1 < 2 ^ 64 }
-    ensures rows { OnOk result (rows.new ≡ rows.old ++ map (λ r. spec.row_of taken.now (fields_of r)) records.now) }
+    ensures rows { OnOk result (rows.new ≡ rows.old ++ map (λ r. spec.row_of accepted.now (fields_of r)) records.now) }
     ensures good { OnOk result (spec.fault_from heads.now 2 (map fields_of records.now) ≡ None) }
     ensures fault { IfErr result (spec.IsFirstFault (spec.fault_from heads.now 2 (map fields_of records.now))) }
 {
@@ -71,7 +71,7 @@ fn add_rows(
         if let Some(fault) = record_fault(heads, fields) {
             return Err(CsvRefused::BadCsv(i as u64 + 2, fault));
         }
-        rows.push(row_of(alloc, taken, fields)?)?;
+        rows.push(row_of(alloc, accepted, fields)?)?;
     }
     Ok(())
 }
@@ -98,13 +98,13 @@ fn rows_under(
     ensures fault { IfErr result (spec.IsFirstFault (spec.fault_from (spec.heads_of table.now header.now) 2 (map fields_of records.now))) }
 {
     let heads = heads_of(alloc, table, header)?;
-    let taken = columns_taken(alloc, table.columns.as_slice(), header)?;
+    let accepted = columns_taken(alloc, table.columns.as_slice(), header)?;
     let mut rows = first_row(alloc, table, header)?;
     add_rows(
         alloc,
         &mut rows,
         heads.as_slice(),
-        taken.as_slice(),
+        accepted.as_slice(),
         records,
     )?;
     Ok(rows)

@@ -35,7 +35,7 @@ pub fn records_of(alloc: Global, text: &[u8]) -> Result<Vec<ByteRecord>, NoMemor
 {
     match all_records(alloc, text) {
         Ok(records) => Ok(records),
-        // Bytes in memory can't fail to be read, and records of any lengths are taken, so memory is all that can be wanting.
+        // Bytes in memory can't fail to be read, and records of any lengths are accepted, so memory is all that can be wanting.
         Err(_) => Err(NoMemory),
     }
 }

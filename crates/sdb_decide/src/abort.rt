@@ -11,7 +11,7 @@ use sdb_types::{NoMemory, Reply, Request, Seq, TxId};
 use std::alloc::Global;
 use std::marker::Model;
 
-/// The put of the row ABORTED, and the roll back of each write that may have taken effect, in order. What the roll backs are
+/// The put of the row ABORTED, and the roll back of each write that may have accepted effect, in order. What the roll backs are
 /// answered has no effect.
 pub struct Abort {
     row: Request,
@@ -66,7 +66,7 @@ fn started(with_row: bool) -> AbortPhase
 }
 
 impl Abort {
-    /// The abort of a transaction with these writes, whose COMMIT was taken at a moment from 0 to 2^53.
+    /// The abort of a transaction with these writes, whose COMMIT was accepted at a moment from 0 to 2^53.
     pub fn new(alloc: Global, writes: &Writes, id: TxId, now: i64) -> Result<Abort, NoMemory>
         ensures { IfOk result (λ a. a ≡ record { row = abort_of id now; asks = map (back_of id) writes.now; phase = Idle; at = 0; upto = 0 }) }
     {

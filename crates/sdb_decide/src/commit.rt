@@ -44,7 +44,7 @@ fn forwards(alloc: Global, writes: &[Write], id: TxId, now: i64) -> Result<Seq<R
 }
 
 impl Commit {
-    /// The roll forward of these writes, for a transaction whose COMMIT was taken at a moment from 0 to 2^53.
+    /// The roll forward of these writes, for a transaction whose COMMIT was accepted at a moment from 0 to 2^53.
     pub fn new(alloc: Global, writes: &Writes, id: TxId, now: i64) -> Result<Commit, NoMemory>
         requires { All IsWrite writes.now }
         ensures { IfOk result (λ c. c ≡ record { asks = map (forward_of id now) writes.now; at = 0 }) }

@@ -73,7 +73,7 @@ fn follow(alloc: Global, id: TxId, row: Record, aborted: DecideStep) -> DecideSt
 }
 
 impl Decide {
-    /// The decision on a transaction whose COMMIT was taken at a moment from 0 to 2^53.
+    /// The decision on a transaction whose COMMIT was accepted at a moment from 0 to 2^53.
     pub fn new(alloc: Global, id: TxId, now: i64) -> Result<Decide, NoMemory>
         ensures { IfOk result (λ d. d ≡ record { id = id; moment = now; phase = Put }) }
     {

@@ -5,34 +5,22 @@ use Rattle.std.specs.Option.{option_map, option_map_or}
 use Rattle.std.specs.List.{list_all, list_any, position_or_len}
 use Rattle.std.specs.Ordering.{is_eq}
 use Rattle.std.specs.Cmp.{eq_by_cmp_equiv, tied_itself}
-use Rattle.std.specs.declared.cmp.Ordering.{Ordering}
+use Rattle.sdb_exec.specs.Types.{Column, Image, Insert, Key, Kind, Mention, Order, Ordering, Pair, Refusal, Statement, Table, Value}
 use Rattle.std.specs.declared.cmp.Ordering.TheVariants.{Less, Equal, Greater}
 use Rattle.std.proofs.lemmas.Bool.{and_parts, and_from, not-true, eqb-true, or_right}
 use Rattle.std.proofs.lemmas.List.Folds.{list_any-append, list_all-append}
 use Rattle.std.proofs.lemmas.Bool.Decides.{nat_tests}
-use Rattle.sdb_types.specs.declared.key.Key.{Key}
-use Rattle.sdb_types.specs.declared.pair.Pair.{Pair}
-use Rattle.sdb_types.specs.declared.value.Value.{Value}
 use Rattle.sdb_types.specs.declared.value.Value.TheVariants as value
 use Rattle.sdb_types.specs.Order.{name_cmp, key_cmp}
 use Rattle.sdb_types.specs.Columns.{is_null, with_column, put_pair, take_out, choose_by}
 use Rattle.sdb_types.proofs.KeyOrder.{name_exact, name_total}
-use Rattle.sdb_schema.specs.declared.table.Kind.{Kind}
 use Rattle.sdb_schema.specs.declared.table.Kind.TheVariants as kind
-use Rattle.sdb_schema.specs.declared.table.Column.{Column}
-use Rattle.sdb_schema.specs.declared.table.Order.{Order}
-use Rattle.sdb_schema.specs.declared.table.Table.{Table}
 use Rattle.sdb_schema.specs.Table.{has_column, key_names, is_key_column as is_listed_key}
 use Rattle.sdb_schema.specs.Rows.{is_of_kind, is_in_range, is_value_of, are_values_of, is_stored_in, fits_table}
 use Rattle.sdb_model.specs.Rows.{Name, same_name, at_kind, kind_of_column, literal_at, is_key_column, order_names, value_in}
-use Rattle.sdb_record.specs.declared.access.Image.{Image}
 use Rattle.sdb_record.specs.declared.write.Change.TheVariants as change
-use Rattle.sdb_model.specs.declared.statement.Insert.{Insert}
-use Rattle.sdb_model.specs.declared.statement.Statement.{Statement}
 use Rattle.sdb_model.specs.declared.statement.Statement.TheVariants as statement
-use Rattle.sdb_model.specs.declared.answer.Refusal.{Refusal}
 use Rattle.sdb_model.specs.Exec.{with_sets, with_named, passes, key_of}
-use Rattle.sdb_model.specs.declared.statement.Mention.{Mention}
 use Rattle.sdb_model.specs.Refused.{suits, is_within, first_place, is_unknown, names_key, is_of_other_kind, is_null_in_key, is_out_of_range, mention_of_set, listed, written, looked_at, mentions, set_by, lacking, missing_place, refusal, or_next, column_refusal, key_refusal, literal_refusal, refusal_on}
 use Rattle.sdb_exec.specs.Plans.{columns_at, put_row, changes_on, change_is_well_typed, has_all_literals}
 use Rattle.sdb_exec.proofs.Laid.{keyed}

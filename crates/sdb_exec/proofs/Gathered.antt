@@ -1,9 +1,8 @@
 -- The mentions of an insert, gathered one after the other.
 use Rattle.std.proofs.Common.{◌≡◌, List, [], ◌∷◌, ◌++◌, Some, sym, ◌∙◌, append_assoc}
 use Rattle.std.proofs.lemmas.List.{append-nil}
-use Rattle.sdb_types.specs.declared.value.Value.{Value}
+use Rattle.sdb_exec.specs.Types.{Mention, Value}
 use Rattle.sdb_model.specs.Rows.{Name}
-use Rattle.sdb_model.specs.declared.statement.Mention.{Mention}
 use Rattle.sdb_model.specs.Refused.{listed, mention_of_name}
 
 abbrev pub with_literal : Name → Value → Mention

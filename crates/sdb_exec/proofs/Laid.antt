@@ -6,13 +6,9 @@ use Rattle.std.specs.Ordering.{is_eq, is_lt}
 use Rattle.std.specs.FinMap.{get, find, is_sorted, get-insert, get-remove}
 use Rattle.std.specs.FinMap.Entries.{below_all}
 use Rattle.std.proofs.lemmas.Bool.{and_parts}
-use Rattle.sdb_types.specs.declared.key.Key.{Key}
-use Rattle.sdb_types.specs.declared.pair.Pair.{Pair}
+use Rattle.sdb_exec.specs.Types.{Change, Image, Key, Keyed, Pair}
 use Rattle.sdb_types.specs.Order.{key_cmp}
 use Rattle.sdb_types.proofs.KeyOrder.{key_exact, key_total}
-use Rattle.sdb_record.specs.declared.write.Change.{Change}
-use Rattle.sdb_record.specs.declared.write.Keyed.{Keyed}
-use Rattle.sdb_record.specs.declared.access.Image.{Image}
 use Rattle.sdb_model.specs.Exec.{Tables, row_of_entry, entry_of_row}
 use Rattle.sdb_record.specs.Rolls.{row_of_change}
 use Rattle.sdb_model.specs.Access.{with_row, with_changes}

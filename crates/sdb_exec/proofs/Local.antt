@@ -4,19 +4,13 @@ use Rattle.std.specs.Prelude.{filter, is_some, unwrap_or}
 use Rattle.std.specs.Ordering.{is_eq}
 use Rattle.std.specs.FinMap.{get, insert, entries, entries_sorted, find, is_sorted, get-entries, get-from_entries, get-from_sorted, entries-from_sorted, from_sorted, same_map}
 use Rattle.std.specs.FinMap.Entries.{where_key, is_sorted-where_key, find-where_key}
-use Rattle.sdb_types.specs.declared.key.Key.{Key}
-use Rattle.sdb_types.specs.declared.pair.Pair.{Pair}
+use Rattle.sdb_exec.specs.Types.{Access, Image, Key, Pair, Statement, Table, Test}
 use Rattle.sdb_types.specs.Order.{key_cmp}
 use Rattle.sdb_types.proofs.KeyOrder.{key_exact, key_total}
-use Rattle.sdb_schema.specs.declared.table.Table.{Table}
-use Rattle.sdb_model.specs.declared.statement.Test.{Test}
-use Rattle.sdb_model.specs.declared.statement.Statement.{Statement}
 use Rattle.sdb_model.specs.declared.statement.Statement.TheVariants as statement
-use Rattle.sdb_record.specs.declared.access.Access.{Access}
 use Rattle.sdb_record.specs.declared.access.Access.TheVariants as access
 use Rattle.sdb_model.specs.declared.answer.Answer.TheVariants as answer
 use Rattle.sdb_record.specs.declared.write.Change.TheVariants as change
-use Rattle.sdb_record.specs.declared.access.Image.{Image}
 use Rattle.sdb_schema.specs.Table.{is_table}
 use Rattle.sdb_model.specs.Exec.{Tables, all_rows, row_of_entry, tables_of_rows, is_row_of, passes, with_sets, key_of, with_named, answer_of, left_by, projected, cut, sorted}
 use Rattle.sdb_model.specs.Reads.{access_for, access_of}

@@ -9,17 +9,12 @@ use Rattle.std.specs.Cmp.{tied_itself, eq_by_cmp_equiv}
 use Rattle.std.proofs.lemmas.Bool.{and_parts, or_parts, not-true, eqb-true}
 use Rattle.std.proofs.lemmas.List.{length-map}
 use Rattle.std.proofs.lemmas.List.Folds.{list_any-append}
-use Rattle.sdb_types.specs.declared.key.Key.{Key}
-use Rattle.sdb_types.specs.declared.key.TableName.{TableName}
-use Rattle.sdb_types.specs.declared.value.Value.{Value}
+use Rattle.sdb_exec.specs.Types.{Image, Key, Table, TableName, Test, Value}
 use Rattle.sdb_types.specs.Order.{key_cmp, table_cmp, value_cmp}
 use Rattle.sdb_types.specs.ValueLaws.{value_exact, value_total}
 use Rattle.sdb_types.proofs.KeyOrder.{name_exact, table_exact, table_total, key_total}
-use Rattle.sdb_schema.specs.declared.table.Table.{Table}
 use Rattle.sdb_schema.specs.Table.{is_table, first_repeated, is_among, key_names}
-use Rattle.sdb_record.specs.declared.access.Image.{Image}
 use Rattle.sdb_model.specs.declared.statement.Comparison.TheVariants.{Eq, Ne, Lt, Le, Gt, Ge}
-use Rattle.sdb_model.specs.declared.statement.Test.{Test}
 use Rattle.sdb_model.specs.declared.statement.Test.TheVariants.{Compare, IsNull, NotNull}
 use Rattle.sdb_model.specs.Rows.{Name, same_name, order_names, value_of, value_in, literal_at}
 use Rattle.sdb_model.specs.Exec.{passes_test, passes, is_row_of}

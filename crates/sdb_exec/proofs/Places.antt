@@ -5,18 +5,13 @@ use Rattle.std.specs.List.{position_or_len, list_any, list_all}
 use Rattle.std.proofs.lemmas.Bool.{and_parts, not-false as unnot}
 use Rattle.std.proofs.lemmas.Bool.Decides.{nat_tests}
 use Rattle.std.proofs.lemmas.List.{length-append, length-map}
-use Rattle.sdb_schema.specs.declared.table.Table.{Table}
-use Rattle.sdb_schema.specs.declared.make.TableRefused.{TableRefused}
+use Rattle.sdb_exec.specs.Types.{Mention, Refusal, Statement, Table, TableName, TableRefused}
 use Rattle.sdb_schema.specs.Table.{refuse, none_of, first_unknown, first_listed_twice, first_repeated, first_reserved, limit_passed, checked_table, is_table, key_names, order_names, rises}
 use Rattle.sdb_record.specs.Parts.{is_column_name}
-use Rattle.sdb_model.specs.declared.statement.Statement.{Statement}
 use Rattle.sdb_model.specs.declared.statement.Statement.TheVariants as statement
-use Rattle.sdb_model.specs.declared.answer.Refusal.{Refusal}
-use Rattle.sdb_types.specs.declared.key.TableName.{TableName}
 use Rattle.sdb_schema.specs.Catalog.{is_catalog, rises as names_rise}
 use Rattle.sdb_model.specs.Exec.{named_table, find_table, table_of}
 use Rattle.std.specs.Option.{option_map_or}
-use Rattle.sdb_model.specs.declared.statement.Mention.{Mention}
 use Rattle.sdb_model.specs.Refused.{first_place, repeat_place, is_named_by, refusal, or_next, written, looked_at, mentions, set_by, missing_place, is_unknown, names_key, is_of_other_kind, is_null_in_key, is_out_of_range, is_too_long, refusal_on}
 
 refuse-valid : {A B : Type 0} (o : Option A) (f : A → TableRefused) (next : Result B TableRefused) → is_ok (refuse o f next) ≡ true → (o ≡ None) × (is_ok next ≡ true)

@@ -1,11 +1,9 @@
 -- What the laws of plans speak of.
 use Rattle.std.specs.Prelude.{◌≡◌, Bool, true, List, Some, None}
 use Rattle.std.specs.List.{list_all}
-use Rattle.sdb_record.specs.declared.access.Image.{Image}
-use Rattle.sdb_schema.specs.declared.table.Table.{Table}
+use Rattle.sdb_exec.specs.Types.{Image, Statement, Table}
 use Rattle.sdb_schema.specs.Rows.{fits_table}
 use Rattle.sdb_schema.specs.Table.{is_table}
-use Rattle.sdb_model.specs.declared.statement.Statement.{Statement}
 use Rattle.sdb_model.specs.Access.{rows_at}
 use Rattle.sdb_model.specs.Exec.{Tables, all_rows, named_table}
 use Rattle.sdb_model.specs.Refused.{refusal_on}

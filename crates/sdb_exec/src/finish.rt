@@ -113,8 +113,8 @@ fn select(alloc: Global, table: &Table, select: &Select, rows: Images) -> Step
     ensures { IfOk result (λ s. s ≡ step.Finished (answer_on table.now (statement.Select select.now) rows) (changes_on table.now (statement.Select select.now) rows)) }
 {
     let found = passing(table, select.tests.as_slice(), rows);
-    let shown = selected(alloc, table, select, found)?;
-    Ok(PlanStep::Finished(Answer::Rows(shown), Seq::new(alloc)))
+    let observed = selected(alloc, table, select, found)?;
+    Ok(PlanStep::Finished(Answer::Rows(observed), Seq::new(alloc)))
 }
 
 // What a statement is answered that names no table.

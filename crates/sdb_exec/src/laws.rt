@@ -1,14 +1,10 @@
 //! What plans mean.
 ghost use Rattle.std.specs.Prelude.{◌≡◌, true, List};
 ghost use Rattle.std.specs.FinMap.{get};
-ghost use Rattle.sdb_types.specs.declared.key.Key.{Key};
-ghost use Rattle.sdb_record.specs.declared.access.Access.{Access};
-ghost use Rattle.sdb_schema.specs.declared.table.Table.{Table};
+ghost use Rattle.sdb_exec.specs.Types.{Access, Image, Key, Statement, Table};
 ghost use Rattle.sdb_model.specs.Exec.{Tables};
 ghost use Rattle.sdb_model.specs.Access.{in_access, rows_at};
 ghost use Rattle.sdb_exec.specs.Asked.{AcceptedStatement, AreReadable, AskedPlan, FinishesAsExec, rows_are_well_typed};
-ghost use Rattle.sdb_model.specs.declared.statement.Statement.{Statement};
-ghost use Rattle.sdb_record.specs.declared.access.Image.{Image};
 ghost use Rattle.sdb_exec.specs.Plans.{all_well_typed, changes_on, keys_rise, row_keys, change_keys, change_is_well_typed};
 ghost use Rattle.std.specs.List.{list_all};
 

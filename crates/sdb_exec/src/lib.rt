@@ -16,4 +16,4 @@ mod show;
 pub use change::{deletes, inserted_key, literal_at, named_columns, set_columns, updates};
 pub use plan::{Plan, PlanRefused, PlanStep};
 pub use read::{is_key_name, kind_of, passes, passing, value_at};
-pub use show::{cut, projected_all, projected_names, shown};
+pub use show::{cut, observed, projected_all, projected_names};

@@ -44,7 +44,12 @@ fn value_shown(table: &Table, row: &Image, name: &Name) -> Result<Value, NoMemor
 }
 
 /// What a row gives the columns of these names.
-pub fn shown(alloc: Global, table: &Table, names: &[Name], row: &Image) -> Result<Values, NoMemory>
+pub fn observed(
+    alloc: Global,
+    table: &Table,
+    names: &[Name],
+    row: &Image,
+) -> Result<Values, NoMemory>
     ensures { IfOk result (λ values. values ≡ map (value_of table.now row.now) names.now) }
 {
     let mut values = Values::new(alloc);
@@ -65,7 +70,7 @@ pub fn projected_all(
 {
     let mut found = Rows::new(alloc);
     for row in rows {
-        found.push(shown(alloc, table, names, row)?)?;
+        found.push(observed(alloc, table, names, row)?)?;
     }
     Ok(found)
 }

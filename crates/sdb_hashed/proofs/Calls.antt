@@ -6,16 +6,10 @@ use Rattle.std.specs.List.{IsDistinct}
 use Rattle.std.specs.Map.{lookup, keys_of}
 use Rattle.std.specs.BTreeMap.{BTreeMap, WritesThrough}
 use Rattle.std.specs.Ordering.{eq_by_cmp}
-use Rattle.std.specs.declared.cmp.Ordering.{Ordering}
+use Rattle.sdb_hashed.specs.Types.{Condition, Key, Ordering, Pair, Record, Reply, Request}
 use Rattle.std.proofs.lemmas.Map.Keys.{IsDistinct-from_sorted}
 use Rattle.std.specs.FinMap.{get, insert, remove, empty, get-empty, same_map}
-use Rattle.sdb_types.specs.declared.key.Key.{Key}
-use Rattle.sdb_types.specs.declared.pair.Pair.{Pair}
-use Rattle.sdb_types.specs.declared.record.Condition.{Condition}
-use Rattle.sdb_types.specs.declared.record.Record.{Record}
-use Rattle.sdb_types.specs.declared.record.Reply.{Reply}
 use Rattle.sdb_types.specs.declared.record.Reply.TheVariants.{Applied, NotMet}
-use Rattle.sdb_types.specs.declared.record.Request.{Request}
 use Rattle.sdb_types.specs.declared.record.Request.TheVariants.{PutIf, DeleteIf}
 use Rattle.sdb_types.specs.Order.{key_cmp}
 use Rattle.sdb_types.specs.Contents.{Contents, record_of, record_at, holds, put_reply, after, reply_to}
@@ -25,12 +19,12 @@ use Rattle.sdb_hashed.specs.Gathered.{contents_of_all, in_part, part_at, HasOwnK
 use Rattle.sdb_hashed.proofs.Changes.{IsLocal, nothing_local, insert_local, remove_absent}
 use Rattle.sdb_hashed.proofs.Gather.{held_get, changed_own, changed_held}
 
-module _ {K V : Type 0} (cmp : K → K → Ordering) (tells : (a b : K) → (eq_by_cmp cmp a b ≡ true → a ≡ b) × (a ≡ b → eq_by_cmp cmp a b ≡ true)) (part : Key → K) (f : V → Contents) where
+module _ {K V : Type 0} (cmp : K → K → Ordering) (is_known : (a b : K) → (eq_by_cmp cmp a b ≡ true → a ≡ b) × (a ≡ b → eq_by_cmp cmp a b ≡ true)) (part : Key → K) (f : V → Contents) where
   ---- one part is found
 
   -- what one part has at its keys, all parts have
   pub found_part : (es : List (K × V)) → IsDistinct (eq_by_cmp cmp) (keys_of es) → HasOwnKeys (eq_by_cmp cmp) part f es → (k : Key) (o : Option V) → o ≡ lookup (eq_by_cmp cmp (part k)) es → in_part (option_map f o) k ≡ get (contents_of_all f es) k
-  found_part es distinct own k o at = ap (λ p. in_part (option_map f p) k) at ∙ sym (held_get (eq_by_cmp cmp) tells part f es distinct own k)
+  found_part es distinct own k o at = ap (λ p. in_part (option_map f p) k) at ∙ sym (held_get (eq_by_cmp cmp) is_known part f es distinct own k)
 
   ---- one part changes
 
@@ -44,16 +38,16 @@ module _ {K V : Type 0} (cmp : K → K → Ordering) (tells : (a b : K) → (eq_
         ∙ elim (eq_by_cmp cmp (part k) s) as (λ b. option_map f (cond b (Some w) (lookup (eq_by_cmp cmp s) old.entries)) ≡ cond b (Some m) (part_at (eq_by_cmp cmp) f old.entries s)) [ true ↦ ap Some e | false ↦ refl ]
 
     pub through_own : {A E : Type 0} (op : Contents → Contents) → IsLocal k op → (r : Result A E) → OnOk r (f w ≡ op (f v)) → OnErr r (f w ≡ f v) → HasOwnKeys (eq_by_cmp cmp) part f new.entries
-    through_own op local (Ok x) ok err = changed_own (eq_by_cmp cmp) tells part f op k local old.entries new.entries (f v) own was (changes (op (f v)) ok)
-    through_own op local (Err e) ok err = changed_own (eq_by_cmp cmp) tells part f (λ m. m) k (nothing_local k) old.entries new.entries (f v) own was (changes (f v) err)
+    through_own op local (Ok x) ok err = changed_own (eq_by_cmp cmp) is_known part f op k local old.entries new.entries (f v) own was (changes (op (f v)) ok)
+    through_own op local (Err e) ok err = changed_own (eq_by_cmp cmp) is_known part f (λ m. m) k (nothing_local k) old.entries new.entries (f v) own was (changes (f v) err)
 
     pub through_ok : {A E : Type 0} (op : Contents → Contents) → IsLocal k op → (m : Contents) → contents_of_all f old.entries ≡ m → (r : Result A E) → OnOk r (f w ≡ op (f v)) → OnOk r (contents_of_all f new.entries ≡ op m)
-    through_ok op local m view (Ok x) ok = changed_held (eq_by_cmp cmp) tells part f op k local old.entries new.entries (f v) own was (changes (op (f v)) ok) distinct (IsDistinct-from_sorted cmp (keys_of new.entries) h.4) ∙ ap op view
+    through_ok op local m view (Ok x) ok = changed_held (eq_by_cmp cmp) is_known part f op k local old.entries new.entries (f v) own was (changes (op (f v)) ok) distinct (IsDistinct-from_sorted cmp (keys_of new.entries) h.4) ∙ ap op view
     through_ok op local m view (Err e) ok = tt
 
     pub through_err : {A E : Type 0} (m : Contents) → contents_of_all f old.entries ≡ m → (r : Result A E) → OnErr r (f w ≡ f v) → OnErr r (contents_of_all f new.entries ≡ m)
     through_err m view (Ok x) err = tt
-    through_err m view (Err e) err = changed_held (eq_by_cmp cmp) tells part f (λ n. n) k (nothing_local k) old.entries new.entries (f v) own was (changes (f v) err) distinct (IsDistinct-from_sorted cmp (keys_of new.entries) h.4) ∙ view
+    through_err m view (Err e) err = changed_held (eq_by_cmp cmp) is_known part f (λ n. n) k (nothing_local k) old.entries new.entries (f v) own was (changes (f v) err) distinct (IsDistinct-from_sorted cmp (keys_of new.entries) h.4) ∙ view
 
   ---- one part is added
 
@@ -64,18 +58,18 @@ module _ {K V : Type 0} (cmp : K → K → Ordering) (tells : (a b : K) → (eq_
 
       pub kept_held : contents_of_all f fs ≡ contents_of_all f es
       kept_held = same_map key_total key_exact (contents_of_all f fs) (contents_of_all f es) (λ q.
-          held_get (eq_by_cmp cmp) tells part f fs apart kept_own q ∙ ap (λ o. in_part (option_map f o) q) (agree (part q)) ∙ sym (held_get (eq_by_cmp cmp) tells part f es distinct own q))
+          held_get (eq_by_cmp cmp) is_known part f fs apart kept_own q ∙ ap (λ o. in_part (option_map f o) q) (agree (part q)) ∙ sym (held_get (eq_by_cmp cmp) is_known part f es distinct own q))
 
     module _ (k : Key) (v : List Pair) (none : None ≡ lookup (eq_by_cmp cmp (part k)) es) where
       blank : (q : Key) → in_part (part_at (eq_by_cmp cmp) f es (part k)) q ≡ get {R = key_cmp} empty q
       blank q = ap (λ o. in_part (option_map f o) q) (sym none) ∙ sym (get-empty key_cmp q)
 
       pub added_own : {A E : Type 0} (r : Result A E) → OnOk r (ChangesAt (eq_by_cmp cmp) f (part k) (insert empty k v) es fs) → OnErr r ((s : K) → lookup (eq_by_cmp cmp s) fs ≡ lookup (eq_by_cmp cmp s) es) → HasOwnKeys (eq_by_cmp cmp) part f fs
-      added_own (Ok x) ok err = changed_own (eq_by_cmp cmp) tells part f (λ m. insert m k v) k (insert_local k v) es fs empty own blank ok
+      added_own (Ok x) ok err = changed_own (eq_by_cmp cmp) is_known part f (λ m. insert m k v) k (insert_local k v) es fs empty own blank ok
       added_own (Err e) ok err = kept_own err
 
       pub added_held : {A E : Type 0} (m : Contents) → contents_of_all f es ≡ m → (r : Result A E) → OnOk r (ChangesAt (eq_by_cmp cmp) f (part k) (insert empty k v) es fs) → OnOk r (contents_of_all f fs ≡ insert m k v)
-      added_held m view (Ok x) ok = changed_held (eq_by_cmp cmp) tells part f (λ m. insert m k v) k (insert_local k v) es fs empty own blank ok distinct apart ∙ ap (λ n. insert n k v) view
+      added_held m view (Ok x) ok = changed_held (eq_by_cmp cmp) is_known part f (λ m. insert m k v) k (insert_local k v) es fs empty own blank ok distinct apart ∙ ap (λ n. insert n k v) view
       added_held m view (Err e) ok = tt
 
     pub added_err : {A E : Type 0} (m : Contents) → contents_of_all f es ≡ m → (r : Result A E) → OnErr r ((s : K) → lookup (eq_by_cmp cmp s) fs ≡ lookup (eq_by_cmp cmp s) es) → OnErr r (contents_of_all f fs ≡ m)

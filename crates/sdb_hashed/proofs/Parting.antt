@@ -8,11 +8,7 @@ use Rattle.std.specs.Map.{lookup, keys_of}
 use Rattle.std.specs.Cmp.Lexicographic.{lists_total}
 use Rattle.std.specs.FinMap.{get, empty, entries, entries_sorted, get-entries, get-empty, slice_cmp-IsAntisymmetric}
 use Rattle.std.specs.FinMap.Entries.{where_key, is_sorted-where_key, same_entries}
-use Rattle.sdb_types.specs.declared.key.Key.{Key}
-use Rattle.sdb_types.specs.declared.pair.Pair.{Pair}
-use Rattle.sdb_types.specs.declared.value.Value.{Value}
-use Rattle.sdb_types.specs.declared.record.Record.{Record}
-use Rattle.sdb_types.specs.declared.record.Span.{Span}
+use Rattle.sdb_hashed.specs.Types.{Key, Pair, Record, Span, Value}
 use Rattle.sdb_types.specs.Order.{key_cmp, table_cmp}
 use Rattle.sdb_types.specs.Exact.{order_decides}
 use Rattle.sdb_types.specs.ValueLaws.{value_exact, value_total}
@@ -32,15 +28,15 @@ use Rattle.sdb_types.proofs.SpanRows.{find_span, same_rows}
 not_some : {A : Type 0} (o : Option A) → o ≡ None → IsSome o → {P : Type 0} → P
 not_some o none some = absurd (let e : false ≡ true = sym (ap is_some none) ∙ some in cc)
 
-module _ {K V : Type 0} (same : K → K → Bool) (tells : (a b : K) → (same a b ≡ true → a ≡ b) × (a ≡ b → same a b ≡ true)) (part : Key → K) (f : V → Contents) (es : List (K × V)) (distinct : IsDistinct same (keys_of es)) (own : HasOwnKeys same part f es) (name : K) where
+module _ {K V : Type 0} (same : K → K → Bool) (is_known : (a b : K) → (same a b ≡ true → a ≡ b) × (a ≡ b → same a b ≡ true)) (part : Key → K) (f : V → Contents) (es : List (K × V)) (distinct : IsDistinct same (keys_of es)) (own : HasOwnKeys same part f es) (name : K) where
   here : (o : Option V) → o ≡ lookup (same name) es → (key : Key) → part key ≡ name → in_part (option_map f o) key ≡ get (contents_of_all f es) key
   here o found key e =
-      ap (λ p. in_part (option_map f p) key) found ∙ ap (λ s. in_part (part_at same f es s) key) (sym e) ∙ sym (held_get same tells part f es distinct own key)
+      ap (λ p. in_part (option_map f p) key) found ∙ ap (λ s. in_part (part_at same f es s) key) (sym e) ∙ sym (held_get same is_known part f es distinct own key)
 
   only : (o : Option V) → o ≡ lookup (same name) es → (key : Key) → IsSome (in_part (option_map f o) key) → part key ≡ name
   only o found key some =
       elim (same name (part key)) as (λ b. same name (part key) ≡ b → part key ≡ name) [
-        | true ↦ λ e. sym ((tells name (part key)).0 e)
+        | true ↦ λ e. sym ((is_known name (part key)).0 e)
         | false ↦ λ e. not_some (in_part (option_map f o) key) (ap (λ p. in_part (option_map f p) key) found ∙ own name key e) some
       ] refl
 

@@ -4,10 +4,7 @@ use Rattle.std.specs.Ordering.{eq_by_cmp}
 use Rattle.std.specs.List.{filter}
 use Rattle.std.specs.FinMap.{find, get, insert, entries, get-entries, get-insert}
 use Rattle.std.specs.FinMap.Entries.{where_key}
-use Rattle.sdb_types.specs.declared.key.Key.{Key}
-use Rattle.sdb_types.specs.declared.pair.Pair.{Pair}
-use Rattle.sdb_types.specs.declared.record.Record.{Record}
-use Rattle.sdb_types.specs.declared.record.Span.{Span}
+use Rattle.sdb_hashed.specs.Types.{Key, Pair, Record, Span}
 use Rattle.sdb_types.specs.Order.{key_cmp}
 use Rattle.sdb_types.specs.Contents.{Contents, record_of, in_span, rows_in}
 use Rattle.sdb_types.proofs.KeyOrder.{key_total}
@@ -51,11 +48,11 @@ none (e ∷ es) h = absurd (omega arith)
 pub no_rows : (span : Span) → rows_in span empty ≡ []
 no_rows span = ap (λ es. map record_of (filter (λ e. in_span span e.0) es)) (none (entries empty) (sym (len-entries empty) ∙ len-empty key_cmp (List Pair)))
 
-module _ {K V : Type 0} (same : K → K → Bool) (tells : (a b : K) → (same a b ≡ true → a ≡ b) × (a ≡ b → same a b ≡ true)) (part : Key → K) (f : V → Contents) (es : List (K × V)) (distinct : IsDistinct same (keys_of es)) (own : HasOwnKeys same part f es) (span : Span) where
+module _ {K V : Type 0} (same : K → K → Bool) (is_known : (a b : K) → (same a b ≡ true → a ≡ b) × (a ≡ b → same a b ≡ true)) (part : Key → K) (f : V → Contents) (es : List (K × V)) (distinct : IsDistinct same (keys_of es)) (own : HasOwnKeys same part f es) (span : Span) where
   -- inside one part all parts have what it has
   inside : (x : K) (o : Option V) → ((q : Key) → in_span span q ≡ true → part q ≡ x) → o ≡ lookup (same x) es → (q : Key) → in_span span q ≡ true → in_part (option_map f o) q ≡ get (contents_of_all f es) q
   inside x o within found q h =
-      ap (λ p. in_part (option_map f p) q) (found ∙ ap (λ s. lookup (same s) es) (sym (within q h))) ∙ sym (held_get same tells part f es distinct own q)
+      ap (λ p. in_part (option_map f p) q) (found ∙ ap (λ s. lookup (same s) es) (sym (within q h))) ∙ sym (held_get same is_known part f es distinct own q)
 
   pub part_rows : (x : K) (v : V) → ((q : Key) → in_span span q ≡ true → part q ≡ x) → Some v ≡ lookup (same x) es → rows_in span (f v) ≡ rows_in span (contents_of_all f es)
   part_rows x v within found = same_rows span (f v) (contents_of_all f es) (inside x (Some v) within found)

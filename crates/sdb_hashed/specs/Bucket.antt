@@ -2,9 +2,7 @@
 use Rattle.std.specs.Prelude.{◌≡◌, ℕ, ◌<◌, ◌≤◌, List, map, length, slice_index_or}
 use Rattle.std.specs.declared.cmp.Ordering.TheVariants.{Less, Greater}
 use Rattle.std.specs.FinMap.{from_entries}
-use Rattle.sdb_types.specs.declared.key.Key.{Key}
-use Rattle.sdb_types.specs.declared.pair.Pair.{Pair}
-use Rattle.sdb_types.specs.declared.record.Record.{Record}
+use Rattle.sdb_hashed.specs.Types.{Key, Pair, Record}
 use Rattle.sdb_types.specs.Order.{key_cmp}
 use Rattle.sdb_types.specs.Contents.{Contents}
 

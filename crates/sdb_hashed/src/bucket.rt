@@ -11,7 +11,7 @@ use std::alloc::Global;
 use std::marker::Model;
 
 /// Records in the order of `Key::compare`, seen as a list. A search takes time as the logarithm of their number, and a record that is
-/// added or taken out moves those after it.
+/// added or accepted out moves those after it.
 pub struct Bucket {
     alloc: Global,
     records: Records,

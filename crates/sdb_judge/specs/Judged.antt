@@ -7,7 +7,7 @@ use Rattle.sdb_model.specs.Counted.{AreCounted, AreResolved}
 use Rattle.sdb_model.specs.Plain.{IsPlain}
 use Rattle.sdb_model.specs.Report.{report_text_of}
 use Rattle.sdb_model.specs.DirtyReads.{NoDirtyReads}
-use Rattle.sdb_execution.specs.Execution.{IsExecution}
+use Rattle.sdb_client.specs.Execution.{IsExecution}
 use Rattle.sdb_report.specs.Reports.{IsFirstBad}
 use Rattle.sdb_script.specs.Whole.{IsScript, IsRefused}
 use Rattle.sdb_script.specs.declared.fault.ScriptRefused.{ScriptRefused}

@@ -7,35 +7,38 @@ use sdb_model::{Event, How, Place, Places};
 use sdb_types::{Duplicate, Name, NoMemory, Reply, Request, Seq};
 use std::alloc::Global;
 
-fn shelf_copied(alloc: Global, shelf: &StoreContents) -> Result<StoreContents, NoMemory> {
+fn shelf_copied(alloc: Global, store_content: &StoreContents) -> Result<StoreContents, NoMemory> {
     Ok(StoreContents {
-        name: shelf.name.copy()?,
-        rows: copied(alloc, &shelf.rows)?,
+        name: store_content.name.copy()?,
+        rows: copied(alloc, &store_content.rows)?,
     })
 }
 
 /// The same contents of each store.
-pub fn contents_copied(alloc: Global, shelves: &[StoreContents]) -> Result<Shelves, NoMemory> {
+pub fn contents_copied(
+    alloc: Global,
+    store_contents: &[StoreContents],
+) -> Result<Shelves, NoMemory> {
     let mut all = Seq::new(alloc);
-    for shelf in shelves {
-        all.push(shelf_copied(alloc, shelf)?)?;
+    for store_content in store_contents {
+        all.push(shelf_copied(alloc, store_content)?)?;
     }
     Ok(all)
 }
 
 fn shelf_with(
     alloc: Global,
-    shelf: &StoreContents,
+    store_content: &StoreContents,
     name: &Name,
     rows: &PlainTables,
 ) -> Result<StoreContents, NoMemory> {
-    let kept = if shelf.name.cmp(name).is_eq() {
+    let kept = if store_content.name.cmp(name).is_eq() {
         rows
     } else {
-        &shelf.rows
+        &store_content.rows
     };
     Ok(StoreContents {
-        name: shelf.name.copy()?,
+        name: store_content.name.copy()?,
         rows: copied(alloc, kept)?,
     })
 }
@@ -43,13 +46,13 @@ fn shelf_with(
 // With other contents in the store of a name.
 fn shelves_with(
     alloc: Global,
-    shelves: &[StoreContents],
+    store_contents: &[StoreContents],
     name: &Name,
     rows: &PlainTables,
 ) -> Result<Shelves, NoMemory> {
     let mut all = Seq::new(alloc);
-    for shelf in shelves {
-        all.push(shelf_with(alloc, shelf, name, rows)?)?;
+    for store_content in store_contents {
+        all.push(shelf_with(alloc, store_content, name, rows)?)?;
     }
     Ok(all)
 }
@@ -66,12 +69,12 @@ fn place_of<'a>(places: &'a [Place], ns: &Name) -> Option<&'a Place> {
 /// The name of the store of a namespace: where it is placed, or else the first; none where there is no store.
 pub fn store_of<'a>(
     places: &'a [Place],
-    shelves: &'a [StoreContents],
+    store_contents: &'a [StoreContents],
     ns: &Name,
 ) -> Option<&'a Name> {
     match place_of(places, ns) {
         Some(place) => Some(&place.store),
-        None => match shelves.first() {
+        None => match store_contents.first() {
             Some(first) => Some(&first.name),
             None => None,
         },
@@ -79,10 +82,10 @@ pub fn store_of<'a>(
 }
 
 /// What the store of a name contains.
-pub fn rows_of<'a>(shelves: &'a [StoreContents], name: &Name) -> Option<&'a PlainTables> {
-    for shelf in shelves {
-        if shelf.name.cmp(name).is_eq() {
-            return Some(&shelf.rows);
+pub fn rows_of<'a>(store_contents: &'a [StoreContents], name: &Name) -> Option<&'a PlainTables> {
+    for store_content in store_contents {
+        if store_content.name.cmp(name).is_eq() {
+            return Some(&store_content.rows);
         }
     }
     None
@@ -99,11 +102,11 @@ fn namespace_of(request: &Request) -> &Name {
 
 fn is_own_store(
     places: &[Place],
-    shelves: &[StoreContents],
+    store_contents: &[StoreContents],
     store: &Name,
     request: &Request,
 ) -> bool {
-    match store_of(places, shelves, namespace_of(request)) {
+    match store_of(places, store_contents, namespace_of(request)) {
         Some(own) => own.cmp(store).is_eq(),
         None => false,
     }
@@ -169,11 +172,11 @@ fn empty_shelf(alloc: Global, name: &Name) -> Result<StoreContents, NoMemory> {
 }
 
 fn empty_shelves(alloc: Global, names: &[Name]) -> Result<Shelves, NoMemory> {
-    let mut shelves = Seq::new(alloc);
+    let mut store_contents = Seq::new(alloc);
     for name in names {
-        shelves.push(empty_shelf(alloc, name)?)?;
+        store_contents.push(empty_shelf(alloc, name)?)?;
     }
-    Ok(shelves)
+    Ok(store_contents)
 }
 
 /// What stores of these names contain before the events, which is nothing, and after each; none where the events don't agree with them.

@@ -3,8 +3,8 @@ use check_answers::statement_in;
 use check_tables::{
     Answers, PlainTables, client_of, exec, inside_of, is_effective, ordinal_of, run_body,
 };
+use sdb_contents::{Executed, statements_by};
 use sdb_model::{Answer, Event, Outcome, Point, Rows, Select, Statement, TableDump, TableRows};
-use sdb_order::{Executed, statements_by};
 use sdb_schema::{Catalog, Table};
 use sdb_types::{Duplicate, NoMemory, Seq};
 use std::alloc::Global;

@@ -73,7 +73,7 @@ fn fault_on_stores(
     outcome: &Outcome,
     stores: &Stores,
 ) -> Result<Option<Promise>, NoMemory>
-    ensures shown { IfOk result (λ fault. fault ≡ None → ReadsAreCommitted script.now outcome.now stores.now) }
+    ensures observed { IfOk result (λ fault. fault ≡ None → ReadsAreCommitted script.now outcome.now stores.now) }
     ensures fails { IfOk result (λ fault. IfSome fault (Fails script.now outcome.now)) }
 {
     let events = outcome.events.as_slice();

@@ -1,7 +1,7 @@
 -- What proofs of several crates cite of the definitions.
 use Rattle.std.proofs.Common.{◌≡◌, ◌-◌, ◌^◌, ℕ, suc, ◌<◌, List, [], ◌∷◌, zero, arith, ◌+◌, true, Bool, false, cond, map, refl, ap}
 use Rattle.std.proofs.lemmas.Nat.{div-add-mod'}
-use Rattle.sdb_types.specs.declared.txid.TxId.{TxId}
+use Rattle.sdb_model.specs.Types.{Key, Pair, TxId}
 use Rattle.sdb_model.specs.Transactions.{client_of, id_of, ordinal_of}
 use Rattle.std.specs.List.{AllByRecursion}
 use Rattle.hex.specs.Hex.{IsBytes}
@@ -9,8 +9,6 @@ use Rattle.std.proofs.lemmas.Bool.Decides.{nat_tests}
 use Rattle.sdb_model.specs.SqlTokens.{is_digit}
 use Rattle.std.specs.Prelude.{filter}
 use Rattle.std.specs.FinMap.Entries.{where_key}
-use Rattle.sdb_types.specs.declared.key.Key.{Key}
-use Rattle.sdb_types.specs.declared.pair.Pair.{Pair}
 use Rattle.sdb_types.specs.Order.{key_cmp}
 use Rattle.sdb_model.specs.Exec.{row_of_entry}
 

@@ -1,3 +1,5 @@
 pub mod RealTime
 pub mod Basics
 pub mod Requests
+pub mod Doubled
+pub mod Pieces

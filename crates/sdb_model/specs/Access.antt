@@ -2,14 +2,10 @@
 use Rattle.std.specs.Prelude.{Bool, List, [], ◌∷◌, filter, Option, Some, None}
 use Rattle.std.specs.Ordering.{is_eq}
 use Rattle.std.specs.FinMap.{insert, remove}
-use Rattle.sdb_types.specs.declared.key.Key.{Key}
-use Rattle.sdb_types.specs.declared.pair.Pair.{Pair}
+use Rattle.sdb_model.specs.Types.{Access, Image, Key, Keyed, Pair}
 use Rattle.sdb_types.specs.Order.{key_cmp}
 use Rattle.sdb_types.specs.Contents.{in_span}
-use Rattle.sdb_record.specs.declared.access.Access.{Access}
 use Rattle.sdb_record.specs.declared.access.Access.TheVariants as access
-use Rattle.sdb_record.specs.declared.access.Image.{Image}
-use Rattle.sdb_record.specs.declared.write.Keyed.{Keyed}
 use Rattle.sdb_record.specs.Rolls.{row_of_change}
 use Rattle.sdb_model.specs.Exec.{Tables, all_rows}
 

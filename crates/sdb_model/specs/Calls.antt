@@ -4,18 +4,13 @@ use Rattle.std.specs.Option.{option_and_then, option_map, option_map_or}
 use Rattle.std.specs.List.{filter_map, list_all}
 use Rattle.std.specs.Result.{result_ok}
 use Rattle.std.specs.Ordering.{is_eq}
-use Rattle.sdb_types.specs.declared.txid.TxId.{TxId}
-use Rattle.sdb_types.specs.declared.key.Key.{Key}
+use Rattle.sdb_model.specs.Types.{Decided, Key, Record, Reply, Request, TxId}
 use Rattle.sdb_types.specs.declared.record.Condition.TheVariants as condition
-use Rattle.sdb_types.specs.declared.record.Record.{Record}
 use Rattle.sdb_types.specs.declared.record.State.TheVariants as state
-use Rattle.sdb_types.specs.declared.record.Request.{Request}
 use Rattle.sdb_types.specs.declared.record.Request.TheVariants as ask
-use Rattle.sdb_types.specs.declared.record.Reply.{Reply}
 use Rattle.sdb_types.specs.declared.record.Reply.TheVariants as reply
 use Rattle.sdb_types.specs.Order.{key_cmp}
 use Rattle.sdb_types.specs.Replies.{is_applied}
-use Rattle.sdb_record.specs.declared.coordinator.Decided.{Decided}
 use Rattle.sdb_record.specs.Coordinator.{coordinator_key_of, decision_in}
 use Rattle.sdb_model.specs.declared.event.Event.{Event}
 use Rattle.sdb_model.specs.declared.event.Event.TheVariants as event
@@ -49,7 +44,7 @@ end_of events s = if is_some s.answer then s.reached else length events
 
 -- A statement's calls: its client's after its Take, up to its answer, or to the end where it has none.
 abbrev pub calls_of : List Event → ℕ → Executed → List StoreCall
-calls_of events client s = filter (λ m. nat_lt s.taken m.at && nat_le m.at (end_of events s)) (calls_by events client)
+calls_of events client s = filter (λ m. nat_lt s.accepted m.at && nat_le m.at (end_of events s)) (calls_by events client)
 
 -- the calls after one of them, or before it
 abbrev pub calls_after : ℕ → List StoreCall → List StoreCall

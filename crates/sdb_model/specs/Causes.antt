@@ -3,20 +3,11 @@ use Rattle.std.specs.Prelude.{◌≡◌, ◌≢◌, ◌⊎◌, ◌≤◌, ℕ, �
 use Rattle.std.specs.Option.{option_and_then, option_map_or}
 use Rattle.std.specs.List.{count_by, list_any}
 use Rattle.std.specs.Result.{result_ok}
-use Rattle.sdb_types.specs.declared.txid.TxId.{TxId}
-use Rattle.sdb_types.specs.declared.key.Key.{Key}
-use Rattle.sdb_types.specs.declared.pair.Pair.{Pair}
-use Rattle.sdb_types.specs.declared.record.Record.{Record}
+use Rattle.sdb_model.specs.Types.{Decided, Decision, Key, Pair, Record, Reply, Scan, Span, Table, TxId}
 use Rattle.sdb_types.specs.declared.record.Request.TheVariants as ask
-use Rattle.sdb_types.specs.declared.record.Reply.{Reply}
 use Rattle.sdb_types.specs.declared.record.Reply.TheVariants as reply
-use Rattle.sdb_types.specs.declared.record.Span.{Span}
 use Rattle.sdb_types.specs.Contents.{in_span, record_among}
-use Rattle.sdb_schema.specs.declared.table.Table.{Table}
 use Rattle.sdb_schema.specs.Rows.{fits_table}
-use Rattle.sdb_record.specs.declared.access.Scan.{Scan}
-use Rattle.sdb_record.specs.declared.coordinator.Decided.{Decided}
-use Rattle.sdb_record.specs.declared.coordinator.Decision.{Decision}
 use Rattle.sdb_record.specs.declared.coordinator.Decision.TheVariants as decision
 use Rattle.sdb_record.specs.Coordinator.{coordinator_key_of, decision_in, is_coordinator_table, is_expired}
 use Rattle.sdb_record.specs.Meta.{checked, id_in, is_unresolved, moment_in}
@@ -45,9 +36,9 @@ use Rattle.sdb_model.specs.ReadSet.{ReadItem, SpanRead, read_set_of, reads_rows,
 use Rattle.sdb_types.specs.Replies.{is_applied, is_fault}
 use Rattle.sdb_types.specs.Order.{same_key}
 
--- the events before a statement was taken
+-- the events before a statement was accepted
 abbrev pub before : Executed → List Event → List Event
-before s events = take (s.taken - 1) events
+before s events = take (s.accepted - 1) events
 
 abbrev pub is_select : Statement → Bool
 is_select (statement.Select s) = true
@@ -71,7 +62,7 @@ runs_vacuum events client = fold (λ was s. reads_vacuum s.text && is_none s.ans
 abbrev pub SomeClient : (List Event → ℕ → Bool) → List Event → Type 0
 SomeClient is events = (client : ℕ) × (has_stopped client events ≡ false) × (is events client ≡ true)
 
----- statements that are rejected when they are taken
+---- statements that are rejected when they are accepted
 
 abbrev pub refused : ℕ → Answer
 refused kind = answer.Refused (record { kind = kind; place = 0 })
@@ -237,8 +228,8 @@ pub record MeetsMisfit (catalog : List Table) (events : List Event) (client : �
   pub reader : Executed
   pub call : StoreCall
   pub found : Record
-  pub within : IsIn events client s id × IsIn events client reader id × (reader.taken ≤ s.taken)
-  pub over : Reads s.text statement × (named_table (catalog_at catalog events s.taken) statement ≡ Some table) × (in_access (access_of table statement) key ≡ true)
+  pub within : IsIn events client s id × IsIn events client reader id × (reader.accepted ≤ s.accepted)
+  pub over : Reads s.text statement × (named_table (catalog_at catalog events s.accepted) statement ≡ Some table) × (in_access (access_of table statement) key ≡ true)
   pub finished : has_read events client reader ≡ true
   pub reads : Contains (calls_of events client reader) call × (reads_rows call ≡ true) × Contains (records_read call.reply) found × (found.key ≡ key)
   pub misfit : is_misfit catalog (calls_of events client reader) found ≡ true
@@ -254,13 +245,13 @@ IsBadRecord catalog events client s key = FindsBad events client s key ⊎ Meets
 abbrev pub most_keys : ℕ
 most_keys = 4096
 
--- the statements of a transaction's body that were taken before this one
+-- the statements of a transaction's body that were accepted before this one
 abbrev pub body_before : List Event → TxId → Executed → List Executed
-body_before events id s = filter (λ b. nat_lt b.taken s.taken) (body events id)
+body_before events id s = filter (λ b. nat_lt b.accepted s.accepted) (body events id)
 
--- its statements that were taken before this one and whose reads have finished
+-- its statements that were accepted before this one and whose reads have finished
 abbrev pub finished_before : List Event → TxId → Executed → List Executed
-finished_before events id s = filter (λ b. nat_lt b.taken s.taken) (filter (has_read events (client_of id)) (statements_inside events id))
+finished_before events id s = filter (λ b. nat_lt b.accepted s.accepted) (filter (has_read events (client_of id)) (statements_inside events id))
 
 -- how many rows an answer counts
 abbrev pub rows_counted : Option Answer → ℕ
@@ -323,7 +314,7 @@ IsCaused catalog events client s (answer.Rows rows) = (st : Statement) × Reads 
 IsCaused catalog events client s (answer.Count n) = (st : Statement) × Reads s.text st × IsCounted events client s st n
 IsCaused catalog events client s answer.Done = Reads s.text statement.Begin ⊎ Reads s.text statement.Rollback
 IsCaused catalog events client s answer.Committed = IsOfCommit events client s
-IsCaused catalog events client s (answer.Duplicate key) = (t : Table) × (i : Insert) × Reads s.text (statement.Insert i) × (find_table (catalog_at catalog events s.taken) i.table ≡ Some t) × (key_of t i ≡ key)
+IsCaused catalog events client s (answer.Duplicate key) = (t : Table) × (i : Insert) × Reads s.text (statement.Insert i) × (find_table (catalog_at catalog events s.accepted) i.table ≡ Some t) × (key_of t i ≡ key)
 IsCaused catalog events client s (answer.Busy key id at) = IsBusy events client s key id at
 IsCaused catalog events client s (answer.Conflict key found) = IsConflict events client s key found
 IsCaused catalog events client s (answer.Expired id) = IsExpired events client s id
@@ -338,4 +329,4 @@ IsCaused catalog events client s answer.NoMemory = Unit {0}
 -- Every answer of a run has its cause; and a statement that is to be rejected is, at once, unless memory ran out.
 pub record AreCaused (catalog : List Table) (events : List Event) : Type 0 where
   pub caused : (client : ℕ) (s : Executed) (a : Answer) → Contains (statements_by client events) s → s.answer ≡ Some a → IsCaused catalog events client s a
-  pub rejected : (client : ℕ) (s : Executed) (a : Answer) → Contains (statements_by client events) s → IsRejected catalog (before s events) client s.text a → (s.reached ≡ s.taken) × ((s.answer ≡ Some a) ⊎ (s.answer ≡ Some answer.NoMemory))
+  pub rejected : (client : ℕ) (s : Executed) (a : Answer) → Contains (statements_by client events) s → IsRejected catalog (before s events) client s.text a → (s.reached ≡ s.accepted) × ((s.answer ≡ Some a) ⊎ (s.answer ≡ Some answer.NoMemory))

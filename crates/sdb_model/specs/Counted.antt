@@ -3,21 +3,12 @@ use Rattle.std.specs.Prelude.{◌≡◌, ◌⊎◌, ◌≤◌, ℕ, ℤ, ◌+◌
 use Rattle.std.specs.Option.{option_map_or}
 use Rattle.std.specs.List.{count_by, flat_map, list_any}
 use Rattle.std.specs.Ordering.{is_eq}
-use Rattle.sdb_types.specs.declared.txid.TxId.{TxId}
-use Rattle.sdb_types.specs.declared.key.Key.{Key}
-use Rattle.sdb_types.specs.declared.record.Condition.{Condition}
+use Rattle.sdb_model.specs.Types.{Back, Condition, Decided, Decision, Key, Record, Request, State, Table, TxId}
 use Rattle.sdb_types.specs.declared.record.Condition.TheVariants as condition
-use Rattle.sdb_types.specs.declared.record.Record.{Record}
-use Rattle.sdb_types.specs.declared.record.Request.{Request}
 use Rattle.sdb_types.specs.declared.record.Request.TheVariants as ask
 use Rattle.sdb_types.specs.declared.record.Reply.TheVariants as reply
-use Rattle.sdb_types.specs.declared.record.State.{State}
 use Rattle.sdb_types.specs.Order.{key_cmp}
-use Rattle.sdb_schema.specs.declared.table.Table.{Table}
-use Rattle.sdb_record.specs.declared.coordinator.Decided.{Decided}
-use Rattle.sdb_record.specs.declared.coordinator.Decision.{Decision}
 use Rattle.sdb_record.specs.declared.coordinator.Decision.TheVariants as decision
-use Rattle.sdb_record.specs.declared.roll.Back.{Back}
 use Rattle.sdb_record.specs.declared.roll.Back.TheVariants as back
 use Rattle.sdb_record.specs.Meta.{id_in, is_unresolved, state_in}
 use Rattle.sdb_record.specs.Rolls.{back_of, forward_record}

@@ -4,24 +4,15 @@ use Rattle.std.specs.Prelude.{◌≡◌, ◌≤◌, ◌<◌, ℕ, true, List, []
 use Rattle.std.specs.Option.{option_and_then}
 use Rattle.std.specs.List.{AllByRecursion}
 use Rattle.std.specs.FinMap.{get, insert, empty}
-use Rattle.sdb_types.specs.declared.txid.TxId.{TxId}
-use Rattle.sdb_types.specs.declared.key.Key.{Key}
-use Rattle.sdb_types.specs.declared.pair.Pair.{Pair}
-use Rattle.sdb_types.specs.declared.value.Value.{Value}
-use Rattle.sdb_types.specs.declared.record.Request.{Request}
+use Rattle.sdb_model.specs.Types.{Decided, Image, Key, Pair, Place, Record, Request, Table, TxId, Value}
 use Rattle.sdb_types.specs.declared.record.State.TheVariants as state
 use Rattle.sdb_types.specs.declared.record.Request.TheVariants as ask
 use Rattle.sdb_types.specs.Contents.{in_span}
-use Rattle.sdb_schema.specs.declared.table.Table.{Table}
-use Rattle.sdb_types.specs.declared.record.Record.{Record}
-use Rattle.sdb_record.specs.declared.access.Image.{Image}
-use Rattle.sdb_record.specs.declared.coordinator.Decided.{Decided}
 use Rattle.sdb_record.specs.Meta.{id_in, is_in}
 use Rattle.sdb_record.specs.Rolls.{image_under, row_of_image}
 use Rattle.sdb_model.specs.declared.answer.Answer.{Answer}
 use Rattle.sdb_model.specs.declared.answer.Answer.TheVariants as answer
 use Rattle.sdb_model.specs.declared.event.Event.{Event}
-use Rattle.sdb_types.specs.declared.place.Place.{Place}
 use Rattle.sdb_model.specs.declared.statement.Select.{Select}
 use Rattle.sdb_model.specs.declared.statement.Statement.{Statement}
 use Rattle.sdb_model.specs.declared.statement.Statement.TheVariants as statement
@@ -49,7 +40,7 @@ pub record WasCommitted (places : List Place) (events : List Event) (opening : L
   pub call : StoreCall
   pub at : ℕ
   pub read : Contains (calls_of events client s) call × ReadsKey key call.request
-  pub within : (s.taken ≤ at) × (at < end_of events s)
+  pub within : (s.accepted ≤ at) × (at < end_of events s)
   pub image : row_at places (moment opening moments at) key ≡ row
 
 -- What a record that isn't committed means to a statement is what the decision on its transaction makes of it, which a call of the statement
@@ -68,7 +59,7 @@ pub record WasFound (calls : List StoreCall) (key : Key) (row : Option (List Pai
   pub found : Option Record
   pub among : Contains calls call
   pub shows : Observes call.request call.reply key found
-  pub stands : row ≡ option_and_then row_of_image (option_and_then (meaning_of calls) found)
+  pub agrees : row ≡ option_and_then row_of_image (option_and_then (meaning_of calls) found)
   pub meant : IfSome found (λ r. is_in state.Committed r.columns ≡ false → IsMeantBy calls r)
 
 -- the calls of a statement did
@@ -106,7 +97,7 @@ pub record HasRow (catalog : List Table) (was : Executed → Key → Option (Lis
   pub parts : statements_of events id ≡ earlier ++ changing ++ s ∷ later
   pub begins : StartsWith first (changing ++ s ∷ [])
   pub finished : has_read events (client_of id) first ≡ true
-  pub shown : was first key base
+  pub observed : was first key base
   pub read : AreRead (filter is_effective changing) sts
   pub made : row ≡ fold (λ r st. row_left catalog st key r) base sts
 
@@ -115,7 +106,7 @@ pub record HasRow (catalog : List Table) (was : Executed → Key → Option (Lis
 -- Rows that a SELECT is answered are rows that its transaction has.
 abbrev pub RowsAreOf : List Table → (Executed → Key → Option (List Pair) → Type 0) → List Event → TxId → Executed → List (List Value) → Type 0
 RowsAreOf catalog was events id s rows =
-    (t : Table) × (select : Select) × (images : List Image) × Reads s.text (statement.Select select) × (find_table (catalog_at catalog events s.taken) select.table ≡ Some t) × (rows ≡ map (projected t select.columns) images)
+    (t : Table) × (select : Select) × (images : List Image) × Reads s.text (statement.Select select) × (find_table (catalog_at catalog events s.accepted) select.table ≡ Some t) × (rows ≡ map (projected t select.columns) images)
     × AllByRecursion (λ image. HasRow catalog was events id s image.key (Some image.columns)) images
 
 -- The key of a Duplicate has a row.

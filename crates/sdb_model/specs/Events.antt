@@ -1,20 +1,14 @@
 -- The effect of events on the contents of the stores, and traces: when a list of events agrees with the stores.
 use Rattle.std.specs.Prelude.{◌≡◌, ◌⊎◌, ℕ, zero, suc, if◌then◌else◌, List, [], ◌∷◌, map, Option, Some, None, find}
 use Rattle.std.specs.Option.{option_map, option_map_or}
-use Rattle.sdb_types.specs.declared.key.Key.{Key}
-use Rattle.sdb_types.specs.declared.key.TableName.{TableName}
-use Rattle.sdb_types.specs.declared.record.Record.{Record}
-use Rattle.sdb_types.specs.declared.record.Request.{Request}
+use Rattle.sdb_model.specs.Types.{Key, Place, Record, Reply, Request, Table, TableName}
 use Rattle.sdb_types.specs.declared.record.Request.TheVariants as ask
-use Rattle.sdb_types.specs.declared.record.Reply.{Reply}
 use Rattle.sdb_types.specs.declared.record.Reply.TheVariants as reply
 use Rattle.sdb_types.specs.Contents.{Contents, record_at, apply, after}
-use Rattle.sdb_schema.specs.declared.table.Table.{Table}
 use Rattle.sdb_model.specs.declared.event.Event.{Event}
 use Rattle.sdb_model.specs.declared.event.Event.TheVariants as event
 use Rattle.sdb_model.specs.declared.event.How.{How}
 use Rattle.sdb_model.specs.declared.event.How.TheVariants.{Seen, Lost, Discarded, Broken}
-use Rattle.sdb_types.specs.declared.place.Place.{Place}
 use Rattle.sdb_model.specs.Rows.{Name, same_name}
 
 -- The tables of a script after so many of its events: those of its catalog, since no event changes them.
@@ -28,11 +22,11 @@ pub record StoreContents : Type 0 where
 
 -- what the store of a name holds
 abbrev pub contents_under : List StoreContents → Name → Option Contents
-contents_under shelves name = option_map (λ s. s.contents) (find (λ s. same_name s.name name) shelves)
+contents_under store_contents name = option_map (λ s. s.contents) (find (λ s. same_name s.name name) store_contents)
 
 -- with other contents in the store of a name, and every other store as it was
 abbrev pub with_contents : List StoreContents → Name → Contents → List StoreContents
-with_contents shelves name contents = map (λ s. if same_name s.name name then record { name = s.name; contents = contents } else s) shelves
+with_contents store_contents name contents = map (λ s. if same_name s.name name then record { name = s.name; contents = contents } else s) store_contents
 
 abbrev pub first_name : List StoreContents → Name
 first_name [] = []
@@ -40,11 +34,11 @@ first_name (s ∷ ss) = s.name
 
 -- The store of a namespace: the one where it is placed, or else the first that was attached.
 abbrev pub store_of : List Place → List StoreContents → Name → Name
-store_of places shelves ns = option_map_or (λ p. p.store) (find (λ p. same_name p.ns ns) places) (first_name shelves)
+store_of places store_contents ns = option_map_or (λ p. p.store) (find (λ p. same_name p.ns ns) places) (first_name store_contents)
 
 -- the record at a key, in the store of the key's table
-abbrev pub standing : List Place → List StoreContents → Key → Option Record
-standing places shelves key = option_map_or (λ m. record_at m key) (contents_under shelves (store_of places shelves key.table.ns)) None
+abbrev pub stored_at : List Place → List StoreContents → Key → Option Record
+stored_at places store_contents key = option_map_or (λ m. record_at m key) (contents_under store_contents (store_of places store_contents key.table.ns)) None
 
 abbrev pub table_asked : Request → TableName
 table_asked (ask.Get key) = key.table

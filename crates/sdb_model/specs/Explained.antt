@@ -1,14 +1,9 @@
 -- What holds at every moment of a run of the protocol, stated about its events and the contents of the stores.
 use Rattle.std.specs.Prelude.{◌≡◌, ◌≢◌, ◌⊎◌, ℕ, suc, ◌<◌, ◌≤◌, ◌^◌, true, false, List, ◌∷◌, ◌++◌, length, Option, Some, None, is_some, IsSomeAnd, Contains}
-use Rattle.sdb_types.specs.declared.txid.TxId.{TxId}
-use Rattle.sdb_types.specs.declared.key.Key.{Key}
-use Rattle.sdb_types.specs.declared.record.Record.{Record}
-use Rattle.sdb_types.specs.declared.record.Request.{Request}
+use Rattle.sdb_model.specs.Types.{Key, Place, Record, Reply, Request, Table, TxId}
 use Rattle.sdb_types.specs.declared.record.Request.TheVariants as ask
-use Rattle.sdb_types.specs.declared.record.Reply.{Reply}
 use Rattle.sdb_types.specs.declared.record.Reply.TheVariants as reply
 use Rattle.sdb_types.specs.declared.record.State.TheVariants as state
-use Rattle.sdb_schema.specs.declared.table.Table.{Table}
 use Rattle.sdb_record.specs.declared.coordinator.Decision.TheVariants as decision
 use Rattle.sdb_record.specs.Coordinator.{coordinator_key_of}
 use Rattle.sdb_types.specs.Contents.{in_span, record_among}
@@ -19,11 +14,10 @@ use Rattle.sdb_model.specs.declared.answer.Answer.{Answer}
 use Rattle.sdb_model.specs.declared.event.Event.{Event}
 use Rattle.sdb_model.specs.declared.event.Event.TheVariants as event
 use Rattle.sdb_model.specs.declared.event.How.{How}
-use Rattle.sdb_types.specs.declared.place.Place.{Place}
 use Rattle.sdb_model.specs.Requests.{records_put}
 use Rattle.sdb_model.specs.Rows.{Name}
 use Rattle.sdb_model.specs.Exec.{find_table}
-use Rattle.sdb_model.specs.Events.{Contact, StoreContents, contact_of, standing, moment}
+use Rattle.sdb_model.specs.Events.{Contact, StoreContents, contact_of, stored_at, moment}
 use Rattle.sdb_model.specs.Images.{decision_at, image_at}
 use Rattle.sdb_model.specs.ReadSet.{ReadItem, read_set_of, version_read}
 use Rattle.sdb_model.specs.Transactions.{Recorded, begun, is_prepared_record, point}
@@ -36,7 +30,7 @@ IsTableKey catalog key = is_some (find_table catalog key.table) ≡ true
 
 -- A record in state COMMITTED names a transaction that is recorded then.
 abbrev pub CommittedRecorded : List Table → List Place → List StoreContents → Type 0
-CommittedRecorded catalog places now = (key : Key) (r : Record) → IsTableKey catalog key → standing places now key ≡ Some r → is_in state.Committed r.columns ≡ true
+CommittedRecorded catalog places now = (key : Key) (r : Record) → IsTableKey catalog key → stored_at places now key ≡ Some r → is_in state.Committed r.columns ≡ true
     → (id : TxId) × (id_in r.columns ≡ Some id) × Recorded places now id
 
 -- the coordinator's table holds a transaction's row, well formed, with the decision that it is aborted
@@ -50,13 +44,13 @@ pub record IsRemovedBy (id : TxId) (r : Record) : Type 0 where
   pub before : (b : Record) → is_in state.Committed r.columns ≡ false → before_record r ≡ Some b → id_in b.columns ≢ Some id
 
 abbrev pub AbortedRemoved : List Table → List Place → List StoreContents → Type 0
-AbortedRemoved catalog places now = (id : TxId) (key : Key) (r : Record) → id.0 < 2 ^ 128 → IsAborted places now id → IsTableKey catalog key → standing places now key ≡ Some r → IsRemovedBy id r
+AbortedRemoved catalog places now = (id : TxId) (key : Key) (r : Record) → id.0 < 2 ^ 128 → IsAborted places now id → IsTableKey catalog key → stored_at places now key ≡ Some r → IsRemovedBy id r
 
 ---- from one moment to a later one
 
 -- A row of the coordinator's table is never changed nor deleted.
 abbrev pub RowsFinal : List Place → List StoreContents → List StoreContents → Type 0
-RowsFinal places early late = (id : TxId) (row : Record) → id.0 < 2 ^ 128 → standing places early (coordinator_key_of id) ≡ Some row → standing places late (coordinator_key_of id) ≡ Some row
+RowsFinal places early late = (id : TxId) (row : Record) → id.0 < 2 ^ 128 → stored_at places early (coordinator_key_of id) ≡ Some row → stored_at places late (coordinator_key_of id) ≡ Some row
 
 ---- after so many events
 
@@ -74,22 +68,22 @@ pub record IsPreparedAfter (places : List Place) (events : List Event) (opening 
   pub back : List Event
   pub at : events ≡ front ++ event ∷ back
   pub put : IsPrepareOf id r event
-  pub before : standing places (moment opening moments (length front)) r.key ≡ before_record r
-  pub after : standing places (moment opening moments (suc (length front))) r.key ≡ Some r
+  pub before : stored_at places (moment opening moments (length front)) r.key ≡ before_record r
+  pub after : stored_at places (moment opening moments (suc (length front))) r.key ≡ Some r
 
 -- An unresolved record was put there by a prepare of the transaction that it names, by one of the events so far.
 abbrev pub UnresolvedPrepared : List Table → List Place → List Event → List StoreContents → List (List StoreContents) → ℕ → Type 0
-UnresolvedPrepared catalog places events opening moments n = (key : Key) (r : Record) → IsTableKey catalog key → standing places (moment opening moments n) key ≡ Some r → is_in state.Committed r.columns ≡ false
+UnresolvedPrepared catalog places events opening moments n = (key : Key) (r : Record) → IsTableKey catalog key → stored_at places (moment opening moments n) key ≡ Some r → is_in state.Committed r.columns ≡ false
     → (id : TxId) × (front : List Event) × (id_in r.columns ≡ Some id) × (length front < n) × IsPreparedAfter places events opening moments id r front
 
 -- A record whose prepare was put by one of the events so far stays as long as its transaction has no row.
 abbrev pub PreparedPersists : List Table → List Place → List Event → List StoreContents → List (List StoreContents) → ℕ → Type 0
 PreparedPersists catalog places events opening moments n = (id : TxId) (r : Record) (front : List Event) → id.0 < 2 ^ 128 → IsTableKey catalog r.key → length front < n → IsPreparedAfter places events opening moments id r front
-    → standing places (moment opening moments n) (coordinator_key_of id) ≡ None → standing places (moment opening moments n) r.key ≡ Some r
+    → stored_at places (moment opening moments n) (coordinator_key_of id) ≡ None → stored_at places (moment opening moments n) r.key ≡ Some r
 
 -- a read showed this at a key
 abbrev pub Observes : Request → Reply → Key → Option Record → Type 0
-Observes (ask.Get k) (reply.Found standing) key found = (k ≡ key) × (standing ≡ found)
+Observes (ask.Get k) (reply.Found stored_at) key found = (k ≡ key) × (stored_at ≡ found)
 Observes (ask.Scan span) (reply.Rows rows) key found = (in_span span key ≡ true) × (record_among rows key ≡ found)
 Observes q r key found = ⊥
 
@@ -99,7 +93,7 @@ UnchangedResolved catalog places events opening moments =
     (front back : List Event) (client : ℕ) (store : Name) (q : Request) (how : How) (r : Reply) (answer : Option Answer) (key : Key) (found : Option Record) (version : Option TxId)
     → events ≡ front ++ event.Call client store q how r answer ∷ back → Observes q r key found → is_unchanged found version ≡ true → IsTableKey catalog key
     → (id : TxId) (x : Record) (before : List Event) → id.0 < 2 ^ 128 → x.key ≡ key → length before < length front → IsPreparedAfter places events opening moments id x before
-    → standing places (moment opening moments (length front)) (coordinator_key_of id) ≢ None
+    → stored_at places (moment opening moments (length front)) (coordinator_key_of id) ≢ None
 
 ---- after all events
 
@@ -169,9 +163,9 @@ pub record ContentsExplained (catalog : List Table) (places : List Place) (event
 
 -- The invariant: what holds of events and of the moments of a trace that agrees with them.
 pub record Explained (catalog : List Table) (places : List Place) (events : List Event) (opening : List StoreContents) (moments : List (List StoreContents)) : Type 0 where
-  pub standing : ContentsExplained catalog places events opening moments
+  pub stored_at : ContentsExplained catalog places events opening moments
   pub reads_current : ReadsCurrent catalog places events opening moments
 
 -- At each moment every record that is at a key of a table passes the checks.
 abbrev pub AreTransactional : List Table → List Place → List StoreContents → List (List StoreContents) → Type 0
-AreTransactional catalog places opening moments = (n : ℕ) (key : Key) (r : Record) → n ≤ length moments → IsTableKey catalog key → standing places (moment opening moments n) key ≡ Some r → is_transactional r ≡ true
+AreTransactional catalog places opening moments = (n : ℕ) (key : Key) (r : Record) → n ≤ length moments → IsTableKey catalog key → stored_at places (moment opening moments n) key ≡ Some r → is_transactional r ≡ true

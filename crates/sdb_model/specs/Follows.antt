@@ -26,7 +26,7 @@ abbrev pub stops : ℕ → Event → Bool
 stops client (event.Stop c) = c == client
 stops client _ = false
 
--- how many statements a client has taken
+-- how many statements a client has accepted
 abbrev pub takes_of : ℕ → List Event → ℕ
 takes_of client past = count_by (is_take_of client) past
 

@@ -1,3 +1,4 @@
+pub mod Types
 pub mod Texts
 pub mod Report
 pub mod Rows

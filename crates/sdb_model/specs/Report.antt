@@ -5,14 +5,10 @@ use Rattle.std.specs.Fmt.{signed_decimal}
 use Rattle.sdb_types.specs.Contents.{state_number}
 use Rattle.sdb_types.specs.Order.{table_text}
 use Rattle.sdb_types.specs.TxId.{id_text}
-use Rattle.sdb_types.specs.declared.record.Condition.{Condition}
+use Rattle.sdb_model.specs.Types.{Condition, Record, Reply, Request, Value}
 use Rattle.sdb_types.specs.declared.record.Condition.TheVariants.{Absent, Version}
-use Rattle.sdb_types.specs.declared.record.Record.{Record}
-use Rattle.sdb_types.specs.declared.record.Reply.{Reply}
 use Rattle.sdb_types.specs.declared.record.Reply.TheVariants as reply
-use Rattle.sdb_types.specs.declared.record.Request.{Request}
 use Rattle.sdb_types.specs.declared.record.Request.TheVariants as ask
-use Rattle.sdb_types.specs.declared.value.Value.{Value}
 use Rattle.sdb_model.specs.Texts.{key_text_of, span_text_of, record_text_of, row_text_of, answer_text_of}
 use Rattle.sdb_model.specs.declared.answer.Answer.{Answer}
 use Rattle.sdb_model.specs.declared.event.Event.{Event}

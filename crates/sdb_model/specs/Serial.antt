@@ -3,16 +3,13 @@
 use Rattle.std.specs.Prelude.{◌≡◌, ◌⊎◌, ℕ, ◌<◌, ◌^◌, if◌then◌else◌, List, [], ◌∷◌, ◌++◌, map, filter, length, Option, Some, None, is_some, Contains}
 use Rattle.std.specs.Option.{option_and_then}
 use Rattle.std.specs.FinMap.{get, empty}
-use Rattle.sdb_types.specs.declared.txid.TxId.{TxId}
-use Rattle.sdb_types.specs.declared.key.Key.{Key}
-use Rattle.sdb_schema.specs.declared.table.Table.{Table}
+use Rattle.sdb_model.specs.Types.{Key, Place, Table, TxId}
 use Rattle.sdb_model.specs.declared.answer.Answer.{Answer}
 use Rattle.sdb_model.specs.declared.answer.Answer.TheVariants as answer
 use Rattle.sdb_model.specs.declared.event.Event.{Event}
 use Rattle.sdb_model.specs.declared.event.Point.{Point}
 use Rattle.sdb_model.specs.declared.event.TableDump.{TableDump}
 use Rattle.sdb_model.specs.declared.event.Outcome.{Outcome}
-use Rattle.sdb_types.specs.declared.place.Place.{Place}
 use Rattle.sdb_model.specs.declared.script.Script.{Script}
 use Rattle.sdb_model.specs.declared.statement.Statement.{Statement}
 use Rattle.sdb_model.specs.Sql.{Reads}
@@ -47,7 +44,7 @@ dumps_of catalog d = map (dump_of d) catalog
 -- Plain tables are the committed images of what the stores hold: at each key of a table of the catalog the row of its
 -- image, and no other row.
 abbrev pub AreImages : List Table → List Place → List StoreContents → Tables → Type 0
-AreImages catalog places shelves d = (key : Key) → get d key ≡ (if is_some (find_table catalog key.table) then row_at places shelves key else None)
+AreImages catalog places store_contents d = (key : Key) → get d key ≡ (if is_some (find_table catalog key.table) then row_at places store_contents key else None)
 
 ---- serial
 
@@ -69,7 +66,7 @@ AreBodies events (p ∷ ps) (b ∷ bs) = AreRead (body events p.id) b × AreBodi
 abbrev pub answers_given : List Event → Point → List (Option Answer)
 answers_given events p = map (λ s. s.answer) (body events p.id)
 
--- the answer to a transaction's COMMIT, if it was taken and answered
+-- the answer to a transaction's COMMIT, if it was accepted and answered
 abbrev pub commit_answer : List Event → TxId → Option Answer
 commit_answer events id = option_and_then (λ s. s.answer) (commit_of events id)
 
@@ -135,5 +132,5 @@ pub record IsRun (script : Script) (opening closing : List StoreContents) (outco
   pub follows : Follows script outcome.events
   pub consistent : IsTrace script.places outcome.events opening moments closing
   pub order : IsOrder script.places outcome.events closing outcome.order
-  pub told : IsSerial script.catalog script.places outcome.events closing outcome.order outcome.tables
+  pub answered : IsSerial script.catalog script.places outcome.events closing outcome.order outcome.tables
   pub real_time : RespectsRealTime script.places outcome.events closing outcome.order

@@ -8,9 +8,7 @@ use Rattle.hex.specs.Hex.{encode_upper}
 use denote.Enum.Bare.{sameb}
 use Rattle.sdb_types.specs.Fits.{AreBytes}
 use Rattle.sdb_types.specs.Identifier.{is_identifier}
-use Rattle.sdb_types.specs.declared.key.TableName.{TableName}
-use Rattle.sdb_types.specs.declared.pair.Pair.{Pair}
-use Rattle.sdb_types.specs.declared.value.Value.{Value}
+use Rattle.sdb_model.specs.Types.{Pair, TableName, Value}
 use Rattle.sdb_types.specs.declared.value.Value.TheVariants as value
 use Rattle.sdb_model.specs.Texts.{quoted}
 use Rattle.sdb_model.specs.contracts.token.Keyword as keyword_type

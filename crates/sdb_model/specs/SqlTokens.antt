@@ -1,5 +1,5 @@
 -- The tokens of a statement's text: how each is spelled, where each is, and the bytes that begin none. The longest
--- token is taken. Tokens are separated by spaces and tabs, or by nothing where it is clear where one ends.
+-- token is accepted. Tokens are separated by spaces and tabs, or by nothing where it is clear where one ends.
 use Rattle.std.specs.Prelude.{ℕ, ℤ, pos, negsuc, zero, suc, ◌+◌, ◌-◌, ◌*◌, ◌^◌, ◌==◌, nat_le, nat_lt, Bool, false, not, ◌&&◌, ◌||◌, if◌then◌else◌, List, [], ◌∷◌, ◌++◌, length, map, take, drop, codes, Option, Some, None, is_some, Result, Ok, Err, find, fold}
 use Rattle.std.specs.Char.{to_ascii_lowercase}
 use Rattle.std.specs.List.{prefix_len, position_or_len, starts_with}

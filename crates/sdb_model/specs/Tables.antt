@@ -1,10 +1,8 @@
 -- Which tables a run is about.
 use Rattle.sdb_record.specs.Coordinator.{is_coordinator_table}
 use Rattle.std.specs.Prelude.{not, Bool, List, is_some, ◌||◌}
-use Rattle.sdb_types.specs.declared.key.Key.{Key}
-use Rattle.sdb_types.specs.declared.key.TableName.{TableName}
+use Rattle.sdb_model.specs.Types.{Key, Table, TableName}
 use Rattle.sdb_model.specs.Exec.{find_table}
-use Rattle.sdb_schema.specs.declared.table.Table.{Table}
 
 -- tables that hold records of transactions: all but the coordinator's
 abbrev pub is_data : Key → Bool

@@ -5,12 +5,7 @@ use Rattle.std.specs.Fmt.{signed_decimal}
 use Rattle.hex.specs.Hex.{encode_upper}
 use Rattle.sdb_types.specs.Order.{table_text}
 use Rattle.sdb_types.specs.TxId.{id_text}
-use Rattle.sdb_types.specs.declared.key.Key.{Key}
-use Rattle.sdb_types.specs.declared.pair.Pair.{Pair}
-use Rattle.sdb_types.specs.declared.record.Record.{Record}
-use Rattle.sdb_types.specs.declared.record.Span.{Span}
-use Rattle.sdb_types.specs.declared.txid.TxId.{TxId}
-use Rattle.sdb_types.specs.declared.value.Value.{Value}
+use Rattle.sdb_model.specs.Types.{Key, Pair, Record, Span, TxId, Value}
 use Rattle.sdb_types.specs.declared.value.Value.TheVariants as value
 use Rattle.sdb_model.specs.declared.answer.Answer.{Answer}
 use Rattle.sdb_model.specs.declared.answer.Answer.TheVariants as answer

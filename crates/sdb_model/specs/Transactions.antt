@@ -3,10 +3,8 @@ use Rattle.std.specs.Prelude.{◌≡◌, ℕ, zero, suc, ◌+◌, ◌*◌, ◌/�
 use Rattle.std.specs.Option.{option_map, option_map_or, option_and_then}
 use Rattle.std.specs.List.{enumerate_from}
 use Rattle.std.specs.List.Sorted.{IsStrictlyIncreasing}
-use Rattle.sdb_types.specs.declared.txid.TxId.{TxId}
-use Rattle.sdb_types.specs.declared.record.Record.{Record}
+use Rattle.sdb_model.specs.Types.{Place, Record, Request, TxId}
 use Rattle.sdb_types.specs.declared.record.State.TheVariants.{Prepared, Deleted}
-use Rattle.sdb_types.specs.declared.record.Request.{Request}
 use Rattle.sdb_types.specs.declared.record.Reply.TheVariants as reply
 use Rattle.sdb_types.specs.Contents.{is_version}
 use Rattle.sdb_model.specs.declared.answer.Answer.{Answer}
@@ -15,7 +13,6 @@ use Rattle.sdb_model.specs.declared.event.Event.{Event}
 use Rattle.sdb_model.specs.declared.event.Event.TheVariants as event
 use Rattle.sdb_model.specs.declared.event.How.TheVariants.{Seen}
 use Rattle.sdb_model.specs.declared.event.Point.{Point}
-use Rattle.sdb_types.specs.declared.place.Place.{Place}
 use Rattle.sdb_model.specs.Events.{StoreContents}
 use Rattle.sdb_model.specs.Images.{decision_at}
 use Rattle.sdb_model.specs.Requests.{any_of, records_put}
@@ -31,7 +28,7 @@ numbered events = enumerate_from 1 events
 -- A statement that a client took: the number of its Take, its text, its answer, if it has one, and the number of the event
 -- that it has reached: of its answer, or of its Take where it has none.
 pub record Executed : Type 0 where
-  pub taken : ℕ
+  pub accepted : ℕ
   pub text : List ℕ
   pub answer : Option Answer
   pub reached : ℕ
@@ -43,11 +40,11 @@ answered s = option_map (λ a. s.reached) s.answer
 -- the last statement, answered by an event
 abbrev pub with_answer : List Executed → ℕ → Answer → List Executed
 with_answer [] n a = []
-with_answer (s ∷ []) n a = record { taken = s.taken; text = s.text; answer = Some a; reached = n } ∷ []
+with_answer (s ∷ []) n a = record { accepted = s.accepted; text = s.text; answer = Some a; reached = n } ∷ []
 with_answer (s ∷ t ∷ ss) n a = s ∷ with_answer (t ∷ ss) n a
 
 abbrev pub statements_after : ℕ → List Executed → ℕ × Event → List Executed
-statements_after client ss (n, event.Take c text answer) = if c == client then ss ++ record { taken = n; text = text; answer = answer; reached = n } ∷ [] else ss
+statements_after client ss (n, event.Take c text answer) = if c == client then ss ++ record { accepted = n; text = text; answer = answer; reached = n } ∷ [] else ss
 statements_after client ss (n, event.Call c store q how r (Some a)) = if c == client then with_answer ss n a else ss
 statements_after client ss _ = ss
 
@@ -126,7 +123,7 @@ statements_since events id = from_begin (ordinal_of id) (statements_by (client_o
 
 -- the number of the event at which a transaction began
 abbrev pub begun : List Event → TxId → Option ℕ
-begun events id = option_map (λ s. s.taken) (first_of (statements_since events id))
+begun events id = option_map (λ s. s.accepted) (first_of (statements_since events id))
 
 -- the statement that ended a transaction, if one did
 abbrev pub ending : List Event → TxId → Option Executed
@@ -199,7 +196,7 @@ last_prepare events id = fold (λ (found : Option ℕ) (e : ℕ × Event). if is
 -- A transaction's point: the number of its last prepare call that was seen and applied; where there is none, of the event
 -- that took its COMMIT; and 0 without one.
 abbrev pub point : List Event → TxId → ℕ
-point events id = unwrap_or (last_prepare events id) (option_map_or (λ s. s.taken) (commit_of events id) 0)
+point events id = unwrap_or (last_prepare events id) (option_map_or (λ s. s.accepted) (commit_of events id) 0)
 
 -- a transaction with its point
 abbrev pub point_at : List Event → TxId → Point
@@ -214,12 +211,12 @@ ArePointsApart events ids = (id other : TxId) → Contains ids id → Contains i
 -- A transaction is recorded where the coordinator's table holds its row, well formed, with the decision that it is
 -- committed.
 abbrev pub Recorded : List Place → List StoreContents → TxId → Type 0
-Recorded places shelves id = IsSomeAnd (decision_at places shelves id) (λ d. d.decision ≡ decision.Committed)
+Recorded places store_contents id = IsSomeAnd (decision_at places store_contents id) (λ d. d.decision ≡ decision.Committed)
 
 -- The order: the recorded transactions, each once, by rising point, each with its point. Each is one that a client began,
--- and whose COMMIT was taken.
+-- and whose COMMIT was accepted.
 pub record IsOrder (places : List Place) (events : List Event) (closing : List StoreContents) (order : List Point) : Type 0 where
   pub recorded : (id : TxId) → id.0 < 2 ^ 128 → Contains (map (λ p. p.id) order) id ↔ Recorded places closing id
   pub points : All (λ p. p.event ≡ point events p.id) order
   pub rising : IsStrictlyIncreasing (map (λ p. p.event) order)
-  pub taken : All (λ p. IsSome (commit_of events p.id)) order
+  pub accepted : All (λ p. IsSome (commit_of events p.id)) order

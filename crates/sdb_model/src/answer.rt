@@ -20,7 +20,7 @@ pub enum Answer {
     Rows(Rows),
     /// INSERT and UPSERT count 1, UPDATE and DELETE the rows matched, VACUUM the tombstones removed.
     Count(u64),
-    /// BEGIN or ROLLBACK was taken.
+    /// BEGIN or ROLLBACK was accepted.
     Done,
     Committed,
     /// INSERT of a key that has a row; nothing changes.

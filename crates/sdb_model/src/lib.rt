@@ -3,14 +3,21 @@
 
 mod answer;
 mod event;
+mod report;
 mod script;
 mod statement;
+mod text;
 mod token;
 
 pub use answer::{Answer, Refusal, Rows};
 pub use event::{Event, Events, How, Outcome, Point, Points, TableDump, TableRows};
+pub use report::report_text;
 pub use script::{Act, Clients, Move, Moves, Place, Places, Script, ScriptClient, Texts, Which};
 pub use statement::{
     Comparison, Delete, Insert, Mention, Mentions, Select, Sets, Statement, Test, Tests, Update,
+};
+pub use text::{
+    answer_text, key_text, put_answer, put_columns, put_id, put_key, put_number, put_record,
+    put_row, put_signed, put_span, put_table, put_value,
 };
 pub use token::{Keyword, Placed, Sign, Token};

@@ -207,10 +207,10 @@ rows_of_view (Err e) span es m view is ordered = tt
 
 -- all rows are found where no entry is left
 pub all_found : (span : Span) (found all : List Record) (left : List (Key × List Pair)) → left ≡ [] → found ++ rows_among span left ≡ all → found ≡ all
-all_found span found all left none told = sym (append-nil found) ∙ ap (λ es. found ++ rows_among span es) (sym none) ∙ told
+all_found span found all left none answered = sym (append-nil found) ∙ ap (λ es. found ++ rows_among span es) (sym none) ∙ answered
 
 -- and where the next one is outside
 pub all_passed : (span : Span) (found all : List Record) (left : List (Key × List Pair)) (e : Key × List Pair) (es : List (Key × List Pair)) → left ≡ e ∷ es → StandsFrom span left → in_span span e.0 ≡ false → found ++ rows_among span left ≡ all → found ≡ all
-all_passed span found all left e es next stands out told =
+all_passed span found all left e es next agrees out answered =
     sym (append-nil found)
-    ∙ ap (λ rs. found ++ rs) (sym (ap (rows_among span) next ∙ ap (map record_of) (past_end span e es (subst (StandsFrom span) next stands) out))) ∙ told
+    ∙ ap (λ rs. found ++ rs) (sym (ap (rows_among span) next ∙ ap (map record_of) (past_end span e es (subst (StandsFrom span) next agrees) out))) ∙ answered

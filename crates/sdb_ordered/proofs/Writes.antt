@@ -20,8 +20,8 @@ use Rattle.sdb_store.specs.Store.{Answers}
 use Rattle.sdb_ordered.proofs.TreeLemmas.{get_entries, inserted}
 
 -- the record of what is at a key
-abbrev pub standing : Key → Option (List Pair) → Option Record
-standing key = option_map (λ columns. record_of (key, columns))
+abbrev pub stored_at : Key → Option (List Pair) → Option Record
+stored_at key = option_map (λ columns. record_of (key, columns))
 
 -- what a search of the entries finds is what the map has
 pub stands_at : (es : List (Key × List Pair)) (m : Contents) (key : Key) (found : Option (List Pair)) → from_entries es ≡ m → found ≡ lookup (is_at (key_cmp key)) es → found ≡ get m key
@@ -36,22 +36,22 @@ pub on_err : {P : Type 0} (r : Result Reply NoMemory) → P → OnErr r P
 on_err (Ok reply) p = tt
 on_err (Err e) p = p
 
-module _ (condition : Condition) (key : Key) (old new : Contents) (found : Option (List Pair)) (stands : found ≡ get old key) where
-  judged : (b : Bool) → b ≡ holds condition (standing key found) → holds condition (record_at old key) ≡ b
-  judged b h = ap (λ x. holds condition (standing key x)) (sym stands) ∙ sym h
+module _ (condition : Condition) (key : Key) (old new : Contents) (found : Option (List Pair)) (agrees : found ≡ get old key) where
+  judged : (b : Bool) → b ≡ holds condition (stored_at key found) → holds condition (record_at old key) ≡ b
+  judged b h = ap (λ x. holds condition (stored_at key x)) (sym agrees) ∙ sym h
 
-  pub unmet_put : (columns : List Pair) (rec : Option Record) → false ≡ holds condition (standing key found) → rec ≡ standing key found → new ≡ old → Answers (PutIf (record_of (key, columns)) condition) (NotMet rec) old new
+  pub unmet_put : (columns : List Pair) (rec : Option Record) → false ≡ holds condition (stored_at key found) → rec ≡ stored_at key found → new ≡ old → Answers (PutIf (record_of (key, columns)) condition) (NotMet rec) old new
   unmet_put columns rec h e same =
-      (ap NotMet (e ∙ ap (standing key) stands) ∙ sym (ap (λ b. cond b Applied (NotMet (record_at old key))) (judged false h)), same ∙ sym (ap (λ b. cond b (insert old key columns) old) (judged false h)))
+      (ap NotMet (e ∙ ap (stored_at key) agrees) ∙ sym (ap (λ b. cond b Applied (NotMet (record_at old key))) (judged false h)), same ∙ sym (ap (λ b. cond b (insert old key columns) old) (judged false h)))
 
-  pub put : (columns : List Pair) → true ≡ holds condition (standing key found) → new ≡ insert old key columns → Answers (PutIf (record_of (key, columns)) condition) Applied old new
+  pub put : (columns : List Pair) → true ≡ holds condition (stored_at key found) → new ≡ insert old key columns → Answers (PutIf (record_of (key, columns)) condition) Applied old new
   put columns h e =
       (sym (ap (λ b. cond b Applied (NotMet (record_at old key))) (judged true h)), e ∙ sym (ap (λ b. cond b (insert old key columns) old) (judged true h)))
 
-  pub unmet_delete : (rec : Option Record) → false ≡ holds condition (standing key found) → rec ≡ standing key found → new ≡ old → Answers (DeleteIf key condition) (NotMet rec) old new
+  pub unmet_delete : (rec : Option Record) → false ≡ holds condition (stored_at key found) → rec ≡ stored_at key found → new ≡ old → Answers (DeleteIf key condition) (NotMet rec) old new
   unmet_delete rec h e same =
-      (ap NotMet (e ∙ ap (standing key) stands) ∙ sym (ap (λ b. cond b Applied (NotMet (record_at old key))) (judged false h)), same ∙ sym (ap (λ b. cond b (remove old key) old) (judged false h)))
+      (ap NotMet (e ∙ ap (stored_at key) agrees) ∙ sym (ap (λ b. cond b Applied (NotMet (record_at old key))) (judged false h)), same ∙ sym (ap (λ b. cond b (remove old key) old) (judged false h)))
 
-  pub delete : true ≡ holds condition (standing key found) → new ≡ remove old key → Answers (DeleteIf key condition) Applied old new
+  pub delete : true ≡ holds condition (stored_at key found) → new ≡ remove old key → Answers (DeleteIf key condition) Applied old new
   delete h e =
       (sym (ap (λ b. cond b Applied (NotMet (record_at old key))) (judged true h)), e ∙ sym (ap (λ b. cond b (remove old key) old) (judged true h)))

@@ -1,15 +1,9 @@
 -- What a recovery answers, what the replies said.
 use Rattle.std.proofs.Common.{◌≡◌, ◌<◌, ◌^◌, ℕ, ℤ, List, [], ◌∷◌, length, arith, Option, Some, None, Result, Ok, Err, is_err, refl, true, false, not, cond, ◌∙◌, ap, subst, sym}
 use Rattle.std.specs.Prelude.{Bool}
-use Rattle.sdb_types.specs.declared.key.Key.{Key}
-use Rattle.sdb_types.specs.declared.txid.TxId.{TxId}
-use Rattle.sdb_types.specs.declared.record.Record.{Record}
-use Rattle.sdb_types.specs.declared.record.Reply.{Reply}
+use Rattle.sdb_phases.specs.Types.{Decided, Decision, Key, Meta, Record, Reply, TxId}
 use Rattle.sdb_types.specs.declared.record.Reply.TheVariants as reply
-use Rattle.sdb_record.specs.declared.coordinator.Decided.{Decided}
-use Rattle.sdb_record.specs.declared.coordinator.Decision.{Decision}
 use Rattle.sdb_record.specs.declared.coordinator.Decision.TheVariants as decision
-use Rattle.sdb_record.specs.declared.meta.Meta.{Meta}
 use Rattle.sdb_record.specs.Coordinator.{coordinator_key_of, decision_in, is_expired}
 use Rattle.sdb_record.specs.Rolls.{forward_record}
 use Rattle.sdb_record.specs.Parts.{before_record}
@@ -85,12 +79,12 @@ ends rec meta past phase.Back (reply.Rows rows) n e s gets = tt
 ends rec meta past phase.Ended r n e s gets = absurd gets
 
 recover_so : (rec : Record) (meta : Meta) (past : List Received) → meta.id.0 < 2 ^ 128 → AreRecoverReplies rec meta past → RecoverEnds rec meta past (recover_answer rec meta past)
-recover_so rec meta [] small played = tt
-recover_so rec meta (c ∷ past) small (played, gets, moment) =
-    ends rec meta past (recover_after rec meta past) c.reply c.now refl (recover_stands rec meta past small played) gets
+recover_so rec meta [] small correct = tt
+recover_so rec meta (c ∷ past) small (correct, gets, moment) =
+    ends rec meta past (recover_after rec meta past) c.reply c.now refl (recover_stands rec meta past small correct) gets
 
 answers_at : (rec : Record) (meta : Meta) (past : List Received) (a : RecoverStep) → meta.id.0 < 2 ^ 128 → AreRecoverReplies rec meta past → recover_answer rec meta past ≡ a → RecoverEnds rec meta past a
-answers_at rec meta past a small played e = subst (RecoverEnds rec meta past) e (recover_so rec meta past small played)
+answers_at rec meta past a small correct e = subst (RecoverEnds rec meta past) e (recover_so rec meta past small correct)
 
 pub busy_pending : (rec : Record) (meta : Meta) (past : List Received) (id : TxId) (prepared_at : ℤ) → meta.id.0 < 2 ^ 128 → AreRecoverReplies rec meta past → recover_answer rec meta past ≡ steps.Busy id prepared_at → (id ≡ meta.id) × (prepared_at ≡ meta.prepared_at) × (found_pending meta past ≡ true)
 busy_pending rec meta past id prepared_at = answers_at rec meta past (steps.Busy id prepared_at)

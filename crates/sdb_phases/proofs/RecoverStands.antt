@@ -2,14 +2,9 @@
 use Rattle.std.proofs.Common.{◌≡◌, ◌<◌, ◌≤◌, ◌^◌, ℕ, ℤ, List, [], ◌∷◌, length, arith, Some, None, Result, Ok, Err, refl, true, false, cond, ◌∙◌, ap, subst, rules}
 use Rattle.std.specs.Prelude.{Bool}
 use Rattle.std.specs.Ordering.{int_eq}
-use Rattle.sdb_types.specs.declared.record.Record.{Record}
-use Rattle.sdb_types.specs.declared.record.Reply.{Reply}
+use Rattle.sdb_phases.specs.Types.{Decided, Decision, Meta, Record, Reply, TxId}
 use Rattle.sdb_types.specs.declared.record.Reply.TheVariants as reply
-use Rattle.sdb_types.specs.declared.txid.TxId.{TxId}
-use Rattle.sdb_record.specs.declared.coordinator.Decided.{Decided}
-use Rattle.sdb_record.specs.declared.coordinator.Decision.{Decision}
 use Rattle.sdb_record.specs.declared.coordinator.Decision.TheVariants as decision
-use Rattle.sdb_record.specs.declared.meta.Meta.{Meta}
 use Rattle.sdb_record.specs.Coordinator.{coordinator_key_of, coordinator_row_of, decision_in, is_expired}
 use Rattle.sdb_record.specs.Meta.{is_moment}
 use Rattle.sdb_record.proofs.ImageLaws.{row-key, row-decision}
@@ -128,12 +123,12 @@ step rec meta past phase.Back (reply.Rows rows) n small moment e (few, some, lea
 step rec meta past phase.Ended r n small moment e s gets = absurd gets
 
 pub recover_stands : (rec : Record) (meta : Meta) (past : List Received) → meta.id.0 < 2 ^ 128 → AreRecoverReplies rec meta past → RecoverInvariant rec meta past (recover_after rec meta past)
-recover_stands rec meta [] small played = refl
-recover_stands rec meta (c ∷ past) small (played, gets, moment) =
-    step rec meta past (recover_after rec meta past) c.reply c.now small moment refl (recover_stands rec meta past small played) gets
+recover_stands rec meta [] small correct = refl
+recover_stands rec meta (c ∷ past) small (correct, gets, moment) =
+    step rec meta past (recover_after rec meta past) c.reply c.now small moment refl (recover_stands rec meta past small correct) gets
 
 stands_at : (rec : Record) (meta : Meta) (past : List Received) (d : RecoverPhase) → meta.id.0 < 2 ^ 128 → AreRecoverReplies rec meta past → recover_after rec meta past ≡ d → RecoverInvariant rec meta past d
-stands_at rec meta past d small played e = subst (RecoverInvariant rec meta past) e (recover_stands rec meta past small played)
+stands_at rec meta past d small correct e = subst (RecoverInvariant rec meta past) e (recover_stands rec meta past small correct)
 
 few_calls : (rec : Record) (meta : Meta) (past : List Received) (d : RecoverPhase) → RecoverInvariant rec meta past d → length past ≤ 4
 few_calls rec meta past phase.Look s = omega arith
@@ -144,16 +139,16 @@ few_calls rec meta past phase.Back (few, some, learned) = omega arith
 few_calls rec meta past phase.Ended s = s
 
 pub recovers_in_four : (rec : Record) (meta : Meta) (past : List Received) → meta.id.0 < 2 ^ 128 → AreRecoverReplies rec meta past → length past ≤ 4
-recovers_in_four rec meta past small played = few_calls rec meta past (recover_after rec meta past) (recover_stands rec meta past small played)
+recovers_in_four rec meta past small correct = few_calls rec meta past (recover_after rec meta past) (recover_stands rec meta past small correct)
 
 pub aborts_expired : (rec : Record) (meta : Meta) (past : List Received) (now : ℤ) → meta.id.0 < 2 ^ 128 → AreRecoverReplies rec meta past → recover_after rec meta past ≡ phase.Abort now → (length past ≡ 1) × (found_expired meta past ≡ true)
-aborts_expired rec meta past now small played e =
-    let (calls, expired, here, valid) = stands_at rec meta past (phase.Abort now) small played e in (calls, expired)
+aborts_expired rec meta past now small correct e =
+    let (calls, expired, here, valid) = stands_at rec meta past (phase.Abort now) small correct e in (calls, expired)
 
 pub forwards_committed : (rec : Record) (meta : Meta) (past : List Received) (at : ℤ) → meta.id.0 < 2 ^ 128 → AreRecoverReplies rec meta past → recover_after rec meta past ≡ phase.Forward at → learned_committed rec meta at past ≡ true
-forwards_committed rec meta past at small played e =
-    let (few, some, learned) = stands_at rec meta past (phase.Forward at) small played e in learned
+forwards_committed rec meta past at small correct e =
+    let (few, some, learned) = stands_at rec meta past (phase.Forward at) small correct e in learned
 
 pub backs_aborted : (rec : Record) (meta : Meta) (past : List Received) → meta.id.0 < 2 ^ 128 → AreRecoverReplies rec meta past → recover_after rec meta past ≡ phase.Back → learned_aborted rec meta past ≡ true
-backs_aborted rec meta past small played e =
-    let (few, some, learned) = stands_at rec meta past phase.Back small played e in learned
+backs_aborted rec meta past small correct e =
+    let (few, some, learned) = stands_at rec meta past phase.Back small correct e in learned

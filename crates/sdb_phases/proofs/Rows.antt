@@ -1,12 +1,9 @@
 -- The row that a put of a row found is at the transaction's key.
 use Rattle.std.proofs.Common.{◌≡◌, ℤ, Option, Some, ◌∙◌, subst}
-use Rattle.sdb_types.specs.declared.txid.TxId.{TxId}
-use Rattle.sdb_types.specs.declared.record.Record.{Record}
+use Rattle.sdb_phases.specs.Types.{Decision, Record, Reply, TxId}
 use Rattle.sdb_types.specs.declared.record.Condition.TheVariants as condition
 use Rattle.sdb_types.specs.declared.record.Request.TheVariants as ask
-use Rattle.sdb_types.specs.declared.record.Reply.{Reply}
 use Rattle.sdb_types.specs.declared.record.Reply.TheVariants as reply
-use Rattle.sdb_record.specs.declared.coordinator.Decision.{Decision}
 use Rattle.sdb_record.specs.Coordinator.{coordinator_key_of, coordinator_row_of}
 use Rattle.sdb_record.proofs.ImageLaws.{row-key}
 use Rattle.sdb_phases.specs.Steps.{CanGet}

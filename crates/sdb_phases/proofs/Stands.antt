@@ -2,16 +2,10 @@
 use Rattle.std.proofs.Common.{◌≡◌, ◌≤◌, ℕ, ◌+◌, ◌&&◌, ◌||◌, List, [], ◌∷◌, length, arith, Option, Some, None, Result, Ok, Err, is_err, refl, true, false, cond, ◌∙◌, ap}
 use Rattle.std.specs.Prelude.{Bool, slice_get, nat_lt}
 use Rattle.std.proofs.lemmas.Bool.Decides.{nat_tests}
-use Rattle.sdb_types.specs.declared.key.Key.{Key}
-use Rattle.sdb_types.specs.declared.txid.TxId.{TxId}
-use Rattle.sdb_types.specs.declared.record.Record.{Record}
-use Rattle.sdb_types.specs.declared.record.Request.{Request}
+use Rattle.sdb_phases.specs.Types.{Decided, Decision, Key, Record, Reply, Request, TxId}
 use Rattle.sdb_types.specs.declared.record.Request.TheVariants as ask
-use Rattle.sdb_types.specs.declared.record.Reply.{Reply}
 use Rattle.sdb_types.specs.declared.record.Reply.TheVariants as reply
 use Rattle.sdb_types.proofs.Keys.{same_key_self}
-use Rattle.sdb_record.specs.declared.coordinator.Decided.{Decided}
-use Rattle.sdb_record.specs.declared.coordinator.Decision.{Decision}
 use Rattle.sdb_record.specs.declared.coordinator.Decision.TheVariants as decision
 use Rattle.sdb_record.specs.Coordinator.{coordinator_key_of, coordinator_row_of, decision_in, same_decision}
 use Rattle.sdb_record.proofs.ImageLaws.{row-key, row-decision}
@@ -111,7 +105,7 @@ refuses p h i n (Some (ask.DeleteIf key condition)) found put failed within most
 refuses p h i n None found put failed within most = (ap without_effect put, tt, within, most)
 
 prepare_step : (p : Work) (h : Seen) (i : ℕ) (r : Reply) → StageInvariant p h (Preparing i) → StageInvariant p (item p (Preparing i) h r) (step p (Preparing i) r)
-prepare_step p h i reply.Applied stands = prepared p h i (nat_lt (i + 1) (length p.writes)) (slice_get (prepares p) i) stands refl
+prepare_step p h i reply.Applied agrees = prepared p h i (nat_lt (i + 1) (length p.writes)) (slice_get (prepares p) i) agrees refl
 prepare_step p h i (reply.NotMet found) (calls, within, passed, put) = refuses p (item p (Preparing i) h (reply.NotMet found)) i i (slice_get (prepares p) i) found put refl (omega arith) (omega arith)
 prepare_step p h i reply.Fault (calls, within, passed, put) = (ap without_effect put, refl, omega arith, omega arith)
 prepare_step p h i reply.NoMemory (calls, within, passed, put) = (ap without_effect put, tt, omega arith, omega arith)
@@ -153,7 +147,7 @@ checked p h i r validate.Faulted (calls, within, passed, put) so = (ap without_e
 checked p h i r validate.NoMemory (calls, within, passed, put) so = (ap without_effect put, tt, omega arith, omega arith)
 
 check_step : (p : Work) (h : Seen) (i : ℕ) (r : Reply) → StageInvariant p h (Checking i) → StageInvariant p (item p (Checking i) h r) (step p (Checking i) r)
-check_step p h i r stands = checked p h i r (small.validate_step (nat_lt (i + 1) (length (checks p))) (slice_get (checks p) i) r) stands (passes (nat_lt (i + 1) (length (checks p))) (slice_get (checks p) i) r)
+check_step p h i r agrees = checked p h i r (small.validate_step (nat_lt (i + 1) (length (checks p))) (slice_get (checks p) i) r) agrees (passes (nat_lt (i + 1) (length (checks p))) (slice_get (checks p) i) r)
 
 forwarding : (p : Work) (h : Seen) (i : ℕ) → i ≤ writes_of p → h.committed ≡ true → h.calls ≤ writes_of p + reads_of p + 4 + i → (h.faulted ≡ false → h.calls ≡ writes_of p + reads_of p + 1 + i) → StageInvariant p h (forward p i)
 forwarding p h i within learned most exact =
@@ -220,37 +214,37 @@ unfolding IsAborted
 decide_step p h phase.Put reply.Applied is (calls, passed, put) gets = forwarding p (item p (Deciding phase.Put) h reply.Applied) 0 (omega arith) (left _ _ (own_row_says p decision.Committed is)) (omega arith) (λ none. omega arith)
 decide_step p h phase.Put (reply.NotMet (Some row)) is (calls, passed, put) gets =
     follows p (item p (Deciding phase.Put) h (reply.NotMet (Some row))) (decision_in row) phase.Ended (steps.Expired p.id) refl (found_row p (Deciding phase.Put) h (reply.NotMet (Some row)) row (gets.0 ∙ row-key p.id decision.Committed p.now) refl refl refl (omega arith) (λ none. omega arith))
-decide_step p h phase.Put (reply.NotMet None) is stands gets = cc (gets.1)
+decide_step p h phase.Put (reply.NotMet None) is agrees gets = cc (gets.1)
 decide_step p h phase.Put reply.Fault is (calls, passed, put) gets = (omega arith, refl, refl)
 decide_step p h phase.Put reply.NoMemory is (calls, passed, put) gets = (refl, tt, omega arith, omega arith)
-decide_step p h phase.Put (reply.Found o) is stands gets = absurd gets
-decide_step p h phase.Put (reply.Rows rows) is stands gets = absurd gets
+decide_step p h phase.Put (reply.Found o) is agrees gets = absurd gets
+decide_step p h phase.Put (reply.Rows rows) is agrees gets = absurd gets
 decide_step p h phase.Look (reply.Found (Some row)) is (calls, faulted, put) gets =
     follows p (item p (Deciding phase.Look) h (reply.Found (Some row))) (decision_in row) phase.Ended (steps.Expired p.id) refl (found_row p (Deciding phase.Look) h (reply.Found (Some row)) row gets refl refl refl (omega arith) (λ none. cc))
 decide_step p h phase.Look (reply.Found None) is (calls, faulted, put) gets = (omega arith, faulted, put)
 decide_step p h phase.Look reply.Fault is (calls, faulted, put) gets = (refl, put, refl, omega arith)
 decide_step p h phase.Look reply.NoMemory is (calls, faulted, put) gets = (refl, put, refl, omega arith)
-decide_step p h phase.Look reply.Applied is stands gets = absurd gets
-decide_step p h phase.Look (reply.NotMet o) is stands gets = absurd gets
-decide_step p h phase.Look (reply.Rows rows) is stands gets = absurd gets
+decide_step p h phase.Look reply.Applied is agrees gets = absurd gets
+decide_step p h phase.Look (reply.NotMet o) is agrees gets = absurd gets
+decide_step p h phase.Look (reply.Rows rows) is agrees gets = absurd gets
 decide_step p h phase.Abort reply.Applied is (calls, faulted, put) gets =
     backing p (item p (Deciding phase.Abort) h reply.Applied) outcome.Faulted (length p.writes) 0 (left _ _ (left _ _ (own_row_says p decision.Aborted is))) faulted (omega arith) (omega arith) (omega arith)
 decide_step p h phase.Abort (reply.NotMet (Some row)) is (calls, faulted, put) gets =
     follows p (item p (Deciding phase.Abort) h (reply.NotMet (Some row))) (decision_in row) phase.Ended (steps.Expired p.id) refl (found_row p (Deciding phase.Abort) h (reply.NotMet (Some row)) row (gets.0 ∙ row-key p.id decision.Aborted p.now) refl refl refl (omega arith) (λ none. cc))
-decide_step p h phase.Abort (reply.NotMet None) is stands gets = cc (gets.1)
+decide_step p h phase.Abort (reply.NotMet None) is agrees gets = cc (gets.1)
 decide_step p h phase.Abort reply.Fault is (calls, faulted, put) gets = (omega arith, refl, put, refl)
 decide_step p h phase.Abort reply.NoMemory is (calls, faulted, put) gets = (refl, put, refl, omega arith)
-decide_step p h phase.Abort (reply.Found o) is stands gets = absurd gets
-decide_step p h phase.Abort (reply.Rows rows) is stands gets = absurd gets
+decide_step p h phase.Abort (reply.Found o) is agrees gets = absurd gets
+decide_step p h phase.Abort (reply.Rows rows) is agrees gets = absurd gets
 decide_step p h phase.Again (reply.Found (Some row)) is (calls, faulted, put, failed) gets =
     follows p (item p (Deciding phase.Again) h (reply.Found (Some row))) (decision_in row) phase.Ended steps.Faulted faulted (found_row p (Deciding phase.Again) h (reply.Found (Some row)) row gets refl refl refl (omega arith) (λ none. cc))
 decide_step p h phase.Again (reply.Found None) is (calls, faulted, put, failed) gets = (refl, put, failed, omega arith)
 decide_step p h phase.Again reply.Fault is (calls, faulted, put, failed) gets = (refl, put, refl, omega arith)
 decide_step p h phase.Again reply.NoMemory is (calls, faulted, put, failed) gets = (refl, put, refl, omega arith)
-decide_step p h phase.Again reply.Applied is stands gets = absurd gets
-decide_step p h phase.Again (reply.NotMet o) is stands gets = absurd gets
-decide_step p h phase.Again (reply.Rows rows) is stands gets = absurd gets
-decide_step p h phase.Ended r is stands gets = absurd stands
+decide_step p h phase.Again reply.Applied is agrees gets = absurd gets
+decide_step p h phase.Again (reply.NotMet o) is agrees gets = absurd gets
+decide_step p h phase.Again (reply.Rows rows) is agrees gets = absurd gets
+decide_step p h phase.Ended r is agrees gets = absurd agrees
 
 forward_step : (p : Work) (h : Seen) (i : ℕ) (r : Reply) → StageInvariant p h (Forward i) → StageInvariant p (item p (Forward i) h r) (step p (Forward i) r)
 forward_step p h i r (within, learned, most, exact) =
@@ -261,8 +255,8 @@ stop_step p h a n reply.Applied (safe, caused, within, most) gets = backing p (i
 stop_step p h a n (reply.NotMet found) (safe, caused, within, most) gets = backing p (item p (Stopping a n) h (reply.NotMet found)) a n 0 (right _ _ safe) (caused_still p h (Stopping a n) (reply.NotMet found) a caused) (omega arith) within (omega arith)
 stop_step p h a n reply.Fault (safe, caused, within, most) gets = over p (item p (Stopping a n) h reply.Fault) a (caused_still p h (Stopping a n) reply.Fault a caused) (left _ _ safe) (omega arith)
 stop_step p h a n reply.NoMemory (safe, caused, within, most) gets = over p (item p (Stopping a n) h reply.NoMemory) a (caused_still p h (Stopping a n) reply.NoMemory a caused) (left _ _ safe) (omega arith)
-stop_step p h a n (reply.Found o) stands gets = absurd gets
-stop_step p h a n (reply.Rows rows) stands gets = absurd gets
+stop_step p h a n (reply.Found o) agrees gets = absurd gets
+stop_step p h a n (reply.Rows rows) agrees gets = absurd gets
 
 undo_stays : (p : Work) (h : Seen) (a : Outcome) (n i : ℕ) (r : Reply) → may_undo h ≡ true → may_undo (item p (Back a n i) h r) ≡ true
 undo_stays p h a n i r may = by_flags (observes_decision p.id decision.Aborted (pending p (Back a n i)) r) h.aborted h.stopped (without_effect h.put) may where
@@ -274,14 +268,14 @@ back_step : (p : Work) (h : Seen) (a : Outcome) (n i : ℕ) (r : Reply) → Stag
 back_step p h a n i r (may, caused, in_n, within, most) = backing p (item p (Back a n i) h r) a n (i + 1) (undo_stays p h a n i r may) (caused_still p h (Back a n i) r a caused) (omega arith) within (omega arith)
 
 stands_step : (p : Work) (h : Seen) (s : Stage) (r : Reply) → IsWork p → StageInvariant p h s → CanGet (pending p s) r → StageInvariant p (item p s h r) (step p s r)
-stands_step p h (Preparing i) r is stands gets = prepare_step p h i r stands
-stands_step p h (Checking i) r is stands gets = check_step p h i r stands
-stands_step p h (Deciding d) r is stands gets = decide_step p h d r is stands gets
-stands_step p h (Forward i) r is stands gets = forward_step p h i r stands
-stands_step p h (Stopping a n) r is stands gets = stop_step p h a n r stands gets
-stands_step p h (Back a n i) r is stands gets = back_step p h a n i r stands
-stands_step p h (Over a) r is stands gets = absurd gets
+stands_step p h (Preparing i) r is agrees gets = prepare_step p h i r agrees
+stands_step p h (Checking i) r is agrees gets = check_step p h i r agrees
+stands_step p h (Deciding d) r is agrees gets = decide_step p h d r is agrees gets
+stands_step p h (Forward i) r is agrees gets = forward_step p h i r agrees
+stands_step p h (Stopping a n) r is agrees gets = stop_step p h a n r agrees gets
+stands_step p h (Back a n i) r is agrees gets = back_step p h a n i r agrees
+stands_step p h (Over a) r is agrees gets = absurd gets
 
-pub stands : (p : Work) (past : List Reply) → IsWork p → AreReplies p past → StageInvariant p (seen p past) (after p past)
-stands p [] is played = begins p
-stands p (r ∷ past) is played = stands_step p (seen p past) (after p past) r is (stands p past is played.0) played.1
+pub agrees : (p : Work) (past : List Reply) → IsWork p → AreReplies p past → StageInvariant p (seen p past) (after p past)
+agrees p [] is correct = begins p
+agrees p (r ∷ past) is correct = stands_step p (seen p past) (after p past) r is (agrees p past is correct.0) correct.1

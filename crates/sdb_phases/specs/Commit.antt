@@ -1,8 +1,7 @@
 -- A whole COMMIT, as a function of the replies so far.
 use Rattle.std.specs.Prelude.{ℕ, ◌+◌, Bool, true, false, if◌then◌else◌, List, [], ◌∷◌, length, nat_lt, Option, Some, None, slice_get}
 use Rattle.std.specs.Option.{option_map}
-use Rattle.sdb_types.specs.declared.record.Request.{Request}
-use Rattle.sdb_types.specs.declared.record.Reply.{Reply}
+use Rattle.sdb_phases.specs.Types.{Reply, Request}
 use Rattle.sdb_types.specs.declared.record.Reply.TheVariants as reply
 use Rattle.sdb_phases.specs.declared.step.Outcome.{Outcome}
 use Rattle.sdb_phases.specs.declared.step.Outcome.TheVariants as outcome
@@ -19,7 +18,7 @@ use Rattle.sdb_phases.specs.Checks.{checks}
 use Rattle.sdb_phases.specs.Steps.{prepare_step, touched_after, validate_step, decide_request_at, decide_next}
 
 -- Where a COMMIT is: at a prepare; at a check; at a call of the decision; at a roll forward; having stopped, at the put
--- of ABORTED; at a roll back; ended. A stop keeps what it will answer, and how many writes may have taken effect.
+-- of ABORTED; at a roll back; ended. A stop keeps what it will answer, and how many writes may have accepted effect.
 pub data Stage : Type 0 where
   Preparing : (i : ℕ) → Stage
   Checking : (i : ℕ) → Stage
@@ -52,7 +51,7 @@ pending p (Back a n i) = slice_get (backs p) i
 pending p (Over a) = None
 
 -- Where a stop of prepare or of a check leads: to the put of ABORTED, and then to the roll back of each write that may have
--- taken effect.
+-- accepted effect.
 abbrev pub after_prepare : Work → (i touched : ℕ) → PrepareStep → Stage
 after_prepare p i n prepare.More = Preparing (i + 1)
 after_prepare p i n prepare.Done = checking p 0

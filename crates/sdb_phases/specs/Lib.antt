@@ -1,3 +1,4 @@
+pub mod Types
 pub mod Work
 pub mod Checks
 pub mod Steps

@@ -1,8 +1,6 @@
 -- What the laws of the phases speak of.
 use Rattle.std.specs.Prelude.{◌<◌, ◌^◌, List}
-use Rattle.sdb_types.specs.declared.record.Record.{Record}
-use Rattle.sdb_types.specs.declared.record.Reply.{Reply}
-use Rattle.sdb_record.specs.declared.meta.Meta.{Meta}
+use Rattle.sdb_phases.specs.Types.{Meta, Record, Reply}
 use Rattle.sdb_phases.specs.declared.step.RecoverPhase.{RecoverPhase}
 use Rattle.sdb_phases.specs.declared.step.RecoverStep.{RecoverStep}
 use Rattle.sdb_phases.specs.Work.{Work}
@@ -15,7 +13,7 @@ pub record CommitRun : Type 0 where
   pub work : Work
   pub past : List Reply
   pub sound : IsWork work
-  pub played : AreReplies work past
+  pub correct : AreReplies work past
 
 -- where the replies lead it
 abbrev pub stage_after : CommitRun → Stage
@@ -31,7 +29,7 @@ pub record RecoverRun : Type 0 where
   pub meta : Meta
   pub past : List Received
   pub fits : meta.id.0 < 2 ^ 128
-  pub played : AreRecoverReplies found meta past
+  pub correct : AreRecoverReplies found meta past
 
 -- where the replies lead it
 abbrev pub phase_after : RecoverRun → RecoverPhase

@@ -1,15 +1,10 @@
 -- The step of each phase of a COMMIT, from a reply.
 use Rattle.std.specs.Prelude.{ℕ, ℤ, ◌+◌, Bool, true, false, if◌then◌else◌, List, [], length, nat_lt, Option, Some, None, Result, Ok, Err, slice_get}
 use Rattle.std.specs.Option.{option_map}
-use Rattle.sdb_types.specs.declared.key.Key.{Key}
-use Rattle.sdb_types.specs.declared.txid.TxId.{TxId}
-use Rattle.sdb_types.specs.declared.record.Record.{Record}
-use Rattle.sdb_types.specs.declared.record.Request.{Request}
+use Rattle.sdb_phases.specs.Types.{Decided, Key, Record, Reply, Request, TxId}
 use Rattle.sdb_types.specs.declared.record.Request.TheVariants as ask
-use Rattle.sdb_types.specs.declared.record.Reply.{Reply}
 use Rattle.sdb_types.specs.declared.record.Reply.TheVariants as reply
 use Rattle.sdb_types.specs.Contents.{CanAnswer}
-use Rattle.sdb_record.specs.declared.coordinator.Decided.{Decided}
 use Rattle.sdb_record.specs.declared.coordinator.Decision.TheVariants as decision
 use Rattle.sdb_record.specs.Coordinator.{coordinator_key_of, decision_in}
 use Rattle.sdb_phases.specs.declared.check.Check.{Check}
@@ -33,7 +28,7 @@ CanGet (Some q) r = CanAnswer q r
 
 ---- Prepare
 
--- requests in turn, and how many of the writes, from the first, may have taken effect
+-- requests in turn, and how many of the writes, from the first, may have accepted effect
 pub record Prepares : Type 0 where
   pub asks : List Request
   pub at : ℕ
@@ -53,7 +48,7 @@ prepare_step more q (reply.NotMet found) = refused q found
 prepare_step more q reply.Fault = prepare.Faulted
 prepare_step more q r = prepare.NoMemory
 
--- a prepare that was applied or faulted may have taken effect
+-- a prepare that was applied or faulted may have accepted effect
 abbrev pub touched_after : ℕ → Reply → ℕ
 touched_after n reply.Applied = n + 1
 touched_after n reply.Fault = n + 1

@@ -1,14 +1,9 @@
 -- What is committed, and the calls that write it.
 use Rattle.std.specs.Prelude.{ℤ, List, map}
-use Rattle.sdb_types.specs.declared.txid.TxId.{TxId}
-use Rattle.sdb_types.specs.declared.record.Condition.{Condition}
+use Rattle.sdb_phases.specs.Types.{Condition, Read, Request, Scan, TxId, Write}
 use Rattle.sdb_types.specs.declared.record.Condition.TheVariants as condition
-use Rattle.sdb_types.specs.declared.record.Request.{Request}
 use Rattle.sdb_types.specs.declared.record.Request.TheVariants as ask
 use Rattle.sdb_record.specs.declared.coordinator.Decision.TheVariants as decision
-use Rattle.sdb_record.specs.declared.access.Read.{Read}
-use Rattle.sdb_record.specs.declared.access.Scan.{Scan}
-use Rattle.sdb_record.specs.declared.write.Write.{Write}
 use Rattle.sdb_record.specs.Coordinator.{coordinator_key_of, coordinator_row_of}
 use Rattle.sdb_record.specs.Moved.{version_of, condition_of}
 use Rattle.sdb_record.specs.Rolls.{prepared_record, forward_record, state_of_change, undo}

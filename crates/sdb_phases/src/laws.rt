@@ -1,9 +1,6 @@
 //! Laws of the phases, for every list of replies that the calls can get.
 ghost use Rattle.std.specs.Prelude.{◌≡◌, ◌≤◌, ◌+◌, ℕ, ℤ, true, false, Option, Some, length};
-ghost use Rattle.sdb_types.specs.declared.key.Key.{Key};
-ghost use Rattle.sdb_types.specs.declared.txid.TxId.{TxId};
-ghost use Rattle.sdb_types.specs.declared.record.Record.{Record};
-ghost use Rattle.sdb_types.specs.declared.record.Reply.{Reply};
+ghost use Rattle.sdb_phases.specs.Types.{Key, Record, Reply, TxId};
 ghost use Rattle.sdb_types.specs.declared.record.Reply.TheVariants as reply;
 ghost use Rattle.sdb_record.specs.Coordinator.{coordinator_key_of};
 ghost use Rattle.sdb_phases.specs.declared.step.Outcome.{Outcome};

@@ -3,21 +3,17 @@ use Rattle.std.proofs.Common.{◌≡◌, ℕ, ◌+◌, Bool, true, false, List, 
 use Rattle.std.specs.Prelude.{Option, Some, None, take}
 use Rattle.std.specs.List.{filter_map}
 use Rattle.std.proofs.lemmas.List.Elements.{filter_map-append}
-use Rattle.sdb_types.specs.declared.record.Reply.{Reply}
-use Rattle.sdb_types.specs.declared.record.Request.{Request}
+use Rattle.sdb_picture.specs.Types.{Answer, Event, How, Reply, Request}
 use Rattle.sdb_types.specs.declared.record.Request.TheVariants as ask
 use Rattle.sdb_model.specs.Rows.{Name}
-use Rattle.sdb_model.specs.declared.answer.Answer.{Answer}
-use Rattle.sdb_model.specs.declared.event.Event.{Event}
 use Rattle.sdb_model.specs.declared.event.Event.TheVariants as event
-use Rattle.sdb_model.specs.declared.event.How.{How}
-use Rattle.sdb_lanes.specs.declared.effect.Effect.{Effect}
-use Rattle.sdb_lanes.specs.declared.effect.Stage.{Stage}
-use Rattle.sdb_lanes.specs.declared.effect.Verdict.{Verdict}
-use Rattle.sdb_lanes.specs.declared.lanes.Lanes.{Lanes}
-use Rattle.sdb_lanes.specs.Effects.{is_decision, may_change}
-use Rattle.sdb_lanes.specs.Known.{effect_at}
-use Rattle.sdb_lanes.specs.Lanes.{client_lane}
+use Rattle.sdb_picture.specs.declared.effect.Effect.{Effect}
+use Rattle.sdb_picture.specs.declared.effect.Stage.{Stage}
+use Rattle.sdb_picture.specs.declared.effect.Verdict.{Verdict}
+use Rattle.sdb_picture.specs.declared.lanes.Lanes.{Lanes}
+use Rattle.sdb_picture.specs.Effects.{is_decision, may_change}
+use Rattle.sdb_picture.specs.Known.{effect_at}
+use Rattle.sdb_picture.specs.Lanes.{client_lane}
 use Rattle.sdb_picture.specs.Arrows.{answer_at, answer_of, answers_from, arrow_of, calls_from, marks_in, statement_of, texts_from}
 use Rattle.sdb_picture.specs.Marks.{Mark, Band, Decided, answer_marks, effect_marks, groups_of}
 

@@ -2,12 +2,10 @@
 use Rattle.std.specs.Prelude.{ℕ, ◌+◌, List, [], ◌∷◌, ◌++◌, Option, Some, None}
 use Rattle.std.specs.List.{filter_map, flat_map}
 use Rattle.sdb_model.specs.Texts.{answer_text_of}
-use Rattle.sdb_model.specs.declared.answer.Answer.{Answer}
-use Rattle.sdb_model.specs.declared.event.Event.{Event}
+use Rattle.sdb_picture.specs.Types.{Answer, Event, How}
 use Rattle.sdb_model.specs.declared.event.Event.TheVariants as event
-use Rattle.sdb_model.specs.declared.event.How.{How}
-use Rattle.sdb_lanes.specs.declared.lanes.Lanes.{Lanes}
-use Rattle.sdb_lanes.specs.Lanes.{client_lane, store_lane}
+use Rattle.sdb_picture.specs.declared.lanes.Lanes.{Lanes}
+use Rattle.sdb_picture.specs.Lanes.{client_lane, store_lane}
 use Rattle.sdb_picture.specs.Marks.{Mark, Statement, Arrow, Answered, Band, Decided, Rested, Ticked, Pointed, Group}
 
 -- what is read from each mark of a picture, in order
@@ -61,7 +59,7 @@ statement_of (Rested row client text) = None
 statement_of (Ticked row text) = None
 statement_of (Pointed events place id) = None
 
--- the texts that are taken
+-- the texts that are accepted
 abbrev pub texts_from : Lanes → ℕ → List Event → List Worded
 texts_from lanes row [] = []
 texts_from lanes row (event.Take client text given ∷ es) =

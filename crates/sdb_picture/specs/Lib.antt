@@ -1,6 +1,10 @@
+pub mod Types
 pub mod Arrows
 pub mod Labels
 pub mod Marks
 pub mod Places
 pub mod Svg
 pub mod Whole
+pub mod Effects
+pub mod Known
+pub mod Lanes

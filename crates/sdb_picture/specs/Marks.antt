@@ -2,29 +2,21 @@
 use Rattle.std.specs.Prelude.{ℕ, ℤ, ◌+◌, nat_lt, if◌then◌else◌, List, [], ◌∷◌, ◌++◌, length, take, codes, decimal, Option, Some, None}
 use Rattle.std.specs.Fmt.{signed_decimal}
 use Rattle.sdb_types.specs.TxId.{id_text}
-use Rattle.sdb_types.specs.declared.record.Condition.{Condition}
-use Rattle.sdb_types.specs.declared.record.Record.{Record}
-use Rattle.sdb_types.specs.declared.record.Reply.{Reply}
+use Rattle.sdb_picture.specs.Types.{Answer, Condition, Event, How, Outcome, Point, Record, Reply, Request}
 use Rattle.sdb_types.specs.declared.record.Reply.TheVariants as reply
-use Rattle.sdb_types.specs.declared.record.Request.{Request}
 use Rattle.sdb_types.specs.declared.record.Request.TheVariants as ask
 use Rattle.sdb_model.specs.Report.{how_text_of}
 use Rattle.sdb_model.specs.Rows.{Name}
 use Rattle.sdb_model.specs.Texts.{answer_text_of, key_text_of, record_text_of, span_text_of}
-use Rattle.sdb_model.specs.declared.answer.Answer.{Answer}
-use Rattle.sdb_model.specs.declared.event.Event.{Event}
 use Rattle.sdb_model.specs.declared.event.Event.TheVariants as event
-use Rattle.sdb_model.specs.declared.event.How.{How}
 use Rattle.sdb_model.specs.declared.event.How.TheVariants.{Seen, Lost, Discarded, Broken}
-use Rattle.sdb_model.specs.declared.event.Outcome.{Outcome}
-use Rattle.sdb_model.specs.declared.event.Point.{Point}
-use Rattle.sdb_lanes.specs.declared.effect.Effect.{Effect}
-use Rattle.sdb_lanes.specs.declared.effect.Stage.{Stage}
-use Rattle.sdb_lanes.specs.declared.effect.Verdict.{Verdict}
-use Rattle.sdb_lanes.specs.declared.lanes.Lanes.{Lanes}
-use Rattle.sdb_lanes.specs.Effects.{is_decision, may_change, stage_of, verdict_of}
-use Rattle.sdb_lanes.specs.Known.{effect_at, rows_after}
-use Rattle.sdb_lanes.specs.Lanes.{client_lane, lanes_of, record_lane, store_lane}
+use Rattle.sdb_picture.specs.declared.effect.Effect.{Effect}
+use Rattle.sdb_picture.specs.declared.effect.Stage.{Stage}
+use Rattle.sdb_picture.specs.declared.effect.Verdict.{Verdict}
+use Rattle.sdb_picture.specs.declared.lanes.Lanes.{Lanes}
+use Rattle.sdb_picture.specs.Effects.{is_decision, may_change, stage_of, verdict_of}
+use Rattle.sdb_picture.specs.Known.{effect_at, rows_after}
+use Rattle.sdb_picture.specs.Lanes.{client_lane, lanes_of, record_lane, store_lane}
 
 -- What is drawn. Rows and lanes are numbered from 0.
 pub data Mark : Type 0 where
@@ -134,7 +126,7 @@ pub record Group : Type 0 where
   pub title : List ℕ
   pub marks : List Mark
 
--- the label of an event: the statement that is taken, or what a call asks for
+-- the label of an event: the statement that is accepted, or what a call asks for
 abbrev pub event_text : Event → List ℕ
 event_text (event.Take client text given) = text
 event_text (event.Call client store request how reply given) = asked_text request

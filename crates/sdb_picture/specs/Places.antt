@@ -1,7 +1,7 @@
 -- Where lanes and rows lie in a picture, in its own units: clients from the left, then the labels of calls, the stores and the
 -- records, with the rows from the top.
 use Rattle.std.specs.Prelude.{ℕ, ◌+◌, ◌*◌, nat_lt, if◌then◌else◌, length}
-use Rattle.sdb_lanes.specs.declared.lanes.Lanes.{Lanes}
+use Rattle.sdb_picture.specs.declared.lanes.Lanes.{Lanes}
 
 ---- from the left
 

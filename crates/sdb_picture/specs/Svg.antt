@@ -6,15 +6,15 @@ use Rattle.sdb_model.specs.Rows.{Name}
 use Rattle.sdb_model.specs.Texts.{key_text_of}
 use Rattle.sdb_model.specs.declared.event.How.{How}
 use Rattle.sdb_model.specs.declared.event.How.TheVariants.{Seen, Lost, Discarded, Broken}
-use Rattle.sdb_lanes.specs.declared.effect.Effect.{Effect}
-use Rattle.sdb_lanes.specs.declared.effect.Effect.TheVariants as effect
-use Rattle.sdb_lanes.specs.declared.effect.Stage.{Stage}
-use Rattle.sdb_lanes.specs.declared.effect.Stage.TheVariants as stage
-use Rattle.sdb_lanes.specs.declared.effect.Verdict.{Verdict}
-use Rattle.sdb_lanes.specs.declared.effect.Verdict.TheVariants as verdict
+use Rattle.sdb_picture.specs.declared.effect.Effect.{Effect}
+use Rattle.sdb_picture.specs.declared.effect.Effect.TheVariants as effect
+use Rattle.sdb_picture.specs.declared.effect.Stage.{Stage}
+use Rattle.sdb_picture.specs.declared.effect.Stage.TheVariants as stage
+use Rattle.sdb_picture.specs.declared.effect.Verdict.{Verdict}
+use Rattle.sdb_picture.specs.declared.effect.Verdict.TheVariants as verdict
 use Rattle.sdb_picture.specs.declared.heading.TheConstants.{LEGEND, STYLE}
-use Rattle.sdb_lanes.specs.declared.lanes.Lanes.{Lanes}
-use Rattle.sdb_lanes.specs.declared.lanes.Place.{Place}
+use Rattle.sdb_picture.specs.declared.lanes.Lanes.{Lanes}
+use Rattle.sdb_picture.specs.declared.lanes.Place.{Place}
 use Rattle.sdb_picture.specs.Labels.{escaped_text, label_text}
 use Rattle.sdb_picture.specs.Marks.{Mark, Statement, Arrow, Answered, Band, Decided, Rested, Ticked, Pointed, Group, Picture}
 use Rattle.sdb_picture.specs.Places.{answer_x, arrow_y, came_x, client_x, decision_x, height_of, label_x, letter_x, letter_y, record_x, row_y, statement_x, store_x, text_y, width_of}

@@ -3,11 +3,10 @@ use Rattle.std.specs.Prelude.{◌≡◌, ◌<◌, ◌≤◌, List, ◌++◌, len
 use Rattle.std.specs.List.{flat_map}
 use Rattle.sdb_model.specs.Plain.{IsPlain}
 use Rattle.sdb_model.specs.Report.{report_text_of}
-use Rattle.sdb_model.specs.declared.event.Outcome.{Outcome}
+use Rattle.sdb_picture.specs.Types.{Outcome, ReportRefused}
 use Rattle.sdb_report.specs.Reports.{IsRefusedAt}
-use Rattle.sdb_report.specs.declared.refused.ReportRefused.{ReportRefused}
 use Rattle.sdb_report.specs.declared.refused.ReportRefused.TheVariants as read
-use Rattle.sdb_lanes.specs.declared.lanes.Lanes.{Lanes}
+use Rattle.sdb_picture.specs.declared.lanes.Lanes.{Lanes}
 use Rattle.sdb_picture.specs.declared.refused.PictureRefused.{PictureRefused}
 use Rattle.sdb_picture.specs.declared.refused.PictureRefused.TheVariants as refused
 use Rattle.sdb_picture.specs.Marks.{groups_of, picture_of, points_of}

@@ -9,7 +9,7 @@ use crate::places::{
     answer_x, arrow_y, came_x, client_x, decision_x, label_x, letter_x, letter_y, record_x, row_y,
     statement_x, store_x, text_y, width_of,
 };
-use sdb_lanes::{Effect, Lanes, Stage, Verdict};
+use crate::{Effect, Lanes, Stage, Verdict};
 use sdb_model::How;
 use sdb_types::NoMemory;
 use std::fmt::Write;

@@ -1,7 +1,7 @@
 //! Laws of what is drawn.
 ghost use Rattle.std.specs.Prelude.{◌≡◌};
 ghost use Rattle.sdb_model.specs.declared.event.Outcome.{Outcome};
-ghost use Rattle.sdb_lanes.specs.Lanes.{lanes_of};
+ghost use Rattle.sdb_picture.specs.Lanes.{lanes_of};
 ghost use Rattle.sdb_picture.specs.Arrows.{answer_of, answers_from, arrow_of, calls_from, marks_in, statement_of, texts_from};
 ghost use Rattle.sdb_picture.specs.Marks.{picture_of};
 
@@ -10,7 +10,7 @@ pub fn calls_are_arrows()
     ensures { (o : Outcome) → marks_in arrow_of (picture_of o).groups ≡ calls_from (lanes_of o.events) 0 o.events }
 {}
 
-/// Each text that is taken is exactly one statement, in its row, at its client, and nothing else is one.
+/// Each text that is accepted is exactly one statement, in its row, at its client, and nothing else is one.
 pub fn texts_are_statements()
     ensures { (o : Outcome) → marks_in statement_of (picture_of o).groups ≡ texts_from (lanes_of o.events) 0 o.events }
 {}

@@ -2,9 +2,12 @@
 #![tactic(auto)]
 
 mod drawing;
+mod effect;
 mod fate;
 mod heading;
+mod known;
 mod labels;
+mod lanes;
 pub mod laws;
 mod marks;
 mod places;
@@ -13,5 +16,8 @@ mod rows;
 mod titles;
 mod whole;
 
+pub use effect::{Effect, Stage, Verdict, is_decision, may_change, stage_of, verdict_of};
+pub use known::{effect_at, rows_after};
+pub use lanes::{Lanes, Place, lanes_of};
 pub use refused::PictureRefused;
 pub use whole::picture;

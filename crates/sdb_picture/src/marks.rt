@@ -10,11 +10,8 @@ use crate::drawing::{
 };
 use crate::fate::came_word;
 use crate::titles::{asked_text, clock_text};
-use sdb_lanes::{
-    Effect, Lanes, effect_at, is_decision, may_change, rows_after, stage_of, verdict_of,
-};
-use sdb_model::{Answer, Event, How};
-use sdb_texts::answer_text;
+use crate::{Effect, Lanes, effect_at, is_decision, may_change, rows_after, stage_of, verdict_of};
+use sdb_model::{Answer, Event, How, answer_text};
 use sdb_types::{Condition, Name, NoMemory, Record, Reply, Request};
 use std::alloc::Global;
 

@@ -2,7 +2,7 @@
 ghost use Rattle.std.specs.Prelude.{◌≡◌};
 ghost use Rattle.sdb_picture.specs.Places as spec;
 
-use sdb_lanes::Lanes;
+use crate::Lanes;
 
 /// Where a client's lane lies.
 pub fn client_x(lane: usize) -> u128

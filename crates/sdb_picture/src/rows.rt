@@ -5,12 +5,12 @@ ghost use Rattle.std.specs.String.{string_bytes};
 ghost use Rattle.sdb_picture.specs.Marks as spec;
 ghost use Rattle.sdb_picture.specs.Svg.{group_svg, mark_svg, number_svg, title_svg};
 
+use crate::Lanes;
 use crate::drawing::put_pointed;
 use crate::labels::put_escaped;
 use crate::marks::put_marks;
 use crate::places::text_y;
 use crate::titles::title_of;
-use sdb_lanes::Lanes;
 use sdb_model::{Event, Point};
 use sdb_types::NoMemory;
 use std::fmt::Write;

@@ -1,10 +1,9 @@
-//! The texts of events: what is taken, what a call asks for, and the answer.
+//! The texts of events: what is accepted, what a call asks for, and the answer.
 ghost use Rattle.std.specs.Prelude.{◌≡◌, ◌++◌, OnOk, IfOk};
 ghost use Rattle.std.specs.String.{string_bytes};
 ghost use Rattle.sdb_picture.specs.Marks as spec;
 
-use sdb_model::{Answer, Event};
-use sdb_texts::{put_answer, put_key, put_record, put_signed, put_span};
+use sdb_model::{Answer, Event, put_answer, put_key, put_record, put_signed, put_span};
 use sdb_types::{NoMemory, Request};
 use std::alloc::Global;
 use std::fmt::Write;

@@ -11,7 +11,7 @@ ghost use Rattle.sdb_picture.specs.Whole.{Answers, IsDrawn, IsRefused, refusal, 
 use crate::heading::put_heading;
 use crate::refused::PictureRefused;
 use crate::rows::{put_groups, put_points};
-use sdb_lanes::{Lanes, lanes_of};
+use crate::{Lanes, lanes_of};
 use sdb_model::Outcome;
 use sdb_report::{ReportRefused, read_report};
 use sdb_types::NoMemory;

@@ -80,7 +80,7 @@ fn end(alloc: Global, asks: &mut Requests, at: &mut usize) -> Requests
 }
 
 impl Prepare {
-    /// The prepares of these writes, for a transaction whose COMMIT was taken at a moment from 0 to 2^53.
+    /// The prepares of these writes, for a transaction whose COMMIT was accepted at a moment from 0 to 2^53.
     pub fn new(alloc: Global, writes: &Writes, id: TxId, now: i64) -> Result<Prepare, NoMemory>
         requires { All IsWrite writes.now }
         ensures { IfOk result (λ p. p ≡ record { asks = map (prepare_of id now) writes.now; at = 0; touched = 0 }) }
@@ -100,7 +100,7 @@ impl Prepare {
         self.asks.at(self.at)
     }
 
-    /// How many writes, from the first, may have taken effect: those whose prepare was applied or faulted.
+    /// How many writes, from the first, may have accepted effect: those whose prepare was applied or faulted.
     pub fn touched(&self) -> usize
         ensures { result ≡ self.now.touched }
     {

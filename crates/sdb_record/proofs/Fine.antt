@@ -2,11 +2,8 @@
 use Rattle.std.proofs.Common.{◌≡◌, ℕ, suc, ◌<◌, get_or, drop, drop-cons, pos, List, [], ◌∷◌, length, Bool, true, false, not, ◌&&◌, ◌||◌, cond, refl, sym, ap, ◌∙◌, subst, arith, Option, Some, None, Result, Ok, Err}
 use Rattle.std.specs.Prelude.{find, is_some, is_ok, nat_lt, nat_le}
 use Rattle.std.specs.List.{list_any, list_all}
-use Rattle.sdb_types.specs.declared.value.Value.{Value}
+use Rattle.sdb_record.specs.Types.{Pair, Record, State, Value}
 use Rattle.sdb_types.specs.declared.value.Value.TheVariants as value
-use Rattle.sdb_types.specs.declared.pair.Pair.{Pair}
-use Rattle.sdb_types.specs.declared.record.State.{State}
-use Rattle.sdb_types.specs.declared.record.Record.{Record}
 use Rattle.sdb_types.specs.declared.record.State.TheVariants.{Committed}
 use Rattle.sdb_types.specs.Columns.{column}
 use Rattle.sdb_types.specs.Identifier.{is_identifier}
@@ -116,10 +113,10 @@ pub ok-of : {A E : Type 0} (r : Result A E) → is_ok r ≡ true → (x : A) × 
 ok-of (Ok x) h = (x, refl)
 ok-of (Err e) h = absurd (cc)
 
--- what a taken record's checks say: the first eight of its own columns, and the ninth
-pub taken : (ps : List Pair) (y : Meta) → checked ps ≡ Ok y → (m : Meta) × Fine any_state ps m × (checked_before ps m ≡ Ok y)
+-- what a accepted record's checks say: the first eight of its own columns, and the ninth
+pub accepted : (ps : List Pair) (y : Meta) → checked ps ≡ Ok y → (m : Meta) × Fine any_state ps m × (checked_before ps m ≡ Ok y)
 unfolding checked
-taken ps y h =
+accepted ps y h =
     let a = then_check-ok (checked_part any_state ps) (checked_before ps) y h in
     (a.0, valid any_state ps a.0 a.1, a.2)
 
@@ -169,12 +166,12 @@ keep-before ps m y h =
       | false ↦ λ q k. keep-none ps q
     ] refl h
 
--- what a taken record keeps has names
-pub taken-keep : (r : Record) → is_transactional r ≡ true → have_identifiers r.columns ≡ true
-taken-keep r h =
+-- what a accepted record keeps has names
+pub accepted-keep : (r : Record) → is_transactional r ≡ true → have_identifiers r.columns ≡ true
+accepted-keep r h =
     let ps = r.columns in
     let y = ok-of (checked ps) (and_second (are_stored ps) (is_ok (checked ps)) h) in
-    let w = taken ps y.0 y.1 in
+    let w = accepted ps y.0 y.1 in
     keep-before ps w.0 y.0 w.2
 
 twice : (b : Bool) → not (not b) ≡ true → b ≡ true
@@ -251,9 +248,9 @@ committed-state allowed ps m f h =
     ap is_committed (sym s)
 
 -- a committed record's names leave room for the prefix
-pub taken-short : (r : Record) → is_transactional r ≡ true → is_in Committed r.columns ≡ true → are_short r.columns ≡ true
-taken-short r h k =
+pub accepted-short : (r : Record) → is_transactional r ≡ true → is_in Committed r.columns ≡ true → are_short r.columns ≡ true
+accepted-short r h k =
     let ps = r.columns in
     let y = ok-of (checked ps) (and_second (are_stored ps) (is_ok (checked ps)) h) in
-    let w = taken ps y.0 y.1 in
+    let w = accepted ps y.0 y.1 in
     committed-short ps w.0 (committed-state any_state ps w.0 w.1 k) w.1.strays w.1.early

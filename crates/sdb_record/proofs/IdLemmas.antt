@@ -4,14 +4,13 @@ use Rattle.std.specs.Int.{w128, from_be_bytes, to_be_bytes}
 use Rattle.std.proofs.lemmas.Bool.Decides.{Decides-ltb}
 use Rattle.uuid.specs.Text.{parsed}
 use Rattle.uuid.proofs.OrderLemmas.{from_be_bytes-to_be_bytes_16}
-use Rattle.sdb_types.specs.declared.txid.TxId.{TxId}
+use Rattle.sdb_record.specs.Types.{TxId, Value}
 use Rattle.sdb_types.specs.TxId.{id_text}
 use Rattle.sdb_types.proofs.TxIdLemmas.{id_text_parses}
 use Rattle.sdb_types.proofs.Bools.{and_first, and_second, and_both}
 use Rattle.sdb_record.specs.Names.{same_name}
 use Rattle.sdb_record.specs.Ids.{id_of_text, id_with_text, is_id_with_text}
 use Rattle.sdb_record.proofs.NameLemmas.{same_name-true, same_name-itself}
-use Rattle.sdb_types.specs.declared.value.Value.{Value}
 use Rattle.sdb_types.specs.declared.value.Value.TheVariants as value
 use Rattle.sdb_types.proofs.Basics.{none_some}
 use Rattle.sdb_record.specs.Meta.{id_in_value}

@@ -7,13 +7,9 @@ use Rattle.std.proofs.Common.{eqb}
 use Rattle.std.proofs.lemmas.Bool.Decides.{Decides-eqb}
 use Rattle.std.specs.Option.{option_map_or}
 use Rattle.std.specs.List.{list_any}
-use Rattle.sdb_types.specs.declared.value.Value.{Value}
+use Rattle.sdb_record.specs.Types.{Pair, Record, State, TxId, Value}
 use Rattle.sdb_types.specs.declared.value.Value.TheVariants as value
-use Rattle.sdb_types.specs.declared.pair.Pair.{Pair}
-use Rattle.sdb_types.specs.declared.record.Record.{Record}
-use Rattle.sdb_types.specs.declared.record.State.{State}
 use Rattle.sdb_types.specs.declared.record.State.TheVariants.{Deleted, Committed}
-use Rattle.sdb_types.specs.declared.txid.TxId.{TxId}
 use Rattle.sdb_types.specs.TxId.{id_text}
 use Rattle.sdb_types.specs.ValueLaws.{value_total}
 use Rattle.sdb_types.specs.Columns.{column}
@@ -32,11 +28,11 @@ use Rattle.sdb_record.specs.Meta.{checked, id_in, id_in_value, is_in, is_transac
 use Rattle.sdb_record.specs.Coordinator.{coordinator_key_of, coordinator_row_of, id_of_key, decision_in, decision_in_value, decision_number}
 use Rattle.sdb_record.specs.Rolls.{prepared_record, forward_record, forward_columns, back_of, back_to, image_of, image_under, row_of_image, row_of_change, new_columns, state_of_change, next_version, base_columns, IsWrite}
 use Rattle.sdb_record.proofs.IdLemmas.{id_of_text-id_text, id_of_text-is}
-use Rattle.sdb_record.proofs.Fine.{taken, has_value-is, refuse-ok, need-some}
+use Rattle.sdb_record.proofs.Fine.{accepted, has_value-is, refuse-ok, need-some}
 use Rattle.sdb_record.proofs.States.{state_value, is_in-says, says-committed}
-use Rattle.sdb_record.proofs.RollLaws.{has_int, forward-id, forward-in, forward-tombstone, forward-user, forward-taken, forward-committed, forward-key, before-kept, mark_value}
+use Rattle.sdb_record.proofs.RollLaws.{has_int, forward-id, forward-in, forward-tombstone, forward-user, forward-accepted, forward-committed, forward-key, before-kept, mark_value}
 use Rattle.sdb_record.proofs.WriteLaws.{marked-id, marked-state, marked-other, marked-user, with_base, row-kept, fitting, no-column}
-use Rattle.sdb_record.proofs.TakenLaws.{prepared-columns, prepared-key, prepared-base, left-taken, other-meta, absent-column, time-fits as moment-of}
+use Rattle.sdb_record.proofs.TakenLaws.{prepared-columns, prepared-key, prepared-base, left-accepted, other-meta, absent-column, time-fits as moment-of}
 
 ---- what a transaction left
 
@@ -64,7 +60,7 @@ prepared-unsettled w id now = ap (λ o. has_value o (value.Int (pos 3))) (left-s
 
 pub prepared-unresolved : (w : Write) (id : TxId) (now : ℤ) → IsWrite w → id.0 < 2 ^ 128 → is_moment now ≡ true → is_unresolved (prepared_record w id now) ≡ true
 prepared-unresolved w id now h small moment =
-    and_both (is_transactional (prepared_record w id now)) _ (left-taken w id now h small moment) (ap not (prepared-unsettled w id now))
+    and_both (is_transactional (prepared_record w id now)) _ (left-accepted w id now h small moment) (ap not (prepared-unsettled w id now))
 
 pub prepared-back : (w : Write) (id : TxId) (now : ℤ) → IsWrite w → back_of (prepared_record w id now) ≡ back_to w.key w.base
 prepared-back w id now h = ap (λ k. back_to k (before_record (prepared_record w id now))) (prepared-key w id now) ∙ ap (back_to w.key) (prepared-base w id now h)
@@ -84,17 +80,17 @@ row-left : (w : Write) (id : TxId) (now : ℤ) → IsWrite w → user_columns (p
 row-left w id now h =
     ap user_columns (prepared-columns w id now) ∙ marked-user id (state_of_change w.change) (next_version w.base) now (with_base (new_columns w.change) (base_columns w.base)) ∙ row-kept (new_columns w.change) (base_columns w.base) (fitting w h)
 
-shown : (c : Change) (ps : List Pair) (o : Option Value) (deleted : Bool) → deleted ≡ has_value (Some (value.Int (state_number (state_of_change c)))) (value.Int (pos 2)) → o ≡ None → ps ≡ new_columns c
+observed : (c : Change) (ps : List Pair) (o : Option Value) (deleted : Bool) → deleted ≡ has_value (Some (value.Int (state_number (state_of_change c)))) (value.Int (pos 2)) → o ≡ None → ps ≡ new_columns c
     → cond (has_value (mark_value deleted o) (value.Bool true)) None (Some ps) ≡ row_of_change c
-shown (change.Row columns) ps o deleted d n e = ap (λ b. cond (has_value (mark_value b o) (value.Bool true)) None (Some ps)) d ∙ ap (λ x. cond (has_value x (value.Bool true)) None (Some ps)) n ∙ ap Some e
-shown change.Delete ps o deleted d n e = ap (λ b. cond (has_value (mark_value b o) (value.Bool true)) None (Some ps)) d
+observed (change.Row columns) ps o deleted d n e = ap (λ b. cond (has_value (mark_value b o) (value.Bool true)) None (Some ps)) d ∙ ap (λ x. cond (has_value x (value.Bool true)) None (Some ps)) n ∙ ap Some e
+observed change.Delete ps o deleted d n e = ap (λ b. cond (has_value (mark_value b o) (value.Bool true)) None (Some ps)) d
 
 pub forward-prepared-row : (w : Write) (id : TxId) (now created_at : ℤ) → IsWrite w → row_of_image (forward_record (prepared_record w id now) created_at) ≡ row_of_change w.change
 unfolding forward_record
 forward-prepared-row w id now created_at h =
     let ps = (prepared_record w id now).columns in
     ap (λ o. cond (has_value o (value.Bool true)) None (Some (user_columns (forward_columns ps created_at)))) (forward-tombstone ps created_at)
-    ∙ shown w.change (user_columns (forward_columns ps created_at)) (column ps tx_tombstone) (is_in Deleted ps) (ap (λ o. has_value o (value.Int (pos 2))) (left-state w id now)) (no-tombstone-left w id now h) (forward-user ps created_at ∙ row-left w id now h)
+    ∙ observed w.change (user_columns (forward_columns ps created_at)) (column ps tx_tombstone) (is_in Deleted ps) (ap (λ o. has_value o (value.Int (pos 2))) (left-state w id now)) (no-tombstone-left w id now h) (forward-user ps created_at ∙ row-left w id now h)
 
 ---- images
 
@@ -107,13 +103,13 @@ image-settled r d h = ap (λ b. cond b (Some r) (image_under r d)) h
 -- an image is a transactional record in state 3, of the same key
 pub record IsImage (r image : Record) : Type 0 where
   pub key : image.key ≡ r.key
-  pub taken : is_transactional image ≡ true
+  pub accepted : is_transactional image ≡ true
   pub committed : is_in Committed image.columns ≡ true
 
 kept-image : (r b : Record) → is_unresolved r ≡ true → before_record r ≡ Some b → IsImage r b
 kept-image r b h k =
     let w = before-kept r b h k in
-    record { key = w.0; taken = and_both (are_stored b.columns) _ w.1.stored w.1.passes; committed = w.1.committed }
+    record { key = w.0; accepted = and_both (are_stored b.columns) _ w.1.stored w.1.passes; committed = w.1.committed }
 
 -- the moments of a row are moments
 abbrev pub has_moment : Option Decided → Type 0
@@ -125,14 +121,14 @@ under r i (Some d) h m k =
     elim d.decision as (λ x. elim x as (λ _. Option Record) [ decision.Committed ↦ Some (forward_record r d.created_at) | decision.Aborted ↦ before_record r ] ≡ Some i → IsImage r i) [
       | decision.Committed ↦ λ q.
           let e : forward_record r d.created_at ≡ i = cc in
-          subst (IsImage r) e (record { key = forward-key r d.created_at; taken = forward-taken r d.created_at h m; committed = forward-committed r d.created_at })
+          subst (IsImage r) e (record { key = forward-key r d.created_at; accepted = forward-accepted r d.created_at h m; committed = forward-committed r d.created_at })
       | decision.Aborted ↦ λ q. kept-image r i h q
     ] k
 
 pub image-is : (r i : Record) (d : Option Decided) → is_transactional r ≡ true → has_moment d → image_of r d ≡ Some i → IsImage r i
 image-is r i d h m k =
     elim (is_in Committed r.columns) as (λ b. is_in Committed r.columns ≡ b → IsImage r i) [
-      | true ↦ λ q. let e : Some r ≡ Some i = sym (image-settled r d q) ∙ k in let same : r ≡ i = cc in subst (IsImage r) same (record { key = refl; taken = h; committed = q })
+      | true ↦ λ q. let e : Some r ≡ Some i = sym (image-settled r d q) ∙ k in let same : r ≡ i = cc in subst (IsImage r) same (record { key = refl; accepted = h; committed = q })
       | false ↦ λ q. under r i d (and_both (is_transactional r) _ h (ap not q)) m (sym (image-open r d q) ∙ k)
     ] refl
 
@@ -158,7 +154,7 @@ final-says ps m y h =
 -- a record that passes the checks is the version that its metadata says
 pub checked-version : (r : Record) (m : Meta) → checked r.columns ≡ Ok m → is_version m.id m.state r ≡ true
 checked-version r m h =
-    let t = taken r.columns m h in
+    let t = accepted r.columns m h in
     let same = final-says r.columns t.0 m t.2 in
     and_both (has_value (column r.columns tx_id) (value.Text (id_text m.id.0))) _ (id-value (column r.columns tx_id) m.id (t.1.says.id ∙ ap Some same.0)) (has_int (column r.columns tx_state) (state_number m.state) (state_value (column r.columns tx_state) m.state (t.1.says.state ∙ ap Some same.1)))
 
@@ -202,6 +198,6 @@ written o id f small h =
 
 pub checked-state : (ps : List Pair) (m : Meta) → checked ps ≡ Ok m → is_in Committed ps ≡ is_committed m.state
 checked-state ps m h =
-    let t = taken ps m h in
+    let t = accepted ps m h in
     let same = final-says ps t.0 m t.2 in
     is_in-says ps t.0.state Committed t.1.says.state ∙ says-committed t.0.state ∙ ap is_committed same.1

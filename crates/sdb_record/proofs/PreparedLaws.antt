@@ -1,11 +1,6 @@
 -- The record of a write, as it is put together.
 use Rattle.std.proofs.Common.{◌≡◌, ℤ, List, true, refl, ap, ◌∙◌, map, Option, Some, None, IfSome}
-use Rattle.sdb_types.specs.declared.value.Value.{Value}
-use Rattle.sdb_types.specs.declared.pair.Pair.{Pair}
-use Rattle.sdb_types.specs.declared.key.Key.{Key}
-use Rattle.sdb_types.specs.declared.txid.TxId.{TxId}
-use Rattle.sdb_types.specs.declared.record.State.{State}
-use Rattle.sdb_types.specs.declared.record.Record.{Record}
+use Rattle.sdb_record.specs.Types.{Key, Pair, Record, State, TxId, Value}
 use Rattle.sdb_types.specs.Columns.{column, are_columns}
 use Rattle.sdb_types.proofs.Bools.{and_first, and_second}
 use Rattle.sdb_record.specs.declared.write.Change.{Change}
@@ -14,11 +9,11 @@ use Rattle.sdb_record.specs.declared.write.Write.{Write}
 use Rattle.sdb_record.specs.Names.{tx_version}
 use Rattle.sdb_record.specs.Parts.{with_columns, before_pair, are_short, are_user_columns}
 use Rattle.sdb_record.specs.Rolls.{prepared_record, base_columns, new_columns, next_version_of, state_of_change, writer_columns, age_columns, IsBaseOf, is_change}
-use Rattle.sdb_record.proofs.Fine.{taken-short}
+use Rattle.sdb_record.proofs.Fine.{accepted-short}
 
 pub base-short : (key : Key) (base : Option Record) → IfSome base (IsBaseOf key) → are_short (base_columns base) ≡ true
 base-short key None h = refl
-base-short key (Some r) h = taken-short r h.1 h.2
+base-short key (Some r) h = accepted-short r h.1 h.2
 
 pub as_prepared : (w : Write) (id : TxId) (now : ℤ) (key : Key) (base row a b d : List Pair) (found : Option Value) (version : ℤ) (state : State)
     → key ≡ w.key → base ≡ base_columns w.base → row ≡ new_columns w.change → found ≡ column base tx_version → version ≡ next_version_of found → state ≡ state_of_change w.change

@@ -2,11 +2,8 @@
 use Rattle.std.proofs.Common.{◌≡◌, ℕ, ℤ, pos, List, [], ◌∷◌, length, Bool, true, false, not, ◌&&◌, ◌||◌, cond, refl, sym, ap, ◌∙◌, subst, Option, Some, None, Ok, Err, Result}
 use Rattle.std.specs.Prelude.{find, filter, is_some, is_ok, nat_lt}
 use Rattle.std.specs.List.{list_any, list_all}
-use Rattle.sdb_types.specs.declared.value.Value.{Value}
+use Rattle.sdb_record.specs.Types.{Key, Pair, Record, State, TxId, Value}
 use Rattle.sdb_types.specs.declared.value.Value.TheVariants as value
-use Rattle.sdb_types.specs.declared.pair.Pair.{Pair}
-use Rattle.sdb_types.specs.declared.record.Record.{Record}
-use Rattle.sdb_types.specs.declared.record.State.{State}
 use Rattle.sdb_types.specs.declared.record.State.TheVariants.{Prepared, Deleted, Committed, Aborted}
 use Rattle.sdb_types.specs.Columns.{column, are_columns, put_pair}
 use Rattle.sdb_types.specs.Identifier.{is_name}
@@ -15,8 +12,6 @@ use Rattle.std.specs.Cmp.{tied_itself}
 use Rattle.sdb_types.specs.Contents.{tx_id, tx_state, has_value, is_version}
 use Rattle.sdb_types.specs.ValueLaws.{value_total}
 use Rattle.sdb_types.specs.TxId.{id_text}
-use Rattle.sdb_types.specs.declared.txid.TxId.{TxId}
-use Rattle.sdb_types.specs.declared.key.Key.{Key}
 use Rattle.sdb_record.proofs.NameLemmas.{kept-is_name}
 use Rattle.sdb_types.proofs.Bools.{and_first, and_second, and_both}
 use Rattle.sdb_types.proofs.ColumnLemmas.{with_column-are_columns}
@@ -25,7 +20,7 @@ use Rattle.sdb_record.specs.Names.{tx_version, tx_prepared_at, tx_committed_at, 
 use Rattle.sdb_record.specs.Parts.{with_columns, own_columns, user_columns, is_before_pair, is_user_pair, are_stored, before_part, before_record, record_with}
 use Rattle.sdb_record.specs.Meta.{id_in, id_in_value, state_in_value, version_in_value, moment_in_value, is_moment, is_in, is_committed, is_deleted, is_stray, any_state, checked, checked_before, is_transactional, is_unresolved, present, tombstone_in_value, refuse, is_misnamed, with_before, checked_part, have_identifiers}
 use Rattle.sdb_record.specs.Rolls.{forward_columns, forward_record, tombstone_mark}
-use Rattle.sdb_record.proofs.Fine.{Says, Fine, taken, ok-of, checked-valid, none-first, none-rest, taken-keep, keeps_here, valid, valid-any, refuse-ok}
+use Rattle.sdb_record.proofs.Fine.{Says, Fine, accepted, ok-of, checked-valid, none-first, none-rest, accepted-keep, keeps_here, valid, valid-any, refuse-ok}
 use Rattle.sdb_record.proofs.States.{is_in-says, says-committed, says-deleted, no-tombstone, state_value}
 use Rattle.sdb_record.proofs.ColumnLaws.{not_before, are_columns-filter, are_columns-before_part}
 use Rattle.sdb_record.proofs.Settings.{column-put-same, column-put-other, none-put, none-filter, all-put, all-filter, filter-put, column-filter}
@@ -240,7 +235,7 @@ pub unresolved : (r : Record) → is_unresolved r ≡ true → Unresolved r.colu
 unresolved r h =
     let t = and_first (is_transactional r) (not (is_in Committed r.columns)) h in
     let y = ok-of (checked r.columns) (and_second (are_stored r.columns) (is_ok (checked r.columns)) t) in
-    let w = taken r.columns y.0 y.1 in
+    let w = accepted r.columns y.0 y.1 in
     record {
       stored = and_first (are_stored r.columns) (is_ok (checked r.columns)) t;
       final = y.0;
@@ -256,9 +251,9 @@ has_int o n h = ap (λ x. has_value x (value.Int n)) h ∙ ap is_eq (tied_itself
 pub forward-in : (ps : List Pair) (n : ℤ) → is_in Committed (forward_columns ps n) ≡ true
 forward-in ps n = has_int (column (forward_columns ps n) tx_state) (pos 3) (forward-state ps n)
 
-pub forward-taken : (r : Record) (n : ℤ) → is_unresolved r ≡ true → is_moment n ≡ true → is_transactional (forward_record r n) ≡ true
+pub forward-accepted : (r : Record) (n : ℤ) → is_unresolved r ≡ true → is_moment n ≡ true → is_transactional (forward_record r n) ≡ true
 unfolding forward_record
-forward-taken r n h k =
+forward-accepted r n h k =
     let u = unresolved r h in
     and_both (are_stored (forward_columns r.columns n)) _ (forward-stored r.columns n u.stored) (ap is_ok (forward-checked r.columns u.meta n u.valid u.unsettled k))
 
@@ -341,7 +336,7 @@ before-kept r b h k =
     let ps = r.columns in
     let u = unresolved r h in
     let w = record_with-key r.key (before_part ps) b k in
-    let keeps = taken-keep r (and_first (is_transactional r) (not (is_in Committed ps)) h) in
+    let keeps = accepted-keep r (and_first (is_transactional r) (not (is_in Committed ps)) h) in
     let order = are_columns-before_part ps (and_first (are_columns ps) (list_all (λ (p : Pair). is_name p.name) ps) u.stored) in
     let names = names-before_part ps (and_second (are_columns ps) (list_all (λ (p : Pair). is_name p.name) ps) u.stored) keeps in
     let stored : are_stored (before_part ps) ≡ true = and_both (are_columns (before_part ps)) _ order names in

@@ -2,10 +2,8 @@
 use Rattle.std.proofs.Common.{◌≡◌, ℤ, pos, List, Bool, true, false, cond, refl, ap, ◌∙◌, Option, Some, None}
 use Rattle.std.specs.Ordering.{int_eq}
 use Rattle.std.specs.Cmp.{signed_Decides}
-use Rattle.sdb_types.specs.declared.value.Value.{Value}
+use Rattle.sdb_record.specs.Types.{Pair, State, Value}
 use Rattle.sdb_types.specs.declared.value.Value.TheVariants as value
-use Rattle.sdb_types.specs.declared.pair.Pair.{Pair}
-use Rattle.sdb_types.specs.declared.record.State.{State}
 use Rattle.sdb_types.specs.declared.record.State.TheVariants.{Prepared, Deleted, Committed, Aborted}
 use Rattle.sdb_types.specs.Columns.{column}
 use Rattle.sdb_types.specs.Contents.{tx_state, state_number, has_value}

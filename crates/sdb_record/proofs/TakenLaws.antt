@@ -5,14 +5,9 @@ use Rattle.std.specs.List.{list_any, list_all}
 use Rattle.std.specs.Int.{int_min}
 use Rattle.std.specs.Option.{option_map}
 use Rattle.std.proofs.lemmas.Bool.Decides.{nat_tests}
-use Rattle.sdb_types.specs.declared.value.Value.{Value}
+use Rattle.sdb_record.specs.Types.{Key, Pair, Record, State, TxId, Value}
 use Rattle.sdb_types.specs.declared.value.Value.TheVariants as value
-use Rattle.sdb_types.specs.declared.pair.Pair.{Pair}
-use Rattle.sdb_types.specs.declared.key.Key.{Key}
-use Rattle.sdb_types.specs.declared.record.Record.{Record}
-use Rattle.sdb_types.specs.declared.record.State.{State}
 use Rattle.sdb_types.specs.declared.record.State.TheVariants.{Prepared}
-use Rattle.sdb_types.specs.declared.txid.TxId.{TxId}
 use Rattle.sdb_types.specs.TxId.{id_text}
 use Rattle.sdb_types.specs.Columns.{column, are_columns, with_column, is_null, is_named}
 use Rattle.sdb_types.specs.Identifier.{is_name, is_identifier}
@@ -32,7 +27,7 @@ use Rattle.sdb_record.proofs.PreparedLaws.{base-short}
 use Rattle.sdb_record.proofs.IdLemmas.{id_of_text-id_text}
 use Rattle.sdb_record.proofs.ColumnLaws.{not_before, columns-full, columns-rest}
 use Rattle.sdb_record.proofs.Settings.{none-with_columns, misses, all-with_columns, has_both, no_before}
-use Rattle.sdb_record.proofs.Fine.{Says, Fine, taken, valid-committed, checked-valid, checked_part-valid, committed-state, ok-of, none-make}
+use Rattle.sdb_record.proofs.Fine.{Says, Fine, accepted, valid-committed, checked-valid, checked_part-valid, committed-state, ok-of, none-make}
 use Rattle.sdb_record.proofs.RollLaws.{any-none, before_part-any, refuse_before}
 use Rattle.sdb_record.proofs.WriteLaws.{Fitting, fitting, with_base, base-kept, no-column, marked, marked-id, marked-state, marked-version, marked-time, marked-other, marked-before, marked-in-order, all-user, kept-user}
 use Rattle.sdb_types.proofs.Basics.{longer as wider, and_false as and-no}
@@ -106,7 +101,7 @@ version-left : (key : Key) (base : Option Record) → IfSome base (IsBaseOf key)
 version-left key None h = refl
 version-left key (Some b) h =
     let y = ok-of (checked b.columns) (base-passes key b h) in
-    let w = taken b.columns y.0 y.1 in
+    let w = accepted b.columns y.0 y.1 in
     next-above (column b.columns tx_version) w.0.version w.1.says.version
 
 version-fits : (n : ℤ) → int_le (pos 1) n ≡ true → version_in_value (Some (value.Int n)) ≡ Some n
@@ -291,7 +286,7 @@ module _ (w : Write) (id : TxId) (now : ℤ) (h : IsWrite w) (small : id.0 < 2 ^
   ninth-some b e =
       let of : IsBaseOf w.key b = subst (λ (o : Option Record). IfSome o (IsBaseOf w.key)) e h.base in
       let y = ok-of (checked b.columns) (base-passes w.key b of) in
-      let t = taken b.columns y.0 y.1 in
+      let t = accepted b.columns y.0 y.1 in
       let part : checked_part is_committed b.columns ≡ Ok t.0 = checked_part-valid is_committed b.columns t.0 (valid-committed b.columns t.0 t.1 (committed-state any_state b.columns t.0 t.1 of.2)) in
       let same : before_part (left_columns w id now) ≡ b.columns = left-before w id now h ∙ ap base_columns e in
       let here : list_any is_before_pair (left_columns w id now) ≡ true =
@@ -311,6 +306,6 @@ module _ (w : Write) (id : TxId) (now : ℤ) (h : IsWrite w) (small : id.0 < 2 ^
   left-checked =
       checked-valid (left_columns w id now) (left_meta w id now) (record (left_meta w id now) { has_before = is_some w.base }) left-valid (left-ninth w.base refl)
 
-  pub left-taken : is_transactional (prepared_record w id now) ≡ true
+  pub left-accepted : is_transactional (prepared_record w id now) ≡ true
   unfolding prepared_record
-  left-taken = and_both (are_stored (left_columns w id now)) _ left-stored (ap is_ok left-checked)
+  left-accepted = and_both (are_stored (left_columns w id now)) _ left-stored (ap is_ok left-checked)

@@ -1,8 +1,7 @@
 -- What some reads and writes have at a key.
 use Rattle.std.specs.Prelude.{Bool, List, Option, is_some, find}
 use Rattle.std.specs.Option.{option_and_then}
-use Rattle.sdb_types.specs.declared.key.Key.{Key}
-use Rattle.sdb_types.specs.declared.txid.TxId.{TxId}
+use Rattle.sdb_record.specs.Types.{Key, TxId}
 use Rattle.sdb_types.specs.Order.{same_key}
 use Rattle.sdb_record.specs.declared.access.Read.{Read}
 use Rattle.sdb_record.specs.declared.write.Write.{Write}

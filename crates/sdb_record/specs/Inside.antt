@@ -1,8 +1,7 @@
 -- The two parts of a record that hold metadata: its own columns, and the before image that it keeps.
 use Rattle.std.specs.Prelude.{ℕ, Bool, false, ◌&&◌, ◌||◌, nat_lt, List, length, Option, Some, None, Result, Ok, Err, find}
 use Rattle.std.specs.Option.{option_map}
-use Rattle.sdb_types.specs.declared.pair.Pair.{Pair}
-use Rattle.sdb_types.specs.declared.record.State.{State}
+use Rattle.sdb_record.specs.Types.{Pair, State}
 use Rattle.sdb_types.specs.Contents.{tx_id, tx_state}
 use Rattle.sdb_record.specs.declared.meta.Meta.{Meta}
 use Rattle.sdb_record.specs.declared.part.Part.{Part}

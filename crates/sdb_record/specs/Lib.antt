@@ -1,3 +1,4 @@
+pub mod Types
 pub mod Names
 pub mod Parts
 pub mod Ids

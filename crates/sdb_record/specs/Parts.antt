@@ -2,9 +2,7 @@
 use Rattle.std.specs.Prelude.{ℕ, Bool, not, ◌&&◌, nat_le, List, [], ◌∷◌, length, filter, Option, Some, None}
 use Rattle.std.specs.Option.{option_map}
 use Rattle.std.specs.List.{list_all, filter_map}
-use Rattle.sdb_types.specs.declared.pair.Pair.{Pair}
-use Rattle.sdb_types.specs.declared.key.Key.{Key}
-use Rattle.sdb_types.specs.declared.record.Record.{Record}
+use Rattle.sdb_record.specs.Types.{Key, Pair, Record}
 use Rattle.sdb_types.specs.Columns.{with_column, are_columns}
 use Rattle.sdb_types.specs.Identifier.{is_name, is_identifier}
 use Rattle.sdb_record.specs.Names.{before_name, base_name, is_before, is_user}

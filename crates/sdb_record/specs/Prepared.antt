@@ -1,7 +1,6 @@
 -- What the laws of records speak of.
 use Rattle.std.specs.Prelude.{◌≡◌, ◌<◌, ◌^◌, ℤ, Option, None, Some, IfSome, false, true, is_some}
-use Rattle.sdb_types.specs.declared.record.Record.{Record}
-use Rattle.sdb_types.specs.declared.txid.TxId.{TxId}
+use Rattle.sdb_record.specs.Types.{Record, TxId}
 use Rattle.sdb_record.specs.declared.coordinator.Decided.{Decided}
 use Rattle.sdb_record.specs.declared.coordinator.Decision.{Decision}
 use Rattle.sdb_record.specs.declared.meta.Meta.{Meta}
@@ -44,7 +43,7 @@ pub record TransactionalImage : Type 0 where
   pub found : Record
   pub image : Record
   pub decided : Option Decided
-  pub taken : is_transactional found ≡ true
+  pub accepted : is_transactional found ≡ true
   pub moment : IfSome decided (λ d. is_moment d.created_at ≡ true)
   pub is_image : image_of found decided ≡ Some image
 

@@ -1,13 +1,8 @@
 -- What a write leaves unresolved, what that is rolled to, and the committed image of a record.
 use Rattle.std.specs.Prelude.{◌&&◌, ◌≡◌, ℤ, pos, ◌+ℤ◌, Bool, true, false, if◌then◌else◌, List, [], ◌∷◌, ◌++◌, map, Option, Some, None, IfSome}
 use Rattle.std.specs.Int.{int_min}
-use Rattle.sdb_types.specs.declared.pair.Pair.{Pair}
-use Rattle.sdb_types.specs.declared.value.Value.{Value}
+use Rattle.sdb_record.specs.Types.{Condition, Key, Pair, Record, Request, State, TxId, Value}
 use Rattle.sdb_types.specs.declared.value.Value.TheVariants as value
-use Rattle.sdb_types.specs.declared.key.Key.{Key}
-use Rattle.sdb_types.specs.declared.txid.TxId.{TxId}
-use Rattle.sdb_types.specs.declared.record.Record.{Record}
-use Rattle.sdb_types.specs.declared.record.State.{State}
 use Rattle.sdb_types.specs.declared.record.State.TheVariants as state
 use Rattle.sdb_types.specs.Columns.{column, are_columns}
 use Rattle.sdb_types.specs.TxId.{id_text}
@@ -24,9 +19,7 @@ use Rattle.sdb_record.specs.Parts.{with_columns, before_pair, own_columns, user_
 use Rattle.sdb_record.specs.Meta.{is_in, is_transactional, id_in}
 use Rattle.std.specs.List.{AllByRecursion}
 use Rattle.std.specs.Option.{option_map}
-use Rattle.sdb_types.specs.declared.record.Request.{Request}
 use Rattle.sdb_types.specs.declared.record.Request.TheVariants as ask
-use Rattle.sdb_types.specs.declared.record.Condition.{Condition}
 use Rattle.sdb_types.specs.declared.record.Condition.TheVariants as condition
 
 ---- prepared

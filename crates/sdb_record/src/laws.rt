@@ -1,9 +1,7 @@
 //! Laws of the definitions that contracts cite.
 ghost use Rattle.std.specs.Prelude.{◌≡◌, ℤ, ◌<◌, ◌^◌, true, None, Some, Ok, Option};
-ghost use Rattle.sdb_types.specs.declared.record.Record.{Record};
-ghost use Rattle.sdb_types.specs.declared.record.State.{State};
+ghost use Rattle.sdb_record.specs.Types.{Record, State, TxId};
 ghost use Rattle.sdb_types.specs.declared.record.State.TheVariants.{Committed};
-ghost use Rattle.sdb_types.specs.declared.txid.TxId.{TxId};
 ghost use Rattle.sdb_types.specs.Contents.{is_version};
 ghost use Rattle.sdb_record.specs.declared.coordinator.Decided.{Decided};
 ghost use Rattle.sdb_record.specs.declared.coordinator.Decision.{Decision};
@@ -47,14 +45,14 @@ pub fn forward_is_committed()
     ensures key { (r : Record) (created_at : ℤ) → (forward_record r created_at).key ≡ r.key }
     ensures writer { (r : Record) (created_at : ℤ) → id_in (forward_record r created_at).columns ≡ id_in r.columns }
     ensures committed { (r : Record) (created_at : ℤ) → is_in Committed (forward_record r created_at).columns ≡ true }
-    ensures taken { (r : Record) (created_at : ℤ) → is_unresolved r ≡ true → is_moment created_at ≡ true → is_transactional (forward_record r created_at) ≡ true }
+    ensures accepted { (r : Record) (created_at : ℤ) → is_unresolved r ≡ true → is_moment created_at ≡ true → is_transactional (forward_record r created_at) ≡ true }
 {}
 
 /// The image of a transactional record is a committed record of its key. A committed record is its own.
 pub fn image_is_committed()
     ensures itself { (r : Record) (d : Option Decided) → is_in Committed r.columns ≡ true → image_of r d ≡ Some r }
     ensures key { (i : TransactionalImage) → i.image.key ≡ i.found.key }
-    ensures taken { (i : TransactionalImage) → is_transactional i.image ≡ true }
+    ensures accepted { (i : TransactionalImage) → is_transactional i.image ≡ true }
     ensures committed { (i : TransactionalImage) → is_in Committed i.image.columns ≡ true }
 {}
 

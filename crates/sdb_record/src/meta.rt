@@ -340,7 +340,7 @@ fn are_stored(columns: &Columns)
 pub fn meta_of(alloc: Global, rec: &Record) -> Result<Meta, MetaRefused>
     ensures ok { IfOk result (λ meta. checked rec.now.columns ≡ Ok meta) }
     ensures refused { IfErr result (Refuses (checked rec.now.columns)) }
-    ensures taken { OnOk result (is_transactional rec.now ≡ true) }
+    ensures accepted { OnOk result (is_transactional rec.now ≡ true) }
     ensures state { IfOk result (λ meta. is_in Committed rec.now.columns ≡ is_committed meta.state) }
 {
     are_stored(&rec.columns);

@@ -7,7 +7,7 @@ use Rattle.std.proofs.lemmas.List.{take_at, drop_at}
 use Rattle.std.proofs.lemmas.Option.{same_Some}
 use Rattle.std.proofs.Common.{take-append-drop}
 use Rattle.sdb_model.specs.Plain.{is_no_lf, is_one_line}
-use Rattle.sdb_reading.proofs.WordLaws.{front_again}
+use Rattle.sdb_report.proofs.WordLaws.{front_again}
 use Rattle.sdb_report.specs.Reading.{behind_lf, cut_line}
 use Rattle.sdb_types.proofs.Basics.{by_test, front_passes}
 

@@ -8,20 +8,18 @@ use Rattle.std.proofs.lemmas.Option.{same_Some, cond_some}
 use Rattle.std.proofs.lemmas.Slice.Eq.{bytes_eq-Decides}
 use Rattle.sdb_types.specs.Order.{table_text}
 use Rattle.sdb_types.specs.TxId.{id_text}
-use Rattle.sdb_types.specs.declared.key.TableName.{TableName}
+use Rattle.sdb_report.specs.Types.{Point, TableDump, TableName}
 use Rattle.sdb_model.specs.Plain.{table_is_plain, is_one_line, IsPlainEvent, IsPlainPoint, IsPlainRow}
 use Rattle.sdb_model.specs.Report.{event_text_of}
 use Rattle.sdb_model.specs.Texts.{row_text_of}
-use Rattle.sdb_model.specs.declared.event.Point.{Point}
-use Rattle.sdb_model.specs.declared.event.TableDump.{TableDump}
-use Rattle.sdb_reading.specs.Reading.{after, natural_at, row_at, table_at, id_at}
-use Rattle.sdb_reading.specs.Lines.{whole, numbered_event_of}
-use Rattle.sdb_reading.proofs.WordLaws.{join, after_is, after_again}
-use Rattle.sdb_reading.proofs.NumberLaws.{natural_sound, natural_again, id_text_of, id_sound, id_again}
-use Rattle.sdb_reading.proofs.ValueLaws.{row_sound, row_again}
-use Rattle.sdb_reading.proofs.KeyLaws.{table_sound, table_again}
-use Rattle.sdb_reading.proofs.LineLaws.{lines_joined, line_ends, decimal_one, table_one, id_one}
-use Rattle.sdb_reading.proofs.EventLaws.{whole_is, numbered_is, numbered_again}
+use Rattle.sdb_report.specs.FieldReading.{after, natural_at, row_at, table_at, id_at}
+use Rattle.sdb_report.specs.Lines.{whole, numbered_event_of}
+use Rattle.sdb_report.proofs.WordLaws.{join, after_is, after_again}
+use Rattle.sdb_report.proofs.NumberLaws.{natural_sound, natural_again, id_text_of, id_sound, id_again}
+use Rattle.sdb_report.proofs.ValueLaws.{row_sound, row_again}
+use Rattle.sdb_report.proofs.KeyLaws.{table_sound, table_again}
+use Rattle.sdb_report.proofs.LineLaws.{lines_joined, line_ends, decimal_one, table_one, id_one}
+use Rattle.sdb_report.proofs.EventLaws.{whole_is, numbered_is, numbered_again}
 use Rattle.sdb_report.specs.Reading.{fixed_of, heading_of, point_of, row_of, is_after, next_table_of, table_of}
 use Rattle.sdb_report.proofs.Readers.{HasForm}
 use Rattle.sdb_types.proofs.Basics.{bind_some}

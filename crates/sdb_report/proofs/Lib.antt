@@ -7,3 +7,12 @@ pub mod Told
 pub mod Stops
 pub mod StopLaws
 pub mod Shown
+pub mod WordLaws
+pub mod NumberLaws
+pub mod Lists
+pub mod ValueLaws
+pub mod KeyLaws
+pub mod AnswerLaws
+pub mod RequestLaws
+pub mod EventLaws
+pub mod LineLaws

@@ -6,16 +6,12 @@ use Rattle.std.specs.List.{AllByRecursion}
 use Rattle.std.proofs.lemmas.List.{append-nil, length-append}
 use Rattle.std.proofs.lemmas.List.Elements.{All-from_recursion, recursion_from_All}
 use Rattle.sdb_types.specs.Order.{table_text}
-use Rattle.sdb_types.specs.declared.value.Value.{Value}
+use Rattle.sdb_report.specs.Types.{Event, Outcome, Point, TableDump, Value}
 use Rattle.sdb_types.proofs.Bools.{and_first, and_second, and_both}
 use Rattle.sdb_model.specs.Plain.{is_counted, is_one_line, IsPlainEvent, IsPlainPoint, IsPlainRow, IsPlainDump, starts_after, are_rising, IsPlain}
 use Rattle.sdb_model.specs.Report.{event_text_of, event_line, event_lines, point_line, row_line, table_lines, events_text_of, order_text_of, tables_text_of, report_text_of}
-use Rattle.sdb_model.specs.declared.event.Event.{Event}
-use Rattle.sdb_model.specs.declared.event.Outcome.{Outcome}
-use Rattle.sdb_model.specs.declared.event.Point.{Point}
-use Rattle.sdb_model.specs.declared.event.TableDump.{TableDump}
-use Rattle.sdb_reading.specs.Lines.{numbered_event_of, is_empty}
-use Rattle.sdb_reading.proofs.Lists.{Each, Each-all, Each-from_all}
+use Rattle.sdb_report.specs.Lines.{numbered_event_of, is_empty}
+use Rattle.sdb_report.proofs.Lists.{Each, Each-all, Each-from_all}
 use Rattle.sdb_report.specs.Reading.{Positioned, line_at, lines_at, fixed_of, heading_of, point_of, row_of, is_after, table_of, event_at, point_at, row_line_at, dump_at, part_at, title_at, end_at, events_at, order_at, tables_at, Places, places_at, outcome_of, parts_at, body_at, report_at, all_of, report_in}
 use Rattle.sdb_report.proofs.Readers.{Reads, with_lf, line_reads, both_reads, texts, Items, items_read, read_as}
 use Rattle.sdb_report.proofs.Forms.{itself, IsWord, fixed_form, IsCount, heading_form, event_form, point_text, point_form, row_form, Headed, headed_text, IsNext, table_form}

@@ -4,9 +4,9 @@ use Rattle.std.specs.Prelude.{codes}
 use Rattle.std.proofs.Common.{◌^◌, ◌<◌}
 use Rattle.std.proofs.lemmas.List.{length-append}
 use Rattle.sdb_model.specs.Plain.{is_one_line}
-use Rattle.sdb_reading.specs.Reading.{case_of}
-use Rattle.sdb_reading.proofs.WordLaws.{join, Says}
-use Rattle.sdb_reading.proofs.Lists.{Each}
+use Rattle.sdb_report.specs.FieldReading.{case_of}
+use Rattle.sdb_report.proofs.WordLaws.{join, Says}
+use Rattle.sdb_report.proofs.Lists.{Each}
 use Rattle.sdb_report.specs.Reading.{Positioned, then_read, both, cut_line, line_at, lines_at}
 use Rattle.sdb_report.proofs.Cuts.{cut_is, cut_again}
 use Rattle.sdb_types.proofs.Basics.{done}

@@ -10,10 +10,9 @@ use Rattle.std.proofs.lemmas.Option.{same_Some}
 use Rattle.sdb_types.specs.Order.{table_text}
 use Rattle.sdb_model.specs.Plain.{is_counted, is_one_line, table_is_plain, IsPlainDump}
 use Rattle.sdb_model.specs.Report.{heading, row_line, table_lines, events_text_of, order_text_of, tables_text_of, report_text_of}
-use Rattle.sdb_model.specs.declared.event.Outcome.{Outcome}
-use Rattle.sdb_model.specs.declared.event.TableDump.{TableDump}
-use Rattle.sdb_reading.proofs.KeyLaws.{table_again}
-use Rattle.sdb_reading.proofs.Lists.{Each}
+use Rattle.sdb_report.specs.Types.{Outcome, TableDump}
+use Rattle.sdb_report.proofs.KeyLaws.{table_again}
+use Rattle.sdb_report.proofs.Lists.{Each}
 use Rattle.sdb_report.specs.Reading.{Positioned, then_read, cut_line, lines_at, fixed_of, heading_of, is_after, table_of, dump_at, tables_at, places_at, parts_at, body_at, report_at, all_of, report_in}
 use Rattle.sdb_report.specs.Reports.{is_lf, Reads as ReadsAs, text_of_lines, IsLoose, Begins, IsFirstBad, IsRefusedAt}
 use Rattle.sdb_report.specs.declared.refused.ReportRefused.{ReportRefused}
@@ -31,12 +30,12 @@ use Rattle.sdb_codec.specs.Reading.{last_of}
 
 -- Tables of which the first rise, and the next one doesn't.
 record Falls (before ds : List TableDump) : Type 0 where
-  shown : List TableDump
+  observed : List TableDump
   low : TableDump
   later : List TableDump
-  is : ds ≡ shown ++ low ∷ later
-  rise : Each DumpAfter before shown
-  falls : is_after (last_of (before ++ shown)) low.name ≡ false
+  is : ds ≡ observed ++ low ∷ later
+  rise : Each DumpAfter before observed
+  falls : is_after (last_of (before ++ observed)) low.name ≡ false
   plain : IsPlainDump low
 
 fall_of : (before ds : List TableDump) → AllByRecursion IsPlainDump ds → Each DumpAfter before ds ⊎ Falls before ds
@@ -46,16 +45,16 @@ fall_of before (d ∷ ds) h =
     (λ t. elim (fall_of (before ++ d ∷ []) ds h.1) [
       | inl e ↦ inl (record { plain = h.0; after = t }, e)
       | inr f ↦ inr (record {
-        shown = d ∷ f.shown;
+        observed = d ∷ f.observed;
         low = f.low;
         later = f.later;
         is = ap (λ (l : List TableDump). d ∷ l) f.is;
         rise = (record { plain = h.0; after = t }, f.rise);
-        falls = ap (λ (l : List TableDump). is_after (last_of l) f.low.name) (sym (append_assoc before (d ∷ []) f.shown)) ∙ f.falls;
+        falls = ap (λ (l : List TableDump). is_after (last_of l) f.low.name) (sym (append_assoc before (d ∷ []) f.observed)) ∙ f.falls;
         plain = f.plain;
       })
     ])
-    (λ t. inr (record { shown = []; low = d; later = ds; is = refl; rise = tt; falls = ap (λ (l : List TableDump). is_after (last_of l) d.name) (append-nil before) ∙ t; plain = h.0 }))
+    (λ t. inr (record { observed = []; low = d; later = ds; is = refl; rise = tt; falls = ap (λ (l : List TableDump). is_after (last_of l) d.name) (append-nil before) ∙ t; plain = h.0 }))
 
 ---- reading stops there
 
@@ -80,8 +79,8 @@ low_stops before d rest plain low =
 texts_after : (d : TableDump) (ds : List TableDump) (rest : List ℕ) → flat_map table_lines (d ∷ ds) ++ rest ≡ table_lines d ++ (flat_map table_lines ds ++ rest)
 texts_after d ds rest = append_assoc (table_lines d) (flat_map table_lines ds) rest
 
-dumps_stop : (before shown : List TableDump) (d : TableDump) (later : List TableDump) (rest : List ℕ) → length before + length (shown ++ d ∷ later) < 2 ^ 64 → Each DumpAfter before shown → IsPlainDump d
-    → is_after (last_of (before ++ shown)) d.name ≡ false → lines_at dump_at before (length (shown ++ d ∷ later)) (flat_map table_lines (shown ++ d ∷ later) ++ rest) ≡ Err (length (flat_map table_lines (d ∷ later) ++ rest))
+dumps_stop : (before observed : List TableDump) (d : TableDump) (later : List TableDump) (rest : List ℕ) → length before + length (observed ++ d ∷ later) < 2 ^ 64 → Each DumpAfter before observed → IsPlainDump d
+    → is_after (last_of (before ++ observed)) d.name ≡ false → lines_at dump_at before (length (observed ++ d ∷ later)) (flat_map table_lines (observed ++ d ∷ later) ++ rest) ≡ Err (length (flat_map table_lines (d ∷ later) ++ rest))
 unfolding lines_at
 dumps_stop before [] d later rest lt rise plain low =
     let low_here : is_after (last_of before) d.name ≡ false = ap (λ (l : List TableDump). is_after (last_of l) d.name) (sym (append-nil before)) ∙ low in
@@ -92,12 +91,12 @@ dumps_stop before (f ∷ fs) d later rest lt rise plain low =
     let next = dumps_stop (before ++ f ∷ []) fs d later rest (omega (arith, lt, length-append before (f ∷ []))) rise.1 plain (ap (λ (l : List TableDump). is_after (last_of l) d.name) (append_assoc before (f ∷ []) fs) ∙ low) in
     ap (lines_at dump_at before (suc (length (fs ++ d ∷ later)))) (texts_after f (fs ++ d ∷ later) rest) ∙ rw (read, next) refl
 
-tables_stop : (shown : List TableDump) (d : TableDump) (later : List TableDump) (rest : List ℕ) → is_counted (shown ++ d ∷ later) → Each DumpAfter [] shown → IsPlainDump d
-    → is_after (last_of shown) d.name ≡ false → tables_at (tables_text_of (shown ++ d ∷ later) ++ rest) ≡ Err (length (flat_map table_lines (d ∷ later) ++ rest))
-tables_stop shown d later rest counted rise plain low =
-    let ts = shown ++ d ∷ later in
+tables_stop : (observed : List TableDump) (d : TableDump) (later : List TableDump) (rest : List ℕ) → is_counted (observed ++ d ∷ later) → Each DumpAfter [] observed → IsPlainDump d
+    → is_after (last_of observed) d.name ≡ false → tables_at (tables_text_of (observed ++ d ∷ later) ++ rest) ≡ Err (length (flat_map table_lines (d ∷ later) ++ rest))
+tables_stop observed d later rest counted rise plain low =
+    let ts = observed ++ d ∷ later in
     let head = (line_reads (heading_of (codes "tables ")) (λ n. codes "tables " ++ decimal n) (λ n. n < 2 ^ 64) (heading_form (codes "tables ") refl)).again (length ts) (flat_map table_lines ts ++ rest) counted in
-    ap tables_at (append_assoc ((codes "tables " ++ decimal (length ts)) ++ codes "\n") (flat_map table_lines ts) rest) ∙ rw (head, dumps_stop [] shown d later rest (omega (arith, counted)) rise plain low) refl
+    ap tables_at (append_assoc ((codes "tables " ++ decimal (length ts)) ++ codes "\n") (flat_map table_lines ts) rest) ∙ rw (head, dumps_stop [] observed d later rest (omega (arith, counted)) rise plain low) refl
 
 ---- a report whose tables don't all rise
 
@@ -108,7 +107,7 @@ module _ (o : Outcome) (loose : IsLoose o) (f : Falls [] o.tables) where
   tables_fall : tables_at (tables_text_of o.tables ++ codes "end\n") ≡ Err (length hidden)
   tables_fall =
       ap (λ (ts : List TableDump). tables_at (tables_text_of ts ++ codes "end\n")) f.is
-      ∙ tables_stop f.shown f.low f.later (codes "end\n") (subst (λ (ts : List TableDump). is_counted ts) f.is loose.tables_counted) f.rise f.plain f.falls
+      ∙ tables_stop f.observed f.low f.later (codes "end\n") (subst (λ (ts : List TableDump). is_counted ts) f.is loose.tables_counted) f.rise f.plain f.falls
 
   places_fall : places_at (places_text (o.order, o.tables) ++ codes "end\n") ≡ Err (length hidden)
   places_fall =
@@ -133,13 +132,13 @@ module _ (o : Outcome) (loose : IsLoose o) (f : Falls [] o.tables) where
 
   -- the text before what is hidden
   abbrev front : List ℕ
-  front = (codes "scalardb report 1\n" ++ events_text_of o.events ++ order_text_of o.order) ++ (heading (codes "tables") (length o.tables) ++ flat_map table_lines f.shown)
+  front = (codes "scalardb report 1\n" ++ events_text_of o.events ++ order_text_of o.order) ++ (heading (codes "tables") (length o.tables) ++ flat_map table_lines f.observed)
 
   text_is : report_text_of o ≡ front ++ hidden
   text_is =
       ap (λ (t : List ℕ). codes "scalardb report 1\n" ++ events_text_of o.events ++ order_text_of o.order ++ (heading (codes "tables") (length o.tables) ++ t) ++ codes "end\n")
-      (ap (flat_map table_lines) f.is ∙ flat_map-append table_lines f.shown (f.low ∷ f.later))
-      ∙ grouped (codes "scalardb report 1\n" ++ events_text_of o.events ++ order_text_of o.order) (heading (codes "tables") (length o.tables)) (flat_map table_lines f.shown) (flat_map table_lines (f.low ∷ f.later)) (codes "end\n")
+      (ap (flat_map table_lines) f.is ∙ flat_map-append table_lines f.observed (f.low ∷ f.later))
+      ∙ grouped (codes "scalardb report 1\n" ++ events_text_of o.events ++ order_text_of o.order) (heading (codes "tables") (length o.tables)) (flat_map table_lines f.observed) (flat_map table_lines (f.low ∷ f.later)) (codes "end\n")
     where
       grouped : (f h a b n : List ℕ) → f ++ (h ++ (a ++ b)) ++ n ≡ (f ++ (h ++ a)) ++ (b ++ n)
       grouped f h a b n = simp append_assoc
@@ -222,10 +221,10 @@ module _ (bytes : List ℕ) (left : ℕ) (h : Halt bytes left) (stops : report_i
           loose = h.begins.loose;
           rest = h.begins.rest;
           text = h.begins.text;
-          shown = f.shown;
+          observed = f.observed;
           later = f.low ∷ f.later;
           tables = f.is;
-          rising = each_rising [] f.shown f.rise;
+          rising = each_rising [] f.observed f.rise;
           hidden = (text_of_lines x.more, x.is ∙ ap (λ (t : List ℕ). text_of_lines x.more ++ t) tail_is);
         }
         | inr x ↦ absurd (not_beyond s x)
@@ -239,7 +238,7 @@ module _ (bytes : List ℕ) (left : ℕ) (h : Halt bytes left) (stops : report_i
           loose = h.begins.loose;
           rest = h.begins.rest;
           text = h.begins.text;
-          shown = h.begins.outcome.tables;
+          observed = h.begins.outcome.tables;
           later = [];
           tables = sym (append-nil h.begins.outcome.tables);
           rising = each_rising [] h.begins.outcome.tables e;

@@ -7,23 +7,19 @@ use Rattle.std.proofs.lemmas.List.{append-nil}
 use Rattle.std.proofs.lemmas.List.Sums.{sum_by-cons}
 use Rattle.std.proofs.lemmas.List.Elements.{All-from_recursion, recursion_from_All}
 use Rattle.sdb_types.specs.Fits.{value_fits}
-use Rattle.sdb_types.specs.declared.value.Value.{Value}
+use Rattle.sdb_report.specs.Types.{Event, Outcome, Point, TableDump, Value}
 use Rattle.sdb_types.proofs.Bools.{and_first, and_second}
 use Rattle.sdb_model.specs.Plain.{is_counted, table_is_plain, is_no_lf, is_one_line, IsPlainEvent, IsPlainPoint, IsPlainRow, IsPlainDump, IsPlain}
 use Rattle.sdb_model.specs.Report.{event_text_of, point_line, table_lines, events_text_of, order_text_of, tables_text_of, report_text_of}
 use Rattle.sdb_model.specs.Texts.{row_text_of}
-use Rattle.sdb_model.specs.declared.event.Event.{Event}
 use Rattle.sdb_model.specs.declared.event.Event.TheVariants as event
-use Rattle.sdb_model.specs.declared.event.Outcome.{Outcome}
-use Rattle.sdb_model.specs.declared.event.Point.{Point}
-use Rattle.sdb_model.specs.declared.event.TableDump.{TableDump}
-use Rattle.sdb_reading.specs.Lines.{numbered_event_of, is_empty}
-use Rattle.sdb_reading.proofs.Lists.{Each}
+use Rattle.sdb_report.specs.Lines.{numbered_event_of, is_empty}
+use Rattle.sdb_report.proofs.Lists.{Each}
 use Rattle.sdb_report.specs.Reading.{Positioned, cut_line, line_at, lines_at, fixed_of, heading_of, point_of, row_of, table_of, event_at, point_at, row_line_at, dump_at, part_at, title_at, end_at, events_at, order_at, tables_at, Places, places_at, outcome_of, parts_at, body_at, report_at, all_of, report_in}
 use Rattle.sdb_report.specs.Reports.{is_lf, text_of_lines, IsLoose, IsDead}
 use Rattle.sdb_report.proofs.Cuts.{cut_is, cut_again}
 use Rattle.sdb_report.proofs.Readers.{Reads, with_lf, line_reads, texts, Items}
-use Rattle.sdb_reading.proofs.LineLaws.{lines_joined, decimal_one}
+use Rattle.sdb_report.proofs.LineLaws.{lines_joined, decimal_one}
 use Rattle.sdb_report.proofs.Forms.{itself, IsWord, fixed_form, IsCount, heading_form, event_form, point_text, point_form, row_form, Headed, headed_text, IsNext, table_form}
 use Rattle.sdb_report.proofs.PartLaws.{part_text, IsPart, const_texts, each_all, all_each, event_text, EventAfter, event_reads, event_texts, EventsPlain, events_read, point_after, PointAfter, point_reads, OrderPlain, order_read, row_after, RowAfter, row_reads, DumpAfter, dump_of, RowsOf, dump_same, dump_after, dump_reads, TablesPlain, rising_each, PlacesPlain, places_text, parts_text, parts_read, title, end_word, pieces, report_read, in_again}
 use Rattle.sdb_report.proofs.Stops.{AreLines, lines_append, SameLine, failed, err_is, Stopping, line_stopping, Filled, both_stopping, items_fill, items_stopping, stopping_as}

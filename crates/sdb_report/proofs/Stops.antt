@@ -4,7 +4,7 @@ use Rattle.std.specs.Prelude.{codes}
 use Rattle.std.specs.List.{AllByRecursion}
 use Rattle.std.proofs.lemmas.List.{append-nil, length-append}
 use Rattle.sdb_model.specs.Plain.{is_one_line}
-use Rattle.sdb_reading.specs.Reading.{case_of}
+use Rattle.sdb_report.specs.FieldReading.{case_of}
 use Rattle.sdb_report.specs.Reading.{Positioned, then_read, both, cut_line, line_at, lines_at}
 use Rattle.sdb_report.specs.Reports.{text_of_lines}
 use Rattle.sdb_report.proofs.Readers.{Reads, HasForm, with_lf, IsMade, texts, Items}

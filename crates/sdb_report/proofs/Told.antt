@@ -1,4 +1,4 @@
--- What is told of a report.
+-- What is answered of a report.
 use Rattle.std.proofs.Common.{◌≡◌, List, ℕ, Result, Ok, Err, IfOk, sym, ap, ◌∙◌}
 use Rattle.sdb_model.specs.Plain.{IsPlain}
 use Rattle.sdb_model.specs.Report.{report_text_of}

@@ -4,15 +4,10 @@ use Rattle.std.specs.List.{prefix_len}
 use Rattle.std.specs.Ordering.{is_lt}
 use Rattle.std.specs.Str.{bytes_eq}
 use Rattle.sdb_types.specs.Order.{table_cmp}
-use Rattle.sdb_types.specs.declared.key.TableName.{TableName}
-use Rattle.sdb_types.specs.declared.value.Value.{Value}
+use Rattle.sdb_report.specs.Types.{Event, Outcome, Point, TableDump, TableName, Value}
 use Rattle.sdb_model.specs.Plain.{is_no_lf}
-use Rattle.sdb_model.specs.declared.event.Event.{Event}
-use Rattle.sdb_model.specs.declared.event.Outcome.{Outcome}
-use Rattle.sdb_model.specs.declared.event.Point.{Point}
-use Rattle.sdb_model.specs.declared.event.TableDump.{TableDump}
-use Rattle.sdb_reading.specs.Lines.{whole, numbered_event_of, is_empty}
-use Rattle.sdb_reading.specs.Reading.{case_of, after, natural_at, row_at, table_at, id_at}
+use Rattle.sdb_report.specs.Lines.{whole, numbered_event_of, is_empty}
+use Rattle.sdb_report.specs.FieldReading.{case_of, after, natural_at, row_at, table_at, id_at}
 use Rattle.sdb_codec.specs.Reading.{last_of}
 use Rattle.sdb_types.specs.Options.{◌>>=◌}
 

@@ -3,12 +3,10 @@ use Rattle.std.specs.Prelude.{◌≡◌, ◌≢◌, ℕ, ◌+◌, ◌-◌, ◌==
 use Rattle.std.specs.List.{AllByRecursion, count_by, flat_map}
 use Rattle.sdb_model.specs.Plain.{is_counted, is_one_line, IsPlainEvent, IsPlainPoint, IsPlainDump, are_rising, IsPlain}
 use Rattle.sdb_model.specs.Report.{report_text_of, table_lines}
-use Rattle.sdb_model.specs.declared.event.Outcome.{Outcome}
-use Rattle.sdb_model.specs.declared.event.TableDump.{TableDump}
+use Rattle.sdb_report.specs.Types.{Outcome, Stopped, TableDump}
 use Rattle.sdb_report.specs.Reading.{cut_line}
 use Rattle.sdb_report.specs.declared.refused.ReportRefused.{ReportRefused}
 use Rattle.sdb_report.specs.declared.refused.ReportRefused.TheVariants as refused
-use Rattle.sdb_codec.specs.declared.refused.Stopped.{Stopped}
 use Rattle.sdb_codec.specs.declared.refused.Stopped.TheVariants as stopped
 use Rattle.sdb_model.specs.Texts.{with_lf}
 
@@ -57,10 +55,10 @@ pub record Begins (lines : List (List ℕ)) : Type 0 where
   pub loose : IsLoose outcome
   pub rest : List ℕ
   pub text : report_text_of outcome ≡ text_of_lines lines ++ rest
-  pub shown : List TableDump
+  pub observed : List TableDump
   pub later : List TableDump
-  pub tables : outcome.tables ≡ shown ++ later
-  pub rising : are_rising shown ≡ true
+  pub tables : outcome.tables ≡ observed ++ later
+  pub rising : are_rising observed ≡ true
   pub hidden : IsHidden later rest
 
 -- No plain outcome's report has the line that comes next, or ends where the text ends.

@@ -3,15 +3,15 @@ ghost use Rattle.std.specs.Prelude.{◌≡◌, ◌≤◌, length};
 ghost use Rattle.std.specs.List.{prefix_len};
 ghost use Rattle.std.specs.Option.{option_map, option_copied};
 ghost use Rattle.sdb_model.specs.Plain.{is_no_lf};
-ghost use Rattle.sdb_reading.specs.Reading as text;
-ghost use Rattle.sdb_reading.specs.Lines as form;
+ghost use Rattle.sdb_report.specs.FieldReading as text;
+ghost use Rattle.sdb_report.specs.Lines as form;
 ghost use Rattle.sdb_report.specs.Reading as spec;
 ghost use Rattle.sdb_codec.specs.Reading.{Gives};
 
 use crate::events::numbered_event_of;
+use crate::{Unread, expect, id_at, natural_at, row_at, table_at};
 use sdb_codec::Stopped;
 use sdb_model::{Event, Point, TableDump};
-use sdb_reading::{Unread, expect, id_at, natural_at, row_at, table_at};
 use sdb_types::{TableName, Values};
 use std::alloc::Global;
 

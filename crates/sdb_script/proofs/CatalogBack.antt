@@ -17,20 +17,15 @@ use Rattle.serde_json.specs.Read.{read, max_depth}
 use Rattle.serde_json.specs.View.{items_of}
 use Rattle.serde_json.specs.Written.{outline, members_outline, compact_text, members_text}
 use Rattle.serde_json.proofs.Texts.{print-outline}
-use Rattle.sdb_types.specs.declared.key.TableName.{TableName}
+use Rattle.sdb_script.specs.Types.{Column, Direction, Kind, Order, Table, TableName}
 use Rattle.sdb_types.specs.Identifier.{is_start, is_part, is_identifier, is_name}
 use Rattle.sdb_types.specs.Order.{name_cmp, table_cmp, table_text}
 use Rattle.sdb_types.proofs.Bools.{and_first, and_second, and_both}
 use Rattle.sdb_types.proofs.KeyOrder.{by_text}
 use Rattle.sdb_codec.proofs.Texts.{name_utf8}
 use Rattle.sdb_record.specs.Parts.{is_column_name}
-use Rattle.sdb_schema.specs.declared.table.Column.{Column}
-use Rattle.sdb_schema.specs.declared.table.Direction.{Direction}
 use Rattle.sdb_schema.specs.declared.table.Direction.TheVariants.{Asc, Desc}
-use Rattle.sdb_schema.specs.declared.table.Kind.{Kind}
 use Rattle.sdb_schema.specs.declared.table.Kind.TheVariants as kind
-use Rattle.sdb_schema.specs.declared.table.Order.{Order}
-use Rattle.sdb_schema.specs.declared.table.Table.{Table}
 use Rattle.sdb_schema.specs.Table.{is_table}
 use Rattle.sdb_schema.specs.Catalog.{is_catalog, rises}
 use Rattle.sdb_loader.specs.Words.{is_open, names_table, table_named}

@@ -10,12 +10,8 @@ use Rattle.std.proofs.lemmas.List.Elements.{All-nil, All-cons, All-head, All-tai
 use Rattle.std.proofs.lemmas.List.Folds.{list_all-append}
 use Rattle.std.proofs.lemmas.List.Sums.{sum_by_push}
 use Rattle.sdb_types.proofs.Bools.{and_first, and_second}
-use Rattle.sdb_schema.specs.declared.table.Table.{Table}
+use Rattle.sdb_script.specs.Types.{Move, Place, SchemaFault, ScriptClient, Table}
 use Rattle.sdb_loader.specs.Described.{catalog_in}
-use Rattle.sdb_loader.specs.declared.fault.SchemaFault.{SchemaFault}
-use Rattle.sdb_model.specs.declared.script.Move.{Move}
-use Rattle.sdb_types.specs.declared.place.Place.{Place}
-use Rattle.sdb_model.specs.declared.script.ScriptClient.{ScriptClient}
 use Rattle.sdb_model.specs.Form.{client_line, is_client_name}
 use Rattle.sdb_script.specs.declared.fault.LineRefused.{LineRefused}
 use Rattle.sdb_script.specs.Lines.{most_clients, most_statements, most_moves, place_line, schema_line, text_line, client_lines, move_line, IsMoveText, is_line, is_move, turns, turns_of}
@@ -85,11 +81,11 @@ not_eq : (a b : List ℕ) → bytes_eq a b ≡ false → a ≢ b
 not_eq a b h = λ is. let t : bytes_eq a b ≡ true = rw is (itself b) in absurd cc
 
 more_places : (stores : Lines) (ps : List Place) (p : Place) → ArePlaces stores ps → (is_client_name p.ns && is_client_name p.store) ≡ true → may_be_placed stores ps p ≡ true → ArePlaces stores (ps ++ p ∷ [])
-more_places stores ps p a named stands =
-    let rest = and_second (not (bytes_eq p.ns (codes "scalardb"))) _ stands in
+more_places stores ps p a named agrees =
+    let rest = and_second (not (bytes_eq p.ns (codes "scalardb"))) _ agrees in
     record {
       named = All-push (λ q. (is_client_name q.ns ≡ true) × (is_client_name q.store ≡ true)) ps p a.named (and_first (is_client_name p.ns) _ named, and_second (is_client_name p.ns) _ named);
-      free = All-push (λ q. q.ns ≢ codes "scalardb") ps p a.free (not_eq p.ns (codes "scalardb") (not_true _ (and_first (not (bytes_eq p.ns (codes "scalardb"))) _ stands)));
+      free = All-push (λ q. q.ns ≢ codes "scalardb") ps p a.free (not_eq p.ns (codes "scalardb") (not_true _ (and_first (not (bytes_eq p.ns (codes "scalardb"))) _ agrees)));
       once = more_apart (λ (q : Place). q.ns) ps p a.once (not_true (is_placed ps p.ns) (and_second (is_attached stores p.store) _ rest));
       attached = All-push (λ q. Contains stores q.store) ps p a.attached (attached_of stores p.store (and_first (is_attached stores p.store) _ rest));
     }
@@ -99,7 +95,7 @@ place_more : (stores front : Lines) (line : List ℕ) (ps : List Place) (desc : 
     → is_line line ≡ true → line ≡ place_line p → is_first (record { places = ps; described = desc; catalog = cat; clients = cs; ran = ran; moves = ms }) ≡ true
     → (is_client_name p.ns && is_client_name p.store) ≡ true → may_be_placed stores ps p ≡ true
     → IsBegun stores (front ++ line ∷ []) (record { places = ps ++ p ∷ []; described = desc; catalog = cat; clients = cs; ran = ran; moves = ms })
-place_more stores front line ps false cat [] false ms p st fit e first named stands =
+place_more stores front line ps false cat [] false ms p st fit e first named agrees =
     let empty : front ≡ map place_line ps ++ [] =
     st.order ∙ ap (λ (x : Lines). map place_line ps ++ (x ++ map move_line ms)) st.described.0 ∙ ap (λ (x : List Move). map place_line ps ++ map move_line x) st.moves in
     record {
@@ -109,14 +105,14 @@ place_more stores front line ps false cat [] false ms p st fit e first named sta
           ∙ ap (λ (x : Lines). x ++ []) (sym (map-append place_line ps (p ∷ [])))
           ∙ ap (λ (x : List Move). map place_line (ps ++ p ∷ []) ++ map move_line x) (sym st.moves);
       fit = fit_more front line st.fit fit;
-      placed = more_places stores ps p st.placed named stands;
+      placed = more_places stores ps p st.placed named agrees;
       described = (refl, st.described.1);
       clients = st.clients;
       moves = st.moves;
     }
-place_more stores front line ps true cat cs ran ms p st fit e first named stands = absurd (not_so ran first)
-place_more stores front line ps false cat (c ∷ cs) ran ms p st fit e first named stands = absurd (not_first ran c cs first)
-place_more stores front line ps false cat [] true ms p st fit e first named stands = absurd (let k : false ≡ true = first in cc)
+place_more stores front line ps true cat cs ran ms p st fit e first named agrees = absurd (not_so ran first)
+place_more stores front line ps false cat (c ∷ cs) ran ms p st fit e first named agrees = absurd (not_first ran c cs first)
+place_more stores front line ps false cat [] true ms p st fit e first named agrees = absurd (let k : false ≡ true = first in cc)
 
 ---- a schema
 

@@ -8,9 +8,8 @@ use Rattle.std.proofs.lemmas.Bool.Decides.{nat_tests}
 use Rattle.sdb_types.proofs.Bools.{and_first, and_second, and_both}
 use Rattle.sdb_record.specs.Names.{after_front}
 use Rattle.sdb_record.proofs.NameLemmas.{is_front}
-use Rattle.sdb_model.specs.declared.script.Act.{Act}
+use Rattle.sdb_script.specs.Types.{Act, Move}
 use Rattle.sdb_model.specs.declared.script.Act.TheVariants as act
-use Rattle.sdb_model.specs.declared.script.Move.{Move}
 use Rattle.sdb_model.specs.declared.script.Move.TheVariants as move
 use Rattle.sdb_script.specs.Words.{Counts, numeral_in}
 use Rattle.sdb_script.specs.Lines.{act_line, move_line, IsActText, IsMoveText, is_client, is_act, is_move, turns, latest}

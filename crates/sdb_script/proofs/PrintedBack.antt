@@ -10,10 +10,8 @@ use Rattle.sdb_loader.specs.declared.fault.SchemaFault.TheVariants as schema
 use Rattle.std.proofs.lemmas.List.Concat.{flat_map-append}
 use Rattle.std.proofs.lemmas.List.Folds.{list_all-append}
 use Rattle.sdb_types.proofs.Bools.{and_first, and_second, and_both}
-use Rattle.sdb_schema.specs.declared.table.Table.{Table}
+use Rattle.sdb_script.specs.Types.{Script, ScriptClient, Table}
 use Rattle.sdb_schema.specs.Catalog.{is_catalog}
-use Rattle.sdb_model.specs.declared.script.ScriptClient.{ScriptClient}
-use Rattle.sdb_model.specs.declared.script.Script.{Script}
 use Rattle.sdb_model.specs.Form.{lines_of, onto_first, client_line}
 use Rattle.sdb_script.specs.Lines.{most_bytes, most_line, place_line, schema_line, text_line, client_lines, move_line, is_line}
 use Rattle.sdb_script.specs.Begun.{IsBegun, IsSchema, run_lines}

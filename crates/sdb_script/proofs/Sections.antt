@@ -1,4 +1,4 @@
--- The lines of a script that has begun are taken one by one.
+-- The lines of a script that has begun are accepted one by one.
 use Rattle.std.proofs.Common.{◌≡◌, ◌≢◌, ℕ, ◌+◌, ◌<◌, ◌≤◌, Bool, true, false, not, List, [], ◌∷◌, ◌++◌, length, Ok, refl, sym, ap, subst, ◌∙◌, append_assoc, append-nil, arith, map, flat_map, codes}
 use Rattle.std.specs.Prelude.{Result, nat_le, nat_lt, All, Contains}
 use Rattle.std.specs.List.{list_all}
@@ -8,10 +8,7 @@ use Rattle.std.proofs.lemmas.List.{length-append}
 use Rattle.std.proofs.lemmas.List.Folds.{list_all-append}
 use Rattle.std.proofs.lemmas.List.Sums.{sum_by-append}
 use Rattle.sdb_types.proofs.Bools.{and_first, and_second, and_both}
-use Rattle.sdb_schema.specs.declared.table.Table.{Table}
-use Rattle.sdb_model.specs.declared.script.Move.{Move}
-use Rattle.sdb_types.specs.declared.place.Place.{Place}
-use Rattle.sdb_model.specs.declared.script.ScriptClient.{ScriptClient}
+use Rattle.sdb_script.specs.Types.{Move, Place, ScriptClient, Table}
 use Rattle.sdb_model.specs.Form.{client_line, is_client_name}
 use Rattle.sdb_script.specs.declared.fault.LineRefused.{LineRefused}
 use Rattle.sdb_script.specs.Lines.{most_clients, most_statements, most_moves, place_line, schema_line, text_line, client_lines, move_line, is_line, is_move, turns, turns_of}
@@ -27,7 +24,7 @@ use Rattle.sdb_types.proofs.Basics.{by_test}
 abbrev Lines : Type 0
 Lines = List (List ℕ)
 
----- lines that are taken
+---- lines that are accepted
 
 -- These lines lead from what was said before to what is said with them.
 abbrev pub Goes : Lines → Draft → Lines → Draft → Type 0
@@ -61,8 +58,8 @@ differs a b h = by_test (bytes_eq a b) (λ t. absurd (h (same_bytes a b t))) (λ
 isnt : (b : Bool) → b ≡ false → not b ≡ true
 isnt b h = rw h refl
 
-stands : (stores : Lines) (done : List Place) (p : Place) (ps : List Place) → ArePlaces stores (done ++ p ∷ ps) → may_be_placed stores done p ≡ true
-stands stores done p ps a =
+agrees : (stores : Lines) (done : List Place) (p : Place) (ps : List Place) → ArePlaces stores (done ++ p ∷ ps) → may_be_placed stores done p ≡ true
+agrees stores done p ps a =
     and_both (not (bytes_eq p.ns (codes "scalardb"))) _ (differs p.ns (codes "scalardb") (at_next (λ q. q.ns ≢ codes "scalardb") done p ps a.free))
     (and_both _ _ (attached_again stores p.store (at_next (λ q. Contains stores q.store) done p ps a.attached)) (isnt _ (new_again (λ (q : Place). q.ns) done p ps a.once)))
 
@@ -73,7 +70,7 @@ places_go stores done (p ∷ ps) a fit =
     let one : Goes stores (with_places done) (place_line p ∷ []) (with_places (done ++ p ∷ [])) =
     goes_one stores (with_places done) (with_places (done ++ p ∷ [])) (place_line p) (PlaceLine p)
     (and_first (is_line (place_line p)) _ fit, refl, and_both (is_client_name p.ns) (is_client_name p.store) named.0 named.1)
-    (rw (stands stores done p ps a) refl) in
+    (rw (agrees stores done p ps a) refl) in
     let split : (done ++ p ∷ []) ++ ps ≡ done ++ p ∷ ps = append_assoc done (p ∷ []) ps in
     subst (λ (x : List Place). Goes stores (with_places done) (map place_line (p ∷ ps)) (with_places x)) split
     (goes_then stores (with_places done) (with_places (done ++ p ∷ [])) (with_places ((done ++ p ∷ []) ++ ps)) (place_line p ∷ []) (map place_line ps) one
@@ -198,6 +195,6 @@ parts_go stores lines ps described catalog cs ran ms st =
     (goes_then stores (with_clients ps described catalog []) (with_clients ps described catalog cs) whole (flat_map client_lines cs) last (clients_go stores ps described catalog [] cs st.clients (fit_first (flat_map client_lines cs) last fit_middle))
     (run_goes stores ps described catalog cs ran ms st.clients.few st.moves (fit_second (flat_map client_lines cs) last fit_middle)))))
 
--- The lines of a script that has begun are taken, and what they say is what was said.
+-- The lines of a script that has begun are accepted, and what they say is what was said.
 pub begun_goes : (stores : Lines) (lines : Lines) (d : Draft) → IsBegun stores lines d → Goes stores nothing lines d
 begun_goes stores lines d st = parts_go stores lines d.places d.described d.catalog d.clients d.ran d.moves st

@@ -1,4 +1,4 @@
--- A line is taken as what it says, or is refused for its cause.
+-- A line is accepted as what it says, or is refused for its cause.
 use Rattle.std.proofs.Common.{◌≡◌, ◌⊎◌, inl, inr, ℕ, ◌+◌, ◌<◌, ◌≤◌, Bool, true, false, not, ◌&&◌, List, ◌∷◌, ◌++◌, length, Some, None, Ok, Err, refl, sym, ap, subst, ◌∙◌, arith, cond, codes}
 use Rattle.std.specs.Prelude.{Result, nat_le, nat_lt}
 use Rattle.std.specs.Option.{option_map_or}
@@ -7,9 +7,8 @@ use Rattle.std.proofs.lemmas.Bool.Decides.{nat_tests}
 use Rattle.sdb_types.proofs.Bools.{and_first, and_second, and_both}
 use Rattle.sdb_record.specs.Names.{after_front}
 use Rattle.sdb_record.proofs.NameLemmas.{is_front}
-use Rattle.sdb_schema.specs.declared.table.Table.{Table}
+use Rattle.sdb_script.specs.Types.{SchemaFault, Table}
 use Rattle.sdb_loader.specs.Described.{catalog_in}
-use Rattle.sdb_loader.specs.declared.fault.SchemaFault.{SchemaFault}
 use Rattle.sdb_model.specs.declared.script.Which.TheVariants as which
 use Rattle.sdb_model.specs.Form.{is_client_name}
 use Rattle.sdb_script.specs.declared.fault.LineFault.TheVariants as fault
@@ -33,7 +32,7 @@ past stores d (StatementOf text) = with_text d text
 past stores d Runs = Ok (run_of d)
 past stores d (MoveOf m) = with_move d m
 
----- what may come is taken
+---- what may come is accepted
 
 head_again : (stores : List (List ℕ)) (d : Draft) (line : List ℕ) → d.ran ≡ false → take_text_line stores d line ≡ take_head stores d line
 head_again stores d line e = rw e refl
@@ -59,7 +58,7 @@ again stores d line Runs e h = head_again stores d line (not_true d.ran h) ∙ a
 again stores d line (MoveOf m) e h =
     rw (and_first d.ran _ h, move_again (length d.clients) line m e (and_second d.ran _ h)) refl
 
----- what is taken may come, or has no form
+---- what is accepted may come, or has no form
 
 -- What comes of a line has no form, or the line says something that may come next.
 abbrev FormOr : Draft → List ℕ → Result Draft LineRefused → Type 0
@@ -158,7 +157,7 @@ form_apart stores d (MoveOf m) h = by_test (nat_le (turns_of d.moves + turns m) 
 nothing_comes : (stores : List (List ℕ)) (d : Draft) (line : List ℕ) → take_text_line stores d line ≡ form → (s : LineMeaning) → IsSpelledAs line s → may_come d s ≡ false
 nothing_comes stores d line h s e = by_test (may_come d s) (λ t. absurd (form_apart stores d s (sym (again stores d line s e t) ∙ h))) (λ t. t)
 
----- a line that is taken
+---- a line that is accepted
 
 line_again : (stores : List (List ℕ)) (d : Draft) (line : List ℕ) → is_line line ≡ true → read_line_on stores d line ≡ take_text_line stores d line
 unfolding read_line_on
@@ -183,10 +182,10 @@ told_is stores d e line h =
     (λ t.
     by_test (is_utf8 line)
     (λ u.
-    let taken : take_text_line stores d line ≡ Ok e = rw (t, u) at h in
+    let accepted : take_text_line stores d line ≡ Ok e = rw (t, u) at h in
     elim (said_or_form stores d line) [
-      | inr s ↦ (s.0, (and_both (nat_le (length line) most_line) (is_utf8 line) t u, s.1, s.2), sym (again stores d line s.0 s.1 s.2) ∙ taken)
-      | inl f ↦ ok_err e (refused.Bad fault.Form) (sym f ∙ taken)
+      | inr s ↦ (s.0, (and_both (nat_le (length line) most_line) (is_utf8 line) t u, s.1, s.2), sym (again stores d line s.0 s.1 s.2) ∙ accepted)
+      | inl f ↦ ok_err e (refused.Bad fault.Form) (sym f ∙ accepted)
     ])
     (λ u. ok_err e (refused.Bad fault.Text) (rw (t, u) at h)))
     (λ t. ok_err e (refused.Limit which.LineBytes) (rw t at h))
@@ -225,11 +224,11 @@ cause_is stores d line r h =
     let short : length line ≤ most_line = grind (arith, nat_tests) in
     by_test (is_utf8 line)
     (λ u.
-    let taken : take_text_line stores d line ≡ Err r = rw (t, u) at h in
+    let accepted : take_text_line stores d line ≡ Err r = rw (t, u) at h in
     let fit : is_line line ≡ true = and_both (nat_le (length line) most_line) (is_utf8 line) t u in
     elim (said_or_form stores d line) [
-      | inr s ↦ past_cause stores d line s.0 r (fit, s.1, s.2) (sym (again stores d line s.0 s.1 s.2) ∙ taken)
-      | inl f ↦ subst (IsCause stores d line) (err_is (refused.Bad fault.Form) r (sym f ∙ taken)) (fit, nothing_comes stores d line f)
+      | inr s ↦ past_cause stores d line s.0 r (fit, s.1, s.2) (sym (again stores d line s.0 s.1 s.2) ∙ accepted)
+      | inl f ↦ subst (IsCause stores d line) (err_is (refused.Bad fault.Form) r (sym f ∙ accepted)) (fit, nothing_comes stores d line f)
     ])
     (λ u. subst (IsCause stores d line) (err_is (refused.Bad fault.Text) r (rw (t, u) at h)) (short, u)))
     (λ t. let long : most_line < length line = grind (arith, nat_tests) in subst (IsCause stores d line) (err_is (refused.Limit which.LineBytes) r (rw t at h)) long)

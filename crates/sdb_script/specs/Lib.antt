@@ -1,3 +1,4 @@
+pub mod Types
 pub mod Printed
 pub mod Placings
 pub mod Refused

@@ -2,12 +2,9 @@
 use Rattle.std.specs.Prelude.{◌≡◌, ℕ, ◌^◌, ℤ, pos, negsuc, int_le, nat_le, Bool, true, ◌&&◌, List, ◌∷◌, ◌++◌, map, length, codes, sum_by}
 use Rattle.std.specs.Fmt.{decimal, signed_decimal}
 use Rattle.std.specs.Str.{is_utf8}
-use Rattle.sdb_model.specs.declared.script.Act.{Act}
+use Rattle.sdb_script.specs.Types.{Act, Move, Place, ScriptClient}
 use Rattle.sdb_model.specs.declared.script.Act.TheVariants as act
-use Rattle.sdb_model.specs.declared.script.Move.{Move}
 use Rattle.sdb_model.specs.declared.script.Move.TheVariants as move
-use Rattle.sdb_types.specs.declared.place.Place.{Place}
-use Rattle.sdb_model.specs.declared.script.ScriptClient.{ScriptClient}
 use Rattle.sdb_model.specs.Form.{client_line}
 use Rattle.sdb_script.specs.Words.{Counts}
 

@@ -2,12 +2,8 @@
 use Rattle.std.specs.Prelude.{ℕ, Bool, nat_le, List, [], ◌∷◌, ◌++◌, length, flat_map, codes}
 use Rattle.std.specs.List.{list_all}
 use Rattle.sdb_types.specs.Order.{table_text}
-use Rattle.sdb_schema.specs.declared.table.Table.{Table}
+use Rattle.sdb_script.specs.Types.{Move, Place, Script, ScriptClient, Table}
 use Rattle.sdb_catalog.specs.Definition.{definition_text}
-use Rattle.sdb_model.specs.declared.script.Move.{Move}
-use Rattle.sdb_types.specs.declared.place.Place.{Place}
-use Rattle.sdb_model.specs.declared.script.ScriptClient.{ScriptClient}
-use Rattle.sdb_model.specs.declared.script.Script.{Script}
 use Rattle.sdb_model.specs.Form.{client_line}
 use Rattle.sdb_script.specs.Lines.{most_line, place_line, schema_line, text_line, move_line}
 use Rattle.sdb_model.specs.Texts.{with_lf}

@@ -3,15 +3,10 @@ use Rattle.std.specs.Prelude.{◌≡◌, ℕ, ◌+◌, min, nat_le, nat_lt, pos,
 use Rattle.std.specs.Option.{option_map, option_map_or, option_and_then}
 use Rattle.std.specs.Str.{bytes_eq, is_utf8}
 use Rattle.sdb_record.specs.Names.{after_front}
-use Rattle.sdb_schema.specs.declared.table.Table.{Table}
+use Rattle.sdb_script.specs.Types.{Act, Move, SchemaFault, Script, ScriptClient, Table}
 use Rattle.sdb_loader.specs.Described.{catalog_in}
-use Rattle.sdb_loader.specs.declared.fault.SchemaFault.{SchemaFault}
-use Rattle.sdb_model.specs.declared.script.Act.{Act}
 use Rattle.sdb_model.specs.declared.script.Act.TheVariants as act
-use Rattle.sdb_model.specs.declared.script.Move.{Move}
 use Rattle.sdb_model.specs.declared.script.Move.TheVariants as move
-use Rattle.sdb_model.specs.declared.script.ScriptClient.{ScriptClient}
-use Rattle.sdb_model.specs.declared.script.Script.{Script}
 use Rattle.sdb_model.specs.declared.script.Which.TheVariants as which
 use Rattle.sdb_model.specs.Form.{is_client_name, lines_of}
 use Rattle.sdb_script.specs.declared.fault.LineFault.TheVariants as fault

@@ -26,7 +26,7 @@ pub enum LineFault {
     Missing,
 }
 
-/// Why a line isn't taken.
+/// Why a line isn't accepted.
 #[derive(Drop)]
 pub enum LineRefused {
     Bad(LineFault),

@@ -19,9 +19,9 @@ nat_other : (b : ℕ) → b ≢ 10 → (b == 10) ≡ false
 nat_other b n = grind (arith, nat_tests)
 
 pub cut_more : (old mid new : Option (List ℕ)) (used used_mid used_then : ℕ) (read : List ℕ) (b : ℕ) → Takes read old mid → has_lf read ≡ false → used_mid ≡ used + length read → b ≢ 10 → Takes (b ∷ []) mid new → used_then ≡ used_mid + 1 → IsCut old new used used_then line_stop.NoMemory
-cut_more old mid new used used_mid used_then read b taken one counted other more then = record {
+cut_more old mid new used used_mid used_then read b accepted one counted other more then = record {
   read = read ++ b ∷ [];
-  taken = takes_more read (b ∷ []) old mid new taken more;
+  accepted = takes_more read (b ∷ []) old mid new accepted more;
   one = has_lf_more read b one (nat_other b other);
   counted = let len : length (read ++ b ∷ []) ≡ length read + 1 = length-append read (b ∷ []) in omega (arith, len, then, counted);
   stop = tt;

@@ -2,3 +2,17 @@ pub mod Used
 pub mod Cut
 pub mod Refusing
 pub mod SoFar
+pub mod Making
+pub mod Moments
+pub mod Sessions
+pub mod Chains
+pub mod Pairs
+pub mod Names
+pub mod Spelled
+pub mod RowColumns
+pub mod ReadAgain
+pub mod Itself
+pub mod Points
+pub mod GroupSteps
+pub mod LoadSteps
+pub mod ExportSteps

@@ -4,7 +4,7 @@ use Rattle.std.specs.Str.{is_utf8, IsUtf8}
 use Rattle.std.proofs.lemmas.Str.{IsUtf8-from_is_utf8}
 use Rattle.sdb_types.proofs.Basics.{by_test}
 use Rattle.sdb_schema.specs.declared.table.Table.{Table}
-use Rattle.sdb_answer.specs.Sessions.{SessionAt}
+use Rattle.sdb_shell.specs.Sessions.{SessionAt}
 use Rattle.sdb_shell.specs.declared.lines.LineEnd.{LineEnd}
 use Rattle.sdb_shell.specs.declared.lines.LineStop.{LineStop}
 use Rattle.sdb_shell.specs.declared.refused.SessionRefused.{SessionRefused}

@@ -15,14 +15,14 @@ use Rattle.sdb_stores.specs.Views.{Attached, AreDistinct, home, place_of, route_
 use Rattle.sdb_contents.specs.Board.{GoOn, HoldTheSame, contents_of_views}
 use Rattle.sdb_contents.proofs.GoesOn.{some_more}
 use Rattle.sdb_client.specs.Client.{Parses, nothing_done}
-use Rattle.sdb_session.specs.Database.{Database, database_of}
-use Rattle.sdb_session.specs.Between.{Between}
-use Rattle.sdb_session.specs.Chain.{Chain, open_after}
-use Rattle.sdb_session.specs.Session.{Exchange, no_parts}
-use Rattle.sdb_answer.specs.Answering.{database_in, exchange}
-use Rattle.sdb_answer.specs.Drawn.{drawn_id}
-use Rattle.sdb_answer.specs.Sessions.{IsSessionSoFar, SessionAt}
-use Rattle.sdb_answer.proofs.Chains.{session_more, session_none, session_whole}
+use Rattle.law_clients.specs.Database.{Database, database_of}
+use Rattle.law_clients.specs.Between.{Between}
+use Rattle.law_clients.specs.Chain.{Chain, open_after}
+use Rattle.law_clients.specs.Session.{Exchange, no_parts}
+use Rattle.sdb_shell.specs.Answering.{database_in, exchange}
+use Rattle.sdb_shell.specs.Drawn.{drawn_id}
+use Rattle.sdb_shell.specs.Sessions.{IsSessionSoFar, SessionAt}
+use Rattle.sdb_shell.proofs.Chains.{session_more, session_none, session_whole}
 use Rattle.sdb_shell.specs.declared.lines.LineEnd.{LineEnd}
 use Rattle.sdb_shell.specs.declared.lines.LineEnd.TheVariants as line_end
 use Rattle.sdb_shell.specs.declared.refused.SessionRefused.{SessionRefused}
@@ -148,8 +148,8 @@ session_same catalog old mid new clock clock_mid ids ids_mid es s so goes held =
   spare = so.spare;
   draws = so.draws;
   begun = so.begun;
-  hand = so.hand;
-  taken = so.taken;
+  next_state = so.next_state;
+  accepted = so.accepted;
   faults = elim so.faults [
     | inl few ↦ inl (omega (arith, few, goes.counted))
     | inr full ↦ inr (goes.full full)
@@ -162,10 +162,10 @@ session_same catalog old mid new clock clock_mid ids ids_mid es s so goes held =
 }
 
 pub so_start : (catalog : List Table) (old : Attached) (clock : Option (List ℤ)) (ids ids_then : Option (List ℕ)) (written left left_then : Option (List ℕ)) (used : ℕ) (s : SessionAt) → s.client ≡ nothing_done 1 → ((draw : ℕ) × IsAppended draw ids ids_then × (s.fresh ≡ drawn_id draw)) → Takes [] left left_then → used ≡ 0 → IsSoFar catalog old old clock clock ids ids_then written written left left_then used 1 s
-so_start catalog old clock ids ids_then written left left_then used s client fresh taken none = record {
+so_start catalog old clock ids ids_then written left left_then used s client fresh accepted none = record {
   lines = [];
   es = [];
-  taken = taken;
+  accepted = accepted;
   fit = refl;
   counted = none;
   number = refl;
@@ -183,7 +183,7 @@ answered_so_far : (catalog : List Table) (old new : Attached) (clock clock_then 
 answered_so_far catalog old new clock clock_then ids ids_then written written_then left left_then used n s so = record {
   lines = so.lines;
   es = so.es;
-  taken = so.taken;
+  accepted = so.accepted;
   fit = so.fit;
   counted = so.counted;
   number = so.number;
@@ -197,7 +197,7 @@ so_passed : (catalog : List Table) (old mid new : Attached) (clock clock_mid clo
 so_passed catalog old mid new clock clock_mid clock_then ids ids_mid ids_then written written_mid written_then left left_mid used n s t so goes h = record {
   lines = so.lines;
   es = so.es;
-  taken = so.taken;
+  accepted = so.accepted;
   fit = so.fit;
   counted = so.counted;
   number = so.number;
@@ -216,8 +216,8 @@ session_held catalog old mid clock clock_mid ids ids_mid es s so goes =
       spare = so.spare;
       draws = so.draws;
       begun = so.begun;
-      hand = so.hand;
-      taken = so.taken;
+      next_state = so.next_state;
+      accepted = so.accepted;
       faults = so.faults;
       idle = so.idle;
       opened = so.opened;
@@ -244,7 +244,7 @@ starves catalog old mid clock clock_mid ids ids_mid written written_mid written_
   before = record {
     lines = so.lines;
     es = so.es;
-    taken = so.taken;
+    accepted = so.accepted;
     fit = so.fit;
     counted = so.counted;
     number = so.number;
@@ -307,7 +307,7 @@ module _ (catalog : List Table) (old mid new : Attached) (clock clock_mid clock_
         last = e;
         ahead = ahead;
         written_mid = written_mid;
-        taken = takes_more (with_lfs so.lines) (with_end end line) left left_mid (option_map (λ rest. ahead ++ rest) remaining_then) so.taken read.taken;
+        accepted = takes_more (with_lfs so.lines) (with_end end line) left left_mid (option_map (λ rest. ahead ++ rest) remaining_then) so.accepted read.accepted;
         fit = so.fit;
         fits = line_fits line read.one read.fits utf8;
         some = some;
@@ -328,7 +328,7 @@ module _ (catalog : List Table) (old mid new : Attached) (clock clock_mid clock_
       record {
         lines = so.lines ++ h.line ∷ [];
         es = d.es;
-        taken = subst (λ bs. Takes bs left left_then) (sym grown) (takes_more (with_lfs so.lines) (h.line ++ 10 ∷ []) left left_mid left_then so.taken h.read.taken);
+        accepted = subst (λ bs. Takes bs left left_then) (sym grown) (takes_more (with_lfs so.lines) (h.line ++ 10 ∷ []) left left_mid left_then so.accepted h.read.accepted);
         fit = all_more is_line so.lines h.line so.fit d.fits;
         counted = h.read.counted ∙ ap (λ k. k + length (h.line ++ 10 ∷ [])) so.counted ∙ sym (length-append (with_lfs so.lines) (h.line ++ 10 ∷ [])) ∙ ap length (sym grown);
         number = ap (λ k. k + 1) (so.number ∙ sym (length-append so.lines (h.line ∷ [])));
@@ -346,7 +346,7 @@ module _ (catalog : List Table) (old mid new : Attached) (clock clock_mid clock_
       record {
         text = text;
         es = d.es;
-        taken = subst (Takes text left) same (takes_more (with_lfs so.lines) h.line left left_mid left_then so.taken h.read.taken);
+        accepted = subst (Takes text left) same (takes_more (with_lfs so.lines) h.line left left_mid left_then so.accepted h.read.accepted);
         ends = ends;
         most = subst (λ k. k ≤ most_input) (sym size) few;
         fit = subst (λ ls. list_all is_line ls ≡ true) (sym cut) (last_fits h.line d.fits);

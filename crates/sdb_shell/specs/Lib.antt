@@ -1,6 +1,16 @@
+pub mod Types
 pub mod Ahead
 pub mod Lines
 pub mod Texts
 pub mod Answers
 pub mod Handed
 pub mod Session
+pub mod Answering
+pub mod Drawn
+pub mod Sessions
+pub mod Ends
+pub mod Statements
+pub mod Groups
+pub mod Turns
+pub mod Loads
+pub mod Exports

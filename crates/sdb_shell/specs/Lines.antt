@@ -39,7 +39,7 @@ EndsAt line_end.Input left = IsAtEnd left
 
 -- A line was read of what was left: no LF is among its bytes, which are as many as a line may have at most. So many bytes were used then.
 pub record IsLine (old new : Option (List ℕ)) (used used_then : ℕ) (end : LineEnd) (line : List ℕ) : Type 0 where
-  pub taken : Takes (with_end end line) old new
+  pub accepted : Takes (with_end end line) old new
   pub ends : EndsAt end new
   pub one : has_lf line ≡ false
   pub fits : length line ≤ most_line
@@ -55,7 +55,7 @@ IsStop line_stop.NoMemory read new used = Unit {0}
 -- These bytes of a line were read, without an LF, and no more.
 pub record IsCut (old new : Option (List ℕ)) (used used_then : ℕ) (why : LineStop) : Type 0 where
   pub read : List ℕ
-  pub taken : Takes read old new
+  pub accepted : Takes read old new
   pub one : has_lf read ≡ false
   pub counted : used_then ≡ used + length read
   pub stop : IsStop why read new used_then

@@ -1,16 +1,15 @@
--- A session: the lines of an input, taken as statements and answered one after the other.
+-- A session: the lines of an input, accepted as statements and answered one after the other.
 use Rattle.std.specs.Prelude.{◌≡◌, ℕ, ℤ, ◌+◌, nat_le, nat_lt, Bool, true, not, ◌&&◌, List, [], ◌∷◌, ◌++◌, filter, length, Option, ◌≢◌, ◌⊎◌, ◌≤◌, option_map}
 use Rattle.std.specs.List.{flat_map, list_all}
 use Rattle.std.specs.Str.{is_utf8}
 use Rattle.sdb_types.specs.Bytes.{Appends, IsAtEnd, Takes}
-use Rattle.sdb_schema.specs.declared.table.Table.{Table}
-use Rattle.sdb_model.specs.declared.answer.Answer.{Answer}
+use Rattle.sdb_shell.specs.Types.{Answer, Table}
 use Rattle.sdb_model.specs.Form.{lines_of}
 use Rattle.sdb_stores.specs.Views.{Attached, StoreView}
 use Rattle.sdb_contents.specs.Board.{HoldTheSame}
 use Rattle.sdb_client.specs.Client.{Parses}
-use Rattle.sdb_session.specs.Session.{Exchange}
-use Rattle.sdb_answer.specs.Sessions.{HasAnswered, IsSession, IsSessionSoFar, SessionAt}
+use Rattle.law_clients.specs.Session.{Exchange}
+use Rattle.sdb_shell.specs.Sessions.{HasAnswered, IsSession, IsSessionSoFar, SessionAt}
 use Rattle.sdb_shell.specs.Answers.{IsPrefix, answer_line_of}
 use Rattle.sdb_shell.specs.Handed.{Handed, Reading}
 use Rattle.sdb_shell.specs.declared.lines.LineEnd.{LineEnd}
@@ -35,7 +34,7 @@ is_line line = not (has_lf line) && (nat_le (length line) most_line && is_text l
 abbrev pub filled : List (List ℕ) → List (List ℕ)
 filled lines = filter (λ l. nat_lt 0 (length l)) lines
 
--- each of these lines was taken as a statement, in turn
+-- each of these lines was accepted as a statement, in turn
 abbrev pub AreExecutedFrom : List (List ℕ) → List Exchange → Type 0
 AreExecutedFrom [] [] = Unit {0}
 AreExecutedFrom (l ∷ ls) (e ∷ es) = Parses l e.says × AreExecutedFrom ls es
@@ -45,7 +44,7 @@ AreExecutedFrom ls es = ⊥
 abbrev pub answer_lines : List Exchange → List ℕ
 answer_lines es = flat_map (λ e. answer_line_of e.answer) es
 
--- A statement was taken and answered, and the line of its answer was written.
+-- A statement was accepted and answered, and the line of its answer was written.
 pub record HasReplied (catalog : List Table) (text : List ℕ) (u : Handed) (s t : SessionAt) : Type 0 where
   pub answer : Answer
   pub answered : HasAnswered catalog text u.old u.new u.clock u.clock_then u.ids u.ids_then s answer t
@@ -94,7 +93,7 @@ IsCutLine catalog n u r s t why = (HasPassed u s t × IsRefusedAt n r.left r.lef
 pub record IsSoFar (catalog : List Table) (old new : Attached) (clock clock_then : Option (List ℤ)) (ids ids_then : Option (List ℕ)) (written written_then : Option (List ℕ)) (left left_then : Option (List ℕ)) (used n : ℕ) (s : SessionAt) : Type 0 where
   pub lines : List (List ℕ)
   pub es : List Exchange
-  pub taken : Takes (with_lfs lines) left left_then
+  pub accepted : Takes (with_lfs lines) left left_then
   pub fit : list_all is_line lines ≡ true
   pub counted : used ≡ length (with_lfs lines)
   pub number : n ≡ length lines + 1
@@ -102,12 +101,12 @@ pub record IsSoFar (catalog : List Table) (old new : Attached) (clock clock_then
   pub output : Appends (answer_lines es) written written_then
   pub session : IsSessionSoFar catalog old new clock clock_then ids ids_then es s
 
--- A whole session: the text of its input is read to its end, and each of its lines that isn't empty is taken as a statement and answered
+-- A whole session: the text of its input is read to its end, and each of its lines that isn't empty is accepted as a statement and answered
 -- by one line of the output; and these statements are a session.
 pub record IsWhole (catalog : List Table) (old new : Attached) (clock clock_then : Option (List ℤ)) (ids ids_then : Option (List ℕ)) (written written_then : Option (List ℕ)) (remaining remaining_then : Option (List ℕ)) : Type 0 where
   pub text : List ℕ
   pub es : List Exchange
-  pub taken : Takes text remaining remaining_then
+  pub accepted : Takes text remaining remaining_then
   pub ends : IsAtEnd remaining_then
   pub most : length text ≤ most_input
   pub fit : list_all is_line (lines_of text) ≡ true
@@ -115,12 +114,12 @@ pub record IsWhole (catalog : List Table) (old new : Attached) (clock clock_then
   pub output : Appends (answer_lines es) written written_then
   pub session : IsSession catalog old new clock clock_then ids ids_then es
 
--- A session before the line of a number, as its callers know it: these lines were read, each that isn't empty was taken as a statement and
+-- A session before the line of a number, as its callers know it: these lines were read, each that isn't empty was accepted as a statement and
 -- answered by one line of the output, and these statements are a session.
 pub record IsAnsweredSoFar (catalog : List Table) (old new : Attached) (clock clock_then : Option (List ℤ)) (ids ids_then : Option (List ℕ)) (written written_then : Option (List ℕ)) (left left_then : Option (List ℕ)) (used n : ℕ) : Type 0 where
   pub lines : List (List ℕ)
   pub es : List Exchange
-  pub taken : Takes (with_lfs lines) left left_then
+  pub accepted : Takes (with_lfs lines) left left_then
   pub fit : list_all is_line lines ≡ true
   pub counted : used ≡ length (with_lfs lines)
   pub number : n ≡ length lines + 1
@@ -149,7 +148,7 @@ pub record IsCutShort (catalog : List Table) (old new : Attached) (clock clock_t
   pub last : Exchange
   pub ahead : List ℕ
   pub written_mid : Option (List ℕ)
-  pub taken : Takes (with_lfs lines ++ with_end end line) remaining (option_map (λ rest. ahead ++ rest) remaining_then)
+  pub accepted : Takes (with_lfs lines ++ with_end end line) remaining (option_map (λ rest. ahead ++ rest) remaining_then)
   pub fit : list_all is_line lines ≡ true
   pub fits : is_line line ≡ true
   pub some : line ≢ []

@@ -5,11 +5,11 @@ ghost use Rattle.sdb_contents.specs.Board.{GoOn};
 ghost use Rattle.sdb_shell.specs.Handed.{handed, views};
 ghost use Rattle.sdb_shell.specs.Session.{IsDone, IsCutOff};
 
+use crate::account::Session;
 use crate::bytes::Bytes;
 use crate::lines::LineEnd;
 use crate::refused::SessionRefused;
 use crate::turn::take_line;
-use sdb_answer::Session;
 use sdb_schema::Catalog;
 use sdb_stores::Registry;
 use sdb_types::{Clock, Ids, Sink, Source};
@@ -29,9 +29,9 @@ pub fn session<S: Registry, R: Source, W: Sink, C: Clock, I: Ids>(
     ids: &mut I,
 ) -> Result<(), SessionRefused>
     requires some { 0 < length (S.state stores.old).views }
-    ensures done { OnOk result (IsDone catalog.now (handed (views S.state C.told I.told W.written)
+    ensures done { OnOk result (IsDone catalog.now (handed (views S.state C.answered I.answered W.written)
         stores.old stores.new clock.old clock.new ids.old ids.new output.old output.new) (R.remaining input.old) (R.remaining input.new)) }
-    ensures cut { IfErr result (IsCutOff catalog.now (handed (views S.state C.told I.told W.written)
+    ensures cut { IfErr result (IsCutOff catalog.now (handed (views S.state C.answered I.answered W.written)
         stores.old stores.new clock.old clock.new ids.old ids.new output.old output.new) (R.remaining input.old) (R.remaining input.new)) }
     ensures read_fault { IsErrOf result SessionRefused.ReadFault → HasRisen (R.faults input.old) (R.faults input.new) }
     ensures write_fault { IsErrOf result SessionRefused.WriteFault → HasRisen (W.faults output.old) (W.faults output.new) }

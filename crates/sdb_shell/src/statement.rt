@@ -7,9 +7,9 @@ ghost use Rattle.sdb_shell.specs.Answers.{IsPrefix, answer_line_of};
 ghost use Rattle.sdb_shell.specs.Handed.{handed, views};
 ghost use Rattle.sdb_shell.specs.Session.{HasReplied, HasStopped};
 
+use crate::account::Session;
 use crate::refused::SessionRefused;
 use crate::writing::{answer_line, write_all};
-use sdb_answer::Session;
 use sdb_model::Answer;
 use sdb_schema::Catalog;
 use sdb_stores::Registry;
@@ -47,10 +47,10 @@ pub(crate) fn reply<S: Registry, W: Sink, C: Clock, I: Ids>(
     requires some { 0 < length (S.state stores.old).views }
     requires idle { IsIdle session.old.client }
     requires short { length text.now < 2 ^ 32 }
-    ensures replied { OnOk result (HasReplied catalog.now text.now (handed (views S.state C.told I.told W.written)
+    ensures replied { OnOk result (HasReplied catalog.now text.now (handed (views S.state C.answered I.answered W.written)
         stores.old stores.new clock.old clock.new ids.old ids.new output.old output.new) session.old session.new) }
     ensures write_fault { IsErrOf result SessionRefused.WriteFault → HasRisen (W.faults output.old) (W.faults output.new) }
-    ensures stopped { IfErr result (HasStopped catalog.now text.now (handed (views S.state C.told I.told W.written)
+    ensures stopped { IfErr result (HasStopped catalog.now text.now (handed (views S.state C.answered I.answered W.written)
         stores.old stores.new clock.old clock.new ids.old ids.new output.old output.new) session.old session.new) }
     ensures later { W.faults output.old ≤ W.faults output.new }
     ensures goes { GoOn (S.state stores.old) (S.state stores.new) }

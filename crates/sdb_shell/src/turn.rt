@@ -6,12 +6,12 @@ ghost use Rattle.sdb_client.specs.Client.{IsIdle};
 ghost use Rattle.sdb_shell.specs.Handed.{handed, reading, views};
 ghost use Rattle.sdb_shell.specs.Session.{HasExecutedLine, IsCutLine};
 
+use crate::account::Session;
 use crate::bytes::Bytes;
 use crate::lines::LineEnd;
 use crate::refused::SessionRefused;
 use crate::statement::reply;
 use crate::texts::next_text;
-use sdb_answer::Session;
 use sdb_schema::Catalog;
 use sdb_stores::Registry;
 use sdb_types::{Clock, Ids, Sink, Source};
@@ -33,10 +33,10 @@ pub(crate) fn take_line<S: Registry, R: Source, W: Sink, C: Clock, I: Ids>(
 ) -> Result<LineEnd, SessionRefused>
     requires some { 0 < length (S.state stores.old).views }
     requires idle { IsIdle session.old.client }
-    ensures taken { IfOk result (HasExecutedLine catalog.now (handed (views S.state C.told I.told W.written)
+    ensures accepted { IfOk result (HasExecutedLine catalog.now (handed (views S.state C.answered I.answered W.written)
         stores.old stores.new clock.old clock.new ids.old ids.new output.old output.new)
         (reading R.remaining bytes.old bytes.new input.old input.new) session.old session.new) }
-    ensures cut { IfErr result (IsCutLine catalog.now n (handed (views S.state C.told I.told W.written)
+    ensures cut { IfErr result (IsCutLine catalog.now n (handed (views S.state C.answered I.answered W.written)
         stores.old stores.new clock.old clock.new ids.old ids.new output.old output.new)
         (reading R.remaining bytes.old bytes.new input.old input.new) session.old session.new) }
     ensures read_fault { IsErrOf result SessionRefused.ReadFault → HasRisen (R.faults input.old) (R.faults input.new) }

@@ -3,8 +3,7 @@ ghost use Rattle.std.specs.Prelude.{◌≡◌, ◌≤◌, ◌++◌, ◌∷◌, �
 ghost use Rattle.sdb_types.specs.Bytes.{Appends, HasRisen};
 ghost use Rattle.sdb_model.specs.Texts.{answer_text_of};
 
-use sdb_model::Answer;
-use sdb_texts::put_answer;
+use sdb_model::{Answer, put_answer};
 use sdb_types::{NoMemory, Sink, SinkRefused};
 use std::alloc::Global;
 

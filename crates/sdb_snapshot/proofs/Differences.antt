@@ -6,17 +6,13 @@ use Rattle.std.specs.List.{list_all}
 use Rattle.std.specs.declared.cmp.Ordering.TheVariants.{Less}
 use Rattle.std.specs.Ordering.{is_eq, is_le}
 use Rattle.std.specs.Cmp.{tied_itself}
-use Rattle.sdb_types.specs.declared.key.Key.{Key}
-use Rattle.sdb_types.specs.declared.record.Record.{Record}
-use Rattle.sdb_types.specs.declared.record.Span.{Span}
+use Rattle.sdb_snapshot.specs.Types.{Key, Keyed, Record, Span, Write}
 use Rattle.sdb_types.specs.Order.{key_cmp, same_key}
 use Rattle.sdb_types.specs.Exact.{equal_of}
 use Rattle.sdb_types.specs.Contents.{in_span, starts_after, rise, record_among}
 use Rattle.sdb_types.proofs.Bools.{and_first, and_second}
 use Rattle.sdb_types.proofs.KeyOrder.{key_total, key_exact}
-use Rattle.sdb_keyed.specs.Entries.{value_at}
-use Rattle.sdb_record.specs.declared.write.Write.{Write}
-use Rattle.sdb_record.specs.declared.write.Keyed.{Keyed}
+use Rattle.sdb_snapshot.specs.Entries.{value_at}
 use Rattle.sdb_record.specs.Rolls.{IsBaseOf, IsWrite, AreCommitted}
 use Rattle.sdb_record.specs.Among.{write_among}
 use Rattle.sdb_snapshot.specs.Reads.{ReadRecord, is_key_read, base_at, with_read_record, with_images, has_key, has_changed, differs, IsFirstDifference, IsUnmoved, AreKeysOf, AreBases}
@@ -131,7 +127,7 @@ pub first_difference : (read_set : List ReadRecord) (span : Span) (images ks : L
 first_difference read_set span images ks r found keys at is = record {
   inside = inside_all span (differs read_set images) ks r (and_second (rise ks) (list_all (λ s. in_span span s.key) ks) keys.rows) at;
   moved = passes (differs read_set images) ks r at;
-  stands = is;
+  agrees = is;
   first = λ q inside moved. least (differs read_set images) ks r q (and_first (rise ks) (list_all (λ s. in_span span s.key) ks) keys.rows) at (keys.as_read q inside (moved_noted (value_at read_set q) (record_among images q) moved)) moved;
 }
 
@@ -148,7 +144,7 @@ find_moved_is read_set now images (r ∷ rs) is =
     ap (λ (b : Bool). cond b (Some r) (find (λ s. differs_from read_set now s.key) rs)) (ap (has_changed (value_at read_set r.key)) (stands_is now images r.key is))
     ∙ ap (cond (differs read_set images r.key) (Some r)) (find_moved_is read_set now images rs is)
 
--- the first difference, as it is told
+-- the first difference, as it is answered
 pub moved_told : (read_set seen now : List ReadRecord) (span : Span) (images ks : List Record) (r : Record) (k : Key) (found : Option Record) → read_set ≡ seen → AreKeysOf read_set span ks → now ≡ with_images [] images
     → Some r ≡ find (λ s. differs_from read_set now s.key) ks → k ≡ r.key → found ≡ base_at now r.key → IsFirstDifference seen span images k found
 moved_told read_set seen now span images ks r k found view keys is at key base =

@@ -3,9 +3,7 @@ use Rattle.std.proofs.Common.{◌≡◌, Bool, true, false, List, [], ◌∷◌,
 use Rattle.std.specs.Prelude.{if◌then◌else◌}
 use Rattle.std.proofs.lemmas.List.{append_assoc, append-nil}
 use Rattle.std.proofs.Math.Seq.{take-append_seam, take-length}
-use Rattle.sdb_types.specs.declared.key.Key.{Key}
-use Rattle.sdb_types.specs.declared.record.Record.{Record}
-use Rattle.sdb_types.specs.declared.record.Span.{Span}
+use Rattle.sdb_snapshot.specs.Types.{Key, Record, Span}
 use Rattle.sdb_record.specs.Moved.{version_of}
 use Rattle.sdb_snapshot.specs.Reads.{ReadRecord, is_key_read, reads_of, with_images, with_read_record}
 use Rattle.sdb_snapshot.specs.Seen.{Seen, forgotten, mark_of, with_get, with_scan}

@@ -5,7 +5,7 @@ use Rattle.std.specs.FinMap.{find}
 use Rattle.std.specs.Ordering.{is_eq}
 use Rattle.sdb_types.specs.declared.key.Key.{Key}
 use Rattle.sdb_types.specs.Order.{key_cmp, same_key}
-use Rattle.sdb_keyed.specs.Entries.{value_at, with_value}
+use Rattle.sdb_snapshot.specs.Entries.{value_at, with_value}
 use Rattle.sdb_types.proofs.Keys.{same_key_is}
 use Rattle.sdb_types.proofs.Basics.{by_test, or_else}
 

@@ -9,3 +9,6 @@ pub mod Shown
 pub mod Differences
 pub mod Owned
 pub mod Forgotten
+pub mod Firsts
+pub mod Numbered
+pub mod Kept

@@ -1,11 +1,9 @@
--- Changes taken in two steps: new keys go last, then each change is at its key.
+-- Changes accepted in two steps: new keys go last, then each change is at its key.
 use Rattle.std.proofs.Common.{◌≡◌, suc, Bool, true, false, cond, List, [], ◌∷◌, ◌++◌, length, Option, Some, None, refl, sym, ap, ◌∙◌}
 use Rattle.std.specs.Prelude.{is_some}
-use Rattle.sdb_types.specs.declared.key.Key.{Key}
+use Rattle.sdb_snapshot.specs.Types.{Key, Keyed, Write}
 use Rattle.sdb_types.specs.Order.{same_key}
 use Rattle.sdb_types.proofs.Keys.{same_key_self}
-use Rattle.sdb_record.specs.declared.write.Write.{Write}
-use Rattle.sdb_record.specs.declared.write.Keyed.{Keyed}
 use Rattle.sdb_record.specs.Among.{write_among, is_written}
 use Rattle.sdb_snapshot.specs.Sets.{StartsWith}
 use Rattle.sdb_snapshot.specs.Reads.{ReadRecord}

@@ -3,16 +3,13 @@ use Rattle.std.proofs.Common.{◌≡◌, ℕ, Bool, true, false, cond, List, [],
 use Rattle.std.specs.Prelude.{is_some, filter, ◌||◌, Result, Ok, Err, OnOk, OnErr, IfOk}
 use Rattle.std.specs.FinMap.{get, insert, entries, find, get-insert, get-entries}
 use Rattle.std.specs.Ordering.{is_eq}
-use Rattle.sdb_types.specs.declared.key.Key.{Key}
-use Rattle.sdb_types.specs.declared.pair.Pair.{Pair}
-use Rattle.sdb_types.specs.declared.record.Record.{Record}
-use Rattle.sdb_types.specs.declared.record.Span.{Span}
+use Rattle.sdb_snapshot.specs.Types.{Key, Pair, Record, Span}
 use Rattle.sdb_types.specs.Order.{key_cmp, same_key}
 use Rattle.sdb_types.specs.Exact.{equal_of}
 use Rattle.sdb_types.specs.Contents.{Contents, in_span, rows_among, rows_in, record_of}
 use Rattle.sdb_types.proofs.KeyOrder.{key_total, key_exact}
 use Rattle.sdb_types.proofs.Replies.{rows_in-are_rows_of}
-use Rattle.sdb_keyed.specs.Entries.{value_at, with_value}
+use Rattle.sdb_snapshot.specs.Entries.{value_at, with_value}
 use Rattle.sdb_snapshot.specs.Sets.{InOrder}
 use Rattle.sdb_snapshot.specs.Reads.{ReadRecord, is_key_read, has_key, AreKeysOf}
 use Rattle.sdb_snapshot.specs.Reads.{with_read_record}

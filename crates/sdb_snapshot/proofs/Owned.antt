@@ -2,11 +2,8 @@
 use Rattle.std.proofs.Common.{◌≡◌, Bool, true, false, cond, List, [], ◌∷◌, ◌++◌, Option, Some, None, IfSome, refl, sym, ap, subst, ◌∙◌}
 use Rattle.std.specs.Prelude.{is_some, Result, Ok, Err, OnOk, OnErr}
 use Rattle.std.specs.Option.{option_and_then}
-use Rattle.sdb_types.specs.declared.key.Key.{Key}
-use Rattle.sdb_types.specs.declared.record.Record.{Record}
-use Rattle.sdb_keyed.specs.Entries.{value_at}
-use Rattle.sdb_record.specs.declared.write.Write.{Write}
-use Rattle.sdb_record.specs.declared.write.Keyed.{Keyed}
+use Rattle.sdb_snapshot.specs.Types.{Key, Keyed, Record, Write}
+use Rattle.sdb_snapshot.specs.Entries.{value_at}
 use Rattle.sdb_record.specs.Rolls.{IsBaseOf, AreCommitted}
 use Rattle.sdb_record.specs.Among.{is_written, write_among}
 use Rattle.sdb_snapshot.specs.Reads.{ReadRecord, is_key_read, base_at, with_images}

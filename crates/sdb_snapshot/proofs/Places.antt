@@ -7,10 +7,8 @@ use Rattle.std.proofs.lemmas.List.{take-map, map-append}
 use Rattle.std.proofs.lemmas.List.Folds.{find_at}
 use Rattle.std.proofs.lemmas.Option.{slice_get_past}
 use Rattle.std.proofs.lemmas.Bool.Decides.{nat_tests}
-use Rattle.sdb_types.specs.declared.key.Key.{Key}
-use Rattle.sdb_keyed.specs.Entries.{value_at, with_value}
-use Rattle.sdb_record.specs.declared.write.Write.{Write}
-use Rattle.sdb_record.specs.declared.write.Keyed.{Keyed}
+use Rattle.sdb_snapshot.specs.Types.{Key, Keyed, Write}
+use Rattle.sdb_snapshot.specs.Entries.{value_at, with_value}
 use Rattle.sdb_record.specs.Among.{write_among, is_written}
 use Rattle.sdb_snapshot.specs.Sets.{AreIndexed}
 use Rattle.sdb_snapshot.specs.Opened.{with_new, with_laid}

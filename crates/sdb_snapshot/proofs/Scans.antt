@@ -3,10 +3,9 @@ use Rattle.std.proofs.Common.{◌≡◌, ℕ, zero, suc, ◌+◌, Bool, true, fa
 use Rattle.std.specs.Prelude.{Result, Ok, Err, OnOk, OnErr, find}
 use Rattle.std.specs.Option.{option_map_or}
 use Rattle.std.proofs.lemmas.List.Folds.{find_at}
-use Rattle.sdb_types.specs.declared.record.Span.{Span}
+use Rattle.sdb_snapshot.specs.Types.{Scan, Span}
 use Rattle.sdb_types.specs.Exactness.{span_is_exact}
 use Rattle.sdb_types.proofs.Basics.{by_test, clash, false_by, one_more, or_second, some_is}
-use Rattle.sdb_record.specs.declared.access.Scan.{Scan}
 use Rattle.sdb_snapshot.specs.Sets.{HaveFirstIndexes, first_scan, is_scan_at}
 use Rattle.sdb_snapshot.specs.Seen.{is_scanned, same_span}
 

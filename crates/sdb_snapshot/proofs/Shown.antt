@@ -7,21 +7,14 @@ use Rattle.std.specs.Ordering.{is_eq, is_lt}
 use Rattle.std.specs.Cmp.{eq_by_cmp_equiv}
 use Rattle.std.specs.FinMap.{get, entries, entries_sorted, find, is_sorted, get-entries, get-empty, get-insert, get-remove, same_map}
 use Rattle.std.specs.FinMap.Entries.{below_all, where_key, is_sorted-where_key, find-where_key, same_entries}
-use Rattle.sdb_types.specs.declared.key.Key.{Key}
-use Rattle.sdb_types.specs.declared.pair.Pair.{Pair}
-use Rattle.sdb_types.specs.declared.record.Record.{Record}
-use Rattle.sdb_types.specs.declared.record.Span.{Span}
+use Rattle.sdb_snapshot.specs.Types.{Access, Image, Key, Keyed, Pair, Record, Span, Write}
 use Rattle.sdb_types.specs.Order.{key_cmp, same_key}
 use Rattle.sdb_types.specs.Exact.{equal_of}
 use Rattle.sdb_types.specs.Contents.{in_span, starts_after, rise, are_rows_of}
 use Rattle.sdb_types.proofs.Bools.{and_first, and_second}
 use Rattle.sdb_types.proofs.KeyOrder.{key_total, key_exact, starts_trans}
-use Rattle.sdb_keyed.specs.Entries.{value_at}
-use Rattle.sdb_record.specs.declared.access.Access.{Access}
+use Rattle.sdb_snapshot.specs.Entries.{value_at}
 use Rattle.sdb_record.specs.declared.access.Access.TheVariants as access
-use Rattle.sdb_record.specs.declared.access.Image.{Image}
-use Rattle.sdb_record.specs.declared.write.Write.{Write}
-use Rattle.sdb_record.specs.declared.write.Keyed.{Keyed}
 use Rattle.sdb_record.specs.Rolls.{row_of_change}
 use Rattle.sdb_record.specs.Among.{write_among}
 use Rattle.sdb_model.specs.Exec.{Tables, all_rows, row_of_entry}

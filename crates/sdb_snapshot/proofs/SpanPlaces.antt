@@ -5,9 +5,7 @@ use Rattle.std.specs.BTreeMap.{BTreeMap, WritesThrough, get}
 use Rattle.std.specs.Ordering.{eq_by_cmp}
 use Rattle.std.specs.Cmp.Lexicographic.{lists_total, options_total}
 use Rattle.std.specs.FinMap.{IsAntisymmetric, slice_cmp-IsAntisymmetric}
-use Rattle.sdb_types.specs.declared.key.TableName.{TableName}
-use Rattle.sdb_types.specs.declared.record.Span.{Span}
-use Rattle.sdb_types.specs.declared.value.Value.{Value}
+use Rattle.sdb_snapshot.specs.Types.{Span, TableName, Value}
 use Rattle.sdb_types.specs.Exact.{order_decides}
 use Rattle.sdb_types.specs.Exactness.{span_is_exact}
 use Rattle.sdb_types.specs.Order.{table_cmp}

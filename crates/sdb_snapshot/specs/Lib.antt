@@ -1,3 +1,4 @@
+pub mod Types
 pub mod Reads
 pub mod Written
 pub mod Rows
@@ -5,3 +6,5 @@ pub mod Sets
 pub mod Opened
 pub mod Seen
 pub mod Spans
+pub mod Entries
+pub mod Places

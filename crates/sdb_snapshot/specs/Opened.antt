@@ -1,8 +1,7 @@
--- How changes are taken: first each new key goes last, then each change is put at its key.
+-- How changes are accepted: first each new key goes last, then each change is put at its key.
 use Rattle.std.specs.Prelude.{if◌then◌else◌, List, [], ◌∷◌, ◌++◌}
 use Rattle.sdb_types.specs.Order.{same_key}
-use Rattle.sdb_record.specs.declared.write.Write.{Write}
-use Rattle.sdb_record.specs.declared.write.Keyed.{Keyed}
+use Rattle.sdb_snapshot.specs.Types.{Keyed, Write}
 use Rattle.sdb_record.specs.Among.{is_written}
 use Rattle.sdb_snapshot.specs.Reads.{ReadRecord}
 use Rattle.sdb_snapshot.specs.Written.{write_of}

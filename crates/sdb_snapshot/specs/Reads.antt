@@ -3,13 +3,10 @@ use Rattle.std.specs.Prelude.{◌≡◌, Bool, true, false, not, if◌then◌els
 use Rattle.std.specs.List.{list_any, AllByRecursion}
 use Rattle.std.specs.Option.{option_and_then}
 use Rattle.std.specs.Ordering.{is_eq, is_le}
-use Rattle.sdb_types.specs.declared.key.Key.{Key}
-use Rattle.sdb_types.specs.declared.record.Record.{Record}
-use Rattle.sdb_types.specs.declared.record.Span.{Span}
+use Rattle.sdb_snapshot.specs.Types.{Key, Read, Record, Span}
 use Rattle.sdb_types.specs.Order.{key_cmp}
 use Rattle.sdb_types.specs.Contents.{in_span, are_rows_of, record_among}
-use Rattle.sdb_keyed.specs.Entries.{value_at}
-use Rattle.sdb_record.specs.declared.access.Read.{Read}
+use Rattle.sdb_snapshot.specs.Entries.{value_at}
 use Rattle.sdb_record.specs.Moved.{version_of, same_version}
 use Rattle.sdb_record.specs.Rolls.{IsBaseOf}
 
@@ -65,7 +62,7 @@ differs read_set images key = has_changed (record_read_at read_set key) (record_
 pub record IsFirstDifference (read_set : List ReadRecord) (span : Span) (images : List Record) (key : Key) (found : Option Record) : Type 0 where
   pub inside : in_span span key ≡ true
   pub moved : differs read_set images key ≡ true
-  pub stands : found ≡ record_among images key
+  pub agrees : found ≡ record_among images key
   pub first : (q : Key) → in_span span q ≡ true → differs read_set images q ≡ true → is_le (key_cmp key q) ≡ true
 
 -- no key of the span differs

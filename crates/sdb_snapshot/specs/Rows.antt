@@ -2,9 +2,7 @@
 use Rattle.std.specs.Prelude.{List, [], ◌∷◌, Option}
 use Rattle.std.specs.FinMap.{empty}
 use Rattle.std.specs.Option.{option_and_then}
-use Rattle.sdb_types.specs.declared.pair.Pair.{Pair}
-use Rattle.sdb_types.specs.declared.record.Record.{Record}
-use Rattle.sdb_record.specs.declared.write.Write.{Write}
+use Rattle.sdb_snapshot.specs.Types.{Pair, Record, Write}
 use Rattle.sdb_record.specs.Rolls.{row_of_image, row_of_change}
 use Rattle.sdb_model.specs.Exec.{Tables}
 use Rattle.sdb_model.specs.Access.{with_row}

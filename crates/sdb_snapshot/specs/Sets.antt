@@ -4,11 +4,8 @@ use Rattle.std.specs.FinMap.{get}
 use Rattle.std.specs.List.{position_or_len}
 use Rattle.std.specs.Map.{keys_of}
 use Rattle.std.specs.Option.{option_map_or}
-use Rattle.sdb_types.specs.declared.key.Key.{Key}
-use Rattle.sdb_types.specs.declared.record.Span.{Span}
+use Rattle.sdb_snapshot.specs.Types.{Key, Scan, Span, Write}
 use Rattle.sdb_types.specs.Contents.{Contents}
-use Rattle.sdb_record.specs.declared.access.Scan.{Scan}
-use Rattle.sdb_record.specs.declared.write.Write.{Write}
 use Rattle.sdb_record.specs.Among.{is_written}
 use Rattle.sdb_snapshot.specs.Reads.{ReadRecord, AreBases, is_key_read, record_read_at, base_at, has_changed}
 use Rattle.sdb_snapshot.specs.Written.{AreWrites, HaveBases, HaveKeysOnce}

@@ -2,8 +2,7 @@
 use Rattle.std.specs.Prelude.{◌≡◌, ℕ, true, false, if◌then◌else◌, List, [], ◌∷◌}
 use Rattle.std.specs.List.{AllByRecursion}
 use Rattle.sdb_types.specs.Order.{same_key}
-use Rattle.sdb_record.specs.declared.write.Write.{Write}
-use Rattle.sdb_record.specs.declared.write.Keyed.{Keyed}
+use Rattle.sdb_snapshot.specs.Types.{Keyed, Write}
 use Rattle.sdb_record.specs.Rolls.{IsWrite, is_change}
 use Rattle.sdb_record.specs.Among.{is_written}
 use Rattle.sdb_snapshot.specs.Reads.{ReadRecord, base_at, is_key_read}

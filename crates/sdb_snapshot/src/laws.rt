@@ -1,11 +1,6 @@
 //! What the rows that a transaction sees mean.
 ghost use Rattle.std.specs.Prelude.{◌≡◌, List, Option};
-ghost use Rattle.sdb_types.specs.declared.key.Key.{Key};
-ghost use Rattle.sdb_types.specs.declared.record.Record.{Record};
-ghost use Rattle.sdb_types.specs.declared.record.Span.{Span};
-ghost use Rattle.sdb_record.specs.declared.access.Access.{Access};
-ghost use Rattle.sdb_record.specs.declared.write.Keyed.{Keyed};
-ghost use Rattle.sdb_record.specs.declared.write.Write.{Write};
+ghost use Rattle.sdb_snapshot.specs.Types.{Access, Key, Keyed, Record, Span, Write};
 ghost use Rattle.sdb_model.specs.Exec.{Tables};
 ghost use Rattle.sdb_snapshot.specs.Reads.{ReadRecord};
 ghost use Rattle.sdb_model.specs.Access.{rows_at, with_changes};

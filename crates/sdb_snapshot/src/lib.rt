@@ -2,6 +2,7 @@
 #![tactic(auto)]
 
 mod difference;
+mod key_map;
 pub mod laws;
 mod overlay;
 mod prefix;
@@ -12,6 +13,7 @@ mod snapshot;
 mod spans;
 mod write_set;
 
+pub use key_map::KeyMap;
 pub use row::row_of;
 pub use sdb_record::{Access, Read, Reads, Scan, Scans};
 pub use snapshot::{Mark, NoteRefused, Snapshot};

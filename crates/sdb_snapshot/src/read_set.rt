@@ -2,11 +2,11 @@
 ghost use Rattle.std.specs.Prelude.{◌≡◌, ◌++◌, [], ◌∷◌, IfOk, OnOk, OnErr, IfSome, length, take, false};
 ghost use Rattle.std.specs.Option.{option_copied};
 ghost use Rattle.std.specs.FinMap as map;
-ghost use Rattle.sdb_keyed.specs.Entries.{value_at};
+ghost use Rattle.sdb_snapshot.specs.Entries.{value_at};
 ghost use Rattle.sdb_snapshot.specs.Sets.{StartsWith};
 ghost use Rattle.sdb_snapshot.specs.Reads.{AreKeysOf, base_at, is_key_read as is_key_read_lem, record_read_at, with_images, with_read_record};
 
-use sdb_keyed::KeyMap;
+use crate::KeyMap;
 use sdb_ordered::Tree;
 use sdb_store::Rows;
 use sdb_types::{Columns, Duplicate, Key, NoMemory, Record, Records, Span};

@@ -7,9 +7,9 @@ ghost use Rattle.sdb_snapshot.specs.Sets.{AreIndexed, StartsWith};
 ghost use Rattle.sdb_snapshot.specs.Opened.{with_laid, with_laids, with_new, with_news};
 ghost use Rattle.sdb_snapshot.specs.declared.write_set.WriteRefused.TheVariants as refused;
 
+use crate::KeyMap;
 use crate::prefix::cut;
 use crate::read_set::ReadSet;
-use sdb_keyed::KeyMap;
 use sdb_record::{Changes, Keyed, Write, Writes};
 use sdb_types::{Duplicate, Key, NoMemory};
 use std::alloc::Global;

@@ -1,12 +1,10 @@
 -- What is read of a column of a row.
 use Rattle.std.proofs.Common.{◌≡◌, ◌≢◌, ◌⊎◌, inl, inr, ℕ, zero, suc, ◌<◌, ◌≤◌, List, [], ◌∷◌, length, Bool, true, false, cond, None, Ok, Err, Result, IfOk, IfErr, refl, sym, ap, ◌∙◌, is_eq, arith}
 use Rattle.std.specs.Prelude.{Vec, nat_lt}
-use Rattle.std.specs.declared.alloc.Global.{Global}
+use Rattle.sdb_sqlite.specs.Types.{Error, Global, Key, Pair, Record, Value}
 use Rattle.std.proofs.lemmas.Bool.{cases_Bool}
 use Rattle.std.proofs.lemmas.Bool.Decides.{nat_tests}
-use Rattle.sqlite.specs.declared.types.Value.{Value}
 use Rattle.sqlite.specs.declared.types.Value.TheVariants.{Null, Int, Real, Text, Blob}
-use Rattle.sqlite.specs.declared.error.Error.{Error}
 use Rattle.sqlite.specs.declared.error.Error.TheVariants.{SqliteFailure}
 use Rattle.sqlite.specs.declared.error.ErrorCode.TheVariants.{OutOfMemory}
 use Rattle.sqlite.specs.declared.rows.Row as row
@@ -14,9 +12,6 @@ use Rattle.sqlite.specs.Order.{Row, column}
 use Rattle.sqlite.specs.Store.{Ghosts}
 use Rattle.sqlite.specs.Held.{Held as Connected, state}
 use Rattle.sqlite.specs.State.{HasCleanDisk, Shown, FailsToQuery}
-use Rattle.sdb_types.specs.declared.key.Key.{Key}
-use Rattle.sdb_types.specs.declared.pair.Pair.{Pair}
-use Rattle.sdb_types.specs.declared.record.Record.{Record}
 use Rattle.sdb_types.specs.Order.{key_cmp}
 use Rattle.sdb_types.specs.Exact.{order_decides}
 use Rattle.sdb_types.proofs.KeyOrder.{key_exact, key_total}
@@ -31,8 +26,8 @@ use Rattle.sdb_sqlite.specs.Asked.{Asked, rows_of}
 pub asked_of : {S : Type 0} (g : Ghosts S) (text : List ℕ) (params : Row) (old new : Connected S) (r : Result (Vec row.Row Global) Error)
     → (HasCleanDisk (state g new) → IfOk r (λ rows. Shown text params (state g old) (state g new) rows.items)) → (HasCleanDisk (state g new) → IfErr r (FailsToQuery text params (state g old) (state g new)))
     → new.step_limit ≡ old.step_limit → Asked g text params old new (rows_of r)
-asked_of g text params old new (Ok rows) ok err limit = record { shown = ok; limit = limit }
-asked_of g text params old new (Err e) ok err limit = record { shown = err; limit = limit }
+asked_of g text params old new (Ok rows) ok err limit = record { observed = ok; limit = limit }
+asked_of g text params old new (Err e) ok err limit = record { observed = err; limit = limit }
 
 column_short : (r : Row) (at : ℕ) → length r ≤ at → column r at ≡ Null
 column_short [] at h = refl

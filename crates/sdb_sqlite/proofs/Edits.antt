@@ -2,7 +2,7 @@
 use Rattle.std.proofs.Common.{◌≡◌, ◌⊎◌, inl, inr, ℤ, ◌≤◌, List, [], ◌∷◌, filter, length, Bool, true, false, cond, None, Some, Option, option_map, slice_get, Ok, refl, sym, ap, subst, ◌∙◌, is_eq, arith}
 use Rattle.std.specs.Prelude.{not, ◌||◌}
 use Rattle.std.specs.List.{AllByRecursion, list_any}
-use Rattle.std.specs.declared.cmp.Ordering.{Ordering}
+use Rattle.sdb_sqlite.specs.Types.{Key, Ordering, Pair, Record}
 use Rattle.std.specs.declared.cmp.Ordering.TheVariants.{Less, Equal, Greater}
 use Rattle.std.specs.Ordering.{match_ordering}
 use Rattle.std.specs.Cmp.{tied_itself}
@@ -16,9 +16,6 @@ use Rattle.sqlite_rules.specs.Lists.{Has}
 use Rattle.sqlite_rules.proofs.PlaceLemmas.{tied_same}
 use Rattle.sqlite_trees.proofs.ListLemmas.{ascending-filter}
 use Rattle.sqlite_value.proofs.OrderLemmas.{value_cmp_total}
-use Rattle.sdb_types.specs.declared.key.Key.{Key}
-use Rattle.sdb_types.specs.declared.pair.Pair.{Pair}
-use Rattle.sdb_types.specs.declared.record.Record.{Record}
 use Rattle.sdb_types.specs.Order.{key_cmp, table_text}
 use Rattle.sdb_types.specs.Exact.{equal_of}
 use Rattle.sdb_types.specs.Fits.{record_fits}
@@ -116,7 +113,7 @@ module _ (rows : List Row) (x : Row) (key : Key) (is : row_key x ≡ key) (none 
   pub added_other : (q : Key) → has_key q x ≡ false → rows_at q (put_row x rows) ≡ rows_at q rows
   added_other q e = filter_put (has_key q) x rows free e
 
----- a row taken out, and another one put in its place
+---- a row accepted out, and another one put in its place
 
 all_of : {X : Type 0} (P : X → Type 0) (xs : List X) → ((x : X) → Has xs x → P x) → AllByRecursion P xs
 all_of P [] f = tt

@@ -5,7 +5,7 @@ use Rattle.std.specs.List.{AllByRecursion}
 use Rattle.std.specs.FinMap.{find, get, get-from_entries}
 use Rattle.std.proofs.lemmas.List.{length-map}
 use Rattle.sqlite.specs.declared.types.Value.TheVariants.{Blob}
-use Rattle.sqlite.specs.declared.error.Error.{Error}
+use Rattle.sdb_sqlite.specs.Types.{Error, Key, Pair, Record, Request}
 use Rattle.sqlite.specs.Order.{Row, column, bytes}
 use Rattle.sqlite.specs.Store.{Ghosts}
 use Rattle.sqlite.specs.Held.{Held as Connected, state}
@@ -13,10 +13,6 @@ use Rattle.sqlite.specs.Effect.{Database}
 use Rattle.sqlite.specs.State.{State, Shown, FailsToQuery}
 use Rattle.sqlite.specs.View.{doubt}
 use Rattle.sqlite.proofs.Callers.{reads_as}
-use Rattle.sdb_types.specs.declared.key.Key.{Key}
-use Rattle.sdb_types.specs.declared.pair.Pair.{Pair}
-use Rattle.sdb_types.specs.declared.record.Record.{Record}
-use Rattle.sdb_types.specs.declared.record.Request.{Request}
 use Rattle.sdb_types.specs.declared.record.Request.TheVariants.{Get}
 use Rattle.sdb_types.specs.declared.record.Reply.TheVariants as reply
 use Rattle.sdb_types.specs.Order.{key_cmp}
@@ -119,12 +115,12 @@ due_found q m due found (inr e) h = subst (λ (r : Result (Option Record) Stoppe
 pub got_is : {S : Type 0} (g : Ghosts S) (q : Key) (old new : Connected S) (found : Result (Option Record) Stopped) → IsSure g new → key_fits q → KeyIsEncodable q → HasTable (state g old) → IsGot g q old new found
     → IsFound q (state g old) (state g new) found
 got_is g q old new found sure known fits it got =
-    let shown = got.asked.shown sure.1 in
-    let keeps = query_keeps get_body get_plain (Blob (key_bytes q) ∷ []) (state g old) (state g new) it got.asked.limit got.answer sure.0 shown in
+    let observed = got.asked.observed sure.1 in
+    let keeps = query_keeps get_body get_plain (Blob (key_bytes q) ∷ []) (state g old) (state g new) it got.asked.limit got.answer sure.0 observed in
     record {
       kept = keeps.0;
       same = keeps.1;
-      there = due_found q (contents_of_state (state g old)) (found_by q got.answer) found got.due (by_answer got.answer shown);
+      there = due_found q (contents_of_state (state g old)) (found_by q got.answer) found got.due (by_answer got.answer observed);
     }
   where
     by_answer : (answer : Result (List Row) Error) → MatchResult answer (Shown get_body (Blob (key_bytes q) ∷ []) (state g old) (state g new)) (FailsToQuery get_body (Blob (key_bytes q) ∷ []) (state g old) (state g new)) → IfOk (found_by q answer) (λ o. o ≡ record_at (contents_of_state (state g old)) q)
@@ -132,7 +128,7 @@ got_is g q old new found sure known fits it got =
         (sym (found_is q ((state g old).now.trees 0) rows it.rows (shown_rows (state g old) (state g new) q rows known fits it h))) refl
     by_answer (Err e) h = tt
 
----- what a call is told of
+---- what a call is answered of
 
 same_held : (old new : State) → new.now ≡ old.now → contents_of_state new ≡ contents_of_state old
 same_held old new e = ap (λ (d : Database). contents_of_rows (d.trees 0)) e

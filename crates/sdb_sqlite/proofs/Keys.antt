@@ -7,8 +7,7 @@ use Rattle.std.specs.FinMap.{slice_cmp-IsAntisymmetric}
 use Rattle.std.proofs.lemmas.Slice.Eq.{bytes_eq-Decides}
 use Rattle.std.proofs.lemmas.Map.Text.{is_eq-slice_cmp}
 use Rattle.std.proofs.lemmas.List.Elements.{All-nil}
-use Rattle.sdb_types.specs.declared.key.Key.{Key}
-use Rattle.sdb_types.specs.declared.key.TableName.{TableName}
+use Rattle.sdb_sqlite.specs.Types.{Key, TableName}
 use Rattle.sdb_types.specs.declared.value.Value.{Value as Cell}
 use Rattle.sdb_types.specs.Order.{key_cmp, table_cmp, table_text}
 use Rattle.sdb_types.specs.Exact.{order_decides}
@@ -43,7 +42,7 @@ partition_known key known = record { ns = known.ns; table = known.table; partiti
 pub partition_fits : (key : Key) → KeyIsEncodable key → KeyIsEncodable (partition_key key.table key.partition)
 partition_fits key fits = record { partition = fits.partition; clustering = record { count = omega arith; lengths = All-nil ValueIsEncodable } }
 
--- a row of a partition is told by its table's text and its partition's bytes
+-- a row of a partition is answered by its table's text and its partition's bytes
 pub same_span : (table : TableName) (part : List Cell) (key : Key) → table_is_encodable table → All value_fits part → KeyIsEncodable (partition_key table part) → key_fits key → KeyIsEncodable key
     → (bytes_eq (table_text key.table) (table_text table) && bytes_eq (key_bytes (partition_key key.table key.partition)) (key_bytes (partition_key table part))) ≡ in_span (record { table = table; partition = Some part }) key
 same_span table part key t p fits known also =

@@ -58,7 +58,7 @@ still_passed p h (x ∷ xs) (one, all) =
       | false ↦ λ e. ap (λ ys. cond (p x) (x ∷ ys) ys) rest
     ] refl
 
--- where each one taken out is one that passes, and each that passes is taken out, none is left that passes
+-- where each one accepted out is one that passes, and each that passes is accepted out, none is left that passes
 pub none_passed : {X : Type 0} (p h : X → Bool) (xs : List X) → AllByRecursion (λ x. p x ≡ true → h x ≡ true) xs → filter p (filter (λ x. not (h x)) xs) ≡ []
 none_passed p h [] all = refl
 none_passed p h (x ∷ xs) (one, all) =

@@ -2,19 +2,13 @@
 use Rattle.std.proofs.Common.{◌≡◌, inl, inr, ℕ, List, [], ◌∷◌, Bool, true, false, cond, None, Some, Option, option_map, Ok, Err, Result, refl, sym, ap, subst, ◌∙◌, is_eq}
 use Rattle.std.specs.FinMap.{get, insert, remove, get-remove, same_map}
 use Rattle.sqlite.specs.declared.types.Value.TheVariants.{Blob}
-use Rattle.sqlite.specs.declared.error.Error.{Error}
+use Rattle.sdb_sqlite.specs.Types.{Condition, Error, Key, Pair, Record, Reply, Request}
 use Rattle.sqlite.specs.Order.{Row}
 use Rattle.sqlite.specs.Store.{Ghosts}
 use Rattle.sqlite.specs.Held.{Held as Connected, state}
 use Rattle.sqlite.specs.Effect.{Database}
 use Rattle.sqlite.specs.State.{State, Executes}
-use Rattle.sdb_types.specs.declared.key.Key.{Key}
-use Rattle.sdb_types.specs.declared.pair.Pair.{Pair}
-use Rattle.sdb_types.specs.declared.record.Record.{Record}
-use Rattle.sdb_types.specs.declared.record.Condition.{Condition}
-use Rattle.sdb_types.specs.declared.record.Request.{Request}
 use Rattle.sdb_types.specs.declared.record.Request.TheVariants.{PutIf, DeleteIf}
-use Rattle.sdb_types.specs.declared.record.Reply.{Reply}
 use Rattle.sdb_types.specs.declared.record.Reply.TheVariants as reply
 use Rattle.sdb_types.specs.Order.{key_cmp}
 use Rattle.sdb_types.specs.Exact.{equal_of}
@@ -139,16 +133,16 @@ module _ {S : Type 0} (g : Ghosts S) (sure : (c : Connected S) → IsSure g c) (
 
 ---- after the get inside of it
 
--- what is told of the rest of a call is told of the whole
+-- what is answered of the rest of a call is answered of the whole
 after_get : (q : Request) (r : Reply) (old mid new : State) → mid.now ≡ old.now → IsAnswered q r mid new → IsAnswered q r old new
-after_get q r old mid new same told = record { kept = told.kept; performed = subst (λ (d : Database). Performs q r (contents_of_rows (d.trees 0)) (contents_of_state new)) same told.performed }
+after_get q r old mid new same answered = record { kept = answered.kept; performed = subst (λ (d : Database). Performs q r (contents_of_rows (d.trees 0)) (contents_of_state new)) same answered.performed }
 
 follows : {S : Type 0} (g : Ghosts S) (q : Request) (key : Key) (old mid new : Connected S) (result : Result Written Stopped) (Next : Option Record → Type 0) (found : Result (Option Record) Stopped) → IsFound key (state g old) (state g mid) found
     → ((o : Option Record) → o ≡ record_at (contents_of_state (state g mid)) key → Next o → IsAnswered q (write_reply result) (state g mid) (state g new)) → Follows mid new result Next found
     → IsAnswered q (write_reply result) (state g old) (state g new)
-follows g q key old mid new result Next (Ok o) is told next =
-    after_get q (write_reply result) (state g old) (state g mid) (state g new) is.same (told o (is.there ∙ ap (λ (d : Database). record_at (contents_of_rows (d.trees 0)) key) (sym is.same)) next)
-follows g q key old mid new result Next (Err s) is told next =
+follows g q key old mid new result Next (Ok o) is answered next =
+    after_get q (write_reply result) (state g old) (state g mid) (state g new) is.same (answered o (is.there ∙ ap (λ (d : Database). record_at (contents_of_rows (d.trees 0)) key) (sym is.same)) next)
+follows g q key old mid new result Next (Err s) is answered next =
     after_get q (write_reply result) (state g old) (state g mid) (state g new) is.same
     (unasked_as g q mid new (Err s) result next.0 next.1 is.kept (stopped_performs q s (contents_of_state (state g mid)) (contents_of_state (state g mid)) refl))
 

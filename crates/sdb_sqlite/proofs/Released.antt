@@ -6,8 +6,7 @@ use Rattle.std.specs.Cmp.{tied_itself}
 use Rattle.sqlite.specs.Order.{Row, column, bytes}
 use Rattle.sqlite.specs.Store.{Ghosts}
 use Rattle.sqlite.specs.Held.{Held as Connected, state}
-use Rattle.sdb_types.specs.declared.key.Key.{Key}
-use Rattle.sdb_types.specs.declared.pair.Pair.{Pair}
+use Rattle.sdb_sqlite.specs.Types.{Key, Pair}
 use Rattle.sdb_types.specs.Order.{table_text}
 use Rattle.sdb_types.specs.Contents.{record_at, record_of}
 use Rattle.sdb_types.proofs.KeyOrder.{key_total}

@@ -10,7 +10,7 @@ use Rattle.std.proofs.lemmas.List.{length-map}
 use Rattle.std.proofs.lemmas.List.Elements.{All-from_recursion, recursion_from_All}
 use Rattle.std.proofs.lemmas.List.Sorted.{All-permutation, IsPermutation-map, IsPermutation-trans}
 use Rattle.sqlite.specs.declared.types.Value.TheVariants.{Text, Blob}
-use Rattle.sqlite.specs.declared.error.Error.{Error}
+use Rattle.sdb_sqlite.specs.Types.{Error, Key, Pair, Record, Span, TableName}
 use Rattle.sqlite.specs.Order.{Row, column}
 use Rattle.sqlite.specs.Store.{Ghosts}
 use Rattle.sqlite.specs.Held.{Held as Connected, state}
@@ -19,12 +19,7 @@ use Rattle.sqlite.specs.Effect.{Database}
 use Rattle.sqlite.specs.Listing.{understood}
 use Rattle.sqlite.proofs.Callers.{reads_as, IsPlain}
 use Rattle.sqlite_trees.proofs.ListLemmas.{map-map, filter-map, IsPermutation-filter}
-use Rattle.sdb_types.specs.declared.key.Key.{Key}
-use Rattle.sdb_types.specs.declared.key.TableName.{TableName}
-use Rattle.sdb_types.specs.declared.pair.Pair.{Pair}
 use Rattle.sdb_types.specs.declared.value.Value.{Value as Cell}
-use Rattle.sdb_types.specs.declared.record.Record.{Record}
-use Rattle.sdb_types.specs.declared.record.Span.{Span}
 use Rattle.sdb_types.specs.declared.record.Request.TheVariants.{Scan}
 use Rattle.sdb_types.specs.declared.record.Reply.TheVariants as reply
 use Rattle.sdb_types.specs.Order.{key_cmp, table_text}
@@ -197,14 +192,14 @@ list_in span rows answer result tied once shuffled (inr h) =
     let given : AllByRecursion Given answer = recursion_from_All Given answer (All-permutation Given _ answer shuffled (All-from_recursion Given _ each)) in
     let read : rows_records span answer ≡ Ok (map record_of_row answer) = all_given span answer given in
     let sorted = listed_ok (map record_of_row answer) result (subst (λ (r : Result (List Record) Stopped). IsListedBy r result) read h) in
-    let shown : IsPermutation (map (λ r. record_of (entry_of r)) (inside span rows)) (map record_of_row answer) =
+    let observed : IsPermutation (map (λ r. record_of (entry_of r)) (inside span rows)) (map record_of_row answer) =
     subst (λ (xs : List Record). IsPermutation xs (map record_of_row answer)) (map-map record_of_row projected (inside span rows)) (IsPermutation-map record_of_row _ answer shuffled) in
-    by_result result sorted shown
+    by_result result sorted observed
   where
     by_result : (r : Result (List Record) Stopped) → IfOk r (λ list. IsPermutation (map record_of_row answer) list × (rise list ≡ true)) → IsPermutation (map (λ r. record_of (entry_of r)) (inside span rows)) (map record_of_row answer)
         → IfOk r (λ list. list ≡ rows_in span (contents_of_rows rows))
-    by_result (Ok list) s shown = rows_are span rows once list (IsPermutation-trans _ _ list shown s.0) s.1
-    by_result (Err e) s shown = tt
+    by_result (Ok list) s observed = rows_are span rows once list (IsPermutation-trans _ _ list observed s.0) s.1
+    by_result (Err e) s observed = tt
 
 rows_performs : (span : Span) (old new : State) (result : Result (List Record) Stopped) → new.now ≡ old.now → IfOk result (λ list. list ≡ rows_in span (contents_of_state old)) → Performs (Scan span) (rows_reply result) (contents_of_state old) (contents_of_state new)
 rows_performs span old new (Ok rows) same is = (ap reply.Rows is, ap (λ (d : Database). contents_of_rows (d.trees 0)) same)
@@ -213,9 +208,9 @@ rows_performs span old new (Err s) same is = stopped_performs (Scan span) s (con
 scan_is : {S : Type 0} (g : Ghosts S) (span : Span) (old new : Connected S) (result : Result (List Record) Stopped) → IsSure g new → span_is_encodable span → SpanIsEncodable span → HasTable (state g old) → IsScanned g span old new result
     → IsAnswered (Scan span) (rows_reply result) (state g old) (state g new)
 scan_is g span old new result sure known fits it got =
-    let shown = got.asked.shown sure.1 in
-    let keeps = query_keeps (span_text span.partition) (plain span.partition) (span_params span.table span.partition) (state g old) (state g new) it got.asked.limit got.answer sure.0 shown in
-    record { kept = keeps.0; performed = rows_performs span (state g old) (state g new) result keeps.1 (by_answer got.answer shown got.listed) }
+    let observed = got.asked.observed sure.1 in
+    let keeps = query_keeps (span_text span.partition) (plain span.partition) (span_params span.table span.partition) (state g old) (state g new) it got.asked.limit got.answer sure.0 observed in
+    record { kept = keeps.0; performed = rows_performs span (state g old) (state g new) result keeps.1 (by_answer got.answer observed got.listed) }
   where
     plain : (o : Option (List Cell)) → IsPlain (understood records_schema (span_text o))
     plain None = table_plain

@@ -2,7 +2,7 @@
 use Rattle.std.proofs.Common.{◌≡◌, Bool, List, ap}
 use Rattle.std.specs.Cmp.{IsStrictWeakOrder}
 use Rattle.std.specs.Fn.{Called, ComparesAs}
-use Rattle.std.specs.declared.cmp.Ordering.{Ordering}
+use Rattle.sdb_sqlite.specs.Types.{Ordering, Record}
 use Rattle.std.specs.Ordering.{is_lt}
 use Rattle.std.specs.List.Sorted.{IsSortedBy, IsSortedByKey}
 use Rattle.std.proofs.lemmas.List.Sorted.{ranks_by}
@@ -11,7 +11,6 @@ use denote.Ref.{Bor}
 use denote.Param.Members.{Mut}
 use Rattle.sdb_types.proofs.KeyOrder.{key_total}
 use Rattle.sdb_types.specs.Order.{key_cmp}
-use Rattle.sdb_types.specs.declared.record.Record.{Record}
 
 pub by_keys : {F : Type 0} {g : Mut F (Bor Record × (Bor Record × Unit {0})) Ordering} {f : F} (rs : List Record)
     → ((lt : Record → Record → Bool) → IsStrictWeakOrder lt → ComparesAs g lt f → IsSortedBy lt rs)

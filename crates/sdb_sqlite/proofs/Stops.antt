@@ -2,8 +2,7 @@
 use Rattle.std.proofs.Common.{◌≡◌, Ok, ℕ, Bool, refl, sym, subst, ◌∙◌, ap}
 use Rattle.sqlite.specs.Store.{Ghosts}
 use Rattle.sqlite.specs.Held.{Held as Connected}
-use Rattle.sdb_types.specs.declared.record.Request.{Request}
-use Rattle.sdb_types.specs.declared.record.Reply.{Reply}
+use Rattle.sdb_sqlite.specs.Types.{Reply, Request}
 use Rattle.sdb_types.specs.Draws.{counted as next_number}
 use Rattle.sdb_types.specs.Contents.{CanAnswer}
 use Rattle.sdb_store.specs.Store.{IsStoreCall, faults_after}
@@ -16,10 +15,10 @@ use Rattle.sdb_sqlite.specs.Database.{PerformsIn, store_state_of}
 use Rattle.sdb_sqlite.proofs.Lawful.{stopped_lawful}
 
 -- a call that is answered, as a call of a store
-pub answered_call : {S : Type 0} (g : Ghosts S) (tells : Bool) (q : Request) (old new : Connected S) (r due : Reply) (faults now calls later : ℕ) → r ≡ due → CanAnswer q due → now ≡ faults_after due faults → later ≡ next_number calls → PerformsIn g tells q due old new
-    → IsStoreCall q r (store_state_of g tells old faults calls) (store_state_of g tells new now later)
-answered_call g tells q old new r due faults now calls later is lawful cause counted performs =
-    subst (λ (x : Reply). IsStoreCall q x (store_state_of g tells old faults calls) (store_state_of g tells new now later)) (sym is)
+pub answered_call : {S : Type 0} (g : Ghosts S) (is_known : Bool) (q : Request) (old new : Connected S) (r due : Reply) (faults now calls later : ℕ) → r ≡ due → CanAnswer q due → now ≡ faults_after due faults → later ≡ next_number calls → PerformsIn g is_known q due old new
+    → IsStoreCall q r (store_state_of g is_known old faults calls) (store_state_of g is_known new now later)
+answered_call g is_known q old new r due faults now calls later is lawful cause counted performs =
+    subst (λ (x : Reply). IsStoreCall q x (store_state_of g is_known old faults calls) (store_state_of g is_known new now later)) (sym is)
     (record {
       where_known = λ h. (h.0, (performs h).kept);
       performed = λ h. (performs h).performed;
@@ -34,7 +33,7 @@ written_cause Applied n = refl
 written_cause (NotMet found) n = refl
 
 -- a call that stops is answered as such, and its fault is counted
-pub stopped_call : {S : Type 0} (g : Ghosts S) (tells : Bool) (q : Request) (old new : Connected S) (s : Stopped) (r : Reply) (before now calls later : ℕ) → r ≡ stop_reply s → now ≡ faults_after r before → later ≡ next_number calls
-    → PerformsIn g tells q (stop_reply s) old new → IsStoreCall q r (store_state_of g tells old before calls) (store_state_of g tells new now later)
-stopped_call g tells q old new s r before now calls later is count counted performs =
-    answered_call g tells q old new r (stop_reply s) before now calls later is (stopped_lawful q s) (count ∙ ap (λ (x : Reply). faults_after x before) is) counted performs
+pub stopped_call : {S : Type 0} (g : Ghosts S) (is_known : Bool) (q : Request) (old new : Connected S) (s : Stopped) (r : Reply) (before now calls later : ℕ) → r ≡ stop_reply s → now ≡ faults_after r before → later ≡ next_number calls
+    → PerformsIn g is_known q (stop_reply s) old new → IsStoreCall q r (store_state_of g is_known old before calls) (store_state_of g is_known new now later)
+stopped_call g is_known q old new s r before now calls later is count counted performs =
+    answered_call g is_known q old new r (stop_reply s) before now calls later is (stopped_lawful q s) (count ∙ ap (λ (x : Reply). faults_after x before) is) counted performs

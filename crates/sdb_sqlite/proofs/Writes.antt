@@ -4,9 +4,8 @@ use Rattle.std.specs.Prelude.{IsTrue, not, ◌&&◌}
 use Rattle.std.specs.List.{AllByRecursion}
 use Rattle.std.specs.FinMap.{insert, remove}
 use Rattle.std.proofs.lemmas.Bool.{cases_Bool}
-use Rattle.sqlite.specs.declared.types.Value.{Value}
+use Rattle.sdb_sqlite.specs.Types.{Error, Key, Record, Value}
 use Rattle.sqlite.specs.declared.types.Value.TheVariants.{Null, Int, Text, Blob}
-use Rattle.sqlite.specs.declared.error.Error.{Error}
 use Rattle.sqlite.specs.Order.{Row}
 use Rattle.sqlite.specs.Ops.{unary}
 use Rattle.sqlite.specs.Term.{Term}
@@ -26,8 +25,6 @@ use Rattle.sqlite.specs.Effect.{Database}
 use Rattle.sqlite.specs.State.{State, mode_of, Executes, ExecutesIn, IsNotRun, IsUnchanged, IsRolledBack, shows_rows}
 use Rattle.sqlite.proofs.Callers.{statement_of, runs_as, one_step}
 use Rattle.sqlite_trees.proofs.TreeLemmas.{all-put_row, IsTable-put_row}
-use Rattle.sdb_types.specs.declared.key.Key.{Key}
-use Rattle.sdb_types.specs.declared.record.Record.{Record}
 use Rattle.sdb_types.specs.Order.{table_text}
 use Rattle.sdb_types.specs.Fits.{key_fits, record_fits}
 use Rattle.sdb_codec.specs.Spelling.{key_bytes, record_bytes, KeyIsEncodable, RecordIsEncodable}
@@ -134,8 +131,8 @@ adds old new r count it h =
       record {
         schema = ap (λ (d : Database). d.schema) now;
         rows = ap (λ (d : Database). d.trees 0) now ∙ ap (λ (t : Trees). t 0) trees ∙ step.rows ∙ rows;
-        settled = rw (it.autocommit) at w.shown.committed_is;
-        mode = w.shown.mode ∙ it.autocommit;
+        settled = rw (it.autocommit) at w.observed.committed_is;
+        mode = w.observed.mode ∙ it.autocommit;
       },
       not_true _ fresh,
     )
@@ -157,12 +154,12 @@ insert_told old new r count it known fits limit none h =
 
 ---- the one row that a query by key shows
 
-one_shown : (db : Trees) (shown : List Term) (q : Key) (others : Row) (y : Row) (rows : List Row) → key_fits q → KeyIsEncodable q → AllByRecursion IsRowOfStore (db 0) → rows_at q (db 0) ≡ y ∷ []
-    → IsProgramAnswer [] (selected by_k shown) db (Blob (key_bytes q) ∷ others) rows → rows ≡ shown_by by_k shown (Blob (key_bytes q) ∷ others) y ∷ []
-one_shown db shown q others y rows known fits tied one h =
+one_shown : (db : Trees) (observed : List Term) (q : Key) (others : Row) (y : Row) (rows : List Row) → key_fits q → KeyIsEncodable q → AllByRecursion IsRowOfStore (db 0) → rows_at q (db 0) ≡ y ∷ []
+    → IsProgramAnswer [] (selected by_k observed) db (Blob (key_bytes q) ∷ others) rows → rows ≡ shown_by by_k observed (Blob (key_bytes q) ∷ others) y ∷ []
+one_shown db observed q others y rows known fits tied one h =
     let params = Blob (key_bytes q) ∷ others in
     let passing : filter (passes by_k params) (db 0) ≡ y ∷ [] = keys_passed q others known fits (db 0) tied ∙ one in
-    few_permutation (shown_by by_k shown params y ∷ []) rows (omega arith) (subst (λ (xs : List Row). IsPermutation (map (shown_by by_k shown params) xs) rows) passing (answered db by_k shown params rows h))
+    few_permutation (shown_by by_k observed params y ∷ []) rows (omega arith) (subst (λ (xs : List Row). IsPermutation (map (shown_by by_k observed params) xs) rows) passing (answered db by_k observed params rows h))
 
 ---- the UPDATE
 
@@ -187,8 +184,8 @@ updates old new q id t p b c count it known fits one h =
     record {
       schema = ap (λ (d : Database). d.schema) now;
       rows = ap (λ (d : Database). d.trees 0) now ∙ ap (λ (s : Trees). s 0) trees ∙ step.rows ∙ made;
-      settled = rw (it.autocommit) at w.shown.committed_is;
-      mode = w.shown.mode ∙ it.autocommit;
+      settled = rw (it.autocommit) at w.observed.committed_is;
+      mode = w.observed.mode ∙ it.autocommit;
     }
 
 -- the row of a key is one that the store writes
@@ -245,8 +242,8 @@ deletes old new q id t p b count it known fits one h =
     record {
       schema = ap (λ (d : Database). d.schema) now;
       rows = ap (λ (d : Database). d.trees 0) now ∙ ap (λ (s : Trees). s 0) trees ∙ step.rows ∙ made;
-      settled = rw (it.autocommit) at w.shown.committed_is;
-      mode = w.shown.mode ∙ it.autocommit;
+      settled = rw (it.autocommit) at w.observed.committed_is;
+      mode = w.observed.mode ∙ it.autocommit;
     }
 
 -- A DELETE of a key's row leaves the map without the key.

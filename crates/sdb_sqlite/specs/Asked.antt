@@ -1,21 +1,14 @@
 -- What the statements of each call are asked, and what comes of their answers.
 use Rattle.std.specs.Prelude.{◌≡◌, ◌⊎◌, ℕ, true, false, if◌then◌else◌, List, [], ◌∷◌, Option, Some, None, Result, Ok, Err, Vec, MatchResult}
 use Rattle.std.specs.List.Sorted.{IsPermutation}
-use Rattle.std.specs.declared.alloc.Global.{Global}
+use Rattle.sdb_sqlite.specs.Types.{Condition, Error, Global, Key, Record, Reply, Span, TableName}
 use Rattle.sqlite.specs.declared.types.Value.TheVariants.{Text, Blob}
-use Rattle.sqlite.specs.declared.error.Error.{Error}
 use Rattle.sqlite.specs.declared.rows.Row as row
 use Rattle.sqlite.specs.Order.{Row, column}
 use Rattle.sqlite.specs.Store.{Ghosts}
 use Rattle.sqlite.specs.Held.{Held as Connected, state}
 use Rattle.sqlite.specs.State.{HasCleanDisk, Shown, FailsToQuery, Executes}
-use Rattle.sdb_types.specs.declared.key.Key.{Key}
-use Rattle.sdb_types.specs.declared.key.TableName.{TableName}
 use Rattle.sdb_types.specs.declared.value.Value.{Value as Cell}
-use Rattle.sdb_types.specs.declared.record.Record.{Record}
-use Rattle.sdb_types.specs.declared.record.Span.{Span}
-use Rattle.sdb_types.specs.declared.record.Condition.{Condition}
-use Rattle.sdb_types.specs.declared.record.Reply.{Reply}
 use Rattle.sdb_types.specs.declared.record.Reply.TheVariants as reply
 use Rattle.sdb_types.specs.Order.{table_text}
 use Rattle.sdb_types.specs.Contents.{holds, in_span, rise}
@@ -33,7 +26,7 @@ use Rattle.sdb_sqlite.specs.Statements.{get_body, scan_table, scan_partition, ad
 -- The query was asked with these parameters and answered so, where the disk returned what was written; nothing else was asked
 -- between.
 pub record Asked {S : Type 0} (g : Ghosts S) (text : List ℕ) (params : Row) (old new : Connected S) (answer : Result (List Row) Error) : Type 0 where
-  pub shown : HasCleanDisk (state g new) → MatchResult answer (Shown text params (state g old) (state g new)) (FailsToQuery text params (state g old) (state g new))
+  pub observed : HasCleanDisk (state g new) → MatchResult answer (Shown text params (state g old) (state g new)) (FailsToQuery text params (state g old) (state g new))
   pub limit : new.step_limit ≡ old.step_limit
 
 -- the same of a statement that writes

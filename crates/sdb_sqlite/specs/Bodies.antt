@@ -1,7 +1,6 @@
 -- What a row of the table means.
 use Rattle.std.specs.Prelude.{◌≡◌, ◌≢◌, ◌⊎◌, [], List, ℕ}
-use Rattle.sdb_types.specs.declared.key.Key.{Key}
-use Rattle.sdb_types.specs.declared.record.Record.{Record}
+use Rattle.sdb_sqlite.specs.Types.{Key, Record}
 use Rattle.sdb_types.specs.Fits.{record_fits}
 use Rattle.sdb_codec.specs.Spelling.{record_bytes, RecordIsEncodable}
 

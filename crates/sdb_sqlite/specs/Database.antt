@@ -7,9 +7,7 @@ use Rattle.sqlite.specs.Store.{Ghosts}
 use Rattle.sqlite.specs.Held.{Held as Connected, state}
 use Rattle.sqlite.specs.Schema.{Schema}
 use Rattle.sqlite.specs.Tree.{IsTable}
-use Rattle.sdb_types.specs.declared.key.Key.{Key}
-use Rattle.sdb_types.specs.declared.record.Request.{Request}
-use Rattle.sdb_types.specs.declared.record.Reply.{Reply}
+use Rattle.sdb_sqlite.specs.Types.{Key, Reply, Request}
 use Rattle.sdb_types.specs.Contents.{Contents}
 use Rattle.sdb_store.specs.Store.{StoreState, Performs}
 use Rattle.sdb_sqlite.specs.Table.{no_schema, table_schema, records_schema}
@@ -51,26 +49,26 @@ pub record IsAnswered (q : Request) (reply : Reply) (old new : State) : Type 0 w
 
 -- The database is kept where contents are known, and has the form of the store.
 abbrev pub IsKnownIn : {S : Type 0} → Ghosts S → Bool → Connected S → Type 0
-IsKnownIn g tells connection = IsTrue tells × HasTable (state g connection)
+IsKnownIn g is_known connection = IsTrue is_known × HasTable (state g connection)
 
 -- It does, and holds this.
-pub record IsKnownAs {S : Type 0} (g : Ghosts S) (tells : Bool) (contents : Contents) (connection : Connected S) : Type 0 where
-  pub told : IsKnownIn g tells connection
+pub record IsKnownAs {S : Type 0} (g : Ghosts S) (is_known : Bool) (contents : Contents) (connection : Connected S) : Type 0 where
+  pub answered : IsKnownIn g is_known connection
   pub holds : contents_of_state (state g connection) ≡ contents
 
 -- Over a new database that is kept where contents are known, the store holds nothing.
 abbrev pub IsNewDatabase : {S : Type 0} → Ghosts S → Bool → Connected S → Connected S → Type 0
-IsNewDatabase g tells old new = IsTrue tells → IsBlank (state g old) → IsKnownAs g tells map.empty new
+IsNewDatabase g is_known old new = IsTrue is_known → IsBlank (state g old) → IsKnownAs g is_known map.empty new
 
 -- Over one that has the table, with the index or without, it holds what is there.
 abbrev pub IsStoreOn : {S : Type 0} → Ghosts S → Bool → Connected S → Connected S → Type 0
-IsStoreOn g tells old new = IsTrue tells → IsFormed (state g old) → IsKnownAs g tells (contents_of_state (state g old)) new
+IsStoreOn g is_known old new = IsTrue is_known → IsFormed (state g old) → IsKnownAs g is_known (contents_of_state (state g old)) new
 
 -- The call leaves a database that is kept where contents are known and has the form of the store, where it was one, and is then
 -- answered as a map answers it.
 abbrev pub PerformsIn : {S : Type 0} → Ghosts S → Bool → Request → Reply → Connected S → Connected S → Type 0
-PerformsIn g tells q reply old new = IsKnownIn g tells old → IsAnswered q reply (state g old) (state g new)
+PerformsIn g is_known q reply old new = IsKnownIn g is_known old → IsAnswered q reply (state g old) (state g new)
 
 -- The store over a database as any store: its contents are known where those of the database are.
 abbrev pub store_state_of : {S : Type 0} → Ghosts S → Bool → Connected S → ℕ → ℕ → StoreState
-store_state_of g tells connection faults calls = record { known = IsKnownIn g tells connection; contents = contents_of_state (state g connection); faults = faults; calls = calls }
+store_state_of g is_known connection faults calls = record { known = IsKnownIn g is_known connection; contents = contents_of_state (state g connection); faults = faults; calls = calls }

@@ -1,3 +1,4 @@
+pub mod Types
 pub mod Spans
 pub mod Stopping
 pub mod Bodies

@@ -4,8 +4,7 @@ use Rattle.std.specs.List.{AllByRecursion}
 use Rattle.sqlite.specs.Order.{Row}
 use Rattle.sqlite.specs.Store.{Ghosts}
 use Rattle.sqlite.specs.Held.{Held as Connected, state}
-use Rattle.sdb_types.specs.declared.key.Key.{Key}
-use Rattle.sdb_types.specs.declared.record.Record.{Record}
+use Rattle.sdb_sqlite.specs.Types.{Key, Record}
 use Rattle.sdb_types.specs.Order.{table_text}
 use Rattle.sdb_types.specs.Contents.{Contents, record_at}
 use Rattle.sdb_codec.specs.Spelling.{key_bytes}

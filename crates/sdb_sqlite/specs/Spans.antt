@@ -1,9 +1,7 @@
 -- The keys of spans and of partitions.
 use Rattle.std.specs.Prelude.{◌≡◌, [], All, IfSome, List, Option, Some, None, true}
-use Rattle.sdb_types.specs.declared.key.Key.{Key}
-use Rattle.sdb_types.specs.declared.key.TableName.{TableName}
+use Rattle.sdb_sqlite.specs.Types.{Key, Span, TableName}
 use Rattle.sdb_types.specs.declared.value.Value.{Value}
-use Rattle.sdb_types.specs.declared.record.Span.{Span}
 use Rattle.sdb_types.specs.Identifier.{is_name}
 use Rattle.sdb_types.specs.Fits.{value_fits}
 use Rattle.sdb_codec.specs.Spelling.{KeyIsEncodable}

@@ -31,7 +31,7 @@ fn bare(alloc: Global, key: Key) -> Record
 /// The record that a row of that key with that body means: the one that the body spells where it is of that key, and
 /// else one without columns.
 pub fn record_at(alloc: Global, key: Key, body: &[u8]) -> Result<Record, NoMemory>
-    ensures stands { IfOk result (IsRecordOf body.now key) }
+    ensures agrees { IfOk result (IsRecordOf body.now key) }
     ensures is { IfOk result (λ r. r ≡ record_of_body key body.now) }
 {
     match read_record(alloc, body) {

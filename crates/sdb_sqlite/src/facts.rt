@@ -1,8 +1,7 @@
 //! What the types keep of every span.
 ghost use Rattle.sdb_sqlite.specs.Spans.{span_is_encodable};
 
-use sdb_facts::{table_facts, values_facts};
-use sdb_types::Span;
+use sdb_types::{Span, table_facts, values_facts};
 
 /// What is known of a span.
 pub fn span_facts(span: &Span)

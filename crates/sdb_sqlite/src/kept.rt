@@ -16,9 +16,8 @@ use crate::facts::span_facts;
 use crate::held::Held;
 use crate::refused::{KeptRefused, one_more, stop};
 use crate::statements::make_table;
-use sdb_facts::{key_facts, record_facts};
 use sdb_store::Store;
-use sdb_types::{Condition, Key, Record, Reply, Span};
+use sdb_types::{Condition, Key, Record, Reply, Span, key_facts, record_facts};
 use sqlite::{Connection, Error, ErrorCode, MemStore};
 use std::alloc::Global;
 
@@ -63,8 +62,8 @@ impl<S: Held + Drop> Kept<S> {
         ensures sound { IfOk result (λ kept. (⟦<Kept<S> as Store>⟧.state kept).faults ≡ 0) }
         ensures unused { IfOk result (λ kept. (⟦<Kept<S> as Store>⟧.state kept).calls ≡ 0) }
         ensures refused { IfErr result (IsNotMade S.Store connection) }
-        ensures blank { IfOk result (λ kept. IsNewDatabase S.Store S.Held.tells connection kept.connection) }
-        ensures found { IfOk result (λ kept. IsStoreOn S.Store S.Held.tells connection kept.connection) }
+        ensures blank { IfOk result (λ kept. IsNewDatabase S.Store S.Held.is_known connection kept.connection) }
+        ensures found { IfOk result (λ kept. IsStoreOn S.Store S.Held.is_known connection kept.connection) }
     {
         match make_table(&mut connection) {
             Ok(_) => Ok(Kept {
@@ -117,7 +116,7 @@ fn reply_of(written: Written) -> Reply
 
 impl<S: Held + Drop> Store for Kept<S> {
     // In memory its contents are known, where the database has its table and index and nothing else.
-    ghost state = { λ kept. store_state_of S.Store S.Held.tells kept.connection kept.faults kept.calls };
+    ghost state = { λ kept. store_state_of S.Store S.Held.is_known kept.connection kept.faults kept.calls };
 
     fn get(&mut self, key: &Key) -> Reply
         ensures called { IsStoreCall (Get key.now) result (⟦<Kept<S> as Store>⟧.state self.old) (⟦<Kept<S> as Store>⟧.state self.new) }

@@ -2,15 +2,13 @@
 use Rattle.std.proofs.Common.{◌≡◌, ℕ, Bool, true, false, cond, ◌&&◌, ◌==◌, List, [], ◌∷◌, ◌++◌, length, Option, Some, None, Result, Ok, Err, refl, sym, subst, ◌∙◌, inl, inr}
 use Rattle.std.specs.Prelude.{IfOk}
 use Rattle.std.specs.List.{AllByRecursion}
-use Rattle.sdb_types.specs.declared.memory.NoMemory.{NoMemory}
-use Rattle.sdb_model.specs.declared.statement.Statement.{Statement}
+use Rattle.sdb_sqltext.specs.Types.{NoMemory, Statement, Token}
 use Rattle.sdb_model.specs.declared.token.Sign.TheVariants as sign
-use Rattle.sdb_model.specs.declared.token.Token.{Token}
 use Rattle.sdb_model.specs.declared.token.Token.TheVariants.{Overlong, Sign as Mark}
 use Rattle.sdb_model.specs.Sql.{Tokens, statement_tokens, statement_text_of, tokens_of, Spells, IsWhole, CanSpell, Reads}
-use Rattle.sdb_sqltokens.specs.Spelled.{IsSpelled}
-use Rattle.sdb_sqltokens.proofs.AllPrinted.{statement_read}
-use Rattle.sdb_sqltokens.proofs.Spelled.{lexed_spelled}
+use Rattle.sdb_sqltext.specs.Spelled.{IsSpelled}
+use Rattle.sdb_sqltext.proofs.AllPrinted.{statement_read}
+use Rattle.sdb_sqltext.proofs.Spelled.{lexed_spelled}
 use Rattle.sdb_sqltext.specs.Heads.{Head}
 use Rattle.sdb_sqltext.specs.Heads as head
 use Rattle.sdb_sqltext.specs.States.{State}

@@ -1,8 +1,7 @@
 -- The clauses of the reader.
 use Rattle.std.proofs.Common.{◌≡◌, ℕ, List, Option, Some, None, Result, Ok, Err, refl}
 use Rattle.std.specs.Prelude.{IfOk, IfErr, IfSome}
-use Rattle.sdb_model.specs.declared.answer.Refusal.{Refusal}
-use Rattle.sdb_model.specs.declared.statement.Statement.{Statement}
+use Rattle.sdb_sqltext.specs.Types.{Refusal, Statement}
 use Rattle.sdb_model.specs.SqlTokens.{lexed}
 use Rattle.sdb_model.specs.Sql.{Reads, Refuses}
 use Rattle.sdb_sqltext.specs.declared.fault.ParseRefused.{ParseRefused}

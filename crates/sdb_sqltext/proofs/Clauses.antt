@@ -2,13 +2,8 @@
 -- one such answer.
 use Rattle.std.proofs.Common.{◌≡◌, ℕ, Bool, List, [], ◌∷◌, ◌++◌, length, Option, Some, None, Result, Ok, Err, refl, sym, ap, subst, ◌∙◌, inl, inr}
 use Rattle.std.specs.List.{AllByRecursion}
-use Rattle.sdb_types.specs.declared.key.TableName.{TableName}
-use Rattle.sdb_types.specs.declared.value.Value.{Value}
-use Rattle.sdb_model.specs.declared.answer.Refusal.{Refusal}
-use Rattle.sdb_model.specs.declared.statement.Statement.{Statement}
-use Rattle.sdb_model.specs.declared.token.Placed.{Placed}
+use Rattle.sdb_sqltext.specs.Types.{Placed, Refusal, Statement, TableName, Token, Value}
 use Rattle.sdb_model.specs.declared.token.Sign.TheVariants as sign
-use Rattle.sdb_model.specs.declared.token.Token.{Token}
 use Rattle.sdb_model.specs.declared.token.Token.TheVariants.{Sign as Mark}
 use Rattle.sdb_model.specs.SqlTokens.{Fault, Bad, Wide, Lexed, lexed}
 use Rattle.sdb_model.specs.Sql.{Tokens, insert_word, insert_tokens, tokens_of, Spells, HasItems, IsLiteral, IsWhole, Reads, BeginsBy, Begins, NoneBegins, IsFirstWrong, Refuses}

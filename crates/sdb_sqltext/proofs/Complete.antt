@@ -4,19 +4,13 @@ use Rattle.std.specs.Prelude.{IfSome}
 use Rattle.std.specs.List.{flat_map, AllByRecursion}
 use Rattle.std.proofs.lemmas.Bool.{eq-eqb}
 use Rattle.std.proofs.lemmas.List.{append-nil}
-use Rattle.sdb_types.specs.declared.key.TableName.{TableName}
-use Rattle.sdb_types.specs.declared.pair.Pair.{Pair}
-use Rattle.sdb_types.specs.declared.value.Value.{Value}
+use Rattle.sdb_sqltext.specs.Types.{Comparison, Pair, Statement, TableName, Test, Token, Value}
 use Rattle.sdb_types.specs.declared.value.Value.TheVariants as value
-use Rattle.sdb_model.specs.declared.statement.Comparison.{Comparison}
 use Rattle.sdb_model.specs.declared.statement.Comparison.TheVariants.{Eq, Ne, Lt, Le, Gt, Ge}
-use Rattle.sdb_model.specs.declared.statement.Statement.{Statement}
 use Rattle.sdb_model.specs.declared.statement.Statement.TheVariants as statement
-use Rattle.sdb_model.specs.declared.statement.Test.{Test}
 use Rattle.sdb_model.specs.declared.statement.Test.TheVariants as test
 use Rattle.sdb_model.specs.declared.token.Keyword.TheVariants as word
 use Rattle.sdb_model.specs.declared.token.Sign.TheVariants as sign
-use Rattle.sdb_model.specs.declared.token.Token.{Token}
 use Rattle.sdb_model.specs.declared.token.Token.TheVariants.{Word, Name, Sign as Mark}
 use Rattle.sdb_sqltext.specs.States.{Draft}
 use Rattle.sdb_sqltext.specs.Heads.{Head}

@@ -1,18 +1,10 @@
 -- What the readers read of tokens is what the machine of one token a step reads.
 use Rattle.std.proofs.Common.{◌≡◌, ℕ, ℤ, ◌≤◌, Bool, true, false, cond, ◌==◌, List, [], ◌∷◌, ◌++◌, length, Option, Some, None, Result, Ok, Err, refl, sym, ap, subst, ◌∙◌, arith}
-use Rattle.sdb_types.specs.declared.key.TableName.{TableName}
-use Rattle.sdb_types.specs.declared.pair.Pair.{Pair}
-use Rattle.sdb_types.specs.declared.value.Value.{Value}
-use Rattle.sdb_model.specs.declared.statement.Comparison.{Comparison}
-use Rattle.sdb_model.specs.declared.statement.Insert.{Insert}
-use Rattle.sdb_model.specs.declared.statement.Statement.{Statement}
+use Rattle.sdb_sqltext.specs.Types.{Comparison, Insert, Pair, Placed, Statement, TableName, Test, Token, Value}
 use Rattle.sdb_model.specs.declared.statement.Statement.TheVariants as statement
-use Rattle.sdb_model.specs.declared.statement.Test.{Test}
 use Rattle.sdb_model.specs.declared.statement.Test.TheVariants as test
 use Rattle.sdb_model.specs.declared.token.Keyword.TheVariants as word
-use Rattle.sdb_model.specs.declared.token.Placed.{Placed}
 use Rattle.sdb_model.specs.declared.token.Sign.TheVariants as sign
-use Rattle.sdb_model.specs.declared.token.Token.{Token}
 use Rattle.sdb_model.specs.SqlTokens.{Lexed}
 use Rattle.sdb_sqltext.specs.Verbs.{Verb}
 use Rattle.sdb_sqltext.specs.Verbs as verb
@@ -167,7 +159,7 @@ tests_follow end h =
     record {
       shorter = test_shorter end;
       smaller = word_shorter word.And;
-      going = λ xs ps qs e. word_goes (state.TestEnd (filter h xs)) (state.NextTest (filter h xs)) word.And refl ps qs end e;
+      running = λ xs ps qs e. word_goes (state.TestEnd (filter h xs)) (state.NextTest (filter h xs)) word.And refl ps qs end e;
       one = λ xs ps. test_link end (filter h xs) ps;
       stopping = λ xs ps e. word_stops (state.TestEnd (filter h xs)) word.And (Some (state.NextTest (filter h xs))) (ending (filter h xs)) (λ t. refl) ps end e ∙ ending_link end h xs ps;
     }
@@ -217,7 +209,7 @@ sets_follow end t =
     record {
       shorter = set_shorter end;
       smaller = sign_shorter sign.Comma;
-      going = λ xs ps qs e. sign_goes (state.Target (head.Update t xs)) (state.NextSet t xs) sign.Comma refl ps qs end e;
+      running = λ xs ps qs e. sign_goes (state.Target (head.Update t xs)) (state.NextSet t xs) sign.Comma refl ps qs end e;
       one = λ xs ps. set_link end t xs ps;
       stopping = λ xs ps e. target_link end (head.Update t xs) ps e;
     }
@@ -229,7 +221,7 @@ names_follow end u t =
     record {
       shorter = λ ps x qs e. part_shorter name_of ps end x qs e;
       smaller = sign_shorter sign.Comma;
-      going = λ xs ps qs e. sign_goes (state.NameEnd (draft u t xs [])) (state.NextName (draft u t xs [])) sign.Comma refl ps qs end e;
+      running = λ xs ps qs e. sign_goes (state.NameEnd (draft u t xs [])) (state.NextName (draft u t xs [])) sign.Comma refl ps qs end e;
       one = λ xs ps. all_other (state.NextName (draft u t xs [])) ps end ∙ other_part name_of (λ x. state.NameEnd (with_name (draft u t xs []) x)) ps end;
       stopping = λ xs ps e. sign_stops (state.NameEnd (draft u t xs [])) sign.Comma (Some (state.NextName (draft u t xs []))) (on_sign sign.Close (state.Values (draft u t xs []))) (λ k. refl) ps end e ∙ other_sign sign.Close (state.Values (draft u t xs [])) ps end;
     }
@@ -239,7 +231,7 @@ columns_follow end =
     record {
       shorter = λ ps x qs e. part_shorter name_of ps end x qs e;
       smaller = sign_shorter sign.Comma;
-      going = λ xs ps qs e. sign_goes (state.ColumnEnd xs) (state.NextColumn xs) sign.Comma refl ps qs end e;
+      running = λ xs ps qs e. sign_goes (state.ColumnEnd xs) (state.NextColumn xs) sign.Comma refl ps qs end e;
       one = λ xs ps. all_other (state.NextColumn xs) ps end ∙ other_part name_of (λ x. state.ColumnEnd (xs ++ x ∷ [])) ps end;
       stopping = λ xs ps e. sign_stops (state.ColumnEnd xs) sign.Comma (Some (state.NextColumn xs)) (on_word word.From (state.Namespace (verb.Select (Some xs)))) (λ k. refl) ps end e ∙ other_word word.From (state.Namespace (verb.Select (Some xs))) ps end;
     }
@@ -260,7 +252,7 @@ literals_follow end u t cs =
     record {
       shorter = λ ps x qs e. part_shorter literal_of ps end x qs e;
       smaller = sign_shorter sign.Comma;
-      going = λ xs ps qs e. sign_goes (state.LiteralEnd (draft u t cs xs)) (state.NextLiteral (draft u t cs xs)) sign.Comma refl ps qs end e;
+      running = λ xs ps qs e. sign_goes (state.LiteralEnd (draft u t cs xs)) (state.NextLiteral (draft u t cs xs)) sign.Comma refl ps qs end e;
       one = λ xs ps. all_other (state.NextLiteral (draft u t cs xs)) ps end ∙ other_part literal_of (λ x. state.LiteralEnd (with_literal (draft u t cs xs) x)) ps end;
       stopping = λ xs ps e. sign_stops (state.LiteralEnd (draft u t cs xs)) sign.Comma (Some (state.NextLiteral (draft u t cs xs)))
           (λ k. cond (length cs == length xs) (on_sign sign.Close (state.Ended (inserted (draft u t cs xs))) k) None) (λ k. refl) ps end e

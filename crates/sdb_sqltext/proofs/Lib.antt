@@ -10,3 +10,10 @@ pub mod Turns
 pub mod Linked
 pub mod Follow
 pub mod OneWord
+pub mod Words
+pub mod Enclosed
+pub mod Lexing
+pub mod Printed
+pub mod AllPrinted
+pub mod Spelled
+pub mod Commit

@@ -1,11 +1,7 @@
 -- The readers of parts follow the machine of one token a step.
 use Rattle.std.proofs.Common.{◌≡◌, ℕ, zero, suc, ◌<◌, ◌≤◌, Bool, true, false, cond, List, [], ◌∷◌, ◌++◌, length, Option, Some, None, Result, Ok, Err, refl, sym, ap, ◌∙◌, inl, inr, arith}
-use Rattle.sdb_model.specs.declared.token.Keyword.{Keyword}
-use Rattle.sdb_model.specs.declared.token.Placed.{Placed}
-use Rattle.sdb_model.specs.declared.token.Sign.{Sign}
-use Rattle.sdb_model.specs.declared.token.Token.{Token}
+use Rattle.sdb_sqltext.specs.Types.{Keyword, Placed, Sign, Statement, Token}
 use Rattle.sdb_model.specs.declared.token.Token.TheVariants.{Word, Sign as Mark}
-use Rattle.sdb_model.specs.declared.statement.Statement.{Statement}
 use Rattle.sdb_sqltext.specs.States.{State}
 use Rattle.sdb_model.specs.Sql.{is_word, is_sign}
 use Rattle.sdb_sqltext.specs.Machine.{on_word, on_sign, step}
@@ -132,7 +128,7 @@ then_shorter (Err at) f most x qs h k e = absurd cc
 pub record Follows {A : Type 0} (item : List Placed → ℕ → Read A) (next : List Placed → Option (List Placed)) (end : ℕ) (loop again : List A → State) (rest : List A → List Placed → Result Statement ℕ) : Type 0 where
   pub shorter : (ps : List Placed) (x : A) (qs : List Placed) → item ps end ≡ Ok (x, qs) → length qs ≤ length ps
   pub smaller : (ps qs : List Placed) → next ps ≡ Some qs → length qs < length ps
-  pub going : (xs : List A) (ps qs : List Placed) → next ps ≡ Some qs → parse_from (loop xs) ps end ≡ parse_from (again xs) qs end
+  pub running : (xs : List A) (ps qs : List Placed) → next ps ≡ Some qs → parse_from (loop xs) ps end ≡ parse_from (again xs) qs end
   pub one : (xs : List A) (ps : List Placed) → parse_from (again xs) ps end ≡ and_then (item ps end) (λ r. parse_from (loop (xs ++ r.0 ∷ [])) r.1 end)
   pub stopping : (xs : List A) (ps : List Placed) → next ps ≡ None → parse_from (loop xs) ps end ≡ rest xs ps
 
@@ -147,7 +143,7 @@ items_follow item next end loop again rest f (suc n) xs ps h =
     let small = f.smaller ps qs e in
     let turns = then_same (item qs end) (λ r. parse_from (loop (xs ++ r.0 ∷ [])) r.1 end) (λ r. and_then (items_on item next end n (xs ++ r.0 ∷ []) r.1) (λ r. rest r.0 r.1))
     (λ r ok. let short = f.shorter qs r.0 r.1 ok in items_follow item next end loop again rest f n (xs ++ r.0 ∷ []) r.1 (omega arith)) in
-    f.going xs ps qs e ∙ f.one xs qs ∙ turns ∙ sym (then_twice (item qs end) (λ r. items_on item next end n (xs ++ r.0 ∷ []) r.1) (λ r. rest r.0 r.1))
+    f.running xs ps qs e ∙ f.one xs qs ∙ turns ∙ sym (then_twice (item qs end) (λ r. items_on item next end n (xs ++ r.0 ∷ []) r.1) (λ r. rest r.0 r.1))
     ∙ ap (λ (o : Option (List Placed)). and_then (choose o more (Ok (xs, ps))) (λ r. rest r.0 r.1)) (sym e))
     (λ e. f.stopping xs ps e ∙ ap (λ (o : Option (List Placed)). and_then (choose o more (Ok (xs, ps))) (λ r. rest r.0 r.1)) (sym e))
 

@@ -1,12 +1,10 @@
 -- Which texts are read as a statement of one word: those whose tokens are that keyword, or that keyword and `;`.
 use Rattle.std.proofs.Common.{◌≡◌, ℕ, true, List, [], ◌∷◌, ◌++◌, Ok, Err, refl, sym, ap, ◌∙◌, inl, inr}
 use Rattle.std.specs.Prelude.{◌↔◌}
-use Rattle.sdb_model.specs.declared.statement.Statement.{Statement}
+use Rattle.sdb_sqltext.specs.Types.{Keyword, Statement, Token}
 use Rattle.sdb_model.specs.declared.statement.Statement.TheVariants as statement
-use Rattle.sdb_model.specs.declared.token.Keyword.{Keyword}
 use Rattle.sdb_model.specs.declared.token.Keyword.TheVariants as word
 use Rattle.sdb_model.specs.declared.token.Sign.TheVariants as sign
-use Rattle.sdb_model.specs.declared.token.Token.{Token}
 use Rattle.sdb_model.specs.declared.token.Token.TheVariants.{Word, Sign as Mark}
 use Rattle.sdb_model.specs.SqlTokens.{Lexed, lexed}
 use Rattle.sdb_model.specs.Sql.{Tokens, IsWhole, Reads, Spells, is_word, is_sign, are_word, is_lexed_word, reads_word, statement_tokens, tokens_of}

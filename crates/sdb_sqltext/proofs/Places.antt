@@ -2,19 +2,15 @@
 use Rattle.std.proofs.Common.{◌≡◌, ℕ, Bool, List, [], ◌∷◌, ◌++◌, Option, Some, None, Result, Ok, Err, refl, sym, ap, subst, ◌∙◌, append_assoc, ◌⊎◌, inl, inr}
 use Rattle.std.specs.List.{AllByRecursion}
 use Rattle.std.proofs.lemmas.List.{append-nil}
-use Rattle.sdb_types.specs.declared.value.Value.{Value}
-use Rattle.sdb_types.specs.declared.key.TableName.{TableName}
-use Rattle.sdb_model.specs.declared.statement.Statement.{Statement}
-use Rattle.sdb_model.specs.declared.token.Placed.{Placed}
+use Rattle.sdb_sqltext.specs.Types.{Placed, Statement, TableName, Token, Value}
 use Rattle.sdb_model.specs.declared.token.Sign.TheVariants as sign
-use Rattle.sdb_model.specs.declared.token.Token.{Token}
 use Rattle.sdb_model.specs.declared.token.Token.TheVariants.{Sign as Mark}
 use Rattle.sdb_model.specs.Sql.{Tokens, insert_word, insert_tokens, statement_tokens, tokens_of, Spells, HasItems, IsLiteral, IsWhole, Begins, NoneBegins, IsFirstWrong}
 use Rattle.sdb_sqltext.specs.States.{State}
 use Rattle.sdb_sqltext.specs.States as state
 use Rattle.sdb_sqltext.specs.Machine.{untested, filtered, step}
 use Rattle.sdb_sqltext.specs.Parsing.{finish, or_at, then, parse_from}
-use Rattle.sdb_sqltext.proofs.Told.{so_far, Fine, told, filter_is, whole_filter}
+use Rattle.sdb_sqltext.proofs.Told.{so_far, Fine, answered, filter_is, whole_filter}
 use Rattle.sdb_sqltext.proofs.Complete.{run, run_append, spelled_reads, open_insert, open_insert_run, open_insert_is, draft}
 use Rattle.sdb_sqltext.proofs.Viable.{viable}
 use Rattle.sdb_types.proofs.Basics.{some_is, none_some, bind_some}
@@ -24,9 +20,9 @@ pub run_so : (ts : Tokens) (s n : State) → Fine s → run s ts ≡ Some n → 
 run_so [] s n valid h = subst (λ (m : State). (so_far m ≡ so_far s ++ []) × Fine m) (some_is s n h) (sym (append-nil (so_far s)), valid)
 run_so (t ∷ ts) s n valid h =
     let b = bind_some (step s t) (λ m. run m ts) n h in
-    let tells = told s t b.0 valid b.1 in
-    let more = run_so ts b.0 n tells.1 b.2 in
-    (more.0 ∙ ap (λ (x : Tokens). x ++ ts) tells.0 ∙ append_assoc (so_far s) (t ∷ []) ts, more.1)
+    let is_known = answered s t b.0 valid b.1 in
+    let more = run_so ts b.0 n is_known.1 b.2 in
+    (more.0 ∙ ap (λ (x : Tokens). x ++ ts) is_known.0 ∙ append_assoc (so_far s) (t ∷ []) ts, more.1)
 
 -- ---- what is read is spelled so
 
@@ -50,8 +46,8 @@ pub found_from : (ps : List Placed) (s : State) (end : ℕ) (st : Statement) →
 found_from [] s end st valid h = subst (λ (ts : Tokens). IsWhole st × Spells ts st) (sym (append-nil (so_far s))) (finish_spells s st valid (or_ok end (finish s) st h))
 found_from (p ∷ ps) s end st valid h =
     let b = then_ok p.at (step s p.token) (λ n. parse_from n ps end) st h in
-    let tells = told s p.token b.0 valid b.1 in
-    subst (λ (ts : Tokens). IsWhole st × Spells ts st) (ap (λ (ts : Tokens). ts ++ tokens_of ps) tells.0 ∙ append_assoc (so_far s) (p.token ∷ []) (tokens_of ps)) (found_from ps b.0 end st tells.1 b.2)
+    let is_known = answered s p.token b.0 valid b.1 in
+    subst (λ (ts : Tokens). IsWhole st × Spells ts st) (ap (λ (ts : Tokens). ts ++ tokens_of ps) is_known.0 ∙ append_assoc (so_far s) (p.token ∷ []) (tokens_of ps)) (found_from ps b.0 end st is_known.1 b.2)
 
 pub parse_run : (ps : List Placed) (s : State) (end : ℕ) (st : Statement) → (run s (tokens_of ps) >>= finish) ≡ Some st → parse_from s ps end ≡ Ok st
 parse_run [] s end st h = rw h refl
@@ -89,7 +85,7 @@ stops (p ∷ ps) s end at h =
 pub begins_at : (ts : Tokens) (n : State) → run state.Start ts ≡ Some n → Begins ts
 begins_at ts n h = let so = run_so ts state.Start n tt h in subst Begins so.0 (viable n so.1)
 
--- no more tokens help where a step was not taken
+-- no more tokens help where a step was not accepted
 stuck : (front : Tokens) (t : Token) (n : State) (more : Tokens) → run state.Start front ≡ Some n → step n t ≡ None → run state.Start ((front ++ t ∷ []) ++ more) ≡ None
 stuck front t n more h none =
     let first : run state.Start (front ++ (t ∷ more)) ≡ None = run_append front (t ∷ more) state.Start ∙ ap (λ (r : Option State). r >>= λ n. run n (t ∷ more)) h ∙ ap (λ (r : Option State). r >>= λ n. run n more) none in

@@ -4,22 +4,15 @@ use Rattle.std.specs.Prelude.{IfSome}
 use Rattle.std.specs.List.{AllByRecursion}
 use Rattle.std.proofs.lemmas.List.{append-nil, flat_map_more}
 use denote.Enum.Bare.{same_true}
-use Rattle.sdb_types.specs.declared.key.TableName.{TableName}
-use Rattle.sdb_types.specs.declared.pair.Pair.{Pair}
-use Rattle.sdb_types.specs.declared.value.Value.{Value}
+use Rattle.sdb_sqltext.specs.Types.{Comparison, Keyword, Pair, Sign, TableName, Test, Token, Value}
 use Rattle.sdb_types.specs.declared.value.Value.TheVariants as value
 use Rattle.sdb_model.specs.contracts.token.Keyword as keyword_type
 use Rattle.sdb_model.specs.contracts.token.Sign as sign_type
-use Rattle.sdb_model.specs.declared.statement.Comparison.{Comparison}
 use Rattle.sdb_model.specs.declared.statement.Comparison.TheVariants.{Eq, Ne, Lt, Le, Gt, Ge}
 use Rattle.sdb_model.specs.declared.statement.Statement.TheVariants as statement
-use Rattle.sdb_model.specs.declared.statement.Test.{Test}
 use Rattle.sdb_model.specs.declared.statement.Test.TheVariants as test
-use Rattle.sdb_model.specs.declared.token.Keyword.{Keyword}
 use Rattle.sdb_model.specs.declared.token.Keyword.TheVariants as word
-use Rattle.sdb_model.specs.declared.token.Sign.{Sign}
 use Rattle.sdb_model.specs.declared.token.Sign.TheVariants as sign
-use Rattle.sdb_model.specs.declared.token.Token.{Token}
 use Rattle.sdb_model.specs.declared.token.Token.TheVariants.{Word, Name, Overlong, Number, Text, Blob, Sign as Mark}
 use Rattle.sdb_model.specs.Sql.{is_word, is_sign, Tokens, separated, name_tokens, names_tokens, literal_token, literal_tokens, literals_tokens, comparison_sign, test_tokens, columns_tokens, set_tokens, insert_word, insert_tokens, statement_tokens, HasItems, IsLiteral, IsValue, IsTest, IsSet, IsFromZero, IsWhole}
 use Rattle.sdb_sqltext.specs.Verbs.{Verb}
@@ -200,31 +193,31 @@ none n h = absurd cc
 -- one test of a chain
 on_test : (b : Bool) (k : Token) (first : Option State) (s : State) (t : Token) (n : State) (others : Option State) → (b ≡ true → t ≡ k) → (b ≡ true → first ≡ Some n → Tells s k n) → (others ≡ Some n → Tells s t n)
     → cond b first others ≡ Some n → Tells s t n
-on_test b k first s t n others is told rest h =
+on_test b k first s t n others is answered rest h =
     elim (chosen b first others (Some n) h) as (λ _. Tells s t n) [
-      | inl p ↦ subst (λ (x : Token). Tells s x n) (sym (is p.0)) (told p.0 p.1)
+      | inl p ↦ subst (λ (x : Token). Tells s x n) (sym (is p.0)) (answered p.0 p.1)
       | inr p ↦ rest p.1
     ]
 
 one_state : (s : State) (k : Token) (next n : State) → Tells s k next → Some next ≡ Some n → Tells s k n
-one_state s k next n told e = subst (λ (m : State). Tells s k m) (some_is next n e) told
+one_state s k next n answered e = subst (λ (m : State). Tells s k m) (some_is next n e) answered
 
 if_word : (k : Keyword) (next : State) (s : State) (t : Token) (n : State) (others : Option State) → Tells s (Word k) next → (others ≡ Some n → Tells s t n) → cond (is_word k t) (Some next) others ≡ Some n → Tells s t n
-if_word k next s t n others told rest h = on_test (is_word k t) (Word k) (Some next) s t n others (word_is k t) (λ b. one_state s (Word k) next n told) rest h
+if_word k next s t n others answered rest h = on_test (is_word k t) (Word k) (Some next) s t n others (word_is k t) (λ b. one_state s (Word k) next n answered) rest h
 
 if_sign_then : (k : Sign) (first : Option State) (s : State) (t : Token) (n : State) (others : Option State) → (first ≡ Some n → Tells s (Mark k) n) → (others ≡ Some n → Tells s t n) → cond (is_sign k t) first others ≡ Some n → Tells s t n
-if_sign_then k first s t n others told rest h = on_test (is_sign k t) (Mark k) first s t n others (sign_is k t) (λ b. told) rest h
+if_sign_then k first s t n others answered rest h = on_test (is_sign k t) (Mark k) first s t n others (sign_is k t) (λ b. answered) rest h
 
 if_sign : (k : Sign) (next : State) (s : State) (t : Token) (n : State) (others : Option State) → Tells s (Mark k) next → (others ≡ Some n → Tells s t n) → cond (is_sign k t) (Some next) others ≡ Some n → Tells s t n
-if_sign k next s t n others told rest h = if_sign_then k (Some next) s t n others (one_state s (Mark k) next n told) rest h
+if_sign k next s t n others answered rest h = if_sign_then k (Some next) s t n others (one_state s (Mark k) next n answered) rest h
 
 -- a token with a part that is as asked
 if_part : {A : Type 0} (Asked : A → Type 0) (part : Token → Option A) (spell : A → Token) (back : (t : Token) (x : A) → part t ≡ Some x → (t ≡ spell x) × Asked x) (f : A → State) (s : State) (t : Token) (n : State)
     → ((x : A) → Asked x → Tells s (spell x) (f x)) → (part t >>= λ x. Some (f x)) ≡ Some n → Tells s t n
-if_part Asked part spell back f s t n told h =
+if_part Asked part spell back f s t n answered h =
     let b = bind_some (part t) (λ x. Some (f x)) n h in
     let is = back t b.0 b.1 in
-    subst (λ (k : Token). Tells s k n) (sym is.0) (subst (λ (m : State). Tells s (spell b.0) m) (some_is (f b.0) n b.2) (told b.0 is.1))
+    subst (λ (k : Token). Tells s k n) (sym is.0) (subst (λ (m : State). Tells s (spell b.0) m) (some_is (f b.0) n b.2) (answered b.0 is.1))
 
 abbrev IsAny : {A : Type 0} → A → Type 0
 IsAny x = Unit {0}
@@ -444,8 +437,8 @@ told_table (verb.Select cs) ns x valid = (refl, valid)
 told_test : (f : Filter) (t : Test) (here : State) (last : Token) → before_test f ++ test_tokens t ≡ so_far here ++ one last → FilterFine f → IsTest t → Tells here last (state.TestEnd (with_test f t))
 told_test f t here last shape valid is = (test_more (head_so f.head) f.tests t ∙ shape, (items_more f.tests t, (valid.0, all_more IsTest f.tests t valid.1 is)))
 
-pub told : (s : State) (t : Token) (n : State) → Fine s → step s t ≡ Some n → Tells s t n
-told state.Start t n valid h =
+pub answered : (s : State) (t : Token) (n : State) → Fine s → step s t ≡ Some n → Tells s t n
+answered state.Start t n valid h =
     if_word word.Begin (state.Ended statement.Begin) state.Start t n _ (refl, tt)
     (if_word word.Commit (state.Ended statement.Commit) state.Start t n _ (refl, tt)
     (if_word word.Rollback (state.Ended statement.Rollback) state.Start t n _ (refl, tt)
@@ -455,65 +448,65 @@ told state.Start t n valid h =
     (if_word word.Update (state.Namespace verb.Update) state.Start t n _ (refl, tt)
     (if_word word.Delete state.DeleteFrom state.Start t n _ (refl, tt)
     (if_word word.Select state.FirstColumn state.Start t n _ (refl, tt) (none n))))))))) h
-told (state.Into u) t n valid h = if_word word.Into (state.Namespace (verb.Insert u)) (state.Into u) t n _ (refl, tt) (none n) h
-told state.DeleteFrom t n valid h = if_word word.From (state.Namespace verb.Delete) state.DeleteFrom t n _ (refl, tt) (none n) h
-told state.FirstColumn t n valid h =
+answered (state.Into u) t n valid h = if_word word.Into (state.Namespace (verb.Insert u)) (state.Into u) t n _ (refl, tt) (none n) h
+answered state.DeleteFrom t n valid h = if_word word.From (state.Namespace verb.Delete) state.DeleteFrom t n _ (refl, tt) (none n) h
+answered state.FirstColumn t n valid h =
     if_sign sign.Star state.StarEnd state.FirstColumn t n _ (refl, tt)
     (if_part IsAny name_of Name name_back (λ x. state.ColumnEnd (x ∷ [])) state.FirstColumn t n (λ x _. (refl, tt))) h
-told (state.NextColumn cs) t n valid h =
+answered (state.NextColumn cs) t n valid h =
     if_part IsAny name_of Name name_back (λ x. state.ColumnEnd (cs ++ x ∷ [])) (state.NextColumn cs) t n (λ x _. (one_item_more (one (Word word.Select)) (Mark sign.Comma) name_tokens cs x, items_more cs x)) h
-told (state.ColumnEnd cs) t n valid h =
+answered (state.ColumnEnd cs) t n valid h =
     if_sign sign.Comma (state.NextColumn cs) (state.ColumnEnd cs) t n _ (some_items (one (Word word.Select)) (Mark sign.Comma) name_tokens cs valid, valid)
     (if_word word.From (state.Namespace (verb.Select (Some cs))) (state.ColumnEnd cs) t n _ (refl, valid) (none n)) h
-told state.StarEnd t n valid h = if_word word.From (state.Namespace (verb.Select None)) state.StarEnd t n _ (refl, tt) (none n) h
-told (state.Namespace v) t n valid h = if_part IsAny name_of Name name_back (state.Dot v) (state.Namespace v) t n (λ x _. (refl, valid)) h
-told (state.Dot v ns) t n valid h = if_sign sign.Dot (state.Table v ns) (state.Dot v ns) t n _ (refl, valid) (none n) h
-told (state.Table v ns) t n valid h = if_part IsAny name_of Name name_back (begun v ns) (state.Table v ns) t n (λ x _. told_table v ns x valid) h
-told (state.OpenNames d) t n valid h =
+answered state.StarEnd t n valid h = if_word word.From (state.Namespace (verb.Select None)) state.StarEnd t n _ (refl, tt) (none n) h
+answered (state.Namespace v) t n valid h = if_part IsAny name_of Name name_back (state.Dot v) (state.Namespace v) t n (λ x _. (refl, valid)) h
+answered (state.Dot v ns) t n valid h = if_sign sign.Dot (state.Table v ns) (state.Dot v ns) t n _ (refl, valid) (none n) h
+answered (state.Table v ns) t n valid h = if_part IsAny name_of Name name_back (begun v ns) (state.Table v ns) t n (λ x _. told_table v ns x valid) h
+answered (state.OpenNames d) t n valid h =
     if_sign sign.Open (state.NextName d) (state.OpenNames d) t n _ (no_items (opened d) (Mark sign.Comma) name_tokens d.columns valid.0, valid.1) (none n) h
-told (state.NextName d) t n valid h =
+answered (state.NextName d) t n valid h =
     if_part IsAny name_of Name name_back (λ x. state.NameEnd (with_name d x)) (state.NextName d) t n (λ x _. (one_item_more (opened d) (Mark sign.Comma) name_tokens d.columns x, (items_more d.columns x, valid))) h
-told (state.NameEnd d) t n valid h =
+answered (state.NameEnd d) t n valid h =
     if_sign sign.Comma (state.NextName d) (state.NameEnd d) t n _ (some_items (opened d) (Mark sign.Comma) name_tokens d.columns valid.0, valid.1)
     (if_sign sign.Close (state.Values d) (state.NameEnd d) t n _ (refl, valid) (none n)) h
-told (state.Values d) t n valid h = if_word word.Values (state.OpenLiterals d) (state.Values d) t n _ (refl, valid) (none n) h
-told (state.OpenLiterals d) t n valid h =
+answered (state.Values d) t n valid h = if_word word.Values (state.OpenLiterals d) (state.Values d) t n _ (refl, valid) (none n) h
+answered (state.OpenLiterals d) t n valid h =
     if_sign sign.Open (state.NextLiteral d) (state.OpenLiterals d) t n _ (no_items (valued d ++ one (Mark sign.Open)) (Mark sign.Comma) literal_tokens d.values valid.1, (valid.0, all_none IsLiteral d.values valid.1)) (none n) h
-told (state.NextLiteral d) t n valid h =
+answered (state.NextLiteral d) t n valid h =
     if_part IsLiteral literal_of literal_token literal_back (λ x. state.LiteralEnd (with_literal d x)) (state.NextLiteral d) t n
     (λ x is. (one_item_more (valued d ++ one (Mark sign.Open)) (Mark sign.Comma) literal_tokens d.values x, (valid.0, items_more d.values x, all_more IsLiteral d.values x valid.1 is))) h
-told (state.LiteralEnd d) t n valid h =
+answered (state.LiteralEnd d) t n valid h =
     if_sign sign.Comma (state.NextLiteral d) (state.LiteralEnd d) t n _ (some_items (valued d ++ one (Mark sign.Open)) (Mark sign.Comma) literal_tokens d.values valid.1, (valid.0, valid.2))
     (λ h. elim (chosen (length d.columns == length d.values) (on_sign sign.Close (state.Ended (inserted d)) t) None (Some n) h) as (λ _. Tells (state.LiteralEnd d) t n) [
       | inl p ↦ if_sign sign.Close (state.Ended (inserted d)) (state.LiteralEnd d) t n _
           (draft_is d.upsert d.table d.columns d.values, whole_draft d.upsert d.table d.columns d.values valid.0 (same_length (length d.columns) (length d.values) p.0) valid.2) (none n) p.1
       | inr p ↦ none n p.1
     ]) h
-told (state.Set tn) t n valid h = if_word word.Set (state.NextSet tn []) (state.Set tn) t n _ (refl, tt) (none n) h
-told (state.NextSet tn sets) t n valid h = if_part IsAny name_of Name name_back (state.SetName tn sets) (state.NextSet tn sets) t n (λ x _. (refl, valid)) h
-told (state.SetName tn sets m) t n valid h = if_sign sign.Equal (state.SetTo tn sets m) (state.SetName tn sets m) t n _ (refl, valid) (none n) h
-told (state.SetTo tn sets m) t n valid h =
+answered (state.Set tn) t n valid h = if_word word.Set (state.NextSet tn []) (state.Set tn) t n _ (refl, tt) (none n) h
+answered (state.NextSet tn sets) t n valid h = if_part IsAny name_of Name name_back (state.SetName tn sets) (state.NextSet tn sets) t n (λ x _. (refl, valid)) h
+answered (state.SetName tn sets m) t n valid h = if_sign sign.Equal (state.SetTo tn sets m) (state.SetName tn sets m) t n _ (refl, valid) (none n) h
+answered (state.SetTo tn sets m) t n valid h =
     if_part IsLiteral literal_of literal_token literal_back (with_set tn sets m) (state.SetTo tn sets m) t n
     (λ x is. (one_item_more (set_so tn) (Mark sign.Comma) set_tokens sets (record { name = m; value = x }) ∙ three (before_set tn sets) (Name m) (Mark sign.Equal) (literal_token x), (items_more sets (record { name = m; value = x }), all_more IsSet sets (record { name = m; value = x }) valid is))) h
-told (state.Target hd) t n valid h =
+answered (state.Target hd) t n valid h =
     if_word word.Where (state.NextTest (untested hd)) (state.Target hd) t n _ (refl, (valid, tt))
     (if_sign_then sign.Comma (more_sets hd) (state.Target hd) t n _ (told_more_sets hd n valid) (told_ending (untested hd) (state.Target hd) t n refl (valid, tt))) h
-told (state.NextTest f) t n valid h = if_part IsAny name_of Name name_back (state.Compare f) (state.NextTest f) t n (λ x _. (refl, valid)) h
-told (state.Compare f m) t n valid h =
+answered (state.NextTest f) t n valid h = if_part IsAny name_of Name name_back (state.Compare f) (state.NextTest f) t n (λ x _. (refl, valid)) h
+answered (state.Compare f m) t n valid h =
     if_word word.Is (state.Is f m) (state.Compare f m) t n _ (refl, valid)
     (if_part IsAny comparison_of (λ c. Mark (comparison_sign c)) comparison_back (state.Right f m) (state.Compare f m) t n (λ x _. (refl, valid))) h
-told (state.Right f m c) t n valid h =
+answered (state.Right f m c) t n valid h =
     if_part IsValue value_of literal_token value_back (λ x. state.TestEnd (with_test f (test.Compare m c x))) (state.Right f m c) t n
     (λ x is. told_test f (test.Compare m c x) (state.Right f m c) (literal_token x) (three (before_test f) (Name m) (Mark (comparison_sign c)) (literal_token x)) valid is) h
-told (state.Is f m) t n valid h =
+answered (state.Is f m) t n valid h =
     if_word word.Not (state.Not f m) (state.Is f m) t n _ (refl, valid)
     (if_word word.Null (state.TestEnd (with_test f (test.IsNull m))) (state.Is f m) t n _ (told_test f (test.IsNull m) (state.Is f m) (Word word.Null) (three (before_test f) (Name m) (Word word.Is) (Word word.Null)) valid tt) (none n)) h
-told (state.Not f m) t n valid h =
+answered (state.Not f m) t n valid h =
     if_word word.Null (state.TestEnd (with_test f (test.NotNull m))) (state.Not f m) t n _ (told_test f (test.NotNull m) (state.Not f m) (Word word.Null) (four (before_test f) (Name m) (Word word.Is) (Word word.Not) (Word word.Null)) valid tt) (none n) h
-told (state.TestEnd f) t n valid h =
+answered (state.TestEnd f) t n valid h =
     if_word word.And (state.NextTest f) (state.TestEnd f) t n _ (one_test_more (head_so f.head) f.tests valid.0, valid.1) (told_ending f (state.TestEnd f) t n refl valid.1) h
-told (state.Limit f) t n valid h =
+answered (state.Limit f) t n valid h =
     if_part IsFromZero limit_of Number limit_back (λ x. state.Ended (filtered f (Some x))) (state.Limit f) t n
     (λ x is. (limit_is f.head f.tests x valid.0, whole_limit f.head f.tests x valid.0 is valid.1.0 valid.1.1)) h
-told (state.Ended st) t n valid h = if_sign sign.Semicolon (state.Closed st) (state.Ended st) t n _ (refl, valid) (none n) h
-told (state.Closed st) t n valid h = none n h
+answered (state.Ended st) t n valid h = if_sign sign.Semicolon (state.Closed st) (state.Ended st) t n _ (refl, valid) (none n) h
+answered (state.Closed st) t n valid h = none n h

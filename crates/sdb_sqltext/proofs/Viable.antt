@@ -2,15 +2,11 @@
 use Rattle.std.proofs.Common.{◌≡◌, ℕ, pos, Bool, true, List, [], ◌∷◌, ◌++◌, Some, None, refl, sym, ap, subst, ◌∙◌, append_assoc, inl, inr, arith}
 use Rattle.std.specs.Prelude.{codes}
 use Rattle.std.proofs.lemmas.List.{append-nil}
-use Rattle.sdb_types.specs.declared.key.TableName.{TableName}
-use Rattle.sdb_types.specs.declared.pair.Pair.{Pair}
+use Rattle.sdb_sqltext.specs.Types.{Comparison, Pair, Statement, TableName, Token}
 use Rattle.sdb_types.specs.declared.value.Value.TheVariants as value
-use Rattle.sdb_model.specs.declared.statement.Comparison.{Comparison}
-use Rattle.sdb_model.specs.declared.statement.Statement.{Statement}
 use Rattle.sdb_model.specs.declared.statement.Test.TheVariants as test
 use Rattle.sdb_model.specs.declared.token.Keyword.TheVariants as word
 use Rattle.sdb_model.specs.declared.token.Sign.TheVariants as sign
-use Rattle.sdb_model.specs.declared.token.Token.{Token}
 use Rattle.sdb_model.specs.declared.token.Token.TheVariants.{Word, Name, Number, Sign as Mark}
 use Rattle.sdb_sqltext.specs.Verbs.{Verb}
 use Rattle.sdb_sqltext.specs.Verbs as verb
@@ -22,16 +18,16 @@ use Rattle.sdb_sqltext.specs.States.{State}
 use Rattle.sdb_sqltext.specs.States as state
 use Rattle.sdb_model.specs.Sql.{Tokens, statement_tokens, Spells, IsWhole, CanSpell, Begins}
 use Rattle.sdb_sqltext.specs.Machine.{with_name, with_literal, with_test, with_set, filtered, filtered_by, insert_of, begun, step}
-use Rattle.sdb_sqltext.proofs.Told.{so_far, Fine, VerbFine, FilterFine, told, head_so, tested, insert_is, filter_is, whole_filter}
+use Rattle.sdb_sqltext.proofs.Told.{so_far, Fine, VerbFine, FilterFine, answered, head_so, tested, insert_is, filter_is, whole_filter}
 use Rattle.sdb_sqltext.proofs.Complete.{draft}
 
 -- ---- every state can still become a statement
 
 via : (s : State) (t : Token) (n : State) → Fine s → step s t ≡ Some n → CanSpell t → (Fine n → Begins (so_far n)) → Begins (so_far s)
 via s t n valid h can begins =
-    let tells = told s t n valid h in
-    let grouped : (more : Tokens) → so_far n ++ more ≡ so_far s ++ (t ∷ more) = λ more. ap (λ (ts : Tokens). ts ++ more) tells.0 ∙ append_assoc (so_far s) (t ∷ []) more in
-    elim (begins tells.1) as (λ _. Begins (so_far s)) [
+    let is_known = answered s t n valid h in
+    let grouped : (more : Tokens) → so_far n ++ more ≡ so_far s ++ (t ∷ more) = λ more. ap (λ (ts : Tokens). ts ++ more) is_known.0 ∙ append_assoc (so_far s) (t ∷ []) more in
+    elim (begins is_known.1) as (λ _. Begins (so_far s)) [
       | inl b ↦ inl (b.0, t ∷ b.1, (can, b.2), b.3, subst (λ (ts : Tokens). Spells ts b.0) (grouped b.1) b.4)
       | inr b ↦ inr (b.0, b.1, t, b.2 ∷ b.3, (can, b.4), b.5, b.6, b.7, sym (grouped (b.2 ∷ b.3)) ∙ b.8)
     ]

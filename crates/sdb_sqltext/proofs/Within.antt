@@ -2,9 +2,7 @@
 use Rattle.std.proofs.Common.{◌≡◌, ℕ, zero, suc, ◌+◌, ◌-◌, ◌<◌, ◌≤◌, Bool, true, false, cond, List, [], ◌∷◌, length, Option, Some, None, Result, Ok, Err, refl, sym, ap, ◌∙◌, arith}
 use Rattle.std.specs.Prelude.{IfSome, IfErr}
 use Rattle.std.specs.List.{AllByRecursion}
-use Rattle.sdb_model.specs.declared.answer.Refusal.{Refusal}
-use Rattle.sdb_model.specs.declared.statement.Statement.{Statement}
-use Rattle.sdb_model.specs.declared.token.Placed.{Placed}
+use Rattle.sdb_sqltext.specs.Types.{Placed, Refusal, Statement}
 use Rattle.sdb_model.specs.SqlTokens.{Fault, Bad, Wide, Lexeme, Lexed, is_gap, token_at, behind, first_token, tokens_from, lexed}
 use Rattle.sdb_sqltext.specs.declared.fault.ParseRefused.{ParseRefused}
 use Rattle.sdb_sqltext.specs.States.{State}

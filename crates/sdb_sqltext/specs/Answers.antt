@@ -1,7 +1,6 @@
 -- How the answer of the reader agrees with what a text is read as.
 use Rattle.std.specs.Prelude.{◌≡◌, Option, Some, None, IfSome, Result, Ok, Err}
-use Rattle.sdb_model.specs.declared.answer.Refusal.{Refusal}
-use Rattle.sdb_model.specs.declared.statement.Statement.{Statement}
+use Rattle.sdb_sqltext.specs.Types.{Refusal, Statement}
 use Rattle.sdb_sqltext.specs.declared.fault.ParseRefused.{ParseRefused}
 use Rattle.sdb_sqltext.specs.declared.fault.ParseRefused.TheVariants as refused
 

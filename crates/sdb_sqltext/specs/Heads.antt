@@ -1,7 +1,6 @@
 -- What comes before WHERE.
 use Rattle.std.specs.Prelude.{ℕ, List, Option}
-use Rattle.sdb_types.specs.declared.key.TableName.{TableName}
-use Rattle.sdb_types.specs.declared.pair.Pair.{Pair}
+use Rattle.sdb_sqltext.specs.Types.{Pair, TableName}
 
 pub data Head : Type 0 where
   Update : TableName → List Pair → Head

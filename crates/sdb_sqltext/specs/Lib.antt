@@ -1,3 +1,4 @@
+pub mod Types
 pub mod Verbs
 pub mod Heads
 pub mod States
@@ -6,3 +7,7 @@ pub mod Parsing
 pub mod Readers
 pub mod Steps
 pub mod Answers
+pub mod Lexing
+pub mod Printed
+pub mod Spelled
+pub mod OneWord

@@ -1,8 +1,6 @@
 -- What placed tokens are read as, one after another.
 use Rattle.std.specs.Prelude.{ℕ, List, [], ◌∷◌, length, Option, Some, None, Result, Ok, Err}
-use Rattle.sdb_model.specs.declared.answer.Refusal.{Refusal}
-use Rattle.sdb_model.specs.declared.statement.Statement.{Statement}
-use Rattle.sdb_model.specs.declared.token.Placed.{Placed}
+use Rattle.sdb_sqltext.specs.Types.{Placed, Refusal, Statement}
 use Rattle.sdb_model.specs.SqlTokens.{Fault, Bad, Wide, Lexed, lexed}
 use Rattle.sdb_sqltext.specs.States.{State}
 use Rattle.sdb_sqltext.specs.States as state

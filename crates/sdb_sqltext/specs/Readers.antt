@@ -1,25 +1,15 @@
 -- What each part of a statement is read as, from the placed tokens at the start: the part and the tokens after it, or the
 -- place where it breaks off.
 use Rattle.std.specs.Prelude.{ℕ, ℤ, zero, suc, ◌==◌, if◌then◌else◌, List, [], ◌∷◌, ◌++◌, length, Option, Some, None, Result, Ok, Err}
-use Rattle.sdb_types.specs.declared.key.TableName.{TableName}
-use Rattle.sdb_types.specs.declared.pair.Pair.{Pair}
-use Rattle.sdb_types.specs.declared.value.Value.{Value}
-use Rattle.sdb_model.specs.declared.statement.Insert.{Insert}
-use Rattle.sdb_model.specs.declared.statement.Statement.{Statement}
+use Rattle.sdb_sqltext.specs.Types.{Insert, Keyword, Pair, Placed, Refusal, Sign, Statement, TableName, Test, Token, Value}
 use Rattle.sdb_model.specs.declared.statement.Statement.TheVariants as statement
-use Rattle.sdb_model.specs.declared.statement.Test.{Test}
 use Rattle.sdb_model.specs.declared.statement.Test.TheVariants as test
-use Rattle.sdb_model.specs.declared.token.Keyword.{Keyword}
 use Rattle.sdb_model.specs.declared.token.Keyword.TheVariants as word
-use Rattle.sdb_model.specs.declared.token.Placed.{Placed}
-use Rattle.sdb_model.specs.declared.token.Sign.{Sign}
 use Rattle.sdb_model.specs.declared.token.Sign.TheVariants as sign
-use Rattle.sdb_model.specs.declared.token.Token.{Token}
 use Rattle.sdb_model.specs.Sql.{is_word, is_sign}
 use Rattle.sdb_sqltext.specs.Machine.{name_of, value_of, literal_of, comparison_of, limit_of}
 use Rattle.sdb_sqltext.specs.Parsing.{or_at, then as and_then, of_tokens, of_fault}
 use Rattle.sdb_model.specs.SqlTokens.{Lexed}
-use Rattle.sdb_model.specs.declared.answer.Refusal.{Refusal}
 
 abbrev pub Read : Type 0 → Type 0
 Read A = Result (A × List Placed) ℕ

@@ -1,11 +1,6 @@
 -- What was read of a statement, by what may come next.
 use Rattle.std.specs.Prelude.{ℕ, Bool, List}
-use Rattle.sdb_types.specs.declared.key.TableName.{TableName}
-use Rattle.sdb_types.specs.declared.pair.Pair.{Pair}
-use Rattle.sdb_types.specs.declared.value.Value.{Value}
-use Rattle.sdb_model.specs.declared.statement.Comparison.{Comparison}
-use Rattle.sdb_model.specs.declared.statement.Statement.{Statement}
-use Rattle.sdb_model.specs.declared.statement.Test.{Test}
+use Rattle.sdb_sqltext.specs.Types.{Comparison, Pair, Statement, TableName, Test, Value}
 use Rattle.sdb_sqltext.specs.Verbs.{Verb}
 use Rattle.sdb_sqltext.specs.Heads.{Head}
 

@@ -1,7 +1,6 @@
 //! Laws of the grammar of statements.
 ghost use Rattle.std.specs.Prelude.{◌≡◌, ◌↔◌, ℕ, List, true};
-ghost use Rattle.sdb_model.specs.declared.answer.Refusal.{Refusal};
-ghost use Rattle.sdb_model.specs.declared.statement.Statement.{Statement};
+ghost use Rattle.sdb_sqltext.specs.Types.{Refusal, Statement};
 ghost use Rattle.sdb_model.specs.declared.statement.Statement.TheVariants as statement;
 ghost use Rattle.sdb_model.specs.Sql.{Reads, Refuses, reads_begin, reads_commit, reads_rollback, reads_vacuum, statement_text_of};
 

@@ -10,8 +10,8 @@ ghost use Rattle.sdb_sqltext.specs.Steps.{Steps};
 use crate::fault::{ParseRefused, StepError};
 use crate::lists::{literals_at, names_at, sets_at, where_at};
 use crate::take::{Parsed, after_sign, after_word, count_at, name_at, next_sign, next_word, place};
+use crate::{LexRefused, is_word, lex};
 use sdb_model::{Delete, Insert, Keyword, Placed, Select, Sign, Statement, Token, Update};
-use sdb_sqltokens::{LexRefused, is_word, lex};
 use sdb_types::{Names, TableName, Values};
 use std::alloc::Global;
 

@@ -3,9 +3,9 @@ ghost use Rattle.std.specs.Prelude.{◌≡◌, IfOk, ℕ, List};
 ghost use Rattle.std.specs.List.{AllByRecursion};
 ghost use Rattle.sdb_model.specs.Sql.{statement_tokens, statement_text_of, IsWhole, CanSpell, Reads};
 
+use crate::put_tokens;
 use crate::spell::spelled;
 use sdb_model::Statement;
-use sdb_sqltokens::put_tokens;
 use sdb_types::{NoMemory, Txt};
 use std::alloc::Global;
 

@@ -6,8 +6,8 @@ ghost use Rattle.sdb_sqltext.specs.Readers as spec;
 ghost use Rattle.sdb_sqltext.specs.Steps.{Steps};
 
 use crate::fault::StepError;
+use crate::{is_sign, is_word};
 use sdb_model::{Comparison, Keyword, Placed, Sign, Token};
-use sdb_sqltokens::{is_sign, is_word};
 use sdb_types::{Duplicate, Name, NoMemory, Value};
 
 /// A part, and the tokens after it.

@@ -15,7 +15,7 @@ use std::vec::IntoIter;
 pub type Replies = Seq<Reply>;
 
 /// A store that answers with the replies of a list in turn, and that keeps no records. A reply that no store may give to the
-/// request is taken from the list and answered as a fault, and so is a call where no reply is left.
+/// request is accepted from the list and answered as a fault, and so is a call where no reply is left.
 pub struct Puppet {
     left: IntoIter<Reply>,
     made: u64,

@@ -7,7 +7,7 @@ use sdb_types::{Condition, Key, Record, Reply, Request, Span};
 /// Records by key. Each call takes effect at once, wholly or not at all.
 ///
 /// A store of known contents answers as a map from key to record does. `Reply::Fault` says that the call failed:
-/// it may have taken effect or not, and nothing else counts as a failure. `Reply::NoMemory` says that it took none.
+/// it may have accepted effect or not, and nothing else counts as a failure. `Reply::NoMemory` says that it took none.
 pub trait Store: Drop {
     /// What it shows: whether its contents are known, what it then holds, how many calls have failed, and how many were made.
     ghost state: { Self → StoreState };

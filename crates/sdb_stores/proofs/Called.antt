@@ -31,18 +31,18 @@ position-map f p xs =
     ∙ ap (λ (m : ℕ). cond (nat_lt (prefix_len (λ x. not (p (f x))) xs) m) (Some (prefix_len (λ x. not (p (f x))) xs)) None) (length-map xs f)
 
 -- a place among the items is one among the names that they show
-pub placed : {A : Type 0} (shelf : A → StoreView) (xs ys : List A) (name : List ℕ) (r : Option ℕ) → ys ≡ xs → r ≡ position (λ x. bytes_eq (shelf x).name name) ys → r ≡ place_of name (names_of (map shelf xs))
-placed shelf xs ys name r same is =
-    is ∙ ap (position (λ x. bytes_eq (shelf x).name name)) same
-    ∙ sym (position-map (λ s. s.name) (λ n. bytes_eq n name) (map shelf xs) ∙ position-map shelf (λ s. bytes_eq s.name name) xs)
+pub placed : {A : Type 0} (store_content : A → StoreView) (xs ys : List A) (name : List ℕ) (r : Option ℕ) → ys ≡ xs → r ≡ position (λ x. bytes_eq (store_content x).name name) ys → r ≡ place_of name (names_of (map store_content xs))
+placed store_content xs ys name r same is =
+    is ∙ ap (position (λ x. bytes_eq (store_content x).name name)) same
+    ∙ sym (position-map (λ s. s.name) (λ n. bytes_eq n name) (map store_content xs) ∙ position-map store_content (λ s. bytes_eq s.name name) xs)
 
-pub names_of-map : {A : Type 0} (shelf : A → StoreView) (xs : List A) → names_of (map shelf xs) ≡ map (λ x. (shelf x).name) xs
-names_of-map shelf [] = refl
-names_of-map shelf (x ∷ xs) = ap (λ ns. (shelf x).name ∷ ns) (names_of-map shelf xs)
+pub names_of-map : {A : Type 0} (store_content : A → StoreView) (xs : List A) → names_of (map store_content xs) ≡ map (λ x. (store_content x).name) xs
+names_of-map store_content [] = refl
+names_of-map store_content (x ∷ xs) = ap (λ ns. (store_content x).name ∷ ns) (names_of-map store_content xs)
 
-pub named : {A E : Type 0} (shelf : A → StoreView) (xs ys : List A) (r : Result (List (List ℕ)) E) → ys ≡ xs → IfOk r (λ names. names ≡ map (λ x. (shelf x).name) ys) → IfOk r (λ names. names ≡ names_of (map shelf xs))
-named shelf xs ys r same h =
-    let e : map (λ x. (shelf x).name) ys ≡ names_of (map shelf xs) = ap (map (λ x. (shelf x).name)) same ∙ sym (names_of-map shelf xs) in
+pub named : {A E : Type 0} (store_content : A → StoreView) (xs ys : List A) (r : Result (List (List ℕ)) E) → ys ≡ xs → IfOk r (λ names. names ≡ map (λ x. (store_content x).name) ys) → IfOk r (λ names. names ≡ names_of (map store_content xs))
+named store_content xs ys r same h =
+    let e : map (λ x. (store_content x).name) ys ≡ names_of (map store_content xs) = ap (map (λ x. (store_content x).name)) same ∙ sym (names_of-map store_content xs) in
     subst (λ (ns : List (List ℕ)). IfOk r (λ names. names ≡ ns)) e h
 
 place_within : (name : List ℕ) (names : List (List ℕ)) → 0 < length names → unwrap_or (place_of name names) 0 < length names
@@ -57,37 +57,37 @@ within_home None names some = some
 within_home (Some store) names some = place_within store names some
 
 -- the store of a namespace is among the stores
-pub home_within : {A : Type 0} (shelf : A → StoreView) (xs : List A) (places : List Place) (ns : List ℕ) (at : ℕ) → 0 < length (map shelf xs) → at ≡ home ns places (names_of (map shelf xs)) → at < length xs
-home_within shelf xs places ns at some is =
-    let same : length (names_of (map shelf xs)) ≡ length xs = length-map (map shelf xs) (λ s. s.name) ∙ length-map xs shelf in
-    let n : 0 < length (names_of (map shelf xs)) = omega (arith, same, length-map xs shelf) in
-    let h : home ns places (names_of (map shelf xs)) < length (names_of (map shelf xs)) = within_home (route_of ns places) (names_of (map shelf xs)) n in
+pub home_within : {A : Type 0} (store_content : A → StoreView) (xs : List A) (places : List Place) (ns : List ℕ) (at : ℕ) → 0 < length (map store_content xs) → at ≡ home ns places (names_of (map store_content xs)) → at < length xs
+home_within store_content xs places ns at some is =
+    let same : length (names_of (map store_content xs)) ≡ length xs = length-map (map store_content xs) (λ s. s.name) ∙ length-map xs store_content in
+    let n : 0 < length (names_of (map store_content xs)) = omega (arith, same, length-map xs store_content) in
+    let h : home ns places (names_of (map store_content xs)) < length (names_of (map store_content xs)) = within_home (route_of ns places) (names_of (map store_content xs)) n in
     omega (arith, same, is)
 
--- an index among the shelves is one among the items
-pub shown_within : {A : Type 0} (shelf : A → StoreView) (xs : List A) (at : ℕ) → at < length (map shelf xs) → at < length xs
-shown_within shelf xs at inside = omega (arith, inside, length-map xs shelf)
+-- an index among the contents is one among the items
+pub shown_within : {A : Type 0} (store_content : A → StoreView) (xs : List A) (at : ℕ) → at < length (map store_content xs) → at < length xs
+shown_within store_content xs at inside = omega (arith, inside, length-map xs store_content)
 
-pub shown_inside : {A : Type 0} (shelf : A → StoreView) (xs : List A) (at : ℕ) → at < length xs → at < length (map shelf xs)
-shown_inside shelf xs at inside = omega (arith, inside, length-map xs shelf)
+pub shown_inside : {A : Type 0} (store_content : A → StoreView) (xs : List A) (at : ℕ) → at < length xs → at < length (map store_content xs)
+shown_inside store_content xs at inside = omega (arith, inside, length-map xs store_content)
 
 -- where a name is that one of the stores has
-pub named_within : (shelves : List StoreView) (name : List ℕ) (o : Option ℕ) (at : ℕ) → IsSome (place_of name (names_of shelves)) → o ≡ place_of name (names_of shelves) → at ≡ unwrap_or o 0 → at < length shelves
-named_within shelves name o at some found is =
-    let there : unwrap_or (place_of name (names_of shelves)) 0 < length (names_of shelves) = named_there (place_of name (names_of shelves)) some refl in
-    omega (arith, is, ap (λ (p : Option ℕ). unwrap_or p 0) found, there, length-map shelves (λ (s : StoreView). s.name))
+pub named_within : (store_contents : List StoreView) (name : List ℕ) (o : Option ℕ) (at : ℕ) → IsSome (place_of name (names_of store_contents)) → o ≡ place_of name (names_of store_contents) → at ≡ unwrap_or o 0 → at < length store_contents
+named_within store_contents name o at some found is =
+    let there : unwrap_or (place_of name (names_of store_contents)) 0 < length (names_of store_contents) = named_there (place_of name (names_of store_contents)) some refl in
+    omega (arith, is, ap (λ (p : Option ℕ). unwrap_or p 0) found, there, length-map store_contents (λ (s : StoreView). s.name))
   where
-    named_there : (p : Option ℕ) → IsSome p → place_of name (names_of shelves) ≡ p → unwrap_or p 0 < length (names_of shelves)
+    named_there : (p : Option ℕ) → IsSome p → place_of name (names_of store_contents) ≡ p → unwrap_or p 0 < length (names_of store_contents)
     named_there None none e = absurd (let f : false ≡ true = none in cc)
-    named_there (Some i) h e = (position-Some (λ n. bytes_eq n name) (names_of shelves) i [] e).0
+    named_there (Some i) h e = (position-Some (λ n. bytes_eq n name) (names_of store_contents) i [] e).0
 
-stands_at : {A : Type 0} (shelf : A → StoreView) (xs : List A) (at : ℕ) (x : A) → at < length xs → x ≡ get_or xs at x → slice_get (map shelf xs) at ≡ Some (shelf x)
-stands_at shelf xs at x inside is = slice_get-map shelf xs at ∙ ap (option_map shelf) (slice_get-get_or xs at x inside) ∙ ap (λ z. Some (shelf z)) (sym is)
+stands_at : {A : Type 0} (store_content : A → StoreView) (xs : List A) (at : ℕ) (x : A) → at < length xs → x ≡ get_or xs at x → slice_get (map store_content xs) at ≡ Some (store_content x)
+stands_at store_content xs at x inside is = slice_get-map store_content xs at ∙ ap (option_map store_content) (slice_get-get_or xs at x inside) ∙ ap (λ z. Some (store_content z)) (sym is)
 
-pub name_at : {A : Type 0} (shelf : A → StoreView) (xs : List A) (at home : ℕ) (x : A) → at < length xs → x ≡ get_or xs at x → at ≡ home → slice_get (names_of (map shelf xs)) home ≡ Some (shelf x).name
-name_at shelf xs at home x inside is same =
-    subst (λ (i : ℕ). slice_get (names_of (map shelf xs)) i ≡ Some (shelf x).name) same
-    (slice_get-map (λ s. s.name) (map shelf xs) at ∙ ap (option_map (λ s. s.name)) (stands_at shelf xs at x inside is))
+pub name_at : {A : Type 0} (store_content : A → StoreView) (xs : List A) (at home : ℕ) (x : A) → at < length xs → x ≡ get_or xs at x → at ≡ home → slice_get (names_of (map store_content xs)) home ≡ Some (store_content x).name
+name_at store_content xs at home x inside is same =
+    subst (λ (i : ℕ). slice_get (names_of (map store_content xs)) i ≡ Some (store_content x).name) same
+    (slice_get-map (λ s. s.name) (map store_content xs) at ∙ ap (option_map (λ s. s.name)) (stands_at store_content xs at x inside is))
 
 pub same_home : (names : List (List ℕ)) (places : List Place) (t u : TableName) (at : ℕ) → at ≡ home t.ns places names → t ≡ u → at ≡ home u.ns places names
 same_home names places t u at is same = is ∙ ap (λ (v : TableName). home v.ns places names) same
@@ -108,19 +108,19 @@ pub called_at : {A : Type 0} {places later : List Place} (name : A → List ℕ)
     → name y ≡ name x → IsStoreCall q r (see x) (see y) → IsCallAt home q r (attached_as name see places xs) (attached_as name see later (slice_set xs at y))
 called_at {A} {places} {later} name see xs at home q r x y inside is same named called =
     let here : slice_get xs at ≡ Some x = slice_get-get_or xs at x inside ∙ ap Some (sym is) in
-    let shelf : A → StoreView = λ a. view_of (name a) (see a) in
-    let tells : A → Type 0 = λ a. (see a).known in
+    let store_content : A → StoreView = λ a. view_of (name a) (see a) in
+    let is_known : A → Type 0 = λ a. (see a).known in
     let call : IsCallAt at q r (attached_as name see places xs) (attached_as name see later (slice_set xs at y)) = record {
-      before = shelf x;
-      now = shelf y;
-      stood = stands_at shelf xs at x inside is;
-      rest = map-set shelf xs at y;
+      before = store_content x;
+      now = store_content y;
+      stood = stands_at store_content xs at x inside is;
+      rest = map-set store_content xs at y;
       name = named;
-      performed = λ h. called.performed (told_at tells xs at x here h);
+      performed = λ h. called.performed (told_at is_known xs at x here h);
       lawful = called.lawful;
       counted = called.counted;
       cause = called.cause;
-      where_known = telling_set tells xs at y (λ h. called.where_known (told_at tells xs at x here h));
+      where_known = telling_set is_known xs at y (λ h. called.where_known (told_at is_known xs at x here h));
     } in
     subst (λ (i : ℕ). IsCallAt i q r (attached_as name see places xs) (attached_as name see later (slice_set xs at y))) same call
 
@@ -172,7 +172,7 @@ caused at q (reply.Rows rows) m n call = sound at q (reply.Rows rows) m n call c
 caused at q reply.Applied m n call = sound at q reply.Applied m n call call.cause
 caused at q (reply.NotMet found) m n call = sound at q (reply.NotMet found) m n call call.cause
 
----- a store taken out
+---- a store accepted out
 
 pub map-remove : {A B : Type 0} (f : A → B) (xs : List A) (i : ℕ) → map f (remove xs i) ≡ remove (map f xs) i
 map-remove f xs i = map-append f (take i xs) (drop (suc i) xs) ∙ ap (λ ys. ys ++ map f (drop (suc i) xs)) (sym (take-map f i xs)) ∙ ap (λ ys. take i (map f xs) ++ ys) (sym (drop-map f (suc i) xs))
@@ -190,10 +190,10 @@ told_behind P (x ∷ xs) (suc at) zero most h = absurd (omega arith)
 told_behind P (x ∷ xs) (suc at) (suc i) most h = told_behind P xs at i (omega arith) h
 
 -- a store that has a place is among the stores
-pub found_within : {A : Type 0} (shelf : A → StoreView) (xs : List A) (name : List ℕ) (at : ℕ) → Some at ≡ place_of name (names_of (map shelf xs)) → at < length xs
-found_within shelf xs name at found =
-    let place : at < length (names_of (map shelf xs)) = (position-Some (λ n. bytes_eq n name) (names_of (map shelf xs)) at [] (sym found)).0 in
-    omega (arith, place, length-map (map shelf xs) (λ s. s.name), length-map xs shelf)
+pub found_within : {A : Type 0} (store_content : A → StoreView) (xs : List A) (name : List ℕ) (at : ℕ) → Some at ≡ place_of name (names_of (map store_content xs)) → at < length xs
+found_within store_content xs name at found =
+    let place : at < length (names_of (map store_content xs)) = (position-Some (λ n. bytes_eq n name) (names_of (map store_content xs)) at [] (sym found)).0 in
+    omega (arith, place, length-map (map store_content xs) (λ s. s.name), length-map xs store_content)
 
 less_one : {A : Type 0} (f : A → ℕ) (xs : List A) (at : ℕ) (x : A) → slice_get xs at ≡ Some x → sum_by f (remove xs at) + f x ≡ sum_by f xs
 less_one f [] at x e = cc
@@ -203,21 +203,21 @@ less_one f (y ∷ xs) (suc at) x e = ap (λ n. n + f x) (sum_by-cons f y (remove
 pub taken_out : {A : Type 0} {places later : List Place} (name : A → List ℕ) (see : A → StoreState) (xs ys : List A) (own : List ℕ) (at : ℕ) (x : A) → Some at ≡ place_of own (names_of (map (λ a. view_of (name a) (see a)) xs)) → x ≡ get_or xs at x
     → ys ≡ remove xs at → later ≡ places_without own places → IsTakenOut own (see x) (attached_as name see places xs) (attached_as name see later ys)
 taken_out {A} name see xs ys own at x found is out left =
-    let shelf : A → StoreView = λ a. view_of (name a) (see a) in
-    let tells : A → Type 0 = λ a. (see a).known in
-    let place : (at < length (names_of (map shelf xs))) × (bytes_eq (get_or (names_of (map shelf xs)) at []) own ≡ true) × ((k : ℕ) → k < at → bytes_eq (get_or (names_of (map shelf xs)) k []) own ≡ false) = position-Some (λ n. bytes_eq n own) (names_of (map shelf xs)) at [] (sym found) in
-    let inside : at < length xs = omega (arith, place.0, length-map (map shelf xs) (λ s. s.name), length-map xs shelf) in
-    let stands : slice_get (map shelf xs) at ≡ Some (shelf x) = stands_at shelf xs at x inside is in
-    let same : name x ≡ own = sym (get_or_from_slice_get (names_of (map shelf xs)) at (name x) [] (name_at shelf xs at at x inside is refl)) ∙ (bytes_eq-Decides (get_or (names_of (map shelf xs)) at []) own).0 place.1 in
-    let rest : map shelf ys ≡ remove (map shelf xs) at = ap (map shelf) out ∙ map-remove shelf xs at in
+    let store_content : A → StoreView = λ a. view_of (name a) (see a) in
+    let is_known : A → Type 0 = λ a. (see a).known in
+    let place : (at < length (names_of (map store_content xs))) × (bytes_eq (get_or (names_of (map store_content xs)) at []) own ≡ true) × ((k : ℕ) → k < at → bytes_eq (get_or (names_of (map store_content xs)) k []) own ≡ false) = position-Some (λ n. bytes_eq n own) (names_of (map store_content xs)) at [] (sym found) in
+    let inside : at < length xs = omega (arith, place.0, length-map (map store_content xs) (λ s. s.name), length-map xs store_content) in
+    let agrees : slice_get (map store_content xs) at ≡ Some (store_content x) = stands_at store_content xs at x inside is in
+    let same : name x ≡ own = sym (get_or_from_slice_get (names_of (map store_content xs)) at (name x) [] (name_at store_content xs at at x inside is refl)) ∙ (bytes_eq-Decides (get_or (names_of (map store_content xs)) at []) own).0 place.1 in
+    let rest : map store_content ys ≡ remove (map store_content xs) at = ap (map store_content) out ∙ map-remove store_content xs at in
     record {
       at = at;
       found = sym found;
-      taken = stands ∙ ap (λ n. Some (view_of n (see x))) same;
+      accepted = agrees ∙ ap (λ n. Some (view_of n (see x))) same;
       rest = rest;
       places = left;
-      where_known = told_at tells xs at x (slice_get-get_or xs at x inside ∙ ap Some (sym is));
-      before = λ i less h. subst (λ (zs : List _). IsSomeAnd (slice_get zs i) tells) (sym out) (told_before tells xs at i less h);
-      after = λ i most h. subst (λ (zs : List _). IsSomeAnd (slice_get zs i) tells) (sym out) (told_behind tells xs at i most (rw (← add-one) h));
-      counted = ap (λ (k : List StoreView). total_faults k + (see x).faults) rest ∙ less_one (λ s. s.faults) (map shelf xs) at (shelf x) stands;
+      where_known = told_at is_known xs at x (slice_get-get_or xs at x inside ∙ ap Some (sym is));
+      before = λ i less h. subst (λ (zs : List _). IsSomeAnd (slice_get zs i) is_known) (sym out) (told_before is_known xs at i less h);
+      after = λ i most h. subst (λ (zs : List _). IsSomeAnd (slice_get zs i) is_known) (sym out) (told_behind is_known xs at i most (rw (← add-one) h));
+      counted = ap (λ (k : List StoreView). total_faults k + (see x).faults) rest ∙ less_one (λ s. s.faults) (map store_content xs) at (store_content x) agrees;
     }

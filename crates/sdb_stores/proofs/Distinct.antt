@@ -15,8 +15,8 @@ use Rattle.sdb_stores.proofs.Called.{names_of-map, map-remove, set_same}
 use Rattle.sdb_types.proofs.Basics.{none_before}
 
 -- names that are distinct among the items are so among what they show
-pub shown : {A : Type 0} (shelf : A → StoreView) (xs : List A) → AreDistinct (map (λ a. (shelf a).name) xs) → AreDistinct (names_of (map shelf xs))
-shown shelf xs h = subst AreDistinct (sym (names_of-map shelf xs)) h
+pub observed : {A : Type 0} (store_content : A → StoreView) (xs : List A) → AreDistinct (map (λ a. (store_content a).name) xs) → AreDistinct (names_of (map store_content xs))
+observed store_content xs h = subst AreDistinct (sym (names_of-map store_content xs)) h
 
 ---- one more
 
@@ -29,12 +29,12 @@ none_of : {A : Type 0} (o : Option A) → is_some o ≡ false → o ≡ None
 none_of None e = refl
 none_of (Some x) e = absurd (let f : true ≡ false = e in cc)
 
-pub attached : {A : Type 0} (shelf : A → StoreView) (xs ys : List A) (x : A) (done : Bool) (o : Option ℕ) → AreDistinct (map (λ a. (shelf a).name) xs) → o ≡ place_of (shelf x).name (names_of (map shelf xs)) → is_some o ≡ false
-    → ys ≡ (if done then xs ++ x ∷ [] else xs) → AreDistinct (map (λ a. (shelf a).name) ys)
-attached shelf xs ys x false o h found free is = subst (λ (zs : List _). AreDistinct (map (λ a. (shelf a).name) zs)) (sym is) h
-attached shelf xs ys x true o h found free is =
-    let none : place_of (shelf x).name (map (λ a. (shelf a).name) xs) ≡ None = ap (place_of (shelf x).name) (sym (names_of-map shelf xs)) ∙ sym found ∙ none_of o free in
-    subst AreDistinct (sym (ap (map (λ a. (shelf a).name)) is ∙ map-append (λ a. (shelf a).name) xs (x ∷ []))) (all_pairs_push ◌≢◌ (map (λ a. (shelf a).name) xs) (shelf x).name h (apart (shelf x).name (map (λ a. (shelf a).name) xs) none))
+pub attached : {A : Type 0} (store_content : A → StoreView) (xs ys : List A) (x : A) (done : Bool) (o : Option ℕ) → AreDistinct (map (λ a. (store_content a).name) xs) → o ≡ place_of (store_content x).name (names_of (map store_content xs)) → is_some o ≡ false
+    → ys ≡ (if done then xs ++ x ∷ [] else xs) → AreDistinct (map (λ a. (store_content a).name) ys)
+attached store_content xs ys x false o h found free is = subst (λ (zs : List _). AreDistinct (map (λ a. (store_content a).name) zs)) (sym is) h
+attached store_content xs ys x true o h found free is =
+    let none : place_of (store_content x).name (map (λ a. (store_content a).name) xs) ≡ None = ap (place_of (store_content x).name) (sym (names_of-map store_content xs)) ∙ sym found ∙ none_of o free in
+    subst AreDistinct (sym (ap (map (λ a. (store_content a).name)) is ∙ map-append (λ a. (store_content a).name) xs (x ∷ []))) (all_pairs_push ◌≢◌ (map (λ a. (store_content a).name) xs) (store_content x).name h (apart (store_content x).name (map (λ a. (store_content a).name) xs) none))
 
 -- known contents stay known, and those of the one that comes are known where they were
 kept : {A : Type 0} (P : A → Type 0) (xs : List A) (y : A) (i : ℕ) → IsSomeAnd (slice_get xs i) P → IsSomeAnd (slice_get (xs ++ y ∷ []) i) P
@@ -48,19 +48,19 @@ last P (x ∷ xs) y h = last P xs y h
 
 pub added : {A : Type 0} {places : List Place} (name : A → List ℕ) (see : A → StoreState) (xs ys : List A) (y : A) → ys ≡ xs ++ y ∷ [] → IsAdded (name y) (see y) (attached_as name see places xs) (attached_as name see places ys)
 added {A} name see xs ys y is =
-    let shelf : A → StoreView = λ a. view_of (name a) (see a) in
-    let tells : A → Type 0 = λ a. (see a).known in
-    let more : map shelf ys ≡ map shelf xs ++ shelf y ∷ [] = ap (map shelf) is ∙ map-append shelf xs (y ∷ []) in
-    let told : tells y → IsSomeAnd (slice_get ys (length xs)) tells = λ h. subst (λ (zs : List _). IsSomeAnd (slice_get zs (length xs)) tells) (sym is) (last tells xs y h) in
+    let store_content : A → StoreView = λ a. view_of (name a) (see a) in
+    let is_known : A → Type 0 = λ a. (see a).known in
+    let more : map store_content ys ≡ map store_content xs ++ store_content y ∷ [] = ap (map store_content) is ∙ map-append store_content xs (y ∷ []) in
+    let answered : is_known y → IsSomeAnd (slice_get ys (length xs)) is_known = λ h. subst (λ (zs : List _). IsSomeAnd (slice_get zs (length xs)) is_known) (sym is) (last is_known xs y h) in
     record {
       views = more;
       places = refl;
-      others = λ i h. subst (λ (zs : List _). IsSomeAnd (slice_get zs i) tells) (sym is) (kept tells xs y i h);
-      where_known = λ h. subst (λ (n : ℕ). IsSomeAnd (slice_get ys n) tells) (sym (length-map xs shelf)) (told h);
-      counted = omega (arith, ap total_faults more, sum_by-append (λ s. s.faults) (map shelf xs) (shelf y ∷ []));
+      others = λ i h. subst (λ (zs : List _). IsSomeAnd (slice_get zs i) is_known) (sym is) (kept is_known xs y i h);
+      where_known = λ h. subst (λ (n : ℕ). IsSomeAnd (slice_get ys n) is_known) (sym (length-map xs store_content)) (answered h);
+      counted = omega (arith, ap total_faults more, sum_by-append (λ s. s.faults) (map store_content xs) (store_content y ∷ []));
     }
 
----- one taken out, and one that is called
+---- one accepted out, and one that is called
 
 pub detached : {A : Type 0} (f : A → List ℕ) (xs ys : List A) (at : ℕ) → at < length xs → AreDistinct (map f xs) → ys ≡ remove xs at → AreDistinct (map f ys)
 detached f xs ys at inside h is =

@@ -25,12 +25,12 @@ use Rattle.sdb_stores.specs.Views.{route_of, places_without}
 abbrev same_name : List ℕ → List ℕ → Bool
 same_name a b = eq_by_cmp name_cmp a b
 
-tells : (a b : List ℕ) → (same_name a b ≡ true → a ≡ b) × (a ≡ b → same_name a b ≡ true)
-tells = order_decides name_total name_exact
+is_known : (a b : List ℕ) → (same_name a b ≡ true → a ≡ b) × (a ≡ b → same_name a b ≡ true)
+is_known = order_decides name_total name_exact
 
 names_tied : (a b : List ℕ) → bytes_eq a b ≡ same_name b a
 names_tied a b =
-    let t = tells b a in
+    let t = is_known b a in
     one_answer (bytes_eq a b) (same_name b a) (bytes_eq-Decides a b) (λ h. sym (t.0 h), λ e. t.1 (sym e))
 
 ---- places as pairs of a namespace and its store
@@ -67,7 +67,7 @@ no_routes ps m is none ordered = subst (λ (qs : List Place). HasRoutes qs (get 
   once = subst (IsDistinct same_name) (ap keys_of none) (IsDistinct-from_sorted name_cmp (keys_of m.entries) ordered);
 })
 
----- places taken away
+---- places accepted away
 
 left_apart : (P : List ℕ → Type 0) (store : List ℕ) (ps : List Place) → AllByRecursion P (map (λ p. p.ns) ps) → AllByRecursion P (map (λ p. p.ns) (places_without store ps))
 left_apart P store [] h = tt
@@ -124,12 +124,12 @@ none_placed ns (p ∷ ps) h =
 
 module _ (ps : List Place) (p : Place) (free : route_of p.ns ps ≡ None) where
   none_alike : (ns : List ℕ) → same_name p.ns ns ≡ true → route_of ns ps ≡ None
-  none_alike ns t = subst (λ (x : List ℕ). route_of x ps ≡ None) ((tells p.ns ns).0 t) free
+  none_alike ns t = subst (λ (x : List ℕ). route_of x ps ≡ None) ((is_known p.ns ns).0 t) free
 
   turned : (ns : List ℕ) → same_name ns p.ns ≡ same_name p.ns ns
   turned ns =
-      let t = tells ns p.ns in
-      let u = tells p.ns ns in
+      let t = is_known ns p.ns in
+      let u = is_known p.ns ns in
       one_answer {P = ns ≡ p.ns} (same_name ns p.ns) (same_name p.ns ns) t (λ h. sym (u.0 h), λ e. u.1 (sym e))
 
   pub more : (old new : BTreeMap (List ℕ) (List ℕ)) → HasRoutes ps (get name_cmp old) → ((ns : List ℕ) → get name_cmp new ns ≡ cond (same_name p.ns ns) (Some p.store) (get name_cmp old ns)) → HasRoutes (ps ++ p ∷ []) (get name_cmp new)

@@ -40,7 +40,7 @@ attached_as name see places slots = record {
 }
 
 abbrev pub names_of : List StoreView → List (List ℕ)
-names_of shelves = map (λ s. s.name) shelves
+names_of store_contents = map (λ s. s.name) store_contents
 
 -- no name comes twice
 abbrev pub AreDistinct : List (List ℕ) → Type 0
@@ -105,7 +105,7 @@ pub record IsCallAt (at : ℕ) (q : Request) (r : Reply) (old new : Attached) : 
 
 -- the failures of all stores together
 abbrev pub total_faults : List StoreView → ℕ
-total_faults shelves = sum_by (λ s. s.faults) shelves
+total_faults store_contents = sum_by (λ s. s.faults) store_contents
 
 -- These are the places. The stores are as they were, and known contents stay known.
 pub record HavePlaces (left : List Place) (old new : Attached) : Type 0 where
@@ -125,12 +125,12 @@ pub record IsAdded (name : List ℕ) (store : StoreState) (old new : Attached) :
   pub where_known : store.known → new.known (length old.views)
   pub counted : total_faults new.views ≡ total_faults old.views + store.faults
 
--- The store of that name was taken out, as this one, with the places that name it. The others stay in their order, and
+-- The store of that name was accepted out, as this one, with the places that name it. The others stay in their order, and
 -- known contents stay known.
 pub record IsTakenOut (name : List ℕ) (store : StoreState) (old new : Attached) : Type 0 where
   pub at : ℕ
   pub found : place_of name (names_of old.views) ≡ Some at
-  pub taken : slice_get old.views at ≡ Some (view_of name store)
+  pub accepted : slice_get old.views at ≡ Some (view_of name store)
   pub rest : new.views ≡ remove old.views at
   pub places : new.places ≡ places_without name old.places
   pub where_known : old.known at → store.known

@@ -115,7 +115,7 @@ impl Stores {
     pub fn attach(&mut self, name: Name, store: Box<dyn Store>) -> Result<(), AttachRefused>
         ensures ok { OnOk result (IsAdded name (state store) (⟦<Stores as Registry>⟧.state self.old) (⟦<Stores as Registry>⟧.state self.new)) }
         ensures err { OnErr result (AreUnchanged (⟦<Stores as Registry>⟧.state self.old) (⟦<Stores as Registry>⟧.state self.new)) }
-        ensures taken { (result ≡ Err (AttachRefused.NameTaken store)) ↔ IsSome (index_in (⟦<Stores as Registry>⟧.state self.old) name) }
+        ensures accepted { (result ≡ Err (AttachRefused.NameTaken store)) ↔ IsSome (index_in (⟦<Stores as Registry>⟧.state self.old) name) }
         ensures back { OnErr result ((result ≡ Err (AttachRefused.NameTaken store)) ⊎ (result ≡ Err (AttachRefused.NoMemory store))) }
     {
         if self.index_of(&name).is_some() {

@@ -1,11 +1,10 @@
 -- The representation invariant of a transaction.
 use Rattle.std.specs.Prelude.{◌≡◌, List}
-use Rattle.sdb_types.specs.declared.record.Record.{Record}
-use Rattle.sdb_record.specs.declared.access.Access.{Access}
-use Rattle.sdb_read.specs.declared.read.ReadStep.{ReadStep}
-use Rattle.sdb_read.specs.declared.read.ReadStep.TheVariants as step
-use Rattle.sdb_read.specs.Read.{request_of}
-use Rattle.sdb_read.specs.Valid.{AreWithin, IsValid}
+use Rattle.sdb_txn.specs.Types.{Access, Record}
+use Rattle.sdb_txn.specs.declared.read.ReadStep.{ReadStep}
+use Rattle.sdb_txn.specs.declared.read.ReadStep.TheVariants as step
+use Rattle.sdb_txn.specs.Read.{request_of}
+use Rattle.sdb_txn.specs.Valid.{AreWithin, IsValid}
 use Rattle.sdb_snapshot.specs.Seen.{Seen}
 use Rattle.sdb_txn.specs.declared.txn.Doing.{Doing}
 use Rattle.sdb_txn.specs.declared.txn.Doing.TheVariants as doing

@@ -1,2 +1,9 @@
+pub mod Types
 pub mod Txn
 pub mod Inside
+pub mod Read
+pub mod Rows
+pub mod ReadInside
+pub mod Valid
+pub mod Phases
+pub mod CommitInside

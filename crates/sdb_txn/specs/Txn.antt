@@ -1,22 +1,15 @@
 -- A transaction, and where each reply leads it.
 use Rattle.std.specs.Prelude.{◌≡◌, ◌≢◌, ◌≤◌, ℤ, false, List, length, Option, Some, None, slice_get}
-use Rattle.sdb_types.specs.declared.txid.TxId.{TxId}
-use Rattle.sdb_types.specs.declared.key.Key.{Key}
-use Rattle.sdb_types.specs.declared.record.Record.{Record}
-use Rattle.sdb_types.specs.declared.record.Reply.{Reply}
-use Rattle.sdb_types.specs.declared.record.Request.{Request}
-use Rattle.sdb_types.specs.declared.record.Span.{Span}
-use Rattle.sdb_record.specs.declared.access.Access.{Access}
+use Rattle.sdb_txn.specs.Types.{Access, Key, Outcome, Record, Reply, Request, Span, TxId}
 use Rattle.sdb_record.specs.declared.access.Access.TheVariants as access
-use Rattle.sdb_phases.specs.declared.step.Outcome.{Outcome}
 use Rattle.sdb_phases.specs.declared.step.Outcome.TheVariants as outcome
 use Rattle.sdb_phases.specs.Work.{Work}
 use Rattle.sdb_phases.specs.Commit.{Over, after as commit_after, pending as commit_pending, preparing, step as commit_step}
 use Rattle.sdb_phases.specs.CommitLaws.{AreReplies, exact_calls, most_calls, seen}
-use Rattle.sdb_commit.specs.Phases.{CommitAt, IsNext, ended_at}
-use Rattle.sdb_read.specs.declared.read.ReadStep.{ReadStep}
-use Rattle.sdb_read.specs.declared.read.ReadStep.TheVariants as step
-use Rattle.sdb_read.specs.Read.{ReadAt, ReadStage, Asking, read_pending, read_result, read_step, request_of}
+use Rattle.sdb_txn.specs.Phases.{CommitAt, IsNext, ended_at}
+use Rattle.sdb_txn.specs.declared.read.ReadStep.{ReadStep}
+use Rattle.sdb_txn.specs.declared.read.ReadStep.TheVariants as step
+use Rattle.sdb_txn.specs.Read.{ReadAt, ReadStage, Asking, read_pending, read_result, read_step, request_of}
 use Rattle.sdb_snapshot.specs.Reads.{IsFirstDifference, IsUnmoved, is_key_read}
 use Rattle.sdb_snapshot.specs.Seen.{Seen, nothing, overlay, with_get, with_scan}
 use Rattle.sdb_txn.specs.declared.progress.Progress.{Progress}
@@ -101,14 +94,14 @@ StepPost t a x next s p u = EndPost t a s p u
 -- A reply leads a read where the definition of a read says; or it is out of memory, and has recorded no read.
 pub record ReadPost (t : TxnAt) (a : Access) (x : ReadAt) (r : Reply) (now : ℤ) (p : Progress) (u : TxnAt) : Type 0 where
   pub memory : p ≡ progress.NoMemory → u ≡ idle t
-  pub told : p ≢ progress.NoMemory → StepPost t a x (read_step x.stage now r) (read_result (read_step x.stage now r)) p u
+  pub answered : p ≢ progress.NoMemory → StepPost t a x (read_step x.stage now r) (read_result (read_step x.stage now r)) p u
 
 ---- a COMMIT
 
 abbrev pub work_of : TxnAt → ℤ → Work
 work_of t now = record { id = t.id; now = now; writes = t.seen.writes; reads = t.seen.reads; scans = t.seen.scans }
 
--- the COMMIT is taken
+-- the COMMIT is accepted
 abbrev pub committing : TxnAt → ℤ → TxnAt
 committing t now = record { id = t.id; seen = nothing; doing = doing.Commit (record { work = work_of t now; stage = preparing (work_of t now) 0 }) }
 

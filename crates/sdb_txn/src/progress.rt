@@ -28,7 +28,7 @@ pub enum Progress {
 }
 
 /// What the answer of a COMMIT is returned as; another call is pending where there is none yet.
-pub fn told(answer: Option<Outcome>) -> Progress
+pub fn answered(answer: Option<Outcome>) -> Progress
     ensures { result ≡ progress_of answer }
 {
     match answer {

@@ -4,7 +4,7 @@ ghost use Rattle.std.specs.Option.{option_copied};
 ghost use Rattle.sdb_record.specs.declared.access.Access.TheVariants as access;
 ghost use Rattle.sdb_phases.specs.CommitLaws.{IsWork};
 ghost use Rattle.sdb_phases.specs.Steps.{CanGet};
-ghost use Rattle.sdb_read.specs.Read.{read_result, read_step};
+ghost use Rattle.sdb_txn.specs.Read.{read_result, read_step};
 ghost use Rattle.sdb_snapshot.specs.Reads.{is_key_read};
 ghost use Rattle.sdb_snapshot.specs.Written.{AreChanges, most_writes};
 ghost use Rattle.sdb_snapshot.specs.Sets.{IsSetInvariant};
@@ -13,9 +13,8 @@ ghost use Rattle.sdb_snapshot.specs.declared.write_set.WriteRefused.TheVariants 
 ghost use Rattle.sdb_txn.specs.Txn.{AreCallsCounted, CommitPost, EndPost, IfCommitting, IsCommitting, IsReading, IfReading, ImagesPost, IsBegun, IsLookedUp, IsUnread, KeyPost, ReadPost, SpanPost, begun, committing, idle, pending, pending_in, reading, work_of};
 ghost use Rattle.sdb_txn.specs.Inside.{CanEnd, CanRecord, IsReadOf};
 
-use crate::progress::{Progress, told};
-use sdb_commit::CommitPhases;
-use sdb_read::{ReadPhases, ReadStep};
+use crate::progress::{Progress, answered};
+use crate::{CommitPhases, ReadPhases, ReadStep};
 use sdb_record::{Access, Changes};
 use sdb_snapshot::{Mark, NoteRefused, Snapshot, WriteRefused};
 use sdb_types::{Duplicate, Key, Record, Records, Reply, Request, Span, TxId};
@@ -274,7 +273,7 @@ impl Txn {
         requires idle { self.old.doing ≡ Doing.Idle }
         requires valid { CanEnd self.old.seen access.now step }
         ensures memory { result ≡ Progress.NoMemory → self.new ≡ self.old }
-        ensures told { result ≢ Progress.NoMemory → EndPost self.old access.now step result self.new }
+        ensures answered { result ≢ Progress.NoMemory → EndPost self.old access.now step result self.new }
     {
         match step {
             ReadStep::Images(images) => self.record_read(access, images),
@@ -299,7 +298,7 @@ impl Txn {
         if answer.is_some() {
             self.doing = Doing::Over;
         }
-        told(answer)
+        answered(answer)
     }
 
     // Returns the rows that are seen where a read was recorded, or forgets what was recorded after the mark.
@@ -325,7 +324,7 @@ impl Txn {
 
     // A key that was read differs: the transaction has ended.
     fn conflict(&mut self, key: Key, found: Option<Record>) -> Progress
-        ensures told { result ≡ Progress.Conflict key found }
+        ensures answered { result ≡ Progress.Conflict key found }
         ensures over { self.new ≡ record self.old { doing = Doing.Over } }
     {
         self.doing = Doing::Over;
@@ -338,7 +337,7 @@ impl Txn {
         requires of { whole.now ≡ access.Get key.now }
         requires valid { CanRecord self.old.seen (access.Get key.now) images }
         ensures memory { result ≡ Progress.NoMemory → self.new ≡ self.old }
-        ensures told { result ≢ Progress.NoMemory → KeyPost self.old key.now images result self.new }
+        ensures answered { result ≢ Progress.NoMemory → KeyPost self.old key.now images result self.new }
     {
         let mark = self.snapshot.mark();
         let Ok(as_read) = key.copy() else {
@@ -356,7 +355,7 @@ impl Txn {
         requires of { whole.now ≡ access.Scan span.now }
         requires valid { CanRecord self.old.seen (access.Scan span.now) images }
         ensures memory { result ≡ Progress.NoMemory → self.new ≡ self.old }
-        ensures told { result ≢ Progress.NoMemory → SpanPost self.old span.now images result self.new }
+        ensures answered { result ≢ Progress.NoMemory → SpanPost self.old span.now images result self.new }
     {
         let mark = self.snapshot.mark();
         let Ok(as_read) = span.copy() else {
@@ -373,7 +372,7 @@ impl Txn {
         requires idle { self.old.doing ≡ Doing.Idle }
         requires valid { CanRecord self.old.seen access.now images }
         ensures memory { result ≡ Progress.NoMemory → self.new ≡ self.old }
-        ensures told { result ≢ Progress.NoMemory → ImagesPost self.old access.now images result self.new }
+        ensures answered { result ≢ Progress.NoMemory → ImagesPost self.old access.now images result self.new }
     {
         match access {
             Access::Get(key) => self.note_key(access, key, images),

@@ -44,7 +44,7 @@ column-put_same p (e ∷ es) =
     (λ q. simp (q, itself p.name) refl)
     (λ q. simp (q, itself p.name) refl)
 
--- a name that is another's is not told by the test
+-- a name that is another's is not answered by the test
 apart : (a b : List ℕ) → (a ≡ b → ⊥) → is_eq (name_cmp a b) ≡ false
 apart a b n =
     by_order (name_cmp a b)
@@ -105,7 +105,7 @@ column-with_column_other p ps name n =
       | false ↦ column-put_other p ps name n
     ]
 
--- what is first is told, and what is above it isn't
+-- what is first is answered, and what is above it isn't
 first_told : (e : Pair) (es : List Pair) → column (e ∷ es) e.name ≡ Some e.value
 first_told e es = simp (itself e.name) refl
 

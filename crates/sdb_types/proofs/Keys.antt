@@ -28,11 +28,11 @@ pub same_key_of : (a b : Key) → a ≡ b → same_key a b ≡ true
 same_key_of a b e = ap (same_key a) (sym e) ∙ same_key_self a
 
 pub same_key_tells : (a b : Key) → ((same_key a b ≡ true) × (a ≡ b)) ⊎ ((same_key a b ≡ false) × (a ≢ b))
-same_key_tells a b = told (same_key a b) refl
+same_key_tells a b = answered (same_key a b) refl
   where
-    told : (t : Bool) → same_key a b ≡ t → ((same_key a b ≡ true) × (a ≡ b)) ⊎ ((same_key a b ≡ false) × (a ≢ b))
-    told true h = inl (h, same_key_exact a b h)
-    told false h = inr (h, λ e. clash (sym (same_key_of a b e) ∙ h))
+    answered : (t : Bool) → same_key a b ≡ t → ((same_key a b ≡ true) × (a ≡ b)) ⊎ ((same_key a b ≡ false) × (a ≢ b))
+    answered true h = inl (h, same_key_exact a b h)
+    answered false h = inr (h, λ e. clash (sym (same_key_of a b e) ∙ h))
       where
         clash : true ≡ false → ⊥
         clash e = absurd (cc)

@@ -1,4 +1,4 @@
--- Pieces that were taken or written one after another.
+-- Pieces that were accepted or written one after another.
 use Rattle.std.proofs.Common.{◌-◌, length-drop, ◌≡◌, ◌∙◌, sym, ap, ℕ, ◌+◌, ◌≤◌, List, ◌++◌, length, take, drop, append_assoc, arith}
 use Rattle.std.proofs.lemmas.List.{length-take, take_all, take-append-le, drop-drop, take-append-drop}
 use Rattle.std.proofs.Math.Seq.{take-add}

@@ -57,7 +57,7 @@ impl Source for Feed {
     fn read(&mut self, buffer: &mut [u8]) -> Result<usize, Failed>
         requires { 0 < length buffer.old }
         ensures fits { IfOk result (λ n. n ≤ length buffer.old) }
-        ensures taken { IfOk result (λ n. Takes (take n buffer.new) (Some self.old.left) (Some self.new.left)) }
+        ensures accepted { IfOk result (λ n. Takes (take n buffer.new) (Some self.old.left) (Some self.new.left)) }
         ensures end { IfOk result (λ n. n ≡ 0 → IsAtEnd (Some self.old.left)) }
         ensures later { self.old.failed ≤ self.new.failed }
         ensures cause { OnErr result (HasRisen self.old.failed self.new.failed) }

@@ -38,10 +38,10 @@ impl Numbers {
 }
 
 impl Ids for Numbers {
-    ghost told = { λ n. answers_given (number_from n.first) n.made };
+    ghost answered = { λ n. answers_given (number_from n.first) n.made };
 
     fn draw(&mut self) -> u128
-        ensures told { IsAppended result (answers_given (number_from self.old.first) self.old.made) (answers_given (number_from self.new.first) self.new.made) }
+        ensures answered { IsAppended result (answers_given (number_from self.old.first) self.old.made) (answers_given (number_from self.new.first) self.new.made) }
         ensures exact { result ≡ self.old.next }
         ensures next { self.new.next ≡ (self.old.next + 1) % 2 ^ 128 }
         ensures made { self.new.made ≡ counted self.old.made }

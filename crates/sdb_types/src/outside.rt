@@ -27,7 +27,7 @@ pub trait Source {
     fn read(&mut self, buffer: &mut [u8]) -> Result<usize, Failed>
         requires { 0 < length buffer.old }
         ensures fits { IfOk result (λ n. n ≤ length buffer.old) }
-        ensures taken { IfOk result (λ n. Takes (take n buffer.new) (remaining self.old) (remaining self.new)) }
+        ensures accepted { IfOk result (λ n. Takes (take n buffer.new) (remaining self.old) (remaining self.new)) }
         ensures end { IfOk result (λ n. n ≡ 0 → IsAtEnd (remaining self.old)) }
         ensures later { faults self.old ≤ faults self.new }
         ensures cause { OnErr result (HasRisen (faults self.old) (faults self.new)) }
@@ -56,21 +56,21 @@ pub trait Sink {
 /// Where the time comes from, in milliseconds.
 pub trait Clock {
     /// The answers given so far, where they are known.
-    ghost told: { Self → Option (List ℤ) };
+    ghost answered: { Self → Option (List ℤ) };
 
     /// The time, from 0 to 2^53. It takes no memory.
     fn now(&mut self) -> i64
         ensures low { pos 0 ≤ℤ result }
         ensures high { result ≤ℤ pos (2 ^ 53) }
-        ensures told { IsAppended result (told self.old) (told self.new) };
+        ensures answered { IsAppended result (answered self.old) (answered self.new) };
 }
 
 /// Where ids of transactions come from.
 pub trait Ids {
     /// The answers given so far, where they are known.
-    ghost told: { Self → Option (List ℕ) };
+    ghost answered: { Self → Option (List ℕ) };
 
     /// An id, of any bits. It takes no memory.
     fn draw(&mut self) -> u128
-        ensures { IsAppended result (told self.old) (told self.new) };
+        ensures { IsAppended result (answered self.old) (answered self.new) };
 }

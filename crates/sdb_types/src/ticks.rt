@@ -48,12 +48,12 @@ impl Ticks {
 }
 
 impl Clock for Ticks {
-    ghost told = { λ t. answers_given (moment_of t.moments) t.made };
+    ghost answered = { λ t. answers_given (moment_of t.moments) t.made };
 
     fn now(&mut self) -> i64
         ensures low { pos 0 ≤ℤ result }
         ensures high { result ≤ℤ pos (2 ^ 53) }
-        ensures told { IsAppended result (answers_given (moment_of self.old.moments) self.old.made) (answers_given (moment_of self.new.moments) self.new.made) }
+        ensures answered { IsAppended result (answers_given (moment_of self.old.moments) self.old.made) (answers_given (moment_of self.new.moments) self.new.made) }
         ensures exact { result ≡ moment_of self.old.moments self.old.made }
         ensures made { self.new.made ≡ counted self.old.made }
         ensures kept { self.new.moments ≡ self.old.moments }

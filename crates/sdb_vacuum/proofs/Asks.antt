@@ -1,16 +1,11 @@
 -- A call is pending wherever a VACUUM goes on.
 use Rattle.std.proofs.Common.{◌≡◌, ℕ, ℤ, true, false, cond, List, Some, None, Result, Ok, Err, refl}
 use Rattle.std.specs.Prelude.{IsSome}
-use Rattle.sdb_types.specs.declared.record.Record.{Record}
-use Rattle.sdb_types.specs.declared.record.Reply.{Reply}
+use Rattle.sdb_vacuum.specs.Types.{Decided, Meta, Record, RecoverPhase, RecoverStep, Reply}
 use Rattle.sdb_types.specs.declared.record.Reply.TheVariants as reply
-use Rattle.sdb_record.specs.declared.coordinator.Decided.{Decided}
 use Rattle.sdb_record.specs.declared.coordinator.Decision.TheVariants as decision
 use Rattle.sdb_record.specs.Coordinator.{decision_in, is_expired}
-use Rattle.sdb_record.specs.declared.meta.Meta.{Meta}
-use Rattle.sdb_phases.specs.declared.step.RecoverStep.{RecoverStep}
 use Rattle.sdb_phases.specs.declared.step.RecoverStep.TheVariants as steps
-use Rattle.sdb_phases.specs.declared.step.RecoverPhase.{RecoverPhase}
 use Rattle.sdb_phases.specs.declared.step.RecoverPhase.TheVariants as recover
 use Rattle.sdb_phases.specs.Recover.{recover_next, recover_request_at, roll_to, undecided}
 use Rattle.sdb_vacuum.specs.declared.work.Doing.{Doing}

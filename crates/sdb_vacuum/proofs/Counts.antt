@@ -5,32 +5,23 @@ use Rattle.std.specs.Option.{option_map}
 use Rattle.std.specs.List.{filter}
 use Rattle.std.proofs.lemmas.List.{length-append, length-map}
 use Rattle.std.proofs.lemmas.List.Elements.{filter-append}
-use Rattle.sdb_types.specs.declared.txid.TxId.{TxId}
-use Rattle.sdb_types.specs.declared.record.Record.{Record}
-use Rattle.sdb_types.specs.declared.record.Span.{Span}
-use Rattle.sdb_types.specs.declared.record.Reply.{Reply}
+use Rattle.sdb_vacuum.specs.Types.{Decided, Meta, Record, RecoverPhase, RecoverStep, Reply, Request, Span, Table, TxId}
 use Rattle.sdb_types.specs.declared.record.Reply.TheVariants as reply
-use Rattle.sdb_types.specs.declared.record.Request.{Request}
 use Rattle.sdb_types.specs.declared.record.Request.TheVariants as ask
 use Rattle.sdb_types.specs.declared.record.Condition.TheVariants as condition
 use Rattle.sdb_types.specs.declared.record.State.TheVariants as state
 use Rattle.sdb_types.proofs.Bools.{and_second}
-use Rattle.sdb_record.specs.declared.coordinator.Decided.{Decided}
 use Rattle.sdb_record.specs.declared.coordinator.Decision.TheVariants as decision
-use Rattle.sdb_record.specs.declared.meta.Meta.{Meta}
 use Rattle.sdb_record.specs.Coordinator.{decision_in, is_expired}
 use Rattle.sdb_record.specs.Meta.{checked, id_in, is_committed, is_in, is_transactional, is_unresolved}
 use Rattle.sdb_record.specs.Parts.{before_record}
 use Rattle.sdb_record.specs.Rolls.{IsBaseOf, is_tombstone, AreCommitted, remove_request, undo}
 use Rattle.sdb_record.proofs.ImageLaws.{checked-state}
-use Rattle.sdb_schema.specs.declared.table.Table.{Table}
-use Rattle.sdb_phases.specs.declared.step.RecoverStep.{RecoverStep}
 use Rattle.sdb_phases.specs.declared.step.RecoverStep.TheVariants as steps
-use Rattle.sdb_phases.specs.declared.step.RecoverPhase.{RecoverPhase}
 use Rattle.sdb_phases.specs.declared.step.RecoverPhase.TheVariants as recover
 use Rattle.sdb_phases.specs.Recover.{Received, recover_next, recover_request_at, roll_to, is_as_found, undecided}
 use Rattle.sdb_phases.specs.Steps.{CanGet}
-use Rattle.sdb_read.specs.Read.{Kind, Firm, Open, Bad, kind_of}
+use Rattle.sdb_txn.specs.Read.{Kind, Firm, Open, Bad, kind_of}
 use Rattle.sdb_vacuum.specs.declared.work.VacuumStep.{VacuumStep}
 use Rattle.sdb_vacuum.specs.declared.work.VacuumStep.TheVariants as step
 use Rattle.sdb_vacuum.specs.Vacuum.{First, Nothing, Tombstone, Unresolved, Malformed, VacuumAt, VacuumStage, Scanning, Resolving, Removing, Over, answered, first_of, first_one, with_call, next_of_row, next_table, pending_at, removal_answered, resolved, spans_of, step_at, tombstone_or, whole}
@@ -243,11 +234,11 @@ removal_exact ss n q b left (reply.Rows rows) k total is h f e = λ m e. absurd 
 removal_exact ss n q b left reply.Fault k total is h f e = λ m e. absurd (cc)
 removal_exact ss n q b left reply.NoMemory k total is h f e = λ m e. absurd (cc)
 
-step_exact : (ss : List Span) (n : ℕ) (s : VacuumStage) (told : VacuumStep) (now : ℤ) (r : Reply) (k total : ℕ) → CanGet (pending_at s) r → AreCommitted (rows_in r) → IsExact s told (length ss) k total → Exact (step_at ss n s now r) (suc k) (total + tombstones (rows_in r))
-step_exact ss n (Scanning span) told now r k total h f e = answered_exact ss n r (suc k) (total + tombstones (rows_in r)) f (omega arith)
-step_exact ss n (Resolving rec meta p left) told now r k total h f e = absurd e
-step_exact ss n (Removing b left) told now r k total h f e = removal_exact ss n (remove_request b) b left r (suc k) total refl h e.0 e.1
-step_exact ss n Over told now r k total h f e = absurd h
+step_exact : (ss : List Span) (n : ℕ) (s : VacuumStage) (acked : VacuumStep) (now : ℤ) (r : Reply) (k total : ℕ) → CanGet (pending_at s) r → AreCommitted (rows_in r) → IsExact s acked (length ss) k total → Exact (step_at ss n s now r) (suc k) (total + tombstones (rows_in r))
+step_exact ss n (Scanning span) acked now r k total h f e = answered_exact ss n r (suc k) (total + tombstones (rows_in r)) f (omega arith)
+step_exact ss n (Resolving rec meta p left) acked now r k total h f e = absurd e
+step_exact ss n (Removing b left) acked now r k total h f e = removal_exact ss n (remove_request b) b left r (suc k) total refl h e.0 e.1
+step_exact ss n Over acked now r k total h f e = absurd h
 
 firm_first : (xs ys : List Record) → AreCommitted (xs ++ ys) → AreCommitted xs × AreCommitted ys
 firm_first [] ys h = (tt, h)
@@ -267,11 +258,11 @@ exact catalog (c ∷ past) h f =
     subst (λ (m : ℕ). Exact (step_at v.spans v.removed v.stage c.now c.reply) (suc (length past)) m) total
     (step_exact v.spans v.removed v.stage (vacuum_answer catalog past) c.now c.reply (length past) (length catalog + tombstones (rows_scanned past)) h.1 both.0 before)
 
-counted_exact : (s : VacuumStage) (told : VacuumStep) (m k total n : ℕ) → IsExact s told m k total → (told ≡ step.Count n → s ≡ Over) → told ≡ step.Count n → k ≡ total
-counted_exact Over told m k total n h over e = h n e
-counted_exact (Scanning span) told m k total n h over e = absurd (let o = over e in cc)
-counted_exact (Resolving rec meta p left) told m k total n h over e = absurd h
-counted_exact (Removing b left) told m k total n h over e = absurd (let o = over e in cc)
+counted_exact : (s : VacuumStage) (acked : VacuumStep) (m k total n : ℕ) → IsExact s acked m k total → (acked ≡ step.Count n → s ≡ Over) → acked ≡ step.Count n → k ≡ total
+counted_exact Over acked m k total n h over e = h n e
+counted_exact (Scanning span) acked m k total n h over e = absurd (let o = over e in cc)
+counted_exact (Resolving rec meta p left) acked m k total n h over e = absurd h
+counted_exact (Removing b left) acked m k total n h over e = absurd (let o = over e in cc)
 
 ---- what is answered at the end
 
@@ -334,7 +325,7 @@ counted catalog (c ∷ past) = let v = vacuum_after catalog past in step_counted
 pub exact_calls : (catalog : List Table) (past : List Received) (n : ℕ) → VacuumReplies catalog past → AreCommitted (rows_scanned past) → vacuum_answer catalog past ≡ step.Count n → length past ≡ length catalog + tombstones (rows_scanned past)
 exact_calls catalog past n h f e =
     let v = vacuum_after catalog past in
-    counted_exact v.stage (vacuum_answer catalog past) (length v.spans) (length past) (length catalog + tombstones (rows_scanned past)) n (exact catalog past h f) (λ told. (counted catalog past n told).0) e
+    counted_exact v.stage (vacuum_answer catalog past) (length v.spans) (length past) (length catalog + tombstones (rows_scanned past)) n (exact catalog past h f) (λ acked. (counted catalog past n acked).0) e
 
 ---- removals
 

@@ -5,35 +5,27 @@ use Rattle.std.specs.List.{list_any}
 use Rattle.std.specs.Ordering.{is_eq}
 use Rattle.std.proofs.lemmas.Cmp.{eq_by_cmp_equiv}
 use Rattle.std.proofs.lemmas.List.Folds.{list_any-append}
-use Rattle.sdb_types.specs.declared.key.Key.{Key}
-use Rattle.sdb_types.specs.declared.record.Record.{Record}
-use Rattle.sdb_types.specs.declared.record.Span.{Span}
-use Rattle.sdb_types.specs.declared.record.Reply.{Reply}
+use Rattle.sdb_vacuum.specs.Types.{Decided, Key, Meta, Record, RecoverPhase, RecoverStep, Reply, Span, Table}
 use Rattle.sdb_types.specs.declared.record.Reply.TheVariants as reply
 use Rattle.sdb_types.specs.declared.record.State.TheVariants as state
 use Rattle.sdb_types.specs.Order.{key_cmp}
 use Rattle.sdb_types.proofs.Basics.{or_second}
 use Rattle.sdb_types.proofs.Bools.{and_both, and_second, or_first}
 use Rattle.sdb_types.proofs.KeyOrder.{key_total}
-use Rattle.sdb_record.specs.declared.coordinator.Decided.{Decided}
 use Rattle.sdb_record.specs.declared.coordinator.Decision.TheVariants as decision
-use Rattle.sdb_record.specs.declared.meta.Meta.{Meta}
 use Rattle.sdb_record.specs.Coordinator.{coordinator_key_of, decision_in, is_expired}
 use Rattle.sdb_record.specs.Meta.{checked, is_in, is_transactional}
 use Rattle.sdb_record.specs.Parts.{are_stored}
 use Rattle.sdb_record.specs.Rolls.{is_tombstone}
 use Rattle.sdb_record.proofs.ImageLaws.{row-key}
-use Rattle.sdb_schema.specs.declared.table.Table.{Table}
-use Rattle.sdb_phases.specs.declared.step.RecoverStep.{RecoverStep}
 use Rattle.sdb_phases.specs.declared.step.RecoverStep.TheVariants as steps
-use Rattle.sdb_phases.specs.declared.step.RecoverPhase.{RecoverPhase}
 use Rattle.sdb_phases.specs.declared.step.RecoverPhase.TheVariants as recover
 use Rattle.sdb_phases.specs.CommitLaws.{holds_malformed, is_malformed}
 use Rattle.sdb_phases.specs.Recover.{Received, recover_next, recover_request_at, roll_to, undecided}
 use Rattle.sdb_phases.specs.RecoverLaws.{received_fault}
 use Rattle.sdb_phases.specs.Steps.{CanGet}
 use Rattle.sdb_phases.proofs.Stands.{row_malformed}
-use Rattle.sdb_read.specs.Read.{Kind, Firm, Open, Bad, kind_of, opened}
+use Rattle.sdb_txn.specs.Read.{Kind, Firm, Open, Bad, kind_of, opened}
 use Rattle.sdb_vacuum.specs.declared.work.VacuumStep.{VacuumStep}
 use Rattle.sdb_vacuum.specs.declared.work.VacuumStep.TheVariants as step
 use Rattle.sdb_vacuum.specs.Vacuum.{First, Nothing, Tombstone, Unresolved, Malformed, VacuumAt, VacuumStage, Scanning, Resolving, Removing, Over, answered, first_of, first_one, with_call, next_of_row, next_table, pending_at, removal_answered, resolved, spans_of, step_at, tombstone_or}
@@ -84,7 +76,7 @@ SoFar past x = Known past x.0.stage × Cause past x.1
 
 ---- the first row that needs a call
 
-bad_by : (taken committed : Bool) (k : Result Meta (List ℕ)) → (taken ≡ true → is_ok k ≡ true) → (if taken then (if committed then Firm else opened k) else Bad) ≡ Bad → taken ≡ false
+bad_by : (accepted committed : Bool) (k : Result Meta (List ℕ)) → (accepted ≡ true → is_ok k ≡ true) → (if accepted then (if committed then Firm else opened k) else Bad) ≡ Bad → accepted ≡ false
 bad_by true true k ok h = absurd (cc)
 bad_by true false (Ok meta) ok h = absurd (cc)
 bad_by true false (Err column) ok h = absurd (let e = ok refl in cc)

@@ -1,29 +1,23 @@
 -- What a VACUUM resolves and removes is fine after each reply that its call can get.
 use Rattle.std.proofs.Common.{◌≡◌, ℕ, ℤ, ◌+◌, Bool, true, false, List, [], ◌∷◌, Some, None, Ok, refl, ap}
 use Rattle.std.specs.Prelude.{if◌then◌else◌}
-use Rattle.sdb_types.specs.declared.record.Record.{Record}
-use Rattle.sdb_types.specs.declared.record.Span.{Span}
-use Rattle.sdb_types.specs.declared.record.Reply.{Reply}
+use Rattle.sdb_vacuum.specs.Types.{Meta, Record, RecoverPhase, RecoverStep, Reply, Span, Table}
 use Rattle.sdb_types.specs.declared.record.Reply.TheVariants as reply
 use Rattle.sdb_types.specs.declared.record.Request.TheVariants as ask
 use Rattle.sdb_types.specs.declared.record.State.TheVariants as state
-use Rattle.sdb_record.specs.declared.meta.Meta.{Meta}
 use Rattle.sdb_record.specs.Meta.{checked, is_in, is_transactional, is_unresolved}
 use Rattle.sdb_record.specs.Rolls.{IsBaseOf, is_tombstone}
-use Rattle.sdb_schema.specs.declared.table.Table.{Table}
-use Rattle.sdb_phases.specs.declared.step.RecoverStep.{RecoverStep}
 use Rattle.sdb_phases.specs.declared.step.RecoverStep.TheVariants as steps
-use Rattle.sdb_phases.specs.declared.step.RecoverPhase.{RecoverPhase}
 use Rattle.sdb_phases.specs.Recover.{Received, recover_next}
 use Rattle.sdb_phases.specs.Steps.{CanGet}
-use Rattle.sdb_read.specs.Read.{Kind, Firm, Open, Bad, Resolving as Reads, kind_of, resolved as read_resolved}
-use Rattle.sdb_read.specs.Valid.{IsValid as IsReadFine}
-use Rattle.sdb_read.proofs.Keeps.{step_fine, firm_by, open_by}
+use Rattle.sdb_txn.specs.Read.{Kind, Firm, Open, Bad, Resolving as Reads, kind_of, resolved as read_resolved}
+use Rattle.sdb_txn.specs.Valid.{IsValid as IsReadFine}
+use Rattle.sdb_txn.proofs.Keeps.{step_fine, firm_by, open_by}
 use Rattle.sdb_vacuum.specs.Vacuum.{First, Nothing, Tombstone, Unresolved, Malformed, VacuumStage, Scanning, Resolving, Removing, Over, answered, first_of, first_one, with_call, next_of_row, next_table, pending_at, removal_answered, resolved, spans_of, step_at, tombstone_or}
 use Rattle.sdb_vacuum.specs.Valid.{IsValid}
 use Rattle.sdb_vacuum.specs.Calls.{VacuumReplies, vacuum_after}
-use Rattle.sdb_read.specs.Rows.{sort_of}
-use Rattle.sdb_read.proofs.Firm.{open_unresolved}
+use Rattle.sdb_txn.specs.Rows.{sort_of}
+use Rattle.sdb_txn.proofs.Firm.{open_unresolved}
 
 ---- what a row is
 

@@ -1,8 +1,7 @@
 -- What the test of a row says of it.
 use Rattle.std.proofs.Common.{◌≡◌, ◌<◌, ◌^◌}
 use Rattle.std.specs.Prelude.{Ok, Some}
-use Rattle.sdb_types.specs.declared.record.Record.{Record}
-use Rattle.sdb_record.specs.declared.meta.Meta.{Meta}
+use Rattle.sdb_vacuum.specs.Types.{Meta, Record}
 use Rattle.sdb_record.specs.Meta.{checked, id_in}
 use Rattle.sdb_record.proofs.ImageLaws.{checked-version, version-writer}
 

@@ -2,8 +2,7 @@
 use Rattle.std.proofs.Common.{◌≡◌, ℕ, ◌+◌, List, [], ◌∷◌, ◌++◌, map, take, Some, slice_get, sym, ap, ◌∙◌}
 use Rattle.std.proofs.lemmas.List.{map-append, take_more}
 use Rattle.std.proofs.lemmas.Option.{get_or_from_slice_get, slice_get_within}
-use Rattle.sdb_types.specs.declared.record.Span.{Span}
-use Rattle.sdb_schema.specs.declared.table.Table.{Table}
+use Rattle.sdb_vacuum.specs.Types.{Span, Table}
 use Rattle.sdb_vacuum.specs.Vacuum.{whole}
 
 pub span_more : (ts : List Table) (spans more : List Span) (i : ℕ) (t : Table) (s : Span) → slice_get ts i ≡ Some t → s ≡ whole t → spans ≡ map whole (take i ts) → more ≡ spans ++ s ∷ [] → more ≡ map whole (take (i + 1) ts)

@@ -1,16 +1,12 @@
 -- A VACUUM after any replies, and its calls.
 use Rattle.std.specs.Prelude.{ℕ, ◌+◌, Bool, false, ◌&&◌, if◌then◌else◌, List, [], ◌∷◌, ◌++◌, Option, Some, length}
 use Rattle.std.specs.List.{filter}
-use Rattle.sdb_types.specs.declared.record.Record.{Record}
-use Rattle.sdb_types.specs.declared.record.Reply.{Reply}
+use Rattle.sdb_vacuum.specs.Types.{Condition, Record, Reply, Request, Table}
 use Rattle.sdb_types.specs.declared.record.Reply.TheVariants as reply
-use Rattle.sdb_types.specs.declared.record.Request.{Request}
 use Rattle.sdb_types.specs.declared.record.Request.TheVariants as ask
-use Rattle.sdb_types.specs.declared.record.Condition.{Condition}
 use Rattle.sdb_types.specs.declared.record.Condition.TheVariants as condition
 use Rattle.sdb_record.specs.Meta.{is_committed}
 use Rattle.sdb_record.specs.Rolls.{is_tombstone}
-use Rattle.sdb_schema.specs.declared.table.Table.{Table}
 use Rattle.sdb_phases.specs.Recover.{Received}
 use Rattle.sdb_phases.specs.Steps.{CanGet}
 use Rattle.sdb_vacuum.specs.declared.work.VacuumStep.{VacuumStep}

@@ -1,7 +1,6 @@
 -- The representation of a VACUUM under way, and its invariant.
 use Rattle.std.specs.Prelude.{◌≡◌, List, Option, Some, None}
-use Rattle.sdb_types.specs.declared.record.Record.{Record}
-use Rattle.sdb_types.specs.declared.record.Request.{Request}
+use Rattle.sdb_vacuum.specs.Types.{Record, Request}
 use Rattle.sdb_types.specs.declared.record.Request.TheVariants as ask
 use Rattle.sdb_phases.specs.Recover.{Recovers, recover_request}
 use Rattle.sdb_vacuum.specs.declared.work.Doing.{Doing}

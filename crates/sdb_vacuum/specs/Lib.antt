@@ -1,3 +1,4 @@
+pub mod Types
 pub mod Vacuum
 pub mod Rows
 pub mod Inside

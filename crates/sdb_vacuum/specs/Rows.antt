@@ -1,12 +1,12 @@
 -- What the rows of a table have come to, as the code holds it.
 use Rattle.std.specs.Prelude.{◌≡◌, List}
 use Rattle.sdb_types.specs.declared.record.Record.{Record}
-use Rattle.sdb_read.specs.Read.{Kind, Firm, Open, Bad, kind_of}
-use Rattle.sdb_read.specs.declared.rows.Sort.TheVariants as sort
+use Rattle.sdb_txn.specs.Read.{Kind, Firm, Open, Bad, kind_of}
+use Rattle.sdb_txn.specs.declared.row_kinds.Sort.TheVariants as sort
 use Rattle.sdb_vacuum.specs.declared.rows.Found.{Found}
 use Rattle.sdb_vacuum.specs.declared.rows.Found.TheVariants as found
 use Rattle.sdb_vacuum.specs.Vacuum.{First, Nothing, Tombstone, Unresolved, Malformed}
-use Rattle.sdb_read.specs.Rows.{sort_of}
+use Rattle.sdb_txn.specs.Rows.{sort_of}
 
 abbrev pub open_first : Kind → Record → List Record → First
 open_first Firm r left = Nothing

@@ -1,7 +1,6 @@
 -- What the laws of a VACUUM speak of.
 use Rattle.std.specs.Prelude.{List}
-use Rattle.sdb_types.specs.declared.record.Record.{Record}
-use Rattle.sdb_schema.specs.declared.table.Table.{Table}
+use Rattle.sdb_vacuum.specs.Types.{Record, Table}
 use Rattle.sdb_phases.specs.Recover.{Received}
 use Rattle.sdb_vacuum.specs.declared.work.VacuumStep.{VacuumStep}
 use Rattle.sdb_vacuum.specs.Calls.{VacuumReplies, rows_scanned, vacuum_answer}
@@ -10,7 +9,7 @@ use Rattle.sdb_vacuum.specs.Calls.{VacuumReplies, rows_scanned, vacuum_answer}
 pub record VacuumRun : Type 0 where
   pub catalog : List Table
   pub past : List Received
-  pub played : VacuumReplies catalog past
+  pub correct : VacuumReplies catalog past
 
 -- what it answers to the newest reply
 abbrev pub answer_of : VacuumRun → VacuumStep

@@ -1,21 +1,13 @@
 -- VACUUM: the rows of each table are read, each unresolved one is resolved, and each tombstone is removed.
 use Rattle.std.specs.Prelude.{◌≡◌, ℕ, ℤ, ◌+◌, if◌then◌else◌, List, [], ◌∷◌, map, Option, Some, None}
-use Rattle.sdb_types.specs.declared.key.Key.{Key}
-use Rattle.sdb_types.specs.declared.record.Record.{Record}
-use Rattle.sdb_types.specs.declared.record.Span.{Span}
-use Rattle.sdb_types.specs.declared.record.Reply.{Reply}
+use Rattle.sdb_vacuum.specs.Types.{Key, Meta, Record, RecoverPhase, RecoverStep, Reply, Request, Span, Table}
 use Rattle.sdb_types.specs.declared.record.Reply.TheVariants as reply
-use Rattle.sdb_types.specs.declared.record.Request.{Request}
 use Rattle.sdb_types.specs.declared.record.Request.TheVariants as ask
-use Rattle.sdb_record.specs.declared.meta.Meta.{Meta}
 use Rattle.sdb_record.specs.Rolls.{is_tombstone, remove_request}
-use Rattle.sdb_schema.specs.declared.table.Table.{Table}
-use Rattle.sdb_phases.specs.declared.step.RecoverStep.{RecoverStep}
 use Rattle.sdb_phases.specs.declared.step.RecoverStep.TheVariants as steps
-use Rattle.sdb_phases.specs.declared.step.RecoverPhase.{RecoverPhase}
 use Rattle.sdb_phases.specs.declared.step.RecoverPhase.TheVariants as phase
 use Rattle.sdb_phases.specs.Recover.{recover_next, recover_request_at}
-use Rattle.sdb_read.specs.Read.{Kind, Firm, Open, Bad, kind_of}
+use Rattle.sdb_txn.specs.Read.{Kind, Firm, Open, Bad, kind_of}
 use Rattle.sdb_vacuum.specs.declared.work.VacuumStep.{VacuumStep}
 use Rattle.sdb_vacuum.specs.declared.work.VacuumStep.TheVariants as step
 

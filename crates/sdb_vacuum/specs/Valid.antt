@@ -2,7 +2,7 @@
 use Rattle.std.specs.Prelude.{◌≡◌, true, Ok}
 use Rattle.sdb_record.specs.Meta.{checked, is_unresolved}
 use Rattle.sdb_record.specs.Rolls.{IsBaseOf, is_tombstone}
-use Rattle.sdb_read.specs.Valid.{IsPhase}
+use Rattle.sdb_txn.specs.Valid.{IsPhase}
 use Rattle.sdb_vacuum.specs.Vacuum.{VacuumStage, Scanning, Resolving, Removing, Over}
 
 -- The record that is resolved is an unresolved one, and the one that is removed is a committed record that deletes its row.

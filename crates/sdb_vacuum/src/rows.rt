@@ -3,8 +3,8 @@ ghost use Rattle.std.specs.Prelude.{◌≡◌, IfOk};
 ghost use Rattle.sdb_vacuum.specs.Vacuum.{first_of};
 ghost use Rattle.sdb_vacuum.specs.Rows.{IsFound, found_as};
 
-use sdb_read::{Sort, sorted};
 use sdb_record::is_tombstone;
+use sdb_txn::{Sort, sorted};
 use sdb_types::{Key, NoMemory, Record};
 use std::alloc::Global;
 use std::collections::VecDeque;

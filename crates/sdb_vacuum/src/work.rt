@@ -1,11 +1,11 @@
 //! What a VACUUM has left to do, and what it does next.
 ghost use Rattle.std.specs.Prelude.{◌≡◌, ◌≢◌, ◌+◌, IfOk, IsSome, Some};
-ghost use Rattle.sdb_read.specs.Read.{kind_of};
+ghost use Rattle.sdb_txn.specs.Read.{kind_of};
 ghost use Rattle.sdb_vacuum.specs.Vacuum.{Gives, Removing, answered, first_of, with_call, next_of_row, next_table as next_table_lem, removal_answered, resolved_to, tombstone_or};
 ghost use Rattle.sdb_vacuum.specs.Rows.{open_first};
-ghost use Rattle.sdb_read.specs.declared.rows.Sort.TheVariants as sort;
+ghost use Rattle.sdb_txn.specs.declared.row_kinds.Sort.TheVariants as sort;
 ghost use Rattle.sdb_vacuum.specs.Inside.{IsDoing, at_of, doing_pending};
-ghost use Rattle.sdb_read.specs.Rows.{sort_of};
+ghost use Rattle.sdb_txn.specs.Rows.{sort_of};
 ghost use Rattle.sdb_record.specs.Rolls.{remove_request};
 
 use crate::rows::{Found, first};
@@ -122,7 +122,7 @@ impl Work {
     }
 
     // Resolves a record.
-    #[tactic(auto, using(sdb_read::proofs::Firm::open_unresolved, sdb_read::proofs::Firm::open_kind))]
+    #[tactic(auto, using(sdb_txn::proofs::Firm::open_unresolved, sdb_txn::proofs::Firm::open_kind))]
     fn resolve(&self, row: Record) -> Next
         requires { sort_of (kind_of row) ≡ sort.Open }
         ensures next { Gives (next_of_row self.now.spans.items self.now.removed (open_first (kind_of row) row self.now.left.items)) (at_of self.now result.doing) result.step }

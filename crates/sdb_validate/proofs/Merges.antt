@@ -3,16 +3,12 @@ use Rattle.std.proofs.Common.{◌≡◌, List, [], ◌∷◌, Option, Some, None
 use Rattle.std.specs.Prelude.{Bool, slice_get}
 use Rattle.std.specs.FinMap.Entries.{by_order}
 use Rattle.std.specs.Ordering.{is_eq, is_lt}
-use Rattle.std.specs.declared.cmp.Ordering.{Ordering}
+use Rattle.sdb_validate.specs.Types.{Expected, Key, Ordering, Record, Wanted}
 use Rattle.std.specs.declared.cmp.Ordering.TheVariants.{Less, Equal, Greater}
-use Rattle.sdb_types.specs.declared.key.Key.{Key}
-use Rattle.sdb_types.specs.declared.record.Record.{Record}
 use Rattle.sdb_types.specs.Order.{key_cmp, same_key}
 use Rattle.sdb_types.specs.Contents.{rise, starts_after, record_among}
 use Rattle.sdb_types.proofs.KeyOrder.{key_total, key_exact}
 use Rattle.sdb_types.proofs.Bools.{and_first, and_second, and_both}
-use Rattle.sdb_phases.specs.declared.check.Expected.{Expected}
-use Rattle.sdb_phases.specs.declared.check.Wanted.{Wanted}
 use Rattle.sdb_phases.specs.Checks.{expected_at, is_fulfilled, is_granted, differs, first_difference}
 use Rattle.sdb_validate.specs.declared.rescan.Verdict.{Verdict}
 use Rattle.sdb_validate.specs.declared.rescan.Verdict.TheVariants as verdict

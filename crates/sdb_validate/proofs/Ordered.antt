@@ -5,15 +5,10 @@ use Rattle.std.specs.List.{list_all}
 use Rattle.std.specs.Ordering.{is_lt}
 use Rattle.std.specs.FinMap.{entries, entries_sorted}
 use Rattle.std.specs.FinMap.Entries.{is_sorted, below_all}
-use Rattle.sdb_types.specs.declared.key.Key.{Key}
+use Rattle.sdb_validate.specs.Types.{Check, Expected, Key, Read, Scan, Write}
 use Rattle.sdb_types.specs.Order.{key_cmp}
 use Rattle.sdb_types.proofs.Bools.{and_first, and_second, and_both}
-use Rattle.sdb_record.specs.declared.access.Read.{Read}
-use Rattle.sdb_record.specs.declared.access.Scan.{Scan}
-use Rattle.sdb_record.specs.declared.write.Write.{Write}
 use Rattle.sdb_record.specs.Among.{is_written}
-use Rattle.sdb_phases.specs.declared.check.Check.{Check}
-use Rattle.sdb_phases.specs.declared.check.Expected.{Expected}
 use Rattle.sdb_phases.specs.Checks.{wanted, wanted_of, wishes, check_of_read, check_of_scan, checks_of}
 use Rattle.sdb_validate.specs.Merge.{below_wanted, wanted_rise, target_rises}
 use Rattle.sdb_validate.specs.Inside.{AreOrdered}

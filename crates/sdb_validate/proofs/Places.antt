@@ -7,18 +7,12 @@ use Rattle.std.specs.Option.{option_or}
 use Rattle.std.specs.BTreeMap.{BTreeMap, get, is_at}
 use Rattle.std.specs.Cmp.{eq_by_cmp_equiv}
 use Rattle.std.proofs.lemmas.Option.{slice_get_within}
-use Rattle.sdb_types.specs.declared.key.Key.{Key}
-use Rattle.sdb_types.specs.declared.txid.TxId.{TxId}
-use Rattle.sdb_types.specs.declared.record.Record.{Record}
+use Rattle.sdb_validate.specs.Types.{Check, Key, Read, Record, TxId, Wanted, Write}
 use Rattle.sdb_types.specs.Order.{key_cmp, same_key}
 use Rattle.sdb_types.proofs.KeyOrder.{key_total}
 use Rattle.sdb_types.proofs.Keys.{same_key_exact}
-use Rattle.sdb_record.specs.declared.access.Read.{Read}
-use Rattle.sdb_record.specs.declared.write.Write.{Write}
 use Rattle.sdb_record.specs.Moved.{version_of}
 use Rattle.sdb_record.specs.Among.{is_written, write_among}
-use Rattle.sdb_phases.specs.declared.check.Check.{Check}
-use Rattle.sdb_phases.specs.declared.check.Wanted.{Wanted}
 use Rattle.sdb_phases.specs.Checks.{base_of, is_granted, check_of_read}
 use Rattle.sdb_validate.specs.declared.rescan.Verdict.{Verdict}
 use Rattle.sdb_validate.specs.declared.rescan.Verdict.TheVariants as verdict
@@ -108,9 +102,9 @@ unwritten (w ∷ ws) key = by_test (same_key key w.key) (unwritten ws key) where
 
 -- one read more, which is read again where its key isn't written
 pub one_reread : (own : List Write) (reads : List Read) (i : ℕ) (r : Read) (checks before after : List Check) (b : Bool) → i < length reads → r ≡ get_or reads i r → not (is_written own r.key) ≡ b → before ≡ checks ++ map check_of_read (filter (λ x. not (is_written own x.key)) (take i reads)) → after ≡ before ++ cond b (check_of_read r ∷ []) [] → after ≡ checks ++ map check_of_read (filter (λ x. not (is_written own x.key)) (take (i + 1) reads))
-one_reread own reads i r checks before after b h at test told new =
+one_reread own reads i r checks before after b h at test answered new =
     let kept : List Read = filter (λ x. not (is_written own x.key)) (take i reads) in
-    new ∙ ap (λ cs. cs ++ cond b (check_of_read r ∷ []) []) told ∙ append_assoc checks (map check_of_read kept) (cond b (check_of_read r ∷ []) [])
+    new ∙ ap (λ cs. cs ++ cond b (check_of_read r ∷ []) []) answered ∙ append_assoc checks (map check_of_read kept) (cond b (check_of_read r ∷ []) [])
     ∙ ap (λ cs. checks ++ (map check_of_read kept ++ cs)) (sym (inside b)) ∙ ap (λ cs. checks ++ cs) (sym (map-append check_of_read kept (cond b (r ∷ []) [])))
     ∙ ap (λ rs. checks ++ map check_of_read rs)
     (sym (filter_more (λ (x : Read). not (is_written own x.key)) reads i r h ∙ ap (λ x. kept ++ cond (not (is_written own x.key)) (x ∷ []) []) (sym at) ∙ ap (λ t. kept ++ cond t (r ∷ []) []) test))

@@ -6,16 +6,12 @@ use Rattle.std.specs.FinMap.{get, insert, get-insert, same_map}
 use Rattle.std.specs.Map.{lookup}
 use Rattle.std.specs.Ordering.{is_le}
 use Rattle.std.proofs.lemmas.Map.Entries.{lookup-filter-keys}
-use Rattle.sdb_types.specs.declared.key.Key.{Key}
-use Rattle.sdb_types.specs.declared.txid.TxId.{TxId}
-use Rattle.sdb_types.specs.declared.record.Span.{Span}
+use Rattle.sdb_validate.specs.Types.{Expected, Key, Span, TxId, Write}
 use Rattle.sdb_types.specs.Contents.{in_span}
 use Rattle.sdb_types.specs.Order.{key_cmp, same_key}
 use Rattle.sdb_types.proofs.Bools.{and_both}
 use Rattle.sdb_types.proofs.KeyOrder.{key_total, key_exact}
 use Rattle.sdb_types.proofs.Keys.{same_key_exact}
-use Rattle.sdb_record.specs.declared.write.Write.{Write}
-use Rattle.sdb_phases.specs.declared.check.Expected.{Expected}
 use Rattle.sdb_phases.specs.declared.check.Expected.TheVariants as wish
 use Rattle.sdb_phases.specs.Checks.{Wishes, with_writes, wished_version, base_of}
 use Rattle.sdb_ordered.specs.Start.{span_start}
@@ -39,9 +35,9 @@ from_same span es q h =
 -- after the first key outside, there is no key of the span
 none_after : (span : Span) (e : Key × Option TxId) (es : Bases) (q : Key) → StandsFrom span (e ∷ es) → in_span span e.0 ≡ false → in_span span q ≡ true → at q (e ∷ es) ≡ None
 unfolding same_key
-none_after span e es q stands out h =
+none_after span e es q agrees out h =
     sym (lookup-filter-keys (is_at (key_cmp q)) (in_span span) true (λ k t. subst (λ x. in_span span x ≡ true) (same_key_exact q k t) h) (e ∷ es))
-    ∙ ap (at q) (past_end span e es stands out)
+    ∙ ap (at q) (past_end span e es agrees out)
 
 ---- steps of the loop through a range
 
@@ -73,10 +69,10 @@ all_based span left o p q none h = sym (ap (λ es. expected_of_written (in_span 
 
 -- and where the next one is outside
 pub all_passed : (span : Span) (left : Bases) (e : Key × Option TxId) (es : Bases) (o p : Option Expected) (q : Key) → left ≡ e ∷ es → StandsFrom span left → in_span span e.0 ≡ false → expected_of_written (in_span span q) (at q left) o ≡ p → o ≡ p
-all_passed span left e es o p q next stands out h = sym (by_test (in_span span q) refl) ∙ h where
+all_passed span left e es o p q next agrees out h = sym (by_test (in_span span q) refl) ∙ h where
   by_test : (b : Bool) → in_span span q ≡ b → expected_of_written b (at q left) o ≡ o
   by_test false t = refl
-  by_test true t = ap (λ x. expected_of_written true x o) (ap (at q) next ∙ none_after span e es q (subst (StandsFrom span) next stands) out t)
+  by_test true t = ap (λ x. expected_of_written true x o) (ap (at q) next ∙ none_after span e es q (subst (StandsFrom span) next agrees) out t)
 
 ---- all writes
 

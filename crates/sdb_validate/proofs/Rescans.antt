@@ -5,20 +5,13 @@ use Rattle.std.specs.Option.{option_and_then}
 use Rattle.std.specs.Ordering.{is_eq, is_lt}
 use Rattle.std.specs.FinMap.{get, insert, empty, entries, find, get-entries, get-insert, get-empty}
 use Rattle.std.specs.declared.cmp.Ordering.TheVariants.{Less}
-use Rattle.sdb_types.specs.declared.key.Key.{Key}
-use Rattle.sdb_types.specs.declared.txid.TxId.{TxId}
-use Rattle.sdb_types.specs.declared.record.Record.{Record}
-use Rattle.sdb_types.specs.declared.record.Span.{Span}
+use Rattle.sdb_validate.specs.Types.{Expected, Key, Read, Record, Scan, Span, TxId, Write}
 use Rattle.sdb_types.specs.Order.{key_cmp, same_key}
 use Rattle.sdb_types.specs.Contents.{in_span, rise, record_among}
 use Rattle.sdb_types.proofs.KeyOrder.{key_total}
 use Rattle.sdb_types.proofs.Bools.{and_first, and_second}
-use Rattle.sdb_record.specs.declared.access.Read.{Read}
-use Rattle.sdb_record.specs.declared.access.Scan.{Scan}
-use Rattle.sdb_record.specs.declared.write.Write.{Write}
 use Rattle.sdb_record.specs.Moved.{version_of, same_version, is_unchanged}
 use Rattle.sdb_record.specs.Among.{version_among}
-use Rattle.sdb_phases.specs.declared.check.Expected.{Expected}
 use Rattle.sdb_phases.specs.declared.check.Expected.TheVariants as wish
 use Rattle.sdb_phases.specs.Checks.{Wishes, with_reads, with_write, with_writes, wishes, wanted, wanted_of, expected_at, wished_version, is_fulfilled, differs, base_of, first_difference}
 use Rattle.sdb_validate.specs.Merge.{merge}

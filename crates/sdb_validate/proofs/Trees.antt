@@ -3,12 +3,10 @@ use Rattle.std.proofs.Common.{◌≡◌, List, map, Result, Ok, Err, IfOk, OnOk,
 use Rattle.std.specs.List.Sorted.{IsStrictlySortedBy}
 use Rattle.std.specs.Map.{keys_of}
 use Rattle.std.specs.FinMap.{entries, from_entries}
-use Rattle.sdb_types.specs.declared.key.Key.{Key}
+use Rattle.sdb_validate.specs.Types.{Expected, Key, Wanted}
 use Rattle.sdb_types.specs.Order.{key_cmp}
 use Rattle.sdb_types.proofs.KeyOrder.{key_total}
 use Rattle.sdb_ordered.proofs.TreeLemmas.{in_order}
-use Rattle.sdb_phases.specs.declared.check.Expected.{Expected}
-use Rattle.sdb_phases.specs.declared.check.Wanted.{Wanted}
 use Rattle.sdb_phases.specs.Checks.{Wishes, wanted_of}
 
 -- what is listed of a tree is what the map that it is seen as wishes

@@ -1,8 +1,7 @@
 -- The representation of the checks of a COMMIT, and what they answer.
 use Rattle.std.specs.Prelude.{◌≡◌, true, ℕ, ◌+◌, List}
 use Rattle.std.specs.List.{list_all}
-use Rattle.sdb_phases.specs.declared.check.Check.{Check}
-use Rattle.sdb_phases.specs.declared.step.ValidateStep.{ValidateStep}
+use Rattle.sdb_validate.specs.Types.{Check, ValidateStep}
 use Rattle.sdb_phases.specs.declared.step.ValidateStep.TheVariants as validate
 use Rattle.sdb_phases.specs.Steps.{may_starve}
 use Rattle.sdb_validate.specs.Merge.{target_rises}

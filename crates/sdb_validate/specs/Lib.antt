@@ -1,3 +1,4 @@
+pub mod Types
 pub mod Merge
 pub mod WishCode
 pub mod Inside

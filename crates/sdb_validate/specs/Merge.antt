@@ -2,11 +2,8 @@
 use Rattle.std.specs.Prelude.{Bool, true, ◌&&◌, if◌then◌else◌, List, [], ◌∷◌, drop, Option, Some, None, slice_get}
 use Rattle.std.specs.FinMap.Entries.{by_order}
 use Rattle.std.specs.Ordering.{is_lt}
-use Rattle.sdb_types.specs.declared.key.Key.{Key}
-use Rattle.sdb_types.specs.declared.record.Record.{Record}
+use Rattle.sdb_validate.specs.Types.{Key, Record, Target, Wanted}
 use Rattle.sdb_types.specs.Order.{key_cmp}
-use Rattle.sdb_phases.specs.declared.check.Wanted.{Wanted}
-use Rattle.sdb_phases.specs.declared.check.Target.{Target}
 use Rattle.sdb_phases.specs.declared.check.Target.TheVariants as target
 use Rattle.sdb_phases.specs.Checks.{is_granted}
 use Rattle.sdb_validate.specs.declared.rescan.Verdict.{Verdict}

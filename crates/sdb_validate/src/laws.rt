@@ -1,9 +1,7 @@
 //! What the checks mean.
 ghost use Rattle.std.specs.Prelude.{◌≡◌, true, List};
-ghost use Rattle.sdb_types.specs.declared.record.Record.{Record};
+ghost use Rattle.sdb_validate.specs.Types.{Record, Scan, Write};
 ghost use Rattle.sdb_types.specs.Contents.{rise};
-ghost use Rattle.sdb_record.specs.declared.access.Scan.{Scan};
-ghost use Rattle.sdb_record.specs.declared.write.Write.{Write};
 ghost use Rattle.sdb_phases.specs.Checks.{wanted, first_difference};
 ghost use Rattle.sdb_validate.specs.Rescan.{reads_rise, IsFirstLost};
 

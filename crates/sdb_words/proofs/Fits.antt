@@ -112,12 +112,12 @@ places_undashed stores (p ∷ ps) h =
     (column_undashed p.ns (61 ∷ p.store) (All-head (IsPlace stores) p ps h).named)
     (places_undashed stores ps (All-tail (IsPlace stores) p ps h))
 
----- they are taken
+---- they are accepted
 
 -- what the parser makes of the words of a command
 pub record IsFitting (words : List Text) : Type 0 where
   pub undashed : are_undashed words ≡ true
-  pub taken : fault_of program words ≡ []
+  pub accepted : fault_of program words ≡ []
 
 one_undashed : (a : Text) → is_undashed a ≡ true → are_undashed (a ∷ []) ≡ true
 one_undashed a u = and_both (is_undashed a) true u refl
@@ -131,33 +131,33 @@ three_undashed a b c u v w = and_both (is_undashed a) (are_undashed (b ∷ c ∷
 places_fit : (stores : List Text) (ps : List Place) → All (IsPlace stores) ps → length (map place_text ps) ≤ usize_max → IsFitting (codes "schema" ∷ map place_text ps)
 places_fit stores ps h small =
     let u = places_undashed stores ps h in
-    record { undashed = u; taken = fits_sub (codes "schema") (leaves (codes "schema")) schema_sub (map place_text ps) (any_taken (map place_text ps) u small) }
+    record { undashed = u; accepted = fits_sub (codes "schema") (leaves (codes "schema")) schema_sub (map place_text ps) (any_taken (map place_text ps) u small) }
 
 shorter : (w : Text) (ws words : List Text) → words ≡ w ∷ ws → length words ≤ usize_max → length ws ≤ usize_max
 shorter w ws words e h = let k : length words ≡ length (w ∷ ws) = ap length e in omega (arith, k, h)
 
 -- the parser takes the words of each command, as many as there can be
 pub fits : (stores : List Text) (c : Command) (words : List Text) → length words ≤ usize_max → AreWordsOf stores c words → IsFitting words
-fits stores command.Replay words small h = subst IsFitting (sym h) (record { undashed = refl; taken = none_fits (codes "replay") replay_sub })
-fits stores command.Sql words small h = subst IsFitting (sym h) (record { undashed = refl; taken = none_fits (codes "sql") sql_sub })
-fits stores command.Audit words small h = subst IsFitting (sym h) (record { undashed = refl; taken = none_fits (codes "audit") audit_sub })
+fits stores command.Replay words small h = subst IsFitting (sym h) (record { undashed = refl; accepted = none_fits (codes "replay") replay_sub })
+fits stores command.Sql words small h = subst IsFitting (sym h) (record { undashed = refl; accepted = none_fits (codes "sql") sql_sub })
+fits stores command.Audit words small h = subst IsFitting (sym h) (record { undashed = refl; accepted = none_fits (codes "audit") audit_sub })
 fits stores (command.Bench n) words small h =
     let u = number_undashed n (omega (arith, h.1.1)) in
-    subst IsFitting (sym h.0) (record { undashed = one_undashed (decimal n) u; taken = one_fits (codes "bench") bench_sub (decimal n) u })
+    subst IsFitting (sym h.0) (record { undashed = one_undashed (decimal n) u; accepted = one_fits (codes "bench") bench_sub (decimal n) u })
 fits stores (command.Export t) words small h =
     let u = table_undashed t h.1 in
-    subst IsFitting (sym h.0) (record { undashed = one_undashed (table_text t) u; taken = one_fits (codes "export") export_sub (table_text t) u })
+    subst IsFitting (sym h.0) (record { undashed = one_undashed (table_text t) u; accepted = one_fits (codes "export") export_sub (table_text t) u })
 fits stores (command.Retire from to) words small h =
     let u = name_undashed from h.1.from_named in
     let v = name_undashed to h.1.to_named in
-    subst IsFitting (sym h.0) (record { undashed = two_undashed from to u v; taken = two_fits (codes "retire") retire_sub from to u v })
+    subst IsFitting (sym h.0) (record { undashed = two_undashed from to u v; accepted = two_fits (codes "retire") retire_sub from to u v })
 fits stores (command.Load t m n) words small h =
     let u = table_undashed t h.1 in
     let v = mode_undashed m in
     let w = number_undashed n (omega (arith, h.2.1)) in
     subst IsFitting (sym h.0) (record {
       undashed = three_undashed (table_text t) (mode_text m) (decimal n) u v w;
-      taken = three_fits (codes "load") load_sub (table_text t) (mode_text m) (decimal n) u v w;
+      accepted = three_fits (codes "load") load_sub (table_text t) (mode_text m) (decimal n) u v w;
     })
 fits stores (command.Alter t column kind) words small h =
     let u = table_undashed t h.2 in
@@ -165,7 +165,7 @@ fits stores (command.Alter t column kind) words small h =
     let w = kind_undashed h.0 kind h.4 in
     subst IsFitting (sym h.1) (record {
       undashed = three_undashed (table_text t) column h.0 u v w;
-      taken = three_fits (codes "alter") alter_sub (table_text t) column h.0 u v w;
+      accepted = three_fits (codes "alter") alter_sub (table_text t) column h.0 u v w;
     })
 fits stores (command.Schema ps) words small h =
     subst IsFitting (sym h.0) (places_fit stores ps h.1.each (shorter (codes "schema") (map place_text ps) words h.0 small))

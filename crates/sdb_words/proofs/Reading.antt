@@ -48,7 +48,7 @@ read_as given rest read name rows e h =
       arguments_are = λ other. sym (e (λ is. other (sym n ∙ is))) ∙ ap arguments r;
     }
 
--- what a subcommand's words are read as, and that they are taken
+-- what a subcommand's words are read as, and that they are accepted
 module _ (given : Text) (a : App) (sub : IsSub given a) where
   faulted : {X : Type 0} (rest : List Text) (k : ErrorKind) → level_fault (leaf a) [] nothing_held rest false [] ≡ k ∷ [] → fault_of program (given ∷ rest) ≡ [] → X
   faulted rest k e f = one_kind (fault_of program (given ∷ rest)) k (sub.named rest ∙ ap (λ (x : Kinds). or_else x []) e) f
@@ -126,9 +126,9 @@ any_is rest name rows f s = read_sub (codes "schema") (leaves (codes "schema")) 
 by_word : (G : Text → Type 0) (word w : Text) → G word → (bytes_eq word w ≡ false → G w) → G w
 by_word G word w it not = by_test (bytes_eq word w) (λ e. subst G ((bytes_eq-Decides word w).0 e) it) not
 
--- what is taken is the name of a subcommand and what was read of its words
+-- what is accepted is the name of a subcommand and what was read of its words
 pub taken_is : (words : List Text) (name : Text) (rows : List Row) → IsParsed words name rows → IsRead words name rows
-taken_is [] name rows t = one_kind (fault_of program []) kind.MissingSubcommand nothing_refused t.taken
+taken_is [] name rows t = one_kind (fault_of program []) kind.MissingSubcommand nothing_refused t.accepted
 taken_is (w ∷ rest) name rows t =
     let u = others_plain w rest t.undashed in
     let G = Reads rest name rows in
@@ -142,4 +142,4 @@ taken_is (w ∷ rest) name rows t =
     by_word G (codes "alter") w (three_is (codes "alter") alter_sub rest name rows u) (λ k7.
     by_word G (codes "schema") w (any_is rest name rows) (λ k8 f s.
     let stray : IsStray w = record { not_replay = k0; not_sql = k1; not_audit = k2; not_bench = k3; not_export = k4; not_retire = k5; not_load = k6; not_alter = k7; not_schema = k8 } in
-    two_kinds (fault_of program (w ∷ rest)) kind.UnknownArgument kind.InvalidSubcommand (stray_refused w rest (first_plain w rest t.undashed) stray) f))))))))) t.taken t.read
+    two_kinds (fault_of program (w ∷ rest)) kind.UnknownArgument kind.InvalidSubcommand (stray_refused w rest (first_plain w rest t.undashed) stray) f))))))))) t.accepted t.read

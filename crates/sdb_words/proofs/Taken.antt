@@ -58,7 +58,7 @@ fault_ends w n e f rest = is_ended (w ∷ rest) ∙ ap₂ ended (walks_on w n e 
 reads_on : (w n : Text) → walked [] names (walk_from nothing_held) w ≡ stopped_at n [] → (rest : List Text) → subcommand_of program (w ∷ rest) ≡ entered whole (Some (n, rest))
 reads_on w n e rest = ap (λ (x : Walk). entered whole x.stopped) (walks_on w n e rest)
 
--- A subcommand of the program: how the words after its name are taken, and what is read of them.
+-- A subcommand of the program: how the words after its name are accepted, and what is read of them.
 pub record IsSub (name : Text) (a : App) : Type 0 where
   pub named : (rest : List Text) → fault_of program (name ∷ rest) ≡ or_else (level_fault (leaf a) [] nothing_held rest false []) []
   pub read : (rest : List Text) → subcommand_of program (name ∷ rest) ≡ Some (name, rows_after (leaf a).rules [] rest)

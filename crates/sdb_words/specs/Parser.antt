@@ -64,10 +64,10 @@ is_undashed word = not (is_some (strip_byte 45 word))
 abbrev pub are_undashed : List Text → Bool
 are_undashed = list_all is_undashed
 
--- The words were taken, and these are the name of the subcommand and what was read of its words.
+-- The words were accepted, and these are the name of the subcommand and what was read of its words.
 pub record IsParsed (words : List Text) (name : Text) (rows : List Row) : Type 0 where
   pub undashed : are_undashed words ≡ true
-  pub taken : fault_of program words ≡ []
+  pub accepted : fault_of program words ≡ []
   pub read : subcommand_of program words ≡ Some (name, rows)
 
 -- These matches are what `clap` makes of the words, in which it finds no fault.

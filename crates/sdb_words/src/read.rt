@@ -234,7 +234,7 @@ fn command_read(
     }
 }
 
-// The command of words that were taken.
+// The command of words that were accepted.
 fn command_taken(
     alloc: Global,
     stores: &Names,

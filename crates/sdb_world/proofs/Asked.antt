@@ -1,12 +1,8 @@
 -- What the stores are asked, event by event.
 use Rattle.std.proofs.Common.{◌≡◌, ℕ, suc, List, [], ◌∷◌, ◌++◌, Option, ap, ◌∙◌}
-use Rattle.sdb_types.specs.declared.record.Reply.{Reply}
-use Rattle.sdb_types.specs.declared.record.Request.{Request}
+use Rattle.sdb_world.specs.Types.{Answer, Event, How, Reply, Request}
 use Rattle.sdb_stores.specs.Views.{Attached}
-use Rattle.sdb_model.specs.declared.answer.Answer.{Answer}
-use Rattle.sdb_model.specs.declared.event.Event.{Event}
 use Rattle.sdb_model.specs.declared.event.Event.TheVariants as event
-use Rattle.sdb_model.specs.declared.event.How.{How}
 use Rattle.sdb_model.specs.Rows.{Name}
 use Rattle.sdb_contents.specs.Board.{IsDelivered}
 use Rattle.sdb_contents.proofs.Made.{unasked}

@@ -1,13 +1,9 @@
 -- How many calls come out Broken, event by event.
 use Rattle.std.proofs.Common.{◌≡◌, inl, inr, ℕ, suc, ◌+◌, ◌≤◌, false, cond, List, [], ◌∷◌, ◌++◌, Option, refl, sym, ap, subst, ◌∙◌, arith}
 use Rattle.std.proofs.lemmas.List.Sums.{sum_by_push}
-use Rattle.sdb_types.specs.declared.record.Reply.{Reply}
-use Rattle.sdb_types.specs.declared.record.Request.{Request}
+use Rattle.sdb_world.specs.Types.{Answer, Event, How, Reply, Request}
 use Rattle.sdb_stores.specs.Views.{Attached, StoreView, HaveRisen, total_faults}
-use Rattle.sdb_model.specs.declared.answer.Answer.{Answer}
-use Rattle.sdb_model.specs.declared.event.Event.{Event}
 use Rattle.sdb_model.specs.declared.event.Event.TheVariants as event
-use Rattle.sdb_model.specs.declared.event.How.{How}
 use Rattle.sdb_model.specs.declared.event.How.TheVariants as how
 use Rattle.sdb_model.specs.Rows.{Name}
 use Rattle.sdb_model.specs.Counted.{broken_in, is_broken}

@@ -2,10 +2,7 @@
 use Rattle.std.proofs.Common.{◌≡◌, List, [], ◌∷◌, ◌++◌, refl, sym, ap, subst, ◌∙◌}
 use Rattle.std.specs.Prelude.{OnOk, Result, Ok, Err}
 use Rattle.std.specs.FinMap.{empty}
-use Rattle.sdb_model.specs.declared.event.Event.{Event}
-use Rattle.sdb_model.specs.declared.script.Act.{Act}
-use Rattle.sdb_types.specs.declared.place.Place.{Place}
-use Rattle.sdb_model.specs.declared.script.Script.{Script}
+use Rattle.sdb_world.specs.Types.{Act, Event, Place, Script}
 use Rattle.sdb_model.specs.Events.{Effect, IsTrace, StoreContents}
 use Rattle.sdb_model.specs.Explained.{Explained, AreTransactional}
 use Rattle.law_protocol.specs.Spread.{HoldAs}
@@ -15,7 +12,7 @@ use Rattle.law_clients.specs.Fitting.{tables_are_well_typed}
 use Rattle.law_clients.specs.States.{doing_of, system_of}
 use Rattle.law_runs.proofs.Explains.{going_is_explained, going_is_taken}
 use Rattle.law_runs.proofs.Moments.{lone_effect}
-use Rattle.sdb_execution.specs.Execution.{IsExecution, IsReachedBy}
+use Rattle.sdb_client.specs.Execution.{IsExecution, IsReachedBy}
 use Rattle.law_runs.specs.World.{IsWorld, WorldAt, states_of, state_of}
 use Rattle.law_runs.specs.Linked.{one_name}
 use Rattle.law_runs.proofs.Steps.{execution_linked}
@@ -24,7 +21,7 @@ use Rattle.sdb_world.specs.Ran.{HasRun}
 use Rattle.sdb_world.specs.Step.{HasCome, IsExecutionStep, IsOne}
 use Rattle.sdb_world.specs.Explained.{IsExplained, IsExplainedAfter}
 use Rattle.sdb_world.proofs.Acts.{Came}
-use Rattle.sdb_execution.proofs.Paths.{paths_on}
+use Rattle.sdb_client.proofs.Paths.{paths_on}
 use Rattle.sdb_world.proofs.Goes.{traces_on}
 
 pub world_explained : (w : WorldAt) → IsWorld w → IsExecution w.script w.events → (places : List Place) (opening closing : List StoreContents) (moments : List (List StoreContents)) → HoldAs w.script.catalog places opening empty → IsTrace places w.events opening moments closing → Explained w.script.catalog places w.events opening moments
@@ -39,7 +36,7 @@ world_taken w h x places opening closing moments nothing traced =
 pub played_explained : (w : WorldAt) → IsWorld w → (events : List Event) → events ≡ w.events → (opening closing : List StoreContents) → HasRun w opening closing → IsExplained w.script events opening
 played_explained w h events same opening closing p moments end traced = record {
   explained = subst (λ (es : List Event). Explained w.script.catalog w.script.places es opening moments) (sym same) (world_explained w h p.executed w.script.places opening end moments p.nothing on);
-  taken = world_taken w h p.executed w.script.places opening end moments p.nothing on;
+  accepted = world_taken w h p.executed w.script.places opening end moments p.nothing on;
 }
   where
     on : IsTrace w.script.places w.events opening moments end

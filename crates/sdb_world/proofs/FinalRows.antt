@@ -4,12 +4,8 @@ use Rattle.std.specs.Prelude.{◌↔◌, Contains}
 use Rattle.std.specs.FinMap.{empty}
 use Rattle.std.specs.List.{AllByRecursion}
 use Rattle.std.proofs.lemmas.Nat.{div-add-mod'}
-use Rattle.sdb_types.specs.declared.txid.TxId.{TxId}
+use Rattle.sdb_world.specs.Types.{Event, Place, Statement, Table, TxId}
 use Rattle.sdb_record.specs.declared.coordinator.Decision.TheVariants.{Committed}
-use Rattle.sdb_schema.specs.declared.table.Table.{Table}
-use Rattle.sdb_model.specs.declared.event.Event.{Event}
-use Rattle.sdb_types.specs.declared.place.Place.{Place}
-use Rattle.sdb_model.specs.declared.statement.Statement.{Statement}
 use Rattle.sdb_model.specs.Events.{IsTrace, StoreContents}
 use Rattle.sdb_model.specs.Exec.{Tables}
 use Rattle.sdb_model.specs.Transactions.{Recorded, Executed}
@@ -55,18 +51,18 @@ of_numbers (x ∷ xs) t (inl e) = subst (λ (i : TxId). Contains (x ∷ xs) i) (
 of_numbers (x ∷ xs) t (inr h) = later_in x (id t) xs (of_numbers xs t h)
 
 module _ (catalog : List Table) (fit : Tables → Bool) (events : List Event) (sys : SystemAt) (doing : ℕ → Option Statement) (g : RunInvariant catalog fit events sys doing) where
-  -- what a client's transaction ran whose COMMIT was taken
-  ran_by : (c k : ℕ) → suc k < 2 ^ 64 → (protocol_state g.past).taken (number c k) ≡ true → ExecutionOk catalog fit g.plan g.past (number c k) (g.ran c k)
-  ran_by c k small taken = by (txn_ended_at x.whole k) refl
+  -- what a client's transaction ran whose COMMIT was accepted
+  ran_by : (c k : ℕ) → suc k < 2 ^ 64 → (protocol_state g.past).accepted (number c k) ≡ true → ExecutionOk catalog fit g.plan g.past (number c k) (g.ran c k)
+  ran_by c k small accepted = by (txn_ended_at x.whole k) refl
     where
       x : ClientHistory
-      x = g.told c
+      x = g.answered c
 
       counts : k < count_of x
-      counts = subst (λ m. k < m) (g.stories c).count (taken_counts g.plan g.past sys c k g.system small taken)
+      counts = subst (λ m. k < m) (g.stories c).count (taken_counts g.plan g.past sys c k g.system small accepted)
 
       ran : (inside : List Executed) → RanOk catalog fit g.plan g.past (number c k) inside (g.ran c k) → ExecutionOk catalog fit g.plan g.past (number c k) (g.ran c k)
-      ran inside r = record { seen = r.inside.seen; planned = r.planned taken; body = r.inside.body }
+      ran inside r = record { seen = r.inside.seen; planned = r.planned accepted; body = r.inside.body }
 
       open_one : (r : Rest) → x.rest ≡ r → length x.whole ≤ k → k < length x.whole + begun_in r → ExecutionOk catalog fit g.plan g.past (number c k) (g.ran c k)
       open_one (Closed gap) e low high = absurd (none (length x.whole) low high)
@@ -85,16 +81,16 @@ module _ (catalog : List Table) (fit : Tables → Bool) (events : List Event) (s
       by None e = open_one x.rest refl (beyond x.whole k e) counts
 
   -- by its number
-  ran_at : (t : ℕ) → (protocol_state g.past).taken t ≡ true → ExecutionOk catalog fit g.plan g.past t (ran_of catalog fit events sys doing g t)
-  ran_at t taken =
+  ran_at : (t : ℕ) → (protocol_state g.past).accepted t ≡ true → ExecutionOk catalog fit g.plan g.past t (ran_of catalog fit events sys doing g t)
+  ran_at t accepted =
       subst (λ u. ExecutionOk catalog fit g.plan g.past u (ran_of catalog fit events sys doing g t)) whole
-      (ran_by (t / 2 ^ 64) (t % 2 ^ 64 - 1) (subst (λ m. m < 2 ^ 64) ordinal (small t)) (ap (protocol_state g.past).taken whole ∙ taken))
+      (ran_by (t / 2 ^ 64) (t % 2 ^ 64 - 1) (subst (λ m. m < 2 ^ 64) ordinal (small t)) (ap (protocol_state g.past).accepted whole ∙ accepted))
     where
       positive : (m : ℕ) → 0 < m → m ≡ suc (m - 1)
       positive m l = omega (arith, l)
 
       ordinal : t % 2 ^ 64 ≡ suc (t % 2 ^ 64 - 1)
-      ordinal = positive (t % 2 ^ 64) (taken_begun g.plan g.past sys t g.system taken)
+      ordinal = positive (t % 2 ^ 64) (taken_begun g.plan g.past sys t g.system accepted)
 
       small : (m : ℕ) → m % 2 ^ 64 < 2 ^ 64
       small m = omega arith
@@ -118,15 +114,15 @@ module _ (catalog : List Table) (fit : Tables → Bool) (events : List Event) (s
     whole : Whole g.plan places w g.past (closing opening held)
     whole = whole_of g.plan places opening g.past held run
 
-    taken : (t : ℕ) → w.row t ≡ Some Committed → w.protocol.taken t ≡ true
-    taken t row = grind (arith, whole.all.one.taken t any_key 0)
+    accepted : (t : ℕ) → w.row t ≡ Some Committed → w.protocol.accepted t ≡ true
+    accepted t row = grind (arith, whole.all.one.accepted t any_key 0)
 
     row_is : (t : ℕ) → t < 2 ^ 128 → Recorded places end (id t) → w.row t ≡ Some Committed
     row_is t small h = recorded_row g.plan places w g.past (closing opening held) t whole small (subst (λ s. Recorded places s (id t)) (sym turned.1) h)
 
     recorded_is : (t : ℕ) → w.row t ≡ Some Committed → (t < 2 ^ 128) × Recorded places end (id t)
     recorded_is t row =
-        let small : t < 2 ^ 128 = taken_fits w t whole.all.one.begun whole.knows.fits (taken t row) in
+        let small : t < 2 ^ 128 = taken_fits w t whole.all.one.begun whole.knows.fits (accepted t row) in
         (small, subst (λ s. Recorded places s (id t)) turned.1 (row_recorded g.plan places w g.past (closing opening held) t whole small row))
 
     -- a list of the recorded transactions gives tables that fit, of which the stores show the rows
@@ -136,6 +132,6 @@ module _ (catalog : List Table) (fit : Tables → Bool) (events : List Event) (s
         (λ t row. let r = recorded_is t row in in_numbers ids (id t) ((recorded (id t) r.0).1 r.1))
         (λ t h. let c = of_numbers ids t h in row_is t (small (id t) c) ((recorded (id t) (small (id t) c)).0 c)) in
         let ran = all_in (λ t. ExecutionOk catalog fit g.plan g.past t (ran_of catalog fit events sys doing g t)) o.0
-        (λ t h. ran_at t (subst (λ (x : ProtocolState). x.taken t ≡ true) (sym whole.knows.talks) (taken t ((o.1.recorded t).1 h)))) in
+        (λ t h. ran_at t (subst (λ (x : ProtocolState). x.accepted t ≡ true) (sym whole.knows.talks) (accepted t ((o.1.recorded t).1 h)))) in
         let left = order_runs catalog fit g.plan places opening g.past held (ran_of catalog fit events sys doing g) o.0 run o.1 ran starts in
         (left.0, left.1.fits, subst (λ s. ContainsTables places s left.0) turned.1 left.2)

@@ -6,24 +6,18 @@ use Rattle.std.specs.List.{list_all}
 use Rattle.std.specs.Option.{option_and_then}
 use Rattle.std.specs.Ordering.{eq_by_cmp, is_eq, is_lt}
 use Rattle.std.specs.Cmp.{tied_itself}
-use Rattle.sdb_types.specs.declared.key.Key.{Key}
-use Rattle.sdb_types.specs.declared.pair.Pair.{Pair}
-use Rattle.sdb_types.specs.declared.record.Record.{Record}
-use Rattle.sdb_types.specs.declared.txid.TxId.{TxId}
+use Rattle.sdb_world.specs.Types.{Decided, Key, Pair, Place, Record, Table, TxId}
 use Rattle.sdb_types.specs.Exact.{equal_of}
 use Rattle.sdb_types.specs.Order.{key_cmp, table_cmp}
 use Rattle.sdb_types.proofs.Basics.{by_test, less_of, none_some, some_is}
 use Rattle.sdb_types.proofs.Bools.{and_first, and_second, or_first}
 use Rattle.sdb_types.proofs.KeyOrder.{key_exact, table_total}
-use Rattle.sdb_record.specs.declared.coordinator.Decided.{Decided}
 use Rattle.sdb_record.specs.declared.coordinator.Decision.TheVariants as decision
 use Rattle.sdb_record.specs.Coordinator.{coordinator_table}
 use Rattle.sdb_record.specs.Meta.{id_in}
 use Rattle.sdb_record.specs.Rolls.{image_of, row_of_image}
-use Rattle.sdb_schema.specs.declared.table.Table.{Table}
 use Rattle.sdb_schema.specs.Catalog.{rises, is_above_name}
-use Rattle.sdb_types.specs.declared.place.Place.{Place}
-use Rattle.sdb_model.specs.Events.{StoreContents, standing}
+use Rattle.sdb_model.specs.Events.{StoreContents, stored_at}
 use Rattle.sdb_model.specs.Exec.{Tables, find_table, row_of_entry}
 use Rattle.sdb_model.specs.Images.{decision_at, decision_on, row_at}
 use Rattle.sdb_model.specs.Transactions.{Recorded}
@@ -118,15 +112,15 @@ module _ (w : WorldAt) (h : IsWorld w) (opening closing : List StoreContents) (p
   left : (e : Tables) × (tables_are_well_typed w.script.catalog e ≡ true) × ContainsTables [] end e
   left =
       let fitting = is_fitting w.script.catalog h.playable.apart in
-      let going = execution_linked w.script w.events h.playable p.executed in
+      let running = execution_linked w.script w.events h.playable p.executed in
       let states = states_of p.executed.last.client_slots in
-      tables_left w.script.catalog (tables_are_well_typed w.script.catalog) _ (system_of states) (doing_of states) going
+      tables_left w.script.catalog (tables_are_well_typed w.script.catalog) _ (system_of states) (doing_of states) running
       [] (one_store one_name empty) end one.singles one.traced (starts_empty one_name) (recorded_among rows) (recorded_small rows) recorded_here fitting.starts
 
   row_same : (key : Key) → is_some (find_table w.script.catalog key.table) ≡ true → row_at places closing key ≡ row_at [] end key
   row_same key table =
       ap (λ (found : Option Record). option_and_then row_of_image (option_and_then (λ r. image_of r (decision_on places closing r)) found)) (one.same.at key (or_first _ _ table) ∙ sym (one_standing one_name one.last key))
-      ∙ ap (option_and_then row_of_image) (then_same _ _ (standing [] end key) (λ r. ap (image_of r) (then_same _ _ (id_in r.columns) decided_there)))
+      ∙ ap (option_and_then row_of_image) (then_same _ _ (stored_at [] end key) (λ r. ap (image_of r) (then_same _ _ (id_in r.columns) decided_there)))
 
   pub final_row_fits : (key : Key) (columns : List Pair) → is_some (find_table w.script.catalog key.table) ≡ true → row_at places closing key ≡ Some columns → row_is_well_typed w.script.catalog key columns ≡ true
-  final_row_fits key columns table shown = row_there w.script.catalog left.0 key columns left.1 (sym (left.2 key (h.playable.apart key table)) ∙ sym (row_same key table) ∙ shown)
+  final_row_fits key columns table observed = row_there w.script.catalog left.0 key columns left.1 (sym (left.2 key (h.playable.apart key table)) ∙ sym (row_same key table) ∙ observed)

@@ -1,10 +1,8 @@
 -- The clients of a script before their first statement.
 use Rattle.std.proofs.Common.{◌≡◌, ℕ, List, length, refl, subst}
 use Rattle.std.specs.Prelude.{pos}
-use Rattle.sdb_model.specs.declared.event.Event.{Event}
-use Rattle.sdb_model.specs.declared.script.Script.{Script}
-use Rattle.sdb_execution.specs.declared.slot.ClientSlot.{ClientSlot}
-use Rattle.sdb_execution.specs.Execution.{AreFresh, IsInitial}
+use Rattle.sdb_world.specs.Types.{ClientSlot, Event, Script}
+use Rattle.sdb_client.specs.Execution.{AreFresh, IsInitial}
 use Rattle.law_runs.specs.World.{state_of}
 
 pub initial_new : (script : Script) (count : ℕ) (client_slots : List ClientSlot) (events : List Event) → count ≡ length script.clients → AreFresh count client_slots → IsInitial script (state_of (record { script = script; client_slots = client_slots; events = events; clock = pos 0 }))

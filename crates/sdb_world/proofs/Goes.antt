@@ -1,15 +1,13 @@
 -- Events that come one after the other to a world and to its stores.
 use Rattle.std.proofs.Common.{◌≡◌, List, [], ◌∷◌, ◌++◌, refl, sym, ap, subst, ◌∙◌, append_assoc}
 use Rattle.std.proofs.lemmas.List.{append-nil}
-use Rattle.sdb_model.specs.declared.event.Event.{Event}
-use Rattle.sdb_types.specs.declared.place.Place.{Place}
-use Rattle.sdb_model.specs.declared.script.Script.{Script}
+use Rattle.sdb_world.specs.Types.{Event, Place, Script}
 use Rattle.sdb_model.specs.Events.{Effect, IsTrace, StoreContents}
 use Rattle.sdb_stores.specs.Views.{Attached}
 use Rattle.sdb_contents.specs.Board.{AreUsable, GoOn, contents_of_views}
 use Rattle.law_runs.specs.World.{WorldAt, state_of}
-use Rattle.sdb_execution.proofs.Paths.{paths_on}
-use Rattle.sdb_execution.specs.Execution.{IsPath, IsStepFrom}
+use Rattle.sdb_client.proofs.Paths.{paths_on}
+use Rattle.sdb_client.specs.Execution.{IsPath, IsStepFrom}
 use Rattle.sdb_world.specs.Step.{HasCome, IsExecutionStep}
 
 pub traces_on : (places : List Place) (es more : List Event) (a b c : List StoreContents) (ms ns : List (List StoreContents)) → IsTrace places es a ms b → IsTrace places more b ns c → IsTrace places (es ++ more) a (ms ++ ns) c

@@ -3,14 +3,12 @@ use Rattle.std.proofs.Common.{◌≡◌, ℕ, ℤ, zero, suc, ◌-◌, ◌<◌, 
 use Rattle.std.specs.Prelude.{not, nat_lt, slice_get}
 use Rattle.std.proofs.lemmas.Bool.{ltb-true}
 use Rattle.sdb_types.proofs.Bools.{and_second}
-use Rattle.sdb_model.specs.declared.event.Event.{Event}
+use Rattle.sdb_world.specs.Types.{Act, ClientSlot, Event}
 use Rattle.sdb_model.specs.declared.event.Event.TheVariants as event
-use Rattle.sdb_model.specs.declared.script.Act.{Act}
 use Rattle.sdb_model.specs.declared.script.Act.TheVariants as act
 use Rattle.sdb_model.specs.Follows.{has_work, texts_of}
 use Rattle.sdb_stores.specs.Views.{Attached}
 use Rattle.sdb_client.specs.Client.{IsIdle}
-use Rattle.sdb_execution.specs.declared.slot.ClientSlot.{ClientSlot}
 use Rattle.sdb_world.specs.declared.delivery.Delivery.{Delivery}
 use Rattle.law_runs.specs.World.{IsWorld, WorldAt, at_moment, with_event}
 use Rattle.sdb_world.specs.Step.{CanAct, HasCalled, HasLeft, HasStarted, IsBusyAt, IsIdleAt, IsNumber, act_of}
@@ -38,8 +36,8 @@ at_write P client_slots i s low read p = subst (λ (o : Option ClientSlot). IfSo
 -- a client with work that waits for a statement has one left
 pub left_of : (w : WorldAt) (i : ℕ) (s : ClientSlot) → IsWorld w → i < length w.client_slots → s ≡ get_or w.client_slots i s → IsIdle s.client → has_work w.script.clients (suc i) w.events ≡ true → HasLeft w i
 left_of w i s h low read idle works =
-    at_write (λ (x : ClientSlot). x.taken < length (texts_of w.script.clients (suc i))) w.client_slots i s low read
-    (let lt : nat_lt s.taken (length (texts_of w.script.clients (suc i))) ≡ true = and_second (not s.stopped) (nat_lt s.taken (length (texts_of w.script.clients (suc i)))) (sym (work_is w i s true h (read_there w.client_slots i s low read) (λ e. idle) (λ e. cc)) ∙ works) in ltb-true s.taken (length (texts_of w.script.clients (suc i))) lt)
+    at_write (λ (x : ClientSlot). x.accepted < length (texts_of w.script.clients (suc i))) w.client_slots i s low read
+    (let lt : nat_lt s.accepted (length (texts_of w.script.clients (suc i))) ≡ true = and_second (not s.stopped) (nat_lt s.accepted (length (texts_of w.script.clients (suc i)))) (sym (work_is w i s true h (read_there w.client_slots i s low read) (λ e. idle) (λ e. cc)) ∙ works) in ltb-true s.accepted (length (texts_of w.script.clients (suc i))) lt)
 
 -- nothing but an event more
 idled : (u w : WorldAt) → u ≡ w → (es : List Event) (c : ℕ) → es ≡ u.events ++ event.Idle c ∷ [] → record { script = u.script; client_slots = u.client_slots; events = es; clock = u.clock } ≡ with_event w (event.Idle c)

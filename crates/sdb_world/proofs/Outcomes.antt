@@ -3,24 +3,14 @@ use Rattle.std.proofs.Common.{◌≡◌, inl, inr, ℕ, zero, suc, ◌<◌, ◌^
 use Rattle.std.specs.Prelude.{◌||◌, All, Contains, ◌↔◌, IsOk, Result, is_ok, is_some, slice_index_or}
 use Rattle.std.specs.FinMap.{empty, get}
 use Rattle.std.specs.Option.{option_and_then, option_map, option_map_or}
-use Rattle.sdb_types.specs.declared.key.Key.{Key}
-use Rattle.sdb_types.specs.declared.key.TableName.{TableName}
-use Rattle.sdb_types.specs.declared.pair.Pair.{Pair}
-use Rattle.sdb_types.specs.declared.record.Record.{Record}
-use Rattle.sdb_types.specs.declared.txid.TxId.{TxId}
+use Rattle.sdb_world.specs.Types.{Decided, Event, Key, Pair, Place, Point, Record, Table, TableDump, TableName, TxId}
 use Rattle.sdb_types.specs.Contents.{Contents, record_at, record_of}
 use Rattle.sdb_types.proofs.Bools.{and_both, and_first}
-use Rattle.sdb_record.specs.declared.coordinator.Decided.{Decided}
 use Rattle.sdb_record.specs.Coordinator.{decision_in, is_coordinator_table}
 use Rattle.sdb_record.specs.Meta.{is_transactional}
 use Rattle.sdb_record.specs.Rolls.{image_of, row_of_image}
-use Rattle.sdb_schema.specs.declared.table.Table.{Table}
 use Rattle.sdb_schema.specs.Rows.{fits_table}
-use Rattle.sdb_model.specs.declared.event.Event.{Event}
-use Rattle.sdb_model.specs.declared.event.Point.{Point}
-use Rattle.sdb_model.specs.declared.event.TableDump.{TableDump}
-use Rattle.sdb_types.specs.declared.place.Place.{Place}
-use Rattle.sdb_model.specs.Events.{StoreContents, contents_under, standing, store_of}
+use Rattle.sdb_model.specs.Events.{StoreContents, contents_under, stored_at, store_of}
 use Rattle.sdb_model.specs.Exec.{Tables, find_table}
 use Rattle.sdb_model.specs.Images.{decision_at, decision_on, row_at}
 use Rattle.sdb_model.specs.Serial.{AreImages, IsRun, dumps_of, serial}
@@ -57,8 +47,8 @@ module _ (w : WorldAt) (h : IsWorld w) (opening closing : List StoreContents) (p
   abbrev states : ℕ → ClientState
   states = states_of p.executed.last.client_slots
 
-  going : RunInvariant w.script.catalog (tables_are_well_typed w.script.catalog) (on_one w.events) (system_of states) (doing_of states)
-  going = execution_linked w.script w.events h.playable p.executed
+  running : RunInvariant w.script.catalog (tables_are_well_typed w.script.catalog) (on_one w.events) (system_of states) (doing_of states)
+  running = execution_linked w.script w.events h.playable p.executed
 
   on_stores : IsTraceOnEmpty w.script w.events opening closing
   on_stores = record { moments = p.moments; traced = p.traced; about = h.about; nothing = p.nothing }
@@ -68,7 +58,7 @@ module _ (w : WorldAt) (h : IsWorld w) (opening closing : List StoreContents) (p
       → ((d : Tables) → AreImages w.script.catalog w.script.places closing d → tables ≡ dumps_of w.script.catalog d) → IsRun w.script opening closing (record { events = w.events; order = order; tables = tables })
   run_is recorded order tables each small risen printed =
       let all_small = all_contained (λ (id : TxId). id.0 < 2 ^ 128) recorded small in
-      let have = points_on_stores w.script one_name (tables_are_well_typed w.script.catalog) w.events (system_of states) (doing_of states) opening closing going on_stores in
+      let have = points_on_stores w.script one_name (tables_are_well_typed w.script.catalog) w.events (system_of states) (doing_of states) opening closing running on_stores in
       let end : IsEnd w.script w.events opening closing order = record {
         moments = p.moments;
         follows = p.follows;
@@ -78,15 +68,15 @@ module _ (w : WorldAt) (h : IsWorld w) (opening closing : List StoreContents) (p
         ordered = is_order w.script.places w.events closing recorded order all_small each have risen;
         small = risen_fits w.events recorded order all_small risen;
       } in
-      let run = going_is_run_on_stores w.script one_name (tables_are_well_typed w.script.catalog) w.events (system_of states) (doing_of states) opening closing order (is_fitting w.script.catalog h.playable.apart) going end in
-      let same : tables ≡ run.0 = printed (serial w.script.catalog run.1.told.bodies empty).1 run.1.told.images ∙ sym run.1.told.printed in
+      let run = going_is_run_on_stores w.script one_name (tables_are_well_typed w.script.catalog) w.events (system_of states) (doing_of states) opening closing order (is_fitting w.script.catalog h.playable.apart) running end in
+      let same : tables ≡ run.0 = printed (serial w.script.catalog run.1.answered.bodies empty).1 run.1.answered.images ∙ sym run.1.answered.printed in
       subst (λ (ts : List TableDump). IsRun w.script opening closing (record { events = w.events; order = order; tables = ts })) (sym same) run.1
 
   sound : AreSound w.script.catalog w.script.places closing
-  sound = sound_on_stores w.script one_name (tables_are_well_typed w.script.catalog) w.events (system_of states) (doing_of states) opening closing going on_stores
+  sound = sound_on_stores w.script one_name (tables_are_well_typed w.script.catalog) w.events (system_of states) (doing_of states) opening closing running on_stores
 
   -- a record that is at a key has that key
-  key_is : (key : Key) (r : Record) → standing w.script.places closing key ≡ Some r → r.key ≡ key
+  key_is : (key : Key) (r : Record) → stored_at w.script.places closing key ≡ Some r → r.key ≡ key
   key_is key r e = by (contents_under closing (store_of w.script.places closing key.table.ns)) e
     where
       some_is : {A : Type 0} (x y : A) → Some x ≡ Some y → x ≡ y
@@ -116,19 +106,19 @@ module _ (w : WorldAt) (h : IsWorld w) (opening closing : List StoreContents) (p
   decide = decision_at w.script.places closing
 
   -- the image of a record of a table fits it
-  images_fit : (key : Key) (t : Table) (r : Record) → Contains w.script.catalog t → t.name ≡ key.table → r.key ≡ key → standing w.script.places closing key ≡ Some r → image_is_well_typed decide t r ≡ true
-  images_fit key t r listed named same stands = by (row_by decide r) refl
+  images_fit : (key : Key) (t : Table) (r : Record) → Contains w.script.catalog t → t.name ≡ key.table → r.key ≡ key → stored_at w.script.places closing key ≡ Some r → image_is_well_typed decide t r ≡ true
+  images_fit key t r listed named same agrees = by (row_by decide r) refl
     where
       found : find_table w.script.catalog key.table ≡ Some t
       found = ap (find_table w.script.catalog) (sym named) ∙ found_by_name w.script.catalog t (and_first _ _ h.playable.catalog) listed
 
-      shown : (columns : List Pair) → row_by decide r ≡ Some columns → row_at w.script.places closing key ≡ Some columns
-      shown columns e = ap (λ (o : Option Record). option_and_then row_of_image (option_and_then (λ x. image_of x (decision_on w.script.places closing x)) o)) stands ∙ e
+      observed : (columns : List Pair) → row_by decide r ≡ Some columns → row_at w.script.places closing key ≡ Some columns
+      observed columns e = ap (λ (o : Option Record). option_and_then row_of_image (option_and_then (λ x. image_of x (decision_on w.script.places closing x)) o)) agrees ∙ e
 
       by : (o : Option (List Pair)) → row_by decide r ≡ o → option_map_or (fits_table t r.key) o true ≡ true
       by None e = refl
       by (Some columns) e =
-          let fits : row_is_well_typed w.script.catalog key columns ≡ true = final_row_fits w h opening closing p key columns (ap is_some found) (shown columns e) in
+          let fits : row_is_well_typed w.script.catalog key columns ≡ true = final_row_fits w h opening closing p key columns (ap is_some found) (observed columns e) in
           ap (λ (k : Key). fits_table t k columns) same ∙ sym (ap (λ (o : Option Table). option_map_or (λ (u : Table). fits_table u key columns) o false) found) ∙ fits
 
   -- no record breaks the rules
@@ -137,14 +127,14 @@ module _ (w : WorldAt) (h : IsWorld w) (opening closing : List StoreContents) (p
     | inl of_data ↦ (
         let named : of_data.table.name ≡ key.table = of_data.named ∙ ap (λ (k : Key). k.table) same in
         let table : is_some (find_table w.script.catalog key.table) ≡ true = ap (λ (n : TableName). is_some (find_table w.script.catalog n)) (sym named) ∙ ap is_some (found_by_name w.script.catalog of_data.table (and_first _ _ h.playable.catalog) of_data.listed) in
-        let taken : is_transactional odd.found ≡ true = sound.taken key odd.found (or_first (is_some (find_table w.script.catalog key.table)) (is_coordinator_table key.table) table) (h.playable.apart key table) odd.stands in
-        true_false (sym (and_both (is_transactional odd.found) _ taken (images_fit key of_data.table odd.found of_data.listed named same odd.stands)) ∙ of_data.ill_formed)
+        let accepted : is_transactional odd.found ≡ true = sound.accepted key odd.found (or_first (is_some (find_table w.script.catalog key.table)) (is_coordinator_table key.table) table) (h.playable.apart key table) odd.agrees in
+        true_false (sym (and_both (is_transactional odd.found) _ accepted (images_fit key of_data.table odd.found of_data.listed named same odd.agrees)) ∙ of_data.ill_formed)
         )
-    | inr row_odd ↦ ok_decided (decision_in odd.found) (sound.rows key odd.found (ap (λ (k : Key). is_coordinator_table k.table) (sym same) ∙ row_odd.0) odd.stands) row_odd.1
+    | inr row_odd ↦ ok_decided (decision_in odd.found) (sound.rows key odd.found (ap (λ (k : Key). is_coordinator_table k.table) (sym same) ∙ row_odd.0) odd.agrees) row_odd.1
   ]
     where
       same : odd.found.key ≡ key
-      same = key_is key odd.found odd.stands
+      same = key_is key odd.found odd.agrees
 
 ---- what a dump of the stores says of them
 
@@ -158,13 +148,13 @@ pub record IsReadOf (F : List Table → Type 0) (catalog : List Table) (places :
 module _ (F : List Table → Type 0) (w : WorldAt) (h : IsWorld w) (opening old new : List StoreContents) (places : List Place) (catalog : List Table) (same : catalog ≡ w.script.catalog) where
   pub outcome_run : (events : List Event) (recorded : List TxId) (order : List Point) (tables : List TableDump) → events ≡ w.events → IsReadOf F catalog places old new recorded tables → HasRisen events recorded order
       → F w.script.catalog → places ≡ w.script.places → HasRun w opening old → IsRun w.script opening new (record { events = events; order = order; tables = tables })
-  outcome_run events recorded order tables told got risen fit placed p =
+  outcome_run events recorded order tables answered got risen fit placed p =
       let f : F catalog = subst F (sym same) fit in
       let each = subst (λ (ps : List Place). (id : TxId) → id.0 < 2 ^ 128 → Contains recorded id ↔ Recorded ps old id) placed (got.each f) in
       let there = subst (λ (ps : List Place). (d : Tables) → AreImages catalog ps old d → tables ≡ dumps_of catalog d) placed (got.printed f) in
       let images = subst (λ (ts : List Table). (d : Tables) → AreImages ts w.script.places old d → tables ≡ dumps_of ts d) same there in
-      let rose = subst (λ (es : List Event). HasRisen es recorded order) told risen in
-      subst (λ (es : List Event). IsRun w.script opening new (record { events = es; order = order; tables = tables })) (sym told)
+      let rose = subst (λ (es : List Event). HasRisen es recorded order) answered risen in
+      subst (λ (es : List Event). IsRun w.script opening new (record { events = es; order = order; tables = tables })) (sym answered)
       (subst (λ (ss : List StoreContents). IsRun w.script opening ss (record { events = w.events; order = order; tables = tables })) (sym (got.still f))
       (run_is w h opening old p recorded order tables each got.small rose images))
 

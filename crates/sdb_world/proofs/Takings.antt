@@ -3,29 +3,21 @@ use Rattle.std.proofs.Common.{◌≡◌, ℕ, suc, ◌+◌, ◌<◌, ◌^◌, tr
 use Rattle.std.specs.Prelude.{OnOk, slice_get}
 use Rattle.std.proofs.Math.Numerals.{add-one}
 use Rattle.std.proofs.lemmas.Option.{slice_get_read}
-use Rattle.sdb_types.specs.declared.key.TableName.{TableName}
-use Rattle.sdb_types.specs.declared.record.Reply.{Reply}
-use Rattle.sdb_types.specs.declared.record.Request.{Request}
+use Rattle.sdb_world.specs.Types.{Answer, ClientSlot, Event, Gate, How, Reply, Request, Table, TableName}
 use Rattle.sdb_types.specs.Contents.{CanAnswer}
-use Rattle.sdb_schema.specs.declared.table.Table.{Table}
 use Rattle.sdb_stores.specs.Views.{Attached, home_in, names_of, table_of}
-use Rattle.sdb_model.specs.declared.answer.Answer.{Answer}
-use Rattle.sdb_model.specs.declared.event.Event.{Event}
 use Rattle.sdb_model.specs.declared.event.Event.TheVariants as event
-use Rattle.sdb_model.specs.declared.event.How.{How}
 use Rattle.sdb_model.specs.Rows.{Name}
 use Rattle.sdb_model.specs.Events.{store_of, table_asked}
 use Rattle.sdb_model.specs.Follows.{texts_of}
 use Rattle.sdb_client.specs.Client.{ClientAt, ReplyPost, client_pending, next_id, TextStep}
-use Rattle.sdb_client.specs.declared.gate.Gate.{Gate}
 use Rattle.sdb_contents.specs.Board.{AreUsable, IsMade, contents_of_views}
 use Rattle.sdb_contents.proofs.Made.{asked}
 use Rattle.sdb_contents.proofs.Shelves.{named_home}
-use Rattle.sdb_execution.specs.declared.slot.ClientSlot.{ClientSlot}
 use Rattle.sdb_world.specs.declared.delivery.Delivery.{Delivery}
 use Rattle.law_runs.specs.World.{IsWorld, WorldAt}
 use Rattle.sdb_world.specs.Step.{HasCalled, HasLeft, HasStarted, IsDeliveryOf, IsPendingAt}
-use Rattle.sdb_execution.specs.Execution.{IsGateAt}
+use Rattle.sdb_client.specs.Execution.{IsGateAt}
 use Rattle.sdb_types.proofs.Basics.{some_is}
 use Rattle.sdb_model.specs.Tables.{is_table_of_run}
 use Rattle.sdb_model.specs.Calls.{is_stored_reply}
@@ -40,18 +32,18 @@ at_read P client_slots i s low read h = subst (λ (o : Option ClientSlot). IfSom
 
 -- the next text of a client
 abbrev pub IsNextText : WorldAt → ℕ → List ℕ → Type 0
-IsNextText w i text = IfSome (slice_get w.client_slots i) (λ s. slice_get (texts_of w.script.clients (suc i)) s.taken ≡ Some text)
+IsNextText w i text = IfSome (slice_get w.client_slots i) (λ s. slice_get (texts_of w.script.clients (suc i)) s.accepted ≡ Some text)
 
 -- it is no longer than a text may be
 pub next_short : (w : WorldAt) (i : ℕ) (s : ClientSlot) (text : List ℕ) → IsWorld w → i < length w.client_slots → s ≡ get_or w.client_slots i s → IsNextText w i text → length text < 2 ^ 32
-next_short w i s text h low read next = h.playable.short (suc i) s.taken text (at_read (λ (x : ClientSlot). slice_get (texts_of w.script.clients (suc i)) x.taken ≡ Some text) w.client_slots i s low read next)
+next_short w i s text h low read next = h.playable.short (suc i) s.accepted text (at_read (λ (x : ClientSlot). slice_get (texts_of w.script.clients (suc i)) x.accepted ≡ Some text) w.client_slots i s low read next)
 
 -- a statement is left to it
-pub some_left : (w : WorldAt) (i : ℕ) (s : ClientSlot) → i < length w.client_slots → s ≡ get_or w.client_slots i s → HasLeft w i → s.taken < length (texts_of w.script.clients (suc i))
-some_left w i s low read left = at_read (λ (x : ClientSlot). x.taken < length (texts_of w.script.clients (suc i))) w.client_slots i s low read left
+pub some_left : (w : WorldAt) (i : ℕ) (s : ClientSlot) → i < length w.client_slots → s ≡ get_or w.client_slots i s → HasLeft w i → s.accepted < length (texts_of w.script.clients (suc i))
+some_left w i s low read left = at_read (λ (x : ClientSlot). x.accepted < length (texts_of w.script.clients (suc i))) w.client_slots i s low read left
 
 abbrev pub after_taking : WorldAt → ℕ → ClientSlot → ClientAt → List Event → WorldAt
-after_taking u i s d es = record { script = u.script; client_slots = slice_set u.client_slots i (record { client = d; taken = s.taken + 1; stopped = s.stopped }); events = es; clock = u.clock }
+after_taking u i s d es = record { script = u.script; client_slots = slice_set u.client_slots i (record { client = d; accepted = s.accepted + 1; stopped = s.stopped }); events = es; clock = u.clock }
 
 -- A client took its next text.
 pub took : (u w : WorldAt) → u ≡ w → (i : ℕ) (s : ClientSlot) (text : List ℕ) (gate : Gate) (a : Option Answer) (d : ClientAt) (es : List Event) → i < length w.client_slots → s ≡ get_or w.client_slots i s → IsNextText w i text
@@ -65,18 +57,18 @@ took u w same i s text gate a d es low read next takes gated begun came =
       answer = a;
       client = d;
       at = read_there w.client_slots i s low read;
-      next = at_read (λ (x : ClientSlot). slice_get (texts_of w.script.clients (suc i)) x.taken ≡ Some text) w.client_slots i s low read next;
+      next = at_read (λ (x : ClientSlot). slice_get (texts_of w.script.clients (suc i)) x.accepted ≡ Some text) w.client_slots i s low read next;
       takes = subst (λ (x : WorldAt). TextStep (record { catalog = x.script.catalog; now = x.clock; gate = gate; fresh = next_id s.client }) text s.client a d) same takes;
       gated = gated;
       begun = begun;
-      left = λ k. record { script = w.script; client_slots = slice_set w.client_slots i (record { client = d; taken = s.taken + 1; stopped = s.stopped }); events = here k; clock = w.clock };
+      left = λ k. record { script = w.script; client_slots = slice_set w.client_slots i (record { client = d; accepted = s.accepted + 1; stopped = s.stopped }); events = here k; clock = w.clock };
     })
   where
     here : es ≡ w.events ++ event.Take (suc i) text a ∷ []
     here = came ∙ ap (λ (x : WorldAt). x.events ++ event.Take (i + 1) text a ∷ []) same ∙ ap (λ (n : ℕ). w.events ++ event.Take n text a ∷ []) (add-one i)
 
 abbrev pub after_calling : WorldAt → ℕ → ClientSlot → ClientAt → List Event → WorldAt
-after_calling u i s d es = record { script = u.script; client_slots = slice_set u.client_slots i (record { client = d; taken = s.taken; stopped = s.stopped }); events = es; clock = u.clock }
+after_calling u i s d es = record { script = u.script; client_slots = slice_set u.client_slots i (record { client = d; accepted = s.accepted; stopped = s.stopped }); events = es; clock = u.clock }
 
 -- the store of a call is that of its table's namespace
 pub named_store : (stores : Attached) (q : Request) (table : TableName) (store : Name) → table ≡ table_of q → slice_get (names_of stores.views) (home_in stores table.ns) ≡ Some store → {catalog : List Table} → AreUsable catalog stores → store ≡ store_of stores.places (contents_of_views stores.views) (table_asked q).ns
@@ -88,7 +80,7 @@ named_store stores q table store same found fit =
 pub called : (old new : Attached) (u w : WorldAt) → u ≡ w → (i : ℕ) (s : ClientSlot) (way : Delivery) (store : Name) (q : Request) (how : How) (r : Reply) (a : Option Answer) (d : ClientAt) (es : List Event) → i < length w.client_slots → s ≡ get_or w.client_slots i s → IsPendingAt w i q → CanAnswer q r → IsDeliveryOf way how r → is_stored_reply r ≡ true
     → ReplyPost s.client s.client.vacuum r u.clock a d → (AreUsable w.script.catalog old → is_table_of_run w.script.catalog (table_asked q) ≡ true → (store ≡ store_of old.places (contents_of_views old.views) (table_asked q).ns) × IsMade q how r old new) → es ≡ u.events ++ event.Call (i + 1) store q how r a ∷ []
     → HasCalled old new w i way (after_calling u i s d es)
-called old new u w same i s way store q how r a d es low read pends can allowed stored told made came =
+called old new u w same i s way store q how r a d es low read pends can allowed stored answered made came =
     subst (λ (x : WorldAt). HasCalled old new w i way (after_calling x i s d es)) (sym same)
     (record {
       client_slot = s;
@@ -103,9 +95,9 @@ called old new u w same i s way store q how r a d es low read pends can allowed 
       can = can;
       allowed = allowed;
       stored = stored;
-      told = subst (λ (x : WorldAt). ReplyPost s.client s.client.vacuum r x.clock a d) same told;
+      answered = subst (λ (x : WorldAt). ReplyPost s.client s.client.vacuum r x.clock a d) same answered;
       made = made;
-      left = λ k. record { script = w.script; client_slots = slice_set w.client_slots i (record { client = d; taken = sym (add-zero s.taken) k; stopped = s.stopped }); events = here k; clock = w.clock };
+      left = λ k. record { script = w.script; client_slots = slice_set w.client_slots i (record { client = d; accepted = sym (add-zero s.accepted) k; stopped = s.stopped }); events = here k; clock = w.clock };
     })
   where
     here : es ≡ w.events ++ event.Call (suc i) store q how r a ∷ []

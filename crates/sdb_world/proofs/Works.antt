@@ -7,7 +7,7 @@ use Rattle.sdb_client.specs.Client.{ClientAt, IsBusy, IsIdle}
 use Rattle.sdb_txn.specs.declared.txn.Doing.TheVariants as doing
 use Rattle.sdb_txn.specs.Txn.{TxnAt}
 use Rattle.sdb_vacuum.specs.Vacuum.{VacuumAt}
-use Rattle.sdb_execution.specs.declared.slot.ClientSlot.{ClientSlot}
+use Rattle.sdb_client.specs.declared.slot.ClientSlot.{ClientSlot}
 use Rattle.law_runs.specs.World.{IsClientState, IsWorld, WorldAt}
 
 -- a client waits for one thing
@@ -18,13 +18,13 @@ not_both c idle busy = at busy
     by None i b = b
     by (Some t) i b = b i
 
-    sweeps : (o : Option VacuumAt) → o ≡ None → IsSome o → ⊥
-    sweeps None e s = cc
-    sweeps (Some v) e s = cc
+    vacuums : (o : Option VacuumAt) → o ≡ None → IsSome o → ⊥
+    vacuums None e s = cc
+    vacuums (Some v) e s = cc
 
     at : IsSomeAnd c.txn (λ t. t.doing ≢ doing.Idle) ⊎ IsSome c.vacuum → ⊥
     at (inl b) = by c.txn idle.still b
-    at (inr b) = sweeps c.vacuum idle.free b
+    at (inr b) = vacuums c.vacuum idle.free b
 
 -- a call is pending exactly where a client isn't idle
 pends_is : (w : WorldAt) (i : ℕ) (s : ClientSlot) (idle : Bool) → IsClientState w.script w.events i s → (idle ≡ true → IsIdle s.client) → (idle ≡ false → IsBusy s.client) → is_pending (suc i) w.events ≡ not idle
@@ -36,12 +36,12 @@ pends_is w i s idle client_slot is busy = by (is_pending (suc i) w.events) idle 
     by false true e f = refl
     by false false e f = absurd (not_both s.client (client_slot.idle e) (busy f))
 
-pub work_is : (w : WorldAt) (i : ℕ) (s : ClientSlot) (idle : Bool) → IsWorld w → slice_get w.client_slots i ≡ Some s → (idle ≡ true → IsIdle s.client) → (idle ≡ false → IsBusy s.client) → has_work w.script.clients (suc i) w.events ≡ (not s.stopped && (not idle || nat_lt s.taken (length (texts_of w.script.clients (suc i)))))
+pub work_is : (w : WorldAt) (i : ℕ) (s : ClientSlot) (idle : Bool) → IsWorld w → slice_get w.client_slots i ≡ Some s → (idle ≡ true → IsIdle s.client) → (idle ≡ false → IsBusy s.client) → has_work w.script.clients (suc i) w.events ≡ (not s.stopped && (not idle || nat_lt s.accepted (length (texts_of w.script.clients (suc i)))))
 work_is w i s idle h here is busy =
     let client_slot : IsClientState w.script w.events i s = h.each i s here in
     ap (λ (b : Bool). not b && (is_pending (suc i) w.events || nat_lt (takes_of (suc i) w.events) (length (texts_of w.script.clients (suc i))))) (sym client_slot.stopped)
     ∙ ap (λ (b : Bool). not s.stopped && (b || nat_lt (takes_of (suc i) w.events) (length (texts_of w.script.clients (suc i))))) (pends_is w i s idle client_slot is busy)
-    ∙ ap (λ (n : ℕ). not s.stopped && (not idle || nat_lt n (length (texts_of w.script.clients (suc i))))) (sym client_slot.taken)
+    ∙ ap (λ (n : ℕ). not s.stopped && (not idle || nat_lt n (length (texts_of w.script.clients (suc i))))) (sym client_slot.accepted)
 
 -- Where a seat that was read stops, has a call pending, or neither.
 module _ (w : WorldAt) (i : ℕ) (s : ClientSlot) (h : IsWorld w) (low : i < length w.client_slots) (read : s ≡ get_or w.client_slots i s) where
@@ -54,11 +54,11 @@ module _ (w : WorldAt) (i : ℕ) (s : ClientSlot) (h : IsWorld w) (low : i < len
       ∙ ap (λ (b : Bool). not b && (is_pending (suc i) w.events || nat_lt (takes_of (suc i) w.events) (length (texts_of w.script.clients (suc i))))) (sym over ∙ (h.each i s at_seat).stopped)
 
   module _ (idle : Bool) (is : idle ≡ true → IsIdle s.client) (busy : idle ≡ false → IsBusy s.client) (goes : s.stopped ≡ false) where
-    all_of : has_work w.script.clients (suc i) w.events ≡ (not idle || nat_lt s.taken (length (texts_of w.script.clients (suc i))))
-    all_of = work_is w i s idle h at_seat is busy ∙ ap (λ (b : Bool). not b && (not idle || nat_lt s.taken (length (texts_of w.script.clients (suc i))))) goes
+    all_of : has_work w.script.clients (suc i) w.events ≡ (not idle || nat_lt s.accepted (length (texts_of w.script.clients (suc i))))
+    all_of = work_is w i s idle h at_seat is busy ∙ ap (λ (b : Bool). not b && (not idle || nat_lt s.accepted (length (texts_of w.script.clients (suc i))))) goes
 
     pub works_busy : idle ≡ false → not idle ≡ has_work w.script.clients (suc i) w.events
-    works_busy e = ap not e ∙ sym (all_of ∙ ap (λ (b : Bool). not b || nat_lt s.taken (length (texts_of w.script.clients (suc i)))) e)
+    works_busy e = ap not e ∙ sym (all_of ∙ ap (λ (b : Bool). not b || nat_lt s.accepted (length (texts_of w.script.clients (suc i)))) e)
 
-    pub works_left : (left : ℕ) → idle ≡ true → left ≡ length (texts_of w.script.clients (suc i)) → nat_lt s.taken left ≡ has_work w.script.clients (suc i) w.events
-    works_left left e same = ap (λ (n : ℕ). nat_lt s.taken n) same ∙ sym (all_of ∙ ap (λ (b : Bool). not b || nat_lt s.taken (length (texts_of w.script.clients (suc i)))) e)
+    pub works_left : (left : ℕ) → idle ≡ true → left ≡ length (texts_of w.script.clients (suc i)) → nat_lt s.accepted left ≡ has_work w.script.clients (suc i) w.events
+    works_left left e same = ap (λ (n : ℕ). nat_lt s.accepted n) same ∙ sym (all_of ∙ ap (λ (b : Bool). not b || nat_lt s.accepted (length (texts_of w.script.clients (suc i)))) e)

@@ -1,9 +1,7 @@
 -- Which records are in the stores at every moment of a run, which events put them there, and that reads are current.
 use Rattle.std.specs.Prelude.{List, [], ◌∷◌, ◌++◌}
 use Rattle.std.specs.FinMap.{empty}
-use Rattle.sdb_model.specs.declared.event.Event.{Event}
-use Rattle.sdb_types.specs.declared.place.Place.{Place}
-use Rattle.sdb_model.specs.declared.script.Script.{Script}
+use Rattle.sdb_world.specs.Types.{Event, Place, Script}
 use Rattle.sdb_model.specs.Events.{IsTrace, StoreContents}
 use Rattle.sdb_model.specs.Explained.{Explained, AreTransactional}
 use Rattle.sdb_model.specs.DirtyReads.{NoDirtyReads}
@@ -11,13 +9,13 @@ use Rattle.law_protocol.specs.Spread.{HoldAs}
 use Rattle.sdb_stores.specs.Views.{Attached}
 use Rattle.sdb_contents.specs.Board.{AreUsable, contents_of_views}
 use Rattle.law_runs.specs.World.{WorldAt, state_of}
-use Rattle.sdb_execution.specs.Execution.{IsReachedBy}
+use Rattle.sdb_client.specs.Execution.{IsReachedBy}
 
 -- What was there at each of these moments is explained by the events of a script's run, what each recorded transaction read is
 -- current at its point, and each record that was at a key of a table passes the checks.
 pub record AreExplained (script : Script) (events : List Event) (opening : List StoreContents) (moments : List (List StoreContents)) : Type 0 where
   pub explained : Explained script.catalog script.places events opening moments
-  pub taken : AreTransactional script.catalog script.places opening moments
+  pub accepted : AreTransactional script.catalog script.places opening moments
 
 -- This holds whatever the stores held after each event.
 abbrev pub IsExplained : Script → List Event → List StoreContents → Type 0

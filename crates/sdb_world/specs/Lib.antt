@@ -1,3 +1,4 @@
+pub mod Types
 pub mod Step
 pub mod Ran
 pub mod Explained

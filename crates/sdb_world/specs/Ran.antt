@@ -2,11 +2,8 @@
 use Rattle.std.specs.Prelude.{◌≡◌, List, map, All, Contains}
 use Rattle.std.specs.List.Sorted.{IsStrictlyIncreasing}
 use Rattle.std.specs.FinMap.{empty}
-use Rattle.sdb_types.specs.declared.txid.TxId.{TxId}
+use Rattle.sdb_world.specs.Types.{Event, Outcome, Table, TxId}
 use Rattle.sdb_record.specs.Coordinator.{coordinator_table}
-use Rattle.sdb_schema.specs.declared.table.Table.{Table}
-use Rattle.sdb_model.specs.declared.event.Event.{Event}
-use Rattle.sdb_model.specs.declared.event.Outcome.{Outcome}
 use Rattle.sdb_model.specs.Events.{IsTrace, StoreContents}
 use Rattle.sdb_model.specs.Follows.{Follows}
 use Rattle.sdb_model.specs.Serial.{IsRun}
@@ -16,7 +13,7 @@ use Rattle.sdb_stores.specs.Views.{Attached}
 use Rattle.sdb_contents.specs.Board.{AreUsable, AreUsableFor, contents_of_views}
 use Rattle.sdb_contents.specs.Held.{AreDumpsWhereKnown, AreWellFormedWhereKnown}
 use Rattle.law_runs.specs.World.{WorldAt}
-use Rattle.sdb_execution.specs.Execution.{IsExecution}
+use Rattle.sdb_client.specs.Execution.{IsExecution}
 use Rattle.sdb_world.specs.Explained.{IsExplained}
 
 -- A world has made all moves of its script on stores that held nothing of the script's tables to begin with: its events are an execution of

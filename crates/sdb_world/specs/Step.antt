@@ -1,32 +1,22 @@
 -- The steps of a world, and what they do to the stores.
 use Rattle.std.specs.Prelude.{◌≡◌, ℕ, suc, ◌≤◌, ◌<◌, ◌^◌, true, List, [], ◌∷◌, ◌++◌, length, Option, Some, IfSome, slice_get}
 use Rattle.std.specs.List.{AllByRecursion}
-use Rattle.sdb_types.specs.declared.record.Reply.{Reply}
-use Rattle.sdb_types.specs.declared.record.Request.{Request}
+use Rattle.sdb_world.specs.Types.{Act, Answer, ClientSlot, Event, Gate, How, Move, Reply, Request, Script, ScriptClient}
 use Rattle.sdb_types.specs.Contents.{CanAnswer}
 use Rattle.sdb_record.specs.Meta.{is_moment}
-use Rattle.sdb_model.specs.declared.answer.Answer.{Answer}
-use Rattle.sdb_model.specs.declared.event.Event.{Event}
 use Rattle.sdb_model.specs.declared.event.Event.TheVariants as event
-use Rattle.sdb_model.specs.declared.event.How.{How}
-use Rattle.sdb_model.specs.declared.script.Act.{Act}
 use Rattle.sdb_model.specs.declared.script.Act.TheVariants as act
-use Rattle.sdb_model.specs.declared.script.Move.{Move}
 use Rattle.sdb_model.specs.declared.script.Move.TheVariants as move
-use Rattle.sdb_model.specs.declared.script.Script.{Script}
-use Rattle.sdb_model.specs.declared.script.ScriptClient.{ScriptClient}
 use Rattle.sdb_model.specs.Rows.{Name}
 use Rattle.sdb_model.specs.Events.{IsTrace, StoreContents, store_of, table_asked}
 use Rattle.sdb_model.specs.Follows.{AllIdle, AreOfMoves, AreStepsOf, IsActed, IsAmong, IsHowOfDiscard, IsHowOfLose, IsHowOfStep, IsOfMove, has_work, texts_of}
 use Rattle.sdb_client.specs.Client.{ClientAt, IsBusy, IsIdle, ReplyPost, client_pending, next_id, TextStep}
-use Rattle.sdb_client.specs.declared.gate.Gate.{Gate}
 use Rattle.sdb_stores.specs.Views.{Attached}
 use Rattle.sdb_contents.specs.Board.{AreUsable, IsMade, contents_of_views}
-use Rattle.sdb_execution.specs.declared.slot.ClientSlot.{ClientSlot}
 use Rattle.sdb_world.specs.declared.delivery.Delivery.{Delivery}
 use Rattle.sdb_world.specs.declared.delivery.Delivery.TheVariants as way
 use Rattle.law_runs.specs.World.{WorldAt, state_of, with_event, with_client}
-use Rattle.sdb_execution.specs.Execution.{IsGateAt, IsPath, client_after, client_stopped}
+use Rattle.sdb_client.specs.Execution.{IsGateAt, IsPath, client_after, client_stopped}
 use Rattle.sdb_model.specs.Tables.{is_table_of_run}
 use Rattle.sdb_model.specs.Calls.{is_stored_reply}
 
@@ -60,7 +50,7 @@ IsBusyAt w i = IfSome (slice_get w.client_slots i) (λ s. IsBusy s.client)
 
 -- a statement of it is left
 abbrev pub HasLeft : WorldAt → ℕ → Type 0
-HasLeft w i = IfSome (slice_get w.client_slots i) (λ s. s.taken < length (texts_of w.script.clients (suc i)))
+HasLeft w i = IfSome (slice_get w.client_slots i) (λ s. s.accepted < length (texts_of w.script.clients (suc i)))
 
 -- that call of it is pending
 abbrev pub IsPendingAt : WorldAt → ℕ → Request → Type 0
@@ -76,7 +66,7 @@ pub record HasStarted (w : WorldAt) (i : ℕ) (v : WorldAt) : Type 0 where
   pub answer : Option Answer
   pub client : ClientAt
   pub at : slice_get w.client_slots i ≡ Some client_slot
-  pub next : slice_get (texts_of w.script.clients (suc i)) client_slot.taken ≡ Some text
+  pub next : slice_get (texts_of w.script.clients (suc i)) client_slot.accepted ≡ Some text
   pub takes : TextStep (record { catalog = w.script.catalog; now = w.clock; gate = gate; fresh = next_id client_slot.client }) text client_slot.client answer client
   pub gated : IsGateAt gate w.client_slots i
   pub begun : client.begun < 2 ^ 64
@@ -96,7 +86,7 @@ pub record HasCalled (old new : Attached) (w : WorldAt) (i : ℕ) (way : Deliver
   pub can : CanAnswer request reply
   pub allowed : IsDeliveryOf way how reply
   pub stored : is_stored_reply reply ≡ true
-  pub told : ReplyPost client_slot.client client_slot.client.vacuum reply w.clock answer client
+  pub answered : ReplyPost client_slot.client client_slot.client.vacuum reply w.clock answer client
   pub made : AreUsable w.script.catalog old → is_table_of_run w.script.catalog (table_asked request) ≡ true → (store ≡ store_of old.places (contents_of_views old.views) (table_asked request).ns) × IsMade request how reply old new
   pub left : v ≡ with_event (with_client w i (client_after client_slot 0 client)) (event.Call (suc i) store request how reply answer)
 

@@ -7,9 +7,8 @@ ghost use Rattle.law_runs.specs.World.{IsWorld};
 ghost use Rattle.sdb_world.specs.Ran.{HasNotRun, IsOutcomeOf, IsRunExplained, IsReadWhereKnown};
 
 use crate::world::World;
-use sdb_contents::{Closing, ClosingRefused, closing_dump};
+use sdb_contents::{Closing, ClosingRefused, closing_dump, order_of};
 use sdb_model::Outcome;
-use sdb_order::order_of;
 use sdb_stores::Registry;
 use std::alloc::Global;
 

@@ -2,7 +2,7 @@
 ghost use Rattle.std.specs.Prelude.{◌≡◌, ◌<◌, ◌≤◌, [], suc, length, Some, IfOk, OnOk, IfSome, slice_get};
 ghost use Rattle.sdb_model.specs.Follows.{has_work as has_work_lem, texts_of};
 ghost use Rattle.sdb_contents.specs.Board.{GoOn};
-ghost use Rattle.sdb_execution.specs.Execution.{IsGateAt, IsInitial, IsPlayable};
+ghost use Rattle.sdb_client.specs.Execution.{IsGateAt, IsInitial, IsPlayable};
 ghost use Rattle.law_runs.specs.World.{IsWorld, state_of};
 ghost use Rattle.sdb_world.specs.Asked.{AsksOnce};
 ghost use Rattle.sdb_world.specs.Broken.{BreaksWithin};
@@ -11,8 +11,7 @@ ghost use Rattle.sdb_world.specs.Step.{CanAct, HasActed, HasCalled, HasLeft, Has
 
 use crate::delivery::Delivery;
 use crate::perform::perform;
-use sdb_client::Gate;
-use sdb_execution::{ClientSlot, fresh_slots, gate_at, prove_order};
+use sdb_client::{ClientSlot, Gate, fresh_slots, gate_at, prove_order};
 use sdb_model::{Act, Event, Events, Script, Texts};
 use sdb_stores::{Registry, table_of};
 use sdb_types::{Duplicate, NoMemory, Request, Txt};
@@ -112,7 +111,7 @@ impl World {
     {
         let client_slot = &self.client_slots[at];
         !client_slot.stopped
-            && (!client_slot.client.is_idle() || client_slot.taken < self.statements(at).len())
+            && (!client_slot.client.is_idle() || client_slot.accepted < self.statements(at).len())
     }
 
     // What the other clients do that go on.
@@ -127,9 +126,9 @@ impl World {
         requires at { at < length self.now.client_slots }
         requires clients { length self.now.client_slots ≡ length self.now.script.clients }
         requires left { HasLeft self.now at }
-        ensures { IfOk result (λ text. IfSome (slice_get self.now.client_slots at) (λ s. slice_get (texts_of self.now.script.clients (suc at)) s.taken ≡ Some text)) }
+        ensures { IfOk result (λ text. IfSome (slice_get self.now.client_slots at) (λ s. slice_get (texts_of self.now.script.clients (suc at)) s.accepted ≡ Some text)) }
     {
-        match self.statements(at).at(self.client_slots[at].taken) {
+        match self.statements(at).at(self.client_slots[at].accepted) {
             Some(text) => text.copy(),
             None => unreachable!(),
         }
@@ -152,7 +151,7 @@ impl World {
             .client
             .take(&self.script.catalog, &text, gate, fresh, self.clock);
         let _begun = client_slot.client.begun();
-        client_slot.taken += 1;
+        client_slot.accepted += 1;
         self.events.push(Event::Take(at as u32 + 1, text, answer))?;
         Ok(())
     }
@@ -189,9 +188,9 @@ impl World {
         let store = stores.store_of(table_of(&request)).copy()?;
         let (how, reply) = perform(stores, &request, way);
         prove_order(&reply);
-        let told = reply.copy()?;
+        let answered = reply.copy()?;
         let answer = self.client_slots[at].client.advance(reply, self.clock);
-        self.events.push(Event::Call(at as u32 + 1, store, request, how, told, answer))?;
+        self.events.push(Event::Call(at as u32 + 1, store, request, how, answered, answer))?;
         Ok(())
     }
 

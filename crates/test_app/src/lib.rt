@@ -6,13 +6,25 @@ mod attached;
 #[cfg(test)]
 mod commands;
 #[cfg(test)]
+mod commits;
+#[cfg(test)]
+mod correct;
+#[cfg(test)]
+mod failing;
+#[cfg(test)]
+mod inputs;
+#[cfg(test)]
 mod program;
+#[cfg(test)]
+mod puppet;
 #[cfg(test)]
 mod retired;
 #[cfg(test)]
 mod run;
 #[cfg(test)]
 mod session;
+#[cfg(test)]
+mod statements;
 #[cfg(test)]
 mod tables;
 #[cfg(test)]

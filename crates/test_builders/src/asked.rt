@@ -37,8 +37,8 @@ pub fn request_of(alloc: Global, ask: Ask) -> Result<Request, NameRefused> {
     }
 }
 
-pub fn reply_of(alloc: Global, told: ReplyCase) -> Result<Reply, NameRefused> {
-    match told {
+pub fn reply_of(alloc: Global, answered: ReplyCase) -> Result<Reply, NameRefused> {
+    match answered {
         ReplyCase::Found(row) => Ok(Reply::Found(found_of(alloc, row)?)),
         ReplyCase::Rows(rows) => Ok(Reply::Rows(records_of(alloc, rows)?)),
         ReplyCase::Applied => Ok(Reply::Applied),

@@ -22,7 +22,7 @@ fn said_of(alloc: Global, said: Option<AnswerCase>) -> Result<Option<Answer>, Na
     }
 }
 
-fn taken(alloc: Global, text: &str, said: Option<AnswerCase>) -> Result<Event, NameRefused> {
+fn accepted(alloc: Global, text: &str, said: Option<AnswerCase>) -> Result<Event, NameRefused> {
     let text = Txt::new(alloc, text)?;
     Ok(Event::Take(1, text, said_of(alloc, said)?))
 }
@@ -30,20 +30,20 @@ fn taken(alloc: Global, text: &str, said: Option<AnswerCase>) -> Result<Event, N
 fn called(
     alloc: Global,
     ask: Ask,
-    told: ReplyCase,
+    answered: ReplyCase,
     said: Option<AnswerCase>,
 ) -> Result<Event, NameRefused> {
     let store = Name::new(alloc, "ordered")?;
     let answer = said_of(alloc, said)?;
     let request = request_of(alloc, ask)?;
-    let reply = reply_of(alloc, told)?;
+    let reply = reply_of(alloc, answered)?;
     Ok(Event::Call(1, store, request, How::Seen, reply, answer))
 }
 
 pub fn event_of(alloc: Global, happening: Happening) -> Result<Event, NameRefused> {
     match happening {
-        Happening::Take(text, said) => taken(alloc, text, said),
-        Happening::Call(ask, told, said) => called(alloc, ask, told, said),
+        Happening::Take(text, said) => accepted(alloc, text, said),
+        Happening::Call(ask, answered, said) => called(alloc, ask, answered, said),
         Happening::Stop(client) => Ok(Event::Stop(client)),
         Happening::Clock(moment) => Ok(Event::Clock(moment)),
         Happening::Idle(client) => Ok(Event::Idle(client)),

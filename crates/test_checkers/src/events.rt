@@ -81,7 +81,7 @@ fn state_of(second: Second, id: TxId) -> State {
     }
 }
 
-fn taken(alloc: Global, client: u32, text: &str, ends: Ends) -> Result<Event, Fail> {
+fn accepted(alloc: Global, client: u32, text: &str, ends: Ends) -> Result<Event, Fail> {
     let text = Txt::new(alloc, text)?;
     Ok(Event::Take(client, text, answer_of(ends)))
 }
@@ -197,10 +197,10 @@ fn remove(alloc: Global, id: TxId, client: u32) -> Result<Event, Fail> {
 
 fn event_of(alloc: Global, second: Second, step: Step) -> Result<Event, Fail> {
     match step {
-        Step::Begins(_, client) => taken(alloc, client, "BEGIN", Ends::Done),
+        Step::Begins(_, client) => accepted(alloc, client, "BEGIN", Ends::Done),
         Step::Reads(client, found) => read(alloc, client, second, found, Ends::Nothing),
         Step::Sees(client, id) => see(alloc, client, id),
-        Step::Takes(_, client) => taken(alloc, client, "COMMIT", Ends::Nothing),
+        Step::Takes(_, client) => accepted(alloc, client, "COMMIT", Ends::Nothing),
         Step::Prepares(id, client) => prepare(alloc, second, id, client),
         Step::Checks(_, client, found) => read(alloc, client, second, found, Ends::Nothing),
         Step::Decides(id, client) => decide(alloc, id, client, Ends::Nothing),

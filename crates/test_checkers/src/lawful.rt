@@ -207,7 +207,7 @@ static RUNS: [Run; 21] = [
         ],
         false,
     ),
-    // An id begins again, a COMMIT is taken again, a key is prepared again; a client stops in the name of another; a put plays no
+    // An id begins again, a COMMIT is accepted again, a key is prepared again; a client stops in the name of another; a put plays no
     // part; Committed is answered where nothing says so.
     Run(Second::Updates, &[Step::Begins(ONE, 1)], false),
     Run(Second::Updates, &[Step::Takes(TWO, 2)], false),

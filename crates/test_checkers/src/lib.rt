@@ -14,15 +14,21 @@ mod executions;
 #[cfg(test)]
 mod forged;
 #[cfg(test)]
+mod generated;
+#[cfg(test)]
 mod lawful;
 #[cfg(test)]
 mod misfits;
 #[cfg(test)]
 mod moments;
 #[cfg(test)]
-mod runs;
+mod observed;
 #[cfg(test)]
-mod shown;
+mod pictures_drawn;
+#[cfg(test)]
+mod pictures_refused;
+#[cfg(test)]
+mod runs;
 #[cfg(test)]
 mod steps;
 #[cfg(test)]

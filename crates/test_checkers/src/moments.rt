@@ -55,9 +55,9 @@ fn rows_of(alloc: Global, tree: &Tree) -> Result<PlainTables, NameRefused> {
 fn shelves_of(alloc: Global, tree: &Tree) -> Result<Shelves, NameRefused> {
     let name = Name::new(alloc, "ordered")?;
     let rows = rows_of(alloc, tree)?;
-    let mut shelves = Shelves::new(alloc);
-    shelves.push(StoreContents { name, rows })?;
-    Ok(shelves)
+    let mut store_contents = Shelves::new(alloc);
+    store_contents.push(StoreContents { name, rows })?;
+    Ok(store_contents)
 }
 
 fn moments_of(alloc: Global, events: &[Event]) -> Result<Seq<Shelves>, NameRefused> {

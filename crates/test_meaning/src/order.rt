@@ -58,7 +58,7 @@ fn events(alloc: Global) -> Result<Events, Fail> {
 fn quick(alloc: Global) -> Result<Points, Fail> {
     let events = events(alloc)?;
     let ids = Seq::from_slice(alloc, [ROLLED_BACK, WRITER, READER].as_slice())?;
-    Ok(sdb_order::order_of(alloc, events.as_slice(), ids.as_slice())?)
+    Ok(sdb_contents::order_of(alloc, events.as_slice(), ids.as_slice())?)
 }
 
 fn slow(alloc: Global) -> Result<Points, Fail> {

@@ -47,7 +47,7 @@ fn ran(alloc: Global) -> Result<(Seq<Answers>, PlainTables), Fail> {
 }
 
 fn second_is(answers: &Seq<Answers>, wanted: &Answer) -> bool {
-    answers.at(0).and_then(|told| told.at(1)) == Some(wanted)
+    answers.at(0).and_then(|answered| answered.at(1)) == Some(wanted)
 }
 
 fn is_duplicate(alloc: Global) -> Result<bool, Fail> {

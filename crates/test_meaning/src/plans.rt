@@ -2,11 +2,10 @@
 use crate::shop::shop;
 use check_tables::{PlainTables, exec};
 use sdb_exec::{Plan, PlanStep};
-use sdb_model::{Answer, Statement};
+use sdb_model::{Answer, Statement, answer_text};
 use sdb_record::{Access, Change, Changes, Image, Images, Keyed};
 use sdb_schema::Catalog;
 use sdb_sqltext::parse_statement;
-use sdb_texts::answer_text;
 use sdb_types::{Columns, Duplicate, Key, Seq, Span};
 use std::alloc::Global;
 use std::test::Fail;

@@ -1,6 +1,5 @@
 //! The report of a whole run, and of a run of nothing.
-use sdb_model::{Events, Outcome, Point, Points, Rows, TableDump, TableRows};
-use sdb_texts::report_text;
+use sdb_model::{Events, Outcome, Point, Points, Rows, TableDump, TableRows, report_text};
 use sdb_types::{Condition, NameRefused, State, TxId};
 use std::alloc::Global;
 use std::test::Fail;

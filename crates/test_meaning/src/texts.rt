@@ -1,5 +1,5 @@
 //! Texts of values, keys, records and answers.
-use sdb_texts::{answer_text, key_text, put_id, put_record, put_row, put_span, put_value};
+use sdb_model::{answer_text, key_text, put_id, put_record, put_row, put_span, put_value};
 use sdb_types::{NoMemory, TxId};
 use std::alloc::Global;
 use std::test::Fail;

@@ -1,6 +1,6 @@
 //! Tokens of texts.
 use sdb_model::{Keyword, Placed};
-use sdb_sqltokens::{LexRefused, lex, put_tokens, reads_word};
+use sdb_sqltext::{LexRefused, lex, put_tokens, reads_word};
 use sdb_types::NoMemory;
 use std::alloc::Global;
 use std::test::Fail;
@@ -14,7 +14,7 @@ fn put_token(out: &mut String, placed: &Placed) -> Result<(), NoMemory> {
 }
 
 // The tokens, printed.
-fn shown(alloc: Global, tokens: &[Placed]) -> Result<String, NoMemory> {
+fn observed(alloc: Global, tokens: &[Placed]) -> Result<String, NoMemory> {
     let mut out = String::new(alloc);
     for placed in tokens {
         put_token(&mut out, placed)?;
@@ -24,7 +24,7 @@ fn shown(alloc: Global, tokens: &[Placed]) -> Result<String, NoMemory> {
 
 fn shows(alloc: Global, text: &str, printed: &str) -> Result<bool, Fail> {
     let tokens = lex(alloc, text.as_bytes())?;
-    Ok(shown(alloc, tokens.as_slice())?.as_str() == printed)
+    Ok(observed(alloc, tokens.as_slice())?.as_str() == printed)
 }
 
 fn refuses(alloc: Global, text: &str, refused: LexRefused) -> bool {

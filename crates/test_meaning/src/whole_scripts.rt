@@ -77,7 +77,7 @@ fn put_script(alloc: Global, out: &mut String, script: &Script) -> Result<(), Al
 }
 
 // A script in one line: its places, the number of its tables, its clients with their statements, and its moves.
-fn shown(alloc: Global, script: &Script) -> Result<String, AllocError> {
+fn observed(alloc: Global, script: &Script) -> Result<String, AllocError> {
     let mut out = String::new(alloc);
     put_script(alloc, &mut out, script)?;
     Ok(out)
@@ -130,9 +130,9 @@ fn refusal(alloc: Global, refused: &ScriptRefused) -> Result<String, AllocError>
 }
 
 // A script over the attached stores, or its refusal, in one line.
-fn told(alloc: Global, text: &[u8], stores: &Names) -> Result<String, AllocError> {
+fn answered(alloc: Global, text: &[u8], stores: &Names) -> Result<String, AllocError> {
     match read_script(alloc, text, stores) {
-        Ok(script) => shown(alloc, &script),
+        Ok(script) => observed(alloc, &script),
         Err(refused) => refusal(alloc, &refused),
     }
 }
@@ -152,9 +152,9 @@ fn attached(alloc: Global) -> Result<Names, Fail> {
     Ok(names_of(alloc, ["ordered", "hashed", "sqlite"].as_slice())?)
 }
 
-fn tells(alloc: Global, text: &[u8], wanted: &str) -> Result<bool, Fail> {
+fn is_known(alloc: Global, text: &[u8], wanted: &str) -> Result<bool, Fail> {
     let stores = attached(alloc)?;
-    Ok(told(alloc, text, &stores)?.as_str() == wanted)
+    Ok(answered(alloc, text, &stores)?.as_str() == wanted)
 }
 
 fn prints(alloc: Global, text: &str, wanted: &str) -> Result<bool, Fail> {
@@ -193,7 +193,7 @@ fn counts(
     wanted: &str,
 ) -> Result<bool, Fail> {
     let text = repeated(alloc, front, piece, count, end)?;
-    tells(alloc, text.as_bytes(), wanted)
+    is_known(alloc, text.as_bytes(), wanted)
 }
 
 fn put_numbered(alloc: Global, out: &mut String, count: u32) -> Result<(), AllocError> {
@@ -214,7 +214,7 @@ fn clients(alloc: Global, count: u32) -> Result<String, AllocError> {
 
 fn tells_clients(alloc: Global, count: u32, wanted: &str) -> Result<bool, Fail> {
     let text = clients(alloc, count)?;
-    tells(alloc, text.as_bytes(), wanted)
+    is_known(alloc, text.as_bytes(), wanted)
 }
 
 // A text, and what it says or why it is refused.
@@ -233,8 +233,8 @@ enum Check {
 impl Case for Check {
     fn holds(self, alloc: Global) -> Result<bool, Fail> {
         match self {
-            Check::Tells(text, wanted) => tells(alloc, text.as_bytes(), wanted),
-            Check::Bytes(text, wanted) => tells(alloc, text, wanted),
+            Check::Tells(text, wanted) => is_known(alloc, text.as_bytes(), wanted),
+            Check::Bytes(text, wanted) => is_known(alloc, text, wanted),
             Check::Long(front, piece, count, end, wanted) => {
                 counts(alloc, front, piece, count, end, wanted)
             }

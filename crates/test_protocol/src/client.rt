@@ -3,8 +3,8 @@ use crate::replies::{Answer, reply_to};
 use crate::seen::ROW;
 use sdb_client::{Client, Gate};
 use sdb_loader::catalog_of;
+use sdb_model::{answer_text, put_key, put_record, put_span};
 use sdb_schema::Catalog;
-use sdb_texts::{answer_text, put_key, put_record, put_span};
 use sdb_types::{NoMemory, Request, Txt};
 use std::alloc::Global;
 use std::test::Fail;
@@ -91,20 +91,20 @@ const QUIET: Gate = Gate {
     open_elsewhere: false,
 };
 
-// What a statement leads to, where it may be taken.
+// What a statement leads to, where it may be accepted.
 fn take(
     alloc: Global,
     client: &mut Client,
     catalog: &Catalog,
     statement: &str,
-    told: &str,
+    answered: &str,
 ) -> Outcome {
     match Txt::new(alloc, statement) {
         Ok(text) if text.as_str().len() < 1_000 && client.is_idle() => {
             outcome_of(
                 alloc,
                 &client.take(catalog, &text, QUIET, client.next_id(), 0),
-                told,
+                answered,
             )
         }
         _ => Outcome::Other,
@@ -112,9 +112,9 @@ fn take(
 }
 
 // What such a reply leads to, where the pending call has one.
-fn give(alloc: Global, client: &mut Client, answer: Answer, told: &str) -> Outcome {
+fn give(alloc: Global, client: &mut Client, answer: Answer, answered: &str) -> Outcome {
     match reply_to(alloc, client.pending(), answer) {
-        Some(reply) => outcome_of(alloc, &client.advance(reply, 0), told),
+        Some(reply) => outcome_of(alloc, &client.advance(reply, 0), answered),
         None => Outcome::Other,
     }
 }
@@ -153,8 +153,8 @@ impl Case for Script {
     fn holds(self, alloc: Global) -> Result<bool, Fail> {
         let catalog = catalog_of(alloc, self.schema)?;
         let mut client = Client::new(alloc, 1);
-        let played = play(alloc, &mut client, &catalog, self.steps);
-        Ok(played && client.is_open() == self.open && client.begun() == self.begun)
+        let correct = play(alloc, &mut client, &catalog, self.steps);
+        Ok(correct && client.is_open() == self.open && client.begun() == self.begun)
     }
 }
 
@@ -493,16 +493,16 @@ fn outside_of_them(alloc: Global) -> Result<(), Fail> {
 }
 
 // Whether the INSERT of a row that isn't there makes one call, and is then answered so.
-fn inserts(alloc: Global, client: &mut Client, catalog: &Catalog, id: u64, told: &str) -> bool {
+fn inserts(alloc: Global, client: &mut Client, catalog: &Catalog, id: u64, answered: &str) -> bool {
     let made = format!(in alloc; "INSERT INTO bank.account (id, balance) VALUES ({id}, 0)");
     let Ok(text) = made else {
         return false;
     };
     matches!(
-        take(alloc, client, catalog, text.as_str(), told),
+        take(alloc, client, catalog, text.as_str(), answered),
         Outcome::Pending
     ) && matches!(
-        give(alloc, client, Answer::NoRow, told),
+        give(alloc, client, Answer::NoRow, answered),
         Outcome::AnswerGiven
     )
 }
@@ -545,10 +545,10 @@ fn checks_refused(alloc: Global) -> Result<bool, Fail> {
         && fills(alloc, &mut client, &catalog, 4_096)
         && inserts(alloc, &mut client, &catalog, 4_096, "refused 15 0")
         && goes(alloc, &mut client, &catalog, &AGAIN);
-    let taken = take(alloc, &mut client, &catalog, "COMMIT", "committed");
+    let accepted = take(alloc, &mut client, &catalog, "COMMIT", "committed");
     Ok(
         filled
-            && matches!(taken, Outcome::Pending)
+            && matches!(accepted, Outcome::Pending)
             && prepares(alloc, &mut client, 4_096)
             && asks(alloc, &client, "get bank.account(4096)")
             && matches!(

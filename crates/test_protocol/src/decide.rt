@@ -37,9 +37,9 @@ impl Machine for Decide {
 }
 
 // Whether this answer after those says that.
-fn tells(alloc: Global, before: &[Answer], answer: Answer, told: AnswerGiven) -> bool {
+fn is_known(alloc: Global, before: &[Answer], answer: Answer, answered: AnswerGiven) -> bool {
     match Decide::new(alloc, OWN, 7) {
-        Ok(decide) => answer_after(alloc, decide, before, answer, EXPIRED) == told,
+        Ok(decide) => answer_after(alloc, decide, before, answer, EXPIRED) == answered,
         Err(_) => false,
     }
 }
@@ -53,8 +53,8 @@ struct Asked {
 
 impl Case for Asked {
     fn holds(self, alloc: Global) -> Result<bool, Fail> {
-        for (answer, told) in self.answers {
-            if !tells(alloc, self.before, *answer, *told) {
+        for (answer, answered) in self.answers {
+            if !is_known(alloc, self.before, *answer, *answered) {
                 return Ok(false);
             }
         }

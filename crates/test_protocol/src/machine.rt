@@ -69,8 +69,8 @@ pub fn runs_as<M: Machine>(
     machine: &mut M,
     steps: &[(Answer, AnswerGiven)],
 ) -> bool {
-    for (answer, told) in steps {
-        if machine.give(alloc, *answer, EXPIRED) != *told {
+    for (answer, answered) in steps {
+        if machine.give(alloc, *answer, EXPIRED) != *answered {
             return false;
         }
     }
@@ -96,18 +96,18 @@ pub fn conflict_at(key: &Key, version: Option<TxId>) -> AnswerGiven {
 }
 
 /// What a transaction is answered, where it is this one.
-pub fn if_own(id: TxId, own: TxId, told: AnswerGiven) -> AnswerGiven {
+pub fn if_own(id: TxId, own: TxId, answered: AnswerGiven) -> AnswerGiven {
     if id.0 == own.0 {
-        told
+        answered
     } else {
         AnswerGiven::Other
     }
 }
 
 /// What the transaction is answered whose id is the key of its row.
-pub fn if_row_of(key: &Key, id: &str, told: AnswerGiven) -> AnswerGiven {
+pub fn if_row_of(key: &Key, id: &str, answered: AnswerGiven) -> AnswerGiven {
     match key.partition.at(0) {
-        Some(Value::Text(text)) if text.as_str() == id => told,
+        Some(Value::Text(text)) if text.as_str() == id => answered,
         _ => AnswerGiven::Other,
     }
 }

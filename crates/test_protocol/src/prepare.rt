@@ -35,7 +35,7 @@ impl Machine for Prepare {
     }
 }
 
-// Answers with what they tell, and how many writes may have taken effect in the end.
+// Answers with what they tell, and how many writes may have accepted effect in the end.
 #[derive(Clone, Copy)]
 struct Prepared {
     steps: &'static [(Answer, AnswerGiven)],
@@ -59,7 +59,7 @@ static CASES: [Prepared; 4] = [
         ],
         touched: 1,
     },
-    // A fault may have taken effect.
+    // A fault may have accepted effect.
     Prepared {
         steps: &[(Answer::Fault, AnswerGiven::Faulted)],
         touched: 1,

@@ -1,8 +1,8 @@
 //! Reads of one key: committed records, and unresolved ones, which are settled.
 use crate::machine::{AnswerGiven, Machine, runs_to_end};
 use crate::replies::{ABORTED, Answer, BAD_ROW, COMMITTED, reply_to};
-use sdb_read::{ReadPhases, ReadStep};
 use sdb_record::Access;
+use sdb_txn::{ReadPhases, ReadStep};
 use sdb_types::{Record, Records, TxId};
 use std::alloc::Global;
 use std::test::Fail;

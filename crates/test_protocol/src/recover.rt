@@ -107,9 +107,15 @@ fn begin(alloc: Global) -> Option<Run> {
 }
 
 // Whether this answer after those says that, at a moment. The others come when the record has expired.
-fn tells(alloc: Global, before: &[Answer], now: i64, answer: Answer, told: AnswerGiven) -> bool {
+fn is_known(
+    alloc: Global,
+    before: &[Answer],
+    now: i64,
+    answer: Answer,
+    answered: AnswerGiven,
+) -> bool {
     match begin(alloc) {
-        Some(run) => answer_after(alloc, run, before, answer, now) == told,
+        Some(run) => answer_after(alloc, run, before, answer, now) == answered,
         None => false,
     }
 }
@@ -124,8 +130,8 @@ struct Asked {
 
 impl Case for Asked {
     fn holds(self, alloc: Global) -> Result<bool, Fail> {
-        for (answer, told) in self.answers {
-            if !tells(alloc, self.before, self.now, *answer, *told) {
+        for (answer, answered) in self.answers {
+            if !is_known(alloc, self.before, self.now, *answer, *answered) {
                 return Ok(false);
             }
         }

@@ -78,7 +78,7 @@ const EACH: [(Answer, AnswerGiven); 2] = [
     (Answer::Fault, AnswerGiven::Rolled(2, false)),
 ];
 
-// Answers to rolls, with what they tell: forward, or back, where so many writes may have taken effect, after the row where
+// Answers to rolls, with what they tell: forward, or back, where so many writes may have accepted effect, after the row where
 // it is put.
 #[derive(Clone, Copy)]
 enum Rolls {

@@ -104,8 +104,8 @@ fn perform(alloc: Global, txn: &mut Txn, act: Act) -> AnswerGiven {
 struct Steps(&'static [(Act, AnswerGiven)]);
 
 fn runs_as(alloc: Global, txn: &mut Txn, steps: &[(Act, AnswerGiven)]) -> bool {
-    for (act, told) in steps {
-        if perform(alloc, txn, *act) != *told {
+    for (act, answered) in steps {
+        if perform(alloc, txn, *act) != *answered {
             return false;
         }
     }
@@ -178,9 +178,9 @@ static CASES: [Steps; 7] = [
 impl Case for Steps {
     fn holds(self, alloc: Global) -> Result<bool, Fail> {
         let mut txn = Txn::begin(alloc, OWN);
-        let played = runs_as(alloc, &mut txn, self.0);
+        let correct = runs_as(alloc, &mut txn, self.0);
         txn.rollback();
-        Ok(played)
+        Ok(correct)
     }
 }
 

@@ -221,11 +221,11 @@ impl Case for Check {
     fn holds(self, alloc: Global) -> Result<bool, Fail> {
         match self {
             Check::Rereads(steps) => Ok(is_reread(alloc, steps)),
-            Check::FindsOne(found, base, told) => {
-                Ok(rescan_finds(alloc, found, base, true)? == told)
+            Check::FindsOne(found, base, answered) => {
+                Ok(rescan_finds(alloc, found, base, true)? == answered)
             }
-            Check::FindsTwo(found, base, told) => {
-                Ok(rescan_finds(alloc, found, base, false)? == told)
+            Check::FindsTwo(found, base, answered) => {
+                Ok(rescan_finds(alloc, found, base, false)? == answered)
             }
         }
     }

@@ -2,10 +2,10 @@
 use crate::attached::{attach_both, attach_sqlite, runs};
 use sdb_catalog::{CatalogRefused, open_catalog, store_catalog};
 use sdb_loader::catalog_of;
+use sdb_model::key_text;
 use sdb_schema::Catalog;
 use sdb_store::Fail as Failing;
 use sdb_stores::{Registry, Stores};
-use sdb_texts::key_text;
 use sdb_types::{Key, Name, NameRefused, Place as Placed, TableName, Txt};
 use std::alloc::{AllocError, Global};
 use std::test::Fail;
@@ -195,12 +195,12 @@ fn is_table(
     stores: &Stores,
     catalog: &Catalog,
     i: usize,
-    told: (&str, &str, &str),
+    acked: (&str, &str, &str),
 ) -> bool {
     if let Some(table) = catalog.at(i)
-        && let Ok(name) = table_of(alloc, told.0, told.1)
+        && let Ok(name) = table_of(alloc, acked.0, acked.1)
     {
-        return table.name == name && is_placed(stores, &table.name, told.2);
+        return table.name == name && is_placed(stores, &table.name, acked.2);
     }
     false
 }
@@ -211,8 +211,8 @@ fn has_tables(
     catalog: &Catalog,
     tables: &[(&str, &str, &str)],
 ) -> bool {
-    for (i, told) in tables.iter().enumerate() {
-        if !is_table(alloc, stores, catalog, i, *told) {
+    for (i, acked) in tables.iter().enumerate() {
+        if !is_table(alloc, stores, catalog, i, *acked) {
             return false;
         }
     }

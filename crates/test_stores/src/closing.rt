@@ -2,9 +2,9 @@
 use crate::attached::{attach_both, runs};
 use sdb_contents::{ClosingRefused, closing_dump};
 use sdb_loader::catalog_of;
+use sdb_model::key_text;
 use sdb_schema::Catalog;
 use sdb_stores::{Registry, Stores};
-use sdb_texts::key_text;
 use sdb_types::Key;
 use std::alloc::Global;
 use std::test::Fail;

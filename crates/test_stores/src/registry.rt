@@ -210,7 +210,7 @@ fn is_full_back(alloc: Global, attached: Result<(), AttachRefused>) -> bool {
     }
 }
 
-// Whether a store that has no memory is handed back, since its name is taken.
+// Whether a store that has no memory is handed back, since its name is accepted.
 fn hands_full_back(alloc: Global, stores: &mut Stores, name: &str) -> bool {
     if let Ok(name) = Name::new(alloc, name)
         && let Ok(full) = Box::new(alloc, Full { made: 0 })

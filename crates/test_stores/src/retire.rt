@@ -1,9 +1,9 @@
 //! A store retired: each of its calls fails once, before its effect and after it, and the second run finishes; and what bars it.
 use crate::attached::{attach_failing, runs};
-use sdb_retire::{RetireRefused, can_retire, retire};
+use sdb_contents::{RetireRefused, can_retire, retire};
+use sdb_model::key_text;
 use sdb_store::Fail as Failing;
 use sdb_stores::{Registry, Stores};
-use sdb_texts::key_text;
 use sdb_types::{Key, Name};
 use std::alloc::Global;
 use std::test::Fail;
@@ -81,9 +81,9 @@ fn place_shop(alloc: Global, stores: &mut Stores, store: &str) -> bool {
 fn plays_at(alloc: Global, stores: &mut Stores, store: &str, report: &str) -> bool {
     stores.clear_places();
     let placed = place_shop(alloc, stores, store);
-    let played = runs(alloc, stores, report);
+    let correct = runs(alloc, stores, report);
     stores.clear_places();
-    placed && played
+    placed && correct
 }
 
 // One of the stores.

@@ -1,5 +1,5 @@
 //! Keys put and found.
-use sdb_keyed::KeyMap;
+use sdb_snapshot::KeyMap;
 use std::alloc::Global;
 use std::test::Fail;
 use test_builders::{Case, account, all_cases};

@@ -2,6 +2,8 @@
 #![tactic(auto)]
 
 #[cfg(test)]
+mod accepted;
+#[cfg(test)]
 mod codec;
 #[cfg(test)]
 mod data;
@@ -15,7 +17,5 @@ mod records;
 mod refused;
 #[cfg(test)]
 mod schema;
-#[cfg(test)]
-mod taken;
 #[cfg(test)]
 mod types;

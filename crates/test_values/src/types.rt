@@ -70,8 +70,8 @@ fn call_is_copied(alloc: Global, ask: Ask) -> Result<bool, Fail> {
     is_copied(&request_of(alloc, ask)?)
 }
 
-fn reply_is_copied(alloc: Global, told: ReplyCase) -> Result<bool, Fail> {
-    is_copied(&reply_of(alloc, told)?)
+fn reply_is_copied(alloc: Global, answered: ReplyCase) -> Result<bool, Fail> {
+    is_copied(&reply_of(alloc, answered)?)
 }
 
 const SHARED: &[(&str, Cell)] = &[("a", Cell::Int(1)), ("c", Cell::Int(3))];
@@ -119,7 +119,7 @@ impl Case for Check {
             Check::Known => is_known(alloc),
             Check::Left(columns, balance) => is_left(alloc, columns, balance),
             Check::Call(ask) => call_is_copied(alloc, ask),
-            Check::Reply(told) => reply_is_copied(alloc, told),
+            Check::Reply(answered) => reply_is_copied(alloc, answered),
             Check::Change(name, cell, after) => leaves_the_copy(alloc, (name, cell), after),
             Check::Accounts(low, high) => are_in_order(alloc, low, high),
         }

@@ -5,9 +5,9 @@ use Rattle.check_answers.proofs.all.+are_shown_upto.Goals as goal
 pub returns-then-count-eq0 : goal.returns-then-count-eq0
 returns-then-count-eq0 t c = none_upto c.args.catalog.now c.args.events.now c.args.stores.now c.args.client c.args.count c.if-count-eq0.true
 
-pub returns-then-shown : goal.returns-then-shown
-returns-then-shown t c =
-    if_ok c.are_shown_upto.result (λ b h. rest_upto c.args.catalog.now c.args.events.now c.args.stores.now c.args.client c.args.count c.id_of.result c.in_ok-shown.shown c.if-count-eq0.false c.id_of.ensures c.in_ok-shown.ensures c.if-shown.true b h) c.are_shown_upto.ensures
+pub returns-then-observed : goal.returns-then-observed
+returns-then-observed t c =
+    if_ok c.are_shown_upto.result (λ b h. rest_upto c.args.catalog.now c.args.events.now c.args.stores.now c.args.client c.args.count c.id_of.result c.in_ok-observed.observed c.if-count-eq0.false c.id_of.ensures c.in_ok-observed.ensures c.if-observed.true b h) c.are_shown_upto.ensures
 
 pub returns : goal.returns
-returns t c = not_upto c.args.catalog.now c.args.events.now c.args.stores.now c.args.client c.args.count c.id_of.result c.in_ok-shown.shown c.if-count-eq0.false c.id_of.ensures c.in_ok-shown.ensures c.if-shown.false
+returns t c = not_upto c.args.catalog.now c.args.events.now c.args.stores.now c.args.client c.args.count c.id_of.result c.in_ok-observed.observed c.if-count-eq0.false c.id_of.ensures c.in_ok-observed.ensures c.if-observed.false

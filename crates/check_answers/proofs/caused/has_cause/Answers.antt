@@ -2,7 +2,7 @@ use mir.Val.{of_z, to_z}
 use Rattle.std.proofs.Common.{◌≡◌, rules, sym, subst, w64}
 use Rattle.std.specs.Prelude.{◌↔◌, IsTrue}
 use Rattle.sdb_model.specs.Causes.{IsBusy, IsCaused, IsRejected, before}
-use Rattle.sdb_order.specs.Commits.{executed_of}
+use Rattle.sdb_contents.specs.Commits.{executed_of}
 use Rattle.check_answers.proofs.Decided.{if_ok}
 use Rattle.check_answers.proofs.caused.has_cause.Goals as goal
 

@@ -1,5 +1,5 @@
 use Rattle.std.proofs.Common.{subst}
-use Rattle.sdb_order.specs.Commits.{executed_of}
+use Rattle.sdb_contents.specs.Commits.{executed_of}
 use Rattle.check_answers.specs.Tests.{IsTurned}
 use Rattle.check_answers.proofs.CausedLaws.{with_answer, without}
 use Rattle.check_answers.proofs.caused.is_turned_with.Goals as goal

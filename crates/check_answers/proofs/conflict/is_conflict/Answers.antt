@@ -1,6 +1,6 @@
 use Rattle.std.proofs.Common.{ap, ◌∙◌}
 use Rattle.sdb_model.specs.Transactions.{statements_by}
-use Rattle.sdb_order.specs.Commits.{executed_of}
+use Rattle.sdb_contents.specs.Commits.{executed_of}
 use Rattle.check_tables.specs.Values.{all_made}
 use Rattle.check_answers.proofs.Decided.{conflict, if_ok, count_said}
 use Rattle.check_answers.proofs.conflict.is_conflict.Goals as goal

@@ -1,5 +1,5 @@
 use Rattle.std.proofs.Common.{◌∙◌}
-use Rattle.sdb_order.specs.Commits.{executed_of}
+use Rattle.sdb_contents.specs.Commits.{executed_of}
 use Rattle.check_answers.proofs.Decided.{if_ok}
 use Rattle.check_answers.specs.Counts.{miscounted}
 use Rattle.check_answers.proofs.CountLaws.{found_wrong, none_here}

@@ -1,5 +1,5 @@
 use Rattle.std.proofs.Common.{take}
-use Rattle.sdb_execution.specs.Execution.{IsReachedBy}
+use Rattle.sdb_client.specs.Execution.{IsReachedBy}
 use Rattle.check_answers.proofs.executed.is_execution.Given as goal
 
 abbrev pub invariant-loop-event : goal.invariant-loop-event

@@ -1,6 +1,6 @@
 use Rattle.std.proofs.Common.{◌∙◌}
 use Rattle.sdb_model.specs.Transactions.{statements_by}
-use Rattle.sdb_order.specs.Commits.{executed_of}
+use Rattle.sdb_contents.specs.Commits.{executed_of}
 use Rattle.check_answers.proofs.Decided.{if_ok, count_said}
 use Rattle.check_answers.proofs.FullLaws.{most}
 use Rattle.check_answers.proofs.full.may_pass_most.Goals as goal

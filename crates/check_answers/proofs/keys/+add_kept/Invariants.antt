@@ -2,4 +2,4 @@ use Rattle.std.proofs.Common.{length}
 use Rattle.check_answers.proofs.keys.+add_kept.Given as goal
 
 abbrev pub decreases-add_kept : goal.decreases-add_kept
-decreases-add_kept l = length l.shelves.now
+decreases-add_kept l = length l.store_contents.now

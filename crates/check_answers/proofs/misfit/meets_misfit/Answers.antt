@@ -1,6 +1,6 @@
 use Rattle.std.proofs.Common.{sym, ◌∙◌}
 use Rattle.sdb_model.specs.Transactions.{statements_by}
-use Rattle.sdb_order.specs.Commits.{executed_of}
+use Rattle.sdb_contents.specs.Commits.{executed_of}
 use Rattle.check_answers.proofs.Decided.{count_said, if_ok}
 use Rattle.check_answers.proofs.MisfitLaws.{misfit, no_misfit}
 use Rattle.check_answers.proofs.misfit.meets_misfit.Goals as goal

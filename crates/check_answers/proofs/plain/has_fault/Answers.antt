@@ -1,5 +1,5 @@
 use Rattle.std.proofs.Common.{ap, ◌∙◌}
-use Rattle.sdb_order.specs.Commits.{executed_of}
+use Rattle.sdb_contents.specs.Commits.{executed_of}
 use Rattle.check_tables.specs.Values.{all_made}
 use Rattle.check_answers.proofs.Decided.{replied}
 use Rattle.check_answers.proofs.plain.has_fault.Goals as goal

@@ -1,4 +1,4 @@
-use Rattle.sdb_order.specs.Commits.{executed_of}
+use Rattle.sdb_contents.specs.Commits.{executed_of}
 use Rattle.check_answers.proofs.ReadLaws.{of_done}
 use Rattle.check_answers.proofs.plain.is_of_done.Goals as goal
 

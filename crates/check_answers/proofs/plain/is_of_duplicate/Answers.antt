@@ -1,4 +1,4 @@
-use Rattle.sdb_order.specs.Commits.{executed_of}
+use Rattle.sdb_contents.specs.Commits.{executed_of}
 use Rattle.check_answers.proofs.Decided.{if_ok}
 use Rattle.check_answers.proofs.ReadLaws.{of_duplicate}
 use Rattle.check_answers.proofs.plain.is_of_duplicate.Goals as goal

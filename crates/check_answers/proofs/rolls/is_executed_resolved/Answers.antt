@@ -1,5 +1,5 @@
 use Rattle.std.proofs.Common.{ap, sym, ◌∙◌}
-use Rattle.sdb_order.specs.Commits.{executed_of}
+use Rattle.sdb_contents.specs.Commits.{executed_of}
 use Rattle.check_tables.specs.Values.{all_made}
 use Rattle.check_answers.proofs.Decided.{if_ok}
 use Rattle.check_answers.proofs.RollLaws.{said_resolved, said_unfinished}

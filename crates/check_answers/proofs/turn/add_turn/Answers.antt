@@ -1,5 +1,5 @@
 use Rattle.std.proofs.Common.{sym, subst, ◌++◌, ◌∷◌, []}
-use Rattle.sdb_order.specs.Commits.{executed_of}
+use Rattle.sdb_contents.specs.Commits.{executed_of}
 use Rattle.check_answers.specs.Turns.{AreTurns}
 use Rattle.check_answers.proofs.TurnLaws.{turns_more}
 use Rattle.check_answers.proofs.turn.add_turn.Goals as goal

@@ -1,6 +1,6 @@
 use Rattle.std.proofs.Common.{◌≡◌, List, [], sym, ap, subst, ◌∙◌}
 use Rattle.sdb_model.specs.Transactions.{Executed, client_of, from_begin, ordinal_of, rest_of, statements_by, through_end}
-use Rattle.sdb_order.specs.Commits.{all_executed}
+use Rattle.sdb_contents.specs.Commits.{all_executed}
 use Rattle.check_answers.specs.Turns.{AreTurns}
 use Rattle.check_answers.proofs.turn.turns_of.Goals as goal
 

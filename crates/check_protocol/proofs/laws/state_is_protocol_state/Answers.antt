@@ -13,14 +13,14 @@ returns-clause-is_open c = open_is
 pub returns-clause-stopped : goal.returns-clause-stopped
 returns-clause-stopped c = stopped_is
 
-pub returns-clause-taken : goal.returns-clause-taken
-returns-clause-taken c = taken_is
+pub returns-clause-accepted : goal.returns-clause-accepted
+returns-clause-accepted c = taken_is
 
 pub returns-clause-asked : goal.returns-clause-asked
 returns-clause-asked c = asked_is
 
-pub returns-clause-told : goal.returns-clause-told
-returns-clause-told c = told_is
+pub returns-clause-answered : goal.returns-clause-answered
+returns-clause-answered c = told_is
 
 pub returns-clause-checked : goal.returns-clause-checked
 returns-clause-checked c = checked_is

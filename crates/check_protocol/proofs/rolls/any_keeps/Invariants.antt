@@ -7,4 +7,4 @@ use Rattle.check_protocol.specs.Rules.{has_before_or_none}
 use Rattle.check_protocol.proofs.rolls.any_keeps.Given as goal
 
 abbrev pub invariant-loop-rec : goal.invariant-loop-rec
-invariant-loop-rec l = list_any (λ r. is_prepared_by l.id.0 l.key r && has_before_or_none (option_copied l.base) r) (drop l.rec-index l.shown) ≡ list_any (λ r. is_prepared_by l.id.0 l.key r && has_before_or_none (option_copied l.base) r) l.shown
+invariant-loop-rec l = list_any (λ r. is_prepared_by l.id.0 l.key r && has_before_or_none (option_copied l.base) r) (drop l.rec-index l.observed) ≡ list_any (λ r. is_prepared_by l.id.0 l.key r && has_before_or_none (option_copied l.base) r) l.observed

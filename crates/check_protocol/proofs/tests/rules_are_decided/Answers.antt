@@ -14,7 +14,7 @@ pub returns-clause-take : goal.returns-clause-take
 returns-clause-take c n t = (take_is n.past n.plans n.event t, is_take n.past n.plans n.event t)
 
 pub returns-clause-prepare : goal.returns-clause-prepare
-returns-clause-prepare c n t k w l = (prepare_is n.past n.plans n.event t k w, λ m. is_prepare n.past n.plans n.event t k w m (lawful_sound n.plans n.past t l (sym (taken_is n.past t) ∙ m.within.taken) k m.write m.at))
+returns-clause-prepare c n t k w l = (prepare_is n.past n.plans n.event t k w, λ m. is_prepare n.past n.plans n.event t k w m (lawful_sound n.plans n.past t l (sym (taken_is n.past t) ∙ m.within.accepted) k m.write m.at))
 
 pub returns-clause-check : goal.returns-clause-check
 returns-clause-check c n t i = (check_is n.past n.plans n.event t i, is_check n.past n.plans n.event t i)

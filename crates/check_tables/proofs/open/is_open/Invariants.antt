@@ -1,7 +1,7 @@
 use Rattle.std.proofs.Common.{◌≡◌, drop}
 use Rattle.std.specs.Prelude.{fold}
 use Rattle.sdb_model.specs.Causes.{is_open, is_open_after}
-use Rattle.sdb_order.specs.Commits.{all_executed}
+use Rattle.sdb_contents.specs.Commits.{all_executed}
 use Rattle.check_tables.proofs.open.is_open.Given as goal
 
 abbrev pub invariant-loop-s : goal.invariant-loop-s

@@ -4,6 +4,6 @@ use Rattle.check_tables.proofs.order.serial.Given as goal
 
 abbrev pub invariant-loop-body : goal.invariant-loop-body
 invariant-loop-body l = record {
-  told : l.answers ++ (serial l.catalog (drop l.body-index l.bodies) l.tables).0 ≡ (serial l.catalog l.bodies l.fn.tables).0;
+  answered : l.answers ++ (serial l.catalog (drop l.body-index l.bodies) l.tables).0 ≡ (serial l.catalog l.bodies l.fn.tables).0;
   left : (serial l.catalog (drop l.body-index l.bodies) l.tables).1 ≡ (serial l.catalog l.bodies l.fn.tables).1;
 }

@@ -2,4 +2,4 @@ use Rattle.law_answers.proofs.Whole.{replies_all}
 use Rattle.law_answers.proofs.replies.replies.Goals as goal
 
 pub returns : goal.returns
-returns x = λ r events may ex. let g = may.reached in replies_all r.catalog events r.states r.call r.result r.after r.of_data.is r.of_data.apart r.called may.stored may.about g.events g.fit g.going ex r.told
+returns x = λ r events may ex. let g = may.reached in replies_all r.catalog events r.states r.call r.result r.after r.of_data.is r.of_data.apart r.called may.stored may.about g.events g.fit g.running ex r.answered

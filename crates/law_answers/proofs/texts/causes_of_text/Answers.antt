@@ -2,4 +2,4 @@ use Rattle.law_answers.proofs.Whole.{takes_all}
 use Rattle.law_answers.proofs.texts.causes_of_text.Goals as goal
 
 pub returns : goal.returns
-returns x = λ t events may ex. let g = may.reached in takes_all t.q events t.states t.client t.text t.result t.after ex t.ready may.gate t.moment t.of_data.is g.events g.fit g.going t.of_data.apart t.numbered t.few t.takes
+returns x = λ t events may ex. let g = may.reached in takes_all t.q events t.states t.client t.text t.result t.after ex t.ready may.gate t.moment t.of_data.is g.events g.fit g.running t.of_data.apart t.numbered t.few t.takes

@@ -5,6 +5,6 @@ pub returns : goal.returns
 returns x = record {
   starts = λ catalog number. record { txn = tt; vacuum = tt };
   takes = takes_in;
-  replies = λ catalog r can of. replies_in catalog r.before r.after r.request r.reply r.now r.result r.pending can of r.told;
+  replies = λ catalog r can of. replies_in catalog r.before r.after r.request r.reply r.now r.result r.pending can of r.answered;
   asked = asks_in;
 }

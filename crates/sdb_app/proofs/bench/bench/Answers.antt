@@ -3,7 +3,7 @@ use Rattle.std.specs.Prelude.{◌-◌}
 use Rattle.sdb_stores.specs.Views.{names_of}
 use Rattle.sdb_model.specs.declared.script.Script.{Script}
 use Rattle.sdb_model.specs.Plain.{HasLines}
-use Rattle.sdb_execution.specs.Execution.{IsPlayable}
+use Rattle.sdb_client.specs.Execution.{IsPlayable}
 use Rattle.sdb_world.specs.Step.{CanFollow}
 use Rattle.sdb_bench.proofs.Lines.{bench_lines}
 use Rattle.sdb_app.specs.Bench.{bench_over, name_at}

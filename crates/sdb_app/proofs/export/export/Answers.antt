@@ -25,7 +25,7 @@ returns-in-Ok-export_table-clause-answered g c =
       mid = mid.views;
       table = c.in-Some.table.now;
       opened = record { opened = record { opened = record { entries = c.in-Ok.ensures.opened.entries; read = c.in-Ok.ensures.opened.read; tables = c.in-Ok.ensures.opened.tables; placed = c.in-Ok.ensures.opened.placed }; known = c.in-Ok.ensures.known; unchanged = c.open_catalog.ensures.unchanged; others = c.open_catalog.ensures.goes.others }; found = sym c.in-Some.ensures };
-      exported = exported_on _ _ mid last _ _ _ _ _ _ _ (record { places = refl; views = refl; where_known = opens.where_known }) (record { places = sat.places; views = refl; where_known = λ at told. sat.where_known at (opens.where_known at told) }) c.in-Ok-export_table.ensures.exported;
+      exported = exported_on _ _ mid last _ _ _ _ _ _ _ (record { places = refl; views = refl; where_known = opens.where_known }) (record { places = sat.places; views = refl; where_known = λ at acked. sat.where_known at (opens.where_known at acked) }) c.in-Ok-export_table.ensures.exported;
       unread = refl;
     }
 
@@ -36,4 +36,4 @@ returns-clause-err g c =
     let last = g.S.Registry.state c.export_table.new.stores in
     let sat = c.export_table.ensures.goes in
     λ input. Unexported c.in-Ok.catalog mid.places mid.views c.in-Some.table.now c.in-Err-export_table.refused (record { opened = record { opened = record { entries = c.in-Ok.ensures.opened.entries; read = c.in-Ok.ensures.opened.read; tables = c.in-Ok.ensures.opened.tables; placed = c.in-Ok.ensures.opened.placed }; known = c.in-Ok.ensures.known; unchanged = c.open_catalog.ensures.unchanged; others = c.open_catalog.ensures.goes.others }; found = sym c.in-Some.ensures })
-    (not_on _ _ mid last _ _ _ _ _ _ c.in-Err-export_table.refused (record { places = refl; views = refl; where_known = opens.where_known }) (record { places = sat.places; views = refl; where_known = λ at told. sat.where_known at (opens.where_known at told) }) c.in-Err-export_table.ensures.refused) c.export_status.ensures refl
+    (not_on _ _ mid last _ _ _ _ _ _ c.in-Err-export_table.refused (record { places = refl; views = refl; where_known = opens.where_known }) (record { places = sat.places; views = refl; where_known = λ at acked. sat.where_known at (opens.where_known at acked) }) c.in-Err-export_table.ensures.refused) c.export_status.ensures refl

@@ -12,7 +12,7 @@ pub returns-clause-ended : goal.returns-clause-ended
 returns-clause-ended g c =
     let words = map string_bytes c.args.words.now in
     let are = subst (λ (ns : List (List ℕ)). AreWordsOf ns c.in-Ok-command_in.command words) c.in-Ok.ensures.names c.in-Ok-command_in.ensures.ok in
-    let run = ends (views g.S.Registry.state (stream g.R.Source.remaining g.R.Source.faults) (stream g.W.Sink.written g.W.Sink.faults) g.C.Clock.told g.I.Ids.told) c.clear_places.new.self c.perform.new.stores c.args.input.now c.perform.new.input c.args.output.now c.perform.new.output c.args.clock.now c.perform.new.clock c.args.ids.now c.perform.new.ids in
+    let run = ends (views g.S.Registry.state (stream g.R.Source.remaining g.R.Source.faults) (stream g.W.Sink.written g.W.Sink.faults) g.C.Clock.answered g.I.Ids.answered) c.clear_places.new.self c.perform.new.stores c.args.input.now c.perform.new.input c.args.output.now c.perform.new.output c.args.clock.now c.perform.new.clock c.args.ids.now c.perform.new.ids in
     ended_before words (g.S.Registry.state c.args.stores.now) run (record { same = c.clear_places.ensures.cleared.views; where_known = c.clear_places.ensures.cleared.where_known }) c.perform.result
     (OfCommand c.in-Ok-command_in.command are c.perform.ensures.ended)
 

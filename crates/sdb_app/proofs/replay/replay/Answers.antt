@@ -27,7 +27,7 @@ returns-in-Ok-play-clause-answered g c =
     let outcome = c.in-Ok-play.outcome in
     let made = c.in-Ok-play.ensures.made in
     ok_then _ _ c.text_of.result
-    (λ text is. record { script = c.in-Ok.script; read = read; outcome = outcome; made = made; text = is; only = λ all other plain same. one_text_of other outcome plain (made.played all).plain (sym same ∙ is) })
+    (λ text is. record { script = c.in-Ok.script; read = read; outcome = outcome; made = made; text = is; only = λ all other plain same. one_text_of other outcome plain (made.correct all).plain (sym same ∙ is) })
     c.text_of.ensures.ok
 
 pub returns-in-Ok-play-clause-err : goal.returns-in-Ok-play-clause-err

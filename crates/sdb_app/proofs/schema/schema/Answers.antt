@@ -14,7 +14,7 @@ returns-in-Ok-store_catalog-clause-err g c =
     err_then _ _ c.text_of.result
     (λ s is. subst (λ (x : Status). StopsSchema c.args.places.now work x) (sym is)
     (Unkept c.in-Ok.catalog refused.NoMemory c.in-Ok.ensures.read
-    (record { refused = tt; known = λ told. whole_is_partly _ c.args.places.now c.in-Ok.catalog _ _ _ (c.in-Ok-store_catalog.ensures.known told); others = c.in-Ok-store_catalog.ensures.goes.others }) refl)) c.text_of.ensures.err
+    (record { refused = tt; known = λ answered. whole_is_partly _ c.args.places.now c.in-Ok.catalog _ _ _ (c.in-Ok-store_catalog.ensures.known answered); others = c.in-Ok-store_catalog.ensures.goes.others }) refl)) c.text_of.ensures.err
 
 pub returns-clause-err : goal.returns-clause-err
 returns-clause-err g c =

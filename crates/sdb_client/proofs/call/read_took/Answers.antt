@@ -26,15 +26,15 @@ finish_read-requires-clause-kept c =
     let read = rows_read c.args.txn.now.doing c.args.txn.now c.advance.new.self c.args.plan.now c.args.reply (to_z w64 (of_z w64 c.args.now)) c.in-Rows.rows c.requires.at c.in-Rows.ensures.read in
     read.kept c.mark-mark.result c.mark-mark.ensures.mark c.mark-mark.ensures.kept
 
-pub returns-in-Rows-clause-told : goal.returns-in-Rows-clause-told
-returns-in-Rows-clause-told c =
+pub returns-in-Rows-clause-answered : goal.returns-in-Rows-clause-answered
+returns-in-Rows-clause-answered c =
     let now : to_z w64 (of_z w64 c.args.now) ≡ c.args.now = search rules in
     subst (λ (m : ℤ). IfReading c.args.txn.now.doing (λ a x. CallPost c.args.txn.now c.args.plan.now a x c.args.reply m (next.Answer c.finish_read.result) c.finish_read.new.txn)) now
     (rows_told c.args.txn.now.doing c.args.txn.now c.advance.new.self c.finish_read.new.txn c.args.plan.now c.args.reply (to_z w64 (of_z w64 c.args.now)) c.in-Rows.rows c.mark-mark.result c.finish_read.result c.mark-mark.ensures.mark c.in-Rows.ensures.read
     c.finish_read.ensures.answer c.finish_read.ensures.left c.finish_read.ensures.memory)
 
-pub returns-in-NoMemory-clause-told : goal.returns-in-NoMemory-clause-told
-returns-in-NoMemory-clause-told c =
+pub returns-in-NoMemory-clause-answered : goal.returns-in-NoMemory-clause-answered
+returns-in-NoMemory-clause-answered c =
     let now : to_z w64 (of_z w64 c.args.now) ≡ c.args.now = search rules in
     subst (λ (m : ℤ). IfReading c.args.txn.now.doing (λ a x. CallPost c.args.txn.now c.args.plan.now a x c.args.reply m (next.Answer answer.NoMemory) c.advance.new.self)) now
     (other_told c.args.txn.now.doing c.args.txn.now c.advance.new.self c.args.plan.now c.args.reply (to_z w64 (of_z w64 c.args.now)) c.advance.result c.in-NoMemory.is c.advance.ensures.read)

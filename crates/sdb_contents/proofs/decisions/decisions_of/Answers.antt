@@ -1,8 +1,6 @@
 use Rattle.std.proofs.Common.{◌≡◌, ◌∙◌, ◌++◌, true, false, List, take, sym, ap, subst}
 use Rattle.std.specs.Prelude.{find, not}
-use Rattle.sdb_types.specs.declared.key.Key.{Key}
-use Rattle.sdb_types.specs.declared.txid.TxId.{TxId}
-use Rattle.sdb_types.specs.declared.record.Record.{Record}
+use Rattle.sdb_contents.specs.Types.{Key, Record, TxId}
 use Rattle.sdb_types.specs.Contents.{rise}
 use Rattle.sdb_contents.specs.Decided.{decided, decision_among, is_decided, recorded_among, recorded_by}
 use Rattle.sdb_contents.proofs.Coordinated.{decided_more, is_decided_by, recorded_more, rise_take}

@@ -1,6 +1,5 @@
 use Rattle.std.proofs.Common.{◌≡◌, true, sym, subst}
-use Rattle.sdb_types.specs.declared.key.TableName.{TableName}
-use Rattle.sdb_types.specs.declared.record.Reply.{Reply}
+use Rattle.sdb_contents.specs.Types.{Reply, TableName}
 use Rattle.sdb_types.specs.declared.record.Request.TheVariants as ask
 use Rattle.sdb_types.specs.Contents.{CanAnswer, are_rows_of}
 use Rattle.sdb_contents.specs.Board.{AreUsableFor}

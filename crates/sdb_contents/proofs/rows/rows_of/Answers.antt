@@ -2,9 +2,7 @@ use Rattle.std.proofs.Common.{◌≡◌, ◌∙◌, ◌++◌, ◌∷◌, [], fal
 use Rattle.std.specs.Prelude.{find, not}
 use Rattle.std.specs.List.{cons_option, filter_map}
 use Rattle.std.proofs.lemmas.List.Elements.{filter_map-append}
-use Rattle.sdb_types.specs.declared.key.Key.{Key}
-use Rattle.sdb_types.specs.declared.record.Record.{Record}
-use Rattle.sdb_record.specs.declared.access.Image.{Image}
+use Rattle.sdb_contents.specs.Types.{Image, Key, Record}
 use Rattle.sdb_contents.specs.Decided.{decided}
 use Rattle.sdb_contents.specs.Dumped.{image_by, is_well_formed}
 use Rattle.sdb_contents.proofs.DumpLists.{none_more}

@@ -9,8 +9,8 @@ use Rattle.sdb_data.proofs.read.rows_under.Goals as goal
 
 pub returns-clause-rows : goal.returns-clause-rows
 returns-clause-rows c =
-    let taken : c.as_slice-3.result.now ≡ columns_taken c.args.table.now.columns c.args.header.now = c.as_slice-3.ensures ∙ c.in_ok-taken.ensures ∙ ap (λ (cs : List Column). columns_taken cs c.args.header.now) c.as_slice.ensures in
+    let accepted : c.as_slice-3.result.now ≡ columns_taken c.args.table.now.columns c.args.header.now = c.as_slice-3.ensures ∙ c.in_ok-accepted.ensures ∙ ap (λ (cs : List Column). columns_taken cs c.args.header.now) c.as_slice.ensures in
     c.in_ok-add_rows.ensures.rows
     ∙ ap (λ (front : List (List Value)). front ++ map (λ (r : Row). row_of c.as_slice-3.result.now (fields_of r)) c.args.records.now) c.in_ok-rows.ensures
-    ∙ ap (λ (t : List ColumnTaken). named_row c.args.table.now.columns c.args.header.now ∷ map (λ (r : Row). row_of t (fields_of r)) c.args.records.now) taken
+    ∙ ap (λ (t : List ColumnTaken). named_row c.args.table.now.columns c.args.header.now ∷ map (λ (r : Row). row_of t (fields_of r)) c.args.records.now) accepted
     ∙ ap (λ (rest : List (List Value)). named_row c.args.table.now.columns c.args.header.now ∷ rest) (mapped (row_of (columns_taken c.args.table.now.columns c.args.header.now)) fields_of c.args.records.now)

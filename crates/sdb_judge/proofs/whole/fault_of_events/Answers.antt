@@ -2,7 +2,7 @@ use Rattle.std.proofs.Common.{◌∙◌, subst, sym}
 use Rattle.sdb_types.proofs.Basics.{clash}
 use Rattle.sdb_model.specs.Causes.{AreCaused}
 use Rattle.sdb_model.specs.Counted.{AreCounted, AreResolved}
-use Rattle.sdb_execution.specs.Execution.{IsExecution}
+use Rattle.sdb_client.specs.Execution.{IsExecution}
 use Rattle.sdb_judge.proofs.whole.fault_of_events.Goals as goal
 
 pub returns-then-not-branch-4-clause-fails : goal.returns-then-not-branch-4-clause-fails

@@ -18,15 +18,15 @@ loop-key-init c =
     let iter : c.into_iter-key-iterator.result ≡ filter (λ (e : Key × List Pair). is_from span e.0) es =
     (search rules) ∙ c.range-key-items.ensures.between (search rules) ∙ ap (λ (k : Key). entries_between key_cmp (Included k) Unbounded es) c.in_ok-start.ensures in
     record {
-      told = ap (λ found. found ++ rows_among span c.into_iter-key-iterator.result) c.new-found.ensures ∙ ap (rows_among span) iter ∙ rows_from span es;
-      stands = subst (StandsFrom span) (sym iter) (stands_from span es c.range-key-items.ensures.ordered);
+      answered = ap (λ found. found ++ rows_among span c.into_iter-key-iterator.result) c.new-found.ensures ∙ ap (rows_among span) iter ∙ rows_from span es;
+      agrees = subst (StandsFrom span) (sym iter) (stands_from span es c.range-key-items.ensures.ordered);
     }
 
 pub returns-clause-rows : goal.returns-clause-rows
 returns-clause-rows c =
     let span = c.args.span.now in
-    let told = c.loop-key.invariant.told in
+    let answered = c.loop-key.invariant.answered in
     elim c.match-next.branch [
-      | in-None w ↦ all_found span c.loop-key.found _ c.loop-key.key-iterator w.in-None.ensures.steps.0 told
-      | in-Some+then-not-contains w ↦ all_passed span c.loop-key.found _ c.loop-key.key-iterator (deref_pair (w.in-Some.key, w.in-Some.columns)) c.next.new.self w.in-Some.ensures.steps c.loop-key.invariant.stands (sym w.if-not-contains.ensures) told
+      | in-None w ↦ all_found span c.loop-key.found _ c.loop-key.key-iterator w.in-None.ensures.steps.0 answered
+      | in-Some+then-not-contains w ↦ all_passed span c.loop-key.found _ c.loop-key.key-iterator (deref_pair (w.in-Some.key, w.in-Some.columns)) c.next.new.self w.in-Some.ensures.steps c.loop-key.invariant.agrees (sym w.if-not-contains.ensures) answered
     ]

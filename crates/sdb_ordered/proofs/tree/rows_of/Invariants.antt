@@ -5,6 +5,6 @@ use Rattle.sdb_ordered.proofs.tree.rows_of.Given as goal
 
 abbrev pub invariant-loop-key : goal.invariant-loop-key
 invariant-loop-key l = record {
-  told : l.found ++ rows_among l.span l.key-iterator ≡ rows_among l.span l.rows.entries;
-  stands : StandsFrom l.span l.key-iterator;
+  answered : l.found ++ rows_among l.span l.key-iterator ≡ rows_among l.span l.rows.entries;
+  agrees : StandsFrom l.span l.key-iterator;
 }

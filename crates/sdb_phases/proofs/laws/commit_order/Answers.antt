@@ -5,8 +5,8 @@ use Rattle.sdb_phases.proofs.laws.commit_order.Goals as goal
 pub returns : goal.returns
 returns c =
     record {
-      prepares = λ r i. prepares_in_order r.work r.past i r.sound r.played;
-      checks = λ r i. checks_in_order r.work r.past i r.sound r.played;
-      decides = λ r. decides_after_checks r.work r.past r.sound r.played;
+      prepares = λ r i. prepares_in_order r.work r.past i r.sound r.correct;
+      checks = λ r i. checks_in_order r.work r.past i r.sound r.correct;
+      decides = λ r. decides_after_checks r.work r.past r.sound r.correct;
       alone = asks_deciding_put;
     }

@@ -4,8 +4,8 @@ use Rattle.sdb_phases.proofs.laws.recover_ends.Goals as goal
 pub returns : goal.returns
 returns c =
     record {
-      busy = λ r id at. busy_pending r.found r.meta r.past id at r.fits r.played;
-      image = λ r image. image_rolled r.found r.meta r.past image r.fits r.played;
-      faulted = λ r. faulted_fault r.found r.meta r.past r.fits r.played;
-      bad = λ r key. bad_malformed r.found r.meta r.past key r.fits r.played;
+      busy = λ r id at. busy_pending r.found r.meta r.past id at r.fits r.correct;
+      image = λ r image. image_rolled r.found r.meta r.past image r.fits r.correct;
+      faulted = λ r. faulted_fault r.found r.meta r.past r.fits r.correct;
+      bad = λ r key. bad_malformed r.found r.meta r.past key r.fits r.correct;
     }

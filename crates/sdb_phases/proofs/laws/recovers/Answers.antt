@@ -4,8 +4,8 @@ use Rattle.sdb_phases.proofs.laws.recovers.Goals as goal
 pub returns : goal.returns
 returns c =
     record {
-      most = λ r. recovers_in_four r.found r.meta r.past r.fits r.played;
-      aborts = λ r now. aborts_expired r.found r.meta r.past now r.fits r.played;
-      forward = λ r at. forwards_committed r.found r.meta r.past at r.fits r.played;
-      back = λ r. backs_aborted r.found r.meta r.past r.fits r.played;
+      most = λ r. recovers_in_four r.found r.meta r.past r.fits r.correct;
+      aborts = λ r now. aborts_expired r.found r.meta r.past now r.fits r.correct;
+      forward = λ r at. forwards_committed r.found r.meta r.past at r.fits r.correct;
+      back = λ r. backs_aborted r.found r.meta r.past r.fits r.correct;
     }

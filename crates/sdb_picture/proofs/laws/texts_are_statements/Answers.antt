@@ -1,4 +1,4 @@
-use Rattle.sdb_lanes.specs.Lanes.{lanes_of}
+use Rattle.sdb_picture.specs.Lanes.{lanes_of}
 use Rattle.sdb_picture.proofs.ArrowLaws.{groups_have_texts}
 use Rattle.sdb_picture.proofs.laws.texts_are_statements.Goals as goal
 

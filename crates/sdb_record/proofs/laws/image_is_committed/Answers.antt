@@ -5,7 +5,7 @@ pub returns : goal.returns
 returns c =
     record {
       itself = image-settled;
-      key = λ i. (image-is i.found i.image i.decided i.taken i.moment i.is_image).key;
-      taken = λ i. (image-is i.found i.image i.decided i.taken i.moment i.is_image).taken;
-      committed = λ i. (image-is i.found i.image i.decided i.taken i.moment i.is_image).committed;
+      key = λ i. (image-is i.found i.image i.decided i.accepted i.moment i.is_image).key;
+      accepted = λ i. (image-is i.found i.image i.decided i.accepted i.moment i.is_image).accepted;
+      committed = λ i. (image-is i.found i.image i.decided i.accepted i.moment i.is_image).committed;
     }

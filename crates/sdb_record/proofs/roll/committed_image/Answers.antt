@@ -1,5 +1,5 @@
-use Rattle.sdb_record.proofs.Fine.{taken-keep}
+use Rattle.sdb_record.proofs.Fine.{accepted-keep}
 use Rattle.sdb_record.proofs.roll.committed_image.Goals as goal
 
 pub kept_record-requires : goal.kept_record-requires
-kept_record-requires c = taken-keep c.args.rec.now c.requires
+kept_record-requires c = accepted-keep c.args.rec.now c.requires

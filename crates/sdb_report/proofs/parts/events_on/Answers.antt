@@ -1,7 +1,7 @@
 use Rattle.std.proofs.Common.{◌≡◌, [], ◌∷◌, ◌+◌, sym, subst, arith, ℕ, Ok}
 use Rattle.std.proofs.lemmas.List.{length-append}
 use Rattle.std.proofs.lemmas.Result.{err_from_is_err_and}
-use Rattle.sdb_reading.specs.Lines.{numbered_event_of}
+use Rattle.sdb_report.specs.Lines.{numbered_event_of}
 use Rattle.sdb_report.specs.Reading.{line_at, lines_at, event_at}
 use Rattle.sdb_report.proofs.Loops.{goes_on, ends, is_done}
 use Rattle.sdb_report.proofs.parts.events_on.Goals as goal

@@ -23,9 +23,9 @@ returns-in-Err-clause-cut g c =
 
 pub returns-in-Ok-Input-clause-done : goal.returns-in-Ok-Input-clause-done
 returns-in-Ok-Input-clause-done g c =
-    let taken = subst (HasExecutedLine c.args.catalog.now _ _ c.loop-n.session c.take_line.new.session) c.in-Ok-Input.field-0-is c.in-Ok-Input.ensures.taken in
-    let end = at_end (ahead c.take_line.new.bytes) (g.R.Source.remaining c.take_line.new.input) taken.read.ends in
-    so_whole c.args.catalog.now _ _ _ _ _ _ _ _ _ _ _ _ _ _ _ _ _ _ c.loop-n.session c.take_line.new.session c.loop-n.invariant.so c.take_line.ensures.goes taken c.take_line.new.bytes.most (g.R.Source.remaining c.take_line.new.input) end.0 end.1
+    let accepted = subst (HasExecutedLine c.args.catalog.now _ _ c.loop-n.session c.take_line.new.session) c.in-Ok-Input.field-0-is c.in-Ok-Input.ensures.accepted in
+    let end = at_end (ahead c.take_line.new.bytes) (g.R.Source.remaining c.take_line.new.input) accepted.read.ends in
+    so_whole c.args.catalog.now _ _ _ _ _ _ _ _ _ _ _ _ _ _ _ _ _ _ c.loop-n.session c.take_line.new.session c.loop-n.invariant.so c.take_line.ensures.goes accepted c.take_line.new.bytes.most (g.R.Source.remaining c.take_line.new.input) end.0 end.1
 
 pub returns-in-Ok-Input-clause-goes : goal.returns-in-Ok-Input-clause-goes
 returns-in-Ok-Input-clause-goes g c = goes_more _ _ _ c.loop-n.invariant.goes c.take_line.ensures.goes
@@ -35,13 +35,13 @@ loop-n-preserved g c =
     let before = c.loop-n.invariant in
     let on = c.take_line.ensures.goes in
     let after = c.in-Ok-Lf.ensures in
-    let taken = subst (HasExecutedLine c.args.catalog.now _ _ c.loop-n.session c.take_line.new.session) c.in-Ok-Lf.field-0-is c.in-Ok-Lf.ensures.taken in
+    let accepted = subst (HasExecutedLine c.args.catalog.now _ _ c.loop-n.session c.take_line.new.session) c.in-Ok-Lf.field-0-is c.in-Ok-Lf.ensures.accepted in
     record {
       some = some_more _ _ on.names before.some;
       reads = omega (arith, before.reads, after.reads);
       writes = omega (arith, before.writes, after.writes);
       goes = goes_more _ _ _ before.goes on;
-      so = so_more c.args.catalog.now _ _ _ _ _ _ _ _ _ _ _ _ _ _ _ _ _ _ c.loop-n.session c.take_line.new.session before.so on taken;
+      so = so_more c.args.catalog.now _ _ _ _ _ _ _ _ _ _ _ _ _ _ _ _ _ _ c.loop-n.session c.take_line.new.session before.so on accepted;
     }
 
 pub returns-clause-cut : goal.returns-clause-cut

@@ -11,5 +11,5 @@ invariant-loop-n g l = record {
   reads : g.R.Source.faults l.fn.input ≤ g.R.Source.faults l.input;
   writes : g.W.Sink.faults l.fn.output ≤ g.W.Sink.faults l.output;
   goes : GoOn (g.S.Registry.state l.fn.stores) (g.S.Registry.state l.stores);
-  so : IsSoFar l.catalog (g.S.Registry.state l.fn.stores) (g.S.Registry.state l.stores) (g.C.Clock.told l.fn.clock) (g.C.Clock.told l.clock) (g.I.Ids.told l.fn.ids) (g.I.Ids.told l.ids) (g.W.Sink.written l.fn.output) (g.W.Sink.written l.output) (g.R.Source.remaining l.fn.input) (left l.bytes (g.R.Source.remaining l.input)) l.bytes.used l.n l.session;
+  so : IsSoFar l.catalog (g.S.Registry.state l.fn.stores) (g.S.Registry.state l.stores) (g.C.Clock.answered l.fn.clock) (g.C.Clock.answered l.clock) (g.I.Ids.answered l.fn.ids) (g.I.Ids.answered l.ids) (g.W.Sink.written l.fn.output) (g.W.Sink.written l.output) (g.R.Source.remaining l.fn.input) (left l.bytes (g.R.Source.remaining l.input)) l.bytes.used l.n l.session;
 }

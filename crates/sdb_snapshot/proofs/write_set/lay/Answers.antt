@@ -1,9 +1,7 @@
 use Rattle.std.proofs.Common.{◌≡◌, Some, None, ◌∙◌, ap, sym, subst, slice_set}
 use Rattle.std.specs.Prelude.{slice_get}
 use Rattle.std.proofs.lemmas.Option.{slice_get-get_or}
-use Rattle.sdb_types.specs.declared.key.Key.{Key}
-use Rattle.sdb_record.specs.declared.write.Change.{Change}
-use Rattle.sdb_record.specs.declared.write.Write.{Write}
+use Rattle.sdb_snapshot.specs.Types.{Change, Key, Write}
 use Rattle.sdb_snapshot.proofs.Places.{place_in, place_is, found_none, place_within, laid_at, laid_none}
 use Rattle.sdb_snapshot.proofs.write_set.lay.Goals as goal
 

@@ -2,4 +2,4 @@ use Rattle.sdb_vacuum.proofs.Fine.{after_fine}
 use Rattle.sdb_vacuum.proofs.laws.removes_tombstones_alone.Goals as goal
 
 pub returns : goal.returns
-returns c = λ r. after_fine r.catalog r.past r.played
+returns c = λ r. after_fine r.catalog r.past r.correct

@@ -1,6 +1,5 @@
 use Rattle.std.proofs.Common.{ap, None}
-use Rattle.sdb_types.specs.declared.key.TableName.{TableName}
-use Rattle.sdb_types.specs.declared.record.Span.{Span}
+use Rattle.sdb_vacuum.specs.Types.{Span, TableName}
 use Rattle.sdb_vacuum.proofs.Spans.{span_more}
 use Rattle.sdb_vacuum.proofs.vacuum.spans_of.Goals as goal
 

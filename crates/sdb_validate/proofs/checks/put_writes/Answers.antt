@@ -6,8 +6,7 @@ use Rattle.std.specs.FinMap.{get, insert}
 use Rattle.std.specs.List.{filter}
 use Rattle.std.specs.Map.{lookup}
 use Rattle.std.specs.Map.Iter.{deref_pair}
-use Rattle.sdb_types.specs.declared.key.Key.{Key}
-use Rattle.sdb_types.specs.declared.txid.TxId.{TxId}
+use Rattle.sdb_validate.specs.Types.{Key, TxId}
 use Rattle.sdb_types.specs.Contents.{in_span}
 use Rattle.sdb_types.specs.Order.{key_cmp}
 use Rattle.sdb_phases.specs.declared.check.Expected.TheVariants.{Based}
@@ -25,7 +24,7 @@ loop-key-init c =
     (search rules) ∙ c.range-key-items.ensures.between (search rules) ∙ ap (λ (k : Key). entries_between key_cmp (Included k) Unbounded es) c.in_ok-start.ensures in
     record {
       wished = λ q. from_least span c.into_iter-key-iterator.result es (get c.args.wishes.now q) q iter;
-      stands = subst (StandsFrom span) (sym iter) (stands_from span es c.range-key-items.ensures.ordered);
+      agrees = subst (StandsFrom span) (sym iter) (stands_from span es c.range-key-items.ensures.ordered);
     }
 
 pub loop-key-preserved : goal.loop-key-preserved
@@ -39,7 +38,7 @@ loop-key-preserved c =
           ap (λ n. expected_of_written (in_span span q) (lookup (is_at (key_cmp q)) es) (get n q)) (c.in_ok-insert.ensures.ok ∙ ap (λ same. insert m e.0 (Based same)) (c.is_based-same.ensures ∙ ap (λ o. wished_version o e.1) c.find.ensures))
           ∙ one_based span e es m q (sym c.if-not-contains.ensures)
           ∙ ap (λ left. expected_of_written (in_span span q) (lookup (is_at (key_cmp q)) left) (get m q)) (sym c.in-Some.ensures.steps) ∙ c.loop-key.invariant.wished q;
-      stands = stands_later span e es (subst (StandsFrom span) c.in-Some.ensures.steps c.loop-key.invariant.stands);
+      agrees = stands_later span e es (subst (StandsFrom span) c.in-Some.ensures.steps c.loop-key.invariant.agrees);
     }
 
 pub returns-then-not-contains : goal.returns-then-not-contains
@@ -47,4 +46,4 @@ returns-then-not-contains c =
     let span = c.args.span.now in
     let e = deref_pair (c.in-Some.key, c.in-Some.base) in
     λ q.
-    all_passed span c.loop-key.key-iterator e c.next.new.self (get c.loop-key.wishes q) _ q c.in-Some.ensures.steps c.loop-key.invariant.stands (sym c.if-not-contains.ensures) (c.loop-key.invariant.wished q)
+    all_passed span c.loop-key.key-iterator e c.next.new.self (get c.loop-key.wishes q) _ q c.in-Some.ensures.steps c.loop-key.invariant.agrees (sym c.if-not-contains.ensures) (c.loop-key.invariant.wished q)

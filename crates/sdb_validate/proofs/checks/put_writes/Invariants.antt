@@ -12,5 +12,5 @@ use Rattle.sdb_validate.proofs.checks.put_writes.Given as goal
 abbrev pub invariant-loop-key : goal.invariant-loop-key
 invariant-loop-key l = record {
   wished : (q : Key) → expected_of_written (in_span l.span q) (lookup (is_at (key_cmp q)) l.key-iterator) (fin.get l.wishes q) ≡ expected_of_written (in_span l.span q) (get key_cmp l.bases q) (fin.get l.initial.wishes q);
-  stands : StandsFrom l.span l.key-iterator;
+  agrees : StandsFrom l.span l.key-iterator;
 }

@@ -20,7 +20,7 @@ returns-then-not-are_undashed-clause-usage c =
 pub returns-in_err-matches-clause-usage : goal.returns-in_err-matches-clause-usage
 returns-in_err-matches-clause-usage c = λ e asked h.
     let small : length (map string_bytes c.args.words.now) ≤ usize_max = omega (arith, c.are_undashed.ensures.few) in
-    c.in_err-matches.ensures.usage (ap Err (passed_on c.from_residual.result c.in_err-matches.field-0.0 refused.Usage c.from_residual.ensures.1 e)) (fits c.args.stores.now asked (map string_bytes c.args.words.now) small h).taken
+    c.in_err-matches.ensures.usage (ap Err (passed_on c.from_residual.result c.in_err-matches.field-0.0 refused.Usage c.from_residual.ensures.1 e)) (fits c.args.stores.now asked (map string_bytes c.args.words.now) small h).accepted
 
 pub command_taken-requires : goal.command_taken-requires
 command_taken-requires c =
@@ -28,7 +28,7 @@ command_taken-requires c =
     let u : are_undashed words ≡ true = search rules in
     record {
       undashed = u;
-      taken = c.in_ok-matches.ensures.ok.0;
+      accepted = c.in_ok-matches.ensures.ok.0;
       read = sym c.in_ok-matches.ensures.ok.1
           ∙ entered_is (out-ArgMatches c.in_ok-matches.matches).subcommand (λ b. (out-SubCommand (box_value b)).name.now) (λ b. rows_of (found_of (out-SubCommand (box_value b)).matches)) c.in-Some.name.now (rows_of (found_of c.in-Some.given.now)) c.in-Some.ensures.name c.in-Some.ensures.rows;
     }

@@ -1,6 +1,5 @@
 use Rattle.std.proofs.Common.{sym, subst}
-use Rattle.sdb_types.specs.declared.record.Reply.{Reply}
-use Rattle.sdb_model.specs.declared.event.How.{How}
+use Rattle.sdb_world.specs.Types.{How, Reply}
 use Rattle.sdb_contents.specs.Board.{IsDelivered, IsMade, how_lost}
 use Rattle.sdb_contents.proofs.Made.{discarded, lost, once_lost, once_seen, unasked}
 use Rattle.sdb_model.specs.Follows.{IsHowOfLose, IsHowOfStep}

@@ -2,8 +2,7 @@ use Rattle.std.proofs.Common.{List, ◌∙◌, ap, None, Some}
 use Rattle.std.specs.Option.{option_map}
 use Rattle.std.specs.FinMap.{get}
 use Rattle.std.proofs.lemmas.Map.Keys.{IsDistinct-from_sorted}
-use Rattle.sdb_types.specs.declared.pair.Pair.{Pair}
-use Rattle.sdb_types.specs.declared.record.Record.{Record}
+use Rattle.sdb_hashed.specs.Types.{Pair, Record}
 use Rattle.sdb_types.specs.Contents.{record_of}
 use Rattle.sdb_hashed.proofs.Calls.{found_part, record_along}
 use Rattle.sdb_hashed.proofs.parts.PartsRows.find.Goals as goal

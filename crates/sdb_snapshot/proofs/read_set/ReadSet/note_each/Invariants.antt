@@ -5,6 +5,6 @@ use Rattle.sdb_snapshot.proofs.read_set.ReadSet.note_each.Given as goal
 
 abbrev pub invariant-loop-rec : goal.invariant-loop-rec
 invariant-loop-rec l = record {
-  told : with_images l.self (drop l.rec-index l.records) ≡ with_images l.initial.self l.records;
+  answered : with_images l.self (drop l.rec-index l.records) ≡ with_images l.initial.self l.records;
   front : StartsWith l.initial.self l.self;
 }

@@ -1,6 +1,5 @@
 use Rattle.std.proofs.Common.{◌≡◌, ℕ, List, Some, cond, false, length, ap, ◌∙◌}
-use Rattle.sdb_types.specs.declared.record.Span.{Span}
-use Rattle.sdb_record.specs.declared.access.Scan.{Scan}
+use Rattle.sdb_snapshot.specs.Types.{Scan, Span}
 use Rattle.sdb_snapshot.specs.Seen.{is_scanned, same_span}
 use Rattle.sdb_snapshot.specs.Spans.{place_in_tables}
 use Rattle.sdb_snapshot.proofs.Scans.{places_opened}

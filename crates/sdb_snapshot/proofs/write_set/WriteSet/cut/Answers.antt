@@ -1,6 +1,5 @@
 use Rattle.std.proofs.Common.{◌≡◌, List, take, subst, sym}
-use Rattle.sdb_types.specs.declared.key.Key.{Key}
-use Rattle.sdb_record.specs.declared.write.Write.{Write}
+use Rattle.sdb_snapshot.specs.Types.{Key, Write}
 use Rattle.sdb_snapshot.specs.Sets.{AreIndexed}
 use Rattle.sdb_snapshot.proofs.Places.{placed_first}
 use Rattle.sdb_snapshot.proofs.write_set.WriteSet.cut.Goals as goal

@@ -1,7 +1,6 @@
 use Rattle.std.proofs.Common.{◌≡◌, ◌++◌, [], ◌∷◌, true, false, List, None, length, take, subst, sym, ap, ◌∙◌, rules}
 use Rattle.std.specs.Prelude.{is_some}
-use Rattle.sdb_types.specs.declared.key.Key.{Key}
-use Rattle.sdb_record.specs.declared.write.Write.{Write}
+use Rattle.sdb_snapshot.specs.Types.{Key, Write}
 use Rattle.sdb_snapshot.specs.Sets.{AreIndexed}
 use Rattle.sdb_snapshot.specs.Opened.{with_new}
 use Rattle.sdb_snapshot.proofs.Places.{place_in, present, absent, no_place_in, placed_last, placed_back}

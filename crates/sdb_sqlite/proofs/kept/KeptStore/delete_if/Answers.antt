@@ -11,9 +11,9 @@ returns-in-Ok-clause-called g c =
     answered_call g.S.Store _ (DeleteIf c.args.key.now c.args.condition.now) c.args.self.now.connection c.delete.new.connection _ (write_reply (Ok c.in-Ok.written)) _ _ _ _ c.reply_of.ensures
     (delete_lawful g.S.Store c.args.key.now c.args.condition.now c.args.self.now.connection c.delete.new.connection (Ok c.in-Ok.written) c.in-Ok.ensures)
     (written_cause c.in-Ok.written c.args.self.now.faults) c.one_more-self.ensures
-    (λ h. delete_told_by g.S.Store c.args.key.now c.args.condition.now c.args.self.now.connection c.delete.new.connection (Ok c.in-Ok.written) (λ s. g.met.S.Held.told h.0 s.store) c.key_facts.ensures h.1 c.in-Ok.ensures)
+    (λ h. delete_told_by g.S.Store c.args.key.now c.args.condition.now c.args.self.now.connection c.delete.new.connection (Ok c.in-Ok.written) (λ s. g.met.S.Held.answered h.0 s.store) c.key_facts.ensures h.1 c.in-Ok.ensures)
 
 pub returns-in-Err-clause-called : goal.returns-in-Err-clause-called
 returns-in-Err-clause-called g c =
     stopped_call g.S.Store _ (DeleteIf c.args.key.now c.args.condition.now) c.args.self.now.connection c.delete.new.connection c.in-Err.stopped _ _ _ _ _ c.stop.ensures.reply c.stop.ensures.faults c.one_more-self.ensures
-    (λ h. delete_told_by g.S.Store c.args.key.now c.args.condition.now c.args.self.now.connection c.delete.new.connection (Err c.in-Err.stopped) (λ s. g.met.S.Held.told h.0 s.store) c.key_facts.ensures h.1 c.in-Err.ensures)
+    (λ h. delete_told_by g.S.Store c.args.key.now c.args.condition.now c.args.self.now.connection c.delete.new.connection (Err c.in-Err.stopped) (λ s. g.met.S.Held.answered h.0 s.store) c.key_facts.ensures h.1 c.in-Err.ensures)

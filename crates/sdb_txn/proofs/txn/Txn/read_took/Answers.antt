@@ -1,7 +1,7 @@
 use Rattle.std.proofs.Common.{rules, ◌≡◌, ◌≢◌, ℤ, sym, ap, ◌∙◌, subst, to_z, of_z, w64}
 use Rattle.sdb_phases.specs.Steps.{CanGet}
-use Rattle.sdb_read.specs.declared.read.ReadStep.TheVariants as step
-use Rattle.sdb_read.specs.Read.{read_result, read_step}
+use Rattle.sdb_txn.specs.declared.read.ReadStep.TheVariants as step
+use Rattle.sdb_txn.specs.Read.{read_result, read_step}
 use Rattle.sdb_txn.specs.declared.txn.Doing.{Doing}
 use Rattle.sdb_txn.specs.Inside.{IsReadOf}
 use Rattle.sdb_txn.specs.Txn.{IfReading, IsReading, TxnAt, idle, pending, pending_in}
@@ -34,4 +34,4 @@ returns-in-Read c =
     subst (λ (d : Doing). IfReading d (λ a x. c.read_on-step.result ≢ step.NoMemory → c.read_on-step.result ≡ read_result (read_step x.stage c.args.now c.args.reply))) here
     (subst (λ (n : ℤ). IfReading c.self.inside.doing (λ a x. c.read_on-step.result ≢ step.NoMemory → c.read_on-step.result ≡ read_result (read_step x.stage n c.args.reply))) now c.read_on-step.ensures.step) in
     let is : v ≡ idle t = ap (λ (d : Doing). record { id = c.self.inside.id; seen = c.self.inside.snapshot; doing = d }) c.replace.ensures.after ∙ ap idle c.self.view_is in
-    end_told t v c.read_ended.new.self c.in-Read.access c.args.reply c.args.now c.read_on-step.result c.read_ended.result c.requires.at step same is c.read_ended.ensures.memory c.read_ended.ensures.told
+    end_told t v c.read_ended.new.self c.in-Read.access c.args.reply c.args.now c.read_on-step.result c.read_ended.result c.requires.at step same is c.read_ended.ensures.memory c.read_ended.ensures.answered

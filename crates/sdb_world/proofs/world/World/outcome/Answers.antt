@@ -1,10 +1,6 @@
 use Rattle.std.proofs.Common.{◌≡◌, List, ap, subst, sym}
 use Rattle.std.specs.Prelude.{All, Contains}
-use Rattle.sdb_types.specs.declared.txid.TxId.{TxId}
-use Rattle.sdb_schema.specs.declared.table.Table.{Table}
-use Rattle.sdb_model.specs.declared.event.Event.{Event}
-use Rattle.sdb_model.specs.declared.event.Point.{Point}
-use Rattle.sdb_model.specs.declared.script.Script.{Script}
+use Rattle.sdb_world.specs.Types.{Event, Point, Script, Table, TxId}
 use Rattle.sdb_model.specs.Transactions.{point}
 use Rattle.sdb_contents.proofs.GoesOn.{fit_for_before}
 use Rattle.sdb_contents.proofs.Later.{odd_before, recorded_later}

@@ -1,7 +1,6 @@
 use Rattle.std.proofs.Common.{◌≡◌, ◌≤◌, ◌+◌, List, sym, ap, subst, arith}
-use Rattle.sdb_model.specs.declared.event.Event.{Event}
+use Rattle.sdb_world.specs.Types.{Event, Script}
 use Rattle.sdb_model.specs.declared.script.Act.TheVariants as act
-use Rattle.sdb_model.specs.declared.script.Script.{Script}
 use Rattle.sdb_model.specs.Follows.{IsRest, end_of}
 use Rattle.sdb_contents.proofs.GoesOn.{goes_more, some_more}
 use Rattle.sdb_world.specs.Step.{IsOne}

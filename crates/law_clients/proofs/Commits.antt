@@ -1,0 +1,372 @@
+-- A COMMIT of a client that is alone: each reply leads to another call, or its answer says what the database has.
+use Rattle.std.proofs.Common.{◌≡◌, ◌<◌, ◌≤◌, ◌+◌, ℕ, Bool, true, false, List, map, length, Option, Some, None, ◌⊎◌, inl, inr, refl, sym, ap, subst, ◌∙◌, arith}
+use Rattle.std.specs.Prelude.{slice_get, nat_lt, IfSome, IsSomeAnd, Result, Ok, Err, if◌then◌else◌}
+use Rattle.std.specs.Option.{option_map}
+use Rattle.std.specs.Result.{result_ok}
+use Rattle.std.proofs.lemmas.Option.{slice_get-map, slice_get_within}
+use Rattle.std.proofs.lemmas.Bool.Decides.{nat_tests}
+use Rattle.law_clients.specs.Types.{Check, Condition, DecideStep, Decided, Decision, Key, Outcome, Record, Reply, Request, Table, Write}
+use Rattle.sdb_types.specs.declared.record.Condition.TheVariants as condition
+use Rattle.sdb_types.specs.declared.record.Request.TheVariants as ask
+use Rattle.sdb_types.specs.declared.record.Reply.TheVariants as reply
+use Rattle.sdb_types.specs.Contents.{holds}
+use Rattle.sdb_types.specs.Order.{same_key}
+use Rattle.sdb_types.proofs.Basics.{none_some, some_is}
+use Rattle.sdb_types.proofs.Keys.{same_key_tells}
+use Rattle.sdb_record.specs.declared.coordinator.Decision.TheVariants as decision
+use Rattle.sdb_record.specs.Coordinator.{coordinator_key_of, coordinator_row_of, decision_in}
+use Rattle.sdb_record.specs.Meta.{is_transactional}
+use Rattle.sdb_record.specs.Moved.{condition_of, version_of}
+use Rattle.sdb_record.specs.Rolls.{IsBaseOf, forward_record, prepared_record, undo}
+use Rattle.sdb_record.proofs.ImageLaws.{row-decision, row-key}
+use Rattle.sdb_record.proofs.RollLaws.{forward-key}
+use Rattle.sdb_record.proofs.TakenLaws.{prepared-key}
+use Rattle.sdb_phases.specs.declared.step.Outcome.TheVariants as outcome
+use Rattle.sdb_phases.specs.declared.step.DecidePhase.TheVariants as phase
+use Rattle.sdb_phases.specs.declared.step.DecideStep.TheVariants as decide
+use Rattle.sdb_phases.specs.declared.step.PrepareStep.TheVariants as prepare
+use Rattle.sdb_phases.specs.declared.step.ValidateStep.TheVariants as validate
+use Rattle.sdb_phases.specs.Work.{Work, back_of, forward_of, prepare_of, prepares, is_as_prepared}
+use Rattle.sdb_phases.specs.Checks.{checks}
+use Rattle.sdb_phases.specs.Steps.{followed, prepare_step, step_of_row, touched_after, validate_step}
+use Rattle.sdb_phases.specs.Commit.{Stage, Preparing, Checking, Deciding, Forward, Stopping, Back, Over, after_check, after_prepare, back, checking, decided, forward, pending, step}
+use Rattle.law_clients.specs.Database.{Called, Done, Found, Got, Database, HasFailed, IsWith, NotFound, Same, Undone, Wrote, decided_in, is_committed_or_none}
+use Rattle.law_clients.specs.OnlyResolves.{IsApart, IsSound}
+use Rattle.law_clients.specs.Recovers.{IsAborted, IsCommittedAt, IsUndecided}
+use Rattle.law_clients.specs.Commits.{ArePrepared, CommitAlone, EachWrite, EndedAlone, IsDone, IsFailure, IsGivenUp, IsLoose, IsPrepared, IsWon, OthersUnchanged, StageAlone, WorkAlone}
+use Rattle.law_clients.proofs.Recovers.{one_database, row_at}
+use Rattle.law_clients.proofs.Lists.{each_at}
+use Rattle.law_clients.proofs.SessionChecks.{Passes, all_pass}
+use Rattle.law_clients.proofs.Writes.{each_row, each_write, once_apart, others_row, others_stay, row_is, row_stays, based_at, there, version_holds}
+
+---- what is the same as another
+
+same_stage : (catalog : List Table) (start g h : Database) (p : Work) (s : Stage) → Same g h → CommitAlone catalog start p g s → CommitAlone catalog start p h s
+same_stage catalog start g h p s same c = subst (λ x. CommitAlone catalog start p x s) (one_database g h same) c
+
+-- prepared writes, or the bases that they are over, are loose
+loose_below : (p : Work) (n : ℕ) (g : Database) → ArePrepared p n g → EachWrite p (IsLoose p) g
+loose_below p n g a j w at = by (nat_lt j n) refl
+  where
+    by : (b : Bool) → nat_lt j n ≡ b → IsLoose p w (g w.key)
+    by true e = inr (a.below j w (grind (arith, nat_tests)) at)
+    by false e = inl (a.from j w (grind (arith, nat_tests)) at)
+
+loose_all : (p : Work) (g : Database) → EachWrite p (IsPrepared p) g → EachWrite p (IsLoose p) g
+loose_all p g each j w at = inr (each j w at)
+
+won_all : (p : Work) (g : Database) → EachWrite p (IsPrepared p) g → EachWrite p (IsWon p) g
+won_all p g each j w at = inl (each j w at)
+
+module _ (catalog : List Table) (apart : IsApart catalog) (start : Database) (sound : IsSound catalog start) (p : Work) (work : WorkAlone catalog start p) where
+  abbrev row : Key
+  row = coordinator_key_of p.id
+
+  present : (g : Database) (s : Stage) → OthersUnchanged p start g → StageAlone p g s → CommitAlone catalog start p g s
+  present g s others stage = record { work = work; others = others; stage = stage }
+
+  ---- where another call follows
+
+  to_checks : (g : Database) → IsUndecided g p.id → EachWrite p (IsPrepared p) g → (i : ℕ) → StageAlone p g (checking p i)
+  to_checks g none each i = by (nat_lt i (length (checks p)))
+    where
+      by : (b : Bool) → StageAlone p g (if b then Checking i else Deciding phase.Put)
+      by true = (none, each)
+      by false = (none, each)
+
+  to_forward : (g : Database) → IsDone p g → (i : ℕ) → StageAlone p g (forward p i)
+  to_forward g done i = by (nat_lt i (length p.writes))
+    where
+      by : (b : Bool) → StageAlone p g (if b then Forward i else Over outcome.Committed)
+      by true = done
+      by false = done
+
+  ended : (g : Database) (a : Outcome) → IsGivenUp p g → IsFailure a → EndedAlone p g a
+  ended g outcome.Faulted up f = up
+  ended g outcome.NoMemory up f = up
+  ended g outcome.Committed up f = absurd f
+  ended g (outcome.Conflict key found) up f = absurd f
+  ended g (outcome.Expired id) up f = absurd f
+  ended g (outcome.Unknown id) up f = absurd f
+  ended g (outcome.BadRecord key) up f = absurd f
+
+  to_back : (g : Database) (a : Outcome) (n i : ℕ) → IsAborted g p.id → EachWrite p (IsLoose p) g → IsFailure a → StageAlone p g (back a n i)
+  to_back g a n i aborted each f = by (nat_lt i n)
+    where
+      by : (b : Bool) → StageAlone p g (if b then Back a n i else Over a)
+      by true = (aborted, each, f)
+      by false = ended g a (inr aborted, each) f
+
+  ---- what a put of its row leaves
+
+  decided_by : (g h : Database) (d : Decision) → IsWith row (Some (coordinator_row_of p.id d p.now)) g h → decided_in h p.id ≡ Some (record { decision = d; created_at = p.now })
+  decided_by g h d now = ap row_at (row_is catalog apart start p work g h (Some (coordinator_row_of p.id d p.now)) now) ∙ ap result_ok (row-decision p.id d p.now work.fits work.time)
+
+  aborted_by : (g h : Database) → IsWith row (Some (coordinator_row_of p.id decision.Aborted p.now)) g h → IsAborted h p.id
+  aborted_by g h now = subst (λ o. IsSomeAnd o (λ d. d.decision ≡ decision.Aborted)) (sym (decided_by g h decision.Aborted now)) refl
+
+  -- the put of a row where there is none
+  put_row : (g h : Database) (r : Reply) (d : Decision) → IsUndecided g p.id → Called (ask.PutIf (coordinator_row_of p.id d p.now) condition.Absent) r g h → Wrote row (Some (coordinator_row_of p.id d p.now)) r g h
+  put_row g h r d none c = subst (λ k. Wrote k (Some (coordinator_row_of p.id d p.now)) r g h) (row-key p.id d p.now) (c.0 (ap (λ k. holds condition.Absent (g k)) (row-key p.id d p.now) ∙ ap (holds condition.Absent) none))
+
+  ---- the decision
+
+  put_next : (g h : Database) (r : Reply) → OthersUnchanged p start g → StageAlone p g (Deciding phase.Put) → Wrote row (Some (coordinator_row_of p.id decision.Committed p.now)) r g h → CommitAlone catalog start p h (step p (Deciding phase.Put) r)
+  put_next g h r others s (Done (inl replied) now) = subst (λ x. CommitAlone catalog start p h (step p (Deciding phase.Put) x)) (sym replied)
+      (present h (forward p 0) (others_row catalog apart start p work g h (Some (coordinator_row_of p.id decision.Committed p.now)) now others) (to_forward h (decided_by g h decision.Committed now, won_all p h (each_row catalog apart start p work g h (IsPrepared p) (Some (coordinator_row_of p.id decision.Committed p.now)) now s.1)) 0))
+  put_next g h r others s (Done (inr replied) now) = subst (λ x. CommitAlone catalog start p h (step p (Deciding phase.Put) x)) (sym replied)
+      (present h (Deciding phase.Look) (others_row catalog apart start p work g h (Some (coordinator_row_of p.id decision.Committed p.now)) now others) (inr (decided_by g h decision.Committed now), each_row catalog apart start p work g h (IsPrepared p) (Some (coordinator_row_of p.id decision.Committed p.now)) now s.1))
+  put_next g h r others s (Undone (inl replied) same) = subst (λ x. CommitAlone catalog start p h (step p (Deciding phase.Put) x)) (sym replied) (same_stage catalog start g h p (Deciding phase.Look) same (present g (Deciding phase.Look) others (inl s.0, s.1)))
+  put_next g h r others s (Undone (inr replied) same) = subst (λ x. CommitAlone catalog start p h (step p (Deciding phase.Put) x)) (sym replied) (same_stage catalog start g h p (Stopping outcome.NoMemory (length p.writes)) same (present g (Stopping outcome.NoMemory (length p.writes)) others (s.0, loose_all p g s.1, tt)))
+
+  -- a row of its own that says so is followed
+  followed_committed : (g : Database) (x : Record) (aborted : DecideStep) → g row ≡ Some x → IsCommittedAt g p.id p.now → EachWrite p (IsPrepared p) g → OthersUnchanged p start g → CommitAlone catalog start p g (decided p (phase.Ended, followed p.id aborted x))
+  followed_committed g x aborted e at each others = by (decision_in x) (sym (ap row_at e) ∙ at)
+    where
+      by : (y : Result Decided (List ℕ)) → result_ok y ≡ Some (record { decision = decision.Committed; created_at = p.now }) → CommitAlone catalog start p g (decided p (phase.Ended, step_of_row p.id aborted y))
+      by (Ok z) f = subst (λ y. CommitAlone catalog start p g (decided p (phase.Ended, step_of_row p.id aborted (Ok y)))) (sym (some_is z (record { decision = decision.Committed; created_at = p.now }) f)) (present g (forward p 0) others (to_forward g (at, won_all p g each) 0))
+      by (Err name) f = none_some (record { decision = decision.Committed; created_at = p.now }) f
+
+  -- and one that says ABORTED
+  followed_aborted : (g : Database) (x : Record) → g row ≡ Some x → IsAborted g p.id → EachWrite p (IsPrepared p) g → OthersUnchanged p start g → CommitAlone catalog start p g (decided p (phase.Ended, followed p.id decide.Faulted x))
+  followed_aborted g x e at each others = by (decision_in x) (subst (λ o. IsSomeAnd o (λ d. d.decision ≡ decision.Aborted)) (ap row_at e) at)
+    where
+      to : (y : Decision) → y ≡ decision.Aborted → CommitAlone catalog start p g (decided p (phase.Ended, elim y [ decision.Committed ↦ decide.Committed | decision.Aborted ↦ decide.Faulted ]))
+      to y f = subst (λ z. CommitAlone catalog start p g (decided p (phase.Ended, elim z [ decision.Committed ↦ decide.Committed | decision.Aborted ↦ decide.Faulted ]))) (sym f) (present g (back outcome.Faulted (length p.writes) 0) others (to_back g outcome.Faulted (length p.writes) 0 at (loose_all p g each) tt))
+
+      by : (y : Result Decided (List ℕ)) → IsSomeAnd (result_ok y) (λ d. d.decision ≡ decision.Aborted) → CommitAlone catalog start p g (decided p (phase.Ended, step_of_row p.id decide.Faulted y))
+      by (Ok z) f = to z.decision f
+      by (Err name) f = absurd f
+
+  -- where it isn't known whether the put of its row took effect
+  unknown : (g : Database) → OthersUnchanged p start g → EachWrite p (IsPrepared p) g → (IsUndecided g p.id ⊎ IsAborted g p.id) ⊎ IsCommittedAt g p.id p.now → CommitAlone catalog start p g (Over (outcome.Unknown p.id))
+  unknown g others each (inl x) = present g (Over (outcome.Unknown p.id)) others (refl, inl (x, loose_all p g each))
+  unknown g others each (inr x) = present g (Over (outcome.Unknown p.id)) others (refl, inr (x, won_all p g each))
+
+  -- the database where its row is put
+  row_some : (g : Database) (d : Decided) → decided_in g p.id ≡ Some d → (x : Record) × (g row ≡ Some x)
+  row_some g d e = by (g row) refl
+    where
+      by : (o : Option Record) → g row ≡ o → (x : Record) × (g row ≡ Some x)
+      by None f = none_some d (sym (ap row_at f) ∙ e)
+      by (Some x) f = (x, f)
+
+  aborted_some : (g : Database) → IsAborted g p.id → (x : Record) × (g row ≡ Some x)
+  aborted_some g a = by (decided_in g p.id) refl a
+    where
+      by : (o : Option Decided) → decided_in g p.id ≡ o → IsSomeAnd o (λ d. d.decision ≡ decision.Aborted) → (x : Record) × (g row ≡ Some x)
+      by None f a = absurd a
+      by (Some d) f a = row_some g d f
+
+  look_next : (g : Database) (r : Reply) → OthersUnchanged p start g → StageAlone p g (Deciding phase.Look) → Got row r g → CommitAlone catalog start p g (step p (Deciding phase.Look) r)
+  look_next g r others s (Found replied) = subst (λ x. CommitAlone catalog start p g (step p (Deciding phase.Look) x)) (sym replied) (by s.0)
+    where
+      by : IsUndecided g p.id ⊎ IsCommittedAt g p.id p.now → CommitAlone catalog start p g (step p (Deciding phase.Look) (reply.Found (g row)))
+      by (inl none) = subst (λ o. CommitAlone catalog start p g (step p (Deciding phase.Look) (reply.Found o))) (sym none) (present g (Deciding phase.Abort) others (none, s.1))
+      by (inr at) =
+          let x = row_some g (record { decision = decision.Committed; created_at = p.now }) at in
+          subst (λ o. CommitAlone catalog start p g (step p (Deciding phase.Look) (reply.Found o))) (sym x.1) (followed_committed g x.0 (decide.Expired p.id) x.1 at s.1 others)
+  look_next g r others s (NotFound (inl replied)) = subst (λ x. CommitAlone catalog start p g (step p (Deciding phase.Look) x)) (sym replied) (unknown g others s.1 (elim s.0 [ inl x ↦ inl (inl x) | inr x ↦ inr x ]))
+  look_next g r others s (NotFound (inr replied)) = subst (λ x. CommitAlone catalog start p g (step p (Deciding phase.Look) x)) (sym replied) (unknown g others s.1 (elim s.0 [ inl x ↦ inl (inl x) | inr x ↦ inr x ]))
+
+  abort_next : (g h : Database) (r : Reply) → OthersUnchanged p start g → StageAlone p g (Deciding phase.Abort) → Wrote row (Some (coordinator_row_of p.id decision.Aborted p.now)) r g h → CommitAlone catalog start p h (step p (Deciding phase.Abort) r)
+  abort_next g h r others s (Done (inl replied) now) = subst (λ x. CommitAlone catalog start p h (step p (Deciding phase.Abort) x)) (sym replied)
+      (present h (back outcome.Faulted (length p.writes) 0) (others_row catalog apart start p work g h (Some (coordinator_row_of p.id decision.Aborted p.now)) now others) (to_back h outcome.Faulted (length p.writes) 0 (aborted_by g h now) (loose_all p h (each_row catalog apart start p work g h (IsPrepared p) (Some (coordinator_row_of p.id decision.Aborted p.now)) now s.1)) tt))
+  abort_next g h r others s (Done (inr replied) now) = subst (λ x. CommitAlone catalog start p h (step p (Deciding phase.Abort) x)) (sym replied)
+      (present h (Deciding phase.Again) (others_row catalog apart start p work g h (Some (coordinator_row_of p.id decision.Aborted p.now)) now others) (inr (aborted_by g h now), each_row catalog apart start p work g h (IsPrepared p) (Some (coordinator_row_of p.id decision.Aborted p.now)) now s.1))
+  abort_next g h r others s (Undone (inl replied) same) = subst (λ x. CommitAlone catalog start p h (step p (Deciding phase.Abort) x)) (sym replied) (same_stage catalog start g h p (Deciding phase.Again) same (present g (Deciding phase.Again) others (inl s.0, s.1)))
+  abort_next g h r others s (Undone (inr replied) same) = subst (λ x. CommitAlone catalog start p h (step p (Deciding phase.Abort) x)) (sym replied) (same_stage catalog start g h p (Over (outcome.Unknown p.id)) same (unknown g others s.1 (inl (inl s.0))))
+
+  again_next : (g : Database) (r : Reply) → OthersUnchanged p start g → StageAlone p g (Deciding phase.Again) → Got row r g → CommitAlone catalog start p g (step p (Deciding phase.Again) r)
+  again_next g r others s (Found replied) = subst (λ x. CommitAlone catalog start p g (step p (Deciding phase.Again) x)) (sym replied) (by s.0)
+    where
+      by : IsUndecided g p.id ⊎ IsAborted g p.id → CommitAlone catalog start p g (step p (Deciding phase.Again) (reply.Found (g row)))
+      by (inl none) = subst (λ o. CommitAlone catalog start p g (step p (Deciding phase.Again) (reply.Found o))) (sym none) (unknown g others s.1 (inl (inl none)))
+      by (inr at) =
+          let x = aborted_some g at in
+          subst (λ o. CommitAlone catalog start p g (step p (Deciding phase.Again) (reply.Found o))) (sym x.1) (followed_aborted g x.0 x.1 at s.1 others)
+  again_next g r others s (NotFound (inl replied)) = subst (λ x. CommitAlone catalog start p g (step p (Deciding phase.Again) x)) (sym replied) (unknown g others s.1 (inl s.0))
+  again_next g r others s (NotFound (inr replied)) = subst (λ x. CommitAlone catalog start p g (step p (Deciding phase.Again) x)) (sym replied) (unknown g others s.1 (inl s.0))
+
+  ---- giving up
+
+  stop_next : (g h : Database) (a : Outcome) (n : ℕ) (r : Reply) → OthersUnchanged p start g → StageAlone p g (Stopping a n) → Wrote row (Some (coordinator_row_of p.id decision.Aborted p.now)) r g h → CommitAlone catalog start p h (step p (Stopping a n) r)
+  stop_next g h a n r others s (Done (inl replied) now) = subst (λ x. CommitAlone catalog start p h (step p (Stopping a n) x)) (sym replied)
+      (present h (back a n 0) (others_row catalog apart start p work g h (Some (coordinator_row_of p.id decision.Aborted p.now)) now others) (to_back h a n 0 (aborted_by g h now) (each_row catalog apart start p work g h (IsLoose p) (Some (coordinator_row_of p.id decision.Aborted p.now)) now s.1) s.2))
+  stop_next g h a n r others s (Done (inr replied) now) = subst (λ x. CommitAlone catalog start p h (step p (Stopping a n) x)) (sym replied)
+      (present h (Over a) (others_row catalog apart start p work g h (Some (coordinator_row_of p.id decision.Aborted p.now)) now others) (ended h a (inr (aborted_by g h now), each_row catalog apart start p work g h (IsLoose p) (Some (coordinator_row_of p.id decision.Aborted p.now)) now s.1) s.2))
+  stop_next g h a n r others s (Undone (inl replied) same) = subst (λ x. CommitAlone catalog start p h (step p (Stopping a n) x)) (sym replied) (same_stage catalog start g h p (Over a) same (present g (Over a) others (ended g a (inl s.0, s.1) s.2)))
+  stop_next g h a n r others s (Undone (inr replied) same) = subst (λ x. CommitAlone catalog start p h (step p (Stopping a n) x)) (sym replied) (same_stage catalog start g h p (Over a) same (present g (Over a) others (ended g a (inl s.0, s.1) s.2)))
+
+  ---- rolls
+
+  -- A roll of a write puts that at its key, or changes nothing.
+  record Rolled (g h : Database) (w : Write) (new : Option Record) : Type 0 where
+    by : IsWith w.key new g h ⊎ Same g h
+
+  put_rolls : (g h : Database) (w : Write) (rec : Record) (c : Condition) (r : Reply) → rec.key ≡ w.key → Called (ask.PutIf rec c) r g h → Rolled g h w (Some rec)
+  put_rolls g h w rec c r at called = by (holds c (g rec.key)) refl
+    where
+      from : Wrote rec.key (Some rec) r g h → Rolled g h w (Some rec)
+      from (Done replied now) = record { by = inl (subst (λ k. IsWith k (Some rec) g h) at now) }
+      from (Undone replied same) = record { by = inr same }
+
+      by : (b : Bool) → holds c (g rec.key) ≡ b → Rolled g h w (Some rec)
+      by true e = from (called.0 e)
+      by false e = record { by = inr (called.1 e) }
+
+  delete_rolls : (g h : Database) (w : Write) (c : Condition) (r : Reply) → Called (ask.DeleteIf w.key c) r g h → Rolled g h w None
+  delete_rolls g h w c r called = by (holds c (g w.key)) refl
+    where
+      from : Wrote w.key None r g h → Rolled g h w None
+      from (Done replied now) = record { by = inl now }
+      from (Undone replied same) = record { by = inr same }
+
+      by : (b : Bool) → holds c (g w.key) ≡ b → Rolled g h w None
+      by true e = from (called.0 e)
+      by false e = record { by = inr (called.1 e) }
+
+  back_rolls : (g h : Database) (i : ℕ) (w : Write) (r : Reply) → slice_get p.writes i ≡ Some w → Called (back_of p.id w) r g h → Rolled g h w w.base
+  back_rolls g h i w r at called = by w.base refl called
+    where
+      by : (o : Option Record) → w.base ≡ o → Called (undo (is_as_prepared p.id w) w.key o) r g h → Rolled g h w o
+      by None e c = delete_rolls g h w (is_as_prepared p.id w) r c
+      by (Some b) e c = put_rolls g h w b (is_as_prepared p.id w) r (base_key b e) c
+        where
+          base_key : (b : Record) → w.base ≡ Some b → b.key ≡ w.key
+          base_key b e = let is_write = subst (λ o. IfSome o (IsBaseOf w.key)) e (based_at catalog apart start p work i w at).is_write.base in is_write.0
+
+  forward_rolls : (g h : Database) (w : Write) (r : Reply) → Called (forward_of p.id p.now w) r g h → Rolled g h w (Some (forward_record (prepared_record w p.id p.now) p.now))
+  forward_rolls g h w r c = put_rolls g h w (forward_record (prepared_record w p.id p.now) p.now) (is_as_prepared p.id w) r (forward-key (prepared_record w p.id p.now) p.now ∙ prepared-key w p.id p.now) c
+
+  back_next : (g h : Database) (a : Outcome) (n i : ℕ) (w : Write) (r : Reply) → OthersUnchanged p start g → StageAlone p g (Back a n i) → slice_get p.writes i ≡ Some w → Rolled g h w w.base → CommitAlone catalog start p h (step p (Back a n i) r)
+  back_next g h a n i w r others s at rolled = elim rolled.by [
+    | inl now ↦ present h (back a n (i + 1)) (others_stay catalog apart start p work g h i w at w.base now others) (to_back h a n (i + 1) (subst (λ o. IsSomeAnd (row_at o) (λ d. d.decision ≡ decision.Aborted)) (sym (row_stays catalog apart start p work g h i w at w.base now)) s.0) (each_write catalog apart start p work g h i w at w.base now (IsLoose p) (inl refl) s.1) s.2)
+    | inr same ↦ same_stage catalog start g h p (back a n (i + 1)) same (present g (back a n (i + 1)) others (to_back g a n (i + 1) s.0 s.1 s.2))
+  ]
+
+  forward_next : (g h : Database) (i : ℕ) (w : Write) (r : Reply) → OthersUnchanged p start g → StageAlone p g (Forward i) → slice_get p.writes i ≡ Some w → Rolled g h w (Some (forward_record (prepared_record w p.id p.now) p.now)) → CommitAlone catalog start p h (step p (Forward i) r)
+  forward_next g h i w r others s at rolled = elim rolled.by [
+    | inl now ↦
+        let new : Option Record = Some (forward_record (prepared_record w p.id p.now) p.now) in
+        present h (forward p (i + 1)) (others_stay catalog apart start p work g h i w at new now others) (to_forward h (ap row_at (row_stays catalog apart start p work g h i w at new now) ∙ s.0, each_write catalog apart start p work g h i w at new now (IsWon p) (inr refl) s.1) (i + 1))
+    | inr same ↦ same_stage catalog start g h p (forward p (i + 1)) same (present g (forward p (i + 1)) others (to_forward g s (i + 1)))
+  ]
+
+  ---- prepares
+
+  module _ (g h : Database) (i : ℕ) (w : Write) (at : slice_get p.writes i ≡ Some w) (others : OthersUnchanged p start g) (s : StageAlone p g (Preparing i)) where
+    abbrev prep : Record
+    prep = prepared_record w p.id p.now
+
+    base_firm : is_committed_or_none w.base ≡ true
+    base_firm = by w.base (based_at catalog apart start p work i w at).is_write.base
+      where
+        by : (o : Option Record) → IfSome o (IsBaseOf w.key) → is_committed_or_none o ≡ true
+        by None f = refl
+        by (Some b) f = f.2
+
+    base_taken : (b : Record) → w.base ≡ Some b → is_transactional b ≡ true
+    base_taken b e = let is_write = subst (λ o. IfSome o (IsBaseOf w.key)) e (based_at catalog apart start p work i w at).is_write.base in is_write.1
+
+    may : holds (condition_of (version_of w.base)) (g prep.key) ≡ true
+    may = ap (λ k. holds (condition_of (version_of w.base)) (g k)) (prepared-key w p.id p.now) ∙ ap (holds (condition_of (version_of w.base))) (s.1.from i w (omega arith) at) ∙ version_holds w.base base_firm base_taken
+
+    module _ (now : IsWith w.key (Some prep) g h) where
+      prepared_more : ArePrepared p (i + 1) h
+      prepared_more = record {
+        below = λ j v less there_at. by j v there_at (nat_lt j i) refl less;
+        from = λ j v more there_at. now v.key ∙ ap (λ b. if b then Some prep else g v.key) (apart_from j v more there_at) ∙ s.1.from j v (omega arith) there_at;
+      }
+        where
+          apart_from : (j : ℕ) (v : Write) → i + 1 ≤ j → slice_get p.writes j ≡ Some v → same_key v.key w.key ≡ false
+          apart_from j v more there_at = elim (same_key_tells v.key w.key) [
+            | inl e ↦ absurd (once_apart p.writes i j w v work.once (omega arith) at there_at e.1)
+            | inr n ↦ n.0
+          ]
+
+          below : (j : ℕ) (v : Write) → j < i → slice_get p.writes j ≡ Some v → same_key v.key w.key ≡ false
+          below j v less there_at = elim (same_key_tells v.key w.key) [
+            | inl e ↦ absurd (once_apart p.writes j i v w work.once less there_at at (sym e.1))
+            | inr n ↦ n.0
+          ]
+
+          here : (j : ℕ) (v : Write) → slice_get p.writes j ≡ Some v → j ≡ i → IsPrepared p v (h v.key)
+          here j v there_at e =
+              let one : w ≡ v = some_is w v (sym at ∙ ap (slice_get p.writes) (sym e) ∙ there_at) in
+              subst (λ x. IsPrepared p x (h x.key)) one (there catalog apart start p work g h i w at (Some prep) now)
+
+          by : (j : ℕ) (v : Write) → slice_get p.writes j ≡ Some v → (b : Bool) → nat_lt j i ≡ b → j < i + 1 → IsPrepared p v (h v.key)
+          by j v there_at true e less = now v.key ∙ ap (λ b. if b then Some prep else g v.key) (below j v (grind (arith, nat_tests)) there_at) ∙ s.1.below j v (grind (arith, nat_tests)) there_at
+          by j v there_at false e less = here j v there_at (grind (arith, nat_tests))
+
+      none_still : IsUndecided h p.id
+      none_still = row_stays catalog apart start p work g h i w at (Some prep) now ∙ s.0
+
+      others_still : OthersUnchanged p start h
+      others_still = others_stay catalog apart start p work g h i w at (Some prep) now others
+
+      prepared_on : (q : Option Request) → CommitAlone catalog start p h (after_prepare p i (touched_after i reply.Applied) (prepare_step (nat_lt (i + 1) (length p.writes)) q reply.Applied))
+      prepared_on q = by (nat_lt (i + 1) (length p.writes)) refl
+        where
+          by : (b : Bool) → nat_lt (i + 1) (length p.writes) ≡ b → CommitAlone catalog start p h (after_prepare p i (i + 1) (if b then prepare.More else prepare.Done))
+          by true e = present h (Preparing (i + 1)) others_still (none_still, prepared_more)
+          by false e = present h (checking p 0) others_still (to_checks h none_still (λ j v there_at. prepared_more.below j v (last j v there_at) there_at) 0)
+            where
+              last : (j : ℕ) (v : Write) → slice_get p.writes j ≡ Some v → j < i + 1
+              last j v there_at = let within = slice_get_within p.writes j v there_at in grind (arith, nat_tests)
+
+    prepare_next : (r : Reply) → Wrote w.key (Some prep) r g h → CommitAlone catalog start p h (step p (Preparing i) r)
+    prepare_next r (Done (inl replied) now) = subst (λ x. CommitAlone catalog start p h (step p (Preparing i) x)) (sym replied) (prepared_on now (slice_get (prepares p) i))
+    prepare_next r (Done (inr replied) now) = subst (λ x. CommitAlone catalog start p h (step p (Preparing i) x)) (sym replied) (present h (Stopping outcome.Faulted (i + 1)) (others_still now) (none_still now, loose_below p (i + 1) h (prepared_more now), tt))
+    prepare_next r (Undone (inl replied) same) = subst (λ x. CommitAlone catalog start p h (step p (Preparing i) x)) (sym replied) (same_stage catalog start g h p (Stopping outcome.Faulted (i + 1)) same (present g (Stopping outcome.Faulted (i + 1)) others (s.0, loose_below p i g s.1, tt)))
+    prepare_next r (Undone (inr replied) same) = subst (λ x. CommitAlone catalog start p h (step p (Preparing i) x)) (sym replied) (same_stage catalog start g h p (Stopping outcome.NoMemory i) same (present g (Stopping outcome.NoMemory i) others (s.0, loose_below p i g s.1, tt)))
+
+  ---- checks
+
+  check_next : (g h : Database) (i : ℕ) (c : Check) (r : Reply) → OthersUnchanged p start g → StageAlone p g (Checking i) → slice_get (checks p) i ≡ Some c → Called c.request r g h → CommitAlone catalog start p h (step p (Checking i) r)
+  check_next g h i c r others s at called =
+      let passes = (each_at (Passes g) (checks p) i c (all_pass catalog apart start sound p work g others) at).passes h r called in
+      same_stage catalog start g h p (step p (Checking i) r) passes.0 (present g (step p (Checking i) r) others (subst (λ o. StageAlone p g (after_check p i (validate_step (nat_lt (i + 1) (length (checks p))) o r))) (sym at) (by passes.1)))
+    where
+      on : (b : Bool) → StageAlone p g (after_check p i (if b then validate.More else validate.Valid))
+      on true = s
+      on false = s
+
+      by : ((more : Bool) → validate_step more (Some c) r ≡ (if more then validate.More else validate.Valid)) ⊎ HasFailed r → StageAlone p g (after_check p i (validate_step (nat_lt (i + 1) (length (checks p))) (Some c) r))
+      by (inl passed) = subst (λ v. StageAlone p g (after_check p i v)) (sym (passed (nat_lt (i + 1) (length (checks p))))) (on (nat_lt (i + 1) (length (checks p))))
+      by (inr (inl fault)) = subst (λ x. StageAlone p g (after_check p i (validate_step (nat_lt (i + 1) (length (checks p))) (Some c) x))) (sym fault) (s.0, loose_all p g s.1, tt)
+      by (inr (inr wants)) = subst (λ x. StageAlone p g (after_check p i (validate_step (nat_lt (i + 1) (length (checks p))) (Some c) x))) (sym wants) (s.0, loose_all p g s.1, tt)
+
+-- Whatever call of a COMMIT is pending, and whatever its reply: the database is as its next stage says.
+pub commits : (catalog : List Table) → IsApart catalog → (start : Database) → IsSound catalog start → (p : Work) (g h : Database) (s : Stage) (q : Request) (r : Reply) → CommitAlone catalog start p g s → pending p s ≡ Some q → Called q r g h → CommitAlone catalog start p h (step p s r)
+commits catalog apart start sound p g h s q r alone asked called = by s alone.stage (subst (λ o. IsCalledBy o) (sym asked) called)
+  where
+    IsCalledBy : Option Request → Type 0
+    IsCalledBy None = ⊥
+    IsCalledBy (Some x) = Called x r g h
+
+    -- at the write of a place
+    at_write : (f : Write → Request) (i : ℕ) (G : Type 0) → ((w : Write) → slice_get p.writes i ≡ Some w → Called (f w) r g h → G) → IsCalledBy (slice_get (map f p.writes) i) → G
+    at_write f i G each c = on (slice_get p.writes i) refl (subst (λ o. IsCalledBy o) (slice_get-map f p.writes i) c)
+      where
+        on : (o : Option Write) → slice_get p.writes i ≡ o → IsCalledBy (option_map f o) → G
+        on None e c = absurd c
+        on (Some w) e c = each w e c
+
+    by : (s : Stage) → StageAlone p g s → IsCalledBy (pending p s) → CommitAlone catalog start p h (step p s r)
+    by (Preparing i) st c = at_write (prepare_of p.id p.now) i (CommitAlone catalog start p h (step p (Preparing i) r)) (λ w at call. prepare_next catalog apart start sound p alone.work g h i w at alone.others st r (subst (λ k. Wrote k (Some (prepared_record w p.id p.now)) r g h) (prepared-key w p.id p.now) (call.0 (may catalog apart start sound p alone.work g h i w at alone.others st)))) c
+    by (Checking i) st c = on (slice_get (checks p) i) refl c
+      where
+        on : (o : Option Check) → slice_get (checks p) i ≡ o → IsCalledBy (option_map (λ (x : Check). x.request) o) → CommitAlone catalog start p h (step p (Checking i) r)
+        on None e c = absurd c
+        on (Some k) e c = check_next catalog apart start sound p alone.work g h i k r alone.others st e c
+    by (Deciding phase.Put) st c = put_next catalog apart start sound p alone.work g h r alone.others st (put_row catalog apart start sound p alone.work g h r decision.Committed st.0 c)
+    by (Deciding phase.Look) st c = same_stage catalog start g h p (step p (Deciding phase.Look) r) c.0 (look_next catalog apart start sound p alone.work g r alone.others st c.1)
+    by (Deciding phase.Abort) st c = abort_next catalog apart start sound p alone.work g h r alone.others st (put_row catalog apart start sound p alone.work g h r decision.Aborted st.0 c)
+    by (Deciding phase.Again) st c = same_stage catalog start g h p (step p (Deciding phase.Again) r) c.0 (again_next catalog apart start sound p alone.work g r alone.others st c.1)
+    by (Deciding phase.Ended) st c = absurd c
+    by (Forward i) st c = at_write (forward_of p.id p.now) i (CommitAlone catalog start p h (step p (Forward i) r)) (λ w at call. forward_next catalog apart start sound p alone.work g h i w r alone.others st at (forward_rolls catalog apart start sound p alone.work g h w r call)) c
+    by (Stopping a n) st c = stop_next catalog apart start sound p alone.work g h a n r alone.others st (put_row catalog apart start sound p alone.work g h r decision.Aborted st.0 c)
+    by (Back a n i) st c = at_write (back_of p.id) i (CommitAlone catalog start p h (step p (Back a n i) r)) (λ w at call. back_next catalog apart start sound p alone.work g h a n i w r alone.others st at (back_rolls catalog apart start sound p alone.work g h i w r at call)) c
+    by (Over a) st c = absurd c

@@ -1,0 +1,5 @@
+use Rattle.law_clients.proofs.Texts.{text_is_read}
+use Rattle.law_clients.proofs.sessions.texts_are_read.Goals as goal
+
+pub returns : goal.returns
+returns c = text_is_read

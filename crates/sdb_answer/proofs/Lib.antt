@@ -1,4 +1,0 @@
-pub mod Making
-pub mod Moments
-pub mod Sessions
-pub mod Chains

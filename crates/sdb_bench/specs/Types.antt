@@ -1,0 +1,24 @@
+-- The types of other crates that this crate speaks of.
+pub use Rattle.sdb_model.specs.declared.answer.Answer.{Answer}
+pub use Rattle.sdb_model.specs.declared.event.Event.{Event}
+pub use Rattle.sdb_model.specs.declared.event.How.{How}
+pub use Rattle.sdb_model.specs.declared.event.Outcome.{Outcome}
+pub use Rattle.sdb_model.specs.declared.event.Point.{Point}
+pub use Rattle.sdb_model.specs.declared.event.TableDump.{TableDump}
+pub use Rattle.sdb_model.specs.declared.script.Act.{Act}
+pub use Rattle.sdb_model.specs.declared.script.Move.{Move}
+pub use Rattle.sdb_model.specs.declared.script.Script.{Script}
+pub use Rattle.sdb_model.specs.declared.script.ScriptClient.{ScriptClient}
+pub use Rattle.sdb_model.specs.declared.statement.Statement.{Statement}
+pub use Rattle.sdb_model.specs.declared.statement.Test.{Test}
+pub use Rattle.sdb_model.specs.declared.statement.Update.{Update}
+pub use Rattle.sdb_record.specs.declared.access.Image.{Image}
+pub use Rattle.sdb_schema.specs.declared.table.Column.{Column}
+pub use Rattle.sdb_schema.specs.declared.table.Table.{Table}
+pub use Rattle.sdb_types.specs.declared.key.Key.{Key}
+pub use Rattle.sdb_types.specs.declared.key.TableName.{TableName}
+pub use Rattle.sdb_types.specs.declared.pair.Pair.{Pair}
+pub use Rattle.sdb_types.specs.declared.place.Place.{Place}
+pub use Rattle.sdb_types.specs.declared.record.Reply.{Reply}
+pub use Rattle.sdb_types.specs.declared.txid.TxId.{TxId}
+pub use Rattle.sdb_types.specs.declared.value.Value.{Value}

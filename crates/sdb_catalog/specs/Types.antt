@@ -1,0 +1,19 @@
+-- The types of other crates that this crate speaks of.
+pub use Rattle.sdb_loader.specs.declared.fault.SchemaFault.{SchemaFault}
+pub use Rattle.sdb_schema.specs.declared.make.TableRefused.{TableRefused}
+pub use Rattle.sdb_schema.specs.declared.table.Column.{Column}
+pub use Rattle.sdb_schema.specs.declared.table.Direction.{Direction}
+pub use Rattle.sdb_schema.specs.declared.table.Kind.{Kind}
+pub use Rattle.sdb_schema.specs.declared.table.Order.{Order}
+pub use Rattle.sdb_schema.specs.declared.table.Table.{Table}
+pub use Rattle.sdb_types.specs.declared.key.Key.{Key}
+pub use Rattle.sdb_types.specs.declared.key.TableName.{TableName}
+pub use Rattle.sdb_types.specs.declared.pair.Pair.{Pair}
+pub use Rattle.sdb_types.specs.declared.place.Place.{Place}
+pub use Rattle.sdb_types.specs.declared.record.Record.{Record}
+pub use Rattle.sdb_types.specs.declared.record.Reply.{Reply}
+pub use Rattle.sdb_types.specs.declared.record.Request.{Request}
+pub use Rattle.sdb_types.specs.declared.record.Span.{Span}
+pub use Rattle.sdb_types.specs.declared.txid.TxId.{TxId}
+pub use Rattle.sdb_types.specs.declared.value.Value.{Value}
+pub use Rattle.std.specs.declared.cmp.Ordering.{Ordering}

@@ -1,0 +1,150 @@
+-- Executions: the states of a script's clients and their steps by the protocol, whatever the stores reply.
+use Rattle.std.specs.Prelude.{◌≡◌, ◌≢◌, ℕ, suc, ℤ, pos, ◌+◌, ◌-◌, ◌<◌, ◌^◌, true, false, List, [], ◌∷◌, length, Option, Some, None, IfSome, IsSomeAnd, is_some, slice_get, slice_set}
+use Rattle.sdb_client.specs.Types.{Answer, Event, Key, Reply, Request, Script}
+use Rattle.sdb_types.specs.Contents.{CanAnswer}
+use Rattle.sdb_record.specs.Meta.{is_moment}
+use Rattle.sdb_schema.specs.Catalog.{is_catalog}
+use Rattle.sdb_model.specs.declared.event.Event.TheVariants as event
+use Rattle.sdb_model.specs.Exec.{find_table}
+use Rattle.sdb_model.specs.Follows.{texts_of}
+use Rattle.sdb_client.specs.Client.{ClientAt, IsIdle, ReplyPost, client_pending, next_id, nothing_done, TextStep}
+use Rattle.sdb_client.specs.declared.gate.Gate.{Gate}
+use Rattle.sdb_client.specs.declared.slot.ClientSlot.{ClientSlot}
+use Rattle.sdb_model.specs.Tables.{is_data}
+use Rattle.sdb_model.specs.Calls.{is_stored_reply}
+
+-- A script that can be run: a catalog without a table of the coordinator, clients that have numbers, and statements that are no
+-- longer than a text may be.
+pub record IsPlayable (script : Script) : Type 0 where
+  pub catalog : is_catalog script.catalog ≡ true
+  pub apart : (k : Key) → is_some (find_table script.catalog k.table) ≡ true → is_data k ≡ true
+  pub few : length script.clients < 2 ^ 32 - 1
+  pub short : (c i : ℕ) (text : List ℕ) → slice_get (texts_of script.clients c) i ≡ Some text → length text < 2 ^ 32
+
+---- states
+
+-- A state: each client, with how many of its statements it has accepted and whether it has stopped, client 1 first; and the clock.
+pub record State : Type 0 where
+  pub client_slots : List ClientSlot
+  pub clock : ℤ
+
+-- a client that has done nothing
+abbrev pub initial_client : ℕ → ClientSlot
+initial_client i = record { client = nothing_done (suc i); accepted = 0; stopped = false }
+
+-- so many clients that have done nothing
+pub record AreFresh (count : ℕ) (client_slots : List ClientSlot) : Type 0 where
+  pub size : length client_slots ≡ count
+  pub each : (i : ℕ) (s : ClientSlot) → slice_get client_slots i ≡ Some s → s ≡ initial_client i
+
+-- An initial state: no client has done anything, and the clock shows 0.
+pub record IsInitial (script : Script) (s : State) : Type 0 where
+  pub fresh : AreFresh (length script.clients) s.client_slots
+  pub clock : s.clock ≡ pos 0
+
+-- a client after a statement or a reply
+abbrev pub client_after : ClientSlot → ℕ → ClientAt → ClientSlot
+client_after s more client = record { client = client; accepted = s.accepted + more; stopped = s.stopped }
+
+-- the client has stopped
+abbrev pub client_stopped : ClientSlot → ClientSlot
+client_stopped s = record { client = s.client; accepted = s.accepted; stopped = true }
+
+-- with another client at a place
+abbrev pub with_client_at : State → ℕ → ClientSlot → State
+with_client_at s i client_slot = record { client_slots = slice_set s.client_slots i client_slot; clock = s.clock }
+
+---- what the other clients do
+
+-- it has stopped, or runs no VACUUM
+abbrev pub IsUnswept : List ClientSlot → ℕ → Type 0
+IsUnswept client_slots i = IfSome (slice_get client_slots i) (λ s. s.stopped ≡ false → s.client.vacuum ≡ None)
+
+-- it has stopped, or has no transaction open
+abbrev pub IsUnopened : List ClientSlot → ℕ → Type 0
+IsUnopened client_slots i = IfSome (slice_get client_slots i) (λ s. s.stopped ≡ false → s.client.txn ≡ None)
+
+-- it hasn't stopped, and runs VACUUM
+abbrev pub IsInVacuumAt : List ClientSlot → ℕ → Type 0
+IsInVacuumAt client_slots i = IsSomeAnd (slice_get client_slots i) (λ s. (s.stopped ≡ false) × (is_some s.client.vacuum ≡ true))
+
+-- it hasn't stopped, and has a transaction open
+abbrev pub IsOpenAt : List ClientSlot → ℕ → Type 0
+IsOpenAt client_slots i = IsSomeAnd (slice_get client_slots i) (λ s. (s.stopped ≡ false) × (is_some s.client.txn ≡ true))
+
+-- it holds of a client at some other place
+abbrev pub SomeAt : (List ClientSlot → ℕ → Type 0) → List ClientSlot → ℕ → Type 0
+SomeAt P client_slots i = (j : ℕ) × (j ≢ i) × P client_slots j
+
+-- A gate says whether a client at another place that hasn't stopped runs VACUUM, and whether one has a transaction open.
+pub record IsGateAt (gate : Gate) (client_slots : List ClientSlot) (i : ℕ) : Type 0 where
+  pub vacuums : gate.vacuum_runs ≡ false → (j : ℕ) → j ≢ i → IsUnswept client_slots j
+  pub opens : gate.open_elsewhere ≡ false → (j : ℕ) → j ≢ i → IsUnopened client_slots j
+  pub vacuumed : gate.vacuum_runs ≡ true → SomeAt IsInVacuumAt client_slots i
+  pub opened : gate.open_elsewhere ≡ true → SomeAt IsOpenAt client_slots i
+
+---- steps
+
+-- A client that hasn't stopped and waits for a statement takes the next one of the script.
+pub record TakeStep (script : Script) (s : State) (c : ℕ) (text : List ℕ) (answer : Option Answer) (t : State) : Type 0 where
+  pub place : ℕ
+  pub client_slot : ClientSlot
+  pub gate : Gate
+  pub client : ClientAt
+  pub number : c ≡ suc place
+  pub at : slice_get s.client_slots place ≡ Some client_slot
+  pub goes_on : client_slot.stopped ≡ false
+  pub idle : IsIdle client_slot.client
+  pub next : slice_get (texts_of script.clients c) client_slot.accepted ≡ Some text
+  pub gated : IsGateAt gate s.client_slots place
+  pub small : client.begun < 2 ^ 64
+  pub takes : TextStep (record { catalog = script.catalog; now = s.clock; gate = gate; fresh = next_id client_slot.client }) text client_slot.client answer client
+  pub left : t ≡ with_client_at s place (client_after client_slot 1 client)
+
+-- A client that hasn't stopped makes the call that it has pending, and takes a reply that this can get.
+pub record CallStep (s : State) (c : ℕ) (q : Request) (r : Reply) (answer : Option Answer) (t : State) : Type 0 where
+  pub place : ℕ
+  pub client_slot : ClientSlot
+  pub client : ClientAt
+  pub number : c ≡ suc place
+  pub at : slice_get s.client_slots place ≡ Some client_slot
+  pub goes_on : client_slot.stopped ≡ false
+  pub pending : client_pending client_slot.client ≡ Some q
+  pub can : CanAnswer q r
+  pub stored : is_stored_reply r ≡ true
+  pub takes : ReplyPost client_slot.client client_slot.client.vacuum r s.clock answer client
+  pub left : t ≡ with_client_at s place (client_after client_slot 0 client)
+
+-- A client stops.
+pub record StopStep (s : State) (c : ℕ) (t : State) : Type 0 where
+  pub place : ℕ
+  pub client_slot : ClientSlot
+  pub number : c ≡ suc place
+  pub at : slice_get s.client_slots place ≡ Some client_slot
+  pub left : t ≡ with_client_at s place (client_stopped client_slot)
+
+-- An event is a step from one state to another.
+abbrev pub IsStepFrom : Script → State → Event → State → Type 0
+IsStepFrom script s (event.Take c text answer) t = TakeStep script s c text answer t
+IsStepFrom script s (event.Call c store q how r answer) t = CallStep s c q r answer t
+IsStepFrom script s (event.Stop c) t = StopStep s c t
+IsStepFrom script s (event.Clock moment) t = (is_moment moment ≡ true) × (t ≡ record { client_slots = s.client_slots; clock = moment })
+IsStepFrom script s (event.Idle c) t = t ≡ s
+
+-- Events lead from one state to another, one step each.
+abbrev pub IsPath : Script → State → List Event → State → Type 0
+IsPath script s [] t = t ≡ s
+IsPath script s (e ∷ es) t = (u : State) × IsStepFrom script s e u × IsPath script u es t
+
+-- Events lead to a state from an initial one.
+pub record IsReachedBy (script : Script) (events : List Event) (s : State) : Type 0 where
+  pub first : State
+  pub initial : IsInitial script first
+  pub path : IsPath script first events s
+
+-- Events are an execution of a script's clients: they lead from an initial state to another.
+pub record IsExecution (script : Script) (events : List Event) : Type 0 where
+  pub first : State
+  pub last : State
+  pub initial : IsInitial script first
+  pub path : IsPath script first events last

@@ -1,0 +1,25 @@
+-- The types of other crates that this crate speaks of.
+pub use Rattle.sdb_catalog.specs.declared.entry.Entry.{Entry}
+pub use Rattle.sdb_model.specs.declared.event.Event.{Event}
+pub use Rattle.sdb_model.specs.declared.event.How.{How}
+pub use Rattle.sdb_model.specs.declared.event.Point.{Point}
+pub use Rattle.sdb_model.specs.declared.event.TableDump.{TableDump}
+pub use Rattle.sdb_record.specs.declared.access.Image.{Image}
+pub use Rattle.sdb_record.specs.declared.coordinator.Decided.{Decided}
+pub use Rattle.sdb_record.specs.declared.coordinator.Decision.{Decision}
+pub use Rattle.sdb_record.specs.declared.meta.Meta.{Meta}
+pub use Rattle.sdb_record.specs.declared.meta.MetaRefused.{MetaRefused}
+pub use Rattle.sdb_schema.specs.declared.table.Table.{Table}
+pub use Rattle.sdb_types.specs.declared.key.Key.{Key}
+pub use Rattle.sdb_types.specs.declared.key.TableName.{TableName}
+pub use Rattle.sdb_types.specs.declared.pair.Pair.{Pair}
+pub use Rattle.sdb_types.specs.declared.place.Place.{Place}
+pub use Rattle.sdb_types.specs.declared.record.Condition.{Condition}
+pub use Rattle.sdb_types.specs.declared.record.Record.{Record}
+pub use Rattle.sdb_types.specs.declared.record.Reply.{Reply}
+pub use Rattle.sdb_types.specs.declared.record.Request.{Request}
+pub use Rattle.sdb_types.specs.declared.record.Span.{Span}
+pub use Rattle.sdb_types.specs.declared.record.State.{State}
+pub use Rattle.sdb_types.specs.declared.txid.TxId.{TxId}
+pub use Rattle.sdb_types.specs.declared.value.Value.{Value}
+pub use Rattle.std.specs.declared.cmp.Ordering.{Ordering}

@@ -1,0 +1,94 @@
+//! The last prepare of each transaction.
+ghost use Rattle.std.specs.Prelude.{◌≡◌, ◌<◌, ◌^◌, ◌||◌, if◌then◌else◌, IfOk, OnOk, Some};
+ghost use Rattle.std.specs.Option.{option_copied};
+ghost use Rattle.std.specs.Ordering.{nat_cmp};
+ghost use Rattle.std.specs.BTreeMap.{get};
+ghost use Rattle.sdb_types.specs.declared.record.State.TheVariants.{Deleted, Prepared};
+ghost use Rattle.sdb_types.specs.declared.txid.TxId.{TxId};
+ghost use Rattle.sdb_types.specs.Contents.{is_version};
+ghost use Rattle.sdb_record.specs.Ids.{id_of_text};
+ghost use Rattle.sdb_record.specs.Meta.{id_in, id_in_value};
+ghost use Rattle.sdb_model.specs.Transactions.{is_prepared_by, last_prepare, prepares};
+ghost use Rattle.sdb_contents.specs.Order.{is_of};
+
+use sdb_model::{Event, How};
+use sdb_record::has_version;
+use sdb_types::{Columns, Known, Name, NoMemory, Record, Reply, Request, State, TxId, Txt, Value};
+use std::alloc::Global;
+use std::collections::BTreeMap;
+
+fn read_id(text: &Txt) -> Option<TxId>
+    ensures { result ≡ id_of_text text.now }
+{
+    TxId::from_text(text)
+}
+
+fn id_of(value: Option<&Value>) -> Option<TxId>
+    ensures { result ≡ id_in_value (option_copied value.entry) }
+{
+    match value {
+        Some(Value::Text(text)) => read_id(text),
+        _ => None,
+    }
+}
+
+fn writer_of(columns: &Columns) -> Option<TxId>
+    ensures { result ≡ id_in columns.now }
+{
+    id_of(columns.get(&Name::known(Known::TxId)))
+}
+
+fn is_prepare(rec: &Record, id: TxId) -> bool
+    ensures { result ≡ (is_version id Prepared rec.now || is_version id Deleted rec.now) }
+{
+    has_version(rec, id, State::Prepared) || has_version(rec, id, State::Deleted)
+}
+
+// The transaction whose prepare a record is.
+fn preparer(rec: &Record) -> Option<TxId>
+    ensures { (id : TxId) → id.0 < 2 ^ 128 → (is_version id Prepared rec.now || is_version id Deleted rec.now) ≡ is_of id result }
+{
+    let id = writer_of(&rec.columns)?;
+    if is_prepare(rec, id) { Some(id) } else { None }
+}
+
+fn prepared_in(request: &Request) -> Option<TxId>
+    ensures { (id : TxId) → id.0 < 2 ^ 128 → prepares id request.now ≡ is_of id result }
+{
+    match request {
+        Request::PutIf(rec, _) => preparer(rec),
+        _ => None,
+    }
+}
+
+// The transaction of which an event is a prepare that was seen and applied.
+fn prepared_by(event: &Event) -> Option<TxId>
+    ensures { (id : TxId) → id.0 < 2 ^ 128 → is_prepared_by id event.now ≡ is_of id result }
+{
+    match event {
+        Event::Call(_, _, request, How::Seen, Reply::Applied, _) => prepared_in(request),
+        _ => None,
+    }
+}
+
+fn add_prepare(found: &mut BTreeMap<u128, u64>, number: u64, event: &Event) -> Result<(), NoMemory>
+    ensures { OnOk result ((id : TxId) → id.0 < 2 ^ 128 → get nat_cmp found.new id.0 ≡ (if is_prepared_by id event.now then Some number else get nat_cmp found.old id.0)) }
+{
+    if let Some(id) = prepared_by(event) {
+        found.insert(id.0, number)?;
+    }
+    Ok(())
+}
+
+/// Of each transaction, the number of its last prepare that was seen and applied.
+pub fn last_prepares(alloc: Global, events: &[Event]) -> Result<BTreeMap<u128, u64>, NoMemory>
+    ensures { IfOk result (λ found. (id : TxId) → id.0 < 2 ^ 128 → get nat_cmp found id.0 ≡ last_prepare events.now id) }
+{
+    let mut found = BTreeMap::new(alloc);
+    let mut i = 0;
+    while i < events.len() {
+        add_prepare(&mut found, i as u64 + 1, &events[i])?;
+        i += 1;
+    }
+    Ok(found)
+}

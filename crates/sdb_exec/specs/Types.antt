@@ -1,0 +1,21 @@
+-- The types of other crates that this crate speaks of.
+pub use Rattle.sdb_model.specs.declared.answer.Answer.{Answer}
+pub use Rattle.sdb_model.specs.declared.answer.Refusal.{Refusal}
+pub use Rattle.sdb_model.specs.declared.statement.Insert.{Insert}
+pub use Rattle.sdb_model.specs.declared.statement.Mention.{Mention}
+pub use Rattle.sdb_model.specs.declared.statement.Statement.{Statement}
+pub use Rattle.sdb_model.specs.declared.statement.Test.{Test}
+pub use Rattle.sdb_record.specs.declared.access.Access.{Access}
+pub use Rattle.sdb_record.specs.declared.access.Image.{Image}
+pub use Rattle.sdb_record.specs.declared.write.Change.{Change}
+pub use Rattle.sdb_record.specs.declared.write.Keyed.{Keyed}
+pub use Rattle.sdb_schema.specs.declared.make.TableRefused.{TableRefused}
+pub use Rattle.sdb_schema.specs.declared.table.Column.{Column}
+pub use Rattle.sdb_schema.specs.declared.table.Kind.{Kind}
+pub use Rattle.sdb_schema.specs.declared.table.Order.{Order}
+pub use Rattle.sdb_schema.specs.declared.table.Table.{Table}
+pub use Rattle.sdb_types.specs.declared.key.Key.{Key}
+pub use Rattle.sdb_types.specs.declared.key.TableName.{TableName}
+pub use Rattle.sdb_types.specs.declared.pair.Pair.{Pair}
+pub use Rattle.sdb_types.specs.declared.value.Value.{Value}
+pub use Rattle.std.specs.declared.cmp.Ordering.{Ordering}

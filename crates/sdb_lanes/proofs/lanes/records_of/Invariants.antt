@@ -1,7 +1,0 @@
-use Rattle.std.proofs.Common.{◌≡◌, [], drop}
-use Rattle.std.specs.Prelude.{fold}
-use Rattle.sdb_lanes.specs.Lanes.{with_record_of}
-use Rattle.sdb_lanes.proofs.lanes.records_of.Given as goal
-
-abbrev pub invariant-loop-event : goal.invariant-loop-event
-invariant-loop-event l = fold with_record_of l.records (drop l.event-index l.events) ≡ fold with_record_of [] l.events

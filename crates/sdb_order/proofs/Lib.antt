@@ -1,4 +1,0 @@
-pub mod Saying
-pub mod Ended
-pub mod Prepared
-pub mod Rising

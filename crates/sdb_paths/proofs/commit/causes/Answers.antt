@@ -1,5 +1,0 @@
-use Rattle.sdb_paths.proofs.Laws.{conflict_shown, conflict_unput, expired_given, starved_put}
-use Rattle.sdb_paths.proofs.commit.causes.Goals as goal
-
-pub returns : goal.returns
-returns c = record { conflict = conflict_shown; undecided = conflict_unput; expired = expired_given; out_of_memory = starved_put }

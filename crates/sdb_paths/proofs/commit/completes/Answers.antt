@@ -1,5 +1,0 @@
-use Rattle.sdb_paths.proofs.Course.{puts_decision, goes_further, ends_well, commits_well}
-use Rattle.sdb_paths.proofs.commit.completes.Goals as goal
-
-pub returns : goal.returns
-returns c = record { decides = puts_decision; goes_on = goes_further; ends = ends_well; committed = commits_well }

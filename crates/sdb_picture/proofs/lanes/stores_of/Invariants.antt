@@ -1,0 +1,7 @@
+use Rattle.std.proofs.Common.{◌≡◌, [], drop}
+use Rattle.std.specs.Prelude.{fold}
+use Rattle.sdb_picture.specs.Lanes.{with_store_of}
+use Rattle.sdb_picture.proofs.lanes.stores_of.Given as goal
+
+abbrev pub invariant-loop-event : goal.invariant-loop-event
+invariant-loop-event l = fold with_store_of l.stores (drop l.event-index l.events) ≡ fold with_store_of [] l.events

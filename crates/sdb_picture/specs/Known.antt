@@ -1,0 +1,98 @@
+-- What is known of the record at a key of a store, after some events.
+use Rattle.std.specs.Prelude.{ℕ, Bool, true, false, not, ◌&&◌, if◌then◌else◌, List, fold, length, position, unwrap_or, Option, Some, None}
+use Rattle.sdb_types.specs.Contents.{holds}
+use Rattle.sdb_picture.specs.Types.{Event, How, Key, Record, Reply, Request}
+use Rattle.sdb_types.specs.declared.record.Request.TheVariants as ask
+use Rattle.sdb_model.specs.Rows.{Name}
+use Rattle.sdb_model.specs.declared.event.Event.TheVariants as event
+use Rattle.sdb_model.specs.declared.event.How.TheVariants.{Seen, Lost, Discarded, Broken}
+use Rattle.sdb_picture.specs.declared.effect.Effect.{Effect}
+use Rattle.sdb_picture.specs.declared.effect.Effect.TheVariants as effect
+use Rattle.sdb_picture.specs.Effects.{effect_seen, may_change, writes_at}
+
+-- What is at a key, where it is known at all.
+pub record Known : Type 0 where
+  pub sure : Bool
+  pub found : Option Record
+
+abbrev pub known : Bool → Option Record → Known
+known sure found = record { sure = sure; found = found }
+
+---- one write
+
+-- the record that a request puts
+abbrev pub put_by : Request → Option Record
+put_by (ask.Get key) = None
+put_by (ask.Scan span) = None
+put_by (ask.PutIf r condition) = Some r
+put_by (ask.DeleteIf key condition) = None
+
+-- The condition of a write holds of what is at its key.
+abbrev pub is_met : Request → Option Record → Bool
+is_met (ask.Get key) found = false
+is_met (ask.Scan span) found = false
+is_met (ask.PutIf r condition) found = holds condition found
+is_met (ask.DeleteIf key condition) found = holds condition found
+
+-- A lost write was made: it took effect exactly where its condition held.
+abbrev pub effect_lost : Bool → Bool → Effect
+effect_lost false met = effect.Doubtful
+effect_lost true met = if met then effect.Sure else effect.Nothing
+
+-- A failed one had its whole effect or none, and none where its condition didn't hold.
+abbrev pub effect_failed : Bool → Bool → Effect
+effect_failed sure met = if sure && not met then effect.Nothing else effect.Doubtful
+
+-- Whether a write took effect where this was at its key. A dropped one was not made.
+abbrev pub effect_in : Known → Request → How → Reply → Effect
+effect_in k request Seen r = effect_seen r
+effect_in k request Lost r = effect_lost k.sure (is_met request k.found)
+effect_in k request Discarded r = effect.Nothing
+effect_in k request Broken r = effect_failed k.sure (is_met request k.found)
+
+-- what is known after it
+abbrev pub after : Known → Request → Effect → Known
+after k request effect.Sure = known true (put_by request)
+after k request effect.Doubtful = known false None
+after k request effect.Nothing = k
+
+---- events
+
+abbrev pub left_by : Name → Key → Known → Event → Known
+left_by store key k (event.Take client text given) = k
+left_by store key k (event.Call client at request how r given) =
+    if writes_at at request store key then after k request (effect_in k request how r) else k
+left_by store key k (event.Stop client) = k
+left_by store key k (event.Clock moment) = k
+left_by store key k (event.Idle client) = k
+
+-- Nothing is there before the first event.
+abbrev pub known_after : Name → Key → List Event → Known
+known_after store key events = fold (left_by store key) (known true None) events
+
+-- An event changes the record at a key of a store, or may have changed it.
+abbrev pub changes : Known → Name → Key → Event → Bool
+changes k store key (event.Take client text given) = false
+changes k store key (event.Call client at request how r given) =
+    writes_at at request store key && may_change (effect_in k request how r)
+changes k store key (event.Stop client) = false
+changes k store key (event.Clock moment) = false
+changes k store key (event.Idle client) = false
+
+-- how many events come before the first that changes what is known of a record
+abbrev pub next_change : Known → Name → Key → List Event → Option ℕ
+next_change k store key rest = position (changes k store key) rest
+
+-- up to that, or to the end
+abbrev pub rows_before_change : Known → Name → Key → List Event → ℕ
+rows_before_change k store key rest = unwrap_or (next_change k store key rest) (length rest)
+
+---- a write among events
+
+-- Whether a write of a record took effect, by the events before it.
+abbrev pub effect_at : List Event → Name → Key → Request → How → Reply → Effect
+effect_at past store key request how r = effect_in (known_after store key past) request how r
+
+-- How many of the events after a write come before the next change of its record.
+abbrev pub rows_after : List Event → Name → Key → Request → Effect → List Event → ℕ
+rows_after past store key request effect rest = rows_before_change (after (known_after store key past) request effect) store key rest

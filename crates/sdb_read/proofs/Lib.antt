@@ -1,4 +1,0 @@
-pub mod Firm
-pub mod Places
-pub mod Images
-pub mod Keeps

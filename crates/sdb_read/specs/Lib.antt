@@ -1,4 +1,0 @@
-pub mod Read
-pub mod Rows
-pub mod Inside
-pub mod Valid

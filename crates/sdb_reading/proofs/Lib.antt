@@ -1,9 +1,0 @@
-pub mod WordLaws
-pub mod NumberLaws
-pub mod Lists
-pub mod ValueLaws
-pub mod KeyLaws
-pub mod AnswerLaws
-pub mod RequestLaws
-pub mod EventLaws
-pub mod LineLaws

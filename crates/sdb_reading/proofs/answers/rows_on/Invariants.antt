@@ -1,7 +1,0 @@
-use Rattle.std.proofs.Common.{◌≡◌, [], ◌-◌}
-use Rattle.sdb_reading.specs.Reading.{counted, row_at}
-use Rattle.sdb_reading.specs.Lines.{behind_space}
-use Rattle.sdb_reading.proofs.answers.rows_on.Given as goal
-
-abbrev pub invariant-loop : goal.invariant-loop
-invariant-loop l = counted (behind_space row_at) (l.count - l.counter) l.rows l.rest ≡ counted (behind_space row_at) l.count [] l.bytes

@@ -1,8 +1,0 @@
-use Rattle.sdb_reading.proofs.LineLaws.{event_one, row_one}
-use Rattle.sdb_reading.proofs.laws.one_line.Goals as goal
-
-pub returns-clause-events : goal.returns-clause-events
-returns-clause-events c = event_one
-
-pub returns-clause-rows : goal.returns-clause-rows
-returns-clause-rows c = row_one

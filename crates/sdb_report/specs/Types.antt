@@ -1,0 +1,20 @@
+-- The types of other crates that this crate speaks of.
+pub use Rattle.hex.specs.declared.error.FromHexError.{FromHexError}
+pub use Rattle.sdb_codec.specs.declared.refused.Stopped.{Stopped}
+pub use Rattle.sdb_model.specs.declared.answer.Answer.{Answer}
+pub use Rattle.sdb_model.specs.declared.event.Event.{Event}
+pub use Rattle.sdb_model.specs.declared.event.How.{How}
+pub use Rattle.sdb_model.specs.declared.event.Outcome.{Outcome}
+pub use Rattle.sdb_model.specs.declared.event.Point.{Point}
+pub use Rattle.sdb_model.specs.declared.event.TableDump.{TableDump}
+pub use Rattle.sdb_types.specs.declared.key.Key.{Key}
+pub use Rattle.sdb_types.specs.declared.key.TableName.{TableName}
+pub use Rattle.sdb_types.specs.declared.pair.Pair.{Pair}
+pub use Rattle.sdb_types.specs.declared.record.Condition.{Condition}
+pub use Rattle.sdb_types.specs.declared.record.Record.{Record}
+pub use Rattle.sdb_types.specs.declared.record.Reply.{Reply}
+pub use Rattle.sdb_types.specs.declared.record.Request.{Request}
+pub use Rattle.sdb_types.specs.declared.record.Span.{Span}
+pub use Rattle.sdb_types.specs.declared.record.State.{State}
+pub use Rattle.sdb_types.specs.declared.txid.TxId.{TxId}
+pub use Rattle.sdb_types.specs.declared.value.Value.{Value}

@@ -1,6 +1,0 @@
-use Rattle.std.proofs.Common.{◌≡◌, take}
-use Rattle.sdb_retire.specs.Moving.{renewals}
-use Rattle.sdb_retire.proofs.moving.renewals.Given as goal
-
-abbrev pub invariant-loop-entry : goal.invariant-loop-entry
-invariant-loop-entry l = l.requests ≡ renewals l.from l.to (take l.entry-index l.entries)

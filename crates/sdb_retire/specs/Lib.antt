@@ -1,9 +1,0 @@
-pub mod Stopped
-pub mod Writes
-pub mod Moving
-pub mod Copying
-pub mod Read
-pub mod Retired
-pub mod Joined
-pub mod Imaged
-pub mod Dropped

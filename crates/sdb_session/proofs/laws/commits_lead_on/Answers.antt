@@ -1,5 +1,0 @@
-use Rattle.sdb_session.proofs.Commits.{commits}
-use Rattle.sdb_session.proofs.laws.commits_lead_on.Goals as goal
-
-pub returns : goal.returns
-returns c = λ r. commits r.catalog r.apart r.start r.sound r.work r.g r.h r.stage r.request r.reply r.alone r.asked r.called

@@ -1,5 +1,0 @@
-use Rattle.sdb_session.proofs.Recovers.{recovers}
-use Rattle.sdb_session.proofs.laws.recoveries_lead_on.Goals as goal
-
-pub returns : goal.returns
-returns c = λ r. recovers r.catalog r.apart r.found r.meta r.now r.time r.g r.h r.phase r.request r.reply r.sound r.alone r.asked r.called

@@ -1,6 +1,0 @@
-use Rattle.sdb_session.proofs.Fresh.{fresh_ids}
-use Rattle.sdb_session.proofs.Steps.{session_serial}
-use Rattle.sdb_session.proofs.laws.sessions_are_serial.Goals as goal
-
-pub returns : goal.returns
-returns c = λ s. session_serial s.catalog s.apart s.opening s.before s.sound s.are_images s.fit s.exchanges s.last (fresh_ids s.catalog s.apart s.opening s.before s.exchanges s.new) s.chain

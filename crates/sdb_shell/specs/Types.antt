@@ -1,0 +1,24 @@
+-- The types of other crates that this crate speaks of.
+pub use Rattle.hex.specs.declared.error.FromHexError.{FromHexError}
+pub use Rattle.sdb_data.specs.declared.fault.CsvFault.{CsvFault}
+pub use Rattle.sdb_data.specs.declared.fault.Mode.{Mode}
+pub use Rattle.sdb_data.specs.declared.field.Head.{Head}
+pub use Rattle.sdb_data.specs.declared.header.ColumnTaken.{ColumnTaken}
+pub use Rattle.sdb_model.specs.declared.answer.Answer.{Answer}
+pub use Rattle.sdb_model.specs.declared.answer.Refusal.{Refusal}
+pub use Rattle.sdb_model.specs.declared.statement.Insert.{Insert}
+pub use Rattle.sdb_model.specs.declared.statement.Statement.{Statement}
+pub use Rattle.sdb_model.specs.declared.statement.Test.{Test}
+pub use Rattle.sdb_model.specs.declared.statement.Update.{Update}
+pub use Rattle.sdb_model.specs.declared.token.Keyword.{Keyword}
+pub use Rattle.sdb_model.specs.declared.token.Token.{Token}
+pub use Rattle.sdb_schema.specs.declared.table.Column.{Column}
+pub use Rattle.sdb_schema.specs.declared.table.Kind.{Kind}
+pub use Rattle.sdb_schema.specs.declared.table.Table.{Table}
+pub use Rattle.sdb_types.specs.declared.memory.NoMemory.{NoMemory}
+pub use Rattle.sdb_types.specs.declared.pair.Pair.{Pair}
+pub use Rattle.sdb_types.specs.declared.place.Place.{Place}
+pub use Rattle.sdb_types.specs.declared.record.Reply.{Reply}
+pub use Rattle.sdb_types.specs.declared.record.Request.{Request}
+pub use Rattle.sdb_types.specs.declared.txid.TxId.{TxId}
+pub use Rattle.sdb_types.specs.declared.value.Value.{Value}

@@ -1,5 +1,0 @@
-use Rattle.sdb_sqltokens.proofs.Words.{identifier_is_text}
-use Rattle.sdb_sqltokens.proofs.lexer.name_token.Goals as goal
-
-pub unreachable-requires : goal.unreachable-requires
-unreachable-requires c = c.in_default.ensures.cases.0 (identifier_is_text c.args.word.now c.requires)

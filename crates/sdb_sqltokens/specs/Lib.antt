@@ -1,4 +1,0 @@
-pub mod Lexing
-pub mod Printed
-pub mod Spelled
-pub mod OneWord

@@ -1,2 +1,0 @@
-pub mod Doubled
-pub mod Pieces
