@@ -11,15 +11,13 @@ use Rattle.check_answers.specs.Types.{Answer, Event, Image, Key, Pair, Select, S
 use Rattle.sdb_types.specs.Exact.{equal_of}
 use Rattle.sdb_types.specs.Order.{value_cmp}
 use Rattle.sdb_types.specs.ValueLaws.{value_exact, value_total}
-use Rattle.sdb_types.proofs.Basics.{all_each, clash}
-use Rattle.sdb_types.proofs.Bools.{and_first as left}
+use Rattle.sdb_types.proofs.Public.{all_each, and_both as both, and_first as left, clash}
 use Rattle.sdb_model.specs.declared.answer.Answer.TheVariants as answer
 use Rattle.sdb_model.specs.declared.statement.Statement.TheVariants as statement
 use Rattle.sdb_model.specs.Exec.{find_table, projected}
 use Rattle.sdb_model.specs.DirtyReads.{HasRow, KeyHasRow, AnswersAreOf, RowsAreOf}
 use Rattle.sdb_model.specs.Transactions.{Executed, client_of, statements_of}
-use Rattle.check_protocol.proofs.Lists.{In, all_each as each_in, any_some, each_all, right, some_any}
-use Rattle.sdb_types.proofs.Bools.{and_both as both}
+use Rattle.check_protocol.proofs.Public.{all_each as each_in, any_some, each_all, In, right, some_any}
 use Rattle.check_answers.proofs.Finds.{contains_in, in_contains}
 use Rattle.check_answers.specs.declared.stores.Stores.{Stores}
 use Rattle.check_answers.specs.declared.turn.Turn.{Turn}

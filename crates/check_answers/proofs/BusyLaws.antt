@@ -12,15 +12,12 @@ use Rattle.sdb_model.specs.Calls as calls
 use Rattle.sdb_model.specs.Calls.{calls_of, clock_at, is_read, records_read}
 use Rattle.sdb_model.specs.Causes.{IsBusy, IsEarly}
 use Rattle.sdb_model.specs.Transactions.{Executed}
-use Rattle.check_protocol.proofs.Lists.{right, not_true, true_not, any_some, some_any}
-use Rattle.check_protocol.proofs.ShownLaws.{number_is, is_number}
+use Rattle.check_protocol.proofs.Public.{any_some, is_number, not_true, number_is, right, some_any, true_not}
 use Rattle.check_tables.specs.Values.{all_made, made_of}
 use Rattle.check_answers.specs.Tests.{busy_among, gets_none, is_at, is_early, is_id, looks_early, prepared_moment}
 use Rattle.check_answers.proofs.Finds.{in_contains, contains_in, kept_in, in_kept, made_in, in_made, made_contained, contained_made}
-use Rattle.sdb_types.proofs.Basics.{clash}
-use Rattle.sdb_types.proofs.Bools.{and_first as left, and_both as both}
+use Rattle.sdb_types.proofs.Public.{and_both as both, and_first as left, clash, same_key_exact, same_key_of}
 use Rattle.sdb_types.specs.Order.{same_key}
-use Rattle.sdb_types.proofs.Keys.{same_key_exact, same_key_of}
 
 ---- single values
 

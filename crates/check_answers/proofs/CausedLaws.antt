@@ -7,15 +7,13 @@ use Rattle.check_answers.specs.Types.{Answer, Event, Table}
 use Rattle.sdb_model.specs.declared.answer.Answer.TheVariants as answer
 use Rattle.sdb_model.specs.Causes.{AreCaused, IsRejected, before}
 use Rattle.sdb_model.specs.Transactions.{Executed, statements_by}
-use Rattle.check_protocol.proofs.Lists.{none_some, right, In}
-use Rattle.check_protocol.proofs.ShownLaws.{number_is, is_number}
+use Rattle.check_protocol.proofs.Public.{In, is_number, none_some, number_is, right}
 use Rattle.check_tables.specs.Values.{taker}
 use Rattle.check_answers.specs.Tests.{IsAnsweredWith, IsTurned, IsTurnedIfDue, answered_with, is_no_memory, same_answer, AreTakersWell, IsWellAnswered}
 use Rattle.check_answers.proofs.Finds.{in_contains, contains_in}
 use Rattle.check_answers.proofs.SameLaws.{answer_is, is_answer}
 use Rattle.check_answers.proofs.TurnedLaws.{taken_by}
-use Rattle.sdb_types.proofs.Basics.{clash, or_second as or_right, some_is, either}
-use Rattle.sdb_types.proofs.Bools.{and_first as left, and_both as both}
+use Rattle.sdb_types.proofs.Public.{and_both as both, and_first as left, clash, either, or_second as or_right, some_is}
 
 pub by_in : {X : Type 0} (P : X → Type 0) (xs : List X) (x : X) → AllByRecursion P xs → In xs x → P x
 by_in P [] x all i = absurd i

@@ -13,15 +13,14 @@ use Rattle.sdb_model.specs.Calls as calls
 use Rattle.sdb_model.specs.Calls.{calls_of, decision_learned, is_of_row, put_by}
 use Rattle.sdb_model.specs.Causes.{IsCommitOf, IsDecided, IsExpired, IsOfCommit, IsUnknown, PutsRow}
 use Rattle.sdb_model.specs.Transactions.{Executed}
-use Rattle.check_protocol.proofs.Lists.{right, not_true, true_not, not_both, In, any_some, some_any}
+use Rattle.check_protocol.proofs.Public.{any_some, In, not_both, not_true, right, some_any, true_not}
 use Rattle.check_tables.specs.Values.{all_made, asks_row, decision_found_at, made_of}
 use Rattle.check_answers.specs.Tests.{any_id, commits_as, is_commit_of, expired_among, fails_later, found_aborted, has_failed, is_decided, is_lost_put, put_before, puts_row, unknown_among}
 use Rattle.check_answers.proofs.IdLaws.{commit_found, commit_is, id_some, is_commit}
 use Rattle.check_answers.proofs.Finds.{in_contains, contains_in, kept_in, in_kept, made_in, in_made, made_contained, contained_made}
-use Rattle.sdb_types.proofs.Basics.{clash, decides as decide}
-use Rattle.sdb_types.proofs.Bools.{and_first as left, and_both as both}
+use Rattle.sdb_types.proofs.Public.{and_both as both, and_first as left, clash, decides as decide}
 use Rattle.sdb_types.specs.Replies.{is_fault}
-use Rattle.sdb_record.proofs.States.{decision_itself}
+use Rattle.sdb_record.proofs.Public.{decision_itself}
 
 decision_is : (a b : Decision) → same_decision a b ≡ true → a ≡ b
 decision_is decision.Committed decision.Committed h = refl

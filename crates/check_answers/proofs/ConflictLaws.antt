@@ -18,16 +18,14 @@ use Rattle.sdb_model.specs.ReadSet.{ReadItem, KeyRead, SpanRead, meaning_of, rea
 use Rattle.sdb_model.specs.Sql.{reads_commit}
 use Rattle.sdb_model.specs.Requests.{records_put}
 use Rattle.sdb_model.specs.Transactions.{Executed, is_prepared_record}
-use Rattle.sdb_model.proofs.Requests.{PreparesAt, in_only, only_put, shown_unmet, unmet_shown}
-use Rattle.check_protocol.proofs.Lists.{none_some, right, or_left, not_true, true_not, In, any_some, some_any}
+use Rattle.sdb_model.proofs.Public.{in_only, only_put, PreparesAt, shown_unmet, unmet_shown}
+use Rattle.check_protocol.proofs.Public.{any_some, In, none_some, not_true, or_left, right, some_any, true_not}
 use Rattle.check_tables.specs.Values.{all_made, made_of}
 use Rattle.check_answers.specs.Tests.{any_id, base_put, conflict_at_commit, conflict_at_scan, conflict_of, get_observes, has_changed_from, has_prepared, is_commit_of, is_found_by, is_in, is_changed, is_rebased, is_unmet, not_met_as, read_observes, same_found, scan_differs, scan_observes, scan_observes_by, means, means_by}
 use Rattle.check_answers.proofs.Finds.{in_contains, contains_in, made_contained, contained_made, found_is, is_found}
 use Rattle.check_answers.proofs.IdLaws.{commit_is, is_commit, in_is, is_in_of, id_some, commit_found, in_found}
-use Rattle.sdb_types.proofs.Basics.{clash, or_second as or_right, some_is, either}
-use Rattle.sdb_types.proofs.Bools.{and_first as left, and_both as both}
+use Rattle.sdb_types.proofs.Public.{and_both as both, and_first as left, clash, either, or_second as or_right, same_key_exact, same_key_of, some_is}
 use Rattle.sdb_types.specs.Order.{same_key}
-use Rattle.sdb_types.proofs.Keys.{same_key_exact, same_key_of}
 
 ---- what was noted
 

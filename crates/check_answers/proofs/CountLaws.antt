@@ -14,16 +14,14 @@ use Rattle.sdb_model.specs.Counted.{IsCommitCounted, IsReadCounted, IsVacuumCoun
 use Rattle.sdb_model.specs.ReadSet.{ReadItem, KeyRead, SpanRead, read_set_of, reads_rows}
 use Rattle.sdb_model.specs.Sql.{reads_commit, reads_vacuum}
 use Rattle.sdb_model.specs.Transactions.{Executed, id_of, prepares, statements_by, is_committed_answer}
-use Rattle.check_protocol.proofs.Lists.{In, right, or_left, not_true, true_not, not_both, all_each, each_all}
-use Rattle.check_protocol.proofs.ShownLaws.{number_is, is_number}
+use Rattle.check_protocol.proofs.Public.{all_each, each_all, In, is_number, not_both, not_true, number_is, or_left, right, true_not}
 use Rattle.check_tables.specs.Values.{all_made, made_of}
 use Rattle.check_answers.specs.Tests.{any_id, any_upto, is_commit_of}
 use Rattle.check_answers.proofs.Finds.{in_made, made_in, in_contains}
 use Rattle.check_answers.proofs.IdLaws.{commit_found, commit_is, is_commit, id_some, upto_step}
 use Rattle.check_answers.specs.Counts.{IsExecutedCounted, all_seen, commit_counted, covered, is_check, miscounted, others_counted, read_counted, unresolved_by, vacuum_counted, wanted}
 use Rattle.check_answers.proofs.Maps.{any_kept, count_both, count_mapped, filter_count, kept_count}
-use Rattle.sdb_types.proofs.Basics.{clash, or_second as or_right, either, decides as decide}
-use Rattle.sdb_types.proofs.Bools.{and_first as left, and_both as both}
+use Rattle.sdb_types.proofs.Public.{and_both as both, and_first as left, clash, decides as decide, either, or_second as or_right}
 
 le_is : (a b : ℕ) → nat_le a b ≡ true → a ≤ b
 le_is a b h = grind (arith, nat_tests, h)

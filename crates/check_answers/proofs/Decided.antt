@@ -16,8 +16,8 @@ use Rattle.check_answers.proofs.CommitLaws.{of_commit_is, is_of_commit, expired_
 use Rattle.check_answers.proofs.ConflictLaws.{conflict_is, is_conflict_of}
 use Rattle.check_answers.proofs.IdLaws.{commit_is, is_commit}
 use Rattle.check_answers.proofs.PlainLaws.{finds_is, is_finds, reply_is, is_reply}
-use Rattle.sdb_types.proofs.Basics.{clash}
-use Rattle.check_protocol.proofs.Lists.{not_both}
+use Rattle.sdb_types.proofs.Public.{clash}
+use Rattle.check_protocol.proofs.Public.{not_both}
 
 pub decide_by : {P : Type 0} (b t : Bool) → b ≡ t → (t ≡ true → P) → (P → t ≡ true) → IsTrue b ↔ P
 decide_by b t e f g = (λ h. f (sym e ∙ h), λ p. e ∙ g p)

@@ -5,12 +5,11 @@ use Rattle.std.specs.List.{list_any}
 use Rattle.check_answers.specs.Types.{Made, ReadItem, Record}
 use Rattle.sdb_model.specs.ReadSet as as_read
 use Rattle.check_protocol.specs.Values.{item_of}
-use Rattle.check_protocol.proofs.ShownLaws.{record_is, is_record}
+use Rattle.check_protocol.proofs.Public.{In, is_record, record_is}
 use Rattle.check_answers.specs.Tests.{same_found}
 use Rattle.sdb_model.specs.Calls as calls
-use Rattle.check_protocol.proofs.Lists.{In}
 use Rattle.check_tables.specs.Values.{all_made, all_items, made_of}
-use Rattle.sdb_types.proofs.Basics.{clash}
+use Rattle.sdb_types.proofs.Public.{clash}
 
 pub in_contains : {X : Type 0} (xs : List X) (x : X) → In xs x → Contains xs x
 in_contains [] x i = absurd i

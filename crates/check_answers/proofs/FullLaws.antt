@@ -11,13 +11,13 @@ use Rattle.sdb_model.specs.Calls.{records_read}
 use Rattle.sdb_model.specs.ReadSet.{has_read, reads_rows}
 use Rattle.sdb_model.specs.Causes.{MayPassMost, body_before, finished_before, may_pass, records_found, counted_by}
 use Rattle.sdb_model.specs.Transactions.{Executed, client_of, id_of, is_effective, ordinal_of, statements_by}
-use Rattle.check_protocol.proofs.Lists.{right}
+use Rattle.check_protocol.proofs.Public.{right}
 use Rattle.check_tables.specs.Values.{all_made, inside_among, made_of}
 use Rattle.check_answers.specs.Tests.{IsReading, any_id, any_upto, found_among, found_by, found_left, is_in, passes_left, passes_most, total_before, written_left}
 use Rattle.check_answers.proofs.Decided.{decide_by}
 use Rattle.check_answers.proofs.IdLaws.{id_some, in_found, in_is, is_in_of}
 use Rattle.check_answers.proofs.ReadLaws.{passed, read}
-use Rattle.sdb_types.proofs.Bools.{and_first as left, and_both as both}
+use Rattle.sdb_types.proofs.Public.{and_both as both, and_first as left}
 
 ---- sums
 

@@ -5,8 +5,7 @@ use Rattle.std.specs.List.{flat_map, list_any}
 use Rattle.std.specs.Option.{option_map_or}
 use Rattle.check_answers.specs.Types.{Event, Image, Key, Pair, Request, Statement, Table}
 use Rattle.sdb_types.specs.declared.record.Request.TheVariants as ask
-use Rattle.sdb_types.proofs.Basics.{clash}
-use Rattle.sdb_types.proofs.Keys.{same_key_exact, same_key_of}
+use Rattle.sdb_types.proofs.Public.{clash, same_key_exact, same_key_of}
 use Rattle.sdb_model.specs.DirtyReads.{CommittedBy, ReadsKey, StartsWith, row_left}
 use Rattle.sdb_model.specs.Serial.{AreRead}
 use Rattle.sdb_model.specs.Calls.{calls_of}
@@ -14,7 +13,7 @@ use Rattle.sdb_model.specs.ReadSet.{has_finished, has_read}
 use Rattle.sdb_model.specs.Transactions.{Executed, is_effective}
 use Rattle.sdb_snapshot.specs.Seen.{images_with}
 use Rattle.sdb_contents.specs.Commits.{executed_of}
-use Rattle.check_protocol.proofs.Lists.{In, any_some, some_any}
+use Rattle.check_protocol.proofs.Public.{any_some, In, some_any}
 use Rattle.check_tables.specs.Values.{all_made, made_of}
 use Rattle.check_answers.specs.Tests.{same_executed}
 use Rattle.check_answers.proofs.Finds.{contained_made, made_contained}

@@ -7,14 +7,12 @@ use Rattle.sdb_model.specs.Sql.{reads_commit}
 use Rattle.check_answers.specs.Types.{Event, TxId}
 use Rattle.sdb_model.specs.Causes.{IsCommitOf, IsIn}
 use Rattle.sdb_model.specs.Transactions.{Executed, begins, ends, rest_of, through_end, client_of, commit_of, from_begin, id_of, ordinal_of, statements_by, statements_of}
-use Rattle.check_protocol.proofs.Lists.{none_some, right, or_left, In, any_some, some_any}
-use Rattle.check_protocol.proofs.ShownLaws.{number_is, is_number}
+use Rattle.check_protocol.proofs.Public.{any_some, In, is_number, none_some, number_is, or_left, right, some_any}
 use Rattle.check_answers.specs.Tests.{any_id, any_upto, is_commit_of, is_in, is_executed, same_executed}
 use Rattle.check_answers.proofs.Finds.{in_contains, contains_in}
 use Rattle.check_answers.proofs.SameLaws.{said_is, said_itself, some_said, is_said_of}
-use Rattle.sdb_types.proofs.Basics.{clash, or_second as or_right, decides as decide, either}
-use Rattle.sdb_types.proofs.Bools.{and_first as left, and_both as both}
-use Rattle.sdb_model.proofs.Basics.{id_again}
+use Rattle.sdb_types.proofs.Public.{and_both as both, and_first as left, clash, decides as decide, either, or_second as or_right}
+use Rattle.sdb_model.proofs.Public.{id_again}
 
 ---- numbers up to one
 

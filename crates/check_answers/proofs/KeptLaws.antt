@@ -5,13 +5,13 @@ use Rattle.check_answers.specs.Types.{Event, Table, TxId}
 use Rattle.sdb_model.specs.Counted.{AreCounted, AreResolved}
 use Rattle.sdb_model.specs.Sql.{reads_commit}
 use Rattle.sdb_model.specs.Transactions.{Executed, begins, client_of, commit_of, ends, from_begin, ordinal_of, rest_of, statements_by}
-use Rattle.check_protocol.proofs.Lists.{In, found_in, none_some}
+use Rattle.check_protocol.proofs.Public.{found_in, In, none_some}
 use Rattle.check_answers.proofs.CausedLaws.{each_said, said_each}
 use Rattle.check_answers.proofs.Finds.{in_contains}
 use Rattle.check_answers.specs.declared.all.Law.TheVariants as law
 use Rattle.check_answers.specs.Counts.{IsExecutedCounted, IsExecutedResolved}
 use Rattle.check_answers.specs.OfClients.{HoldsOfClients}
-use Rattle.sdb_types.proofs.Basics.{some_is}
+use Rattle.sdb_types.proofs.Public.{some_is}
 
 -- the COMMIT of a transaction is a statement of its client
 in_begin : (k : ℕ) (ss : List Executed) (s : Executed) → In (from_begin k ss) s → In ss s

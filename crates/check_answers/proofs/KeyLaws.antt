@@ -10,7 +10,7 @@ use Rattle.check_answers.specs.Types.{Event, Image, Key, Pair, Place, Record, St
 use Rattle.sdb_types.specs.Contents.{Contents, record_at}
 use Rattle.sdb_types.specs.Exact.{equal_of}
 use Rattle.sdb_types.specs.Order.{key_cmp}
-use Rattle.sdb_types.proofs.KeyOrder.{key_exact, key_total}
+use Rattle.sdb_types.proofs.Public.{key_exact, key_total}
 use Rattle.sdb_record.specs.Rolls.{image_of, row_of_image}
 use Rattle.sdb_model.specs.declared.statement.Statement.TheVariants as statement
 use Rattle.sdb_model.specs.Events.{contents_under, moment, stored_at, store_of}
@@ -21,7 +21,7 @@ use Rattle.sdb_model.specs.DirtyReads.{row_left}
 use Rattle.sdb_model.specs.Serial.{AreRead}
 use Rattle.sdb_model.specs.Sql.{Reads}
 use Rattle.sdb_model.specs.Transactions.{Executed, is_effective}
-use Rattle.check_protocol.proofs.Lists.{In, found_in, none_some}
+use Rattle.check_protocol.proofs.Public.{found_in, In, none_some}
 use Rattle.check_answers.specs.declared.stores.StoreContents.{StoreContents}
 use Rattle.check_answers.specs.declared.stores.Stores.{Stores}
 use Rattle.check_answers.specs.declared.turn.Turn.{Turn}

@@ -1,25 +1,25 @@
-pub mod Finds
-pub mod BusyLaws
-pub mod SameLaws
-pub mod IdLaws
-pub mod CommitLaws
-pub mod ConflictLaws
-pub mod PlainLaws
-pub mod TurnedLaws
-pub mod CausedLaws
-pub mod Decided
-pub mod ReadLaws
-pub mod FullLaws
-pub mod MisfitLaws
-pub mod StoreLaws
-pub mod TurnLaws
-pub mod Members
-pub mod HadLaws
-pub mod KeyLaws
-pub mod AnswerLaws
-pub mod WholeLaws
-pub mod Maps
-pub mod CountLaws
-pub mod RollLaws
-pub mod KeptLaws
-pub mod Steps
+mod Finds
+mod BusyLaws
+mod SameLaws
+mod IdLaws
+mod CommitLaws
+mod ConflictLaws
+mod PlainLaws
+mod TurnedLaws
+mod CausedLaws
+mod Decided
+mod ReadLaws
+mod FullLaws
+mod MisfitLaws
+mod StoreLaws
+mod TurnLaws
+mod Members
+mod HadLaws
+mod KeyLaws
+mod AnswerLaws
+mod WholeLaws
+mod Maps
+mod CountLaws
+mod RollLaws
+mod KeptLaws
+mod Steps

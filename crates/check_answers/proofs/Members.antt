@@ -4,8 +4,8 @@ use Rattle.std.specs.Prelude.{nat_lt, if◌then◌else◌}
 use Rattle.std.specs.List.{flat_map}
 use Rattle.std.proofs.lemmas.Bool.Decides.{nat_tests}
 use Rattle.sdb_types.specs.declared.pair.Pair.{Pair}
-use Rattle.sdb_types.proofs.Basics.{lt_of}
-use Rattle.check_protocol.proofs.Lists.{In}
+use Rattle.sdb_types.proofs.Public.{lt_of}
+use Rattle.check_protocol.proofs.Public.{In}
 use Rattle.check_answers.specs.Rows.{rows_below}
 
 pub in_left : {X : Type 0} (xs ys : List X) (x : X) → In xs x → In (xs ++ ys) x

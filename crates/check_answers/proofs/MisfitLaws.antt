@@ -5,9 +5,7 @@ use Rattle.std.specs.List.{list_any}
 use Rattle.std.specs.Option.{option_map_or}
 use Rattle.check_answers.specs.Types.{Event, Key, Record, Statement, Table, TxId}
 use Rattle.sdb_types.specs.Order.{same_key}
-use Rattle.sdb_types.proofs.Basics.{at_most_nat, nat_at_most}
-use Rattle.sdb_types.proofs.Bools.{and_first as left, and_both as both}
-use Rattle.sdb_types.proofs.Keys.{same_key_exact, same_key_of}
+use Rattle.sdb_types.proofs.Public.{and_both as both, and_first as left, at_most_nat, nat_at_most, same_key_exact, same_key_of}
 use Rattle.sdb_model.specs.Access.{in_access}
 use Rattle.sdb_model.specs.Calls.{StoreCall, calls_of, records_read}
 use Rattle.sdb_model.specs.Causes.{MeetsMisfit, is_misfit}
@@ -15,7 +13,7 @@ use Rattle.sdb_model.specs.Exec.{named_table}
 use Rattle.sdb_model.specs.ReadSet.{has_read, reads_rows}
 use Rattle.sdb_model.specs.Reads.{access_of}
 use Rattle.sdb_model.specs.Transactions.{Executed, id_of, statements_by, statements_of}
-use Rattle.check_protocol.proofs.Lists.{any_some, not_both, right, some_any}
+use Rattle.check_protocol.proofs.Public.{any_some, not_both, right, some_any}
 use Rattle.check_answers.specs.Tests.{IsReading, any_id, any_misfit, any_upto, has_read_misfit, is_in, misfit_of, reads_at, reads_misfit}
 use Rattle.check_answers.proofs.Decided.{decide_by, never}
 use Rattle.check_answers.proofs.Finds.{contains_in, in_contains}

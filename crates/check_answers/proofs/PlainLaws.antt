@@ -10,14 +10,12 @@ use Rattle.sdb_model.specs.Calls as calls
 use Rattle.sdb_model.specs.Calls.{calls_of, records_observed}
 use Rattle.sdb_model.specs.Causes.{FindsBad, HasReply, IsBad}
 use Rattle.sdb_model.specs.Transactions.{Executed}
-use Rattle.check_protocol.proofs.Lists.{right, any_some, some_any}
+use Rattle.check_protocol.proofs.Public.{any_some, right, some_any}
 use Rattle.check_tables.specs.Values.{all_made, made_of}
 use Rattle.check_answers.specs.Tests.{is_bad, observes_bad}
 use Rattle.check_answers.proofs.Finds.{in_contains, contains_in, made_contained, contained_made}
-use Rattle.sdb_types.proofs.Basics.{clash}
-use Rattle.sdb_types.proofs.Bools.{and_first as left, and_both as both}
+use Rattle.sdb_types.proofs.Public.{and_both as both, and_first as left, clash, same_key_exact, same_key_of}
 use Rattle.sdb_types.specs.Order.{same_key}
-use Rattle.sdb_types.proofs.Keys.{same_key_exact, same_key_of}
 
 err_is : {A : Type 0} (x : Result A (List ℕ)) → is_none (result_ok x) ≡ true → (name : List ℕ) × (x ≡ Err name)
 err_is (Ok a) h = clash (sym h)

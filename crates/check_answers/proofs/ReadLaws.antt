@@ -12,12 +12,11 @@ use Rattle.sdb_model.specs.Causes.{IsCounted, before, is_open, is_select, remove
 use Rattle.sdb_model.specs.Transactions.{Executed}
 use Rattle.sdb_model.specs.Calls.{calls_of}
 use Rattle.check_tables.specs.Values.{all_made, made_of}
-use Rattle.check_protocol.proofs.ShownLaws.{number_is, is_number}
+use Rattle.check_protocol.proofs.Public.{is_number, number_is}
 use Rattle.check_answers.specs.Tests.{Inserts, IsOfCount, IsOfDone, IsOfDuplicate, IsOfRows, IsReading, counts_so, is_done, removed_by}
 use Rattle.check_answers.proofs.Decided.{never}
-use Rattle.sdb_types.proofs.Basics.{clash, some_is}
+use Rattle.sdb_types.proofs.Public.{clash, same_key_exact, same_key_of, some_is}
 use Rattle.sdb_types.specs.Order.{same_key}
-use Rattle.sdb_types.proofs.Keys.{same_key_exact, same_key_of}
 
 module _ (s : Executed) (o : Option Statement) (reading : IsReading s.text o) where
   pub read : (st : Statement) → Reads s.text st → o ≡ Some st

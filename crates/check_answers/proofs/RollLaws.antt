@@ -15,16 +15,14 @@ use Rattle.sdb_model.specs.ReadSet.{has_finished, has_read, reads_rows}
 use Rattle.sdb_model.specs.Sql.{reads_vacuum}
 use Rattle.sdb_model.specs.Transactions.{Executed}
 use Rattle.check_protocol.specs.Values.{same_request}
-use Rattle.check_protocol.proofs.Lists.{In, right, or_left, not_true, true_not, not_both, all_each, each_all, any_some, some_any}
+use Rattle.check_protocol.proofs.Public.{all_each, any_some, each_all, In, is_request, not_both, not_true, or_left, request_is, right, some_any, true_not}
 use Rattle.check_tables.specs.Values.{all_made, decision_at, made_of}
 use Rattle.check_answers.specs.Tests.{is_early, prepared_moment}
 use Rattle.check_answers.proofs.BusyLaws.{early_is, is_early_of}
 use Rattle.check_answers.proofs.Finds.{contains_in, in_contains, in_kept, kept_in, in_made, made_in}
 use Rattle.check_answers.specs.Counts.{IsExecutedResolved, are_well_left, is_early_then, is_passed_over, is_roll, is_rolled, is_rolled_by, is_rolled_in, is_well_left, is_well_read, rolled_after}
 use Rattle.check_answers.proofs.Maps.{of_some, some_of}
-use Rattle.sdb_types.proofs.Basics.{clash, or_second as or_right, either, decides as decide}
-use Rattle.sdb_types.proofs.Bools.{and_first as left, and_both as both}
-use Rattle.check_protocol.proofs.Requests.{request_is, is_request}
+use Rattle.sdb_types.proofs.Public.{and_both as both, and_first as left, clash, decides as decide, either, or_second as or_right}
 use Rattle.sdb_types.specs.Replies.{is_answered}
 
 seen_how : (h : How) → is_seen h ≡ true → h ≡ Seen

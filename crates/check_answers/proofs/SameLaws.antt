@@ -15,12 +15,10 @@ use Rattle.sdb_model.specs.contracts.answer.AnswerPartialEq.TheImpl as answer_eq
 use Rattle.sdb_model.specs.contracts.answer.RefusalPartialEq.TheImpl as refusal_eq
 use Rattle.sdb_model.specs.Rows.{same_name}
 use Rattle.sdb_model.specs.Transactions.{Executed}
-use Rattle.sdb_record.proofs.NameLemmas.{same_name-itself, same_name-true}
-use Rattle.check_protocol.proofs.Lists.{right}
-use Rattle.check_protocol.proofs.ShownLaws.{number_is, is_number}
+use Rattle.sdb_record.proofs.Public.{same_name-itself, same_name-true}
+use Rattle.check_protocol.proofs.Public.{is_number, number_is, right}
 use Rattle.check_answers.specs.Tests.{answered_alike, same_answer, same_executed, is_executed}
-use Rattle.sdb_types.proofs.Basics.{clash}
-use Rattle.sdb_types.proofs.Bools.{and_first as left, and_both as both}
+use Rattle.sdb_types.proofs.Public.{and_both as both, and_first as left, clash}
 
 refusal_tells : IsExact (refusal_eq.ghosts).eq
 refusal_tells a b =

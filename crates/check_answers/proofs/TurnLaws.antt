@@ -3,7 +3,7 @@ use Rattle.std.proofs.Common.{◌≡◌, ℕ, Bool, true, false, List, [], ◌�
 use Rattle.sdb_model.specs.declared.event.Event.{Event}
 use Rattle.std.specs.Prelude.{if◌then◌else◌}
 use Rattle.sdb_model.specs.Transactions.{Executed, ends, through_end}
-use Rattle.check_protocol.proofs.Lists.{In}
+use Rattle.check_protocol.proofs.Public.{In}
 use Rattle.check_answers.specs.declared.turn.Turn.{Turn}
 use Rattle.check_answers.specs.Turns.{AreTurns, IsTurn}
 

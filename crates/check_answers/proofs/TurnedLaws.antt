@@ -13,13 +13,11 @@ use Rattle.sdb_model.specs.Refused.{refusal_of}
 use Rattle.sdb_model.specs.Follows.{has_stopped}
 use Rattle.sdb_model.specs.Transactions.{Executed, statements_by, statements_after}
 use Rattle.sdb_model.specs.Causes.{IsRejected, NeedsTransaction, is_open, is_open_after, refused, runs_vacuum}
-use Rattle.check_protocol.proofs.Lists.{none_some, right, not_true, true_not, In, any_some, some_any}
-use Rattle.check_protocol.proofs.ShownLaws.{number_is}
+use Rattle.check_protocol.proofs.Public.{any_some, In, none_some, not_true, number_is, right, some_any, true_not}
 use Rattle.check_tables.specs.declared.open.Work.TheVariants as work
 use Rattle.check_tables.specs.Values.{is_client_doing, is_doing, someone_does, taker}
 use Rattle.check_answers.specs.Tests.{IsTurned, inside_turned, refusal_met, turned_by}
-use Rattle.sdb_types.proofs.Basics.{clash, some_is, either, decides as decide}
-use Rattle.sdb_types.proofs.Bools.{and_first as left, and_both as both}
+use Rattle.sdb_types.proofs.Public.{and_both as both, and_first as left, clash, decides as decide, either, some_is}
 
 ---- clients that take statements
 

@@ -9,7 +9,7 @@ use Rattle.check_answers.proofs.CausedLaws.{all_in, by_in}
 use Rattle.check_answers.proofs.Decided.{never}
 use Rattle.check_answers.proofs.Finds.{contains_in}
 use Rattle.check_answers.proofs.IdLaws.{some_from}
-use Rattle.sdb_model.proofs.Basics.{id_again}
+use Rattle.sdb_model.proofs.Public.{id_again}
 use Rattle.check_answers.proofs.TurnedLaws.{taken_by}
 use Rattle.check_answers.specs.declared.stores.Stores.{Stores}
 use Rattle.check_answers.specs.All.{HaveNoDirtyReadsUpto, HaveClientsNoDirtyReads, HasClientNoDirtyReads, HasTransactionNoDirtyReads}

@@ -87,7 +87,7 @@ fn is_decided(found: Option<Decided>, wanted: Decision) -> bool
 }
 
 // Whether the first decision on a transaction that calls showed is COMMITTED.
-#[tactic(auto, using(check_tables::proofs::Walks::learned_is))]
+#[tactic(auto, using(check_tables::proofs::Public::learned_is))]
 fn is_learned(alloc: Global, calls: &[Made], id: TxId) -> Result<bool, NoMemory>
     ensures { IfOk result (λ is. is ≡ is_decided_lem decision.Committed (decision_learned (all_made calls.now) id)) }
 {

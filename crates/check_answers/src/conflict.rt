@@ -115,7 +115,7 @@ fn is_found_by(alloc: Global, calls: &[Made], id: TxId, key: &Key, found: &Optio
 }
 
 // The version of the base of a record that is put.
-#[tactic(auto, using(check_protocol::proofs::ShownLaws::kept_writer_is))]
+#[tactic(auto, using(check_protocol::proofs::Public::kept_writer_is))]
 fn base_put(made: &Made) -> Option<TxId>
     ensures { result ≡ base_put_lem made.now }
 {

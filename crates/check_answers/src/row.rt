@@ -87,7 +87,7 @@ fn decision_on(
 }
 
 // The row of the record that a before image keeps. One that keeps names that no record has counts as one out of memory.
-#[tactic(auto, using(check_protocol::proofs::ShownLaws::keeps_none_is))]
+#[tactic(auto, using(check_protocol::proofs::Public::keeps_none_is))]
 fn row_before(alloc: Global, rec: &Record) -> Result<Option<Columns>, NoMemory>
     requires { is_in Committed rec.now.columns ≡ false }
     ensures { IfOk result (λ row. row ≡ option_and_then row_of_image (before_record rec.now)) }

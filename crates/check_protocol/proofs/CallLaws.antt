@@ -37,10 +37,8 @@ use Rattle.check_protocol.proofs.SaidLaws.{is_deciding, is_later, taken_is, open
 use Rattle.check_protocol.proofs.ShownLaws.{number_is, is_number}
 use Rattle.check_protocol.proofs.PlanLaws.{is_sound_of, write_is, write_in_is, write_own, written_at, noted_says, says_noted, got_says, says_got, says_scan, among_is}
 use Rattle.check_protocol.proofs.TakeLaws.{key_within, is_within}
-use Rattle.sdb_types.proofs.Basics.{clash, or_second as or_right, some_is, either, decides as decide}
-use Rattle.sdb_types.proofs.Bools.{and_first as left, and_both as both}
+use Rattle.sdb_types.proofs.Public.{and_both as both, and_first as left, clash, decides as decide, either, or_second as or_right, same_key_exact, same_key_of, some_is}
 use Rattle.sdb_types.specs.Order.{same_key}
-use Rattle.sdb_types.proofs.Keys.{same_key_exact, same_key_of}
 use Rattle.check_protocol.proofs.Requests.{request_is, is_request}
 
 ---- calls

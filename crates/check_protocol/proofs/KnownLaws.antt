@@ -19,8 +19,7 @@ use Rattle.check_protocol.proofs.Lists.{none_some, right, or_left, not_true, tru
 use Rattle.check_protocol.proofs.SaidLaws.{taken_is, asked_is, won_is, dead_is, met_is, risked_is}
 use Rattle.check_protocol.proofs.ShownLaws.{in_more, more_in, last_in, number_is, commit_shown, shows_commit_of, abort_shown, shows_abort_of, moment_shown, shown_moment}
 use Rattle.check_protocol.proofs.PlanLaws.{is_sound_of, write_is}
-use Rattle.sdb_types.proofs.Basics.{clash, or_second as or_right, some_is, either}
-use Rattle.sdb_types.proofs.Bools.{and_first as left, and_both as both}
+use Rattle.sdb_types.proofs.Public.{and_both as both, and_first as left, clash, either, or_second as or_right, some_is}
 use Rattle.sdb_types.specs.Order.{same_key}
 use Rattle.sdb_record.specs.Among.{write_among}
 

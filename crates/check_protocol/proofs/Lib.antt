@@ -1,11 +1,12 @@
-pub mod Lists
-pub mod SaidLaws
-pub mod ShownLaws
-pub mod SettledLaws
-pub mod Requests
+mod Lists
+mod SaidLaws
+mod ShownLaws
+mod SettledLaws
+mod Requests
 mod PlanLaws
 mod TakeLaws
 mod CallLaws
 mod KnownLaws
 mod RollLaws
 mod WholeLaw
+pub mod Public

@@ -3,8 +3,7 @@ use Rattle.std.proofs.Common.{◌≡◌, ℕ, zero, suc, ◌+◌, Bool, true, fa
 use Rattle.std.specs.Prelude.{◌&&◌, ◌||◌, not, find, map, slice_get, if◌then◌else◌}
 use Rattle.std.specs.Option.{option_map, option_copied, is_some}
 use Rattle.std.specs.List.{list_any, list_all, enumerate_from}
-use Rattle.sdb_types.proofs.Basics.{clash, or_second as or_right, some_is, either}
-use Rattle.sdb_types.proofs.Bools.{and_first as left, and_both as both}
+use Rattle.sdb_types.proofs.Public.{and_both as both, and_first as left, clash, either, or_second as or_right, some_is}
 
 ---- tests
 

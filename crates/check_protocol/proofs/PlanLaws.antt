@@ -17,10 +17,8 @@ use Rattle.check_protocol.specs.declared.plan.ReadItem.TheVariants as item
 use Rattle.check_protocol.specs.Values.{item_of, plan_in, writes_in, items_in}
 use Rattle.check_protocol.specs.Rules.{is_base, is_sound}
 use Rattle.check_protocol.proofs.Lists.{none_some, right, In, found_in, got_map}
-use Rattle.sdb_types.proofs.Basics.{some_is}
-use Rattle.sdb_types.proofs.Bools.{and_first as left, and_both as both}
+use Rattle.sdb_types.proofs.Public.{and_both as both, and_first as left, same_key_exact, same_key_of, some_is}
 use Rattle.sdb_types.specs.Order.{same_key}
-use Rattle.sdb_types.proofs.Keys.{same_key_exact, same_key_of}
 
 ---- writes
 

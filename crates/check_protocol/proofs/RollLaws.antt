@@ -29,9 +29,7 @@ use Rattle.check_protocol.proofs.SaidLaws.{open_is, owner_is, stopped_is}
 use Rattle.check_protocol.proofs.ShownLaws.{number_is, is_number, is_shown, forward_is, is_forward_at, kept_is, is_kept_of, keeps_none_is, is_keeps_none}
 use Rattle.check_protocol.proofs.SettledLaws.{held_by, is_held_by_of, gone_is, gone_of}
 use Rattle.check_protocol.proofs.KnownLaws.{moment_known, known_moment, aborted_is, is_aborted, own_is, is_own}
-use Rattle.sdb_types.proofs.Basics.{clash, or_second as or_right, either, decides as decide}
-use Rattle.sdb_types.proofs.Bools.{and_first as left, and_both as both}
-use Rattle.sdb_types.proofs.Keys.{same_key_exact, same_key_of}
+use Rattle.sdb_types.proofs.Public.{and_both as both, and_first as left, clash, decides as decide, either, or_second as or_right, same_key_exact, same_key_of}
 use Rattle.sdb_model.specs.Tables.{is_data}
 
 -- each write of a key that it has asked to prepare has the form of records

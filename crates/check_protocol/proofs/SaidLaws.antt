@@ -11,7 +11,7 @@ use Rattle.check_protocol.specs.declared.labelled.Labelled.{Labelled}
 use Rattle.check_protocol.specs.Values.{action_of, all_labelled, ack_of}
 use Rattle.check_protocol.specs.Started.{is_begin_of, owner_in, is_take_of, is_prepare_of, is_applied, is_check_of, is_stage_of, is_decision, is_risk_of, is_win_of, is_death_of, is_meeting_of, is_stop_of, is_end_of, touches, opens, begun_in, owner_of, open_in, stopped_in, commit_started_in, asked_in, acknowledged_in, checked_in, staged_in, deciding_in, risked_in, won_in, dead_in, met_in}
 use Rattle.check_protocol.proofs.Lists.{if_or}
-use Rattle.sdb_types.proofs.Basics.{clash}
+use Rattle.sdb_types.proofs.Public.{clash}
 use Rattle.sdb_types.specs.Order.{same_key}
 
 -- a test of a pair of conditions

@@ -17,18 +17,14 @@ use Rattle.sdb_record.specs.Names.{base_name, same_name}
 use Rattle.sdb_record.specs.Parts.{before_part, before_record, is_before_pair, record_with}
 use Rattle.sdb_record.specs.Meta.{id_in, id_in_value}
 use Rattle.sdb_record.specs.Rolls.{forward_record}
-use Rattle.sdb_record.proofs.NameLemmas.{same_name-true, same_name-itself}
-use Rattle.sdb_record.proofs.Within.{column-before_part}
-use Rattle.sdb_record.proofs.RollLaws.{before_part-any}
+use Rattle.sdb_record.proofs.Public.{before_part-any, column-before_part, same_name-itself, same_name-true}
 use Rattle.sdb_model.specs.declared.event.Event.TheVariants as event
 use Rattle.law_protocol.specs.Lawful.{id, InReply, InEvent, IsObserved, IsRowObserved, IsBadRow}
 use Rattle.check_protocol.specs.declared.labelled.Labelled.{Labelled}
 use Rattle.check_protocol.specs.Values.{all_labelled, same_record}
 use Rattle.check_protocol.specs.Observed.{is_first, with_rows, with_reply, with_event, gathered, observed, before_writer, no_more, before_matches_next, before_matches, is_before_image_of, has_no_before, decided, commits, aborts, commit_moment, row_moment, observes_commit, observes_abort, observes_bad_row, moments, is_forward}
 use Rattle.check_protocol.proofs.Lists.{none_some, right, not_true, true_not, In, any_some, some_any, found_in}
-use Rattle.sdb_types.proofs.Basics.{clash, some_is}
-use Rattle.sdb_types.proofs.Bools.{and_first as left, and_both as both}
-use Rattle.sdb_types.proofs.Keys.{same_key_exact, same_key_of}
+use Rattle.sdb_types.proofs.Public.{and_both as both, and_first as left, clash, same_key_exact, same_key_of, some_is}
 use Rattle.sdb_model.specs.Counted.{is_committed as is_commit}
 
 ---- equality

@@ -12,7 +12,7 @@ use Rattle.std.proofs.lemmas.Bool.{ltb-true, lt-ltb}
 use Rattle.sdb_types.specs.Order.{table_cmp}
 use Rattle.sdb_types.specs.Contents.{in_span, is_partition}
 use Rattle.sdb_types.specs.ValueLaws.{value_total}
-use Rattle.sdb_types.proofs.KeyOrder.{table_exact, table_total}
+use Rattle.sdb_types.proofs.Public.{and_both as both, and_first as left, clash, decides as decide, either, or_second as or_right, some_is, table_exact, table_total}
 use Rattle.sdb_record.specs.Coordinator.{is_coordinator_table}
 use Rattle.sdb_record.specs.Meta.{id_in, is_moment}
 use Rattle.sdb_record.specs.Rolls.{IsWrite}
@@ -36,8 +36,6 @@ use Rattle.check_protocol.proofs.SaidLaws.{is_zero, zero_is, begun_is, taken_is,
 use Rattle.check_protocol.proofs.ShownLaws.{number_is, is_number}
 use Rattle.check_protocol.proofs.SettledLaws.{settled_is, is_settled_of, HasSettled, settles_is, settles_of}
 use Rattle.check_protocol.proofs.PlanLaws.{sound_is, is_sound_of, write_is, write_in_is, write_own, noted_says, says_noted, got_says, says_got, scan_says, says_scan, among_is}
-use Rattle.sdb_types.proofs.Basics.{clash, or_second as or_right, some_is, either, decides as decide}
-use Rattle.sdb_types.proofs.Bools.{and_first as left, and_both as both}
 use Rattle.sdb_model.specs.Transactions.{is_done}
 use Rattle.sdb_model.specs.Tables.{is_data}
 

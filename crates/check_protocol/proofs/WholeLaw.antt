@@ -22,8 +22,7 @@ use Rattle.check_protocol.proofs.TakeLaws.{begin_is, is_begin, take_is, is_take}
 use Rattle.check_protocol.proofs.CallLaws.{prepare_is, is_prepare, check_is, is_check, decide_is, is_decide, abort_is, is_abort}
 use Rattle.check_protocol.proofs.KnownLaws.{known_is, is_known, aborted_is, is_aborted, lawful_sound, lawful_asked}
 use Rattle.check_protocol.proofs.RollLaws.{Sound, roll_is, is_roll, remove_is, is_remove}
-use Rattle.sdb_types.proofs.Basics.{clash, or_second as or_right, some_is, either, decides as decide}
-use Rattle.sdb_types.proofs.Bools.{and_first as left, and_both as both}
+use Rattle.sdb_types.proofs.Public.{and_both as both, and_first as left, clash, decides as decide, either, or_second as or_right, some_is}
 use Rattle.sdb_model.specs.Transactions.{is_committed_answer}
 
 ---- parts

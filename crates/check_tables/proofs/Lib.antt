@@ -1,3 +1,4 @@
-pub mod Shown
-pub mod Walks
+mod Shown
+mod Walks
 mod Filters
+pub mod Public

@@ -8,9 +8,9 @@ use Rattle.std.proofs.lemmas.List.{map_more}
 use Rattle.sdb_types.specs.declared.key.Key.{Key}
 use Rattle.sdb_types.specs.declared.pair.Pair.{Pair}
 use Rattle.sdb_types.specs.Order.{key_cmp}
-use Rattle.sdb_types.proofs.KeyOrder.{key_total}
+use Rattle.sdb_types.proofs.Public.{key_total}
 use Rattle.sdb_record.specs.declared.access.Image.{Image}
-use Rattle.sdb_ordered.proofs.TreeLemmas.{in_order}
+use Rattle.sdb_ordered.proofs.Public.{in_order}
 use Rattle.sdb_model.specs.Exec.{Tables, all_rows, row_of_entry}
 
 -- The rows of the entries of a tree are those of the map that it is seen as.

@@ -14,10 +14,9 @@ use Rattle.sdb_model.specs.Causes.{before}
 use Rattle.sdb_model.specs.ReadSet.{has_finished, has_read}
 use Rattle.sdb_model.specs.Transactions.{Executed, numbered, statements_by, with_answer}
 use Rattle.law_clients.specs.History.{executed_with_answer, executed_of_take}
-use Rattle.law_clients.proofs.Tellings.{numbers_more, said_more}
+use Rattle.law_clients.proofs.Public.{answer_last, numbers_more, said_more}
 use Rattle.law_answers.proofs.Lists.{each_in, each_kept, filter_same, kept_in}
-use Rattle.sdb_types.proofs.Basics.{itself, length_more}
-use Rattle.law_clients.proofs.Answered.{answer_last}
+use Rattle.sdb_types.proofs.Public.{itself, length_more}
 
 pub within_more : {A : Type 0} (n : ℕ) (xs : List A) (x : A) → n ≤ length xs → n ≤ length (xs ++ x ∷ [])
 within_more n xs x l = let e : length (xs ++ x ∷ []) ≡ length xs + 1 = length_more xs x in omega arith

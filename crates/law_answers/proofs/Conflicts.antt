@@ -17,23 +17,19 @@ use Rattle.sdb_types.specs.Columns.{column}
 use Rattle.sdb_types.specs.TxId.{id_text}
 use Rattle.sdb_types.specs.Contents.{CanAnswer, are_rows_of, has_value, in_span, is_version, rise, state_number, tx_id, tx_state, record_among}
 use Rattle.sdb_types.specs.Order.{key_cmp, same_key}
-use Rattle.sdb_types.proofs.Basics.{by_test, clash, none_some, some_is, all_each as each_any, append_all as each_append, and_false}
-use Rattle.sdb_types.proofs.KeyOrder.{key_total}
-use Rattle.sdb_types.proofs.Keys.{same_key_self, same_key_exact}
+use Rattle.sdb_types.proofs.Public.{all_each as each_any, and_false, append_all as each_append, by_test, clash, key_total, none_some, same_key_exact, same_key_self, some_is}
 use Rattle.sdb_record.specs.declared.write.Change.TheVariants as change
 use Rattle.sdb_record.specs.Coordinator.{coordinator_row_of}
 use Rattle.sdb_record.specs.Moved.{is_unchanged, same_version, version_of}
 use Rattle.sdb_record.specs.Rolls.{IsBaseOf, IsWrite, prepared_record, state_of_change, undo}
-use Rattle.sdb_record.proofs.Fine.{has_value-is}
-use Rattle.sdb_record.proofs.ImageLaws.{prepared-version}
-use Rattle.sdb_record.proofs.TakenLaws.{prepared-base, prepared-key}
+use Rattle.sdb_record.proofs.Public.{has_value-is, prepared-base, prepared-key, prepared-version}
 use Rattle.sdb_record.specs.Among.{version_among, write_among, is_written}
 use Rattle.sdb_model.specs.Calls.{StoreCall, put_by}
 use Rattle.sdb_model.specs.Causes.{ConflictsAtCommit, IsUnmet, ScanObserves, prepares_key}
 use Rattle.sdb_model.specs.ReadSet.{KeyRead, ReadItem, SpanRead, version_read}
 use Rattle.sdb_model.specs.Requests.{any_of, records_put}
 use Rattle.sdb_model.specs.Transactions.{is_prepared_record, prepares}
-use Rattle.sdb_model.proofs.Requests.{any_less, put_among, unmet_shown}
+use Rattle.sdb_model.proofs.Public.{any_less, put_among, unmet_shown}
 use Rattle.sdb_phases.specs.declared.step.DecidePhase.TheVariants as phase
 use Rattle.sdb_phases.specs.declared.step.DecideStep.TheVariants as decide
 use Rattle.sdb_phases.specs.declared.step.Outcome.TheVariants as outcome
@@ -43,9 +39,8 @@ use Rattle.sdb_phases.specs.Steps.{decide_next, judged, prepare_step, refused, t
 use Rattle.sdb_phases.specs.Work.{Work, abort_of, back_of, backs, prepare_of}
 use Rattle.sdb_phases.specs.Work as work
 use Rattle.sdb_validate.specs.Rescan.{IsFirstLost, is_unchanged_at, is_unchanged_by, reads_rise}
-use Rattle.sdb_validate.proofs.Rescans.{first_lost}
-use Rattle.law_clients.proofs.Lists.{each_at, each_filter, each_map, each_more}
-use Rattle.law_clients.proofs.Work.{no_base}
+use Rattle.sdb_validate.proofs.Public.{first_lost}
+use Rattle.law_clients.proofs.Public.{each_at, each_filter, each_map, each_more, no_base}
 use Rattle.law_answers.specs.Conflicts.{ChecksBy, ConflictBy, HasPrepared, PreparesOnly}
 use Rattle.law_answers.specs.Changes.{IsReadAt, WorkBy}
 

@@ -6,18 +6,17 @@ use Rattle.std.specs.Option.{option_and_then}
 use Rattle.std.proofs.lemmas.List.{append-nil}
 use Rattle.std.proofs.lemmas.List.Elements.{All-contains_itself, All-contains, Contains-append_cases, Contains-append_left, Contains-append_right, Contains-push, Contains-push_cases, recursion_from_All}
 use Rattle.law_answers.specs.Types.{Answer, Doing, Event, Table, TxId}
-use Rattle.sdb_types.proofs.Basics.{clash, none_some, some_is, all_each as each_any}
+use Rattle.sdb_types.proofs.Public.{all_each as each_any, clash, none_some, some_is}
 use Rattle.sdb_model.specs.Calls.{StoreCall, calls_of}
 use Rattle.sdb_model.specs.Counted.{AreCounted, is_seen}
 use Rattle.sdb_model.specs.ReadSet.{ReadItem, read_set_of}
 use Rattle.sdb_model.specs.Sql.{reads_commit, reads_vacuum}
 use Rattle.sdb_model.specs.declared.statement.Statement.TheVariants as statement
-use Rattle.sdb_sqltext.proofs.OneWord.{vacuum_read}
-use Rattle.law_clients.proofs.Taken.{other_no_commit}
+use Rattle.sdb_sqltext.proofs.Public.{vacuum_read}
+use Rattle.law_clients.proofs.Public.{each_more, other_no_commit}
 use Rattle.sdb_model.specs.Transactions.{Executed, begins, client_of, commit_of, ends, from_begin, id_of, ordinal_of, rest_of, statements_by}
 use Rattle.law_clients.specs.History.{waiting_of}
 use Rattle.law_clients.specs.States.{ClientState}
-use Rattle.law_clients.proofs.Lists.{each_more}
 use Rattle.sdb_txn.specs.declared.txn.Doing.TheVariants as doing
 use Rattle.sdb_txn.specs.Txn.{TxnAt, pending_in}
 use Rattle.sdb_vacuum.specs.Vacuum.{VacuumAt}
@@ -32,7 +31,7 @@ use Rattle.law_answers.proofs.CountsNotes.{commits_more, commits_still, paired_m
 use Rattle.law_answers.proofs.Lists.{each_in}
 use Rattle.law_answers.proofs.Noting.{noted_since, since_all, take_ends, take_open}
 use Rattle.sdb_types.specs.Replies.{is_fault}
-use Rattle.sdb_model.proofs.Basics.{id_again}
+use Rattle.sdb_model.proofs.Public.{id_again}
 
 ---- one statement
 

@@ -18,13 +18,11 @@ use Rattle.sdb_types.specs.Columns.{column}
 use Rattle.sdb_types.specs.TxId.{id_text}
 use Rattle.sdb_types.specs.Contents.{has_value, is_version, state_number, tx_id}
 use Rattle.sdb_types.specs.Order.{key_cmp, same_key}
-use Rattle.sdb_types.proofs.Keys.{same_key_is}
-use Rattle.sdb_types.proofs.Basics.{clash, none_some, some_is, append_all as each_append}
+use Rattle.sdb_types.proofs.Public.{append_all as each_append, clash, none_some, same_key_is, some_is}
 use Rattle.sdb_record.specs.declared.coordinator.Decision.TheVariants as decision
 use Rattle.sdb_record.specs.Coordinator.{coordinator_key_of, coordinator_row_of, decision_in}
 use Rattle.sdb_record.specs.Rolls.{IsWrite, forward_record, prepared_record}
-use Rattle.sdb_record.proofs.RollLaws.{forward-state}
-use Rattle.sdb_record.proofs.TakenLaws.{prepared-key}
+use Rattle.sdb_record.proofs.Public.{forward-state, prepared-key}
 use Rattle.sdb_record.specs.Among.{is_written, write_among}
 use Rattle.sdb_model.specs.declared.answer.Answer.TheVariants as answer
 use Rattle.sdb_model.specs.Calls.{StoreCall, key_asked}
@@ -39,7 +37,7 @@ use Rattle.sdb_phases.specs.Commit.{Stage, Preparing, Checking, Deciding, Forwar
 use Rattle.sdb_phases.specs.Steps.{decide_next, decide_request_at, judged, prepare_step, refused, step_of_row, touched_after, validate_step}
 use Rattle.sdb_phases.specs.Work.{Work, abort_of, back_of, backs, decide_of, forward_of, forwards, look_of, prepare_of}
 use Rattle.sdb_phases.specs.Work as work
-use Rattle.law_clients.proofs.Lists.{each_at, each_map}
+use Rattle.law_clients.proofs.Public.{each_at, each_map}
 use Rattle.law_clients.specs.System.{answer_of_outcome}
 use Rattle.law_answers.specs.Commits.{EndsBy}
 use Rattle.law_answers.specs.Counts.{AllPut, CommitCounted, CommitIsCounted, HasPut, NoneFaulted, ReadItemsAre, decides, keys_got, later_by, wanted_by}

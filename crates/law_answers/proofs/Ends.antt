@@ -4,7 +4,7 @@ use Rattle.std.specs.Prelude.{if◌then◌else◌, find, Contains}
 use Rattle.std.specs.Option.{option_and_then}
 use Rattle.std.proofs.lemmas.List.Elements.{Contains-append_left, Contains-push}
 use Rattle.law_answers.specs.Types.{Event, Key, Outcome, Record, Reply, Table, TxId}
-use Rattle.sdb_types.proofs.Basics.{clash, none_some, some_is}
+use Rattle.sdb_types.proofs.Public.{clash, none_some, some_is}
 use Rattle.sdb_model.specs.declared.answer.Answer.TheVariants as answer
 use Rattle.sdb_model.specs.Calls.{StoreCall, calls_of}
 use Rattle.sdb_model.specs.Causes.{ConflictsAtCommit, IsCaused, IsCommitOf}
@@ -26,7 +26,7 @@ use Rattle.law_answers.specs.Conflicts.{ConflictBy}
 use Rattle.law_answers.proofs.Noting.{client_is, ordinal_is}
 use Rattle.law_answers.proofs.Lists.{ends_last, since_more}
 use Rattle.law_answers.proofs.Rows.{bad_is_bad}
-use Rattle.law_clients.proofs.Replied.{next_stage}
+use Rattle.law_clients.proofs.Public.{next_stage}
 
 ---- where a COMMIT goes
 

@@ -5,7 +5,7 @@ use Rattle.std.specs.List.{AllByRecursion, cons_option, enumerate_from, filter_m
 use Rattle.law_answers.specs.Types.{Act, Event, How, Move, Reply, Script, ScriptClient}
 use Rattle.sdb_types.specs.declared.record.Reply.TheVariants as reply
 use Rattle.sdb_types.specs.Replies.{is_fault, is_answered}
-use Rattle.sdb_types.proofs.Basics.{clash, none_some, some_is, append_all, one_of}
+use Rattle.sdb_types.proofs.Public.{append_all, clash, none_some, one_of, some_is}
 use Rattle.sdb_model.specs.declared.event.Event.TheVariants as event
 use Rattle.sdb_model.specs.declared.event.How.TheVariants.{Seen, Lost, Discarded, Broken}
 use Rattle.sdb_model.specs.declared.script.Act.TheVariants as act

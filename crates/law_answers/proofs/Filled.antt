@@ -10,21 +10,19 @@ use Rattle.std.proofs.lemmas.Bool.{and_parts}
 use Rattle.std.proofs.lemmas.List.Sums.{sum_by-cons, sum_by-le-sum_by}
 use Rattle.law_answers.specs.Types.{Access, Image, Key, Keyed, Pair, Record, Write}
 use Rattle.sdb_types.specs.Order.{key_cmp, same_key}
-use Rattle.sdb_types.proofs.Basics.{by_test, clash, none_some, truth, or_false}
-use Rattle.sdb_types.proofs.KeyOrder.{key_total}
-use Rattle.sdb_types.proofs.Keys.{same_key_exact}
+use Rattle.sdb_types.proofs.Public.{by_test, clash, key_total, none_some, or_false, same_key_exact, truth}
 use Rattle.sdb_record.specs.Among.{is_written, write_among}
-use Rattle.sdb_exec.proofs.Laid.{by_key}
+use Rattle.sdb_exec.proofs.Public.{by_key}
 use Rattle.sdb_model.specs.Access.{in_access}
 use Rattle.sdb_model.specs.Exec.{row_of_entry}
 use Rattle.sdb_snapshot.specs.Reads.{ReadRecord, base_at, record_read_at}
 use Rattle.sdb_snapshot.specs.Rows.{row_found}
 use Rattle.sdb_snapshot.specs.Seen.{Seen, overlay, row_with, tables_seen}
 use Rattle.sdb_snapshot.specs.Written.{with_change_of, with_write, with_writes, write_of}
-use Rattle.sdb_snapshot.proofs.Shown.{get_seen}
+use Rattle.sdb_snapshot.proofs.Public.{get_seen}
 use Rattle.law_answers.specs.Filled.{records_read_in}
 use Rattle.law_answers.proofs.Lists.{each_kept}
-use Rattle.sdb_client.proofs.SeenRows.{none_below}
+use Rattle.sdb_client.proofs.Public.{none_below}
 
 ---- one key more
 

@@ -7,7 +7,7 @@ use Rattle.std.proofs.lemmas.List.{append-nil, length-map}
 use Rattle.std.proofs.lemmas.List.Elements.{filter-append}
 use Rattle.std.proofs.lemmas.List.Sums.{sum_by-append, sum_by-cons}
 use Rattle.law_answers.specs.Types.{Access, Answer, Doing, Event, Image, Key, Keyed, Record, Statement, Table, Write}
-use Rattle.sdb_types.proofs.Basics.{clash}
+use Rattle.sdb_types.proofs.Public.{clash}
 use Rattle.sdb_record.specs.declared.access.Access.TheVariants as access
 use Rattle.sdb_record.specs.declared.write.Change.TheVariants as change
 use Rattle.sdb_model.specs.declared.answer.Answer.TheVariants as answer
@@ -26,7 +26,7 @@ use Rattle.sdb_snapshot.specs.Written.{with_writes}
 use Rattle.sdb_txn.specs.declared.txn.Doing.TheVariants as doing
 use Rattle.sdb_txn.specs.Txn.{TxnAt}
 use Rattle.sdb_client.specs.Client.{given_answer, given_left, left_by_answer, with_rows_read, too_many, written}
-use Rattle.law_clients.proofs.InTables.{access_table}
+use Rattle.law_clients.proofs.Public.{access_table}
 use Rattle.law_answers.specs.Filled.{IsFilled, IsFilledBy, IsFilledIn, rows_counted_by, records_found_by, records_read_in}
 use Rattle.law_answers.specs.Changes.{HasRead}
 use Rattle.law_answers.specs.Invariant.{IsAnswered}

@@ -9,8 +9,7 @@ use Rattle.std.specs.FinMap.{entries, entries_sorted, find as find_key, get, get
 use Rattle.law_answers.specs.Types.{Access, Answer, Change, Image, Key, Keyed, Pair, Statement, Table}
 use Rattle.sdb_types.specs.Exact.{equal_of}
 use Rattle.sdb_types.specs.Order.{key_cmp}
-use Rattle.sdb_types.proofs.Basics.{clash, none_some, some_is, truth}
-use Rattle.sdb_types.proofs.KeyOrder.{key_exact, key_total}
+use Rattle.sdb_types.proofs.Public.{clash, key_exact, key_total, none_some, some_is, truth}
 use Rattle.sdb_schema.specs.Catalog.{is_catalog}
 use Rattle.sdb_schema.specs.Rows.{fits_table}
 use Rattle.sdb_record.specs.declared.write.Change.TheVariants as change
@@ -21,15 +20,11 @@ use Rattle.sdb_model.specs.Exec.{Tables, all_rows, entry_of_row, exec, find_tabl
 use Rattle.sdb_model.specs.Reads.{access_for, access_of}
 use Rattle.sdb_model.specs.Refused.{refusal_of}
 use Rattle.sdb_exec.specs.Plans.{IsExec, all_well_typed, answer_on, changes_on, columns_at, first_unfit, has_all_literals, is_unfit, put_row, step_of}
-use Rattle.sdb_exec.proofs.Laid.{by_key, find-sieved, get-with_row, keyed, sieved_at}
-use Rattle.sdb_exec.proofs.Local.{agree_rows, ordered}
-use Rattle.sdb_exec.proofs.Places.{named_is_table}
-use Rattle.sdb_exec.proofs.Whole.{fitting_is_exec}
+use Rattle.sdb_exec.proofs.Public.{agree_rows, by_key, find-sieved, fitting_is_exec, get-with_row, keyed, named_is_table, ordered, sieved_at}
 use Rattle.sdb_snapshot.specs.Seen.{Seen, overlay, tables_seen}
 use Rattle.sdb_client.specs.Client.{plan_of}
 use Rattle.law_clients.specs.Fitting.{row_is_well_typed, tables_are_well_typed}
-use Rattle.law_clients.proofs.InTables.{own_table}
-use Rattle.law_clients.proofs.RowsFit.{all_in_fit, answers_on, fits_there, found_itself}
+use Rattle.law_clients.proofs.Public.{all_in_fit, answers_on, fits_there, found_itself, own_table}
 use Rattle.law_answers.specs.Unfit.{fits_catalog, fitting_part}
 use Rattle.law_answers.proofs.Filled.{found_all}
 use Rattle.law_answers.proofs.Given.{asked_gives, inside_access, passes_all}

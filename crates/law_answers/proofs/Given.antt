@@ -7,13 +7,13 @@ use Rattle.std.specs.Ordering.{is_eq}
 use Rattle.std.proofs.lemmas.Bool.{and_parts}
 use Rattle.sdb_types.specs.Exact.{equal_of}
 use Rattle.sdb_types.specs.Order.{table_cmp}
-use Rattle.sdb_types.proofs.KeyOrder.{key_exact, table_exact}
+use Rattle.sdb_types.proofs.Public.{clash, key_exact, none_some, some_is, table_exact}
 use Rattle.sdb_record.specs.Coordinator.{is_coordinator_table}
 use Rattle.law_answers.specs.Types.{Access, Answer, Event, Image, Key, Keyed, PlanStep, Statement, Table}
 use Rattle.sdb_record.specs.declared.access.Access.TheVariants as access
 use Rattle.sdb_model.specs.Access.{in_access}
 use Rattle.sdb_snapshot.specs.Seen.{Seen, overlay, tables_seen}
-use Rattle.law_clients.proofs.InTables.{access_table}
+use Rattle.law_clients.proofs.Public.{access_table}
 use Rattle.sdb_model.specs.declared.answer.Answer.TheVariants as answer
 use Rattle.sdb_model.specs.declared.statement.Statement.TheVariants as statement
 use Rattle.sdb_model.specs.Causes.{IsBadRecord, IsCaused, MayPassMost, before, is_open, refused}
@@ -24,7 +24,6 @@ use Rattle.sdb_exec.specs.declared.plan.PlanStep.TheVariants.{Finished}
 use Rattle.sdb_exec.specs.Plans.{Planned, answer_on, changes_on, columns_at, finished, first_unfit, is_unfit, step_at, step_of}
 use Rattle.sdb_txn.specs.Txn.{TxnAt}
 use Rattle.sdb_client.specs.Client.{given_answer, too_many}
-use Rattle.sdb_types.proofs.Basics.{clash, none_some, some_is}
 
 -- what a statement is answered on rows has its cause
 on_rows : (catalog : List Table) (events : List Event) (c : ℕ) (s : Executed) (t : Table) (st : Statement) (rows : List Image) → Reads s.text st → named_table catalog st ≡ Some t → is_open (before s events) c ≡ true → IsCaused catalog events c s (answer_on t st rows)

@@ -18,7 +18,7 @@ use Rattle.law_answers.specs.Ends.{IsGivenUp, IsLearned, IsPassed, IsPrepareChan
 use Rattle.law_answers.proofs.PathLists.{take_next}
 use Rattle.law_answers.proofs.PathRows.{NoRow}
 use Rattle.law_answers.proofs.Touches.{Touches, applied}
-use Rattle.sdb_types.proofs.Basics.{all_last}
+use Rattle.sdb_types.proofs.Public.{all_last}
 
 ---- what was asked
 

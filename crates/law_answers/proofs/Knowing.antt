@@ -15,8 +15,8 @@ use Rattle.sdb_txn.specs.Txn.{TxnAt}
 use Rattle.sdb_vacuum.specs.Vacuum.{VacuumAt}
 use Rattle.sdb_client.specs.Client.{ClientAt}
 use Rattle.law_clients.specs.History.{waiting_of}
-use Rattle.law_clients.proofs.Lists.{each_more}
-use Rattle.sdb_types.proofs.Basics.{none_some}
+use Rattle.law_clients.proofs.Public.{each_more}
+use Rattle.sdb_types.proofs.Public.{none_some}
 use Rattle.law_answers.specs.Commits.{StageByCalls}
 use Rattle.law_answers.specs.Reads.{ReadsBy}
 use Rattle.law_answers.specs.Conflicts.{ChecksBy}

@@ -14,7 +14,7 @@ use Rattle.sdb_model.specs.Calls.{StoreCall, calls_after, calls_before, calls_of
 use Rattle.sdb_model.specs.Causes.{HasReply, IsBad, IsBusy, IsCaused, IsCommitOf, IsCounted, IsDecided, IsRejected, MayPassMost, PutsRow, is_open, removes}
 use Rattle.sdb_model.specs.Sql.{reads_commit}
 use Rattle.sdb_model.specs.Transactions.{Executed, client_of, ends, from_begin, is_conflict, ordinal_of, rest_of, statements_by}
-use Rattle.sdb_types.proofs.Basics.{clash, none_some, some_is}
+use Rattle.sdb_types.proofs.Public.{clash, none_some, some_is}
 use Rattle.law_answers.specs.Invariant.{IsAnswered, IsWaiting}
 use Rattle.law_answers.proofs.Lists.{ending_front, ending_stays, kept_in}
 use Rattle.law_answers.proofs.Misfits.{meets_stays}

@@ -7,14 +7,14 @@ use Rattle.std.proofs.lemmas.List.{length-map, take-take}
 use Rattle.std.proofs.lemmas.Option.{slice_get-map, slice_get_within}
 use Rattle.law_answers.specs.Types.{Check, Key, Outcome, Record, Reply, Request, TxId}
 use Rattle.sdb_types.specs.declared.record.Reply.TheVariants as reply
-use Rattle.sdb_types.proofs.Basics.{lt_of}
+use Rattle.sdb_types.proofs.Public.{lt_of}
 use Rattle.sdb_phases.specs.declared.step.Outcome.TheVariants as outcome
 use Rattle.sdb_phases.specs.declared.step.DecidePhase.TheVariants as phase
 use Rattle.sdb_phases.specs.Work.{Work, prepares, prepare_of, forwards, forward_of, backs, back_of, decide_of}
 use Rattle.sdb_phases.specs.Checks.{checks}
 use Rattle.sdb_phases.specs.Commit.{Stage, Preparing, Checking, Deciding, Forward, Stopping, Back, Over, after, pending}
 use Rattle.sdb_phases.specs.CommitLaws.{IsLost, AreReplies, writes_of, reads_of}
-use Rattle.sdb_phases.proofs.DecidingPut.{asks_deciding_put}
+use Rattle.sdb_phases.proofs.Public.{asks_deciding_put}
 use Rattle.law_answers.specs.Paths.{Call, Asks, Begins, IsAsked, Makes, calls_of_path, is_over, undone}
 use Rattle.law_answers.specs.Ends.{HasChangedBy, HasPassed, IsApplied, IsGivenUp, IsLearned, IsPassed, IsPutOutOfMemory, IsReady, IsUndecided, IsUndone, has_committed, is_checked, is_prepared}
 use Rattle.law_answers.proofs.PathLists.{get_behind, get_front, get_some, get_take, zip_at}

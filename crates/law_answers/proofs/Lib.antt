@@ -1,48 +1,49 @@
-pub mod Lists
-pub mod Calls
-pub mod Later
-pub mod Rows
-pub mod Stages
-pub mod ReadSteps
-pub mod SweepSteps
-pub mod Given
-pub mod Knowing
-pub mod Takings
-pub mod Ends
-pub mod Replyings
-pub mod Whole
-pub mod Showing
-pub mod Settling
-pub mod Moving
-pub mod Noting
-pub mod Conflicts
-pub mod Counts
-pub mod CountsCommit
-pub mod CountsNotes
-pub mod Counting
-pub mod Filled
-pub mod Passing
-pub mod Misfits
-pub mod Filling
-pub mod Fitting
-pub mod Unfit
-pub mod RolledSteps
-pub mod Rolled
-pub mod OneRow
-pub mod Shows
-pub mod ShowsTold
-pub mod ShowsRead
-pub mod ShowsGiven
-pub mod ShowsTurn
-pub mod ShowsWhole
-pub mod Faults
-pub mod PathLists
-pub mod PathCalls
-pub mod PathRows
-pub mod Touches
-pub mod Goes
-pub mod Steps
-pub mod PathConflicts
-pub mod Course
-pub mod Laws
-pub mod Recoveries
+mod Lists
+mod Calls
+mod Later
+mod Rows
+mod Stages
+mod ReadSteps
+mod SweepSteps
+mod Given
+mod Knowing
+mod Takings
+mod Ends
+mod Replyings
+mod Whole
+mod Showing
+mod Settling
+mod Moving
+mod Noting
+mod Conflicts
+mod Counts
+mod CountsCommit
+mod CountsNotes
+mod Counting
+mod Filled
+mod Passing
+mod Misfits
+mod Filling
+mod Fitting
+mod Unfit
+mod RolledSteps
+mod Rolled
+mod OneRow
+mod Shows
+mod ShowsTold
+mod ShowsRead
+mod ShowsGiven
+mod ShowsTurn
+mod ShowsWhole
+mod Faults
+mod PathLists
+mod PathCalls
+mod PathRows
+mod Touches
+mod Goes
+mod Steps
+mod PathConflicts
+mod Course
+mod Laws
+mod Recoveries
+pub mod Public

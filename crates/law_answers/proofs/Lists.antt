@@ -5,8 +5,8 @@ use Rattle.std.specs.List.{AllByRecursion}
 use Rattle.std.proofs.lemmas.Bool.Decides.{nat_tests}
 use Rattle.std.proofs.lemmas.List.Elements.{All-contains, All-contains_itself, All-from_recursion, recursion_from_All}
 use Rattle.sdb_model.specs.Transactions.{Executed, begins, ends, from_begin, rest_of}
-use Rattle.law_clients.proofs.Meanings.{find_more}
-use Rattle.sdb_types.proofs.Basics.{none_some}
+use Rattle.law_clients.proofs.Public.{find_more}
+use Rattle.sdb_types.proofs.Public.{none_some}
 use Rattle.law_answers.specs.Invariant.{begun_in}
 
 pub each_in : {X : Type 0} (P : X → Type 0) (xs : List X) (x : X) → AllByRecursion P xs → Contains xs x → P x

@@ -5,7 +5,7 @@ use Rattle.std.specs.List.{AllByRecursion}
 use Rattle.std.specs.Option.{option_map_or}
 use Rattle.std.proofs.lemmas.List.Elements.{Contains-append_left, Contains-append_right, Contains-push}
 use Rattle.law_answers.specs.Types.{Answer, Doing, Event, Key, Statement, Table}
-use Rattle.sdb_types.proofs.Basics.{clash, none_some}
+use Rattle.sdb_types.proofs.Public.{clash, none_some}
 use Rattle.sdb_model.specs.Access.{in_access}
 use Rattle.sdb_model.specs.Calls.{calls_of, records_read}
 use Rattle.sdb_model.specs.Causes.{MeetsMisfit, is_misfit}
@@ -18,7 +18,7 @@ use Rattle.sdb_snapshot.specs.Seen.{Seen, nothing}
 use Rattle.sdb_txn.specs.declared.txn.Doing.TheVariants as doing
 use Rattle.sdb_txn.specs.Txn.{TxnAt}
 use Rattle.law_clients.specs.Fitting.{row_is_well_typed}
-use Rattle.law_clients.proofs.Lists.{each_more}
+use Rattle.law_clients.proofs.Public.{each_more}
 use Rattle.law_answers.specs.Invariant.{IsAnswered}
 use Rattle.law_answers.specs.Unfit.{IsFitOrReadTxn, SeesFitOrRead, SeesFitOrReadIn, WasMisfit}
 use Rattle.law_answers.proofs.Calls.{calls_stay, read_stays}

@@ -14,14 +14,12 @@ use Rattle.sdb_types.specs.declared.record.State.TheVariants as state
 use Rattle.sdb_types.specs.Columns.{column}
 use Rattle.sdb_types.specs.Contents.{CanAnswer, holds, in_span, is_version, rise, starts_after, tx_id, record_among}
 use Rattle.sdb_types.specs.Order.{key_cmp, same_key}
-use Rattle.sdb_types.proofs.Basics.{by_test, clash, less_of, all_each as each_any, itself, either}
-use Rattle.sdb_types.proofs.KeyOrder.{key_total}
-use Rattle.sdb_types.proofs.Keys.{same_key_self, same_key_exact, same_key_is, same_key_of}
+use Rattle.sdb_types.proofs.Public.{all_each as each_any, by_test, clash, either, itself, key_total, less_of, same_key_exact, same_key_is, same_key_of, same_key_self}
 use Rattle.sdb_txn.specs.Read.{request_of}
 use Rattle.sdb_record.specs.declared.access.Access.TheVariants as access
 use Rattle.sdb_record.specs.Meta.{id_in}
 use Rattle.sdb_record.specs.Moved.{IsChanged, condition_of, same_version, version_of}
-use Rattle.sdb_record.proofs.ImageLaws.{version-writer}
+use Rattle.sdb_record.proofs.Public.{id_in_value-fits, version-writer}
 use Rattle.sdb_model.specs.Calls.{StoreCall, records_read}
 use Rattle.sdb_model.specs.Causes.{HasChanged}
 use Rattle.sdb_model.specs.ReadSet.{KeyRead, ReadItem, SpanRead, meaning_of}
@@ -30,14 +28,13 @@ use Rattle.sdb_snapshot.specs.Reads.{base_at, differs, has_changed, is_key_read,
 use Rattle.sdb_snapshot.specs.Seen.{Seen}
 use Rattle.law_clients.specs.Reads.{IsFoundOk, IsReadOk, is_found, was_found, was_read}
 use Rattle.sdb_snapshot.specs.Sets.{IsSetInvariant}
-use Rattle.law_clients.proofs.Lists.{each_both}
+use Rattle.law_clients.proofs.Public.{each_both}
 use Rattle.sdb_txn.specs.Txn.{TxnAt, work_of}
 use Rattle.sdb_client.specs.Client.{IsChangedAt}
 use Rattle.sdb_validate.specs.Rescan.{reads_rise}
 use Rattle.law_answers.specs.Changes.{ChangesAtScan, HasRead, IsReadAt, IsRows, IsSettledAs, SeenBy, WorkBy}
 use Rattle.law_answers.proofs.Ends.{first_in}
 use Rattle.law_answers.proofs.Settling.{settled_keys, settled_means}
-use Rattle.sdb_record.proofs.IdLemmas.{id_in_value-fits}
 use Rattle.sdb_record.specs.Among.{version_among}
 
 ---- the record of a key

@@ -16,8 +16,8 @@ use Rattle.sdb_model.specs.Sql.{reads_commit}
 use Rattle.sdb_model.specs.Transactions.{Executed, begins, client_of, ends, from_begin, id_of, is_conflict, ordinal_of, rest_of, statements_by, statements_inside}
 use Rattle.sdb_snapshot.specs.Seen.{Seen}
 use Rattle.sdb_txn.specs.Txn.{TxnAt}
-use Rattle.law_clients.proofs.Lists.{each_more}
-use Rattle.sdb_types.proofs.Basics.{clash, all_each as each_any}
+use Rattle.law_clients.proofs.Public.{each_more}
+use Rattle.sdb_types.proofs.Public.{all_each as each_any, clash}
 use Rattle.law_answers.specs.Invariant.{IsAnswered, IsOpenAs}
 use Rattle.law_answers.specs.Changes.{AreChanged, IsChangedIn, ChangesBy, SeenBy, read_items_of_body}
 use Rattle.law_answers.proofs.Calls.{calls_stay, read_stays}

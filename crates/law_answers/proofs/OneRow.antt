@@ -10,8 +10,7 @@ use Rattle.std.proofs.lemmas.List.Elements.{All-drop, All-from_recursion, All-ta
 use Rattle.law_answers.specs.Types.{Access, Image, Key, Keyed, Pair, Select, Statement, Table, Update, Value}
 use Rattle.sdb_types.specs.Exact.{equal_of}
 use Rattle.sdb_types.specs.Order.{key_cmp}
-use Rattle.sdb_types.proofs.Basics.{append_all, by_test, clash}
-use Rattle.sdb_types.proofs.KeyOrder.{key_exact, key_total}
+use Rattle.sdb_types.proofs.Public.{append_all, by_test, clash, key_exact, key_total}
 use Rattle.sdb_schema.specs.Catalog.{is_catalog}
 use Rattle.sdb_schema.specs.Order.{row_key_cmp}
 use Rattle.sdb_model.specs.declared.answer.Answer.TheVariants as answer
@@ -21,11 +20,10 @@ use Rattle.sdb_model.specs.Exec.{Tables, all_rows, cut, entry_of_row, exec, exec
 use Rattle.sdb_model.specs.DirtyReads.{one_row, row_left}
 use Rattle.sdb_exec.specs.Plans.{answer_on, changes_on, columns_at, first_unfit}
 use Rattle.sdb_model.specs.Reads.{access_of}
-use Rattle.sdb_exec.proofs.Laid.{find-mapped, find-sieved, mapped_at, sieved_at}
-use Rattle.sdb_exec.proofs.Local.{ordered}
+use Rattle.sdb_exec.proofs.Public.{find-mapped, find-sieved, mapped_at, ordered, sieved_at}
 use Rattle.sdb_snapshot.specs.Seen.{Seen, overlay, row_seen, tables_seen}
 use Rattle.sdb_snapshot.specs.Written.{with_writes}
-use Rattle.sdb_snapshot.proofs.Shown.{get_seen}
+use Rattle.sdb_snapshot.proofs.Public.{get_seen}
 use Rattle.law_answers.specs.Unfit.{fits_if_any, fitting_part}
 use Rattle.law_answers.proofs.Fitting.{RowFits, access_fits, exec_at, fitting_same, left_outside, rows_there}
 use Rattle.law_answers.proofs.Given.{found_so, passes_all}

@@ -15,12 +15,12 @@ use Rattle.sdb_model.specs.Causes.{IsIn, MayPassMost, body_before, finished_befo
 use Rattle.sdb_model.specs.ReadSet.{has_read, read_finished, reads_rows}
 use Rattle.sdb_model.specs.Sql.{Reads}
 use Rattle.sdb_model.specs.Transactions.{Executed, client_of, ends, from_begin, id_of, is_effective, ordinal_of, rest_of, statements_by, statements_after, statements_inside, through_end, with_answer}
-use Rattle.sdb_types.proofs.Basics.{all_each as each_any, none_some}
+use Rattle.sdb_types.proofs.Public.{all_each as each_any, none_some}
 use Rattle.law_answers.specs.Filled.{rows_counted_by, records_found_by}
 use Rattle.law_answers.proofs.Calls.{calls_open, end_answered, end_waiting, made_more, read_stays}
 use Rattle.law_answers.proofs.Lists.{each_in, filter_same, since_more, since_none}
 use Rattle.law_answers.proofs.Noting.{client_is, each_last, ordinal_is, rest_all, since_all, take_open}
-use Rattle.law_clients.proofs.Lists.{each_more}
+use Rattle.law_clients.proofs.Public.{each_more}
 
 ---- statements are accepted one after the other
 

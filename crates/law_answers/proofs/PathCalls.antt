@@ -12,7 +12,7 @@ use Rattle.sdb_phases.specs.Commit.{Stage, after, pending, preparing, step}
 use Rattle.sdb_phases.specs.CommitLaws.{AreReplies, seen, observes_decision}
 use Rattle.law_answers.specs.Paths.{Call, Makes, calls_of_path, replies_of, was_observed, with_call}
 use Rattle.law_answers.proofs.PathLists.{reverse_more}
-use Rattle.sdb_types.proofs.Basics.{all_last}
+use Rattle.sdb_types.proofs.Public.{all_last}
 
 -- what is so of a call more is so where one is pending
 pub at_call : (P : List Call → Type 0) (o : Option Request) (r : Reply) (calls : List Call) → CanGet o r → ((q : Request) → o ≡ Some q → CanAnswer q r → P (calls ++ record { request = q; reply = r } ∷ [])) → P (with_call o r calls)

@@ -8,18 +8,17 @@ use Rattle.sdb_types.specs.declared.record.Request.TheVariants as ask
 use Rattle.sdb_types.specs.declared.record.Reply.TheVariants as reply
 use Rattle.sdb_types.specs.Contents.{CanAnswer, in_span, rise, record_among}
 use Rattle.std.specs.List.{list_all}
-use Rattle.sdb_types.proofs.Bools.{and_first}
+use Rattle.sdb_types.proofs.Public.{and_first, not_true, some_is}
 use Rattle.sdb_record.specs.Moved.{IsChanged, is_unchanged}
 use Rattle.sdb_record.specs.Among.{is_written, version_among}
 use Rattle.sdb_phases.specs.Work.{Work}
 use Rattle.sdb_phases.specs.Checks.{changed, check_of_read, check_of_scan, differs, first_difference, keys_among, least, wanted, difference_in}
 use Rattle.sdb_validate.specs.Rescan.{IsFirstLost, base_in, is_unchanged_by, reads_rise}
-use Rattle.sdb_validate.proofs.Rescans.{first_lost}
+use Rattle.sdb_validate.proofs.Public.{first_lost}
 use Rattle.law_answers.specs.Paths.{Call}
 use Rattle.law_answers.specs.Ends.{HasChangedBy, HasChangedThere, IsGetChanged, IsRescanChanged, ObservesChange}
 use Rattle.law_answers.proofs.PathLists.{contains_at}
 use Rattle.law_answers.proofs.Goes.{IsCheckMoved, Moves}
-use Rattle.sdb_types.proofs.Basics.{not_true, some_is}
 
 ---- where an item comes from
 

@@ -8,14 +8,14 @@ use Rattle.sdb_types.specs.Contents.{is_version}
 use Rattle.sdb_record.specs.declared.coordinator.Decision.TheVariants as decision
 use Rattle.sdb_record.specs.Coordinator.{coordinator_row_of}
 use Rattle.sdb_record.specs.Rolls.{prepared_record, state_of_change}
-use Rattle.sdb_record.proofs.ImageLaws.{prepared-version}
+use Rattle.sdb_record.proofs.Public.{prepared-version}
 use Rattle.sdb_record.specs.Among.{is_written}
 use Rattle.sdb_phases.specs.declared.step.Outcome.TheVariants as outcome
 use Rattle.sdb_phases.specs.Work.{Work, prepare_of, decide_of, abort_of, look_of}
 use Rattle.sdb_phases.specs.Checks.{checks, check_of_read, check_of_scan}
 use Rattle.sdb_phases.specs.Commit.{Preparing, Checking, Stopping, Back, pending}
-use Rattle.sdb_phases.proofs.DecidingPut.{asks_deciding_put}
-use Rattle.sdb_types.proofs.Basics.{some_is}
+use Rattle.sdb_phases.proofs.Public.{asks_deciding_put}
+use Rattle.sdb_types.proofs.Public.{some_is}
 
 row_no_version : (id other : TxId) (s : State) (now : ℤ) → is_version id s (coordinator_row_of other decision.Aborted now) ≡ false
 unfolding coordinator_row_of

@@ -11,15 +11,13 @@ use Rattle.sdb_types.specs.declared.record.State.TheVariants as state
 use Rattle.sdb_types.specs.Contents.{CanAnswer, are_rows_of, in_span, rise}
 use Rattle.sdb_types.specs.Exact.{equal_of}
 use Rattle.sdb_types.specs.Order.{table_cmp}
-use Rattle.sdb_types.proofs.Basics.{by_test, clash, some_is}
-use Rattle.sdb_types.proofs.KeyOrder.{table_exact}
+use Rattle.sdb_types.proofs.Public.{by_test, clash, some_is, table_exact}
 use Rattle.sdb_record.specs.declared.access.Access.TheVariants as access
 use Rattle.sdb_record.specs.declared.coordinator.Decision.TheVariants as decision
 use Rattle.sdb_record.specs.Coordinator.{coordinator_key_of, decision_in, is_coordinator_table, is_expired}
 use Rattle.sdb_record.specs.Meta.{checked, checked_before, checked_part, is_committed, is_in, is_misnamed, is_transactional, is_unresolved, moment_in, refuse, with_before}
 use Rattle.sdb_record.specs.Parts.{before_part, is_before_pair}
-use Rattle.sdb_record.proofs.Fine.{refuse-ok, accepted}
-use Rattle.sdb_record.proofs.ImageLaws.{row-key}
+use Rattle.sdb_record.proofs.Public.{accepted, refuse-ok, row-key}
 use Rattle.sdb_model.specs.Calls.{StoreCall, calls_of, clock_at, is_read, records_read, records_observed}
 use Rattle.sdb_model.specs.Causes.{HasReply, IsBusy}
 use Rattle.sdb_model.specs.Events.{table_asked}
@@ -30,8 +28,7 @@ use Rattle.sdb_phases.specs.declared.step.RecoverStep.TheVariants as steps
 use Rattle.sdb_phases.specs.Recover.{recover_next, recover_request_at, roll_to, undecided}
 use Rattle.sdb_phases.specs.Work.{abort_of, look_of}
 use Rattle.sdb_txn.specs.Read.{Asking, Bad, Ended, Firm, Kind, Open, ReadStage, Resolving, answered, kind_of, opened, read_pending_at, read_step, request_of, resolved, settle, settle_one}
-use Rattle.law_clients.proofs.Meta.{meta_of}
-use Rattle.law_clients.proofs.InTables.{access_table}
+use Rattle.law_clients.proofs.Public.{access_table, meta_of}
 use Rattle.law_answers.specs.Commits.{IsBadRow, ObservesBad}
 use Rattle.law_answers.specs.Reads.{IsBusyBy, IsFoundBy, IsPhaseBy, LedBy, ReadsBy, ResolvesBy}
 use Rattle.law_answers.proofs.Rows.{after_last, reply_now, reply_stays, shows_bad_row}

@@ -8,7 +8,7 @@ use Rattle.sdb_types.specs.declared.record.Reply.TheVariants as reply
 use Rattle.sdb_record.specs.declared.coordinator.Decision.TheVariants as decision
 use Rattle.sdb_record.specs.Coordinator.{coordinator_key_of, decision_in, is_expired}
 use Rattle.sdb_record.specs.Parts.{before_record}
-use Rattle.sdb_record.proofs.ImageLaws.{row-key}
+use Rattle.sdb_record.proofs.Public.{row-key}
 use Rattle.sdb_record.specs.Rolls.{undo}
 use Rattle.sdb_phases.specs.declared.step.RecoverStep.TheVariants as steps
 use Rattle.sdb_phases.specs.declared.step.RecoverPhase.TheVariants as phase
@@ -16,9 +16,8 @@ use Rattle.sdb_phases.specs.Steps.{CanGet}
 use Rattle.sdb_phases.specs.CommitLaws.{is_malformed, holds_malformed}
 use Rattle.sdb_phases.specs.Recover.{Received, AreRecoverReplies, recover_after, recover_answer, recover_next, recover_pending, recover_request_at, roll_to, is_as_found}
 use Rattle.sdb_phases.specs.RecoverLaws.{RecoverInvariant, found_pending, received_fault}
-use Rattle.sdb_phases.proofs.Stands.{row_malformed}
-use Rattle.sdb_phases.proofs.RecoverStands.{recover_stands}
-use Rattle.sdb_types.proofs.Basics.{clash}
+use Rattle.sdb_phases.proofs.Public.{recover_stands, row_malformed}
+use Rattle.sdb_types.proofs.Public.{clash}
 use Rattle.law_answers.specs.Ends.{is_served}
 use Rattle.law_answers.proofs.PathLists.{reverse_more}
 use Rattle.law_answers.specs.Recoveries.{HaveNoFailure, RecoveryRun, RecoveryRunsWell, Resolves, RecoverCall, calls_of_recovery, received_of, with_recover_call}

@@ -4,18 +4,17 @@ use Rattle.std.specs.Prelude.{◌&&◌, ◌||◌, is_some, IfSome, nat_le, nat_l
 use Rattle.std.specs.List.{AllByRecursion, count_by}
 use Rattle.std.proofs.lemmas.List.{append-nil}
 use Rattle.law_answers.specs.Types.{Access, Answer, Doing, Event, Key, Next, Outcome, Read, Record, Request, Table, TableName, TxId, VacuumStep, Write}
-use Rattle.sdb_types.proofs.Basics.{clash, some_is, all_each as each_any, length_more, id_fits}
+use Rattle.sdb_types.proofs.Public.{all_each as each_any, clash, id_fits, length_more, some_is}
 use Rattle.sdb_record.specs.Meta.{is_moment}
 use Rattle.sdb_schema.specs.Catalog.{is_catalog}
 use Rattle.sdb_model.specs.declared.answer.Answer.TheVariants as answer
 use Rattle.sdb_model.specs.Calls.{StoreCall, calls_of, clock_at, calls_by, end_of, is_stored_reply}
-use Rattle.law_clients.proofs.Finishing.{given_finishes}
+use Rattle.law_clients.proofs.Public.{access_table, by_next, each_more, found_itself, given_finishes, other_no_commit, own_table}
 use Rattle.sdb_model.specs.Access.{in_access}
 use Rattle.sdb_model.specs.Causes.{ConflictsAtCommit, HasReply, IsBadRecord, IsCaused, IsCommitOf, IsRejected, MayPassMost, before, is_open, is_open_after, records_found, removes}
 use Rattle.sdb_model.specs.declared.statement.Statement.TheVariants as statement
 use Rattle.sdb_model.specs.Exec.{find_table, table_of}
-use Rattle.sdb_sqltext.proofs.OneWord.{vacuum_read}
-use Rattle.law_clients.proofs.Taken.{other_no_commit}
+use Rattle.sdb_sqltext.proofs.Public.{vacuum_read}
 use Rattle.sdb_model.specs.Sql.{Reads, reads_commit, reads_rollback, reads_vacuum}
 use Rattle.sdb_model.specs.Transactions.{Executed, begins, changes_nothing, ends, from_begin, id_of, is_conflict, is_done, rest_of, statements_by}
 use Rattle.sdb_exec.specs.Plans.{Planned, changes_on, first_unfit}
@@ -36,11 +35,7 @@ use Rattle.sdb_vacuum.specs.Vacuum.{Gives, VacuumAt, vacuum_step}
 use Rattle.sdb_client.specs.Client.{CallPost, ClientAt as Client, CommitNext, RowsReadPost, IsChangedAt, NextPost, OpenTxnPost, ReplyPost, StagePost, VacuumPost, after, answer_in, answer_of, given_answer, given_left, gives, holding, next_of, with_rows_read, pending_by, pending_of, resting, too_many, vacuum_left}
 use Rattle.law_clients.specs.About.{IsDoingIn, IsIn, IsOfTables, IsReadIn, IsRecordIn, IsStageIn, IsVacuumIn, IsWorkIn}
 use Rattle.law_clients.specs.States.{ClientState, IsAskedBy, IsCalled, IsFittedBy, IsUsing, IsUsingTxn}
-use Rattle.law_clients.proofs.Fitted.{by_next}
-use Rattle.law_clients.proofs.InTables.{access_table, own_table}
-use Rattle.law_clients.proofs.RowsFit.{found_itself}
 use Rattle.law_clients.specs.History.{executed_with_answer, waiting_of}
-use Rattle.law_clients.proofs.Lists.{each_more}
 use Rattle.law_clients.specs.System.{ClientCall, answer_of_outcome, call_event}
 use Rattle.law_answers.specs.Commits.{EndsBy, ObservesBad, StageByCalls}
 use Rattle.law_answers.specs.Invariant.{IsAnswered, IsCommitting, IsDoing, CauseInvariant, IsReadSetOf, IsReading, IsInVacuum, IsWaiting, Knows, DoingByHistory, ClientByHistory, begun_in, open_after}
@@ -83,7 +78,7 @@ use Rattle.law_answers.proofs.ShowsTold.{ShowsNext, next_same, showing_stays, sh
 use Rattle.law_answers.proofs.ShowsTurn.{read_next}
 use Rattle.law_answers.proofs.Takings.{left_id, left_idle, left_reads, middle_ends}
 use Rattle.sdb_types.specs.Replies.{is_fault}
-use Rattle.sdb_client.proofs.Calls.{noting_idle, noting_id}
+use Rattle.sdb_client.proofs.Public.{noting_id, noting_idle}
 use Rattle.sdb_model.specs.Tables.{is_data}
 
 ---- the call

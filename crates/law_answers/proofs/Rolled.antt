@@ -5,7 +5,7 @@ use Rattle.std.specs.List.{AllByRecursion}
 use Rattle.std.specs.Option.{option_map_or}
 use Rattle.std.proofs.lemmas.List.Elements.{Contains-append_cases, Contains-push_cases}
 use Rattle.law_answers.specs.Types.{Answer, Doing, Event, Outcome, Record, Table, TxId}
-use Rattle.sdb_types.proofs.Basics.{clash}
+use Rattle.sdb_types.proofs.Public.{clash}
 use Rattle.sdb_record.specs.Coordinator.{is_expired}
 use Rattle.sdb_model.specs.ReadSet.{has_finished, read_finished}
 use Rattle.sdb_model.specs.Calls.{StoreCall, calls_after, calls_of}
@@ -18,7 +18,7 @@ use Rattle.sdb_txn.specs.Read.{Asking, Ended, ReadStage, Resolving}
 use Rattle.law_clients.specs.History.{waiting_of}
 use Rattle.law_clients.specs.States.{ClientState}
 use Rattle.law_clients.specs.System.{answer_of_outcome}
-use Rattle.law_clients.proofs.Lists.{each_more}
+use Rattle.law_clients.proofs.Public.{each_more}
 use Rattle.sdb_txn.specs.declared.txn.Doing.TheVariants as doing
 use Rattle.sdb_txn.specs.Txn.{TxnAt}
 use Rattle.sdb_vacuum.specs.Vacuum as vacuum

@@ -10,13 +10,13 @@ use Rattle.sdb_types.specs.declared.record.Condition.TheVariants as condition
 use Rattle.sdb_types.specs.declared.record.Reply.TheVariants as reply
 use Rattle.sdb_types.specs.declared.record.Request.TheVariants as ask
 use Rattle.sdb_types.specs.declared.record.State.TheVariants as state
-use Rattle.sdb_types.proofs.Basics.{clash, none_some, some_is, one_of}
+use Rattle.sdb_types.proofs.Public.{clash, none_some, one_of, some_is}
 use Rattle.sdb_record.specs.declared.coordinator.Decision.TheVariants as decision
 use Rattle.sdb_record.specs.Coordinator.{coordinator_key_of, coordinator_row_of, decision_in, is_expired}
 use Rattle.sdb_record.specs.Meta.{checked, id_in, is_moment, is_unresolved}
 use Rattle.sdb_record.specs.Parts.{before_record}
 use Rattle.sdb_record.specs.Rolls.{back_to, forward_record, is_tombstone, undo}
-use Rattle.sdb_record.proofs.ImageLaws.{row-decision, row-key}
+use Rattle.sdb_record.proofs.Public.{row-decision, row-key}
 use Rattle.sdb_model.specs.Calls.{StoreCall, clock_at, decision_in_reply, is_of_row, is_read, records_read}
 use Rattle.sdb_model.specs.Causes.{IsEarly}
 use Rattle.sdb_model.specs.Counted.{request_of_back, roll_by}
@@ -27,17 +27,16 @@ use Rattle.sdb_phases.specs.declared.step.RecoverStep.TheVariants as steps
 use Rattle.sdb_phases.specs.Recover.{recover_back, recover_forward, recover_next, recover_request_at, roll_to, is_as_found, undecided}
 use Rattle.sdb_phases.specs.Work.{abort_of, look_of}
 use Rattle.sdb_txn.specs.Read.{Asking, Bad, Ended, Firm, Kind, Open, ReadStage, Resolving, answered, kind_of, read_pending_at, read_step, resolved, settle, settle_one}
-use Rattle.law_clients.proofs.Meta.{meta_of}
+use Rattle.law_clients.proofs.Public.{meta_of, state_says}
 use Rattle.sdb_vacuum.specs.declared.work.VacuumStep.TheVariants as vacuuming
 use Rattle.sdb_vacuum.specs.Vacuum as vacuum
 use Rattle.sdb_vacuum.specs.Vacuum.{First, Malformed, Nothing, Tombstone, Unresolved, VacuumAt, VacuumStage, first_of, first_one, next_of_row, with_call, next_table, pending_at, removal_answered, step_at, tombstone_or}
 use Rattle.law_answers.specs.Rolled.{HasLooked, IsDealtWith, IsRolledBy, PhaseLooks, ReadRolls, RolledBut, VacuumRolls}
 use Rattle.law_answers.proofs.ReadSteps.{open_is, prepared_moment}
 use Rattle.law_answers.proofs.Rows.{after_last, after_more, asks_row, shown_is}
-use Rattle.law_clients.proofs.Meanings.{state_says}
 use Rattle.law_answers.proofs.Showing.{firm_is, look_rows, undo_unread, unread_rows}
 use Rattle.sdb_types.specs.Replies.{is_answered}
-use Rattle.sdb_txn.proofs.Images.{held_of}
+use Rattle.sdb_txn.proofs.Public.{held_of}
 
 ---- what rolls a record
 

@@ -13,8 +13,7 @@ use Rattle.std.proofs.lemmas.List.Elements.{All-from_recursion, Contains-append_
 use Rattle.law_answers.specs.Types.{Decided, Decision, Key, Record, Reply, Request, TxId}
 use Rattle.sdb_types.specs.Exact.{equal_of}
 use Rattle.sdb_types.specs.Order.{key_cmp}
-use Rattle.sdb_types.proofs.Basics.{by_test, clash, none_some, all_each as each_any}
-use Rattle.sdb_types.proofs.KeyOrder.{key_exact, key_total}
+use Rattle.sdb_types.proofs.Public.{all_each as each_any, by_test, clash, key_exact, key_total, none_some}
 use Rattle.sdb_record.specs.declared.coordinator.Decision.TheVariants as decision
 use Rattle.sdb_record.specs.Coordinator.{coordinator_key_of, decision_in, is_coordinator_table}
 use Rattle.sdb_record.specs.Meta.{checked, is_transactional}
@@ -24,7 +23,7 @@ use Rattle.sdb_model.specs.ReadSet.{finds_transactional, read_finished, reads_ro
 use Rattle.sdb_model.specs.Causes.{HasReply, IsBad, IsDecided, PutsRow}
 use Rattle.law_answers.specs.Commits.{IsBadRow, IsGivenUp, NoneOfRow, ObservesBad}
 use Rattle.law_answers.proofs.Lists.{each_in, each_kept}
-use Rattle.law_clients.proofs.Noting.{coordinators}
+use Rattle.law_clients.proofs.Public.{coordinators}
 use Rattle.sdb_model.specs.Tables.{is_data}
 
 ---- keys

@@ -11,7 +11,7 @@ use Rattle.sdb_types.specs.declared.record.Reply.TheVariants as reply
 use Rattle.sdb_types.specs.declared.record.Request.TheVariants as ask
 use Rattle.sdb_types.specs.declared.record.State.TheVariants as state
 use Rattle.sdb_types.specs.Contents.{CanAnswer, in_span, rise}
-use Rattle.sdb_types.proofs.Basics.{clash, all_each as each_any, one_of}
+use Rattle.sdb_types.proofs.Public.{all_each as each_any, clash, one_of}
 use Rattle.sdb_record.specs.declared.access.Access.TheVariants as access
 use Rattle.sdb_record.specs.Coordinator.{is_coordinator_table}
 use Rattle.sdb_record.specs.Meta.{is_in, is_transactional}
@@ -20,12 +20,10 @@ use Rattle.sdb_model.specs.Calls.{StoreCall, is_read, records_read}
 use Rattle.sdb_model.specs.Events.{table_asked}
 use Rattle.sdb_model.specs.ReadSet.{KeyRead, ReadItem, SpanRead, finds_transactional, meaning_of, read_item_of, read_items, read_of, reads_of, reads_rows}
 use Rattle.sdb_model.specs.DirtyReads.{IsMeantBy}
-use Rattle.law_clients.proofs.Meanings.{meaning_rolled, meaning_settled}
+use Rattle.law_clients.proofs.Public.{access_table, each_more, meaning_rolled, meaning_settled}
 use Rattle.sdb_txn.specs.Read.{request_of}
 use Rattle.sdb_snapshot.specs.Reads as snapshot
-use Rattle.law_clients.proofs.InTables.{access_table}
 use Rattle.sdb_client.specs.Client.{with_rows_read}
-use Rattle.law_clients.proofs.Lists.{each_more}
 use Rattle.sdb_txn.specs.Txn.{TxnAt}
 use Rattle.law_answers.specs.Changes.{HasRead, IsRolledAs, IsRows, IsSettledAs, SeenBy}
 use Rattle.law_answers.proofs.ReadSteps.{IsDataTable}

@@ -9,15 +9,14 @@ use Rattle.law_answers.specs.Types.{Access, Condition, Decided, Decision, Key, M
 use Rattle.sdb_types.specs.declared.record.Reply.TheVariants as reply
 use Rattle.sdb_types.specs.declared.record.State.TheVariants as state
 use Rattle.sdb_types.specs.Contents.{CanAnswer, rise, starts_after}
-use Rattle.sdb_types.proofs.Basics.{and_parts, some_is, all_each as each_any}
+use Rattle.sdb_types.proofs.Public.{all_each as each_any, and_parts, some_is}
 use Rattle.sdb_record.specs.declared.access.Access.TheVariants as access
 use Rattle.sdb_record.specs.declared.coordinator.Decision.TheVariants as decision
 use Rattle.sdb_record.specs.Coordinator.{coordinator_key_of, coordinator_row_of, decision_in, is_coordinator_table, is_expired}
 use Rattle.sdb_record.specs.Meta.{checked, id_in, is_in, is_moment, is_transactional, is_unresolved}
 use Rattle.sdb_record.specs.Parts.{before_record}
 use Rattle.sdb_record.specs.Rolls.{forward_record, image_under, undo}
-use Rattle.sdb_record.proofs.ImageLaws.{row-decision, row-key}
-use Rattle.sdb_record.proofs.RollLaws.{forward-key}
+use Rattle.sdb_record.proofs.Public.{forward-key, row-decision, row-key}
 use Rattle.sdb_model.specs.Calls.{StoreCall, decision_in_reply, is_of_row, is_read, records_read}
 use Rattle.sdb_model.specs.Events.{table_asked}
 use Rattle.sdb_model.specs.ReadSet.{condition_asked, reads_rows, rolls}
@@ -26,15 +25,12 @@ use Rattle.sdb_phases.specs.declared.step.RecoverStep.TheVariants as steps
 use Rattle.sdb_phases.specs.Recover.{recover_back, recover_forward, recover_next, recover_request_at, roll_to, is_as_found, undecided}
 use Rattle.sdb_phases.specs.Work.{abort_of, look_of}
 use Rattle.sdb_txn.specs.Read.{Asking, Bad, Ended, Firm, Kind, Open, ReadStage, Resolving, answered, kind_of, opened, read_pending_at, read_step, request_of, resolved, settle, settle_one}
-use Rattle.law_clients.proofs.Lists.{each_more}
-use Rattle.law_clients.proofs.Meta.{meta_of}
+use Rattle.law_clients.proofs.Public.{abort_rolls_none, back_rolls_to, before_key, coordinators, each_more, each_of, find_last, find_more, forward_rolls_to, IsRollTo, look_rolls_none, meta_of, read_unrolled, rolls_none_after, unrolled_more}
 use Rattle.law_answers.specs.Changes.{HasRead, HasObserved, IsRolledAs, IsRows, IsSettledAs, PhaseObserves, StageObserves}
 use Rattle.law_answers.proofs.ReadSteps.{open_is}
 use Rattle.law_answers.proofs.Rows.{asks_row, shown_is}
 use Rattle.law_clients.specs.Calls.{IsUnrolled}
-use Rattle.law_clients.proofs.Meanings.{IsRollTo, abort_rolls_none, back_rolls_to, before_key, each_of, find_last, find_more, forward_rolls_to, look_rolls_none, read_unrolled, rolls_none_after, unrolled_more}
-use Rattle.law_clients.proofs.Noting.{coordinators}
-use Rattle.sdb_txn.proofs.Images.{held_of}
+use Rattle.sdb_txn.proofs.Public.{held_of}
 
 pub firm_is : (r : Record) → kind_of r ≡ Firm → is_in state.Committed r.columns ≡ true
 firm_is r e = by (is_transactional r) (is_in state.Committed r.columns) (checked r.columns) refl e

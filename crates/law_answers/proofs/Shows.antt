@@ -7,7 +7,7 @@ use Rattle.std.proofs.lemmas.List.{append-nil, append_assoc}
 use Rattle.std.proofs.lemmas.List.Elements.{filter-append}
 use Rattle.std.proofs.lemmas.List.Sums.{fold-append}
 use Rattle.law_answers.specs.Types.{Answer, Event, Image, Key, Pair, Statement, Table, Value}
-use Rattle.sdb_types.proofs.Basics.{clash, all_each as each_any}
+use Rattle.sdb_types.proofs.Public.{all_each as each_any, clash}
 use Rattle.sdb_model.specs.declared.answer.Answer.TheVariants as answer
 use Rattle.sdb_model.specs.Calls.{StoreCall, calls_of}
 use Rattle.sdb_model.specs.ReadSet.{has_finished}

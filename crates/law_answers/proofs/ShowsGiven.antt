@@ -2,7 +2,7 @@
 use Rattle.std.proofs.Common.{◌≡◌, ◌⊎◌, inl, inr, ℕ, Bool, true, false, not, List, [], ◌∷◌, ◌++◌, Option, Some, None, refl, sym, ap, subst, ◌∙◌}
 use Rattle.std.specs.Prelude.{if◌then◌else◌, ◌&&◌, is_some}
 use Rattle.law_answers.specs.Types.{Access, Answer, Event, Image, Key, Keyed, Pair, PlanStep, Table}
-use Rattle.sdb_types.proofs.Basics.{all_each as each_any}
+use Rattle.sdb_types.proofs.Public.{all_each as each_any}
 use Rattle.sdb_schema.specs.Catalog.{is_catalog}
 use Rattle.sdb_model.specs.declared.answer.Answer.TheVariants as answer
 use Rattle.sdb_model.specs.Causes.{refused}
@@ -17,14 +17,13 @@ use Rattle.sdb_snapshot.specs.Sets.{WereRead}
 use Rattle.sdb_snapshot.specs.Reads.{is_key_read}
 use Rattle.sdb_snapshot.specs.Seen.{overlay, row_seen}
 use Rattle.sdb_snapshot.specs.Written.{with_writes}
-use Rattle.sdb_snapshot.proofs.Shown.{no_row}
+use Rattle.sdb_snapshot.proofs.Public.{no_row}
 use Rattle.sdb_txn.specs.declared.txn.Doing.TheVariants as doing
 use Rattle.sdb_txn.specs.Txn.{TxnAt}
 use Rattle.sdb_client.specs.Client.{given_answer, given_left, gives, left_by_answer, too_many, written}
 use Rattle.law_answers.specs.Views.{HasBefore, IsViewOf, SeesOwn, GivesOwn}
 use Rattle.law_answers.specs.Invariant.{begun_in, open_after}
-use Rattle.law_clients.proofs.InTables.{access_table, own_table}
-use Rattle.law_clients.proofs.RowsFit.{found_itself}
+use Rattle.law_clients.proofs.Public.{access_table, found_itself, own_table}
 use Rattle.law_answers.specs.Unfit.{fits_if_any}
 use Rattle.law_answers.proofs.Given.{asked_gives}
 use Rattle.law_answers.proofs.OneRow.{IsSeen, fits_before, key_told, one_row_left, rows_told}

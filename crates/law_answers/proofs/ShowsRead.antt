@@ -10,10 +10,8 @@ use Rattle.law_answers.specs.Types.{Access, Event, Key, Pair, Record, Reply, Req
 use Rattle.sdb_types.specs.declared.record.Reply.TheVariants as reply
 use Rattle.sdb_types.specs.declared.record.Request.TheVariants as ask
 use Rattle.sdb_types.specs.Contents.{CanAnswer, record_among}
-use Rattle.sdb_types.proofs.Basics.{clash, none_some, some_is, or_else}
-use Rattle.sdb_types.proofs.KeyOrder.{key_total}
+use Rattle.sdb_types.proofs.Public.{clash, key_total, none_some, or_else, same_key_exact, some_is}
 use Rattle.sdb_types.specs.Order.{same_key}
-use Rattle.sdb_types.proofs.Keys.{same_key_exact}
 use Rattle.sdb_snapshot.specs.Entries.{value_at}
 use Rattle.sdb_record.specs.declared.access.Access.TheVariants as access
 use Rattle.sdb_record.specs.Among.{is_written, write_among}
@@ -29,7 +27,7 @@ use Rattle.sdb_snapshot.specs.Sets.{WereRead}
 use Rattle.sdb_snapshot.specs.Reads.{base_at, is_key_read}
 use Rattle.sdb_snapshot.specs.Rows.{row_found}
 use Rattle.sdb_snapshot.specs.Seen.{Seen, row_seen, row_with}
-use Rattle.law_clients.proofs.Meanings.{among_found}
+use Rattle.law_clients.proofs.Public.{among_found}
 use Rattle.sdb_txn.specs.Txn.{TxnAt}
 use Rattle.sdb_client.specs.Client.{with_rows_read}
 use Rattle.law_answers.specs.Changes.{HasRead, IsRows}

@@ -8,7 +8,7 @@ use Rattle.sdb_snapshot.specs.Seen.{Seen}
 use Rattle.sdb_txn.specs.declared.txn.Doing.TheVariants as doing
 use Rattle.sdb_txn.specs.Txn.{TxnAt}
 use Rattle.sdb_client.specs.Client.{ClientAt}
-use Rattle.sdb_types.proofs.Basics.{some_is}
+use Rattle.sdb_types.proofs.Public.{some_is}
 use Rattle.law_answers.specs.Counts.{ArePaired}
 use Rattle.law_answers.specs.Views.{AllGiveOwn, IsViewOf, SeesOwn, SeesOwnIn, ViewBy, GivesOwn}
 use Rattle.law_answers.specs.Invariant.{IsAnswered, begun_in, open_after}

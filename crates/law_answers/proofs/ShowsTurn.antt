@@ -13,8 +13,7 @@ use Rattle.sdb_exec.specs.Plans.{Planned}
 use Rattle.sdb_model.specs.Reads.{access_of}
 use Rattle.sdb_txn.specs.Read.{request_of}
 use Rattle.sdb_snapshot.specs.Sets.{WereRead}
-use Rattle.law_clients.proofs.InTables.{access_table, own_table}
-use Rattle.law_clients.proofs.RowsFit.{found_itself}
+use Rattle.law_clients.proofs.Public.{access_table, found_itself, own_table}
 use Rattle.sdb_txn.specs.Txn.{TxnAt}
 use Rattle.sdb_client.specs.Client.{given_answer, given_left, gives, with_rows_read}
 use Rattle.law_answers.specs.Changes.{HasRead}
@@ -25,7 +24,7 @@ use Rattle.law_answers.proofs.ShowsRead.{kept_now, now_has}
 use Rattle.law_answers.proofs.ShowsTold.{sees_then}
 use Rattle.law_answers.proofs.Takings.{left_idle}
 use Rattle.law_answers.proofs.Unfit.{table_at}
-use Rattle.sdb_client.proofs.Calls.{noting_idle}
+use Rattle.sdb_client.proofs.Public.{noting_idle}
 
 module _ (catalog : List Table) (c : ℕ) (events : List Event) (e : Event) (acked : List Executed) (all : AllByRecursion (IsAnswered catalog events c) acked) (n : ℕ) (begin : Executed) (body : List Executed) (since : from_begin n acked ≡ begin ∷ body) (number : n ≡ begun_in acked)
     (t : TxnAt) (sees : SeesOwn catalog events c body t.seen) (kept : WereRead t.seen.read_set t.seen.writes) (z : Executed) (p : Planned) (a : Access) (calls : List StoreCall) (images : List Record) (are : calls_of (events ++ e ∷ []) c z ≡ calls) (h : HasRead (request_of a) calls images []) where

@@ -5,7 +5,7 @@ use Rattle.std.specs.List.{AllByRecursion}
 use Rattle.std.proofs.lemmas.List.{append-nil}
 use Rattle.std.proofs.lemmas.List.Elements.{All-contains_itself, recursion_from_All}
 use Rattle.law_answers.specs.Types.{Answer, Event, Image, Key, Pair, Table, TxId}
-use Rattle.sdb_types.proofs.Basics.{all_each as each_any, one_of}
+use Rattle.sdb_types.proofs.Public.{all_each as each_any, one_of}
 use Rattle.sdb_model.specs.declared.answer.Answer.TheVariants as answer
 use Rattle.sdb_model.specs.DirtyReads.{AnswersHaveRows, HasRow, AnswersAreOf}
 use Rattle.sdb_model.specs.ReadSet.{has_read}

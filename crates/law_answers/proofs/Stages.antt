@@ -10,13 +10,12 @@ use Rattle.sdb_types.specs.declared.record.Condition.TheVariants as condition
 use Rattle.sdb_types.specs.declared.record.Reply.TheVariants as reply
 use Rattle.sdb_types.specs.declared.record.Request.TheVariants as ask
 use Rattle.sdb_types.specs.Contents.{CanAnswer}
-use Rattle.sdb_types.proofs.Basics.{clash, none_some, some_is, all_each as each_any, append_all as each_append}
+use Rattle.sdb_types.proofs.Public.{all_each as each_any, append_all as each_append, clash, none_some, some_is}
 use Rattle.sdb_record.specs.declared.coordinator.Decision.TheVariants as decision
 use Rattle.sdb_record.specs.Coordinator.{coordinator_key_of, coordinator_row_of, decision_in}
 use Rattle.sdb_record.specs.Meta.{is_moment}
 use Rattle.sdb_record.specs.Rolls.{IsBaseOf, IsWrite, undo}
-use Rattle.sdb_record.proofs.ImageLaws.{row-decision, row-key}
-use Rattle.sdb_record.proofs.TakenLaws.{prepared-key}
+use Rattle.sdb_record.proofs.Public.{prepared-key, row-decision, row-key}
 use Rattle.sdb_record.specs.Among.{is_written}
 use Rattle.sdb_model.specs.Calls.{StoreCall, decision_learned, decision_in_reply, is_of_row, key_asked, put_by, records_observed, record_at_key}
 use Rattle.sdb_model.specs.Causes.{HasReply, IsDecided, PutsRow}
@@ -27,7 +26,7 @@ use Rattle.sdb_phases.specs.Checks.{check_of_read, check_of_scan, checks, differ
 use Rattle.sdb_phases.specs.Commit.{Stage, Preparing, Checking, Deciding, Forward, Stopping, Back, Over, after_abort, after_check, after_prepare, back, checking, decided, forward, pending, preparing, out_of_memory, out_of_memory_answer, step}
 use Rattle.sdb_phases.specs.Steps.{decide_next, judged, prepare_step, refused, step_of_row, touched_after, validate_step}
 use Rattle.sdb_phases.specs.Work.{Work, abort_of, back_of, backs, decide_of, look_of, prepare_of, prepares, is_as_prepared}
-use Rattle.law_clients.proofs.Lists.{each_at, each_filter, each_map, each_more}
+use Rattle.law_clients.proofs.Public.{each_at, each_filter, each_map, each_more}
 use Rattle.law_answers.specs.Commits.{EndsBy, HasFailed, HasFaulted, IsFailing, IsUndecided, NoneDecides, NoneOfRow, PutsOutOfMemory, StageByCalls}
 use Rattle.law_answers.proofs.Rows.{after_last, after_more, asks_data, asks_row, bad_stays, decided_stays, found_now, given_up_now, given_up_stays, learned_now, none_learned, none_puts, reply_now, reply_stays, shown_is, shows_bad_row}
 use Rattle.sdb_types.specs.Replies.{is_fault}

@@ -14,8 +14,7 @@ use Rattle.sdb_types.specs.Contents.{CanAnswer}
 use Rattle.sdb_record.specs.declared.coordinator.Decision.TheVariants as decision
 use Rattle.sdb_record.specs.Coordinator.{coordinator_key_of, decision_in}
 use Rattle.sdb_record.specs.Rolls.{prepared_record}
-use Rattle.sdb_record.proofs.ImageLaws.{row-key}
-use Rattle.sdb_record.proofs.TakenLaws.{prepared-key}
+use Rattle.sdb_record.proofs.Public.{prepared-key, row-key}
 use Rattle.sdb_phases.specs.declared.step.Outcome.TheVariants as outcome
 use Rattle.sdb_phases.specs.declared.step.DecideStep.TheVariants as steps
 use Rattle.sdb_phases.specs.declared.step.DecidePhase.TheVariants as phase
@@ -31,7 +30,7 @@ use Rattle.law_answers.proofs.PathLists.{contains_at, take_next}
 use Rattle.law_answers.proofs.PathRows.{NoRow, no_row_prepare, no_row_check, no_put_back, abort_no_put, put_no_abort, look_no_abort}
 use Rattle.law_answers.proofs.Touches.{Touches, applied, touches_more, touches_all, touches_fault, touches_stop, begins_here, writes_here}
 use Rattle.law_answers.proofs.Goes.{AsksTo, AtBack, AtCheck, AtForward, AtLost, AtPrepare, AtPut, AtRow, Caused, Checked, Clear, Ends, Goes, Leads, NotOwn, asks_check, asks_of, asks_prepare, asks_roll, asks_row, by_stage, caused_more, leads_all, leads_more, learned_more}
-use Rattle.sdb_types.proofs.Basics.{all_each, all_last}
+use Rattle.sdb_types.proofs.Public.{all_each, all_last}
 
 abbrev pub one : Request → Reply → Call
 one q r = record { request = q; reply = r }

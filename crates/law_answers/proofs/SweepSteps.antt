@@ -11,7 +11,7 @@ use Rattle.sdb_types.specs.declared.record.Request.TheVariants as ask
 use Rattle.sdb_types.specs.declared.record.Condition.TheVariants as condition
 use Rattle.sdb_types.specs.declared.record.State.TheVariants as state
 use Rattle.sdb_types.specs.Contents.{CanAnswer}
-use Rattle.sdb_types.proofs.Basics.{all_each as each_any, clash, none_some, some_is}
+use Rattle.sdb_types.proofs.Public.{all_each as each_any, clash, none_some, some_is}
 use Rattle.sdb_record.specs.declared.access.Access.TheVariants as access
 use Rattle.sdb_record.specs.Coordinator.{decision_in, is_coordinator_table}
 use Rattle.sdb_record.specs.Meta.{id_in, is_committed, is_transactional}
@@ -34,7 +34,7 @@ use Rattle.law_answers.specs.Vacuums.{VacuumStageBy, VacuumEndBy, VacuumBy}
 use Rattle.law_answers.proofs.ReadSteps.{ComesTo, IsDataTable, bad_is, found_more, found_rows, open_is, recovered_is, rows_data, rows_read, shown_read}
 use Rattle.law_answers.proofs.Rows.{reply_now}
 use Rattle.sdb_types.specs.Replies.{is_applied, is_fault}
-use Rattle.sdb_vacuum.proofs.Counts.{open_state}
+use Rattle.sdb_vacuum.proofs.Public.{open_state}
 
 ---- deletes of committed records
 

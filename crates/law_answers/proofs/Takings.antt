@@ -19,8 +19,7 @@ use Rattle.sdb_model.specs.Follows.{has_stopped}
 use Rattle.sdb_model.specs.Refused.{refusal_by, refusal_of}
 use Rattle.sdb_model.specs.Sql.{Reads, reads_begin, reads_commit, reads_rollback, reads_vacuum}
 use Rattle.sdb_model.specs.Transactions.{Executed, begins, changes_nothing, ends, from_begin, id_of, is_conflict, is_done, rest_of, statements_by}
-use Rattle.sdb_sqltext.proofs.Clauses.{not_both, one_refusal, one_statement}
-use Rattle.sdb_sqltext.proofs.OneWord.{begin_read, commit_read, rollback_read, vacuum_read}
+use Rattle.sdb_sqltext.proofs.Public.{begin_read, commit_read, not_both, one_refusal, one_statement, rollback_read, vacuum_read}
 use Rattle.sdb_exec.specs.declared.plan.PlanStep.TheVariants.{Finished, Read as Wants}
 use Rattle.sdb_exec.specs.Plans.{Planned, changes_on, first_unfit}
 use Rattle.sdb_model.specs.Reads.{access_of}
@@ -32,14 +31,9 @@ use Rattle.sdb_client.specs.Client.{AskPost, BeginPost, ClientAt as Client, Comm
 use Rattle.law_clients.specs.Invariant.{IsInner}
 use Rattle.sdb_snapshot.specs.Seen.{overlay, row_seen}
 use Rattle.law_clients.specs.States.{ClientState, IsReady}
-use Rattle.law_clients.proofs.Taken.{other_no_begin, other_no_commit, refused_no_commit}
-use Rattle.law_clients.proofs.Finishing.{given_finishes}
-use Rattle.law_clients.proofs.InTables.{access_table, own_table}
-use Rattle.law_clients.proofs.RowsFit.{found_itself}
-use Rattle.law_clients.proofs.Whole.{by_memory, literals_read, other_no_rollback}
+use Rattle.law_clients.proofs.Public.{access_table, by_memory, each_more, found_itself, given_finishes, literals_read, other_no_begin, other_no_commit, other_no_rollback, own_table, refused_no_commit, take_said}
 use Rattle.law_clients.specs.History.{executed_of_take, waiting_of}
-use Rattle.law_clients.proofs.Lists.{each_more}
-use Rattle.sdb_types.proofs.Basics.{by_test, clash, none_some, some_is, length_more}
+use Rattle.sdb_types.proofs.Public.{by_test, clash, length_more, none_some, some_is}
 use Rattle.law_answers.specs.Commits.{StageByCalls}
 use Rattle.law_answers.specs.Conflicts.{ChecksBy}
 use Rattle.law_answers.specs.Filled.{IsFilled, IsFilledBy, IsFilledIn, rows_counted_by, records_found_by}
@@ -76,7 +70,6 @@ use Rattle.sdb_model.specs.ReadSet.{ReadItem, has_read, read_finished}
 use Rattle.sdb_model.specs.Transactions.{rest_of}
 use Rattle.sdb_record.specs.declared.coordinator.Decision.TheVariants as decision
 use Rattle.std.proofs.lemmas.Bool.{and_parts}
-use Rattle.law_clients.proofs.Answered.{take_said}
 use Rattle.sdb_model.specs.Tables.{is_data}
 
 ---- texts

@@ -7,7 +7,7 @@ use Rattle.sdb_types.specs.declared.record.Reply.TheVariants as reply
 use Rattle.sdb_phases.specs.Work.{Work, prepares, prepare_of}
 use Rattle.sdb_phases.specs.CommitLaws.{writes_of}
 use Rattle.law_answers.specs.Paths.{Call, touched, touched_by, Begins, BeginsSo}
-use Rattle.sdb_types.proofs.Basics.{some_is}
+use Rattle.sdb_types.proofs.Public.{some_is}
 
 abbrev pub applied : Request → Call
 applied q = record { request = q; reply = reply.Applied }

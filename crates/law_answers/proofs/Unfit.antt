@@ -15,9 +15,7 @@ use Rattle.sdb_types.specs.declared.record.Reply.TheVariants as reply
 use Rattle.sdb_types.specs.Contents.{CanAnswer, in_span, rise, record_among}
 use Rattle.sdb_types.specs.Exact.{equal_of}
 use Rattle.sdb_types.specs.Order.{key_cmp, same_key}
-use Rattle.sdb_types.proofs.Basics.{by_test, clash, none_some, some_is, or_else}
-use Rattle.sdb_types.proofs.KeyOrder.{key_exact, key_total}
-use Rattle.sdb_types.proofs.Keys.{same_key_exact}
+use Rattle.sdb_types.proofs.Public.{by_test, clash, key_exact, key_total, none_some, or_else, same_key_exact, some_is}
 use Rattle.sdb_snapshot.specs.Entries.{value_at}
 use Rattle.sdb_record.specs.declared.access.Access.TheVariants as access
 use Rattle.sdb_record.specs.Coordinator.{decision_in, is_coordinator_table}
@@ -42,13 +40,11 @@ use Rattle.sdb_snapshot.specs.Reads.{base_at}
 use Rattle.sdb_snapshot.specs.Rows.{tables_of_reads}
 use Rattle.sdb_snapshot.specs.Seen.{Seen, overlay, row_seen, row_with, tables_seen}
 use Rattle.sdb_snapshot.specs.Written.{with_writes}
-use Rattle.sdb_snapshot.proofs.Differences.{noted_images}
-use Rattle.sdb_snapshot.proofs.Keys.{value_last}
-use Rattle.sdb_snapshot.proofs.Shown.{get_seen, own_is}
+use Rattle.sdb_snapshot.proofs.Public.{get_seen, noted_images, own_is, value_last}
 use Rattle.sdb_txn.specs.Txn.{TxnAt}
 use Rattle.sdb_client.specs.Client.{given_answer, given_left, gives, with_rows_read, written}
 use Rattle.law_clients.specs.Fitting.{row_is_well_typed}
-use Rattle.law_clients.proofs.InTables.{access_table}
+use Rattle.law_clients.proofs.Public.{access_table}
 use Rattle.law_answers.specs.Commits.{IsBadRow, ObservesBad}
 use Rattle.law_answers.specs.Changes.{HasRead, IsRows, IsSettledAs}
 use Rattle.law_answers.specs.Unfit.{SeesFitOrRead, WasMisfit, AreStoredReplies}

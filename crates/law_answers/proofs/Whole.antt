@@ -24,7 +24,7 @@ use Rattle.sdb_snapshot.specs.Sets.{WereRead}
 use Rattle.law_clients.specs.About.{IsOfTables}
 use Rattle.law_clients.specs.States.{ClientState, IsCalled, IsReady, doing_of, system_of, with_state}
 use Rattle.law_clients.specs.History.{executed_of_take, waiting_of}
-use Rattle.law_clients.proofs.Tellings.{said_more}
+use Rattle.law_clients.proofs.Public.{said_more}
 use Rattle.law_clients.specs.Machine.{abstract_read}
 use Rattle.law_clients.specs.System.{ClientCall, ClientOk, Open, Reading, call_event}
 use Rattle.law_clients.specs.Reads.{IsScanOk}
@@ -33,7 +33,7 @@ use Rattle.law_clients.specs.Invariant.{RunInvariant}
 use Rattle.sdb_txn.specs.Read.{ReadAt}
 use Rattle.sdb_txn.specs.declared.txn.Doing.TheVariants as doing
 use Rattle.sdb_txn.specs.Txn.{TxnAt}
-use Rattle.sdb_types.proofs.Basics.{none_some, some_is, all_each as each_any, or_false, itself}
+use Rattle.sdb_types.proofs.Public.{all_each as each_any, itself, none_some, or_false, some_is}
 use Rattle.law_answers.specs.Invariant.{AnswersHaveCauses, IsAnswered, CauseInvariant, IsGate, IsWaiting, Knows, with_stopped}
 use Rattle.law_answers.proofs.Calls.{clock_more}
 use Rattle.law_answers.proofs.Knowing.{knows_still}

@@ -7,9 +7,7 @@ use Rattle.law_protocol.specs.Plan.{Plan}
 use Rattle.law_protocol.specs.Lawful.{Labelled, IsRowObserved, protocol_state}
 use Rattle.law_protocol.specs.Trace.{history}
 use Rattle.law_protocol.specs.Explained.{IsRunOf}
-use Rattle.law_protocol.proofs.Known.{row_known}
-use Rattle.law_protocol.proofs.Settled.{aborted_of}
-use Rattle.law_protocol.proofs.Times.{whole_of}
+use Rattle.law_protocol.proofs.Public.{aborted_of, row_known, whole_of}
 
 some_is : (x y : Decision) → Some x ≡ Some y → x ≡ y
 some_is x y e = cc

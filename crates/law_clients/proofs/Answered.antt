@@ -18,7 +18,7 @@ use Rattle.law_clients.specs.Filed.{number, IsFiledAt}
 use Rattle.law_clients.specs.History.{ClientHistory, waiting_of, all_statements, with_waiting, with_answered, begun_in, count_of, OpenFiled, IsOpened, HasBegun, HistoryInvariant, IsApart, KeepsTxns, IsAnswerOf, IsOrdinary, BeginsHold, EndsHold, IsCounted, NamesIt, executed_of_take, executed_with_answer}
 use Rattle.law_clients.proofs.Places.{story_same, story_kept}
 use Rattle.law_clients.proofs.Tellings.{said_more, now_more, SameOf, same_of, filed_later, begun_later, within, apart_at, opened_counts}
-use Rattle.sdb_types.proofs.Basics.{clash, none_some, some_is, itself}
+use Rattle.sdb_types.proofs.Public.{clash, itself, none_some, some_is}
 use Rattle.law_clients.proofs.Begin.{here_owner as begins_owner}
 
 plus_one : (n : ℕ) → 1 + n ≡ n + 1

@@ -15,7 +15,7 @@ use Rattle.sdb_model.specs.Transactions.{changes_nothing, is_answered_from_rows}
 use Rattle.sdb_exec.specs.declared.plan.PlanStep.TheVariants.{Finished}
 use Rattle.sdb_exec.specs.Plans.{Planned, answer_on, changes_on, columns_at, first_unfit, has_all_literals, step_of}
 use Rattle.sdb_model.specs.Reads.{access_of}
-use Rattle.sdb_exec.proofs.Places.{named_is_table}
+use Rattle.sdb_exec.proofs.Public.{named_is_table}
 use Rattle.law_protocol.specs.History.{at}
 use Rattle.sdb_snapshot.specs.Sets.{IsSetInvariant}
 use Rattle.sdb_snapshot.specs.Seen.{Seen, overlay, with_written}
@@ -24,7 +24,7 @@ use Rattle.sdb_txn.specs.declared.txn.Doing.TheVariants as doing
 use Rattle.sdb_txn.specs.Txn.{TxnAt, reading}
 use Rattle.sdb_client.specs.Client.{ClientAt as Client, given_answer, given_left, gives, holding, is_covered, plan_of, too_many, written}
 use Rattle.sdb_client.specs.Inside.{IsValidPlan, IsKeyRead, MayWrite}
-use Rattle.sdb_client.proofs.Writable.{may_write}
+use Rattle.sdb_client.proofs.Public.{may_write}
 use Rattle.law_clients.specs.ReadAt.{IsOfData}
 use Rattle.law_clients.specs.System.{ClientAt, Open, with_client}
 use Rattle.law_clients.specs.Body.{IsCovered}
@@ -34,7 +34,7 @@ use Rattle.law_clients.specs.Fitting.{tables_are_well_typed}
 use Rattle.law_clients.specs.States.{ClientState, IsReady, doing_of, abstract_txn, system_of}
 use Rattle.law_clients.proofs.RowsFit.{answers_on}
 use Rattle.law_clients.proofs.Taken.{IsSo, at_open, moved}
-use Rattle.sdb_types.proofs.Basics.{by_test}
+use Rattle.sdb_types.proofs.Public.{by_test}
 
 pub covered_is : (s : Seen) (a : Access) → is_covered s a ≡ true → IsCovered s a
 covered_is s (access.Get key) h = h

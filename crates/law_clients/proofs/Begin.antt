@@ -14,7 +14,7 @@ use Rattle.law_clients.specs.System.{ClientAt, Resting, Open, ClientOk, Has, is_
 use Rattle.law_clients.proofs.Clients.{client_later, others_spared, with_here}
 use Rattle.law_clients.proofs.Fresh.{in_turn}
 use Rattle.law_clients.proofs.Seen.{seen_nothing}
-use Rattle.sdb_types.proofs.Basics.{id_fits as fits}
+use Rattle.sdb_types.proofs.Public.{id_fits as fits}
 
 ---- numbers
 

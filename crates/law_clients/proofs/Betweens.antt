@@ -1,7 +1,7 @@
 -- Between two statements again: what the answer of a statement leaves of its session's open transaction.
 use Rattle.std.proofs.Common.{◌≡◌, Bool, true, false, List, [], ◌∷◌, ◌++◌, Option, Some, None, Ok, refl, sym, ap, subst, ◌∙◌}
 use Rattle.std.specs.Prelude.{fold, is_some, map, ◌&&◌, ◌||◌, if◌then◌else◌}
-use Rattle.sdb_types.proofs.Basics.{by_test, none_some, some_is, and_false, map_last}
+use Rattle.sdb_types.proofs.Public.{and_false, by_test, map_last, none_some, some_is}
 use Rattle.law_clients.specs.Types.{Access, Answer, Statement, Table}
 use Rattle.sdb_model.specs.declared.answer.Answer.TheVariants as answer
 use Rattle.sdb_model.specs.Transactions.{changes_nothing, is_conflict, is_done}

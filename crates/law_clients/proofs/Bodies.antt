@@ -8,8 +8,7 @@ use Rattle.std.specs.Ordering.{is_eq}
 use Rattle.law_clients.specs.Types.{Access, Answer, Key, Keyed, Read, Record, Scan, Span, Statement, Table}
 use Rattle.sdb_types.specs.Order.{key_cmp, same_key}
 use Rattle.sdb_types.specs.Contents.{in_span}
-use Rattle.sdb_types.proofs.KeyOrder.{key_exact}
-use Rattle.sdb_types.proofs.Keys.{same_key_exact}
+use Rattle.sdb_types.proofs.Public.{key_exact, same_key_exact}
 use Rattle.sdb_snapshot.specs.Entries.{value_at}
 use Rattle.sdb_record.specs.declared.access.Access.TheVariants as access
 use Rattle.sdb_record.specs.Moved.{version_of}
@@ -19,14 +18,11 @@ use Rattle.sdb_model.specs.Serial.{run_body}
 use Rattle.sdb_snapshot.specs.Reads.{ReadRecord, record_read_at, base_at, is_key_read, reads_of}
 use Rattle.sdb_snapshot.specs.Rows.{row_found, with_own}
 use Rattle.sdb_snapshot.specs.Seen.{Seen, Agrees, nothing, overlay, with_written, same_span, is_scanned}
-use Rattle.sdb_snapshot.proofs.Differences.{or_there, noted_images}
-use Rattle.sdb_snapshot.proofs.Keys.{value_last}
-use Rattle.sdb_snapshot.proofs.Shown.{overlay_is, own_is}
+use Rattle.sdb_snapshot.proofs.Public.{Keeps, noted_images, or_there, overlay_is, own_is, value_last}
 use Rattle.law_protocol.specs.Lawful.{Labelled}
 use Rattle.law_clients.specs.Reads.{IsFoundOk, IsReadOk, SeenOk, first_image, is_found, was_found, was_read, with_read}
 use Rattle.law_clients.proofs.Lists.{each_both}
 use Rattle.law_clients.specs.Body.{ReadAgrees, ScanAgrees, AgreesAll, BodyOk, IsCovered}
-use Rattle.sdb_snapshot.proofs.Owned.{Keeps}
 
 ---- what was read gives the rows of tables that agree
 

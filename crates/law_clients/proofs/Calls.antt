@@ -9,7 +9,7 @@ use Rattle.sdb_types.specs.declared.record.Request.TheVariants as ask
 use Rattle.sdb_types.specs.declared.record.Condition.TheVariants as condition
 use Rattle.sdb_types.specs.declared.record.State.TheVariants as state
 use Rattle.sdb_types.specs.Contents.{CanAnswer, in_span, rise}
-use Rattle.sdb_types.proofs.Bools.{and_first, and_second}
+use Rattle.sdb_types.proofs.Public.{all_each as each_any, and_first, and_second, some_is}
 use Rattle.sdb_record.specs.declared.access.Access.TheVariants as access
 use Rattle.sdb_record.specs.Meta.{id_in, is_moment}
 use Rattle.sdb_record.specs.Rolls.{is_tombstone, remove_request}
@@ -37,7 +37,6 @@ use Rattle.law_clients.proofs.Commit.{no_start, not_open}
 use Rattle.law_clients.proofs.Meta.{meta_of}
 use Rattle.law_clients.proofs.Rows.{rise_is, inside_each, rows_left, read_kept, recover_kept, image_after, left_later}
 use Rattle.law_clients.proofs.Seen.{seen_later}
-use Rattle.sdb_types.proofs.Basics.{some_is, all_each as each_any}
 use Rattle.sdb_txn.specs.Read.{request_of, Kind, Firm, Open, Bad}
 use Rattle.sdb_model.specs.Tables.{is_data}
 

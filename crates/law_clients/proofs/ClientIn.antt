@@ -28,7 +28,7 @@ use Rattle.law_clients.proofs.InTables.{GivesIn, IsPlayed, access_in, access_tab
 use Rattle.law_clients.proofs.RowsFit.{found_itself}
 use Rattle.law_clients.proofs.Sweeps.{begun_in}
 use Rattle.law_clients.proofs.Whole.{by_memory}
-use Rattle.sdb_types.proofs.Basics.{by_test}
+use Rattle.sdb_types.proofs.Public.{by_test}
 
 module _ (catalog : List Table) where
   abbrev Of : Client → Type 0

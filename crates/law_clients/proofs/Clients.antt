@@ -19,7 +19,7 @@ use Rattle.law_clients.proofs.Kept.{row_later}
 use Rattle.law_clients.proofs.Foreign.{IsForeignEvent, StopsNot, commit_later, open_later, foreign, goes_on, running, dead_stays}
 use Rattle.law_clients.proofs.Rows.{images_later, image_later, left_later}
 use Rattle.law_clients.proofs.Seen.{seen_later}
-use Rattle.law_protocol.proofs.Seen.{open_before as open_ended}
+use Rattle.law_protocol.proofs.Public.{open_before as open_ended}
 
 ---- what a client knows stays
 

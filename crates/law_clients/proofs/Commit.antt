@@ -29,7 +29,7 @@ use Rattle.law_clients.specs.System.{ClientAt, Committing, ClientOk, Has, is_in_
 use Rattle.law_clients.proofs.Own.{prepare_lawful, check_lawful, decide_lawful, abort_lawful, forward_lawful, back_lawful}
 use Rattle.law_clients.proofs.Kept.{prepare_kept, decide_kept, look_kept, abort_kept, again_kept, stop_kept, forward_kept, back_kept, passed_kept}
 use Rattle.law_clients.proofs.Clients.{BeginsNone, turned, moved}
-use Rattle.sdb_types.proofs.Basics.{none_some as some_none, some_is}
+use Rattle.sdb_types.proofs.Public.{none_some as some_none, some_is}
 
 ---- it may play its part
 

@@ -11,16 +11,13 @@ use Rattle.sdb_types.specs.declared.record.Request.TheVariants as ask
 use Rattle.sdb_types.specs.declared.record.Reply.TheVariants as reply
 use Rattle.sdb_types.specs.Contents.{holds}
 use Rattle.sdb_types.specs.Order.{same_key}
-use Rattle.sdb_types.proofs.Basics.{none_some, some_is}
-use Rattle.sdb_types.proofs.Keys.{same_key_tells}
+use Rattle.sdb_types.proofs.Public.{none_some, same_key_tells, some_is}
 use Rattle.sdb_record.specs.declared.coordinator.Decision.TheVariants as decision
 use Rattle.sdb_record.specs.Coordinator.{coordinator_key_of, coordinator_row_of, decision_in}
 use Rattle.sdb_record.specs.Meta.{is_transactional}
 use Rattle.sdb_record.specs.Moved.{condition_of, version_of}
 use Rattle.sdb_record.specs.Rolls.{IsBaseOf, forward_record, prepared_record, undo}
-use Rattle.sdb_record.proofs.ImageLaws.{row-decision, row-key}
-use Rattle.sdb_record.proofs.RollLaws.{forward-key}
-use Rattle.sdb_record.proofs.TakenLaws.{prepared-key}
+use Rattle.sdb_record.proofs.Public.{forward-key, prepared-key, row-decision, row-key}
 use Rattle.sdb_phases.specs.declared.step.Outcome.TheVariants as outcome
 use Rattle.sdb_phases.specs.declared.step.DecidePhase.TheVariants as phase
 use Rattle.sdb_phases.specs.declared.step.DecideStep.TheVariants as decide

@@ -3,9 +3,7 @@ use Rattle.std.proofs.Common.{◌≡◌, ℕ, ℤ, Bool, true, false, List, [], 
 use Rattle.std.specs.Prelude.{◌&&◌, ◌||◌, if◌then◌else◌, length, is_some, not}
 use Rattle.law_clients.specs.Types.{Key, Table}
 use Rattle.sdb_types.specs.Order.{same_key}
-use Rattle.sdb_types.proofs.Basics.{false_true}
-use Rattle.sdb_types.proofs.Bools.{and_first, and_second}
-use Rattle.sdb_types.proofs.Keys.{same_key_of, same_key_self, same_key_tells}
+use Rattle.sdb_types.proofs.Public.{and_first, and_second, false_true, same_key_of, same_key_self, same_key_tells}
 use Rattle.sdb_model.specs.declared.answer.Answer.TheVariants as answer
 use Rattle.sdb_model.specs.Exec.{Tables}
 use Rattle.law_clients.specs.Database.{Database, is_listed}

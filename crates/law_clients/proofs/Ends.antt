@@ -13,10 +13,10 @@ use Rattle.law_protocol.specs.Lawful.{Labelled}
 use Rattle.law_protocol.specs.Trace.{closing}
 use Rattle.law_protocol.specs.Explained.{IsRunOf, newest_first, events_of}
 use Rattle.law_protocol.specs.Faithful.{IsFaithful}
-use Rattle.law_protocol.proofs.ModelTime.{answers_true, keeps_real_time, ordered_of}
+use Rattle.law_protocol.proofs.Public.{answers_true, keeps_real_time, ordered_of}
 use Rattle.law_clients.specs.Left.{Execution, ExecutionOk, BodyIsExecuted, AllBodiesExecuted, IsFitting, RunsWhole, ContainsTables, ordinals_of}
 use Rattle.law_clients.proofs.Wholes.{order_runs}
-use Rattle.sdb_types.proofs.Basics.{all_each as each_any}
+use Rattle.sdb_types.proofs.Public.{all_each as each_any}
 
 -- the bodies of an order
 bodies_read : (catalog : List Table) (fit : Tables → Bool) (plan : ℕ → Plan) (events : List Event) (past : List Labelled) (ran : ℕ → Execution) (order : List Point) → AllBodiesExecuted catalog fit plan events past ran (ordinals_of order) → AreBodies events order (map (λ t. (ran t).body) (ordinals_of order))

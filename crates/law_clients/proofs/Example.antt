@@ -8,7 +8,7 @@ use Rattle.std.proofs.lemmas.Bool.Decides.{nat_tests}
 use Rattle.sdb_types.specs.declared.record.Request.TheVariants as ask
 use Rattle.sdb_types.specs.declared.record.Reply.TheVariants as reply
 use Rattle.sdb_types.specs.Order.{key_cmp, same_key}
-use Rattle.sdb_types.proofs.KeyOrder.{key_exact}
+use Rattle.sdb_types.proofs.Public.{key_exact}
 use Rattle.sdb_record.specs.declared.access.Access.TheVariants as access
 use Rattle.sdb_model.specs.declared.answer.Answer.TheVariants as answer
 use Rattle.sdb_model.specs.declared.event.Event.TheVariants as event
@@ -16,7 +16,7 @@ use Rattle.law_protocol.specs.History.{Other, ProtocolState, Decides, Yes, state
 use Rattle.law_protocol.specs.Lawful.{Labelled, protocol_state, labelled_with}
 use Rattle.law_protocol.specs.Plan.{Plan}
 use Rattle.law_protocol.specs.Worked.{account, nothing as no_plan, inserts}
-use Rattle.law_protocol.proofs.Texts.{begin_begins, commit_commits}
+use Rattle.law_protocol.proofs.Public.{begin_begins, commit_commits}
 use Rattle.sdb_phases.specs.Work.{prepare_of, decide_of}
 use Rattle.sdb_phases.specs.declared.step.DecidePhase.TheVariants as phase
 use Rattle.sdb_phases.specs.Commit.{Preparing, Deciding, Forward}

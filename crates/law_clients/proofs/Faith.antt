@@ -15,7 +15,7 @@ use Rattle.law_protocol.specs.Explained.{IsDenied}
 use Rattle.law_clients.specs.Filed.{number, IsFiledAt, IsOpenAt, Filed}
 use Rattle.law_clients.specs.Story.{Finished, Rest, Closed, Opened, saids_of, statements_in, IsPlain, IsInside, IsEndedTxn, IsRest, txn_ended_at, commit_in}
 use Rattle.law_clients.proofs.Places.{finished_is, finished_ok, open_is, none_is}
-use Rattle.sdb_types.proofs.Basics.{none_some, some_is, all_each as each_any, append_all as each_append}
+use Rattle.sdb_types.proofs.Public.{all_each as each_any, append_all as each_append, none_some, some_is}
 
 ---- one transaction
 

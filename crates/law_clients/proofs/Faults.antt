@@ -4,7 +4,7 @@ use Rattle.std.specs.Prelude.{is_some, nat_lt, slice_get, if◌then◌else◌}
 use Rattle.law_clients.specs.Types.{Access, Answer, Check, DecidePhase, Decided, Decision, Doing, Image, Key, Keyed, Meta, Next, Outcome, PrepareStep, Progress, Record, RecoverPhase, RecoverStep, Refusal, Reply, Request, Span, Statement, Table, VacuumStep, ValidateStep}
 use Rattle.sdb_types.specs.declared.record.Reply.TheVariants as reply
 use Rattle.sdb_types.specs.declared.record.Request.TheVariants as ask
-use Rattle.sdb_types.proofs.Basics.{clash}
+use Rattle.sdb_types.proofs.Public.{by_test, clash}
 use Rattle.sdb_record.specs.declared.coordinator.Decision.TheVariants as decision
 use Rattle.sdb_record.specs.Coordinator.{decision_in, is_expired}
 use Rattle.sdb_record.specs.Rolls.{is_tombstone}
@@ -42,7 +42,6 @@ use Rattle.sdb_client.specs.declared.next.Next.TheVariants as next
 use Rattle.sdb_client.specs.Client.{AskPost, BeginPost, CallPost, ClientAt, CommitNext, CommitStartPost, GatePost, RowsReadPost, IsIdle, IsAnsweredAtOnce, NextPost, OpenTxnPost, ReplyPost, RollbackPost, RowsPost, ParsedPost, StagePost, StatementPost, VacuumPost, Taking, VacuumStartPost, after, answer_in, answer_of, given_answer, gives, is_covered, next_of, with_rows_read, plan_of, too_many, vacuum_left}
 use Rattle.law_clients.proofs.Fitted.{by_next}
 use Rattle.law_clients.proofs.Whole.{by_memory}
-use Rattle.sdb_types.proofs.Basics.{by_test}
 use Rattle.law_clients.specs.Session.{is_of_fault}
 use Rattle.law_clients.specs.Working.{Commits, IsAtWork, Reads, RepliedBy, InVacuum, ExecutedBy}
 use Rattle.law_clients.specs.Faults.{IsOfFault, CommitsAfterFault, DoesAfterFault, IsAfterFault, IsOutcomeOfFault, ReadsAfterFault, RecoversAfterFault, VacuumsAfterFault, WorksAfterFault}

@@ -19,7 +19,7 @@ use Rattle.law_clients.proofs.Begin.{taken_begun}
 use Rattle.law_clients.proofs.Faith.{beyond, faithful}
 use Rattle.law_clients.proofs.Tellings.{within}
 use Rattle.law_clients.proofs.Answered.{commit_ends, one_more}
-use Rattle.sdb_types.proofs.Basics.{clash, none_some, some_is, false_by as not_true}
+use Rattle.sdb_types.proofs.Public.{clash, false_by as not_true, none_some, some_is}
 
 -- a COMMIT was accepted of none but those that have begun
 pub taken_counts : (plan : ℕ → Plan) (past : List Labelled) (sys : SystemAt) (c k : ℕ) → SystemOk plan past sys → suc k < 2 ^ 64 → (protocol_state past).accepted (number c k) ≡ true → k < sys.begun c

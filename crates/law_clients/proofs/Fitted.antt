@@ -26,8 +26,8 @@ use Rattle.law_clients.specs.About.{AreListed, IsListed}
 use Rattle.law_clients.specs.States.{IsAfter, IsAskedBy, IsFitted, IsFittedBy, IsUsing, IsUsingTxn}
 use Rattle.law_clients.proofs.Sweeps.{begun_in, step_are}
 use Rattle.law_clients.proofs.Whole.{by_memory, literals_read}
-use Rattle.sdb_client.proofs.Left.{given_idle as left_idle}
-use Rattle.sdb_types.proofs.Basics.{by_test}
+use Rattle.sdb_client.proofs.Public.{given_idle as left_idle}
+use Rattle.sdb_types.proofs.Public.{by_test}
 
 ---- a client that is so after it
 

@@ -2,7 +2,7 @@
 use Rattle.std.proofs.Common.{◌≡◌, ◌≢◌, ℕ, ℤ, true, false, List, ◌∷◌, length, Option, Some, None, refl, sym, ap, subst, ◌∙◌, arith, ◌⊎◌, inl, inr}
 use Rattle.std.proofs.lemmas.Bool.Decides.{nat_tests}
 use Rattle.law_clients.specs.Types.{Event, Key, Outcome, Reply, Request}
-use Rattle.sdb_types.proofs.Keys.{tests}
+use Rattle.sdb_types.proofs.Public.{tests}
 use Rattle.sdb_record.specs.declared.coordinator.Decision.TheVariants as decision
 use Rattle.sdb_model.specs.declared.event.Event.TheVariants as event
 use Rattle.law_protocol.specs.Plan.{Plan}

@@ -2,12 +2,12 @@
 use Rattle.std.proofs.Common.{◌≡◌, ℕ, true, false, List, [], ◌∷◌, Option, Some, None, refl, arith}
 use Rattle.std.proofs.lemmas.Bool.Decides.{nat_tests}
 use Rattle.law_clients.specs.Types.{Event, Key}
-use Rattle.sdb_types.proofs.Keys.{tests}
+use Rattle.sdb_types.proofs.Public.{tests}
 use Rattle.law_protocol.specs.Plan.{Plan}
 use Rattle.law_protocol.specs.History as laws
 use Rattle.law_protocol.specs.History.{Action, Other, Begins, Takes, Prepares, Checks, Decides, Aborts, Rolls, Removes, Ends, Stops, ProtocolState, state_after_event, state_after}
 use Rattle.law_protocol.specs.Lawful.{Labelled, IsLawful, IsEnabled, protocol_state, ended}
-use Rattle.law_protocol.proofs.Seen.{closed_still}
+use Rattle.law_protocol.proofs.Public.{closed_still}
 
 -- a transaction is open, and its COMMIT is accepted, only after it has begun; and its calls come only after its COMMIT was accepted
 pub record InTurn (h : ProtocolState) (t : ℕ) : Type 0 where

@@ -16,7 +16,7 @@ use Rattle.law_clients.specs.BodyTexts.{BodyExecuted}
 use Rattle.law_clients.specs.History.{ClientHistory, HistoryInvariant, HistoryStep, AllStories, OthersUnchanged, IsCounted, with_history}
 use Rattle.law_clients.proofs.Tellings.{story_stays, others_apart, others_silent}
 use Rattle.std.proofs.lemmas.List.{append-nil as no_more}
-use Rattle.sdb_types.proofs.Basics.{map_last as told_more}
+use Rattle.sdb_types.proofs.Public.{map_last as told_more}
 
 differ : (m n : ℕ) → m ≢ n → (m == n) ≡ false
 differ m n h = grind (arith, nat_tests)

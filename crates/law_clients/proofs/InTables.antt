@@ -12,7 +12,7 @@ use Rattle.sdb_types.specs.declared.record.Condition.TheVariants as condition
 use Rattle.sdb_types.specs.declared.record.State.TheVariants as state
 use Rattle.sdb_types.specs.Contents.{CanAnswer, are_rows_of, in_span, rise}
 use Rattle.sdb_types.specs.Order.{table_cmp, same_key}
-use Rattle.sdb_types.proofs.KeyOrder.{key_exact, table_exact}
+use Rattle.sdb_types.proofs.Public.{append_all, key_exact, table_exact}
 use Rattle.sdb_snapshot.specs.Entries.{value_at}
 use Rattle.sdb_record.specs.declared.access.Access.TheVariants as access
 use Rattle.sdb_record.specs.declared.coordinator.Decision.TheVariants as decision
@@ -22,8 +22,7 @@ use Rattle.sdb_record.specs.Moved.{version_of}
 use Rattle.sdb_record.specs.Parts.{before_part, before_record, record_with}
 use Rattle.sdb_record.specs.Meta.{id_in}
 use Rattle.sdb_record.specs.Rolls.{forward_record, is_tombstone, prepared_record, undo}
-use Rattle.sdb_record.proofs.RollLaws.{forward-key}
-use Rattle.sdb_record.proofs.TakenLaws.{prepared-key}
+use Rattle.sdb_record.proofs.Public.{forward-key, prepared-key}
 use Rattle.sdb_record.specs.Among.{is_written}
 use Rattle.sdb_model.specs.declared.statement.Statement.TheVariants as statement
 use Rattle.sdb_model.specs.Access.{in_access}
@@ -47,7 +46,6 @@ use Rattle.sdb_snapshot.specs.Written.{with_change_of, with_write, with_writes, 
 use Rattle.sdb_vacuum.specs.Vacuum.{First, Malformed, Nothing, Over as Ends, Removing, Resolving as Resolves, Scanning as Scans, Tombstone, Unresolved, VacuumAt, VacuumStage, answered as sweep_answered, first_of, first_one, with_call, next_of_row, next_table, pending_at, removal_answered, resolved as sweep_resolved, step_at as swept_at, tombstone_or}
 use Rattle.law_clients.specs.About.{AreListed, AreReadItemsIn, AreRecordsIn, AreWritesIn, IsIn, IsListed, IsRecordIn, IsSeenIn, IsStageIn, IsVacuumStageIn, IsVacuumIn, IsWorkIn}
 use Rattle.sdb_types.specs.Exact.{equal_of}
-use Rattle.sdb_types.proofs.Basics.{append_all}
 use Rattle.sdb_model.specs.Tables.{is_table_of_run}
 
 ---- the keys of an access

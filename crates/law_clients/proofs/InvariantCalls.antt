@@ -44,7 +44,7 @@ use Rattle.law_clients.proofs.InvariantReads.{commit_made, made_reads, noted_els
 use Rattle.law_clients.proofs.InvariantTurns as one
 use Rattle.law_clients.proofs.Small.{committing_as, running_as, twice, waiting_as}
 use Rattle.law_clients.proofs.InvariantOwn.{IsPlainRole, closed_as, commit_plain, goes_gap, goes_over, gone, opened_as, over, plain_apart, plain_counts, read_plain, sweep_plain}
-use Rattle.sdb_types.proofs.Basics.{clash, some_is, and_false as no_second}
+use Rattle.sdb_types.proofs.Public.{and_false as no_second, clash, some_is}
 use Rattle.sdb_txn.specs.Read.{Kind}
 
 ---- one client

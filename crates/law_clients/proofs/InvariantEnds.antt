@@ -20,8 +20,7 @@ use Rattle.law_protocol.specs.History.{History}
 use Rattle.law_protocol.specs.Lawful.{Labelled, id, protocol_state}
 use Rattle.law_protocol.specs.Plan.{Plan}
 use Rattle.law_protocol.specs.Trace.{IsTraced, StartsEmpty, closing, history}
-use Rattle.law_protocol.proofs.Derived.{recorded_row}
-use Rattle.law_protocol.proofs.Times.{traced_of, whole_of}
+use Rattle.law_protocol.proofs.Public.{recorded_row, traced_of, whole_of}
 use Rattle.law_clients.specs.System.{SystemAt}
 use Rattle.law_clients.proofs.Begin.{taken_begun}
 use Rattle.law_clients.specs.Reads.{work_of}
@@ -41,7 +40,7 @@ use Rattle.law_clients.proofs.HistoryTurns.{body_is_said}
 use Rattle.law_clients.specs.Invariant.{RunInvariant, OpenedOk, RanOk}
 use Rattle.law_clients.specs.ReadSets.{ReadSetInside, ReadSetOpened}
 use Rattle.law_clients.proofs.InvariantOwn.{finished, over}
-use Rattle.sdb_types.proofs.Basics.{none_some, and_false as no_second}
+use Rattle.sdb_types.proofs.Public.{and_false as no_second, none_some}
 
 ---- a recorded transaction's COMMIT was accepted
 

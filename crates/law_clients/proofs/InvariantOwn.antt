@@ -29,7 +29,7 @@ use Rattle.law_clients.specs.History.{IsApart, IsCounted, IsNotOf, IsOpened, Cli
 use Rattle.law_clients.proofs.Answered.{one_more, telling_of}
 use Rattle.law_clients.proofs.Tellings.{within}
 use Rattle.law_clients.specs.Invariant.{ClientInvariant, EndedOk, IsOpenOf, IsClosed, RanOk}
-use Rattle.sdb_types.proofs.Basics.{itself as same_number}
+use Rattle.sdb_types.proofs.Public.{itself as same_number}
 
 ---- parts that begin and take nothing
 

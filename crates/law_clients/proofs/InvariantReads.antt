@@ -11,7 +11,7 @@ use Rattle.std.proofs.lemmas.List.{append-nil, length-append}
 use Rattle.law_clients.specs.Types.{Access, Answer, Event, How, Key, Keyed, Record, Reply, Request, TxId, Value}
 use Rattle.sdb_types.specs.Contents.{CanAnswer, in_span, is_partition}
 use Rattle.sdb_types.specs.ValueLaws.{value_total}
-use Rattle.sdb_types.proofs.KeyOrder.{key_total, table_total}
+use Rattle.sdb_types.proofs.Public.{all_each as each_any, key_total, table_total}
 use Rattle.sdb_record.specs.declared.access.Access.TheVariants as access
 use Rattle.sdb_record.specs.Coordinator.{is_coordinator_table}
 use Rattle.sdb_model.specs.declared.event.Event.TheVariants as event
@@ -40,7 +40,6 @@ use Rattle.law_clients.specs.Invariant.{IsSilent}
 use Rattle.law_clients.specs.Progress.{FinishesOn}
 use Rattle.law_clients.specs.ReadSets.{ReadSetsOfClient, ReadSetsEnded, ReadSetInside, IsMadeSince, ReadSetOpened}
 use Rattle.law_clients.proofs.InvariantOwn.{below, finished, ran_before, ran_here, settled_begin, settled_gap, settled_inside, settled_over}
-use Rattle.sdb_types.proofs.Basics.{all_each as each_any}
 use Rattle.sdb_txn.specs.Read.{request_of, Kind}
 
 ---- numbers of events

@@ -43,7 +43,7 @@ use Rattle.law_clients.proofs.Mild.{effective_by, mild_begins, mild_ends, nothin
 use Rattle.law_clients.proofs.InvariantReads.{IsJustAnswered, at_once, commit_made, inside_nothing, inside_read, none_since, noted_asks, noted_begun, noted_commits, noted_elsewhere, noted_gap, noted_inside, noted_over, open_noted, written_noted}
 use Rattle.law_clients.proofs.Small.{numbers_same, less_apart, nothing_ran, begins_untaken}
 use Rattle.law_clients.proofs.InvariantOwn.{IsPlainRole, begun, below, closed_as, ended_at, goes_begun, goes_gap, goes_inside, goes_over, gone, inside, opened_as, over, plain_apart, plain_counts, plain_not, ran_here}
-use Rattle.sdb_types.proofs.Basics.{clash, some_is, and_false as no_second, itself as same_number}
+use Rattle.sdb_types.proofs.Public.{and_false as no_second, clash, itself as same_number, some_is}
 
 ---- one client
 

@@ -9,7 +9,7 @@ use Rattle.sdb_types.specs.declared.record.Request.TheVariants as ask
 use Rattle.sdb_types.specs.Contents.{CanAnswer}
 use Rattle.sdb_record.specs.declared.coordinator.Decision.TheVariants as decision
 use Rattle.sdb_record.specs.Coordinator.{coordinator_key_of, decision_in}
-use Rattle.sdb_record.proofs.ImageLaws.{row-key}
+use Rattle.sdb_record.proofs.Public.{row-key}
 use Rattle.sdb_model.specs.declared.event.Event.TheVariants as event
 use Rattle.sdb_model.specs.Rows.{Name}
 use Rattle.law_protocol.specs.Plan.{Plan}
@@ -25,8 +25,7 @@ use Rattle.sdb_phases.specs.Steps.{step_of_row, followed, refused}
 use Rattle.sdb_phases.specs.Commit.{Stage, Preparing, Checking, Deciding, Forward, Stopping, Back, Over, step, checking, forward, back, after_prepare, after_check, after_decide}
 use Rattle.sdb_phases.specs.CommitLaws.{as_wished, IsLost}
 use Rattle.law_clients.specs.Owner.{ItemAgrees, WorkOk, CommitOk, StageOk, AreAcknowledged, AskedTo, UnaskedFrom, CheckedTo, AgreesTo, OverOk}
-use Rattle.sdb_types.proofs.Basics.{lt_of as less, some_is}
-use Rattle.sdb_types.proofs.Keys.{tests}
+use Rattle.sdb_types.proofs.Public.{lt_of as less, some_is, tests}
 
 pub by_test : (plan : ℕ → Plan) (past : List Labelled) (p : Work) (b : Bool) (x y : Stage) → (b ≡ true → StageOk plan past p x) → (b ≡ false → StageOk plan past p y) → StageOk plan past p (cond b x y)
 by_test plan past p true x y t f = t refl

@@ -17,7 +17,7 @@ use Rattle.sdb_model.specs.Exec.{Tables, all_rows, exec, is_row_of, key_of, name
 use Rattle.sdb_model.specs.Serial.{run_body}
 use Rattle.sdb_exec.specs.Plans.{are_shaped, changes_on, has_shape, put_row}
 use Rattle.sdb_model.specs.Reads.{access_of}
-use Rattle.sdb_exec.proofs.Local.{found_at, passing}
+use Rattle.sdb_exec.proofs.Public.{found_at, passing}
 use Rattle.sdb_snapshot.specs.Reads.{ReadRecord}
 use Rattle.sdb_snapshot.specs.Written.{most_writes, with_write, with_writes, write_of}
 use Rattle.sdb_txn.specs.Txn.{TxnAt}

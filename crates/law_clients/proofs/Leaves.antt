@@ -8,22 +8,18 @@ use Rattle.sdb_types.specs.declared.record.State.TheVariants as state
 use Rattle.sdb_types.specs.declared.value.Value.TheVariants as value
 use Rattle.sdb_types.specs.Columns.{column}
 use Rattle.sdb_types.specs.Contents.{tx_id}
-use Rattle.sdb_types.proofs.Basics.{false_true, none_some, some_is}
-use Rattle.sdb_types.proofs.Keys.{same_key_tells}
+use Rattle.sdb_types.proofs.Public.{false_true, none_some, same_key_tells, some_is}
 use Rattle.sdb_record.specs.declared.coordinator.Decision.TheVariants as decision
 use Rattle.sdb_record.specs.Among.{is_written, write_among}
 use Rattle.sdb_record.specs.Coordinator.{coordinator_key_of, id_of_key, is_coordinator_table}
 use Rattle.sdb_record.specs.Meta.{id_in, id_in_value, is_in}
 use Rattle.sdb_record.specs.Rolls.{IsBaseOf, forward_record, image_of, image_under, prepared_record, row_of_change, row_of_image}
 use Rattle.sdb_record.specs.Parts.{before_record}
-use Rattle.sdb_record.proofs.IdLemmas.{id_of_text-is}
-use Rattle.sdb_record.proofs.ImageLaws.{forward-prepared-row, image-open, image-settled, key-of-id, prepared-unsettled, prepared-version, version-writer}
-use Rattle.sdb_record.proofs.RollLaws.{forward-committed}
-use Rattle.sdb_record.proofs.TakenLaws.{prepared-base}
+use Rattle.sdb_record.proofs.Public.{forward-committed, forward-prepared-row, id_of_text-is, image-open, image-settled, key-of-id, prepared-base, prepared-unsettled, prepared-version, version-writer}
 use Rattle.sdb_model.specs.Exec.{Tables}
 use Rattle.sdb_phases.specs.Work.{Work}
 use Rattle.sdb_snapshot.specs.Rows.{with_own}
-use Rattle.sdb_snapshot.proofs.Shown.{get_own, own_row}
+use Rattle.sdb_snapshot.proofs.Public.{get_own, own_row}
 use Rattle.law_clients.specs.Database.{Database, decided_in, decided_on, image_in, is_committed_or_none, is_listed, row_in}
 use Rattle.law_clients.specs.OnlyResolves.{IsApart, IsSound}
 use Rattle.law_clients.specs.Recovers.{IsAborted, IsUndecided}

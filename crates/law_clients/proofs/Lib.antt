@@ -1,85 +1,86 @@
-pub mod Lists
-pub mod Meta
-pub mod Own
-pub mod Kept
-pub mod Reading
-pub mod Foreign
-pub mod Replan
-pub mod Rows
-pub mod Seen
-pub mod Clients
-pub mod Commit
-pub mod Work
-pub mod Take
-pub mod Fresh
-pub mod Quiet
-pub mod Calls
-pub mod Begin
-pub mod Example
-pub mod Machine
-pub mod Places
-pub mod Seeking
-pub mod Faith
-pub mod Bodies
-pub mod Steps
-pub mod Wholes
-pub mod Ends
-pub mod Tellings
-pub mod Answered
-pub mod Files
-pub mod HistoryTurns
-pub mod Run
-pub mod Notes
-pub mod Agree
-pub mod Meanings
-pub mod Noting
-pub mod Checks
-pub mod Since
-pub mod Bodily
-pub mod Goings
-pub mod InvariantOwn
-pub mod InvariantReads
-pub mod Mild
-pub mod Small
-pub mod InvariantTurns
-pub mod InvariantCalls
-pub mod Rests
-pub mod InvariantEnds
-pub mod RowsFit
-pub mod Taken
-pub mod Finishing
-pub mod Asked
-pub mod Whole
-pub mod Fitted
-pub mod ReadReplies
-pub mod Replied
-pub mod InTables
-pub mod Sweeps
-pub mod ClientIn
-pub mod SessionCalls
-pub mod Resolves
-pub mod Recovers
-pub mod Writes
-pub mod SessionChecks
-pub mod Commits
-pub mod SessionReading
-pub mod SessionSeen
-pub mod Leaves
-pub mod SessionSweeps
-pub mod Keys
-pub mod Works
-pub mod Statements
-pub mod SessionEnds
-pub mod Replies
-pub mod Takings
-pub mod Stays
-pub mod Sessions
-pub mod SessionFresh
-pub mod Plain
-pub mod Texts
-pub mod Starves
-pub mod Working
-pub mod Faults
-pub mod Betweens
-pub mod SessionSteps
-pub mod Counts
+mod Lists
+mod Meta
+mod Own
+mod Kept
+mod Reading
+mod Foreign
+mod Replan
+mod Rows
+mod Seen
+mod Clients
+mod Commit
+mod Work
+mod Take
+mod Fresh
+mod Quiet
+mod Calls
+mod Begin
+mod Example
+mod Machine
+mod Places
+mod Seeking
+mod Faith
+mod Bodies
+mod Steps
+mod Wholes
+mod Ends
+mod Tellings
+mod Answered
+mod Files
+mod HistoryTurns
+mod Run
+mod Notes
+mod Agree
+mod Meanings
+mod Noting
+mod Checks
+mod Since
+mod Bodily
+mod Goings
+mod InvariantOwn
+mod InvariantReads
+mod Mild
+mod Small
+mod InvariantTurns
+mod InvariantCalls
+mod Rests
+mod InvariantEnds
+mod RowsFit
+mod Taken
+mod Finishing
+mod Asked
+mod Whole
+mod Fitted
+mod ReadReplies
+mod Replied
+mod InTables
+mod Sweeps
+mod ClientIn
+mod SessionCalls
+mod Resolves
+mod Recovers
+mod Writes
+mod SessionChecks
+mod Commits
+mod SessionReading
+mod SessionSeen
+mod Leaves
+mod SessionSweeps
+mod Keys
+mod Works
+mod Statements
+mod SessionEnds
+mod Replies
+mod Takings
+mod Stays
+mod Sessions
+mod SessionFresh
+mod Plain
+mod Texts
+mod Starves
+mod Working
+mod Faults
+mod Betweens
+mod SessionSteps
+mod Counts
+pub mod Public

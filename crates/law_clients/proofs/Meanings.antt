@@ -19,17 +19,13 @@ use Rattle.sdb_types.specs.Exact.{equal_of}
 use Rattle.sdb_types.specs.Order.{key_cmp, same_key}
 use Rattle.sdb_types.specs.TxId.{id_text}
 use Rattle.sdb_types.specs.ValueLaws.{value_total}
-use Rattle.sdb_types.proofs.Basics.{all_each, and_false, less_of, none_some, some_is}
-use Rattle.sdb_types.proofs.KeyOrder.{key_exact, key_total}
+use Rattle.sdb_types.proofs.Public.{all_each, and_false, key_exact, key_total, less_of, none_some, some_is}
 use Rattle.sdb_record.specs.declared.coordinator.Decision.TheVariants as decision
 use Rattle.sdb_record.specs.Coordinator.{decision_in, is_expired}
 use Rattle.sdb_record.specs.Meta.{checked, checked_before, checked_part, id_in, id_in_value, is_committed, is_in, is_misnamed, is_unresolved, refuse, state_in, state_in_value, with_before}
 use Rattle.sdb_record.specs.Parts.{before_part, before_record, is_before_pair}
 use Rattle.sdb_record.specs.Rolls.{forward_record, undo}
-use Rattle.sdb_record.proofs.Fine.{refuse-ok, accepted}
-use Rattle.sdb_record.proofs.IdLemmas.{id_of_text-is}
-use Rattle.sdb_record.proofs.RollLaws.{before-kept, forward-key}
-use Rattle.sdb_record.proofs.States.{state_value}
+use Rattle.sdb_record.proofs.Public.{accepted, before-kept, forward-key, id_of_text-is, refuse-ok, state_value}
 use Rattle.sdb_model.specs.Calls.{StoreCall, key_asked, put_by}
 use Rattle.sdb_model.specs.ReadSet as as_read
 use Rattle.sdb_model.specs.ReadSet.{condition_asked, meaning_of, rolls}

@@ -7,17 +7,15 @@ use Rattle.sdb_types.specs.declared.value.Value.TheVariants as value
 use Rattle.sdb_types.specs.declared.record.State.TheVariants.{Committed}
 use Rattle.sdb_types.specs.Columns.{column}
 use Rattle.sdb_types.specs.Contents.{tx_id}
-use Rattle.sdb_types.proofs.Bools.{and_both, and_first}
+use Rattle.sdb_types.proofs.Public.{and_both, and_first}
 use Rattle.sdb_record.specs.declared.coordinator.Decision.TheVariants as decision
 use Rattle.sdb_record.specs.Meta.{id_in, id_in_value, is_in, is_moment, is_committed, is_transactional, is_unresolved, checked, checked_before, checked_part, refuse, with_before, is_misnamed}
 use Rattle.sdb_record.specs.Parts.{before_record, before_part, is_before_pair}
 use Rattle.sdb_record.specs.Rolls.{forward_record}
-use Rattle.sdb_record.proofs.Fine.{accepted, refuse-ok}
-use Rattle.sdb_record.proofs.IdLemmas.{id_of_text-is}
-use Rattle.sdb_record.proofs.ImageLaws.{image-open, image-is, checked-state}
+use Rattle.sdb_record.proofs.Public.{accepted, checked-state, id_of_text-is, image-is, image-open, refuse-ok}
 use Rattle.law_clients.specs.ReadAt.{AreKinds, IsKind, kind_by, kind_of}
 use Rattle.law_clients.specs.Reader.{IsMetaOf}
-use Rattle.sdb_txn.proofs.Images.{held_of}
+use Rattle.sdb_txn.proofs.Public.{held_of}
 use Rattle.sdb_txn.specs.Read.{Firm, Open, Bad}
 
 ---- a row's moment

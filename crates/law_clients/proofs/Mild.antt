@@ -9,7 +9,7 @@ use Rattle.sdb_model.specs.ReadSet.{read_finished}
 use Rattle.sdb_model.specs.Sql.{reads_begin, reads_commit, reads_rollback}
 use Rattle.sdb_model.specs.Transactions.{Executed, begins, changes_nothing, ends, is_answered_from_rows, is_conflict, is_done, is_effective}
 use Rattle.law_clients.specs.Invariant.{IsMild}
-use Rattle.sdb_types.proofs.Basics.{clash, some_is, and_false as no_second}
+use Rattle.sdb_types.proofs.Public.{and_false as no_second, clash, some_is}
 
 ---- answers that neither begin nor end a transaction
 

@@ -19,7 +19,7 @@ use Rattle.law_clients.specs.Owner.{items_of_work, checked_items, own_items}
 use Rattle.std.specs.List.{AllByRecursion}
 use Rattle.std.proofs.lemmas.List.Elements.{All-contains, All-from_recursion}
 use Rattle.law_clients.specs.Left.{AreReads, reads_and_scans}
-use Rattle.sdb_types.proofs.Basics.{map_last, all_each as each_any}
+use Rattle.sdb_types.proofs.Public.{all_each as each_any, map_last}
 
 ---- elements
 

@@ -9,7 +9,7 @@ use Rattle.law_clients.specs.Types.{Access, Meta, Record, RecoverPhase, RecoverS
 use Rattle.sdb_types.specs.declared.record.Reply.TheVariants as reply
 use Rattle.sdb_types.specs.declared.record.State.TheVariants as state
 use Rattle.sdb_types.specs.Contents.{CanAnswer, rise, starts_after}
-use Rattle.sdb_types.proofs.Basics.{all_last}
+use Rattle.sdb_types.proofs.Public.{all_last}
 use Rattle.sdb_record.specs.declared.access.Access.TheVariants as access
 use Rattle.sdb_record.specs.declared.coordinator.Decision.TheVariants as decision
 use Rattle.sdb_record.specs.Coordinator.{coordinator_key_of, coordinator_row_of, is_coordinator_table}
@@ -31,7 +31,7 @@ use Rattle.law_clients.specs.ReadAt.{AreKinds, IsKind, ReadAt, Asking, Resolving
 use Rattle.law_clients.proofs.Lists.{each_more}
 use Rattle.law_clients.specs.Calls.{HasMeaning, IsMade, ReadMade, RowsMade, read_item_with, rows_of}
 use Rattle.law_clients.proofs.Meanings.{IsRollTo, all_have_more, each_of, ends_rolled, find_last, goes_on_unrolled, meaning_rolled, meaning_settled, meanings_more, read_unrolled, reads_meant, rolls_none_after, unrolled_more}
-use Rattle.sdb_txn.proofs.Images.{held_of}
+use Rattle.sdb_txn.proofs.Public.{held_of}
 
 some_is : {A : Type 0} (x y : A) → Some x ≡ Some y → y ≡ x
 some_is x y e = cc

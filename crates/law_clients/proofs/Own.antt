@@ -6,12 +6,12 @@ use Rattle.law_clients.specs.Types.{Answer, Check, How, Key, Outcome, Reply, Req
 use Rattle.sdb_types.specs.Contents.{CanAnswer}
 use Rattle.sdb_types.specs.declared.record.Condition.TheVariants as condition
 use Rattle.sdb_record.specs.Rolls.{prepared_record, state_of_change, undo}
-use Rattle.sdb_record.proofs.TakenLaws.{prepared-base, open-left as open_state}
+use Rattle.sdb_record.proofs.Public.{open-left as open_state, prepared-base}
 use Rattle.sdb_model.specs.declared.event.Event.TheVariants as event
 use Rattle.sdb_model.specs.Rows.{Name}
 use Rattle.law_protocol.specs.Plan.{Plan, write_at, written, version_read_at}
 use Rattle.law_protocol.specs.Lawful.{Labelled, id, protocol_state, ack_of, MayPrepare, MayCheck, MayDecide, MayAbort, MayRoll, MayRollForward, MayRollBack}
-use Rattle.law_protocol.proofs.Known.{writes_it, write_key}
+use Rattle.law_protocol.proofs.Public.{write_key, writes_it}
 use Rattle.law_protocol.specs.Records.{write_there}
 use Rattle.sdb_phases.specs.declared.step.DecidePhase.TheVariants as phase
 use Rattle.sdb_phases.specs.Work.{Work, prepare_of, forward_of, back_of, decide_of, abort_of}

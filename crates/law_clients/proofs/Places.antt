@@ -10,7 +10,7 @@ use Rattle.std.specs.List.{AllByRecursion}
 use Rattle.law_clients.proofs.Lists.{each_more}
 use Rattle.law_clients.specs.Story.{Finished, Rest, Closed, Opened, settle, saids_of, statements_in, all_of, IsPlain, IsInside, IsEndedTxn, IsRest, IsWellFormedStory, MayCome, txn_ended_at, commit_in}
 use Rattle.std.proofs.lemmas.List.{append-nil as no_more}
-use Rattle.sdb_types.proofs.Basics.{assoc}
+use Rattle.sdb_types.proofs.Public.{assoc}
 
 ---- lists
 

@@ -13,15 +13,12 @@ use Rattle.std.proofs.lemmas.Bool.{and_parts}
 use Rattle.std.proofs.lemmas.List.Folds.{list_any-append}
 use Rattle.sdb_types.specs.Contents.{Contents, record_at}
 use Rattle.sdb_types.specs.Order.{key_cmp, same_key}
-use Rattle.sdb_types.proofs.Basics.{false_true, less_of, none_some, or_second, some_is, truth as true_from_T}
-use Rattle.sdb_types.proofs.Bools.{and_both}
-use Rattle.sdb_types.proofs.KeyOrder.{key_total}
-use Rattle.sdb_types.proofs.Keys.{same_key_is, same_key_tells}
+use Rattle.sdb_types.proofs.Public.{and_both, false_true, key_total, less_of, none_some, or_second, same_key_is, same_key_tells, some_is, truth as true_from_T}
 use Rattle.sdb_model.specs.Access.{with_row}
 use Rattle.sdb_model.specs.Events.{StoreContents, contents_under, stored_at, store_of}
 use Rattle.sdb_model.specs.Exec.{Tables, row_of_entry}
 use Rattle.sdb_model.specs.Rows.{Name, same_name}
-use Rattle.sdb_exec.proofs.Laid.{by_key, get-with_row}
+use Rattle.sdb_exec.proofs.Public.{by_key, get-with_row}
 use Rattle.law_clients.specs.Fitting.{row_is_well_typed}
 use Rattle.law_clients.specs.Database.{Database, database_of, is_listed, row_in, decided_on}
 use Rattle.law_clients.specs.OnlyResolves.{IsSound}

@@ -15,7 +15,7 @@ use Rattle.law_clients.specs.System.{ClientAt, Resting, Open, Reading, Committin
 use Rattle.law_clients.proofs.Clients.{turned, moved, Spares, client_later}
 use Rattle.law_clients.proofs.Commit.{no_start, not_open}
 use Rattle.law_clients.proofs.Seen.{read_noted, write_kept}
-use Rattle.sdb_types.proofs.Basics.{some_is}
+use Rattle.sdb_types.proofs.Public.{some_is}
 
 ---- events without a part
 

@@ -13,7 +13,7 @@ use Rattle.sdb_model.specs.Transactions.{changes_nothing, is_answered_from_rows}
 use Rattle.sdb_exec.specs.declared.plan.PlanStep.TheVariants.{Finished}
 use Rattle.sdb_exec.specs.Plans.{Planned, finished, first_unfit, step_at, step_of}
 use Rattle.sdb_model.specs.Reads.{access_of}
-use Rattle.sdb_exec.proofs.Places.{named_is_table}
+use Rattle.sdb_exec.proofs.Public.{named_is_table}
 use Rattle.law_protocol.specs.History.{at}
 use Rattle.sdb_txn.specs.declared.read.ReadStep.TheVariants as step
 use Rattle.sdb_txn.specs.Read.{ReadAt, ReadStage, Asking, Resolving, Ended, read_pending_at, read_result, read_step, request_of}
@@ -27,7 +27,7 @@ use Rattle.sdb_client.specs.declared.next.Next.TheVariants as next
 use Rattle.sdb_vacuum.specs.Vacuum.{VacuumAt}
 use Rattle.sdb_client.specs.Client.{CallPost, ClientAt as Client, RowsReadPost, IsAsRead, StagePost, after, answer_in, gives, given_answer, given_left, holding, with_rows_read, pending_by, pending_of, resting, too_many, written}
 use Rattle.sdb_client.specs.Inside.{IsValidPlan, IsKeyRead, MayWrite}
-use Rattle.sdb_client.proofs.Writable.{may_write}
+use Rattle.sdb_client.proofs.Public.{last_noted, may_write}
 use Rattle.law_clients.specs.Machine.{machine_kind, abstract_read}
 use Rattle.law_clients.specs.Reads.{MayRecord, first_image, with_read}
 use Rattle.law_clients.specs.ReadAt.{Done}
@@ -52,8 +52,7 @@ use Rattle.law_clients.proofs.RowsFit.{answers_on}
 use Rattle.law_clients.proofs.Asked.{from_rows}
 use Rattle.law_clients.proofs.Fitted.{by_next}
 use Rattle.law_clients.proofs.Taken.{IsSo, moved}
-use Rattle.sdb_types.proofs.Basics.{or_second as or_so, itself as same_number, by_test, none_some}
-use Rattle.sdb_client.proofs.Calls.{last_noted}
+use Rattle.sdb_types.proofs.Public.{by_test, itself as same_number, none_some, or_second as or_so}
 
 ---- what a read has noted
 

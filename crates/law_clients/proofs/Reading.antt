@@ -10,7 +10,7 @@ use Rattle.sdb_record.specs.Coordinator.{coordinator_key_of, decision_in, is_exp
 use Rattle.sdb_record.specs.Meta.{is_moment}
 use Rattle.sdb_record.specs.Parts.{before_record}
 use Rattle.sdb_record.specs.Rolls.{forward_record}
-use Rattle.sdb_record.proofs.ImageLaws.{row-key}
+use Rattle.sdb_record.proofs.Public.{row-key}
 use Rattle.sdb_model.specs.declared.event.Event.TheVariants as event
 use Rattle.sdb_model.specs.Rows.{Name}
 use Rattle.law_protocol.specs.Plan.{Plan}
@@ -22,7 +22,7 @@ use Rattle.sdb_phases.specs.Work.{look_of, abort_of}
 use Rattle.sdb_phases.specs.Recover.{recover_request_at, recover_next, recover_forward, recover_back, roll_to, undecided}
 use Rattle.law_clients.specs.Reader.{recover_action, PhaseOk, IsLearnedAborted, RecoverOk}
 use Rattle.law_clients.proofs.Meta.{IsFirm, forward_firm, before_firm}
-use Rattle.sdb_txn.proofs.Images.{decided_at}
+use Rattle.sdb_txn.proofs.Public.{decided_at}
 
 held : (past : List Labelled) (rec : Record) (meta : Meta) (p : RecoverPhase) → RecoverOk past rec meta p → IsPreparedObserved past meta.id.0 rec.key rec
 held past rec meta p ok = record { observed = ok.observed; key = refl; held = ok.of.held; writer = ok.of.writer }

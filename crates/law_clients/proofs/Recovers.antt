@@ -8,16 +8,14 @@ use Rattle.sdb_types.specs.declared.record.Condition.TheVariants as condition
 use Rattle.sdb_types.specs.declared.record.Reply.TheVariants as reply
 use Rattle.sdb_types.specs.Contents.{holds}
 use Rattle.sdb_types.specs.Order.{same_key}
-use Rattle.sdb_types.proofs.Basics.{false_true}
-use Rattle.sdb_types.proofs.Keys.{same_key_tells, same_key_self}
+use Rattle.sdb_types.proofs.Public.{false_true, same_key_self, same_key_tells}
 use Rattle.sdb_record.specs.declared.coordinator.Decision.TheVariants as decision
 use Rattle.sdb_record.specs.Coordinator.{coordinator_key_of, coordinator_row_of, decision_in, is_coordinator_table, is_expired}
 use Rattle.sdb_record.specs.Meta.{is_moment, is_unresolved}
 use Rattle.sdb_record.specs.Parts.{before_record}
 use Rattle.sdb_record.specs.Rolls.{forward_record, image_under, undo}
-use Rattle.sdb_record.proofs.ImageLaws.{checked-version, row-decision, row-key}
-use Rattle.sdb_record.proofs.RollLaws.{forward-committed, forward-key}
-use Rattle.sdb_txn.proofs.Images.{decided_at}
+use Rattle.sdb_record.proofs.Public.{checked-version, forward-committed, forward-key, row-decision, row-key}
+use Rattle.sdb_txn.proofs.Public.{decided_at}
 use Rattle.sdb_phases.specs.declared.step.RecoverStep.TheVariants as steps
 use Rattle.sdb_phases.specs.declared.step.RecoverPhase.TheVariants as phase
 use Rattle.sdb_phases.specs.Recover.{recover_next, recover_request_at, roll_to, row_followed, undecided, is_as_found}

@@ -8,8 +8,7 @@ use Rattle.law_protocol.specs.Plan.{Plan, write_at, written, version_read_at}
 use Rattle.law_protocol.specs.History.{Action, Other, Begins, Takes, Prepares, Checks, Decides, Aborts, Rolls, Removes, Ends, Stops, ProtocolState, Ack, state_after_event}
 use Rattle.law_protocol.specs.Lawful.{Labelled, protocol_state, ended, id, IsLawful, IsEnabled, MayTake, MayPrepare, MayCheck, MayDecide, MayRoll, IsUnchanged, IsPreparedThere, IsKnownCommitted}
 use Rattle.law_clients.specs.System.{SamePlans}
-use Rattle.sdb_types.proofs.Basics.{clash, decides as is_taken}
-use Rattle.sdb_types.proofs.Keys.{tests}
+use Rattle.sdb_types.proofs.Public.{clash, decides as is_taken, tests}
 
 -- before its COMMIT is accepted nothing is said of a transaction's calls
 pub record Unsaid (h : ProtocolState) (t : ℕ) : Type 0 where

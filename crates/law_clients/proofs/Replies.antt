@@ -3,7 +3,7 @@ use Rattle.std.proofs.Common.{◌≡◌, ℤ, Bool, true, false, List, Option, S
 use Rattle.std.specs.Prelude.{◌+◌, nat_lt, slice_get, if◌then◌else◌}
 use Rattle.std.specs.FinMap.{get}
 use Rattle.law_clients.specs.Types.{Access, Answer, Doing, Key, Next, Outcome, Pair, Record, Reply, Request, Statement, Table, TxId, VacuumStep, ValidateStep}
-use Rattle.sdb_types.proofs.Basics.{none_some, some_is}
+use Rattle.sdb_types.proofs.Public.{none_some, some_is}
 use Rattle.sdb_record.specs.Meta.{is_moment}
 use Rattle.sdb_model.specs.declared.answer.Answer.TheVariants as answer
 use Rattle.sdb_model.specs.declared.statement.Statement.TheVariants as statement

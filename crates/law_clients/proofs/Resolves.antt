@@ -6,15 +6,14 @@ use Rattle.std.specs.Result.{result_ok}
 use Rattle.law_clients.specs.Types.{Decided, Key, Record, Table, TxId}
 use Rattle.sdb_types.specs.declared.record.State.TheVariants as state
 use Rattle.sdb_types.specs.Order.{same_key}
-use Rattle.sdb_types.proofs.Basics.{false_true, none_some, some_is}
-use Rattle.sdb_types.proofs.Keys.{same_key_tells}
+use Rattle.sdb_types.proofs.Public.{false_true, none_some, same_key_tells, some_is}
 use Rattle.sdb_record.specs.declared.coordinator.Decision.TheVariants as decision
 use Rattle.sdb_record.specs.Coordinator.{coordinator_key_of, coordinator_row_of, decision_in, is_coordinator_table}
 use Rattle.sdb_record.specs.Meta.{id_in, is_in, is_moment, is_transactional}
 use Rattle.sdb_record.specs.Parts.{before_record}
 use Rattle.sdb_record.specs.Rolls.{image_of, image_under, row_of_image}
-use Rattle.sdb_txn.proofs.Images.{decided_at}
-use Rattle.sdb_record.proofs.ImageLaws.{image-is, image-open, image-settled, has_moment, row-decision}
+use Rattle.sdb_txn.proofs.Public.{decided_at}
+use Rattle.sdb_record.proofs.Public.{has_moment, image-is, image-open, image-settled, row-decision}
 use Rattle.law_clients.specs.Database.{Database, IsWith, decided_in, decided_on, image_in, is_committed_or_none, is_listed, row_in}
 use Rattle.law_clients.specs.OnlyResolves.{IsApart, IsPreparedFor, IsResolved, IsAbortedRow, OnlyResolves, IsSound}
 use Rattle.law_clients.proofs.Noting.{coordinators}

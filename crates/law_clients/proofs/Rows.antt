@@ -11,8 +11,7 @@ use Rattle.sdb_types.specs.declared.record.Reply.TheVariants as reply
 use Rattle.sdb_types.specs.declared.record.Request.TheVariants as ask
 use Rattle.sdb_types.specs.Order.{key_cmp, same_key}
 use Rattle.sdb_types.specs.Contents.{CanAnswer, in_span, rise, starts_after, record_among}
-use Rattle.sdb_types.proofs.Bools.{and_first, and_second}
-use Rattle.sdb_types.proofs.KeyOrder.{key_total}
+use Rattle.sdb_types.proofs.Public.{all_each as each_any, and_first, and_second, key_total, less_of, same_key_is, same_key_self, same_key_turned}
 use Rattle.sdb_record.specs.declared.access.Access.TheVariants as access
 use Rattle.sdb_record.specs.declared.coordinator.Decision.TheVariants as decision
 use Rattle.sdb_record.specs.Meta.{is_moment}
@@ -28,8 +27,6 @@ use Rattle.law_clients.proofs.Kept.{row_later}
 use Rattle.law_clients.proofs.Lists.{each_both, each_drop, each_more, each_unmap}
 use Rattle.law_clients.proofs.Meta.{meta_of}
 use Rattle.law_clients.proofs.Reading.{IsImageOf, phase_kept, image_settled}
-use Rattle.sdb_types.proofs.Basics.{less_of, all_each as each_any}
-use Rattle.sdb_types.proofs.Keys.{same_key_self, same_key_is, same_key_turned}
 use Rattle.sdb_txn.specs.Read.{request_of, Kind, Firm, Open, Bad}
 use Rattle.sdb_model.specs.Tables.{is_data}
 

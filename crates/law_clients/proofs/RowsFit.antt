@@ -10,8 +10,7 @@ use Rattle.std.specs.FinMap.Entries.{below_all}
 use Rattle.std.proofs.lemmas.Bool.{and_parts}
 use Rattle.law_clients.specs.Types.{Answer, Change, Image, Key, Keyed, Pair, Statement, Table, TableName, Test}
 use Rattle.sdb_types.specs.Order.{key_cmp, table_cmp}
-use Rattle.sdb_types.proofs.Bools.{and_first, and_second, and_both}
-use Rattle.sdb_types.proofs.KeyOrder.{key_total, table_exact, table_total}
+use Rattle.sdb_types.proofs.Public.{and_both, and_first, and_second, by_test, key_total, less_of, table_exact, table_total, truth as true_from_T}
 use Rattle.sdb_record.specs.declared.write.Change.TheVariants as change
 use Rattle.sdb_record.specs.Rolls.{row_of_change}
 use Rattle.sdb_schema.specs.Catalog.{is_catalog}
@@ -23,15 +22,11 @@ use Rattle.sdb_model.specs.Refused.{refusal_by, refusal_of, refusal_on}
 use Rattle.sdb_exec.specs.declared.plan.PlanStep.TheVariants.{Finished}
 use Rattle.sdb_exec.specs.Plans.{IsExec, Planned, change_is_well_typed, changes_on, columns_at, finished, first_unfit, has_all_literals, leaves_well_typed, put_row, step_of}
 use Rattle.sdb_model.specs.Reads.{access_of}
-use Rattle.sdb_exec.proofs.Fits.{changes_fit}
-use Rattle.sdb_exec.proofs.Laid.{by_key, get-with_row, keyed}
-use Rattle.sdb_exec.proofs.Places.{named_is_table}
-use Rattle.sdb_exec.proofs.Whole.{fitting_is_exec}
+use Rattle.sdb_exec.proofs.Public.{by_key, changes_fit, fitting_is_exec, get-with_row, keyed, named_is_table}
 use Rattle.sdb_snapshot.specs.Seen.{Seen, overlay}
 use Rattle.law_clients.specs.Body.{AnswersOn}
 use Rattle.law_clients.specs.Left.{IsFitting}
 use Rattle.law_clients.specs.Fitting.{row_is_well_typed, tables_are_well_typed}
-use Rattle.sdb_types.proofs.Basics.{less_of, truth as true_from_T, by_test}
 use Rattle.sdb_types.specs.Exact.{equal_of}
 use Rattle.sdb_model.specs.Tables.{is_data}
 

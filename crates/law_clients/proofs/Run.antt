@@ -10,7 +10,7 @@ use Rattle.sdb_model.specs.Transactions.{IsOrder}
 use Rattle.law_protocol.specs.Lawful.{Labelled}
 use Rattle.law_protocol.specs.Trace.{IsTraced, StartsEmpty, closing}
 use Rattle.law_protocol.specs.Explained.{IsRunOf, newest_first, events_of}
-use Rattle.law_protocol.proofs.Times.{traced_of}
+use Rattle.law_protocol.proofs.Public.{traced_of}
 use Rattle.law_clients.specs.Left.{IsFitting}
 use Rattle.law_clients.specs.Linked.{HaveStories}
 use Rattle.law_clients.proofs.Ends.{run_told}

@@ -4,13 +4,12 @@ use Rattle.std.specs.Prelude.{is_some, ◌&&◌, ◌||◌, ◌==◌, find, not, 
 use Rattle.std.specs.List.{AllByRecursion, list_any}
 use Rattle.std.specs.Option.{option_and_then, option_map}
 use Rattle.std.proofs.lemmas.List.Folds.{list_any-append}
-use Rattle.sdb_types.proofs.Bools.{and_both}
+use Rattle.sdb_types.proofs.Public.{all_each as each_any, and_both, key_exact, or_else, same_key_exact, same_key_self, same_key_tells}
 use Rattle.std.specs.Ordering.{is_eq, is_lt}
 use Rattle.std.specs.declared.cmp.Ordering.TheVariants.{Less}
 use Rattle.law_clients.specs.Types.{Access, Key, Keyed, Read, Record, Scan, Span, TxId, Write}
 use Rattle.sdb_types.specs.Order.{key_cmp, same_key}
 use Rattle.sdb_types.specs.Contents.{in_span, record_among}
-use Rattle.sdb_types.proofs.KeyOrder.{key_exact}
 use Rattle.sdb_snapshot.specs.Entries.{value_at}
 use Rattle.sdb_record.specs.declared.access.Access.TheVariants as access
 use Rattle.sdb_record.specs.Meta.{id_in, is_moment}
@@ -23,16 +22,12 @@ use Rattle.sdb_snapshot.specs.Reads.{ReadRecord, IsUnmoved, has_changed, is_key_
 use Rattle.sdb_snapshot.specs.Written as snap
 use Rattle.sdb_snapshot.specs.Written.{AreChanges, HaveBases}
 use Rattle.sdb_snapshot.specs.Seen.{Seen, nothing, with_get, with_scan, with_written}
-use Rattle.sdb_snapshot.proofs.Keys.{value_last}
-use Rattle.sdb_snapshot.proofs.Differences.{or_there, noted_images}
-use Rattle.sdb_snapshot.proofs.Owned.{kept_get, kept_scan, kept_either, Keeps}
+use Rattle.sdb_snapshot.proofs.Public.{Keeps, kept_either, kept_get, kept_scan, noted_images, or_there, value_last}
 use Rattle.sdb_validate.specs.Rescan.{reads_rise, starts_behind}
 use Rattle.law_clients.specs.Reads.{VersionSettled, IsReadThere, IsReadItemOk, IsReadOk, IsScanOk, IsFoundOk, is_found, was_read, was_found, SeenOk, first_image, with_read, MayRecord, work_of, ReadAgrees, Sound, Settled}
 use Rattle.law_clients.specs.ReadAt.{IsImage, IsOfData, Rise, AreInOrder, keys_of}
 use Rattle.law_clients.proofs.Lists.{each_both, each_more, each_unmap}
 use Rattle.law_clients.proofs.Rows.{settled_later}
-use Rattle.sdb_types.proofs.Basics.{or_else, all_each as each_any}
-use Rattle.sdb_types.proofs.Keys.{same_key_tells, same_key_self, same_key_exact}
 use Rattle.sdb_model.specs.Tables.{is_data}
 
 ---- what stays

@@ -6,12 +6,10 @@ use Rattle.sdb_types.specs.declared.record.Request.TheVariants as ask
 use Rattle.sdb_types.specs.declared.record.Reply.TheVariants as reply
 use Rattle.sdb_types.specs.Contents.{Contents, record_at, holds, put_reply, reply_to, after, in_span, record_among, rows_in}
 use Rattle.sdb_types.specs.Order.{same_key}
-use Rattle.sdb_types.proofs.Keys.{same_key_tells}
-use Rattle.sdb_types.proofs.Replies.{rows_in-are_rows_of}
+use Rattle.sdb_types.proofs.Public.{rows_in-are_rows_of, same_key_tells}
 use Rattle.sdb_model.specs.Rows.{Name}
 use Rattle.sdb_model.specs.Events.{StoreContents, stored_at, table_asked, IsCall}
-use Rattle.law_protocol.proofs.Effects.{AtCall, at_call, after_put, after_delete}
-use Rattle.law_protocol.proofs.Shown.{row_there, span_table}
+use Rattle.law_protocol.proofs.Public.{after_delete, after_put, at_call, AtCall, row_there, span_table}
 use Rattle.law_clients.specs.Database.{database_of, Same, Wrote, Done, Undone, Got, Found, NotFound, Scanned, Returned, NotReturned, Called}
 
 ---- writes

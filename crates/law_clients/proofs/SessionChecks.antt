@@ -6,9 +6,7 @@ use Rattle.std.specs.List.{AllByRecursion, list_all}
 use Rattle.law_clients.specs.Types.{Check, Key, Read, Record, Reply, Scan, Table, TxId, Write}
 use Rattle.sdb_types.specs.Contents.{are_rows_of, holds, in_span, record_among, rise}
 use Rattle.sdb_types.specs.Order.{same_key}
-use Rattle.sdb_types.proofs.Basics.{append_all, false_true, itself, not_true}
-use Rattle.sdb_types.proofs.Bools.{and_first, and_second}
-use Rattle.sdb_types.proofs.Keys.{same_key_tells}
+use Rattle.sdb_types.proofs.Public.{and_first, and_second, append_all, false_true, itself, not_true, same_key_tells}
 use Rattle.sdb_record.specs.Among.{is_written, version_among, write_among}
 use Rattle.sdb_record.specs.Coordinator.{coordinator_key_of, is_coordinator_table}
 use Rattle.sdb_record.specs.Moved.{condition_of, is_unchanged, same_version, version_of}
@@ -18,7 +16,7 @@ use Rattle.sdb_phases.specs.Checks.{base_of, check_of_read, check_of_scan, check
 use Rattle.sdb_phases.specs.Steps.{judged, validate_step}
 use Rattle.law_clients.proofs.Lists.{each_filter, each_map}
 use Rattle.sdb_validate.specs.Rescan.{IsFirstLost, is_unchanged_at, is_unchanged_by}
-use Rattle.sdb_validate.proofs.Rescans.{first_lost}
+use Rattle.sdb_validate.proofs.Public.{first_lost}
 use Rattle.law_clients.specs.Database.{Called, Found, Got, Database, HasFailed, NotFound, NotReturned, Same, Scanned, Returned, is_committed_or_none, is_listed}
 use Rattle.law_clients.specs.OnlyResolves.{IsApart, IsSound}
 use Rattle.law_clients.specs.Commits.{OthersUnchanged, IsReadCurrent, IsScanCurrent, WorkAlone}

@@ -5,19 +5,14 @@ use Rattle.std.specs.Result.{result_ok}
 use Rattle.std.specs.FinMap.{get}
 use Rattle.law_clients.specs.Types.{Decided, Key, Pair, Record, Table, Write}
 use Rattle.sdb_types.specs.declared.record.State.TheVariants as state
-use Rattle.sdb_types.proofs.Bools.{and_first}
-use Rattle.sdb_types.proofs.Basics.{false_true, none_some, some_is}
-use Rattle.sdb_types.proofs.Keys.{same_key_tells}
+use Rattle.sdb_types.proofs.Public.{and_first, false_true, none_some, same_key_tells, some_is}
 use Rattle.sdb_record.specs.declared.coordinator.Decision.TheVariants as decision
 use Rattle.sdb_record.specs.Among.{write_among}
 use Rattle.sdb_record.specs.Coordinator.{coordinator_key_of, decision_in, is_coordinator_table}
 use Rattle.sdb_record.specs.Meta.{is_in, is_transactional, moment_in, moment_in_value}
 use Rattle.sdb_record.specs.Names.{tx_prepared_at}
 use Rattle.sdb_record.specs.Rolls.{IsBaseOf, IsWrite, base_columns, new_columns, next_version, prepared_record, state_of_change}
-use Rattle.sdb_record.proofs.ImageLaws.{prepared-unresolved, prepared-version, version-writer}
-use Rattle.sdb_record.proofs.RollLaws.{forward-committed, forward-accepted}
-use Rattle.sdb_record.proofs.TakenLaws.{prepared-columns}
-use Rattle.sdb_record.proofs.WriteLaws.{marked-time, with_base}
+use Rattle.sdb_record.proofs.Public.{forward-accepted, forward-committed, marked-time, prepared-columns, prepared-unresolved, prepared-version, version-writer, with_base}
 use Rattle.sdb_model.specs.Exec.{Tables}
 use Rattle.sdb_phases.specs.Work.{Work}
 use Rattle.sdb_snapshot.specs.Rows.{with_own}

@@ -7,7 +7,7 @@ use Rattle.law_clients.specs.Types.{Key, Record, Table, TxId}
 use Rattle.std.proofs.Common.{◌≡◌, ◌≢◌, Bool, true, false, List, [], ◌∷◌, ◌++◌, Option, Some, None, refl, sym, ◌∙◌, subst}
 use Rattle.std.specs.Prelude.{if◌then◌else◌, fold}
 use Rattle.std.specs.List.{AllByRecursion}
-use Rattle.sdb_types.proofs.Basics.{false_true}
+use Rattle.sdb_types.proofs.Public.{false_true}
 use Rattle.law_clients.proofs.Lists.{each_more}
 use Rattle.sdb_model.specs.Exec.{Tables}
 use Rattle.law_clients.specs.Database.{Database}

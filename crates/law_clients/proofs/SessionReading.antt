@@ -8,9 +8,7 @@ use Rattle.sdb_types.specs.declared.record.Reply.TheVariants as reply
 use Rattle.sdb_types.specs.declared.record.State.TheVariants as state
 use Rattle.sdb_types.specs.Contents.{in_span, record_among, rise}
 use Rattle.sdb_types.specs.Order.{key_cmp, same_key}
-use Rattle.sdb_types.proofs.Basics.{false_true, none_some, some_is}
-use Rattle.sdb_types.proofs.Bools.{and_both, and_first, and_second}
-use Rattle.sdb_types.proofs.Keys.{same_key_exact, same_key_is, same_key_of, same_key_tells, same_key_turned}
+use Rattle.sdb_types.proofs.Public.{and_both, and_first, and_second, false_true, none_some, same_key_exact, same_key_is, same_key_of, same_key_tells, same_key_turned, some_is}
 use Rattle.sdb_record.specs.declared.access.Access.TheVariants as access
 use Rattle.sdb_record.specs.Meta.{checked, is_in, is_moment, is_transactional, is_unresolved}
 use Rattle.sdb_record.specs.Parts.{are_stored}

@@ -9,8 +9,7 @@ use Rattle.sdb_types.specs.declared.record.Request.TheVariants as ask
 use Rattle.sdb_types.specs.declared.record.Reply.TheVariants as reply
 use Rattle.sdb_types.specs.Contents.{in_span, record_among}
 use Rattle.sdb_types.specs.Order.{same_key}
-use Rattle.sdb_types.proofs.Basics.{false_true, itself, none_some, or_else, or_false, or_true, some_is}
-use Rattle.sdb_types.proofs.Keys.{same_key_is, same_key_of, same_key_tells}
+use Rattle.sdb_types.proofs.Public.{false_true, itself, none_some, or_else, or_false, or_true, same_key_is, same_key_of, same_key_tells, some_is}
 use Rattle.sdb_snapshot.specs.Entries.{value_at}
 use Rattle.sdb_record.specs.declared.access.Access.TheVariants as access
 use Rattle.sdb_record.specs.Meta.{is_transactional}
@@ -24,8 +23,7 @@ use Rattle.law_protocol.specs.Lawful.{Itself, Labelled, labelled_with}
 use Rattle.sdb_snapshot.specs.Reads.{AreBases, IsUnmoved, ReadRecord, base_at, has_changed, is_key_read, record_read_at, reads_of, with_images}
 use Rattle.sdb_snapshot.specs.Seen.{Seen, with_get, with_scan, with_written}
 use Rattle.sdb_snapshot.specs.Written.{AreChanges}
-use Rattle.sdb_snapshot.proofs.Differences.{noted_images}
-use Rattle.sdb_snapshot.proofs.Keys.{value_last}
+use Rattle.sdb_snapshot.proofs.Public.{noted_images, value_last}
 use Rattle.law_clients.specs.Reads.{MayRecord, SeenOk, first_image, with_read}
 use Rattle.law_clients.specs.ReadAt.{IsImage, IsOfData}
 use Rattle.law_clients.proofs.Lists.{each_more, each_unmap}

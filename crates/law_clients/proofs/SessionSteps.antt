@@ -4,7 +4,7 @@ use Rattle.std.specs.Prelude.{◌&&◌, ◌||◌, find, is_some, not, if◌then�
 use Rattle.std.specs.Option.{option_map_or}
 use Rattle.law_clients.specs.Types.{Answer, Key, Refusal, Table, Write}
 use Rattle.sdb_types.specs.Order.{same_key}
-use Rattle.sdb_types.proofs.Basics.{false_true, none_some, some_is}
+use Rattle.sdb_types.proofs.Public.{false_true, none_some, some_is}
 use Rattle.sdb_record.specs.Among.{is_written}
 use Rattle.sdb_record.specs.Rolls.{is_tombstone}
 use Rattle.sdb_model.specs.declared.answer.Answer.TheVariants as answer

@@ -11,9 +11,7 @@ use Rattle.sdb_types.specs.declared.record.Reply.TheVariants as reply
 use Rattle.sdb_types.specs.declared.record.State.TheVariants as state
 use Rattle.sdb_types.specs.Contents.{holds, in_span, record_among, rise}
 use Rattle.sdb_types.specs.Order.{same_key}
-use Rattle.sdb_types.proofs.Basics.{false_true, none_some, some_is}
-use Rattle.sdb_types.proofs.Bools.{and_both, and_first, and_second}
-use Rattle.sdb_types.proofs.Keys.{same_key_of, same_key_self, same_key_tells}
+use Rattle.sdb_types.proofs.Public.{and_both, and_first, and_second, false_true, none_some, same_key_of, same_key_self, same_key_tells, some_is}
 use Rattle.sdb_record.specs.Coordinator.{coordinator_key_of, decision_in, is_coordinator_table, is_expired}
 use Rattle.sdb_record.specs.Meta.{checked, id_in, is_in, is_moment, is_transactional, is_unresolved}
 use Rattle.sdb_record.specs.Moved.{condition_of}

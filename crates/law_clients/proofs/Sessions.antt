@@ -11,13 +11,12 @@ use Rattle.law_clients.specs.Types.{Access, Answer, Key, Meta, Pair, Record, Ref
 use Rattle.sdb_types.specs.declared.record.State.TheVariants as state
 use Rattle.sdb_types.specs.Exact.{equal_of}
 use Rattle.sdb_types.specs.Order.{table_cmp}
-use Rattle.sdb_types.proofs.Basics.{false_true, none_some, some_is, map_last}
-use Rattle.sdb_types.proofs.KeyOrder.{table_exact}
+use Rattle.sdb_types.proofs.Public.{false_true, map_last, none_some, some_is, table_exact}
 use Rattle.sdb_record.specs.Coordinator.{coordinator_key_of}
 use Rattle.sdb_record.specs.Meta.{checked, checked_before, checked_part, id_in, is_committed, is_in, is_misnamed, moment_in, refuse, with_before}
 use Rattle.sdb_record.specs.Names.{tx_prepared_at}
 use Rattle.sdb_record.specs.Parts.{before_part, is_before_pair}
-use Rattle.sdb_record.proofs.Fine.{refuse-ok, accepted}
+use Rattle.sdb_record.proofs.Public.{accepted, refuse-ok}
 use Rattle.sdb_model.specs.declared.answer.Answer.TheVariants as answer
 use Rattle.sdb_model.specs.declared.statement.Statement.TheVariants as statement
 use Rattle.sdb_model.specs.Access.{in_access}
@@ -26,7 +25,7 @@ use Rattle.sdb_model.specs.Refused.{refusal_of}
 use Rattle.sdb_model.specs.Serial.{run_body}
 use Rattle.sdb_model.specs.Transactions.{changes_nothing, is_answered_from_rows, is_conflict, is_done}
 use Rattle.sdb_exec.specs.Plans.{Planned}
-use Rattle.sdb_exec.proofs.Whole.{own}
+use Rattle.sdb_exec.proofs.Public.{own}
 use Rattle.sdb_snapshot.specs.Rows.{with_own}
 use Rattle.sdb_snapshot.specs.Seen.{Seen}
 use Rattle.law_clients.proofs.Lists.{each_more}

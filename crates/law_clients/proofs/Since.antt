@@ -11,7 +11,7 @@ use Rattle.sdb_model.specs.Transactions.{Executed, numbered}
 use Rattle.law_clients.specs.Calls.{WasAnswered, call_made, calls_since}
 use Rattle.law_clients.proofs.Tellings.{numbers_more}
 use Rattle.std.proofs.lemmas.List.{append-nil as no_more}
-use Rattle.sdb_types.proofs.Basics.{below as is_after, at_most_nat as within_end, fails_second as both_false, all_each as each_any}
+use Rattle.sdb_types.proofs.Public.{all_each as each_any, at_most_nat as within_end, below as is_after, fails_second as both_false}
 
 -- one event more
 pub calls_more : (events : List Event) (c : ℕ) (e : Event) → calls_by (events ++ e ∷ []) c ≡ calls_by events c ++ call_made c (1 + length events) e

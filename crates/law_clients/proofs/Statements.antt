@@ -11,7 +11,7 @@ use Rattle.std.specs.List.{AllByRecursion, list_any}
 use Rattle.std.specs.FinMap.{get}
 use Rattle.sdb_types.specs.Contents.{in_span}
 use Rattle.sdb_types.specs.Order.{same_key}
-use Rattle.sdb_types.proofs.Basics.{by_test, false_true, none_some, or_true}
+use Rattle.sdb_types.proofs.Public.{by_test, false_true, none_some, or_true}
 use Rattle.sdb_record.specs.declared.access.Access.TheVariants as access
 use Rattle.sdb_record.specs.Among.{version_among}
 use Rattle.sdb_record.specs.Coordinator.{coordinator_key_of}
@@ -27,7 +27,7 @@ use Rattle.sdb_model.specs.Transactions.{changes_nothing, is_answered_from_rows}
 use Rattle.sdb_exec.specs.declared.plan.PlanStep.TheVariants.{Finished}
 use Rattle.sdb_exec.specs.Plans.{Planned, finished, first_unfit, step_at, step_of, changes_on}
 use Rattle.sdb_model.specs.Reads.{access_of}
-use Rattle.sdb_exec.proofs.Places.{named_is_table}
+use Rattle.sdb_exec.proofs.Public.{named_is_table}
 use Rattle.law_protocol.specs.Lawful.{Labelled}
 use Rattle.sdb_txn.specs.declared.read.ReadStep.TheVariants as step
 use Rattle.sdb_txn.specs.Read.{ReadAt, ReadStage, Asking, Resolving, Ended, read_pending_at, read_result, read_step, request_of}
@@ -35,13 +35,13 @@ use Rattle.sdb_snapshot.specs.Reads.{base_at, is_key_read}
 use Rattle.sdb_snapshot.specs.Rows.{row_found, with_own}
 use Rattle.sdb_snapshot.specs.Seen.{Seen, overlay, with_written}
 use Rattle.sdb_snapshot.specs.Written.{AreChanges}
-use Rattle.sdb_snapshot.proofs.Shown.{overlay_is}
+use Rattle.sdb_snapshot.proofs.Public.{overlay_is}
 use Rattle.sdb_txn.specs.declared.txn.Doing.TheVariants as doing
 use Rattle.sdb_txn.specs.Txn.{TxnAt, idle as idle_of}
 use Rattle.sdb_client.specs.declared.next.Next.TheVariants as next
 use Rattle.sdb_client.specs.Client.{CallPost, RowsReadPost, IsAsRead, IsChangedAt, StagePost, gives, given_answer, given_left, with_rows_read, too_many, written}
 use Rattle.sdb_client.specs.Inside.{IsValidPlan, IsKeyRead, MayWrite}
-use Rattle.sdb_client.proofs.Writable.{may_write}
+use Rattle.sdb_client.proofs.Public.{may_write}
 use Rattle.law_clients.specs.Reads.{with_read}
 use Rattle.law_clients.specs.Body.{AgreesAll, AnswersOn, BodyOk, ReadAgrees, ScanAgrees}
 use Rattle.law_clients.proofs.Bodies.{access_agrees, body_read, body_step}

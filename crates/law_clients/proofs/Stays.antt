@@ -5,7 +5,7 @@ use Rattle.std.specs.Option.{option_map_or}
 use Rattle.std.specs.Result.{result_ok}
 use Rattle.std.specs.List.{AllByRecursion}
 use Rattle.law_clients.specs.Types.{Answer, Decided, Key, Record, Table, TxId}
-use Rattle.sdb_types.proofs.Basics.{some_is}
+use Rattle.sdb_types.proofs.Public.{some_is}
 use Rattle.sdb_types.specs.declared.record.State.TheVariants as state
 use Rattle.sdb_record.specs.declared.coordinator.Decision.TheVariants as decision
 use Rattle.sdb_record.specs.Coordinator.{coordinator_key_of, decision_in, same_decision}

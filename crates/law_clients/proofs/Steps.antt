@@ -14,7 +14,7 @@ use Rattle.sdb_model.specs.Exec.{Tables}
 use Rattle.sdb_snapshot.specs.Reads.{base_at}
 use Rattle.sdb_snapshot.specs.Rows.{row_found, with_own}
 use Rattle.sdb_snapshot.specs.Seen.{Seen}
-use Rattle.sdb_snapshot.proofs.Shown.{own_row, get_own}
+use Rattle.sdb_snapshot.proofs.Public.{get_own, own_row}
 use Rattle.sdb_model.specs.ReadSet.{ReadItem, KeyRead, SpanRead, version_read}
 use Rattle.law_protocol.specs.Plan.{Plan, write_at, written, version_read_at, number_of}
 use Rattle.law_protocol.specs.History.{History, or_else}
@@ -25,8 +25,7 @@ use Rattle.law_protocol.specs.Lawful.{Labelled}
 use Rattle.law_clients.specs.Reads.{IsFoundOk, IsReadOk, SeenOk}
 use Rattle.law_clients.specs.Body.{ReadAgrees, ScanAgrees, AgreesAll}
 use Rattle.law_clients.specs.Left.{AreLeft, AreAfter}
-use Rattle.sdb_types.proofs.Basics.{all_each as each_any}
-use Rattle.sdb_types.proofs.Keys.{same_key_self}
+use Rattle.sdb_types.proofs.Public.{all_each as each_any, same_key_self}
 use Rattle.sdb_types.specs.Order.{same_key}
 
 ---- places of notes

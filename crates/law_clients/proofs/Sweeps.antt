@@ -7,7 +7,7 @@ use Rattle.std.proofs.lemmas.Cmp.{eq_by_cmp_equiv}
 use Rattle.law_clients.specs.Types.{Key, Meta, Record, RecoverPhase, RecoverStep, Reply, Span, Table, TableName, VacuumStep}
 use Rattle.sdb_types.specs.declared.record.Reply.TheVariants as reply
 use Rattle.sdb_types.specs.Order.{table_cmp}
-use Rattle.sdb_types.proofs.KeyOrder.{table_total}
+use Rattle.sdb_types.proofs.Public.{table_total}
 use Rattle.sdb_record.specs.declared.access.Access.TheVariants as access
 use Rattle.sdb_record.specs.Rolls.{is_tombstone}
 use Rattle.sdb_model.specs.Exec.{find_table}

@@ -16,7 +16,7 @@ use Rattle.law_protocol.specs.Plan.{Plan, write_at, version_read_at, number_of}
 use Rattle.law_protocol.specs.History.{ProtocolState, Takes, state_after_event, at}
 use Rattle.law_protocol.specs.History as laws
 use Rattle.law_protocol.specs.Lawful.{Labelled, id, protocol_state, IsSettled, IsKnownCommitted, InCommit, MayTake}
-use Rattle.law_protocol.proofs.Known.{write_key}
+use Rattle.law_protocol.proofs.Public.{write_key}
 use Rattle.sdb_phases.specs.declared.step.DecidePhase.TheVariants as phase
 use Rattle.sdb_phases.specs.declared.step.Outcome.TheVariants as outcome
 use Rattle.sdb_phases.specs.Work.{Work}
@@ -33,7 +33,7 @@ use Rattle.law_clients.proofs.Commit.{no_start, no_sweep}
 use Rattle.law_clients.proofs.Lists.{each_at, each_map, each_filter}
 use Rattle.law_clients.proofs.Seen.{sound_of, settled_of}
 use Rattle.law_clients.proofs.Work.{work_ok, got_says, scan_says, noted_by, not_noted}
-use Rattle.sdb_types.proofs.Basics.{append_all as each_append, all_each as each_any}
+use Rattle.sdb_types.proofs.Public.{all_each as each_any, append_all as each_append}
 use Rattle.sdb_model.specs.Tables.{is_data}
 
 plan_here : (plan : ℕ → Plan) (p : Work) → with_plan plan p p.id.0 ≡ plan_of p

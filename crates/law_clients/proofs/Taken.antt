@@ -10,7 +10,7 @@ use Rattle.sdb_model.specs.Exec.{Tables}
 use Rattle.sdb_model.specs.Sql.{Reads, Refuses, reads_begin, reads_commit}
 use Rattle.sdb_model.specs.Transactions.{changes_nothing}
 use Rattle.law_protocol.specs.History.{at}
-use Rattle.sdb_sqltext.proofs.Clauses.{not_both, one_statement}
+use Rattle.sdb_sqltext.proofs.Public.{begin_read, commit_read, not_both, one_statement, rollback_read}
 use Rattle.sdb_record.specs.declared.access.Access.TheVariants as access
 use Rattle.sdb_record.specs.Meta.{is_moment}
 use Rattle.sdb_phases.specs.Work.{Work}
@@ -19,7 +19,6 @@ use Rattle.sdb_phases.specs.Commit.{Preparing, Checking, Deciding}
 use Rattle.sdb_phases.specs.declared.step.DecidePhase.TheVariants.{Put}
 use Rattle.sdb_snapshot.specs.Seen.{nothing}
 use Rattle.sdb_model.specs.Transactions.{id_of}
-use Rattle.sdb_sqltext.proofs.OneWord.{begin_read, commit_read, rollback_read}
 use Rattle.sdb_txn.specs.declared.txn.Doing.TheVariants as doing
 use Rattle.sdb_txn.specs.Txn.{TxnAt, committing, work_of as txn_work}
 use Rattle.sdb_vacuum.specs.Vacuum.{VacuumAt, begun, whole}
@@ -30,7 +29,7 @@ use Rattle.law_clients.specs.System.{ClientAt, Committing, NoneOpen, NoneRunVacu
 use Rattle.law_clients.specs.Invariant.{RunInvariant, IsMild, LeavesAtOnce}
 use Rattle.law_clients.proofs.InvariantTurns.{going_begins, going_commits, going_idle, going_leaves_so, going_outside, going_vacuums}
 use Rattle.law_clients.specs.States.{ClientState, IsGated, IsPlainAnswer, IsReady, doing_of, runs, abstract_client, abstract_by, abstract_doing, abstract_txn, system_of, with_state}
-use Rattle.sdb_types.proofs.Basics.{by_test}
+use Rattle.sdb_types.proofs.Public.{by_test}
 
 ---- one client elsewhere
 

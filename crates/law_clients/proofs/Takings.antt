@@ -13,9 +13,7 @@ use Rattle.std.proofs.lemmas.Option.{slice_get_within}
 use Rattle.sdb_types.specs.Contents.{in_span}
 use Rattle.sdb_types.specs.Exact.{equal_of}
 use Rattle.sdb_types.specs.Order.{table_cmp}
-use Rattle.sdb_types.proofs.Bools.{and_first}
-use Rattle.sdb_types.proofs.Basics.{by_test, false_true}
-use Rattle.sdb_types.proofs.KeyOrder.{table_exact}
+use Rattle.sdb_types.proofs.Public.{and_first, by_test, false_true, table_exact}
 use Rattle.sdb_record.specs.declared.access.Access.TheVariants as access
 use Rattle.sdb_record.specs.Meta.{is_moment}
 use Rattle.sdb_schema.specs.Catalog.{is_catalog}
@@ -29,8 +27,7 @@ use Rattle.sdb_model.specs.Transactions.{changes_nothing, is_answered_from_rows}
 use Rattle.sdb_exec.specs.declared.plan.PlanStep.TheVariants.{Finished}
 use Rattle.sdb_exec.specs.Plans.{Planned, finished, first_unfit, has_all_literals, step_at, step_of, changes_on}
 use Rattle.sdb_model.specs.Reads.{access_of}
-use Rattle.sdb_exec.proofs.Places.{named_is_table}
-use Rattle.sdb_exec.proofs.Whole.{own}
+use Rattle.sdb_exec.proofs.Public.{named_is_table, own}
 use Rattle.sdb_phases.specs.Checks.{checks}
 use Rattle.sdb_phases.specs.Commit.{Checking, Deciding, Preparing, checking, preparing}
 use Rattle.sdb_phases.specs.declared.step.DecidePhase.TheVariants as phase
@@ -39,14 +36,14 @@ use Rattle.sdb_txn.specs.Read.{Asking, request_of}
 use Rattle.sdb_snapshot.specs.Rows.{with_own}
 use Rattle.sdb_snapshot.specs.Seen.{Seen, nothing, overlay, with_written}
 use Rattle.sdb_snapshot.specs.Written.{AreChanges}
-use Rattle.sdb_snapshot.proofs.Shown.{overlay_is}
+use Rattle.sdb_snapshot.proofs.Public.{overlay_is}
 use Rattle.sdb_txn.specs.declared.txn.Doing.TheVariants as doing
 use Rattle.sdb_txn.specs.Txn.{TxnAt, committing, reading, work_of as txn_work}
 use Rattle.law_clients.specs.Reads.{work_of}
 use Rattle.sdb_vacuum.specs.Vacuum.{begun as sweeping, spans_of, whole}
 use Rattle.sdb_client.specs.Client.{AskPost, BeginPost, ClientAt, CommitStartPost, GatePost, IsAnsweredAtOnce, RollbackPost, RowsPost, ParsedPost, StatementPost, Taking, Parses, VacuumStartPost, given_answer, given_left, gives, is_covered, plan_of, too_many, written}
 use Rattle.sdb_client.specs.Inside.{IsValidPlan, IsKeyRead, MayWrite}
-use Rattle.sdb_client.proofs.Writable.{may_write}
+use Rattle.sdb_client.proofs.Public.{may_write}
 use Rattle.law_clients.specs.Body.{AnswersOn}
 use Rattle.law_clients.proofs.Bodies.{access_agrees, body_begins, body_step}
 use Rattle.law_clients.specs.Fitting.{tables_are_well_typed}

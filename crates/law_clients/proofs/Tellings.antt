@@ -16,7 +16,7 @@ use Rattle.law_clients.proofs.Foreign.{IsForeign, foreign}
 use Rattle.law_clients.specs.Story.{Finished, Rest, Closed, Opened, txn_ended_at}
 use Rattle.law_clients.specs.Filed.{number, IsFiledAt}
 use Rattle.law_clients.specs.History.{ClientHistory, begun_in, count_of, OpenFiled, IsOpened, HasBegun, HistoryInvariant, IsNotOf, IsApart, KeepsTxns, IsCounted}
-use Rattle.sdb_types.proofs.Basics.{length_more}
+use Rattle.sdb_types.proofs.Public.{length_more}
 
 ---- one event more
 

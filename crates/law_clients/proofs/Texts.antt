@@ -3,7 +3,7 @@ use Rattle.std.proofs.Common.{◌≡◌, ℕ, List, Result, Ok, Err, refl}
 use Rattle.law_clients.specs.Types.{Refusal, Statement}
 use Rattle.sdb_model.specs.SqlTokens.{lexed}
 use Rattle.sdb_sqltext.specs.Parsing.{parsed}
-use Rattle.sdb_sqltext.proofs.Clauses.{reads_by, refuses_by}
+use Rattle.sdb_sqltext.proofs.Public.{reads_by, refuses_by}
 use Rattle.sdb_client.specs.Client.{Parses}
 
 pub text_is_read : (text : List ℕ) → (x : Result Statement Refusal) × Parses text x

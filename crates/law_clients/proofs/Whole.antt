@@ -3,7 +3,7 @@ use Rattle.std.proofs.Common.{◌≡◌, ◌≢◌, ℕ, ◌^◌, ◌<◌, Bool,
 use Rattle.std.specs.Prelude.{IfSome, is_some}
 use Rattle.std.proofs.lemmas.Bool.{eq-eqb}
 use Rattle.law_clients.specs.Types.{Answer, Event, Key, Refusal, Statement, Table, TableName}
-use Rattle.sdb_types.proofs.KeyOrder.{table_exact}
+use Rattle.sdb_types.proofs.Public.{by_test, table_exact}
 use Rattle.sdb_record.specs.Meta.{is_moment}
 use Rattle.sdb_schema.specs.Catalog.{is_catalog}
 use Rattle.sdb_model.specs.declared.answer.Answer.TheVariants as answer
@@ -16,8 +16,7 @@ use Rattle.sdb_model.specs.Sql.{Reads, reads_commit, reads_rollback}
 use Rattle.sdb_exec.specs.Plans.{has_all_literals}
 use Rattle.sdb_model.specs.Reads.{access_of}
 use Rattle.sdb_snapshot.specs.Sets.{IsSetInvariant}
-use Rattle.sdb_sqltext.proofs.Clauses.{one_statement}
-use Rattle.sdb_sqltext.proofs.OneWord.{commit_read, rollback_read}
+use Rattle.sdb_sqltext.proofs.Public.{commit_read, one_statement, rollback_read}
 use Rattle.sdb_txn.specs.declared.txn.Doing.TheVariants as doing
 use Rattle.sdb_txn.specs.Txn.{TxnAt}
 use Rattle.sdb_client.specs.Client.{AskPost, BeginPost, ClientAt as Client, CommitStartPost, IsAnsweredAtOnce, RollbackPost, RowsPost, StatementPost, TablePost, Taking, TextPost, VacuumStartPost, GatePost, is_covered, plan_of, out_of_memory, next_id, with_begun as client_begun, TextStep}
@@ -33,8 +32,7 @@ use Rattle.law_clients.proofs.Asked.{IsAsked, told_known, told_unknown}
 use Rattle.law_clients.proofs.Taken.{IsSo, at_open, other_no_begin, other_no_commit, refused_no_commit, refused_plain, told_begun, told_commit, told_outside, told_rollback, told_same, told_starved, told_vacuum}
 use Rattle.law_clients.proofs.Sweeps.{begun_in, scan_data}
 use Rattle.sdb_types.specs.Exact.{equal_of}
-use Rattle.sdb_exec.proofs.Whole.{own}
-use Rattle.sdb_types.proofs.Basics.{by_test}
+use Rattle.sdb_exec.proofs.Public.{own}
 use Rattle.sdb_model.specs.Tables.{is_data}
 
 ---- the keys of an access are of its table

@@ -19,12 +19,7 @@ use Rattle.law_protocol.specs.Records.{write_there}
 use Rattle.law_protocol.specs.Trace.{closing, history}
 use Rattle.law_protocol.specs.Explained.{IsRunOf}
 use Rattle.law_protocol.specs.Serial.{IsOrdered, ReadsSerial}
-use Rattle.law_protocol.proofs.Canon.{firm_writer}
-use Rattle.law_protocol.proofs.Known.{writer_taken, writes_it}
-use Rattle.law_protocol.proofs.Order.{rows_serial, reads_serial}
-use Rattle.law_protocol.proofs.Rolling.{firm_row}
-use Rattle.law_protocol.proofs.Settled.{firm_of}
-use Rattle.law_protocol.proofs.Times.{whole_of}
+use Rattle.law_protocol.proofs.Public.{firm_of, firm_row, firm_writer, reads_serial, rows_serial, whole_of, writer_taken, writes_it}
 use Rattle.law_clients.specs.Reads.{SeenOk}
 use Rattle.law_clients.proofs.Seen.{base_settled, base_table}
 use Rattle.law_clients.specs.Body.{AgreesAll}

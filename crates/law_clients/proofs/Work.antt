@@ -20,15 +20,13 @@ use Rattle.sdb_phases.specs.Checks.{checks, check_of_read, check_of_scan, base_o
 use Rattle.sdb_phases.specs.Steps.{validate_step, judged}
 use Rattle.sdb_phases.specs.CommitLaws.{is_more}
 use Rattle.sdb_validate.specs.Rescan.{reads_rise, base_in, is_unchanged_by, is_unchanged_at, IsFirstLost}
-use Rattle.sdb_validate.proofs.Rescans.{first_lost}
+use Rattle.sdb_validate.proofs.Public.{first_lost}
 use Rattle.law_clients.specs.Owner.{plan_of, items_of_work, checked_items, own_items, ItemAgrees, CheckPasses, WorkOk, IsReading}
 use Rattle.law_clients.proofs.Lists.{each_at, each_map, each_filter}
 use Rattle.sdb_snapshot.specs.Written.{HaveKeysOnce}
 use Rattle.law_clients.specs.Reads.{ReadAgrees, Sound}
-use Rattle.sdb_types.proofs.Basics.{none_some as some_apart, not_true, append_all as each_append, all_each as each_any}
-use Rattle.sdb_types.proofs.Bools.{and_first as rises}
+use Rattle.sdb_types.proofs.Public.{all_each as each_any, and_first as rises, append_all as each_append, none_some as some_apart, not_true, same_key_self, same_key_tells}
 use Rattle.sdb_types.specs.Order.{same_key}
-use Rattle.sdb_types.proofs.Keys.{same_key_tells, same_key_self}
 use Rattle.sdb_model.specs.Tables.{is_data}
 
 ---- the write of a key

@@ -3,7 +3,7 @@ use Rattle.std.proofs.Common.{◌≡◌, ℕ, ℤ, Bool, true, false, not, ◌||
 use Rattle.std.specs.Prelude.{IfSome, is_some, ◌&&◌, if◌then◌else◌}
 use Rattle.std.specs.Option.{option_map}
 use Rattle.law_clients.specs.Types.{Access, Answer, Doing, Image, Key, Keyed, Next, Progress, ReadStep, Record, Refusal, Reply, Statement, Table, TxId, VacuumStep}
-use Rattle.sdb_types.proofs.Basics.{by_test}
+use Rattle.sdb_types.proofs.Public.{by_test}
 use Rattle.sdb_record.specs.declared.access.Access.TheVariants as access
 use Rattle.sdb_model.specs.declared.answer.Answer.TheVariants as answer
 use Rattle.sdb_model.specs.declared.statement.Statement.TheVariants as statement
@@ -25,7 +25,7 @@ use Rattle.sdb_vacuum.specs.declared.work.VacuumStep.TheVariants as vacuuming
 use Rattle.sdb_vacuum.specs.Vacuum.{VacuumAt, begun as sweeping}
 use Rattle.sdb_client.specs.declared.next.Next.TheVariants as next
 use Rattle.sdb_client.specs.Client.{AskPost, BeginPost, CallPost, ClientAt, CommitNext, CommitStartPost, GatePost, RowsReadPost, IsIdle, IsAnsweredAtOnce, NextPost, OpenTxnPost, ReplyPost, RollbackPost, RowsPost, ParsedPost, Parses, StagePost, StatementPost, VacuumPost, Taking, VacuumStartPost, after, answer_in, answer_of, given_answer, given_left, gives, holding, is_covered, next_of, with_rows_read, plan_of, resting, out_of_memory, too_many, vacuum_left, with_begun}
-use Rattle.sdb_client.proofs.Left.{given_idle as left_idle}
+use Rattle.sdb_client.proofs.Public.{given_idle as left_idle}
 use Rattle.law_clients.proofs.Fitted.{by_next, no_none}
 use Rattle.law_clients.proofs.Whole.{by_memory}
 use Rattle.law_clients.specs.Session.{Exchange, IsAccepted, MayAnswer, begins, ends, is_commit, is_rollback, rejected}

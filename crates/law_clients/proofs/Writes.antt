@@ -12,15 +12,12 @@ use Rattle.sdb_types.specs.ValueLaws.{value_total}
 use Rattle.sdb_types.specs.declared.record.State.TheVariants as state
 use Rattle.sdb_types.specs.Contents.{has_value, holds, tx_id}
 use Rattle.sdb_types.specs.Order.{same_key}
-use Rattle.sdb_types.proofs.Basics.{false_true, none_some}
-use Rattle.sdb_types.proofs.Bools.{and_both, and_second}
-use Rattle.sdb_types.proofs.Keys.{same_key_tells, same_key_self}
+use Rattle.sdb_types.proofs.Public.{and_both, and_second, false_true, none_some, same_key_self, same_key_tells}
 use Rattle.sdb_record.specs.Among.{is_written, write_among}
 use Rattle.sdb_record.specs.Coordinator.{coordinator_key_of, is_coordinator_table}
 use Rattle.sdb_record.specs.Meta.{checked, id_in, id_in_value, is_in, is_transactional}
 use Rattle.sdb_record.specs.Parts.{are_stored}
-use Rattle.sdb_record.proofs.Fine.{accepted}
-use Rattle.sdb_record.proofs.IdLemmas.{id_of_text-is}
+use Rattle.sdb_record.proofs.Public.{accepted, id_of_text-is}
 use Rattle.sdb_record.specs.Moved.{condition_of, version_of}
 use Rattle.sdb_phases.specs.Work.{Work}
 use Rattle.sdb_snapshot.specs.Written.{HaveKeysOnce}

@@ -8,16 +8,12 @@ use Rattle.sdb_types.specs.declared.record.Reply.TheVariants as reply
 use Rattle.sdb_types.specs.Contents.{Contents, record_at, record_of, in_span, is_partition, holds, put_reply, reply_to, after}
 use Rattle.sdb_types.specs.Exact.{equal_of}
 use Rattle.sdb_types.specs.Order.{table_cmp, same_key}
-use Rattle.sdb_types.proofs.Bools.{and_first}
-use Rattle.sdb_types.proofs.KeyOrder.{table_exact}
-use Rattle.sdb_types.proofs.SpanRows.{same_rows}
+use Rattle.sdb_types.proofs.Public.{and_false, and_first, same_key_tells, same_rows, table_exact}
 use Rattle.sdb_model.specs.declared.event.How.TheVariants.{Seen}
 use Rattle.sdb_model.specs.Rows.{Name}
 use Rattle.sdb_model.specs.Events.{StoreContents, store_of, table_asked, IsCall}
 use Rattle.law_protocol.proofs.Effects.{after_put, after_delete, stands_in_store, stands_anywhere}
 use Rattle.law_protocol.specs.Spread.{HoldAs}
-use Rattle.sdb_types.proofs.Basics.{and_false}
-use Rattle.sdb_types.proofs.Keys.{same_key_tells}
 use Rattle.sdb_model.specs.Tables.{is_table_of_run}
 
 ---- contents that agree on a table

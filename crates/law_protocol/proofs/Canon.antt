@@ -8,12 +8,10 @@ use Rattle.sdb_types.specs.declared.record.State.TheVariants as state
 use Rattle.sdb_types.specs.Columns.{column}
 use Rattle.sdb_types.specs.TxId.{id_text}
 use Rattle.sdb_types.specs.Contents.{tx_id, tx_state, state_number, has_value, is_version}
-use Rattle.sdb_types.proofs.Bools.{and_second}
+use Rattle.sdb_types.proofs.Public.{and_second}
 use Rattle.sdb_record.specs.Meta.{id_in, is_in, is_committed}
 use Rattle.sdb_record.specs.Rolls.{state_of_change}
-use Rattle.sdb_record.proofs.Fine.{has_value-is}
-use Rattle.sdb_record.proofs.ImageLaws.{prepared-version, prepared-unsettled, version-writer}
-use Rattle.sdb_record.proofs.RollLaws.{forward-committed, forward-writer}
+use Rattle.sdb_record.proofs.Public.{forward-committed, forward-writer, has_value-is, prepared-unsettled, prepared-version, version-writer}
 use Rattle.law_protocol.specs.Plan.{Plan}
 use Rattle.law_protocol.specs.Lawful.{id}
 use Rattle.law_protocol.specs.Records.{record_prepared_by, record_left_by, write_there}

@@ -14,7 +14,7 @@ use Rattle.sdb_record.specs.Coordinator.{coordinator_table}
 use Rattle.sdb_record.specs.Meta.{id_in, is_in}
 use Rattle.sdb_record.specs.Moved.{is_unchanged}
 use Rattle.sdb_record.specs.Rolls.{prepared_record, state_of_change}
-use Rattle.sdb_record.proofs.ImageLaws.{prepared-version}
+use Rattle.sdb_record.proofs.Public.{prepared-version}
 use Rattle.sdb_model.specs.declared.event.Event.TheVariants as event
 use Rattle.sdb_model.specs.Rows.{Name}
 use Rattle.sdb_model.specs.Exec.{find_table}
@@ -45,8 +45,7 @@ use Rattle.law_protocol.proofs.Seen.{All as Holds}
 use Rattle.law_protocol.proofs.ModelTime.{point_of}
 use Rattle.law_protocol.proofs.Moments.{IsApart, IsCut, apart_from, at_cut, cut, early_run, moment_at, open_put, put_after, stands_at, took_of, trace_length, turned_append, turned_length}
 use Rattle.law_protocol.proofs.Unchecked.{got}
-use Rattle.sdb_types.proofs.Basics.{clash, some_is}
-use Rattle.sdb_types.proofs.Keys.{tests}
+use Rattle.sdb_types.proofs.Public.{clash, some_is, tests}
 use Rattle.sdb_model.specs.Tables.{is_data}
 
 some_none : {A : Type 0} (a : A) → Some a ≡ None → ⊥

@@ -10,7 +10,7 @@ use Rattle.sdb_record.specs.Coordinator.{coordinator_key_of, coordinator_row_of,
 use Rattle.sdb_record.specs.Meta.{id_in, is_in}
 use Rattle.sdb_record.specs.Parts.{before_record}
 use Rattle.sdb_record.specs.Rolls.{image_of, image_under}
-use Rattle.sdb_record.proofs.ImageLaws.{row-decision, image-settled, image-open}
+use Rattle.sdb_record.proofs.Public.{image-open, image-settled, row-decision}
 use Rattle.sdb_model.specs.Events.{StoreContents}
 use Rattle.sdb_model.specs.Images.{decision_at, decision_on, image_at}
 use Rattle.sdb_model.specs.Transactions.{Recorded}
@@ -26,7 +26,7 @@ use Rattle.law_protocol.proofs.Known.{held_before, taken_fits, took_is_taken}
 use Rattle.law_protocol.proofs.Settled.{Knows, forward_at}
 use Rattle.law_protocol.proofs.Moves.{writer_fits}
 use Rattle.law_protocol.proofs.Whole.{Whole}
-use Rattle.sdb_types.proofs.Basics.{clash, some_is}
+use Rattle.sdb_types.proofs.Public.{clash, some_is}
 use Rattle.sdb_model.specs.Tables.{is_data}
 
 ---- rows

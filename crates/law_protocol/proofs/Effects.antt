@@ -7,10 +7,9 @@ use Rattle.law_protocol.specs.Types.{Condition, How, Key, Place, Record, Reply, 
 use Rattle.sdb_types.specs.declared.record.Request.TheVariants as ask
 use Rattle.sdb_types.specs.declared.record.Reply.TheVariants as reply
 use Rattle.sdb_types.specs.Contents.{Contents, record_at, record_of, holds, reply_to, after}
-use Rattle.sdb_types.proofs.KeyOrder.{key_total}
+use Rattle.sdb_types.proofs.Public.{key_total, same_key_tells}
 use Rattle.sdb_types.specs.Order.{same_key}
-use Rattle.sdb_types.proofs.Keys.{same_key_tells}
-use Rattle.sdb_record.proofs.NameLemmas.{same_name-true, same_name-itself}
+use Rattle.sdb_record.proofs.Public.{same_name-itself, same_name-true}
 use Rattle.sdb_model.specs.declared.event.How.TheVariants.{Seen, Lost, Discarded, Broken}
 use Rattle.sdb_model.specs.Rows.{Name, same_name}
 use Rattle.sdb_model.specs.Events.{StoreContents, contents_under, with_contents, store_of, first_name, stored_at, table_asked, IsPerformed, IsCall}

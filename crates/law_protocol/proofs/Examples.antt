@@ -10,9 +10,7 @@ use Rattle.sdb_record.specs.Names.{is_meta, base_name}
 use Rattle.sdb_record.specs.Meta.{id_in, is_in}
 use Rattle.sdb_record.specs.Moved.{version_of, is_unchanged}
 use Rattle.sdb_record.specs.Rolls.{IsWrite, IsBaseOf, forward_record, is_tombstone}
-use Rattle.sdb_record.proofs.ImageLaws.{prepared-unsettled, prepared-unresolved, forward-prepared-version, version-writer, row-decision, prepared-version}
-use Rattle.sdb_record.proofs.RollLaws.{forward-committed, forward-key, forward-accepted, forward-tombstone, mark_value}
-use Rattle.sdb_record.proofs.TakenLaws.{prepared-key}
+use Rattle.sdb_record.proofs.Public.{forward-accepted, forward-committed, forward-key, forward-prepared-version, forward-tombstone, mark_value, prepared-key, prepared-unresolved, prepared-unsettled, prepared-version, row-decision, version-writer}
 use Rattle.sdb_types.specs.declared.record.Reply.TheVariants as reply
 use Rattle.sdb_model.specs.declared.event.Event.TheVariants as event
 use Rattle.sdb_model.specs.Transactions.{rest_of}
@@ -23,9 +21,8 @@ use Rattle.law_protocol.specs.Worked.{account, one, two, three, inserts, updates
 use Rattle.law_protocol.proofs.Canon.{version_state, not_firm_version}
 use Rattle.law_protocol.proofs.Reading.{noted_got}
 use Rattle.law_protocol.proofs.Texts.{begin_begins, commit_commits}
-use Rattle.sdb_types.proofs.Basics.{clash}
+use Rattle.sdb_types.proofs.Public.{clash, same_key_self, same_key_tells}
 use Rattle.sdb_types.specs.Order.{same_key}
-use Rattle.sdb_types.proofs.Keys.{same_key_tells, same_key_self}
 use Rattle.sdb_model.specs.Tables.{is_data}
 
 ---- plans of one write and one note

@@ -11,9 +11,7 @@ use Rattle.sdb_types.specs.Order.{key_cmp, same_key}
 use Rattle.sdb_types.specs.Contents.{Contents, record_at, record_of, holds, reply_to, after}
 use Rattle.sdb_record.specs.declared.coordinator.Decision.TheVariants.{Committed}
 use Rattle.sdb_record.specs.Coordinator.{coordinator_key_of}
-use Rattle.sdb_record.proofs.ImageLaws.{prepared-version, row-key}
-use Rattle.sdb_record.proofs.RollLaws.{forward-key}
-use Rattle.sdb_record.proofs.TakenLaws.{prepared-key}
+use Rattle.sdb_record.proofs.Public.{forward-key, prepared-key, prepared-version, row-key}
 use Rattle.sdb_model.specs.declared.event.How.TheVariants.{Seen}
 use Rattle.sdb_model.specs.Events.{IsCall}
 use Rattle.law_protocol.specs.Lawful.{id}

@@ -4,16 +4,14 @@ use Rattle.std.specs.Prelude.{find, unwrap_or, Result, Ok, if◌then◌else◌}
 use Rattle.std.specs.Option.{option_map}
 use Rattle.law_protocol.specs.Types.{Decided, Decision, Key, Place, Record, Write}
 use Rattle.sdb_types.specs.Order.{same_key}
-use Rattle.sdb_types.proofs.Keys.{tests, same_key_exact}
+use Rattle.sdb_types.proofs.Public.{same_key_exact, tests}
 use Rattle.sdb_record.specs.declared.coordinator.Decision.TheVariants.{Committed}
 use Rattle.sdb_record.specs.Coordinator.{coordinator_key_of, coordinator_row_of, decision_in}
 use Rattle.sdb_record.specs.Meta.{is_moment}
 use Rattle.sdb_record.specs.Moved.{version_of}
 use Rattle.sdb_record.specs.Parts.{before_record}
 use Rattle.sdb_record.specs.Rolls.{IsWrite}
-use Rattle.sdb_record.proofs.ImageLaws.{row-decision}
-use Rattle.sdb_record.proofs.TakenLaws.{prepared-base, prepared-key}
-use Rattle.sdb_record.proofs.RollLaws.{forward-key}
+use Rattle.sdb_record.proofs.Public.{forward-key, prepared-base, prepared-key, row-decision}
 use Rattle.sdb_model.specs.Events.{StoreContents, stored_at}
 use Rattle.law_protocol.specs.Plan.{Plan, write_at, written, number_of, version_read_at}
 use Rattle.law_protocol.specs.History.{Action, History, Standing, Final, Held, base_of, happens, IsWriter}

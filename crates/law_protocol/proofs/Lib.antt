@@ -1,35 +1,36 @@
-pub mod Texts
-pub mod Allowed
-pub mod Small
-pub mod Shadow
-pub mod Cover
-pub mod Seen
-pub mod Effects
-pub mod Writes
-pub mod Canon
-pub mod Known
-pub mod Settled
-pub mod Shown
-pub mod Links
-pub mod Moves
-pub mod Rolling
-pub mod Reading
-pub mod Whole
-pub mod Derived
-pub mod Times
-pub mod Examples
-pub mod Points
-pub mod Order
-pub mod ModelTime
-pub mod FirstTrace
-pub mod Moments
-pub mod Forged
-pub mod Uncaused
-pub mod Unchecked
-pub mod Current
-pub mod Moved
-pub mod Followed
-pub mod Told
-pub mod Calls
-pub mod Traces
-pub mod Single
+mod Texts
+mod Allowed
+mod Small
+mod Shadow
+mod Cover
+mod Seen
+mod Effects
+mod Writes
+mod Canon
+mod Known
+mod Settled
+mod Shown
+mod Links
+mod Moves
+mod Rolling
+mod Reading
+mod Whole
+mod Derived
+mod Times
+mod Examples
+mod Points
+mod Order
+mod ModelTime
+mod FirstTrace
+mod Moments
+mod Forged
+mod Uncaused
+mod Unchecked
+mod Current
+mod Moved
+mod Followed
+mod Told
+mod Calls
+mod Traces
+mod Single
+pub mod Public

@@ -7,8 +7,8 @@ use Rattle.sdb_types.specs.declared.record.Request.TheVariants as ask
 use Rattle.sdb_record.specs.Coordinator.{coordinator_key_of, coordinator_row_of, id_of_key}
 use Rattle.sdb_types.specs.Contents.{holds}
 use Rattle.sdb_types.specs.Order.{same_key}
-use Rattle.sdb_types.proofs.Keys.{tests, same_key_tells}
-use Rattle.sdb_record.proofs.ImageLaws.{key-of-id}
+use Rattle.sdb_types.proofs.Public.{same_key_tells, tests}
+use Rattle.sdb_record.proofs.Public.{key-of-id}
 use Rattle.sdb_model.specs.Events.{StoreContents, Effect, stored_at, IsCall}
 use Rattle.law_protocol.specs.Plan.{Plan}
 use Rattle.law_protocol.specs.History.{History, Standing}

@@ -11,7 +11,7 @@ use Rattle.sdb_types.specs.declared.record.State.TheVariants as state
 use Rattle.sdb_record.specs.declared.coordinator.Decision.TheVariants.{Aborted}
 use Rattle.sdb_record.specs.Names.{same_name}
 use Rattle.sdb_record.specs.Coordinator.{coordinator_key_of, coordinator_row_of, coordinator_table, is_coordinator_table}
-use Rattle.sdb_record.proofs.NameLemmas.{same_name-true}
+use Rattle.sdb_record.proofs.Public.{same_name-true, version-writer}
 use Rattle.sdb_record.specs.Meta.{id_in, is_in}
 use Rattle.sdb_record.specs.Moved.{version_of, condition_of}
 use Rattle.sdb_record.specs.Parts.{before_record}
@@ -20,7 +20,7 @@ use Rattle.sdb_model.specs.Exec.{find_table}
 use Rattle.sdb_model.specs.Events.{StoreContents, contact_of, stored_at, moment}
 use Rattle.sdb_model.specs.Transactions.{is_prepared_record}
 use Rattle.sdb_model.specs.Explained.{IsTableKey, CommittedRecorded, AbortedRemoved, IsAborted, RowsFinal, UnresolvedPrepared, PreparedPersists, IsPrepareOf, IsPreparedAfter}
-use Rattle.sdb_model.proofs.Requests.{in_only}
+use Rattle.sdb_model.proofs.Public.{in_only}
 use Rattle.law_protocol.specs.Plan.{Plan}
 use Rattle.law_protocol.specs.History.{Action, Other, Begins, Takes, Prepares, Checks, Decides, Aborts, Rolls, Removes, Ends, Stops, Ack, History, Held, happens}
 use Rattle.law_protocol.specs.Lawful.{Labelled, IsEnabled, MayPrepare, id}
@@ -34,11 +34,9 @@ use Rattle.law_protocol.proofs.Whole.{Whole}
 use Rattle.law_protocol.proofs.Derived.{decision_is, committed_is_canon, aborted_gone, unresolved_prepared, prepared_stands, took_data}
 use Rattle.law_protocol.proofs.Times.{whole_of, front_run, lasts, stood_before, rows_final}
 use Rattle.law_protocol.proofs.Points.{held_prepares, firm_no}
-use Rattle.sdb_record.proofs.ImageLaws.{version-writer}
 use Rattle.sdb_types.specs.Contents.{is_version}
-use Rattle.sdb_types.proofs.Basics.{clash}
+use Rattle.sdb_types.proofs.Public.{clash, same_key_self, same_key_tells, tests}
 use Rattle.sdb_types.specs.Order.{same_key}
-use Rattle.sdb_types.proofs.Keys.{tests, same_key_self, same_key_tells}
 use Rattle.sdb_model.specs.Tables.{is_data}
 
 -- the keys of a catalog's tables are keys of records

@@ -13,7 +13,7 @@ use Rattle.sdb_record.specs.Coordinator.{coordinator_key_of, coordinator_row_of}
 use Rattle.sdb_record.specs.Meta.{is_in, is_committed}
 use Rattle.sdb_record.specs.Moved.{version_of, condition_of}
 use Rattle.sdb_record.specs.Rolls.{prepared_record}
-use Rattle.sdb_record.proofs.ImageLaws.{version-writer, row-key}
+use Rattle.sdb_record.proofs.Public.{row-key, version-writer}
 use Rattle.sdb_model.specs.Events.{StoreContents, Effect, stored_at}
 use Rattle.law_protocol.specs.Plan.{Plan, write_at, written}
 use Rattle.law_protocol.specs.History.{Action, Prepares, Decides, Aborts, Ack, is_yes, is_met, is_out_of_memory_ack, ProtocolState, History, Standing, Final, Held, base_of, has_version, happens, with_row, IsLive, IsWriter, IsPrepared}
@@ -26,9 +26,8 @@ use Rattle.law_protocol.proofs.Writes.{IsWritten}
 use Rattle.law_protocol.proofs.Known.{written_some, write_is, held_key, taken_fits, writer_taken, took_is_taken}
 use Rattle.law_protocol.proofs.Settled.{Knows}
 use Rattle.law_protocol.proofs.Links.{link_write, link_row, put_call, took_held}
-use Rattle.sdb_types.proofs.Basics.{clash}
+use Rattle.sdb_types.proofs.Public.{clash, tests}
 use Rattle.sdb_types.specs.Order.{same_key}
-use Rattle.sdb_types.proofs.Keys.{tests}
 
 pub record Moves (plan : ℕ → Plan) (places : List Place) (w : History) (r : Action) (done : Bool) (now : List StoreContents) : Type 0 where
   pub allowed : Allowed plan w r done

@@ -17,8 +17,7 @@ use Rattle.sdb_record.specs.Coordinator.{coordinator_row_of}
 use Rattle.sdb_record.specs.Meta.{is_in}
 use Rattle.sdb_record.specs.Parts.{before_record}
 use Rattle.sdb_record.specs.Rolls.{forward_record, prepared_record, state_of_change, undo}
-use Rattle.sdb_record.proofs.ImageLaws.{prepared-version, version-writer}
-use Rattle.sdb_record.proofs.RollLaws.{forward-committed}
+use Rattle.sdb_record.proofs.Public.{forward-committed, prepared-version, version-writer}
 use Rattle.sdb_model.specs.declared.event.Event.TheVariants as event
 use Rattle.sdb_model.specs.declared.event.How.TheVariants.{Seen, Lost, Discarded, Broken}
 use Rattle.sdb_model.specs.Events.{StoreContents, Effect, IsPerformed, IsCall}
@@ -35,8 +34,7 @@ use Rattle.law_protocol.proofs.Known.{taken_fits, held_before}
 use Rattle.law_protocol.proofs.Settled.{Knows, IsOwn, prepared_there}
 use Rattle.law_protocol.proofs.Moves.{held_is}
 use Rattle.law_protocol.proofs.Whole.{Whole, whole}
-use Rattle.sdb_types.proofs.Basics.{clash}
-use Rattle.sdb_types.proofs.Keys.{tests}
+use Rattle.sdb_types.proofs.Public.{clash, tests}
 
 ---- which events are prepares
 

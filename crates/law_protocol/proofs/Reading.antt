@@ -22,9 +22,8 @@ use Rattle.law_protocol.proofs.Known.{IsPlanned, IsFirmOf, written_is}
 use Rattle.law_protocol.proofs.Settled.{Knows, firm_of as settled_of}
 use Rattle.law_protocol.proofs.Links.{link_same}
 use Rattle.law_protocol.proofs.Moves.{Moves, live, version_stands, writer_fits}
-use Rattle.sdb_types.proofs.Basics.{clash}
+use Rattle.sdb_types.proofs.Public.{clash, same_key_tells}
 use Rattle.sdb_types.specs.Order.{same_key}
-use Rattle.sdb_types.proofs.Keys.{same_key_tells}
 
 ---- checks
 

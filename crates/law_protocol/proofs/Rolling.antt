@@ -11,7 +11,7 @@ use Rattle.sdb_record.specs.declared.write.Change.TheVariants as change
 use Rattle.sdb_record.specs.Meta.{id_in, is_committed}
 use Rattle.sdb_record.specs.Parts.{before_record}
 use Rattle.sdb_record.specs.Rolls.{IsWrite, forward_record, is_tombstone, row_of_image, row_of_change, undo}
-use Rattle.sdb_record.proofs.ImageLaws.{forward-prepared-row}
+use Rattle.sdb_record.proofs.Public.{forward-prepared-row}
 use Rattle.sdb_model.specs.Events.{StoreContents, Effect}
 use Rattle.law_protocol.specs.Plan.{Plan, written, deletes, is_delete}
 use Rattle.law_protocol.specs.History.{Rolls, Removes, ProtocolState, History, Final, base_of, final_of, rolled, happens, IsWriter}
@@ -24,7 +24,7 @@ use Rattle.law_protocol.proofs.Known.{IsPlanned, writes_it, held_before, firm_ke
 use Rattle.law_protocol.proofs.Settled.{Knows, firm_of as settled_of, forward_at, prepared_there, committed_of, aborted_of}
 use Rattle.law_protocol.proofs.Links.{link_write, put_call, delete_call, took_held}
 use Rattle.law_protocol.proofs.Moves.{Moves, open_stands, firm_stands, writer_fits}
-use Rattle.sdb_types.proofs.Basics.{clash}
+use Rattle.sdb_types.proofs.Public.{clash}
 use Rattle.sdb_types.specs.Order.{same_key}
 
 rolled_rows : (plan : ℕ → Plan) (w : History) (t : ℕ) (k : Key) (d : Decision) (b : Bool) (q : Key) → (happens plan w (Rolls t k d) b).rows q ≡ (if b && same_key q k then rolled (plan t) t k d else w.rows q)

@@ -7,8 +7,7 @@ use Rattle.sdb_record.specs.declared.coordinator.Decision.TheVariants.{Committed
 use Rattle.law_protocol.specs.Plan.{Plan, written, version_read_at}
 use Rattle.law_protocol.specs.History.{Action, Other, Begins, Takes, Prepares, Checks, Decides, Aborts, Rolls, Removes, Ends, Stops, Ack, Preparing, History, start, at, Held, base_of, has_version, happens, shadow, IsWriter, IsLive, Covers}
 use Rattle.law_protocol.specs.Trace.{after_end}
-use Rattle.sdb_types.proofs.Basics.{clash}
-use Rattle.sdb_types.proofs.Keys.{tests}
+use Rattle.sdb_types.proofs.Public.{clash, tests}
 use Rattle.law_protocol.proofs.Allowed.{Allowed}
 use Rattle.law_protocol.proofs.Small.{IsDecided, PointOk, TookOk, decided_kept, writer_kept, point_fixed}
 use Rattle.law_protocol.proofs.Shadow.{saw_same, saw_now, at_prepare, begun_stays, took_taken}

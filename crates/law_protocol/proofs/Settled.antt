@@ -14,7 +14,7 @@ use Rattle.law_protocol.specs.Records.{record_prepared_by, record_left_by}
 use Rattle.law_protocol.proofs.Cover.{Inv}
 use Rattle.law_protocol.proofs.Canon.{held_writer, held_open, firm_committed, same_writer}
 use Rattle.law_protocol.proofs.Known.{IsPlanned, IsFirmOf, IsHeldOf, Known, AreMoments, row_known, held_before, took_is_taken, taken_fits, writer_taken, writes_it}
-use Rattle.sdb_types.proofs.Basics.{clash}
+use Rattle.sdb_types.proofs.Public.{clash}
 use Rattle.sdb_model.specs.Tables.{is_data}
 
 -- What holds at a moment, over what was shown up to then.

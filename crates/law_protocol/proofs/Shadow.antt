@@ -1,7 +1,7 @@
 -- Only a deciding put changes a shadow.
 use Rattle.std.proofs.Common.{◌≡◌, ◌≢◌, ℕ, ℤ, ◌+◌, ◌<◌, ◌≤◌, Bool, true, Option, Some, None, ◌⊎◌, inl, inr, refl, ◌∙◌, arith}
 use Rattle.law_protocol.specs.Types.{Decision, Key}
-use Rattle.sdb_types.proofs.Keys.{tests}
+use Rattle.sdb_types.proofs.Public.{tests}
 use Rattle.sdb_record.specs.declared.coordinator.Decision.TheVariants.{Committed}
 use Rattle.law_protocol.specs.Plan.{Plan, written}
 use Rattle.law_protocol.specs.History.{Action, Other, Begins, Takes, Prepares, Checks, Decides, Aborts, Rolls, Removes, Ends, Stops, Ack, Deciding, History, Final, Held, base_of, has_version, happens, Standing, image_in, or_else, shadow, IsLive, IsWriter}

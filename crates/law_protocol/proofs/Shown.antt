@@ -10,10 +10,7 @@ use Rattle.sdb_types.specs.declared.record.Request.TheVariants as ask
 use Rattle.sdb_types.specs.declared.record.Reply.TheVariants as reply
 use Rattle.sdb_types.specs.Order.{key_cmp, table_cmp, same_key}
 use Rattle.sdb_types.specs.Contents.{Contents, record_at, record_of, in_span, is_partition, rows_among, rows_in, holds, put_reply, reply_to, after, record_among}
-use Rattle.sdb_types.proofs.Bools.{and_first}
-use Rattle.sdb_types.proofs.KeyOrder.{table_exact}
-use Rattle.sdb_types.proofs.Replies.{record_at-key}
-use Rattle.sdb_types.proofs.Keys.{same_key_tells}
+use Rattle.sdb_types.proofs.Public.{and_first, record_at-key, same_key_tells, table_exact}
 use Rattle.sdb_model.specs.declared.event.Event.TheVariants as event
 use Rattle.sdb_model.specs.Events.{StoreContents, Effect, stored_at, table_asked}
 use Rattle.law_protocol.specs.Lawful.{InReply, InEvent}

@@ -9,7 +9,7 @@ use Rattle.sdb_model.specs.Events.{StoreContents, Effect, IsTrace, IsCall, IsPer
 use Rattle.law_protocol.proofs.Effects.{stands_in_store}
 use Rattle.law_protocol.specs.Spread.{HoldAs, AreAbout, relocated_event, relocated_events, one_store}
 use Rattle.law_protocol.proofs.Calls.{SameOf, same_reply, same_after, left_apart, held_as, about_key as played_key}
-use Rattle.sdb_record.proofs.NameLemmas.{same_name-itself}
+use Rattle.sdb_record.proofs.Public.{same_name-itself}
 use Rattle.sdb_model.specs.Tables.{is_table_of_run}
 
 pub one_held : (name : Name) (m : Contents) → contents_under (one_store name m) name ≡ Some m

@@ -5,8 +5,8 @@ use Rattle.std.specs.Option.{option_map, option_map_or}
 use Rattle.std.specs.Result.{result_ok}
 use Rattle.law_protocol.specs.Types.{Answer, Decided, Decision, Key, Place, Record}
 use Rattle.sdb_record.specs.Coordinator.{coordinator_row_of, decision_in}
-use Rattle.sdb_record.proofs.ImageLaws.{row-decision}
-use Rattle.sdb_types.proofs.Keys.{tests}
+use Rattle.sdb_record.proofs.Public.{row-decision}
+use Rattle.sdb_types.proofs.Public.{tests}
 use Rattle.sdb_record.specs.declared.coordinator.Decision.TheVariants.{Committed, Aborted}
 use Rattle.sdb_model.specs.Events.{StoreContents, IsTrace}
 use Rattle.sdb_model.specs.Tables.{is_data}

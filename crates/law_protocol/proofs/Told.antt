@@ -8,7 +8,7 @@ use Rattle.sdb_record.specs.declared.coordinator.Decision.TheVariants as decisio
 use Rattle.sdb_record.specs.Coordinator.{coordinator_key_of, decision_in}
 use Rattle.sdb_record.specs.Meta.{id_in}
 use Rattle.sdb_record.specs.Rolls.{image_of, row_of_image}
-use Rattle.sdb_record.proofs.NameLemmas.{same_name-itself}
+use Rattle.sdb_record.proofs.Public.{same_name-itself}
 use Rattle.std.specs.Result.{result_ok}
 use Rattle.sdb_model.specs.declared.answer.Answer.TheVariants as answer
 use Rattle.sdb_model.specs.Rows.{Name}
@@ -21,7 +21,7 @@ use Rattle.sdb_model.specs.Form.{script_with_places}
 use Rattle.law_protocol.specs.Spread.{one_store, relocated_events, relocated_outcome, HoldAs}
 use Rattle.law_protocol.proofs.Moved.{begun_moved, body_moved, commit_moved, point_moved, said_moved}
 use Rattle.law_protocol.proofs.Followed.{follows_moved}
-use Rattle.sdb_types.proofs.Basics.{or_true}
+use Rattle.sdb_types.proofs.Public.{or_true}
 use Rattle.sdb_model.specs.Tables.{is_table_of_run}
 
 ---- what is there

@@ -5,7 +5,7 @@ use Rattle.std.specs.FinMap.{empty}
 use Rattle.std.specs.Option.{option_map_or}
 use Rattle.law_protocol.specs.Types.{Event, How, Key, Place, Reply, Request, Table, TableName}
 use Rattle.sdb_types.specs.Contents.{Contents, record_at, after}
-use Rattle.sdb_record.proofs.NameLemmas.{same_name-itself, same_name-true}
+use Rattle.sdb_record.proofs.Public.{same_name-itself, same_name-true}
 use Rattle.sdb_model.specs.declared.event.Event.TheVariants as event
 use Rattle.sdb_model.specs.declared.event.How.TheVariants.{Seen, Lost, Discarded, Broken}
 use Rattle.sdb_model.specs.Rows.{Name, same_name}
@@ -13,7 +13,7 @@ use Rattle.sdb_model.specs.Events.{StoreContents, contents_under, with_contents,
 use Rattle.law_protocol.proofs.Effects.{store_same, held_there, held_elsewhere}
 use Rattle.law_protocol.specs.Spread.{one_store, relocated_event, relocated_events, AreAbout, HoldAs, AreShelved}
 use Rattle.law_protocol.proofs.Calls.{SameOf, same_reply, same_after, left_apart, held_as}
-use Rattle.sdb_types.proofs.Basics.{some_is as some_same}
+use Rattle.sdb_types.proofs.Public.{some_is as some_same}
 use Rattle.law_protocol.proofs.Single.{one_held, one_left}
 use Rattle.sdb_model.specs.Tables.{is_table_of_run}
 

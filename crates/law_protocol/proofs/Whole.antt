@@ -10,7 +10,7 @@ use Rattle.law_protocol.specs.History.{Action, Other, Begins, Takes, Prepares, C
 use Rattle.law_protocol.specs.Lawful.{Labelled, IsEnabled, IsLawful}
 use Rattle.law_protocol.specs.Records.{ContainsHistory}
 use Rattle.law_protocol.specs.Trace.{closing, IsTraced, StartsEmpty, has_effect, after_end, history}
-use Rattle.sdb_types.proofs.Keys.{tests}
+use Rattle.sdb_types.proofs.Public.{tests}
 use Rattle.law_protocol.proofs.Allowed.{Allowed}
 use Rattle.law_protocol.proofs.Seen.{All, all_closed, all_kept, all_start}
 use Rattle.law_protocol.proofs.Shown.{stood}

@@ -6,7 +6,7 @@ use Rattle.sdb_types.specs.declared.record.Request.TheVariants as ask
 use Rattle.sdb_types.specs.declared.record.Reply.TheVariants as reply
 use Rattle.sdb_types.specs.Contents.{Contents, record_at, holds, put_reply, reply_to, after}
 use Rattle.sdb_types.specs.Order.{same_key}
-use Rattle.sdb_types.proofs.Keys.{same_key_self, same_key_tells}
+use Rattle.sdb_types.proofs.Public.{same_key_self, same_key_tells}
 use Rattle.sdb_model.specs.Rows.{Name}
 use Rattle.sdb_model.specs.Events.{StoreContents, stored_at, table_asked, IsCall}
 use Rattle.law_protocol.specs.Trace.{takes_effect_at}

@@ -9,14 +9,14 @@ use Rattle.law_runs.specs.Types.{Event, How, Key, Record, Reply, Request, TxId}
 use Rattle.sdb_types.specs.declared.record.Reply.TheVariants as reply
 use Rattle.sdb_types.specs.declared.record.Request.TheVariants as ask
 use Rattle.sdb_types.specs.Replies.{is_answered, is_applied}
-use Rattle.sdb_types.proofs.Basics.{clash, itself, none_some, one_of, some_is}
+use Rattle.sdb_types.proofs.Public.{clash, itself, none_some, one_of, some_is}
 use Rattle.sdb_model.specs.declared.event.Event.TheVariants as event
 use Rattle.sdb_model.specs.declared.event.How.TheVariants.{Seen, Lost, Discarded, Broken}
 use Rattle.sdb_model.specs.Calls.{StoreCall, calls_before, calls_by, calls_of, end_of, key_asked, made_by, put_by}
 use Rattle.sdb_model.specs.Counted.{prepares_in}
 use Rattle.sdb_model.specs.Transactions.{Executed, commit_of, is_prepared_by, last_prepare, point, prepares, statements_by}
 use Rattle.law_answers.specs.Rolled.{AnsweredWereSeen}
-use Rattle.law_answers.proofs.Lists.{each_in, kept_in}
+use Rattle.law_answers.proofs.Public.{each_in, kept_in}
 use Rattle.law_runs.proofs.Calls.{a_later, the_first}
 use Rattle.law_runs.specs.Laws.{CallsAreOfStatements, PreparesAreOwn}
 use Rattle.law_runs.specs.Written.{Decides, IsAfterPoint, PreparesAll, keys_applied, keys_prepared}

@@ -11,14 +11,12 @@ use Rattle.sdb_types.specs.declared.record.Reply.TheVariants as reply
 use Rattle.sdb_types.specs.Contents.{Contents, after, holds, put_reply, record_at, reply_to}
 use Rattle.sdb_types.specs.Exact.{equal_of}
 use Rattle.sdb_types.specs.Order.{key_cmp}
-use Rattle.sdb_types.proofs.Basics.{clash, none_some, some_is}
-use Rattle.sdb_types.proofs.KeyOrder.{key_exact}
-use Rattle.sdb_types.proofs.Keys.{same_key_self}
+use Rattle.sdb_types.proofs.Public.{clash, key_exact, none_some, same_key_self, some_is}
 use Rattle.sdb_record.specs.Coordinator.{coordinator_key_of, decision_in}
 use Rattle.sdb_model.specs.Calls.{StoreCall, calls_by, decision_in_reply, decision_observed, is_of_row, key_asked}
 use Rattle.sdb_model.specs.Events.{IsTrace, StoreContents, moment, stored_at, table_asked}
 use Rattle.sdb_model.specs.Explained.{RowsFinal}
-use Rattle.law_protocol.proofs.Effects.{AtCall, after_delete, after_put}
+use Rattle.law_protocol.proofs.Public.{after_delete, after_put, AtCall}
 use Rattle.law_runs.proofs.Calls.{IsAt, call_at}
 
 ---- one call

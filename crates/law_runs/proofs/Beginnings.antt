@@ -2,13 +2,13 @@
 use Rattle.std.proofs.Common.{◌≡◌, ℕ, zero, suc, List, [], ◌∷◌, ◌++◌, Option, Some, None, refl, sym, ap, subst}
 use Rattle.std.specs.Prelude.{drop, is_some, take}
 use Rattle.std.specs.FinMap.{empty}
-use Rattle.sdb_types.proofs.Basics.{clash}
+use Rattle.sdb_types.proofs.Public.{clash}
 use Rattle.sdb_record.specs.Coordinator.{coordinator_table}
 use Rattle.law_runs.specs.Types.{Event, Place, Script, Table}
 use Rattle.sdb_model.specs.Events.{IsTrace, StoreContents, moment}
 use Rattle.sdb_model.specs.Exec.{find_table}
 use Rattle.sdb_model.specs.Explained.{Explained}
-use Rattle.law_protocol.proofs.Moments.{half}
+use Rattle.law_protocol.proofs.Public.{half}
 use Rattle.law_protocol.specs.Spread.{HoldAs}
 use Rattle.law_runs.specs.Stores.{AreSound}
 use Rattle.law_runs.proofs.Explains.{going_is_explained}

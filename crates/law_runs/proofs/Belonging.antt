@@ -4,18 +4,16 @@ use Rattle.std.specs.Prelude.{Contains, is_some}
 use Rattle.std.proofs.lemmas.List.{append-nil}
 use Rattle.std.proofs.lemmas.List.Elements.{Contains-append_left, Contains-push, Contains-push_cases}
 use Rattle.law_runs.specs.Types.{Answer, Event, How, Reply, Request, Script, Table}
-use Rattle.sdb_types.proofs.Basics.{some_is}
+use Rattle.sdb_types.proofs.Public.{some_is}
 use Rattle.sdb_model.specs.declared.event.Event.TheVariants as event
 use Rattle.sdb_model.specs.Calls.{StoreCall, calls_by, calls_of, made_by}
 use Rattle.sdb_model.specs.Rows.{Name}
 use Rattle.sdb_model.specs.Transactions.{Executed, statements_by}
 use Rattle.sdb_client.specs.Client.{ClientAt}
 use Rattle.law_clients.specs.History.{executed_of_take, waiting_of}
-use Rattle.law_clients.proofs.Answered.{take_said}
-use Rattle.law_clients.proofs.Tellings.{others_silent, said_more}
+use Rattle.law_clients.proofs.Public.{others_silent, said_more, take_said}
 use Rattle.law_answers.specs.Invariant.{IsAnswered, IsWaiting, Knows}
-use Rattle.law_answers.proofs.Calls.{call_said, calls_stay, made_at, none_made, one_made, own_made, silent_said}
-use Rattle.law_answers.proofs.Knowing.{calls_wait}
+use Rattle.law_answers.proofs.Public.{call_said, calls_stay, calls_wait, made_at, none_made, one_made, own_made, silent_said}
 use Rattle.sdb_client.specs.Execution.{CallStep, IsExecution, IsPath, IsPlayable, IsStepFrom, State}
 use Rattle.law_runs.specs.Laws.{CallsAreOfStatements, IsOfStatement}
 use Rattle.law_runs.specs.World.{WorldAt, states_of, state_of}

@@ -2,7 +2,7 @@
 use Rattle.std.proofs.Common.{◌≡◌, ◌≢◌, inl, inr, ℕ, ℤ, Bool, true, false, List, [], ◌∷◌, ◌++◌, Option, Some, None, Result, Ok, Err, sym, ap, subst, ◌∙◌}
 use Rattle.std.specs.Prelude.{is_some, ◌||◌}
 use Rattle.law_runs.specs.Types.{Answer, Event, How, Key, Outcome, Progress, Refusal, Reply, Request, Script, Statement, Table, TxId, VacuumStep}
-use Rattle.sdb_types.proofs.Basics.{by_test}
+use Rattle.sdb_types.proofs.Public.{by_test}
 use Rattle.sdb_model.specs.declared.answer.Answer.TheVariants as answer
 use Rattle.sdb_model.specs.declared.event.Event.TheVariants as event
 use Rattle.sdb_model.specs.declared.statement.Statement.TheVariants as statement
@@ -10,15 +10,14 @@ use Rattle.sdb_model.specs.Rows.{Name}
 use Rattle.sdb_model.specs.Sql.{Reads, reads_commit, reads_vacuum}
 use Rattle.sdb_model.specs.Transactions.{Executed}
 use Rattle.sdb_phases.specs.declared.step.Outcome.TheVariants as outcome
-use Rattle.sdb_sqltext.proofs.Clauses.{one_statement}
-use Rattle.sdb_sqltext.proofs.OneWord.{vacuum_read}
+use Rattle.sdb_sqltext.proofs.Public.{one_statement, vacuum_read}
 use Rattle.sdb_txn.specs.Phases.{ended_at}
 use Rattle.sdb_phases.specs.Commit.{step as commit_step}
 use Rattle.sdb_txn.specs.Txn.{TxnAt, progress_of}
 use Rattle.sdb_vacuum.specs.declared.work.VacuumStep.TheVariants as vacuuming
 use Rattle.sdb_client.specs.Client.{ClientAt, CommitStartPost, ParsedPost, Parses, StatementPost, Taking, TextPost, VacuumStartPost, answer_in, answer_of, next_id, next_of, TextStep}
 use Rattle.law_clients.specs.History.{executed_of_take}
-use Rattle.law_clients.proofs.Taken.{other_no_commit}
+use Rattle.law_clients.proofs.Public.{other_no_commit}
 use Rattle.law_answers.specs.Invariant.{IsWaiting, Knows}
 use Rattle.sdb_client.specs.Execution.{IsExecution, IsPlayable}
 use Rattle.law_runs.specs.Laws.{BusyIsOfReads}

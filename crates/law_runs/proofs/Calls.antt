@@ -3,13 +3,13 @@ use Rattle.std.proofs.Common.{◌≡◌, ◌⊎◌, inl, inr, ℕ, zero, suc, �
 use Rattle.std.specs.Prelude.{◌==◌, ◌&&◌, if◌then◌else◌, filter, nat_le, nat_lt, Contains}
 use Rattle.std.specs.List.{cons_option, enumerate_from, filter_map}
 use Rattle.std.proofs.lemmas.List.Elements.{Contains-append_left, Contains-append_right, Contains-push}
-use Rattle.sdb_types.proofs.Basics.{and_parts, lt_of, nat_at_most, none_some, some_is, one_of}
+use Rattle.sdb_types.proofs.Public.{and_parts, lt_of, nat_at_most, none_some, one_of, some_is}
 use Rattle.law_runs.specs.Types.{Event, Place}
 use Rattle.sdb_model.specs.declared.event.Event.TheVariants as event
 use Rattle.sdb_model.specs.Calls.{StoreCall, calls_after, calls_by, calls_of, end_of, made_by}
 use Rattle.sdb_model.specs.Events.{Effect, IsTrace, StoreContents, moment}
 use Rattle.sdb_model.specs.Transactions.{Executed}
-use Rattle.law_protocol.proofs.Effects.{AtCall, at_call}
+use Rattle.law_protocol.proofs.Public.{at_call, AtCall}
 
 ---- elements of lists
 

@@ -12,7 +12,7 @@ use Rattle.law_clients.specs.About.{IsOfTables}
 use Rattle.law_clients.specs.Fitting.{tables_are_well_typed}
 use Rattle.law_clients.specs.States.{ClientState, IsReady, IsWaiting}
 use Rattle.law_answers.specs.Invariant.{AnswersHaveCauses, CauseInvariant, IsGate, with_stopped}
-use Rattle.law_answers.proofs.Whole.{clock_all, explained, idles_all, replies_all, starts_all, stops_all, takes_all}
+use Rattle.law_answers.proofs.Public.{clock_all, explained, idles_all, replies_all, starts_all, stops_all, takes_all}
 use Rattle.sdb_client.specs.Execution.{AreFresh, IsGateAt, IsPlayable, client_after, client_stopped}
 use Rattle.law_runs.specs.World.{WorldAt, at_moment, state_in, states_of, with_event, with_client}
 use Rattle.law_runs.specs.Linked.{HaveCauses, IsLinked, on_one}

@@ -18,7 +18,7 @@ use Rattle.sdb_record.specs.Names.{base_name, tx_committed_at}
 use Rattle.sdb_record.specs.Parts.{base_pair, before_pair, before_part, before_record, is_before_pair, is_user_pair, own_columns, record_with, user_columns, with_columns}
 use Rattle.sdb_record.specs.Rolls.{base_columns, forward_record, is_tombstone, new_columns, new_meta, prepared_record, row_of_image, tombstone_mark, undo}
 use Rattle.sdb_report.specs.OneLine.{ValueHasNoLf}
-use Rattle.sdb_report.proofs.LineLaws.{id_one}
+use Rattle.sdb_report.proofs.Public.{id_one}
 use Rattle.law_runs.proofs.Lists.{filter_all, filter_map_all, find_all, map_all, option_so}
 
 abbrev pub AreClear : List Value → Type 0

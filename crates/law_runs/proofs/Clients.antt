@@ -4,8 +4,7 @@ use Rattle.std.specs.Prelude.{is_some, not, ◌&&◌}
 use Rattle.sdb_types.specs.Contents.{CanAnswer, record_among}
 use Rattle.sdb_types.specs.Order.{same_key}
 use Rattle.law_runs.specs.Types.{Access, Answer, Doing, Key, Next, Outcome, PlanStep, Progress, Record, Refusal, Reply, Request, Statement, Table, VacuumStep}
-use Rattle.sdb_types.proofs.Basics.{by_test, clash}
-use Rattle.sdb_types.proofs.Keys.{same_key_exact}
+use Rattle.sdb_types.proofs.Public.{by_test, clash, same_key_exact}
 use Rattle.sdb_snapshot.specs.Entries.{value_at}
 use Rattle.sdb_record.specs.declared.access.Access.TheVariants as access
 use Rattle.sdb_model.specs.declared.answer.Answer.TheVariants as answer
@@ -33,7 +32,7 @@ use Rattle.sdb_vacuum.specs.declared.work.VacuumStep.TheVariants as vacuuming
 use Rattle.sdb_vacuum.specs.Vacuum.{Gives, VacuumAt, vacuum_step}
 use Rattle.sdb_client.specs.declared.next.Next.TheVariants as next
 use Rattle.sdb_client.specs.Client.{AskPost, BeginPost, CallPost, ClientAt, CommitNext, CommitStartPost, GatePost, RowsReadPost, IsIdle, IsChangedAt, IsAnsweredAtOnce, NextPost, OpenTxnPost, ReplyPost, RollbackPost, RowsPost, StagePost, StatementPost, TablePost, Taking, TextPost, VacuumStartPost, after, answer_in, answer_of, client_pending, given_answer, given_left, gives, holding, is_covered, next_of, with_rows_read, pending_by, pending_of, plan_of, resting, out_of_memory, too_many, vacuum_left, written, TextStep}
-use Rattle.law_clients.proofs.Whole.{by_memory}
+use Rattle.law_clients.proofs.Public.{by_memory}
 use Rattle.law_runs.proofs.Clear.{KeyClear, RecordsClear, ReplyClear, RequestClear}
 use Rattle.law_runs.proofs.PlainStatements.{AccessClear, AnswerClear, FoundAt, GivesClear, StatementClear, access_clear, gives_clear}
 use Rattle.law_runs.proofs.Snapshots.{NotesClear, SeenClear, get_clear, nothing_clear, overlay_clear, scan_clear, written_clear}

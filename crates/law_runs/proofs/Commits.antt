@@ -10,9 +10,7 @@ use Rattle.sdb_types.specs.Order.{key_cmp, same_key}
 use Rattle.law_runs.specs.Types.{Check, DecidePhase, DecideStep, Decided, Expected, Key, Outcome, PrepareStep, Read, Record, Reply, Request, Scan, Span, Target, TxId, ValidateStep, Wanted, Write}
 use Rattle.sdb_types.specs.declared.record.Reply.TheVariants as reply
 use Rattle.sdb_types.specs.declared.record.Request.TheVariants as ask
-use Rattle.sdb_types.proofs.Basics.{append_all, by_test, none_some}
-use Rattle.sdb_types.proofs.KeyOrder.{key_exact, key_total}
-use Rattle.sdb_types.proofs.Keys.{same_key_exact}
+use Rattle.sdb_types.proofs.Public.{append_all, by_test, key_exact, key_total, none_some, same_key_exact}
 use Rattle.sdb_record.specs.declared.coordinator.Decision.TheVariants as decision
 use Rattle.sdb_record.specs.Among.{is_written}
 use Rattle.sdb_record.specs.Coordinator.{decision_in}

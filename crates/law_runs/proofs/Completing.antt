@@ -10,7 +10,7 @@ use Rattle.sdb_types.specs.declared.record.Request.TheVariants as ask
 use Rattle.sdb_types.specs.Columns.{column}
 use Rattle.sdb_types.specs.Contents.{tx_id, tx_state}
 use Rattle.sdb_types.specs.Replies.{is_applied, is_fault}
-use Rattle.sdb_types.proofs.Basics.{clash, none_some, some_is}
+use Rattle.sdb_types.proofs.Public.{clash, none_some, some_is}
 use Rattle.sdb_record.specs.declared.coordinator.Decision.TheVariants as decision
 use Rattle.sdb_record.specs.Coordinator.{decision_in, decision_in_value, id_in_values, id_of_key, if_empty, is_coordinator_table}
 use Rattle.sdb_record.specs.Meta.{moment_in, need}
@@ -26,18 +26,13 @@ use Rattle.sdb_model.specs.Follows.{Follows}
 use Rattle.sdb_model.specs.ReadSet.{read_finished, read_set_of}
 use Rattle.sdb_model.specs.Sql.{Reads, reads_begin, reads_commit, reads_rollback, reads_vacuum}
 use Rattle.sdb_model.specs.Transactions.{Executed, client_of, commit_in, ending_in, from_begin, ordinal_of, statements_by}
-use Rattle.sdb_sqltext.proofs.Clauses.{one_statement}
-use Rattle.sdb_sqltext.proofs.OneWord.{begin_read, commit_read, rollback_read, vacuum_read}
-use Rattle.law_clients.proofs.Taken.{other_no_commit}
+use Rattle.sdb_sqltext.proofs.Public.{begin_read, commit_read, one_statement, rollback_read, vacuum_read}
+use Rattle.law_clients.proofs.Public.{other_no_commit}
 use Rattle.law_answers.specs.Counts.{CommitIsCounted}
 use Rattle.law_answers.specs.Rolled.{AnsweredWereSeen, IsDealtWith, RolledBut}
 use Rattle.law_answers.specs.Commits.{ObservesBad, PutsOutOfMemory}
 use Rattle.law_answers.specs.Unfit.{AreStoredReplies}
-use Rattle.law_answers.proofs.Faults.{answered_seen, seen_no_faults}
-use Rattle.law_answers.proofs.Lists.{each_in, each_kept, kept_in}
-use Rattle.law_answers.proofs.ReadSteps.{shown_read}
-use Rattle.law_answers.proofs.Rolled.{all_resolved}
-use Rattle.law_answers.proofs.Unfit.{shown_bad}
+use Rattle.law_answers.proofs.Public.{all_resolved, answered_seen, each_in, each_kept, kept_in, seen_no_faults, shown_bad, shown_read}
 use Rattle.sdb_client.specs.Execution.{IsExecution, IsPlayable}
 use Rattle.law_runs.specs.Complete.{CommitEnds, IsUncontended, UncontendedCommitsComplete, HasCommitted, IsCoordinatorRow, IsOnTable, IsServed, ObserveNone, ReadsUnresolved, RecoveriesComplete, RecoveryEnds, ResolvedAreNotBusy, SeenAreServed, StatementEnds, StatementsComplete}
 use Rattle.law_runs.specs.Laws.{BusyIsOfReads}

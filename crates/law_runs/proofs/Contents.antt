@@ -13,12 +13,11 @@ use Rattle.law_runs.specs.Types.{Condition, How, Key, Pair, Record, Reply, Reque
 use Rattle.sdb_types.specs.declared.record.Reply.TheVariants as reply
 use Rattle.sdb_types.specs.declared.record.Request.TheVariants as ask
 use Rattle.sdb_types.specs.Exact.{equal_of}
-use Rattle.sdb_types.proofs.Basics.{and_parts, by_test, less_of, none_some, truth}
-use Rattle.sdb_types.proofs.KeyOrder.{key_exact, key_total}
+use Rattle.sdb_types.proofs.Public.{and_parts, by_test, key_exact, key_total, less_of, none_some, truth}
 use Rattle.sdb_model.specs.declared.event.How.TheVariants.{Broken, Discarded, Lost, Seen}
 use Rattle.sdb_model.specs.Events.{IsPerformed}
 use Rattle.sdb_model.specs.Exec.{Tables, all_rows, row_of_entry}
-use Rattle.law_protocol.proofs.Effects.{after_delete, after_put}
+use Rattle.law_protocol.proofs.Public.{after_delete, after_put}
 use Rattle.law_runs.proofs.Lists.{is_so}
 use Rattle.law_runs.proofs.Clear.{ColumnsClear, FoundClear, KeyClear, RecordClear, RecordsClear, ReplyClear, RequestClear}
 use Rattle.law_runs.proofs.PlainStatements.{ImagesClear}

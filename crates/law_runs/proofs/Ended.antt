@@ -18,18 +18,14 @@ use Rattle.sdb_model.specs.Rows.{Name}
 use Rattle.sdb_model.specs.Serial.{IsRun}
 use Rattle.sdb_model.specs.Transactions.{IsOrder}
 use Rattle.law_protocol.specs.Trace.{StartsEmpty}
-use Rattle.law_protocol.proofs.Effects.{store_same}
+use Rattle.law_protocol.proofs.Public.{commit_moved, follows_moved, one_standing, point_moved, run_moved, single, store_same}
 use Rattle.law_clients.specs.System.{SystemAt}
 use Rattle.law_clients.specs.Left.{IsFitting}
 use Rattle.law_clients.specs.Invariant.{RunInvariant}
-use Rattle.law_clients.proofs.InvariantEnds.{going_is_run}
+use Rattle.law_clients.proofs.Public.{going_is_run}
 use Rattle.law_protocol.specs.Spread.{HoldAs, relocated_events, one_store}
-use Rattle.law_protocol.proofs.Followed.{follows_moved}
-use Rattle.law_protocol.proofs.Moved.{commit_moved, point_moved}
-use Rattle.law_protocol.proofs.Single.{single}
-use Rattle.law_protocol.proofs.Told.{one_standing, run_moved}
 use Rattle.law_runs.specs.Ending.{IsEnd}
-use Rattle.sdb_types.proofs.Basics.{or_true}
+use Rattle.sdb_types.proofs.Public.{or_true}
 
 ---- back to the stores of their tables
 

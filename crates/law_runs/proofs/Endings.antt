@@ -5,7 +5,7 @@ use Rattle.std.specs.List.{AllByRecursion}
 use Rattle.law_runs.specs.Types.{Answer, DecidePhase, DecideStep, Decided, Decision, Event, How, Key, Next, Outcome, PrepareStep, Progress, Record, Refusal, Reply, Request, Script, Statement, Table, VacuumStep, ValidateStep}
 use Rattle.sdb_types.specs.declared.record.Reply.TheVariants as reply
 use Rattle.sdb_types.specs.Contents.{CanAnswer}
-use Rattle.sdb_types.proofs.Basics.{clash, length_more, none_some, some_is}
+use Rattle.sdb_types.proofs.Public.{clash, length_more, none_some, some_is}
 use Rattle.sdb_record.specs.declared.coordinator.Decision.TheVariants as decision
 use Rattle.sdb_record.specs.Coordinator.{coordinator_key_of, decision_in, is_coordinator_table}
 use Rattle.sdb_record.specs.Meta.{is_moment}
@@ -35,20 +35,15 @@ use Rattle.sdb_vacuum.specs.declared.work.VacuumStep.TheVariants as vacuuming
 use Rattle.sdb_vacuum.specs.Vacuum.{VacuumAt}
 use Rattle.sdb_client.specs.declared.next.Next.TheVariants as next
 use Rattle.sdb_client.specs.Client.{ClientAt, CommitStartPost, ParsedPost, Parses, StagePost, StatementPost, Taking, TextPost, TextStep, answer_in, answer_of, next_id, next_of}
-use Rattle.sdb_sqltext.proofs.Clauses.{one_statement}
-use Rattle.sdb_sqltext.proofs.OneWord.{commit_read, vacuum_read}
+use Rattle.sdb_sqltext.proofs.Public.{commit_read, one_statement, vacuum_read}
 use Rattle.law_clients.specs.History.{executed_of_take}
-use Rattle.law_clients.proofs.Noting.{coordinators}
-use Rattle.law_clients.proofs.Taken.{other_no_commit, refused_no_commit}
+use Rattle.law_clients.proofs.Public.{coordinators, other_no_commit, refused_no_commit}
 use Rattle.law_clients.specs.About.{IsOfTables}
 use Rattle.law_answers.specs.Commits.{EndsBy, ObservesBad, StageByCalls}
 use Rattle.law_answers.specs.Invariant.{IsWaiting, Knows}
 use Rattle.law_answers.specs.Reads.{LedBy}
 use Rattle.law_answers.specs.Rolled.{DoingRolls, ReadRolls, RolledBut, WaitRolls}
-use Rattle.law_answers.proofs.Calls.{clock_more, made_at, of_within}
-use Rattle.law_answers.proofs.Rolled.{but_still, none_found, reads_so_far}
-use Rattle.law_answers.proofs.RolledSteps.{read_rolls}
-use Rattle.law_answers.proofs.Takings.{none_yet}
+use Rattle.law_answers.proofs.Public.{but_still, clock_more, made_at, none_found, none_yet, of_within, read_rolls, reads_so_far}
 use Rattle.sdb_client.specs.Execution.{IsExecution, IsPlayable}
 use Rattle.law_runs.specs.World.{states_of}
 use Rattle.law_runs.proofs.GivesUp.{each_of}

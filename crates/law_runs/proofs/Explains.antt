@@ -8,8 +8,7 @@ use Rattle.std.specs.FinMap.{empty}
 use Rattle.std.proofs.lemmas.List.{length-map}
 use Rattle.law_runs.specs.Types.{Answer, Decided, Event, How, Key, Place, Record, Reply, Request, Statement, Table, TxId}
 use Rattle.sdb_types.specs.Contents.{Contents}
-use Rattle.sdb_types.proofs.Basics.{clash, or_true}
-use Rattle.sdb_types.proofs.Bools.{or_first}
+use Rattle.sdb_types.proofs.Public.{clash, or_first, or_true}
 use Rattle.sdb_record.specs.declared.coordinator.Decision.TheVariants as decision
 use Rattle.sdb_record.specs.Coordinator.{coordinator_key_of, coordinator_table, decision_in, is_coordinator_table}
 use Rattle.sdb_record.specs.Meta.{id_in}
@@ -22,13 +21,11 @@ use Rattle.sdb_model.specs.Images.{decision_at, image_at}
 use Rattle.sdb_model.specs.ReadSet.{ReadItem}
 use Rattle.sdb_model.specs.Rows.{Name}
 use Rattle.sdb_model.specs.Transactions.{Recorded, point}
-use Rattle.sdb_model.proofs.Requests.{call_of, puts_table}
-use Rattle.law_protocol.proofs.Current.{current_at, stand_at, unchanged_at}
-use Rattle.law_protocol.proofs.Moments.{committed_at, gone_at, rows_at, stands_at, unresolved_at}
+use Rattle.sdb_model.proofs.Public.{call_of, puts_table}
+use Rattle.law_protocol.proofs.Public.{begun_moved, committed_at, current_at, gone_at, moved_more, point_moved, rows_at, stand_at, stands_at, unchanged_at, unresolved_at}
 use Rattle.law_clients.specs.System.{SystemAt}
 use Rattle.law_clients.specs.Invariant.{RunInvariant}
 use Rattle.law_protocol.specs.Spread.{AreAbout, HoldAs, IsAbout, relocated_event, relocated_events, one_store}
-use Rattle.law_protocol.proofs.Moved.{begun_moved, moved_more, point_moved}
 use Rattle.law_runs.proofs.Ended.{starts_empty}
 use Rattle.law_runs.proofs.Moments.{Alone, alone}
 use Rattle.law_runs.proofs.Noted.{noted_moved}

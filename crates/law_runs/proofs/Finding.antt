@@ -13,16 +13,11 @@ use Rattle.sdb_types.specs.Columns.{column}
 use Rattle.sdb_types.specs.Contents.{Contents, after, holds, is_partition, record_at, tx_id}
 use Rattle.sdb_types.specs.Exact.{equal_of}
 use Rattle.sdb_types.specs.Order.{table_cmp, same_key}
-use Rattle.sdb_types.proofs.Basics.{all_each, by_test, clash, none_some, not_true, some_is}
-use Rattle.sdb_types.proofs.Bools.{and_both, and_first}
-use Rattle.sdb_types.proofs.KeyOrder.{table_exact}
-use Rattle.sdb_types.proofs.Replies.{record_at-key}
-use Rattle.sdb_types.proofs.Keys.{same_key_tells}
+use Rattle.sdb_types.proofs.Public.{all_each, and_both, and_first, by_test, clash, none_some, not_true, record_at-key, same_key_tells, some_is, table_exact}
 use Rattle.sdb_record.specs.Coordinator.{coordinator_key_of, coordinator_table, decision_in, is_coordinator_table}
 use Rattle.sdb_record.specs.Meta.{id_in, is_in, is_transactional}
 use Rattle.sdb_record.specs.Rolls.{image_of, image_under, row_of_image}
-use Rattle.sdb_record.proofs.IdLemmas.{id_in_value-fits}
-use Rattle.sdb_record.proofs.ImageLaws.{image-open, image-settled}
+use Rattle.sdb_record.proofs.Public.{id_in_value-fits, image-open, image-settled}
 use Rattle.sdb_model.specs.declared.answer.Answer.TheVariants as answer
 use Rattle.sdb_model.specs.declared.event.Event.TheVariants as event
 use Rattle.sdb_model.specs.Calls.{StoreCall, calls_of, decision_observed, end_of, is_read, records_read}
@@ -34,10 +29,8 @@ use Rattle.sdb_model.specs.Images.{decision_at, decision_on}
 use Rattle.sdb_model.specs.ReadSet.{meaning_of, reads_rows}
 use Rattle.sdb_model.specs.DirtyReads.{AnswersHaveRows, NoDirtyReads, CommittedBy, HasRow, IsMeantBy, ReadsKey, AnswersAreOf, WasCommitted, WasFound}
 use Rattle.sdb_model.specs.Transactions.{Executed, client_of}
-use Rattle.law_protocol.proofs.Effects.{AtCall, after_put, at_call}
-use Rattle.law_protocol.proofs.Moments.{apart_from}
-use Rattle.law_protocol.proofs.Shown.{get_reply, scan_reply}
-use Rattle.law_clients.proofs.Meanings.{among_found, meaning_settled}
+use Rattle.law_protocol.proofs.Public.{after_put, apart_from, at_call, AtCall, get_reply, scan_reply}
+use Rattle.law_clients.proofs.Public.{among_found, meaning_settled}
 use Rattle.law_runs.specs.DirtyReads.{FoundDecided, IsDecidedIn, IsReader, ReadBy}
 use Rattle.law_runs.proofs.Agreeing.{Stands, decisions_agree, same_row, shown_stands}
 use Rattle.law_runs.proofs.Calls.{IsAt, IsWithin, call_at, effect_at, later_call, the_first, within_statement}

@@ -8,7 +8,7 @@ use Rattle.law_runs.specs.Types.{Answer, Event, Key, Record, Reply, Request, Tab
 use Rattle.sdb_types.specs.declared.record.Reply.TheVariants as reply
 use Rattle.sdb_types.specs.declared.record.Request.TheVariants as ask
 use Rattle.sdb_record.specs.declared.coordinator.Decision.TheVariants as decision
-use Rattle.sdb_record.proofs.TakenLaws.{prepared-key}
+use Rattle.sdb_record.proofs.Public.{prepared-key}
 use Rattle.sdb_model.specs.declared.answer.Answer.TheVariants as answer
 use Rattle.sdb_model.specs.declared.event.How.TheVariants.{Seen}
 use Rattle.sdb_model.specs.Access.{with_row}
@@ -17,12 +17,9 @@ use Rattle.sdb_model.specs.Exec.{Tables}
 use Rattle.sdb_model.specs.Sql.{reads_commit}
 use Rattle.sdb_model.specs.Transactions.{Executed, changes_nothing, commit_of, ends, from_begin, id_of, point, rest_of, statements_by}
 use Rattle.law_clients.specs.Keys.{keys_on, keys_written, with_keys}
-use Rattle.law_answers.proofs.Conflicts.{prepared_is}
-use Rattle.law_answers.proofs.Given.{IsMiddle}
-use Rattle.law_answers.proofs.Takings.{middle_ends}
+use Rattle.law_answers.proofs.Public.{effective_by, IsMiddle, middle_ends, prepared_is}
 use Rattle.law_runs.specs.Forged.{CommitText, InsertOn, SelectOn, StatementOn, decides_early, decides_unapplied, decides_unprepared, insert_key, prepare_first, prepares_unwritten}
 use Rattle.law_runs.specs.Found.{AllRunAs, answered_inside, found_by, nothing_found, with_found}
-use Rattle.law_answers.proofs.Shows.{effective_by}
 use Rattle.law_runs.specs.Laws.{row_put}
 use Rattle.law_runs.specs.Written.{CommitsPrepareWritten, DecisionsFollowPoints, IsAfterPoint, PreparesAll, keys_of}
 use Rattle.law_runs.proofs.ForgedFound.{after_call, begin_said, begun, got_none, got_removed, insert_commits, one_running, select_commits, since_first}

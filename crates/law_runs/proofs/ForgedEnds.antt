@@ -3,7 +3,7 @@ use Rattle.std.proofs.Common.{◌≡◌, ◌⊎◌, inl, inr, ℕ, Bool, true, f
 use Rattle.std.specs.Prelude.{◌&&◌, if◌then◌else◌, is_some}
 use Rattle.std.proofs.lemmas.List.Elements.{Contains-push}
 use Rattle.law_runs.specs.Types.{Answer, Event, Key, Record, Statement, Table, TxId}
-use Rattle.sdb_types.proofs.Basics.{clash}
+use Rattle.sdb_types.proofs.Public.{clash}
 use Rattle.sdb_model.specs.declared.answer.Answer.TheVariants as answer
 use Rattle.sdb_model.specs.declared.event.Event.TheVariants as event
 use Rattle.sdb_model.specs.declared.statement.Statement.TheVariants as statement
@@ -11,9 +11,8 @@ use Rattle.sdb_model.specs.Causes.{IsChecked, IsRejected, IsUnmet, is_open}
 use Rattle.sdb_model.specs.Exec.{table_of}
 use Rattle.sdb_model.specs.Sql.{Reads, reads_begin, reads_commit}
 use Rattle.sdb_model.specs.Transactions.{Executed, ends}
-use Rattle.sdb_sqltext.proofs.Clauses.{one_statement}
-use Rattle.sdb_sqltext.proofs.OneWord.{commit_read}
-use Rattle.law_clients.proofs.Taken.{refused_no_commit}
+use Rattle.sdb_sqltext.proofs.Public.{commit_read, one_statement}
+use Rattle.law_clients.proofs.Public.{refused_no_commit}
 use Rattle.law_runs.specs.Complete.{UncontendedCommitsComplete}
 use Rattle.law_runs.specs.Forged.{faults_at_once}
 use Rattle.law_runs.proofs.Statements.{none_in}

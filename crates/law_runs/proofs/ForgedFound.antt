@@ -10,9 +10,7 @@ use Rattle.law_runs.specs.Types.{Answer, Event, Image, Key, Pair, Record, Reply,
 use Rattle.sdb_types.specs.declared.record.Reply.TheVariants as reply
 use Rattle.sdb_types.specs.declared.record.Request.TheVariants as ask
 use Rattle.sdb_types.specs.Order.{key_cmp, table_cmp, same_key}
-use Rattle.sdb_types.proofs.KeyOrder.{key_total, table_total, key_exact}
-use Rattle.sdb_types.proofs.Keys.{same_key_self}
-use Rattle.sdb_types.proofs.Basics.{clash, and_false}
+use Rattle.sdb_types.proofs.Public.{and_false, clash, key_exact, key_total, same_key_self, table_total}
 use Rattle.std.proofs.lemmas.List.Elements.{Contains-push}
 use Rattle.sdb_model.specs.Counted.{is_key_of}
 use Rattle.sdb_record.specs.Coordinator.{is_coordinator_table}
@@ -25,12 +23,10 @@ use Rattle.sdb_model.specs.Calls.{StoreCall, calls_of, put_by}
 use Rattle.sdb_model.specs.Exec.{Tables, answer_of, cut, exec, exec_in, left_by, nat_of, passes, passing, row_of_entry, projected, sorted, with_named}
 use Rattle.sdb_model.specs.Sql.{Reads, reads_commit}
 use Rattle.sdb_model.specs.Transactions.{Executed, begins, changes_nothing, from_begin, is_effective, rest_of, statements_by, through_end, statements_of, ends}
-use Rattle.sdb_sqltext.proofs.Clauses.{one_statement}
+use Rattle.sdb_sqltext.proofs.Public.{one_statement}
 use Rattle.law_clients.specs.Fitting.{row_is_well_typed}
-use Rattle.law_clients.proofs.Taken.{other_no_commit}
-use Rattle.law_answers.proofs.Given.{IsMiddle}
-use Rattle.law_answers.proofs.Shows.{effective_by}
-use Rattle.law_answers.proofs.Takings.{middle_ends}
+use Rattle.law_clients.proofs.Public.{other_no_commit}
+use Rattle.law_answers.proofs.Public.{effective_by, IsMiddle, middle_ends}
 use Rattle.law_runs.specs.Forged.{FindsMisfit, FindsRow, InsertOn, SelectOn, IsCommittedRow, StatementOn, UpdateOn, answered_after, answered_at_once, counts_over, counts_twice, counts_unread, duplicates_none, insert_key, leaves_out, answers_rows, answers_two, answers_unread, reads_again, FindsUnresolved, answers_unrolled}
 use Rattle.sdb_model.specs.ReadSet.{has_read, meaning_of, rolls}
 use Rattle.law_runs.specs.Found.{IsRunOnFound, RunsOnFound, View, exec_on, found_by, found_in, is_answered, is_misfit_row, meets_misfit, nothing_found, run_on_found, run_one, with_found, with_one_found, ReadsAreNew, was_found, AllRunAs, takes_part}

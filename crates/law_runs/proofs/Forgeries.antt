@@ -6,7 +6,7 @@ use Rattle.law_runs.specs.Types.{Answer, Decision, Key, Span, Table, TxId, Write
 use Rattle.sdb_types.specs.declared.record.Condition.TheVariants as condition
 use Rattle.sdb_types.specs.declared.record.Reply.TheVariants as reply
 use Rattle.sdb_types.specs.declared.record.Request.TheVariants as ask
-use Rattle.sdb_types.proofs.Basics.{clash, some_is}
+use Rattle.sdb_types.proofs.Public.{clash, some_is}
 use Rattle.sdb_record.specs.Coordinator.{coordinator_key_of}
 use Rattle.sdb_record.specs.Meta.{is_moment}
 use Rattle.sdb_record.specs.Rolls.{prepared_record}
@@ -15,9 +15,7 @@ use Rattle.sdb_model.specs.declared.event.How.TheVariants.{Seen}
 use Rattle.sdb_model.specs.Calls.{StoreCall}
 use Rattle.sdb_model.specs.Sql.{reads_begin, reads_commit, reads_vacuum}
 use Rattle.sdb_model.specs.Transactions.{Executed, client_of}
-use Rattle.law_answers.proofs.Conflicts.{prepared_is}
-use Rattle.law_answers.proofs.Lists.{kept_in}
-use Rattle.law_answers.proofs.Rows.{asks_row}
+use Rattle.law_answers.proofs.Public.{asks_row, kept_in, prepared_is}
 use Rattle.law_runs.specs.Complete.{ResolvedAreNotBusy}
 use Rattle.law_runs.specs.Forged.{busy_at_once, counted_at_once, decides_at_once, prepares_at, reads_and_is_done}
 use Rattle.law_runs.specs.Laws.{BusyIsOfReads, DecisionsAreDue, GivesUp, IsOwnDecision, PreparesAreOwn, ReadsAreFew, row_put}

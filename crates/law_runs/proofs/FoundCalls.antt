@@ -6,7 +6,7 @@ use Rattle.std.proofs.lemmas.List.Folds.{list_any-append}
 use Rattle.std.specs.List.{list_any}
 use Rattle.law_runs.specs.Types.{Access, Answer, Doing, Event, How, Key, Next, Progress, Record, Reply, Request, Scan, Span, Table, Write}
 use Rattle.sdb_types.specs.Contents.{CanAnswer}
-use Rattle.sdb_types.proofs.Basics.{clash, either, none_some, or_false, or_true}
+use Rattle.sdb_types.proofs.Public.{clash, either, none_some, or_false, or_true}
 use Rattle.sdb_snapshot.specs.Entries.{value_at}
 use Rattle.sdb_record.specs.declared.access.Access.TheVariants as access
 use Rattle.sdb_record.specs.Meta.{is_moment}
@@ -32,20 +32,14 @@ use Rattle.sdb_txn.specs.Phases.{CommitAt}
 use Rattle.sdb_phases.specs.Work.{Work}
 use Rattle.sdb_client.specs.declared.next.Next.TheVariants as next
 use Rattle.sdb_client.specs.Client.{ClientAt, RowsReadPost, StagePost, after, answer_in, given_answer, given_left, gives, next_of, with_rows_read, resting}
-use Rattle.sdb_client.proofs.Calls.{noting_idle}
-use Rattle.law_clients.proofs.Fitted.{by_next}
-use Rattle.law_clients.proofs.InTables.{access_table}
+use Rattle.sdb_client.proofs.Public.{noting_idle}
+use Rattle.law_clients.proofs.Public.{access_table, by_next}
 use Rattle.law_clients.specs.About.{IsOfTables}
 use Rattle.law_clients.specs.History.{executed_with_answer, waiting_of}
 use Rattle.law_answers.specs.Changes.{HasRead, StageObserves}
 use Rattle.law_answers.specs.Reads.{LedBy, ReadsBy}
 use Rattle.law_answers.specs.Invariant.{IsWaiting, Knows}
-use Rattle.law_answers.proofs.Calls.{call_said, made_at, silent_said}
-use Rattle.law_answers.proofs.ReadSteps.{IsDataTable}
-use Rattle.law_answers.proofs.Rows.{bad_unfinished}
-use Rattle.law_answers.proofs.Settling.{read_checks}
-use Rattle.law_answers.proofs.Showing.{IsOpenAt, shows_on}
-use Rattle.law_answers.proofs.Unfit.{same_writes}
+use Rattle.law_answers.proofs.Public.{bad_unfinished, call_said, IsDataTable, IsOpenAt, made_at, read_checks, same_writes, shows_on, silent_said}
 use Rattle.law_runs.specs.Found.{found_by, is_answered, is_scan_of, scans_span, was_scanned}
 use Rattle.law_runs.specs.Written.{PreparesAll}
 use Rattle.law_runs.proofs.FoundGiven.{given_finishes}

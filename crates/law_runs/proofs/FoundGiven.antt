@@ -5,8 +5,7 @@ use Rattle.std.specs.List.{list_any}
 use Rattle.std.specs.FinMap.{get}
 use Rattle.law_runs.specs.Types.{Access, Answer, Event, Image, Key, Keyed, Pair, PlanStep, Statement, Table}
 use Rattle.sdb_types.specs.Order.{same_key}
-use Rattle.sdb_types.proofs.Basics.{clash, or_true}
-use Rattle.sdb_types.proofs.Keys.{same_key_self}
+use Rattle.sdb_types.proofs.Public.{clash, or_true, same_key_self}
 use Rattle.sdb_schema.specs.Catalog.{is_catalog}
 use Rattle.sdb_model.specs.declared.answer.Answer.TheVariants as answer
 use Rattle.sdb_model.specs.declared.statement.Statement.TheVariants as statement
@@ -22,25 +21,18 @@ use Rattle.std.specs.Option.{option_map_or}
 use Rattle.sdb_exec.specs.declared.plan.PlanStep.TheVariants.{Finished}
 use Rattle.sdb_exec.specs.Plans.{Planned, answer_on, changes_on, columns_at, first_unfit, has_all_literals, step_of}
 use Rattle.sdb_model.specs.Reads.{access_of}
-use Rattle.sdb_exec.proofs.Laid.{sieved_at}
-use Rattle.sdb_exec.proofs.Places.{named_is_table}
+use Rattle.sdb_exec.proofs.Public.{named_is_table, sieved_at}
 use Rattle.sdb_snapshot.specs.Rows.{tables_of_reads}
 use Rattle.sdb_snapshot.specs.Seen.{overlay, row_seen, tables_seen, with_written}
 use Rattle.sdb_snapshot.specs.Written.{with_writes}
-use Rattle.sdb_snapshot.proofs.Shown.{get_seen, own_is}
+use Rattle.sdb_snapshot.proofs.Public.{get_seen, own_is}
 use Rattle.sdb_txn.specs.Txn.{TxnAt}
 use Rattle.sdb_client.specs.Client.{given_answer, given_left, gives, left_by_answer, too_many, written}
 use Rattle.law_clients.specs.Fitting.{row_is_well_typed}
-use Rattle.law_clients.proofs.InTables.{access_table}
-use Rattle.law_answers.proofs.ReadSteps.{IsDataTable}
-use Rattle.law_clients.proofs.RowsFit.{done_is}
+use Rattle.law_clients.proofs.Public.{access_table, done_is, keys_changed, keys_with}
+use Rattle.law_answers.proofs.Public.{access_fits, all_fitting, asked_gives, effective_by, exec_fitting, get_fitting, given_middle, IsDataTable, left_at_key, left_fitting, left_outside, middle_ends, RowFits, rows_fitting, unfit_data}
 use Rattle.law_clients.specs.Keys.{keys_written, with_keys}
-use Rattle.law_clients.proofs.Keys.{keys_changed, keys_with}
 use Rattle.law_answers.specs.Unfit.{fits_catalog, fitting_part}
-use Rattle.law_answers.proofs.Fitting.{RowFits, access_fits, all_fitting, exec_fitting, get_fitting, left_at_key, left_fitting, left_outside, rows_fitting}
-use Rattle.law_answers.proofs.Given.{asked_gives, given_middle, unfit_data}
-use Rattle.law_answers.proofs.Shows.{effective_by}
-use Rattle.law_answers.proofs.Takings.{middle_ends}
 use Rattle.law_runs.specs.Found.{IsRunOnFound, View, exec_on, found_by, is_answered, is_misfit_row, meets_misfit, takes_part, with_found}
 use Rattle.law_runs.specs.Written.{keys_of}
 use Rattle.law_runs.proofs.Running.{HoldsScans, RunsTo, is_running, runs_kept, runs_more, view_after}

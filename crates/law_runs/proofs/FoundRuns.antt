@@ -17,7 +17,7 @@ use Rattle.law_clients.specs.Invariant.{RunInvariant}
 use Rattle.law_clients.specs.Fitting.{tables_are_well_typed}
 use Rattle.law_clients.specs.States.{ClientState, doing_of, system_of}
 use Rattle.law_clients.specs.History.{waiting_of}
-use Rattle.law_clients.proofs.Tellings.{others_silent, said_more}
+use Rattle.law_clients.proofs.Public.{others_silent, said_more}
 use Rattle.law_answers.specs.Invariant.{IsWaiting, Knows}
 use Rattle.sdb_client.specs.Execution.{AreFresh, CallStep, IsExecution, IsPath, IsPlayable, IsStepFrom, State, TakeStep, client_after, client_stopped, with_client_at}
 use Rattle.law_runs.specs.Found.{IsRunOnFound, RunsOnFound, answered_inside, is_answered}
@@ -36,7 +36,7 @@ use Rattle.law_runs.proofs.Seats.{set_here, set_other}
 use Rattle.law_runs.proofs.Statements.{AllSo, SoOver, none_in, step_so, waits_of}
 use Rattle.law_runs.proofs.Steps.{Holds, execution_holds, first_holds, led, step_holds}
 use Rattle.law_runs.proofs.WroteCommits.{CommitsWrote}
-use Rattle.law_answers.proofs.Whole.{going_told}
+use Rattle.law_answers.proofs.Public.{going_told}
 
 -- what is so of each client
 abbrev pub AllRun : WorldAt → Type 0

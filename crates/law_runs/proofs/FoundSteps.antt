@@ -4,7 +4,7 @@ use Rattle.std.specs.Prelude.{◌&&◌, ◌||◌, if◌then◌else◌, filter, i
 use Rattle.std.specs.List.{AllByRecursion}
 use Rattle.std.proofs.lemmas.List.{append-nil}
 use Rattle.std.proofs.lemmas.List.Elements.{filter-append}
-use Rattle.sdb_types.proofs.Basics.{clash, none_some, or_false}
+use Rattle.sdb_types.proofs.Public.{clash, none_some, or_false}
 use Rattle.law_runs.specs.Types.{Access, Answer, Doing, Event, PlanStep, Statement, Table, Write}
 use Rattle.sdb_model.specs.Calls.{StoreCall, calls_of}
 use Rattle.sdb_model.specs.Sql.{Reads, reads_commit}
@@ -18,8 +18,7 @@ use Rattle.sdb_txn.specs.Txn.{TxnAt}
 use Rattle.sdb_client.specs.Client.{ClientAt, given_answer, given_left, gives, holding, written}
 use Rattle.law_clients.specs.History.{waiting_of}
 use Rattle.law_answers.specs.Invariant.{IsAnswered, IsOpenAs, IsWaiting, Knows, DoingByHistory, ClientByHistory, begun_in, open_after}
-use Rattle.law_answers.proofs.Lists.{since_more, since_none}
-use Rattle.law_answers.proofs.Shows.{effective_by}
+use Rattle.law_answers.proofs.Public.{effective_by, since_more, since_none}
 use Rattle.sdb_vacuum.specs.Vacuum.{VacuumAt}
 use Rattle.law_runs.specs.Found.{AllRunAs, IsRunOnFound, found_by, is_answered, nothing_found, scans_span, takes_part, was_scanned, with_found}
 use Rattle.law_runs.specs.Written.{keys_of, written_on_found}

@@ -4,7 +4,7 @@ use Rattle.std.specs.Prelude.{◌&&◌, ◌||◌, if◌then◌else◌, filter, i
 use Rattle.std.proofs.lemmas.List.{append-nil}
 use Rattle.std.proofs.lemmas.List.Elements.{filter-append}
 use Rattle.law_runs.specs.Types.{Answer, Event, Key, Refusal, Statement, Table}
-use Rattle.sdb_types.proofs.Basics.{by_test, clash, or_false}
+use Rattle.sdb_types.proofs.Public.{by_test, clash, or_false}
 use Rattle.sdb_schema.specs.Catalog.{is_catalog}
 use Rattle.sdb_model.specs.declared.answer.Answer.TheVariants as answer
 use Rattle.sdb_model.specs.declared.event.Event.TheVariants as event
@@ -18,20 +18,14 @@ use Rattle.sdb_model.specs.Sql.{Reads, reads_commit}
 use Rattle.sdb_model.specs.Transactions.{Executed, begins, changes_nothing, ends, id_of, rest_of, statements_by}
 use Rattle.sdb_model.specs.Reads.{access_of}
 use Rattle.sdb_snapshot.specs.Seen.{nothing}
-use Rattle.sdb_sqltext.proofs.OneWord.{begin_read, rollback_read}
+use Rattle.sdb_sqltext.proofs.Public.{begin_read, rollback_read}
 use Rattle.sdb_txn.specs.declared.txn.Doing.TheVariants as doing
 use Rattle.sdb_txn.specs.Txn.{TxnAt, committing}
 use Rattle.sdb_client.specs.Client.{AskPost, BeginPost, ClientAt, CommitStartPost, GatePost, IsIdle, IsAnsweredAtOnce, RollbackPost, RowsPost, ParsedPost, Parses, StatementPost, TablePost, Taking, VacuumStartPost, given_answer, given_left, gives, holding, is_covered, plan_of, resting, out_of_memory, with_begun, TextStep}
-use Rattle.law_clients.proofs.InTables.{access_table, own_table}
-use Rattle.law_clients.proofs.RowsFit.{found_itself}
-use Rattle.law_clients.proofs.Taken.{other_no_commit}
-use Rattle.law_clients.proofs.Whole.{by_memory, literals_read}
+use Rattle.law_clients.proofs.Public.{access_table, by_memory, found_itself, literals_read, other_no_commit, own_table, take_said}
 use Rattle.law_clients.specs.History.{executed_of_take}
-use Rattle.law_clients.proofs.Answered.{take_said}
 use Rattle.law_answers.specs.Invariant.{Knows, begun_in}
-use Rattle.law_answers.proofs.Lists.{since_new}
-use Rattle.law_answers.proofs.ReadSteps.{IsDataTable}
-use Rattle.law_answers.proofs.Takings.{none_yet}
+use Rattle.law_answers.proofs.Public.{IsDataTable, none_yet, since_new}
 use Rattle.law_runs.specs.Found.{found_by, is_answered, scans_span, was_scanned, with_found}
 use Rattle.law_runs.proofs.FoundGiven.{given_finishes}
 use Rattle.law_runs.proofs.FoundSteps.{ClientRuns, SeesIn, SeesRun, answered_of_is, answered_of}

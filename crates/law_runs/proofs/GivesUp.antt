@@ -35,18 +35,13 @@ use Rattle.law_answers.specs.Vacuums.{VacuumStageBy}
 use Rattle.law_runs.proofs.Takes.{TakenAs, taken_as}
 use Rattle.sdb_phases.specs.Work.{Work, look_of}
 use Rattle.law_runs.specs.World.{WorldAt, states_of, state_of}
-use Rattle.law_answers.proofs.Rows.{after_last, after_more}
+use Rattle.law_answers.proofs.Public.{after_last, after_more, call_said, clock_more, clock_same, commit_is, kept_in, made_at, none_yet, of_within, open_is, prepared_moment}
 use Rattle.law_clients.specs.History.{executed_with_answer, executed_of_take, waiting_of}
-use Rattle.law_answers.proofs.Calls.{call_said, clock_more, clock_same, made_at, of_within}
 use Rattle.law_runs.proofs.OwnPrepares.{calls_again, commit_waits, ends_commit, goes_further, work_doing, work_in, work_txn}
 use Rattle.law_runs.proofs.RowWrites.{commit_writes, data_not, read_not, recover_writes, writer_fits}
-use Rattle.law_answers.proofs.Ends.{commit_is}
-use Rattle.law_answers.proofs.Lists.{kept_in}
-use Rattle.sdb_types.proofs.Basics.{id_fits, length_more, none_some, some_is}
+use Rattle.sdb_types.proofs.Public.{id_fits, length_more, none_some, some_is}
 use Rattle.sdb_record.specs.Meta.{id_in}
-use Rattle.law_clients.proofs.Meta.{meta_of}
-use Rattle.law_answers.proofs.Takings.{none_yet}
-use Rattle.law_answers.proofs.ReadSteps.{open_is, prepared_moment}
+use Rattle.law_clients.proofs.Public.{meta_of}
 use Rattle.std.specs.Option.{option_map}
 use Rattle.sdb_record.specs.declared.access.Access.TheVariants as access
 use Rattle.sdb_model.specs.declared.answer.Answer.TheVariants as answer

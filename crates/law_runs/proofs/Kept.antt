@@ -13,7 +13,7 @@ use Rattle.law_runs.specs.World.{IsClientState, IsWorld, WorldAt, at_moment, wit
 use Rattle.sdb_client.specs.Execution.{client_after, client_stopped}
 use Rattle.law_runs.proofs.Seats.{set_here, set_length, set_other, suc_is}
 use Rattle.law_runs.proofs.Ties.{IsApart, apart_pending, apart_stopped, apart_taken, own_call_pending, own_call_stopped, own_call_taken, own_stop_pending, own_stop_stopped, own_stop_taken, own_take_pending, own_take_stopped, own_take_taken}
-use Rattle.sdb_types.proofs.Basics.{some_is, all_last as all_more}
+use Rattle.sdb_types.proofs.Public.{all_last as all_more, some_is}
 
 pub by_nat : {G : Type 0} (i j : ℕ) → (i ≡ j → G) → ((i ≡ j → ⊥) → G) → G
 by_nat zero zero a b = a refl

@@ -1,74 +1,75 @@
-pub mod Ended
-pub mod Runs
-pub mod Recorded
-pub mod Others
-pub mod Standing
-pub mod Ordered
-pub mod OnStores
-pub mod Moments
-pub mod Explains
-pub mod Agreeing
-pub mod Noted
-pub mod Calls
-pub mod Finding
-pub mod Seats
-pub mod Ties
-pub mod Kept
-pub mod Gates
-pub mod Linked
-pub mod Causing
-pub mod First
-pub mod Steps
-pub mod Takes
-pub mod Replies
-pub mod ReadLeads
-pub mod Statements
-pub mod Belonging
-pub mod Busy
-pub mod Unprepared
-pub mod OwnPrepares
-pub mod ReadsOnce
-pub mod RowWrites
-pub mod GivesUp
-pub mod Sweeping
-pub mod SweepCalls
-pub mod Swept
-pub mod Beginnings
-pub mod Views
-pub mod Writing
-pub mod Running
-pub mod Preparing
-pub mod WroteCommits
-pub mod FoundGiven
-pub mod OngoingReads
-pub mod PreparingCalls
-pub mod FoundSteps
-pub mod FoundTakes
-pub mod FoundCalls
-pub mod FoundRuns
-pub mod AfterPoints
-pub mod WroteRuns
-pub mod NewReads
-pub mod NewRuns
-pub mod ForgedFound
-pub mod ForgedCommits
-pub mod Forgeries
-pub mod Lists
-pub mod Clear
-pub mod PlainStatements
-pub mod Tokens
-pub mod Contents
-pub mod Snapshots
-pub mod Recoveries
-pub mod Commits
-pub mod Clients
-pub mod Paths
-pub mod PlainRuns
-pub mod Endings
-pub mod Completing
-pub mod ForgedEnds
-pub mod MalformedReads
-pub mod MalformedStatements
-pub mod MalformedSweeps
-pub mod MalformedAnswers
-pub mod ForgedMalformed
+mod Ended
+mod Runs
+mod Recorded
+mod Others
+mod Standing
+mod Ordered
+mod OnStores
+mod Moments
+mod Explains
+mod Agreeing
+mod Noted
+mod Calls
+mod Finding
+mod Seats
+mod Ties
+mod Kept
+mod Gates
+mod Linked
+mod Causing
+mod First
+mod Steps
+mod Takes
+mod Replies
+mod ReadLeads
+mod Statements
+mod Belonging
+mod Busy
+mod Unprepared
+mod OwnPrepares
+mod ReadsOnce
+mod RowWrites
+mod GivesUp
+mod Sweeping
+mod SweepCalls
+mod Swept
+mod Beginnings
+mod Views
+mod Writing
+mod Running
+mod Preparing
+mod WroteCommits
+mod FoundGiven
+mod OngoingReads
+mod PreparingCalls
+mod FoundSteps
+mod FoundTakes
+mod FoundCalls
+mod FoundRuns
+mod AfterPoints
+mod WroteRuns
+mod NewReads
+mod NewRuns
+mod ForgedFound
+mod ForgedCommits
+mod Forgeries
+mod Lists
+mod Clear
+mod PlainStatements
+mod Tokens
+mod Contents
+mod Snapshots
+mod Recoveries
+mod Commits
+mod Clients
+mod Paths
+mod PlainRuns
+mod Endings
+mod Completing
+mod ForgedEnds
+mod MalformedReads
+mod MalformedStatements
+mod MalformedSweeps
+mod MalformedAnswers
+mod ForgedMalformed
+pub mod Public

@@ -10,17 +10,13 @@ use Rattle.sdb_model.specs.Rows.{Name}
 use Rattle.sdb_model.specs.Exec.{Tables}
 use Rattle.law_protocol.specs.History.{at}
 use Rattle.law_protocol.specs.Spread.{relocated_event}
-use Rattle.law_protocol.proofs.Moved.{moved_more}
+use Rattle.law_protocol.proofs.Public.{moved_more}
 use Rattle.sdb_client.specs.Client.{ClientAt as Client, ReplyPost, Taking, nothing_done, next_id, TextStep}
 use Rattle.law_clients.specs.System.{ClientAt, Stopped, SystemAt}
 use Rattle.law_clients.specs.Invariant.{ClientInvariant, IsOpenOf, RunInvariant, IsSilent}
-use Rattle.law_clients.proofs.Rests.{going_rests, going_starts}
-use Rattle.law_clients.proofs.InvariantTurns.{going_stops}
+use Rattle.law_clients.proofs.Public.{going_rests, going_starts, going_stops, kept_at, mapped_at, replies_so, takes_so}
 use Rattle.law_clients.specs.Fitting.{tables_are_well_typed}
 use Rattle.law_clients.specs.States.{ClientState, IsGated, IsReady, IsWaiting, doing_of, abstract_client, system_of, with_state}
-use Rattle.law_clients.proofs.Replied.{replies_so}
-use Rattle.law_clients.proofs.Taken.{kept_at, mapped_at}
-use Rattle.law_clients.proofs.Whole.{takes_so}
 use Rattle.sdb_client.specs.Execution.{AreFresh, IsPlayable, client_after, client_stopped}
 use Rattle.law_runs.specs.World.{WorldAt, state_in, states_of, with_event, with_client}
 use Rattle.law_runs.specs.Linked.{IsLinked, on_one, one_name}

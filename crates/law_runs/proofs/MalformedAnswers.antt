@@ -8,7 +8,7 @@ use Rattle.law_runs.specs.Types.{Answer, Event, Record, Reply, Script, Statement
 use Rattle.sdb_types.specs.declared.record.Reply.TheVariants as reply
 use Rattle.sdb_types.specs.declared.record.State.TheVariants as state
 use Rattle.sdb_types.specs.Replies.{is_fault}
-use Rattle.sdb_types.proofs.Basics.{clash}
+use Rattle.sdb_types.proofs.Public.{clash}
 use Rattle.sdb_record.specs.Meta.{is_in, is_transactional, is_unresolved}
 use Rattle.sdb_model.specs.declared.answer.Answer.TheVariants as answer
 use Rattle.sdb_model.specs.declared.statement.Statement.TheVariants as statement
@@ -16,9 +16,8 @@ use Rattle.sdb_model.specs.Calls.{StoreCall, calls_of, records_read}
 use Rattle.sdb_model.specs.Causes.{HasReply}
 use Rattle.sdb_model.specs.Exec.{table_of}
 use Rattle.sdb_model.specs.Transactions.{Executed, statements_by}
-use Rattle.law_clients.proofs.Taken.{other_no_commit}
-use Rattle.law_answers.proofs.Lists.{each_in}
-use Rattle.law_answers.proofs.Takings.{no_sweep}
+use Rattle.law_clients.proofs.Public.{other_no_commit}
+use Rattle.law_answers.proofs.Public.{each_in, no_sweep}
 use Rattle.sdb_client.specs.Execution.{IsExecution, IsPlayable}
 use Rattle.law_runs.specs.Complete.{IsOnTable}
 use Rattle.law_runs.specs.Malformed.{FindsMalformed, IsTransactional, MalformedAreAnswered, MalformedEndAtOnce, MalformedEnds, VacuumsMeetMalformed}

@@ -8,7 +8,7 @@ use Rattle.std.proofs.lemmas.List.Elements.{Contains-append_left, Contains-appen
 use Rattle.law_runs.specs.Types.{Decided, Key, Meta, ReadStep, Record, RecoverPhase, RecoverStep, Reply, TxId}
 use Rattle.sdb_types.specs.declared.record.Reply.TheVariants as reply
 use Rattle.sdb_types.specs.declared.record.State.TheVariants as state
-use Rattle.sdb_types.proofs.Basics.{append_all, clash}
+use Rattle.sdb_types.proofs.Public.{append_all, clash}
 use Rattle.sdb_record.specs.declared.coordinator.Decision.TheVariants as decision
 use Rattle.sdb_record.specs.Coordinator.{coordinator_key_of, decision_in, is_expired}
 use Rattle.sdb_record.specs.Meta.{id_in, is_in, is_transactional, is_unresolved}
@@ -18,9 +18,8 @@ use Rattle.sdb_phases.specs.declared.step.RecoverStep.TheVariants as steps
 use Rattle.sdb_phases.specs.Recover.{recover_next, roll_to, undecided}
 use Rattle.sdb_txn.specs.declared.read.ReadStep.TheVariants as step
 use Rattle.sdb_txn.specs.Read.{Asking, Bad, Ended, Firm, Kind, Open, ReadStage, Resolving, answered, kind_of, resolved, settle, settle_one}
-use Rattle.law_clients.proofs.Meta.{meta_of}
-use Rattle.law_answers.proofs.ReadSteps.{bad_is, open_is}
-use Rattle.law_answers.proofs.Showing.{firm_checked}
+use Rattle.law_clients.proofs.Public.{meta_of}
+use Rattle.law_answers.proofs.Public.{bad_is, firm_checked, open_is}
 use Rattle.law_runs.specs.Malformed.{IsTransactional}
 
 -- The rows begin with some that pass the checks.

@@ -4,7 +4,7 @@ use Rattle.std.specs.Prelude.{Contains, is_some}
 use Rattle.std.specs.List.{AllByRecursion}
 use Rattle.std.proofs.lemmas.List.Elements.{Contains-push_cases}
 use Rattle.law_runs.specs.Types.{Access, Answer, Doing, Event, How, Next, Record, Reply, Request, Script, Table}
-use Rattle.sdb_types.proofs.Basics.{clash, none_some, some_is}
+use Rattle.sdb_types.proofs.Public.{clash, none_some, some_is}
 use Rattle.sdb_model.specs.declared.answer.Answer.TheVariants as answer
 use Rattle.sdb_model.specs.declared.event.Event.TheVariants as event
 use Rattle.sdb_model.specs.Calls.{StoreCall, calls_of, records_read}
@@ -22,9 +22,7 @@ use Rattle.sdb_client.specs.Client.{CallPost, ClientAt, StagePost, after, answer
 use Rattle.law_clients.specs.History.{executed_of_take}
 use Rattle.law_answers.specs.Invariant.{IsWaiting}
 use Rattle.law_answers.specs.Reads.{ReadsBy}
-use Rattle.law_answers.proofs.Calls.{made_at}
-use Rattle.law_answers.proofs.RolledSteps.{recovery_unread}
-use Rattle.law_answers.proofs.Takings.{none_yet}
+use Rattle.law_answers.proofs.Public.{made_at, none_yet, recovery_unread}
 use Rattle.sdb_client.specs.Execution.{IsExecution, IsPlayable}
 use Rattle.law_runs.specs.Malformed.{IsTransactional}
 use Rattle.law_runs.specs.World.{states_of}

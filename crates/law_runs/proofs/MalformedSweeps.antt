@@ -10,7 +10,7 @@ use Rattle.law_runs.specs.Types.{Answer, Event, How, Meta, Record, RecoverPhase,
 use Rattle.sdb_types.specs.declared.record.Reply.TheVariants as reply
 use Rattle.sdb_types.specs.declared.record.Request.TheVariants as ask
 use Rattle.sdb_types.specs.declared.record.State.TheVariants as state
-use Rattle.sdb_types.proofs.Basics.{clash, none_some, some_is}
+use Rattle.sdb_types.proofs.Public.{clash, none_some, some_is}
 use Rattle.sdb_record.specs.Meta.{id_in}
 use Rattle.sdb_record.specs.Rolls.{is_tombstone, remove_request}
 use Rattle.sdb_model.specs.declared.answer.Answer.TheVariants as answer
@@ -29,11 +29,7 @@ use Rattle.sdb_client.specs.Client.{ClientAt, VacuumPost, after, answer_of, next
 use Rattle.law_clients.specs.History.{executed_of_take}
 use Rattle.law_answers.specs.Invariant.{IsWaiting}
 use Rattle.law_answers.specs.Vacuums.{VacuumStageBy}
-use Rattle.law_answers.proofs.Calls.{made_at}
-use Rattle.law_answers.proofs.ReadSteps.{bad_is, open_is}
-use Rattle.law_answers.proofs.RolledSteps.{recovery_unread}
-use Rattle.law_answers.proofs.Showing.{firm_checked, unread_rows}
-use Rattle.law_answers.proofs.Takings.{none_yet}
+use Rattle.law_answers.proofs.Public.{bad_is, firm_checked, made_at, none_yet, open_is, recovery_unread, unread_rows}
 use Rattle.sdb_client.specs.Execution.{IsExecution, IsPlayable}
 use Rattle.law_runs.specs.Malformed.{IsTransactional}
 use Rattle.law_runs.specs.World.{states_of}

@@ -5,8 +5,7 @@ use Rattle.sdb_types.specs.Contents.{Contents}
 use Rattle.sdb_model.specs.Rows.{Name}
 use Rattle.sdb_model.specs.Events.{Effect, IsTrace, StoreContents, moment, stored_at}
 use Rattle.law_protocol.specs.Spread.{AreAbout, HoldAs, relocated_event, relocated_events, one_store}
-use Rattle.law_protocol.proofs.Single.{single}
-use Rattle.law_protocol.proofs.Told.{one_standing}
+use Rattle.law_protocol.proofs.Public.{one_standing, single}
 use Rattle.sdb_model.specs.Tables.{is_table_of_run}
 
 -- The one store's moments: beside each moment of several stores one at which it holds the same of the tables.

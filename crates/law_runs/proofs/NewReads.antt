@@ -5,7 +5,7 @@ use Rattle.std.specs.List.{AllByRecursion, list_any}
 use Rattle.law_runs.specs.Types.{Access, Answer, Doing, Event, How, Key, Next, Record, Reply, Request, Statement, Table}
 use Rattle.sdb_types.specs.declared.record.Request.TheVariants as ask
 use Rattle.sdb_types.specs.Order.{same_key}
-use Rattle.sdb_types.proofs.Basics.{all_last, by_test, clash, none_some, or_false, some_is}
+use Rattle.sdb_types.proofs.Public.{all_last, by_test, clash, none_some, or_false, some_is}
 use Rattle.sdb_snapshot.specs.Entries.{value_at}
 use Rattle.sdb_record.specs.declared.access.Access.TheVariants as access
 use Rattle.sdb_model.specs.declared.event.Event.TheVariants as event
@@ -25,12 +25,7 @@ use Rattle.sdb_client.specs.Client.{ClientAt, IsIdle, Taking, after, is_covered,
 use Rattle.law_clients.specs.History.{executed_with_answer, executed_of_take}
 use Rattle.law_answers.specs.Counts.{ArePaired}
 use Rattle.law_answers.specs.Invariant.{IsAnswered, IsWaiting, Knows, begun_in, open_after}
-use Rattle.law_answers.proofs.Calls.{calls_stay, made_at}
-use Rattle.law_answers.proofs.CountsNotes.{last_or, open_only}
-use Rattle.law_answers.proofs.Lists.{each_in, each_kept, since_more, since_none}
-use Rattle.law_answers.proofs.Noting.{each_left, each_middle, since_all}
-use Rattle.law_answers.proofs.RolledSteps.{recovery_unread}
-use Rattle.law_answers.proofs.Takings.{none_yet}
+use Rattle.law_answers.proofs.Public.{calls_stay, each_in, each_kept, each_left, each_middle, last_or, made_at, none_yet, open_only, recovery_unread, since_all, since_more, since_none}
 use Rattle.law_runs.specs.Found.{AllRunAs, IsNewRead, View, finds, found_by, has_found, is_answered, meets_misfit, nothing_found, run_on_found, run_one, takes_part, was_found, was_scanned, with_found}
 use Rattle.law_runs.proofs.OngoingReads.{NothingMore, reads_again}
 use Rattle.law_runs.proofs.FoundSteps.{ClientRuns, SeesIn, closed, sees_open}

@@ -4,7 +4,7 @@ use Rattle.std.specs.Prelude.{Contains, if◌then◌else◌, filter, is_some, le
 use Rattle.std.specs.List.{AllByRecursion}
 use Rattle.std.proofs.lemmas.List.{append-nil}
 use Rattle.std.proofs.lemmas.List.Elements.{Contains-push, filter-append}
-use Rattle.sdb_types.proofs.Basics.{clash}
+use Rattle.sdb_types.proofs.Public.{clash}
 use Rattle.law_runs.specs.Types.{Answer, Doing, Event, Script, Table}
 use Rattle.sdb_model.specs.declared.event.Event.TheVariants as event
 use Rattle.sdb_model.specs.Calls.{calls_of}
@@ -16,11 +16,9 @@ use Rattle.sdb_vacuum.specs.Vacuum.{VacuumAt}
 use Rattle.sdb_client.specs.Client.{ClientAt}
 use Rattle.law_clients.specs.States.{ClientState}
 use Rattle.law_clients.specs.History.{executed_with_answer, executed_of_take, waiting_of}
-use Rattle.law_clients.proofs.Answered.{take_said}
-use Rattle.law_clients.proofs.Tellings.{others_silent, said_more}
+use Rattle.law_clients.proofs.Public.{others_silent, said_more, take_said}
 use Rattle.law_answers.specs.Invariant.{IsAnswered, IsDoing, IsWaiting, Knows, DoingByHistory, ClientByHistory, begun_in, open_after}
-use Rattle.law_answers.proofs.Calls.{call_said, silent_said}
-use Rattle.law_answers.proofs.Noting.{take_open}
+use Rattle.law_answers.proofs.Public.{call_said, silent_said, take_open}
 use Rattle.sdb_client.specs.Execution.{IsExecution, IsPath, IsPlayable, IsStepFrom, State}
 use Rattle.law_runs.specs.Found.{IsNewRead, ReadsAreNew, is_answered, takes_part}
 use Rattle.law_runs.specs.World.{WorldAt, states_of, state_of}

@@ -18,7 +18,7 @@ use Rattle.sdb_model.specs.ReadSet.{KeyRead, ReadItem, SpanRead, finds_transacti
 use Rattle.sdb_model.specs.Rows.{Name}
 use Rattle.sdb_model.specs.Transactions.{Executed, client_of, ends, from_begin, ordinal_of, rest_of, statements_inside}
 use Rattle.law_protocol.specs.Spread.{relocated_event, relocated_events}
-use Rattle.law_protocol.proofs.Moved.{said_moved}
+use Rattle.law_protocol.proofs.Public.{said_moved}
 
 ---- calls that are moved to other stores
 

@@ -12,16 +12,14 @@ use Rattle.sdb_model.specs.Transactions.{Recorded}
 use Rattle.law_clients.specs.System.{SystemAt}
 use Rattle.law_clients.specs.Invariant.{RunInvariant}
 use Rattle.law_protocol.specs.Spread.{relocated_events, one_store}
-use Rattle.law_protocol.proofs.Moved.{commit_moved, point_moved}
-use Rattle.law_protocol.proofs.Single.{Single, single}
-use Rattle.law_protocol.proofs.Told.{one_standing}
+use Rattle.law_protocol.proofs.Public.{commit_moved, one_standing, point_moved, single, Single}
 use Rattle.law_runs.specs.Points.{HavePoints}
 use Rattle.law_runs.specs.Stores.{AreSound, IsTraceOnEmpty}
 use Rattle.law_runs.proofs.Ended.{decides, starts_empty}
 use Rattle.law_runs.proofs.Recorded.{have_points}
 use Rattle.law_runs.proofs.Runs.{ByLaws, by_laws}
 use Rattle.law_runs.proofs.Standing.{are_known}
-use Rattle.sdb_types.proofs.Basics.{or_true}
+use Rattle.sdb_types.proofs.Public.{or_true}
 use Rattle.sdb_model.specs.Tables.{is_table_of_run}
 
 rows_played : (catalog : List Table) (table : TableName) → is_coordinator_table table ≡ true → is_table_of_run catalog table ≡ true

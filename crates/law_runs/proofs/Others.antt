@@ -5,14 +5,12 @@ use Rattle.law_runs.specs.Types.{Event, Key, Pair, Place, Record, Reply, Request
 use Rattle.sdb_types.specs.declared.record.Request.TheVariants as ask
 use Rattle.sdb_types.specs.Contents.{Contents, after, holds, record_at}
 use Rattle.sdb_types.specs.Order.{same_key}
-use Rattle.sdb_types.proofs.Keys.{same_key_tells}
+use Rattle.sdb_types.proofs.Public.{same_key_tells}
 use Rattle.sdb_types.specs.declared.record.Condition.TheVariants as condition
 use Rattle.sdb_record.specs.declared.coordinator.Decision.TheVariants.{Committed, Aborted}
 use Rattle.sdb_record.specs.Coordinator.{coordinator_key_of}
 use Rattle.sdb_record.specs.Parts.{before_part, before_record, record_with}
-use Rattle.sdb_record.proofs.ImageLaws.{row-key}
-use Rattle.sdb_record.proofs.RollLaws.{forward-key}
-use Rattle.sdb_record.proofs.TakenLaws.{prepared-key}
+use Rattle.sdb_record.proofs.Public.{forward-key, prepared-key, row-key}
 use Rattle.sdb_record.specs.Rolls.{undo}
 use Rattle.sdb_model.specs.declared.event.Event.TheVariants as event
 use Rattle.sdb_model.specs.Events.{Effect, StoreContents, stored_at}
@@ -21,10 +19,7 @@ use Rattle.law_protocol.specs.History.{Action, Other, Begins, Takes, Prepares, C
 use Rattle.law_protocol.specs.Lawful.{IsCallOf, IsLawful, IsUnchanged, IsEnabled, MayRoll, Labelled, id, is_quiet}
 use Rattle.law_protocol.specs.Plan.{Plan}
 use Rattle.law_protocol.specs.Trace.{IsTraced, StartsEmpty, closing, history}
-use Rattle.law_protocol.proofs.Effects.{AtCall, after_delete, after_put, at_call}
-use Rattle.law_protocol.proofs.Known.{held_key, taken_fits, write_key}
-use Rattle.law_protocol.proofs.Settled.{Knows, prepared_there}
-use Rattle.law_protocol.proofs.Whole.{whole}
+use Rattle.law_protocol.proofs.Public.{after_delete, after_put, at_call, AtCall, held_key, Knows, prepared_there, taken_fits, whole, write_key}
 use Rattle.sdb_model.specs.Tables.{is_data}
 
 -- the key of a transaction's row

@@ -3,7 +3,7 @@ use Rattle.std.proofs.Common.{◌≡◌, ◌⊎◌, inl, inr, ◌<◌, ◌^◌, 
 use Rattle.std.specs.Prelude.{◌&&◌, ◌||◌, Contains, is_some}
 use Rattle.std.proofs.lemmas.List.Elements.{Contains-push_cases}
 use Rattle.law_runs.specs.Types.{Access, Answer, Doing, Event, How, Next, Progress, ReadStep, Record, Reply, Request, Script, Table, TxId}
-use Rattle.sdb_types.proofs.Basics.{clash, id_fits, length_more, none_some, some_is}
+use Rattle.sdb_types.proofs.Public.{clash, id_fits, length_more, none_some, some_is}
 use Rattle.sdb_record.specs.Meta.{moment_in}
 use Rattle.sdb_record.specs.Names.{tx_prepared_at}
 use Rattle.sdb_model.specs.declared.answer.Answer.TheVariants as answer
@@ -26,9 +26,7 @@ use Rattle.sdb_exec.specs.Plans.{Planned}
 use Rattle.law_clients.specs.History.{executed_with_answer, executed_of_take, waiting_of}
 use Rattle.sdb_txn.specs.Phases.{CommitAt}
 use Rattle.law_answers.specs.Invariant.{IsAnswered, IsDoing, IsOpenAs, IsWaiting, Knows, DoingByHistory, ClientByHistory}
-use Rattle.law_answers.proofs.Calls.{call_said, clock_more, clock_same, made_at}
-use Rattle.law_answers.proofs.Ends.{commit_is}
-use Rattle.law_answers.proofs.Takings.{none_yet}
+use Rattle.law_answers.proofs.Public.{call_said, clock_more, clock_same, commit_is, made_at, none_yet}
 use Rattle.sdb_client.specs.Execution.{IsExecution, IsPlayable, State, TakeStep}
 use Rattle.law_runs.specs.Laws.{IsOwnPrepare, PreparesAreOwn}
 use Rattle.law_runs.specs.World.{WorldAt, states_of, state_of}

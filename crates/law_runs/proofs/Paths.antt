@@ -4,13 +4,13 @@ use Rattle.std.specs.List.{AllByRecursion}
 use Rattle.std.specs.FinMap.{empty}
 use Rattle.sdb_types.specs.Contents.{Contents}
 use Rattle.law_runs.specs.Types.{Answer, ClientSlot, Event, How, Reply, Request, Script}
-use Rattle.sdb_types.proofs.Basics.{some_is}
+use Rattle.sdb_types.proofs.Public.{some_is}
 use Rattle.sdb_model.specs.declared.event.Event.TheVariants as event
 use Rattle.sdb_model.specs.Events.{IsCall, IsTrace, StoreContents}
 use Rattle.sdb_model.specs.Plain.{is_one_line, HasLines}
 use Rattle.sdb_model.specs.Rows.{Name}
 use Rattle.law_protocol.specs.Spread.{HoldAs, relocated_events, one_store}
-use Rattle.law_protocol.proofs.Single.{Single, one_held, one_left, single}
+use Rattle.law_protocol.proofs.Public.{one_held, one_left, single, Single}
 use Rattle.sdb_client.specs.Execution.{AreFresh, CallStep, IsPath, State, TakeStep, client_after, client_stopped, with_client_at}
 use Rattle.law_runs.specs.Laws.{ExecutionOf}
 use Rattle.law_runs.specs.Moments.{TraceOf}

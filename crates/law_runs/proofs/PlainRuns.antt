@@ -11,9 +11,7 @@ use Rattle.law_runs.specs.Types.{Answer, Decided, Event, Image, Key, Pair, Place
 use Rattle.sdb_types.specs.declared.record.Reply.TheVariants as reply
 use Rattle.sdb_types.specs.declared.record.Request.TheVariants as ask
 use Rattle.sdb_types.specs.declared.record.State.TheVariants as state
-use Rattle.sdb_types.proofs.Bools.{and_both, and_first, and_second}
-use Rattle.sdb_types.proofs.Basics.{none_some}
-use Rattle.sdb_types.proofs.Replies.{record_at-key}
+use Rattle.sdb_types.proofs.Public.{and_both, and_first, and_second, none_some, record_at-key}
 use Rattle.sdb_record.specs.declared.coordinator.Decision.TheVariants as decision
 use Rattle.sdb_record.specs.Coordinator.{is_coordinator_table}
 use Rattle.sdb_record.specs.Meta.{is_in}
@@ -28,7 +26,7 @@ use Rattle.sdb_model.specs.Images.{decision_on, row_at}
 use Rattle.sdb_model.specs.Plain.{HasPlainParts, IsFoundAt, IsPlain, IsPlainAnswer, IsPlainDump, IsPlainEvent, IsPlainGiven, IsPlainRow, are_rising, starts_after, values_are_plain, HasLines}
 use Rattle.sdb_model.specs.Serial.{AreImages, dumps_of, serial}
 use Rattle.sdb_report.specs.OneLine.{AnswerHasNoLf, EventHasNoLf, KeyHasNoLf, RecordHasNoLf, ReplyHasNoLf, RequestHasNoLf, ValueHasNoLf, ValuesHaveNoLf}
-use Rattle.sdb_report.proofs.LineLaws.{event_one, row_one}
+use Rattle.sdb_report.proofs.Public.{event_one, row_one}
 use Rattle.law_protocol.specs.Spread.{HoldAs}
 use Rattle.law_runs.specs.Laws.{ExecutionOf}
 use Rattle.law_runs.specs.Moments.{TraceOf}

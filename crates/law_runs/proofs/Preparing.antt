@@ -12,11 +12,11 @@ use Rattle.sdb_types.specs.declared.record.Request.TheVariants as ask
 use Rattle.sdb_types.specs.declared.record.Condition.TheVariants as condition
 use Rattle.sdb_types.specs.declared.value.Value.TheVariants as value
 use Rattle.sdb_types.specs.Replies.{is_applied}
-use Rattle.sdb_types.proofs.Basics.{clash, none_some, some_is}
+use Rattle.sdb_types.proofs.Public.{clash, none_some, some_is}
 use Rattle.sdb_record.specs.declared.coordinator.Decision.TheVariants as decision
 use Rattle.sdb_record.specs.Coordinator.{coordinator_row_of}
 use Rattle.sdb_record.specs.Rolls.{IsWrite, prepared_record, undo}
-use Rattle.sdb_record.proofs.TakenLaws.{prepared-key}
+use Rattle.sdb_record.proofs.Public.{prepared-key}
 use Rattle.sdb_model.specs.Calls.{StoreCall, calls_before, is_read, key_asked, put_by}
 use Rattle.sdb_model.specs.Counted.{prepares_in}
 use Rattle.sdb_model.specs.Transactions.{prepares}
@@ -30,10 +30,8 @@ use Rattle.sdb_phases.specs.Steps.{decide_next, decide_request_at, prepare_step,
 use Rattle.sdb_phases.specs.Work.{Work, abort_of, back_of, forward_of, look_of, prepare_of, is_as_prepared}
 use Rattle.sdb_phases.specs.Work as work
 use Rattle.sdb_txn.specs.Phases.{IsNext}
-use Rattle.law_clients.proofs.Lists.{each_at}
-use Rattle.law_answers.proofs.Conflicts.{mapped_at, prepared_is, undo_unprepared}
-use Rattle.law_answers.proofs.Lists.{each_in}
-use Rattle.law_answers.proofs.Rows.{before_stays}
+use Rattle.law_clients.proofs.Public.{each_at}
+use Rattle.law_answers.proofs.Public.{before_stays, each_in, mapped_at, prepared_is, undo_unprepared}
 use Rattle.law_runs.specs.Laws.{row_put}
 use Rattle.law_runs.specs.Written.{PreparesAll, PutsCommitted, keys_applied, keys_prepared}
 use Rattle.law_runs.proofs.RowWrites.{checks_read}

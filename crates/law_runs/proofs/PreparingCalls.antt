@@ -16,8 +16,7 @@ use Rattle.sdb_client.specs.declared.next.Next.TheVariants as next
 use Rattle.sdb_client.specs.Client.{ClientAt, IsIdle, Taking, after, next_id, next_of, TextStep}
 use Rattle.law_clients.specs.History.{executed_of_take}
 use Rattle.law_answers.specs.Invariant.{IsWaiting}
-use Rattle.law_answers.proofs.Calls.{calls_open, end_waiting, later_within, made_at}
-use Rattle.law_answers.proofs.Takings.{none_yet}
+use Rattle.law_answers.proofs.Public.{calls_open, end_waiting, later_within, made_at, none_yet}
 use Rattle.law_runs.specs.Written.{PreparesAll}
 use Rattle.law_runs.proofs.OngoingReads.{NothingMore, reads_again}
 use Rattle.law_runs.proofs.OwnPrepares.{calls_again, goes_further}

@@ -4,7 +4,7 @@ use Rattle.std.specs.Prelude.{is_some}
 use Rattle.std.specs.List.{AllByRecursion}
 use Rattle.law_runs.specs.Types.{Answer, Event, How, Key, Record, Reply, Request, Table}
 use Rattle.sdb_types.specs.Contents.{CanAnswer}
-use Rattle.sdb_types.proofs.Basics.{all_each, length_more}
+use Rattle.sdb_types.proofs.Public.{all_each, length_more}
 use Rattle.sdb_model.specs.declared.event.Event.TheVariants as event
 use Rattle.sdb_model.specs.Calls.{StoreCall, calls_of, clock_at}
 use Rattle.sdb_model.specs.Exec.{find_table, table_of}
@@ -16,12 +16,10 @@ use Rattle.sdb_txn.specs.declared.txn.Doing.TheVariants as doing
 use Rattle.sdb_txn.specs.Txn.{TxnAt}
 use Rattle.sdb_client.specs.Client.{ClientAt}
 use Rattle.law_clients.specs.About.{IsDoingIn, IsIn, IsOfTables, IsReadIn, IsStageIn}
-use Rattle.law_clients.proofs.InTables.{access_table, own_table}
-use Rattle.law_clients.proofs.RowsFit.{found_itself}
+use Rattle.law_clients.proofs.Public.{access_table, found_itself, own_table}
 use Rattle.law_answers.specs.Invariant.{IsWaiting}
 use Rattle.law_answers.specs.Reads.{LedBy}
-use Rattle.law_answers.proofs.Calls.{calls_open, clock_more, end_waiting, later_within, made_at}
-use Rattle.law_answers.proofs.ReadSteps.{IsDataTable, LeavesData, reads_on}
+use Rattle.law_answers.proofs.Public.{calls_open, clock_more, end_waiting, IsDataTable, later_within, LeavesData, made_at, reads_on}
 use Rattle.law_runs.proofs.Replies.{ReadCall}
 
 module _ (catalog : List Table) (apart : (k : Key) → is_some (find_table catalog k.table) ≡ true → is_data k ≡ true) (events : List Event) (c : ℕ) (h d : ClientAt) (x : Executed) (waits : IsWaiting catalog events c (is_some h.vacuum) x)

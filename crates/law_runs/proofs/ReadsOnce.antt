@@ -5,7 +5,7 @@ use Rattle.std.specs.List.{count_by}
 use Rattle.std.proofs.lemmas.List.Sums.{fold-append}
 use Rattle.law_runs.specs.Types.{Access, Answer, Doing, Event, How, Meta, Next, ReadStep, Record, RecoverPhase, RecoverStep, Reply, Request, Script, Table}
 use Rattle.sdb_types.specs.declared.record.Reply.TheVariants as reply
-use Rattle.sdb_types.proofs.Basics.{clash, none_some}
+use Rattle.sdb_types.proofs.Public.{clash, none_some}
 use Rattle.sdb_model.specs.declared.answer.Answer.TheVariants as answer
 use Rattle.sdb_model.specs.declared.event.Event.TheVariants as event
 use Rattle.sdb_model.specs.declared.statement.Statement.TheVariants as statement
@@ -19,17 +19,14 @@ use Rattle.sdb_phases.specs.declared.step.RecoverStep.TheVariants as steps
 use Rattle.sdb_phases.specs.Recover.{recover_next}
 use Rattle.sdb_txn.specs.declared.read.ReadStep.TheVariants as step
 use Rattle.sdb_txn.specs.Read.{Asking, Bad, Ended, Firm, IsAsking, Kind, Open, ReadAt, ReadStage, Resolving, answered, kind_of, read_pending_at, read_result, read_step, resolved, settle, settle_one}
-use Rattle.sdb_sqltext.proofs.Clauses.{one_statement}
-use Rattle.sdb_sqltext.proofs.OneWord.{commit_read, rollback_read, vacuum_read}
+use Rattle.sdb_sqltext.proofs.Public.{commit_read, one_statement, rollback_read, vacuum_read}
 use Rattle.sdb_txn.specs.declared.txn.Doing.TheVariants as doing
 use Rattle.sdb_txn.specs.Txn.{TxnAt}
 use Rattle.sdb_client.specs.declared.next.Next.TheVariants as next
 use Rattle.sdb_client.specs.Client.{CallPost, ClientAt, StagePost, after}
 use Rattle.law_clients.specs.History.{executed_of_take}
 use Rattle.law_answers.specs.Invariant.{IsWaiting}
-use Rattle.law_answers.proofs.Calls.{made_at}
-use Rattle.law_answers.proofs.RolledSteps.{recovery_unread}
-use Rattle.law_answers.proofs.Takings.{none_yet}
+use Rattle.law_answers.proofs.Public.{made_at, none_yet, recovery_unread}
 use Rattle.sdb_client.specs.Execution.{IsExecution, IsPlayable}
 use Rattle.law_runs.specs.Laws.{ReadsAreFew, ReadsOnce}
 use Rattle.law_runs.specs.World.{states_of}

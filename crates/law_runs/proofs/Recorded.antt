@@ -11,11 +11,7 @@ use Rattle.law_protocol.specs.Explained.{events_of, newest_first}
 use Rattle.law_protocol.specs.History.{Action, ProtocolState, state_after_event}
 use Rattle.law_protocol.specs.Lawful.{Labelled, ended, id, protocol_state}
 use Rattle.law_protocol.specs.Trace.{closing, history}
-use Rattle.law_protocol.proofs.Derived.{points_differ, recorded_row}
-use Rattle.law_protocol.proofs.ModelTime.{point_of}
-use Rattle.law_protocol.proofs.Small.{any_key}
-use Rattle.law_protocol.proofs.Times.{whole_of}
-use Rattle.law_protocol.proofs.Whole.{Whole}
+use Rattle.law_protocol.proofs.Public.{any_key, point_of, points_differ, recorded_row, Whole, whole_of}
 use Rattle.law_runs.specs.Points.{HavePoints}
 use Rattle.law_runs.proofs.Runs.{ByLaws}
 

@@ -7,7 +7,7 @@ use Rattle.law_runs.specs.Types.{Access, Decided, Meta, ReadStep, Record, Recove
 use Rattle.sdb_types.specs.declared.record.Reply.TheVariants as reply
 use Rattle.sdb_types.specs.declared.record.Request.TheVariants as ask
 use Rattle.sdb_types.specs.declared.record.State.TheVariants as state
-use Rattle.sdb_types.proofs.Basics.{append_all}
+use Rattle.sdb_types.proofs.Public.{append_all}
 use Rattle.sdb_record.specs.declared.access.Access.TheVariants as access
 use Rattle.sdb_record.specs.declared.coordinator.Decision.TheVariants as decision
 use Rattle.sdb_record.specs.Coordinator.{decision_in, is_expired}

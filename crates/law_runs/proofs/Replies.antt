@@ -1,7 +1,7 @@
 -- The call that a client makes, and what its reply comes to, by what the client does.
 use Rattle.std.proofs.Common.{◌≡◌, ◌⊎◌, inl, inr, ℕ, ℤ, List, Option, Some, None, IfSome, refl, subst}
 use Rattle.std.specs.List.{AllByRecursion}
-use Rattle.sdb_types.proofs.Basics.{none_some}
+use Rattle.sdb_types.proofs.Public.{none_some}
 use Rattle.law_runs.specs.Types.{Access, Answer, Doing, Event, Next, Progress, Reply, Request, Table}
 use Rattle.sdb_model.specs.Calls.{calls_of}
 use Rattle.sdb_model.specs.Transactions.{Executed, id_of}

@@ -10,17 +10,14 @@ use Rattle.sdb_types.specs.Columns.{column}
 use Rattle.sdb_types.specs.Contents.{tx_id}
 use Rattle.sdb_types.specs.Exact.{equal_of}
 use Rattle.sdb_types.specs.Order.{key_cmp}
-use Rattle.sdb_types.proofs.Basics.{append_all as each_append, clash, none_some, some_is}
-use Rattle.sdb_types.proofs.KeyOrder.{key_exact}
+use Rattle.sdb_types.proofs.Public.{append_all as each_append, clash, key_exact, none_some, some_is}
 use Rattle.sdb_record.specs.declared.coordinator.Decision.TheVariants as decision
 use Rattle.sdb_record.specs.Among.{is_written}
 use Rattle.sdb_record.specs.Coordinator.{coordinator_key_of, coordinator_row_of, id_of_key}
 use Rattle.sdb_record.specs.Meta.{id_in, id_in_value}
 use Rattle.sdb_record.specs.Parts.{before_record}
 use Rattle.sdb_record.specs.Rolls.{IsBaseOf, IsWrite, forward_record, prepared_record, undo}
-use Rattle.sdb_record.proofs.IdLemmas.{id_of_text-is}
-use Rattle.sdb_record.proofs.ImageLaws.{key-of-id}
-use Rattle.sdb_record.proofs.TakenLaws.{prepared-key}
+use Rattle.sdb_record.proofs.Public.{id_of_text-is, key-of-id, prepared-key}
 use Rattle.sdb_model.specs.Calls.{is_of_row, is_read, key_asked}
 use Rattle.sdb_phases.specs.declared.step.DecidePhase.TheVariants as decide
 use Rattle.sdb_phases.specs.declared.step.RecoverPhase.TheVariants as phase
@@ -29,10 +26,9 @@ use Rattle.sdb_phases.specs.Commit.{Stage, Preparing, Checking, Deciding, Forwar
 use Rattle.sdb_phases.specs.Recover.{recover_back, recover_forward, recover_request_at, is_as_found}
 use Rattle.sdb_phases.specs.Steps.{decide_request_at}
 use Rattle.sdb_phases.specs.Work.{Work, abort_of, back_of, decide_of, forward_of, look_of, prepare_of, is_as_prepared}
-use Rattle.law_clients.proofs.Lists.{each_at, each_map}
+use Rattle.law_clients.proofs.Public.{each_at, each_map}
 use Rattle.law_clients.specs.About.{AreWritesIn, IsIn, IsRecordIn}
-use Rattle.law_answers.proofs.Conflicts.{mapped_at}
-use Rattle.law_answers.proofs.Rows.{asks_data}
+use Rattle.law_answers.proofs.Public.{asks_data, mapped_at}
 use Rattle.law_runs.specs.Laws.{row_put}
 use Rattle.sdb_model.specs.Tables.{is_data}
 

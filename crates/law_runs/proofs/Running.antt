@@ -9,7 +9,7 @@ use Rattle.std.proofs.lemmas.List.Elements.{filter-append}
 use Rattle.std.proofs.lemmas.List.Sums.{take_while-cons}
 use Rattle.law_runs.specs.Types.{Answer, Event, Key, Record, Span, Statement, Table}
 use Rattle.sdb_types.specs.Order.{key_cmp}
-use Rattle.sdb_types.proofs.Basics.{clash, or_false, map_last}
+use Rattle.sdb_types.proofs.Public.{clash, map_last, or_false}
 use Rattle.sdb_model.specs.Calls.{calls_of}
 use Rattle.sdb_model.specs.ReadSet.{has_finished}
 use Rattle.sdb_model.specs.Sql.{Reads}
@@ -17,10 +17,7 @@ use Rattle.sdb_model.specs.Transactions.{Executed, ends, from_begin, is_effectiv
 use Rattle.sdb_snapshot.specs.Seen.{Seen, is_scanned, nothing}
 use Rattle.law_answers.specs.Counts.{ArePaired}
 use Rattle.law_answers.specs.Invariant.{IsAnswered, begun_in, open_after}
-use Rattle.law_answers.proofs.Calls.{calls_stay}
-use Rattle.law_answers.proofs.CountsNotes.{open_only}
-use Rattle.law_answers.proofs.Lists.{each_kept, filter_same, since_more, since_none}
-use Rattle.law_answers.proofs.Noting.{since_all, take_ends, take_open}
+use Rattle.law_answers.proofs.Public.{calls_stay, each_kept, filter_same, open_only, since_all, since_more, since_none, take_ends, take_open}
 use Rattle.law_runs.specs.Found.{AllRunAs, IsRunOnFound, RunsAs, View, exec_on, finds, found_by, is_answered, meets_misfit, takes_part, nothing_found, run_on_found, run_one, scans_span, was_scanned, with_found}
 use Rattle.law_clients.specs.Keys.{keys_written, with_keys}
 use Rattle.law_runs.specs.Written.{keys_of, written_on_found}

@@ -8,12 +8,11 @@ use Rattle.law_protocol.specs.Faithful.{AreReadSets, IsFaithful}
 use Rattle.law_protocol.specs.Lawful.{IsLawful, Labelled}
 use Rattle.law_protocol.specs.Plan.{Plan}
 use Rattle.law_protocol.specs.Trace.{IsTraced, StartsEmpty, closing}
-use Rattle.law_protocol.proofs.Times.{traced_of}
+use Rattle.law_protocol.proofs.Public.{traced_of}
 use Rattle.law_clients.specs.System.{SystemAt, SystemOk}
 use Rattle.law_clients.specs.History.{AllStories}
-use Rattle.law_clients.proofs.Files.{clients_faithful}
+use Rattle.law_clients.proofs.Public.{clients_faithful, going_is_noted}
 use Rattle.law_clients.specs.Invariant.{RunInvariant}
-use Rattle.law_clients.proofs.InvariantEnds.{going_is_noted}
 
 -- The parts of the events, which with these moments are a run of the laws. The plans' notes are what the statements noted.
 pub record IsLawfulRun (places : List Place) (events : List Event) (opening : List StoreContents) (moments : List (List StoreContents)) : Type 0 where

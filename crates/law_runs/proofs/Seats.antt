@@ -5,7 +5,7 @@ use Rattle.std.proofs.lemmas.Bool.{eqb-false, eqb-true, ne_eqb}
 use Rattle.law_protocol.specs.History.{at}
 use Rattle.sdb_client.specs.declared.slot.ClientSlot.{ClientSlot}
 use Rattle.law_runs.specs.World.{state_in, states_of}
-use Rattle.sdb_types.proofs.Basics.{none_some}
+use Rattle.sdb_types.proofs.Public.{none_some}
 
 -- at the place that is set is what was set
 pub set_here : {A : Type 0} (xs : List A) (i : ℕ) (x y : A) → slice_get xs i ≡ Some x → slice_get (slice_set xs i y) i ≡ Some y

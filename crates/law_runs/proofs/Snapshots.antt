@@ -4,8 +4,7 @@ use Rattle.std.specs.List.{AllByRecursion}
 use Rattle.std.specs.Option.{option_and_then}
 use Rattle.sdb_types.specs.Order.{same_key}
 use Rattle.law_runs.specs.Types.{Access, Change, Image, Key, Keyed, Pair, Read, Record, Scan, Span, Write}
-use Rattle.sdb_types.proofs.Basics.{append_all, by_test, none_some}
-use Rattle.sdb_types.proofs.Keys.{same_key_exact}
+use Rattle.sdb_types.proofs.Public.{append_all, by_test, none_some, same_key_exact}
 use Rattle.sdb_snapshot.specs.Entries.{value_at}
 use Rattle.sdb_record.specs.declared.write.Change.TheVariants as change
 use Rattle.sdb_record.specs.Among.{write_among}
@@ -17,7 +16,7 @@ use Rattle.sdb_snapshot.specs.Reads.{ReadRecord, base_at, is_key_read, read_of, 
 use Rattle.sdb_snapshot.specs.Rows.{row_found}
 use Rattle.sdb_snapshot.specs.Seen.{Seen, nothing, overlay, row_seen, row_with, tables_seen, with_get, with_scan, with_written}
 use Rattle.sdb_snapshot.specs.Written.{with_change_of, with_write, with_writes, write_of}
-use Rattle.sdb_snapshot.proofs.Shown.{get_seen}
+use Rattle.sdb_snapshot.proofs.Public.{get_seen}
 use Rattle.law_runs.proofs.Lists.{filter_all, map_all}
 use Rattle.law_runs.proofs.Clear.{AreClear, ColumnsClear, FoundClear, KeyClear, RecordClear, RecordsClear, WriteClear, image_clear}
 use Rattle.law_runs.proofs.PlainStatements.{ChangesClear, ImageClear, ImagesClear}

@@ -7,8 +7,7 @@ use Rattle.sdb_types.specs.declared.record.State.TheVariants.{Committed}
 use Rattle.sdb_record.specs.Coordinator.{coordinator_key_of, coordinator_row_of, coordinator_table, decision_in, is_coordinator_table}
 use Rattle.sdb_record.specs.Meta.{checked, is_in, is_transactional, is_unresolved}
 use Rattle.sdb_record.specs.Parts.{are_stored}
-use Rattle.sdb_record.proofs.ImageLaws.{prepared-unresolved, row-decision}
-use Rattle.sdb_record.proofs.RollLaws.{forward-accepted}
+use Rattle.sdb_record.proofs.Public.{forward-accepted, prepared-unresolved, row-decision}
 use Rattle.sdb_model.specs.Events.{StoreContents, stored_at}
 use Rattle.sdb_model.specs.Exec.{find_table}
 use Rattle.law_protocol.specs.Explained.{IsRunOf, newest_first}
@@ -17,10 +16,7 @@ use Rattle.law_protocol.specs.Lawful.{Labelled, id}
 use Rattle.law_protocol.specs.Plan.{Plan, written}
 use Rattle.law_protocol.specs.Records.{record_left_by, record_prepared_by, record_for, write_there}
 use Rattle.law_protocol.specs.Trace.{closing, history}
-use Rattle.law_protocol.proofs.Known.{IsPlanned, taken_fits, took_is_taken, writer_taken, writes_it}
-use Rattle.law_protocol.proofs.Moments.{apart_from, at_cut, cut, early_run}
-use Rattle.law_protocol.proofs.Times.{whole_of}
-use Rattle.law_protocol.proofs.Whole.{Whole}
+use Rattle.law_protocol.proofs.Public.{apart_from, at_cut, cut, early_run, IsPlanned, taken_fits, took_is_taken, Whole, whole_of, writer_taken, writes_it}
 use Rattle.law_runs.specs.Points.{AreKnown}
 use Rattle.law_runs.proofs.Others.{only_rows}
 use Rattle.law_runs.proofs.Runs.{ByLaws}

@@ -5,7 +5,7 @@ use Rattle.std.proofs.lemmas.Bool.{ne_eqb}
 use Rattle.std.proofs.lemmas.List.{append-nil}
 use Rattle.std.proofs.lemmas.List.Elements.{Contains-append_cases, Contains-append_left, Contains-push, Contains-push_cases}
 use Rattle.law_runs.specs.Types.{Answer, ClientSlot, Event, How, Reply, Request, Script, Table, TxId}
-use Rattle.sdb_types.proofs.Basics.{length_more, none_some, some_is}
+use Rattle.sdb_types.proofs.Public.{length_more, none_some, some_is}
 use Rattle.sdb_model.specs.declared.event.Event.TheVariants as event
 use Rattle.sdb_model.specs.Calls.{StoreCall, calls_of, clock_at, made_by}
 use Rattle.sdb_model.specs.Causes.{IsCommitOf}
@@ -14,14 +14,9 @@ use Rattle.sdb_model.specs.Transactions.{Executed, statements_by}
 use Rattle.sdb_client.specs.Client.{ClientAt}
 use Rattle.law_clients.specs.States.{ClientState}
 use Rattle.law_clients.specs.History.{executed_with_answer, executed_of_take, waiting_of}
-use Rattle.law_clients.proofs.Answered.{take_said}
-use Rattle.law_clients.proofs.Tellings.{others_silent, said_more}
+use Rattle.law_clients.proofs.Public.{others_silent, said_more, take_said}
 use Rattle.law_answers.specs.Invariant.{IsAnswered, IsWaiting, Knows}
-use Rattle.law_answers.proofs.Calls.{call_said, calls_open, calls_stay, clock_same, end_answered, end_waiting, later_calls, later_more, made_at, own_made, silent_said}
-use Rattle.law_answers.proofs.Knowing.{calls_wait}
-use Rattle.law_answers.proofs.Later.{commit_stays}
-use Rattle.law_answers.proofs.Lists.{each_in}
-use Rattle.law_answers.proofs.Passing.{Grows}
+use Rattle.law_answers.proofs.Public.{call_said, calls_open, calls_stay, calls_wait, clock_same, commit_stays, each_in, end_answered, end_waiting, Grows, later_calls, later_more, made_at, own_made, silent_said}
 use Rattle.sdb_client.specs.Execution.{CallStep, IsExecution, IsPath, IsPlayable, IsStepFrom, State, TakeStep, client_after, client_stopped}
 use Rattle.law_runs.specs.World.{WorldAt, state_in, states_of, state_of, with_event, with_client}
 use Rattle.law_runs.proofs.Kept.{by_nat}

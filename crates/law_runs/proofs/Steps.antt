@@ -13,8 +13,7 @@ use Rattle.sdb_vacuum.specs.Vacuum.{VacuumAt}
 use Rattle.law_clients.specs.Invariant.{RunInvariant}
 use Rattle.law_clients.specs.Fitting.{tables_are_well_typed}
 use Rattle.law_clients.specs.States.{ClientState, IsFitted, IsFittedBy, IsReady, IsUsing, IsUsingTxn, IsWaiting, doing_of, system_of}
-use Rattle.law_clients.proofs.ClientIn.{asks_in, replies_in, takes_in}
-use Rattle.law_clients.proofs.Fitted.{replies_fitted, takes_fitted}
+use Rattle.law_clients.proofs.Public.{asks_in, replies_fitted, replies_in, takes_fitted, takes_in}
 use Rattle.law_answers.specs.Invariant.{AnswersHaveCauses}
 use Rattle.sdb_client.specs.Execution.{IsExecution, IsInitial, IsPath, IsPlayable, IsReachedBy, IsStepFrom, State, client_after, client_stopped, with_client_at}
 use Rattle.law_runs.specs.World.{IsClientState, IsWorld, WorldAt, states_of, state_of, with_event, with_client}

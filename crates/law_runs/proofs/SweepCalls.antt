@@ -6,7 +6,7 @@ use Rattle.std.proofs.lemmas.List.Sums.{fold-append}
 use Rattle.law_runs.specs.Types.{Meta, Record, RecoverPhase, RecoverStep, Reply, Span, Table}
 use Rattle.sdb_types.specs.declared.record.Reply.TheVariants as reply
 use Rattle.sdb_types.specs.declared.record.Request.TheVariants as ask
-use Rattle.sdb_types.proofs.Basics.{none_some, some_is}
+use Rattle.sdb_types.proofs.Public.{none_some, some_is}
 use Rattle.sdb_record.specs.declared.access.Access.TheVariants as access
 use Rattle.sdb_record.specs.Rolls.{is_tombstone}
 use Rattle.sdb_model.specs.Calls.{StoreCall, records_read}
@@ -17,9 +17,7 @@ use Rattle.sdb_phases.specs.Recover.{recover_next}
 use Rattle.sdb_txn.specs.Read.{Bad, Firm, Kind, Open, kind_of}
 use Rattle.sdb_vacuum.specs.Vacuum.{First, Malformed, Nothing, Over, Removing, Resolving, Scanning, Tombstone, Unresolved, VacuumAt, VacuumStage, answered, first_of, first_one, next_of_row, with_call, next_table, pending_at, removal_answered, resolved, step_at, tombstone_or}
 use Rattle.law_answers.specs.Counts.{opens, rest_at}
-use Rattle.law_answers.proofs.Counts.{IsNearer, calls_more, opens_first, opens_more, opens_one, recover_nearer}
-use Rattle.law_answers.proofs.ReadSteps.{IsDataTable}
-use Rattle.law_answers.proofs.Settling.{data_read}
+use Rattle.law_answers.proofs.Public.{calls_more, data_read, IsDataTable, IsNearer, opens_first, opens_more, opens_one, recover_nearer}
 use Rattle.law_runs.specs.Vacuums.{IsVacuumMost, is_committed_tombstone, span_asked, tombstones_found, tombstones_in}
 use Rattle.law_runs.proofs.Sweeping.{firm_dead}
 

@@ -10,7 +10,7 @@ use Rattle.law_runs.specs.Types.{Decided, Meta, Record, RecoverPhase, RecoverSte
 use Rattle.sdb_types.specs.declared.record.Reply.TheVariants as reply
 use Rattle.sdb_types.specs.declared.record.Request.TheVariants as ask
 use Rattle.sdb_types.specs.declared.record.State.TheVariants as state
-use Rattle.sdb_types.proofs.Basics.{and_parts, clash, none_some, some_is}
+use Rattle.sdb_types.proofs.Public.{and_parts, clash, none_some, some_is}
 use Rattle.sdb_record.specs.declared.coordinator.Decision.TheVariants as decision
 use Rattle.sdb_record.specs.Coordinator.{decision_in, is_expired}
 use Rattle.sdb_record.specs.Meta.{checked, id_in, is_committed, is_in, is_transactional}
@@ -23,11 +23,8 @@ use Rattle.sdb_phases.specs.Recover.{recover_next, recover_request_at, roll_to, 
 use Rattle.sdb_txn.specs.Read.{Bad, Firm, Kind, Open, kind_of, opened}
 use Rattle.sdb_vacuum.specs.declared.work.VacuumStep.TheVariants as step
 use Rattle.sdb_vacuum.specs.Vacuum.{First, Malformed, Nothing, Over, Removing, Resolving, Scanning, Tombstone, Unresolved, VacuumAt, VacuumStage, answered, first_of, first_one, next_of_row, with_call, next_table, pending_at, removal_answered, resolved, step_at, tombstone_or}
-use Rattle.sdb_vacuum.proofs.Counts.{open_state}
-use Rattle.sdb_vacuum.proofs.Fine.{firm_is}
-use Rattle.law_answers.proofs.Lists.{each_in}
-use Rattle.law_answers.proofs.ReadSteps.{open_is}
-use Rattle.law_answers.proofs.Rows.{after_last, after_more}
+use Rattle.sdb_vacuum.proofs.Public.{firm_is, open_state}
+use Rattle.law_answers.proofs.Public.{after_last, after_more, each_in, open_is}
 use Rattle.law_answers.specs.Vacuums.{VacuumStageBy}
 use Rattle.law_runs.proofs.Statements.{none_in}
 use Rattle.law_runs.specs.Vacuums.{FindsTombstone, IsDelete, IsDeletedAfter, PutsTombstone, is_committed_tombstone, span_asked, spans_asked, whole_tables}

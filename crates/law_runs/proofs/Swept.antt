@@ -4,7 +4,7 @@ use Rattle.std.proofs.lemmas.List.{length-map}
 use Rattle.std.specs.Prelude.{◌||◌, Contains, is_some}
 use Rattle.std.specs.List.{AllByRecursion, count_by}
 use Rattle.law_runs.specs.Types.{Answer, Event, How, Key, Next, Reply, Request, Script, Span, Statement, Table, VacuumStep}
-use Rattle.sdb_types.proofs.Basics.{clash, none_some}
+use Rattle.sdb_types.proofs.Public.{clash, none_some}
 use Rattle.sdb_model.specs.declared.answer.Answer.TheVariants as answer
 use Rattle.sdb_model.specs.declared.event.Event.TheVariants as event
 use Rattle.sdb_model.specs.declared.statement.Statement.TheVariants as statement
@@ -13,8 +13,7 @@ use Rattle.sdb_model.specs.Causes.{IsCaused, IsCounted, removes}
 use Rattle.sdb_model.specs.Rows.{Name}
 use Rattle.sdb_model.specs.Sql.{reads_vacuum}
 use Rattle.sdb_model.specs.Transactions.{Executed}
-use Rattle.sdb_sqltext.proofs.Clauses.{one_statement}
-use Rattle.sdb_sqltext.proofs.OneWord.{vacuum_read}
+use Rattle.sdb_sqltext.proofs.Public.{one_statement, vacuum_read}
 use Rattle.sdb_vacuum.specs.declared.work.VacuumStep.TheVariants as vacuuming
 use Rattle.sdb_vacuum.specs.Vacuum.{Gives, Scanning, VacuumAt, begun as sweeping, spans_of, vacuum_step, whole}
 use Rattle.sdb_txn.specs.Txn.{TxnAt}
@@ -22,10 +21,8 @@ use Rattle.sdb_client.specs.declared.next.Next.TheVariants as next
 use Rattle.sdb_client.specs.Client.{ClientAt, ParsedPost, Taking, TextPost, VacuumStartPost, after, answer_of, next_id, next_of, vacuum_left, TextStep}
 use Rattle.law_clients.specs.History.{executed_of_take}
 use Rattle.law_clients.specs.About.{IsIn, IsOfTables, IsVacuumStageIn, IsVacuumIn}
-use Rattle.law_answers.proofs.ReadSteps.{IsDataTable}
+use Rattle.law_answers.proofs.Public.{IsDataTable, made_at, none_yet, of_within}
 use Rattle.law_answers.specs.Invariant.{IsAnswered, IsWaiting, Knows}
-use Rattle.law_answers.proofs.Calls.{made_at, of_within}
-use Rattle.law_answers.proofs.Takings.{none_yet}
 use Rattle.sdb_client.specs.Execution.{IsExecution, IsPlayable, State, TakeStep}
 use Rattle.law_runs.specs.Vacuums.{IsVacuumMost, ScansTables, VacuumsAreComplete, spans_asked, whole_tables}
 use Rattle.law_runs.specs.World.{WorldAt, states_of, state_of}

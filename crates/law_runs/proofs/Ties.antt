@@ -9,7 +9,7 @@ use Rattle.law_runs.specs.Types.{Answer, Event, How, Reply, Request}
 use Rattle.sdb_model.specs.Rows.{Name}
 use Rattle.sdb_model.specs.declared.event.Event.TheVariants as event
 use Rattle.sdb_model.specs.Follows.{has_stopped, is_pending, pends_after, stops, takes_of, is_take_of}
-use Rattle.sdb_types.proofs.Basics.{or_false}
+use Rattle.sdb_types.proofs.Public.{or_false}
 
 abbrev one_if : Bool → ℕ
 one_if b = if b then 1 else 0

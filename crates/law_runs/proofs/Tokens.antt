@@ -7,8 +7,7 @@ use Rattle.hex.specs.Hex.{decode_of}
 use Rattle.law_runs.specs.Types.{FromHexError, Insert, Keyword, Pair, Placed, Sign, Statement, Test, Token, Value}
 use Rattle.sdb_types.specs.Identifier.{is_start}
 use Rattle.sdb_types.specs.declared.value.Value.TheVariants as value
-use Rattle.sdb_types.proofs.Basics.{append_all}
-use Rattle.sdb_types.proofs.Bools.{and_first, and_second}
+use Rattle.sdb_types.proofs.Public.{and_first, and_second, append_all}
 use Rattle.sdb_model.specs.declared.statement.Statement.TheVariants as statement
 use Rattle.sdb_model.specs.declared.statement.Test.TheVariants.{Compare, IsNull, NotNull}
 use Rattle.sdb_model.specs.declared.token.Keyword.TheVariants as word
@@ -18,7 +17,7 @@ use Rattle.sdb_model.specs.Plain.{is_no_lf, is_one_line}
 use Rattle.sdb_model.specs.Sql.{Reads, Spells, Tokens, columns_tokens, insert_tokens, limit_tokens, literal_token, literal_tokens, names_tokens, separated, set_tokens, statement_tokens, table_tokens, test_tokens, tokens_of, where_tokens}
 use Rattle.sdb_model.specs.SqlTokens.{Bad, Lexed, Lexeme, Wide, begins, begins_blob, behind, blob_in, blob_token, closes, digits_len, enclosed, first_token, is_digit, is_gap, is_single_quote, keyword_of, letter_at, lexed, minus, name_token, negative_at, number_at, number_of, onto_text, or_word, quote_place, quoted_name_at, sign_of, sign_token, text_at, text_token, token_at, tokens_from, word_at, word_len, word_or_name}
 use Rattle.sdb_report.specs.OneLine.{ValueHasNoLf}
-use Rattle.sdb_report.proofs.LineLaws.{lines_joined}
+use Rattle.sdb_report.proofs.Public.{lines_joined}
 use Rattle.law_runs.proofs.Clear.{AreClear}
 use Rattle.law_runs.proofs.PlainStatements.{StatementClear, TestClear, TestsClear}
 

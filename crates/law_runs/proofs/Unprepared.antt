@@ -8,7 +8,7 @@ use Rattle.sdb_types.specs.declared.record.Condition.TheVariants as condition
 use Rattle.sdb_types.specs.declared.record.Request.TheVariants as ask
 use Rattle.sdb_types.specs.declared.record.State.TheVariants as state
 use Rattle.sdb_types.specs.Contents.{is_version}
-use Rattle.sdb_types.proofs.Basics.{append_all as each_append, clash, none_some, some_is}
+use Rattle.sdb_types.proofs.Public.{append_all as each_append, clash, none_some, some_is}
 use Rattle.sdb_record.specs.declared.access.Access.TheVariants as access
 use Rattle.sdb_record.specs.declared.coordinator.Decision.TheVariants as decision
 use Rattle.sdb_record.specs.Among.{is_written}
@@ -17,11 +17,8 @@ use Rattle.sdb_record.specs.Meta.{id_in, is_moment, is_unresolved, moment_in, mo
 use Rattle.sdb_record.specs.Names.{tx_prepared_at}
 use Rattle.sdb_record.specs.Parts.{before_record}
 use Rattle.sdb_record.specs.Rolls.{IsBaseOf, IsWrite, base_columns, forward_record, new_columns, next_version, prepared_record, state_of_change}
-use Rattle.sdb_record.proofs.ImageLaws.{prepared-version, version-writer}
-use Rattle.sdb_record.proofs.RollLaws.{forward-committed}
-use Rattle.sdb_record.proofs.TakenLaws.{prepared-columns, time-fits}
-use Rattle.sdb_record.proofs.WriteLaws.{marked-time, with_base}
-use Rattle.sdb_txn.proofs.Images.{before_firm}
+use Rattle.sdb_record.proofs.Public.{forward-committed, marked-time, prepared-columns, prepared-version, time-fits, version-writer, with_base}
+use Rattle.sdb_txn.proofs.Public.{before_firm}
 use Rattle.sdb_model.specs.Calls.{put_by, StoreCall}
 use Rattle.sdb_model.specs.Transactions.{prepares}
 use Rattle.sdb_phases.specs.declared.step.DecidePhase.TheVariants as decide
@@ -34,10 +31,9 @@ use Rattle.sdb_phases.specs.Work.{Work, abort_of, back_of, decide_of, forward_of
 use Rattle.sdb_txn.specs.Read.{Asking, Ended, ReadStage, Resolving, read_pending_at, request_of}
 use Rattle.sdb_vacuum.specs.Vacuum as vacuum
 use Rattle.sdb_vacuum.specs.Vacuum.{VacuumStage, pending_at}
-use Rattle.law_protocol.proofs.Points.{firm_no}
-use Rattle.law_clients.proofs.Lists.{each_at, each_map}
-use Rattle.law_answers.proofs.Conflicts.{mapped_at, undo_unprepared}
-use Rattle.law_answers.proofs.ReadSteps.{open_is}
+use Rattle.law_protocol.proofs.Public.{firm_no}
+use Rattle.law_clients.proofs.Public.{each_at, each_map}
+use Rattle.law_answers.proofs.Public.{mapped_at, open_is, undo_unprepared}
 use Rattle.law_answers.specs.Reads.{ReadsBy}
 use Rattle.law_answers.specs.Vacuums.{VacuumStageBy}
 

@@ -7,13 +7,11 @@ use Rattle.std.specs.Option.{option_map}
 use Rattle.std.proofs.lemmas.List.{append-nil}
 use Rattle.std.proofs.lemmas.List.Folds.{list_any-append}
 use Rattle.law_runs.specs.Types.{Access, Key, Pair, Record, Reply, Table}
-use Rattle.sdb_exec.proofs.Laid.{sieved_at}
+use Rattle.sdb_exec.proofs.Public.{sieved_at}
 use Rattle.sdb_types.specs.declared.record.Reply.TheVariants as reply
 use Rattle.sdb_types.specs.Contents.{CanAnswer, record_among}
 use Rattle.sdb_types.specs.Order.{same_key}
-use Rattle.sdb_types.proofs.Basics.{or_else, or_false}
-use Rattle.sdb_types.proofs.KeyOrder.{key_exact, key_total}
-use Rattle.sdb_types.proofs.Keys.{same_key_exact, same_key_is}
+use Rattle.sdb_types.proofs.Public.{key_exact, key_total, or_else, or_false, same_key_exact, same_key_is}
 use Rattle.sdb_snapshot.specs.Entries.{value_at}
 use Rattle.sdb_record.specs.declared.access.Access.TheVariants as access
 use Rattle.sdb_record.specs.Among.{write_among}
@@ -26,19 +24,15 @@ use Rattle.sdb_snapshot.specs.Sets.{WereRead}
 use Rattle.sdb_snapshot.specs.Reads.{is_key_read}
 use Rattle.sdb_snapshot.specs.Rows.{row_found}
 use Rattle.sdb_snapshot.specs.Seen.{Seen, row_seen, row_with, tables_seen}
-use Rattle.sdb_snapshot.proofs.Shown.{get_seen}
+use Rattle.sdb_snapshot.proofs.Public.{get_seen}
 use Rattle.sdb_txn.specs.Txn.{TxnAt}
 use Rattle.sdb_client.specs.Client.{with_rows_read}
 use Rattle.law_clients.specs.Fitting.{row_is_well_typed}
-use Rattle.law_clients.proofs.InTables.{access_table}
+use Rattle.law_clients.proofs.Public.{access_table}
 use Rattle.law_answers.specs.Changes.{HasRead, IsRows, IsSettledAs}
-use Rattle.law_answers.proofs.ReadSteps.{IsDataTable}
-use Rattle.law_answers.proofs.Settling.{data_read, settled_means}
-use Rattle.law_answers.proofs.Unfit.{at_note, found_new, noted_now, same_writes}
+use Rattle.law_answers.proofs.Public.{at_note, data_read, found_new, get_fitting, IsDataTable, noted_now, same_writes, settled_means, unwritten}
 use Rattle.law_answers.specs.Unfit.{fits_catalog, fitting_part}
-use Rattle.law_answers.proofs.Fitting.{get_fitting}
 use Rattle.law_runs.specs.Found.{View, found_by, found_in, has_found, is_misfit_row, with_found, with_one_found}
-use Rattle.law_answers.proofs.ShowsRead.{unwritten}
 
 ---- a view with what was found
 

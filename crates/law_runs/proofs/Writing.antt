@@ -4,10 +4,10 @@ use Rattle.law_runs.specs.Types.{Event, Key, Statement, Table, Write}
 use Rattle.sdb_model.specs.Calls.{calls_of}
 use Rattle.sdb_model.specs.Transactions.{Executed}
 use Rattle.law_clients.specs.Keys.{with_keys}
-use Rattle.sdb_sqltext.proofs.Clauses.{one_statement}
+use Rattle.sdb_sqltext.proofs.Public.{one_statement}
 use Rattle.law_runs.specs.Found.{AllRunAs, RunsAs, View, finds, found_by, run_on_found, run_one, with_found}
 use Rattle.law_runs.specs.Written.{keys_by, written_on_found}
-use Rattle.sdb_types.proofs.Basics.{clash}
+use Rattle.sdb_types.proofs.Public.{clash}
 
 -- the keys of writes
 abbrev pub write_keys : List Write → List Key

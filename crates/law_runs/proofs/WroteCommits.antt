@@ -7,10 +7,7 @@ use Rattle.sdb_model.specs.Sql.{reads_commit}
 use Rattle.sdb_model.specs.Transactions.{Executed, ends, from_begin, id_of, rest_of}
 use Rattle.law_answers.specs.Counts.{ArePaired}
 use Rattle.law_answers.specs.Invariant.{IsAnswered, begun_in, open_after}
-use Rattle.law_answers.proofs.Calls.{calls_stay}
-use Rattle.law_answers.proofs.CountsNotes.{last_or, open_only}
-use Rattle.law_answers.proofs.Lists.{each_kept, since_more, since_none}
-use Rattle.law_answers.proofs.Noting.{each_left, each_middle, since_all}
+use Rattle.law_answers.proofs.Public.{calls_stay, each_kept, each_left, each_middle, last_or, open_only, since_all, since_more, since_none}
 use Rattle.law_runs.specs.Found.{AllRunAs, is_answered, nothing_found, takes_part}
 use Rattle.law_runs.specs.Written.{PreparesAll, keys_of, written_on_found}
 use Rattle.law_runs.proofs.Running.{each_taken, finds_stay, goes_on, running, running_of, running_stays}

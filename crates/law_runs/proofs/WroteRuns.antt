@@ -6,11 +6,11 @@ use Rattle.std.specs.Option.{option_and_then}
 use Rattle.std.proofs.lemmas.List.{append-nil}
 use Rattle.std.proofs.lemmas.List.Elements.{All-contains_itself, recursion_from_All}
 use Rattle.law_runs.specs.Types.{Doing, Event, Script, Table, TxId}
-use Rattle.sdb_types.proofs.Basics.{clash, none_some, some_is}
+use Rattle.sdb_types.proofs.Public.{clash, none_some, some_is}
 use Rattle.sdb_model.specs.Calls.{calls_of}
 use Rattle.sdb_model.specs.Sql.{reads_commit}
 use Rattle.sdb_model.specs.Transactions.{Executed, client_of, commit_of, ends, from_begin, id_of, ordinal_of, rest_of, statements_by}
-use Rattle.sdb_model.proofs.Basics.{id_again}
+use Rattle.sdb_model.proofs.Public.{id_again}
 use Rattle.sdb_exec.specs.Plans.{Planned}
 use Rattle.sdb_txn.specs.declared.txn.Doing.TheVariants as doing
 use Rattle.sdb_txn.specs.Txn.{TxnAt}
@@ -19,7 +19,7 @@ use Rattle.sdb_client.specs.Client.{ClientAt}
 use Rattle.law_clients.specs.History.{waiting_of}
 use Rattle.law_answers.specs.Invariant.{IsDoing, IsOpenAs, IsWaiting, Knows, DoingByHistory, ClientByHistory, begun_in}
 use Rattle.law_answers.specs.Rolled.{AnsweredWereSeen}
-use Rattle.law_answers.proofs.Noting.{each_middle, since_all, take_ends, take_open}
+use Rattle.law_answers.proofs.Public.{each_middle, since_all, take_ends, take_open}
 use Rattle.sdb_client.specs.Execution.{IsExecution, IsPlayable}
 use Rattle.law_runs.specs.Found.{answered_inside, is_answered, takes_part}
 use Rattle.law_runs.specs.Written.{CommitsPrepareWritten, DecisionsFollowPoints, PreparesAll, PreparesAreAsMany, keys_of}

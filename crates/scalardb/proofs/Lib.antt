@@ -1,1 +1,1 @@
-pub mod Own
+mod Own

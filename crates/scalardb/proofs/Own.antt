@@ -9,7 +9,7 @@ use Rattle.sdb_app.specs.declared.status.Status.TheVariants as status
 use Rattle.sdb_app.specs.Ends.{Ends, Stream}
 use Rattle.sdb_app.specs.Promise.{HasEnded}
 use Rattle.sdb_app.specs.Promise.HasEnded.{NoCommand}
-use Rattle.sdb_app.proofs.Promising.{ended_before}
+use Rattle.sdb_app.proofs.Public.{ended_before}
 use Rattle.scalardb.specs.Stores.{HasEndedOn, HasEndedOver, Outside, attached_over, new_store, own_attached, own_stores}
 
 passed : {T E : Type 0} (P : Type 0) (r : Result T E) → is_ok r ≡ true → OnOk r P → P

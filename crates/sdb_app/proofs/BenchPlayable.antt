@@ -5,7 +5,7 @@ use Rattle.std.proofs.lemmas.Option.{unwrap_or-slice_get}
 use Rattle.std.proofs.lemmas.List.Elements.{Contains-get_or}
 use Rattle.std.proofs.lemmas.List.{length-map}
 use Rattle.std.specs.Str.{bytes_eq}
-use Rattle.sdb_types.proofs.Basics.{all_each, clash}
+use Rattle.sdb_types.proofs.Public.{all_each, clash}
 use Rattle.sdb_model.specs.declared.script.Act.TheVariants as act
 use Rattle.sdb_app.specs.Types.{Move, Outcome, Place}
 use Rattle.sdb_model.specs.declared.script.Move.TheVariants as move
@@ -18,7 +18,7 @@ use Rattle.sdb_model.specs.Serial.{IsRun}
 use Rattle.sdb_bench.specs.Counts.{bench_text_of, uneven_of}
 use Rattle.sdb_app.specs.Bench.{IsBenchedOn, bench_over, name_at}
 use Rattle.sdb_app.specs.Run.{CanBePlaced, IsReportable}
-use Rattle.sdb_bench.proofs.Playable.{bench_apart, bench_catalog_is, bench_moves_are, bench_nine, bench_short}
+use Rattle.sdb_bench.proofs.Public.{bench_apart, bench_catalog_is, bench_moves_are, bench_nine, bench_short}
 
 -- The script of a bench is playable.
 pub playable : (n : ℕ) (first last : List ℕ) → IsPlayable (bench_script_of n first last)

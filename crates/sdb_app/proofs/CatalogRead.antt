@@ -15,20 +15,18 @@ use Rattle.serde_json.specs.Data.{Data, null, boolean, number, string, array, ob
 use Rattle.serde_json.specs.Find.{as_object, get}
 use Rattle.serde_json.specs.Read.{max_depth, number_of, of_items, of_json, of_members}
 use Rattle.sdb_types.specs.Identifier.{is_name}
-use Rattle.sdb_types.proofs.Bools.{and_both}
+use Rattle.sdb_types.proofs.Public.{and_both, by_test, some_is}
 use Rattle.sdb_record.specs.Parts.{is_column_name}
 use Rattle.sdb_schema.specs.Table as table
 use Rattle.sdb_schema.specs.Catalog.{is_catalog, rises, is_above_name}
-use Rattle.sdb_schema.proofs.TableLaws.{made}
+use Rattle.sdb_schema.proofs.Public.{made}
 use Rattle.sdb_loader.specs.declared.fault.SchemaFault.TheVariants as fault
 use Rattle.sdb_loader.specs.Fields.{columns, columns_among, columns_in, kind_given}
 use Rattle.sdb_loader.specs.Words.{table_named}
 use Rattle.sdb_loader.specs.Described.{bad_field, bad_name, bad_table, catalog_in, described, described_members, described_tables, first_given, json_of, named, refusal_in, refuse, table_of, unknown_type, untransactional, within_limit}
-use Rattle.sdb_loader.proofs.Names.{good_first, in_order_of, named_is}
-use Rattle.sdb_record.proofs.NameLemmas.{name_of_column}
-use Rattle.sdb_loader.proofs.Values.{are_short-columns_in}
-use Rattle.sdb_script.proofs.Pieces.{bind_is, map_is, no_some}
-use Rattle.sdb_types.proofs.Basics.{by_test, some_is}
+use Rattle.sdb_loader.proofs.Public.{are_short-columns_in, good_first, in_order_of, named_is}
+use Rattle.sdb_record.proofs.Public.{name_of_column}
+use Rattle.sdb_script.proofs.Public.{bind_is, map_is, no_some}
 
 ---- members that are read are in the order of their names, each once
 

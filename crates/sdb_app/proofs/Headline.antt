@@ -17,21 +17,16 @@ use Rattle.law_protocol.specs.Spread.{HoldAs}
 use Rattle.sdb_contents.specs.Board.{AreUsable, GoOn, HoldTheSame, known_before, contents_of_views}
 use Rattle.sdb_contents.specs.Opening.{HoldNothing, IsFirstKey, first_key, opening_in, opening_records, run_tables}
 use Rattle.sdb_contents.specs.declared.refused.CallRefused.TheVariants as refused
-use Rattle.sdb_contents.proofs.Empty.{no_record}
-use Rattle.sdb_contents.proofs.GoesOn.{refused_after}
+use Rattle.sdb_contents.proofs.Public.{no_record, refused_after}
 use Rattle.law_answers.specs.Invariant.{AnswersHaveCauses}
-use Rattle.law_answers.proofs.Faults.{answered_seen}
-use Rattle.law_answers.proofs.Rolled.{all_resolved}
+use Rattle.law_answers.proofs.Public.{all_resolved, answered_seen, answers_own}
 use Rattle.law_answers.specs.Views.{WasRead}
-use Rattle.law_answers.proofs.ShowsWhole.{answers_own}
 use Rattle.law_runs.specs.DirtyReads.{ReadBy}
-use Rattle.law_runs.proofs.Finding.{answers_as, answers_committed}
+use Rattle.law_runs.proofs.Public.{answers_as, answers_committed, execution_caused, no_coordinator, run_plain}
 use Rattle.sdb_world.specs.Broken.{BreaksWithin}
 use Rattle.sdb_client.specs.Execution.{IsExecution, IsPlayable}
-use Rattle.law_runs.proofs.Steps.{execution_caused}
-use Rattle.law_runs.proofs.Beginnings.{no_coordinator}
 use Rattle.sdb_world.specs.Explained.{IsExplained, HasNoDirtyReads}
-use Rattle.sdb_world.proofs.Broken.{breaks_after}
+use Rattle.sdb_world.proofs.Public.{breaks_after}
 use Rattle.sdb_app.specs.declared.status.Status.{Status}
 use Rattle.sdb_app.specs.declared.status.Status.TheVariants as status
 use Rattle.sdb_app.specs.Bench.{IsBenched, StopsBench, bench_over}
@@ -42,7 +37,6 @@ use Rattle.sdb_app.proofs.Placing.{fit_for}
 use Rattle.sdb_app.proofs.WhereKnown.{first_as, known_from, nothing_as, odd_as, read_as, shows_less, shows_placed}
 use Rattle.sdb_world.specs.Ran.{IsReadWhereKnown}
 use Rattle.law_runs.specs.Facts.{outcome_fits}
-use Rattle.law_runs.proofs.PlainRuns.{run_plain}
 
 ---- why it stopped
 

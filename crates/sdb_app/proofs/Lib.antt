@@ -1,13 +1,14 @@
-pub mod CatalogRead
-pub mod Placing
-pub mod Playable
-pub mod BenchPlayable
-pub mod Headline
-pub mod Playing
-pub mod Schemas
-pub mod Sessions
-pub mod Loads
-pub mod Retiring
-pub mod Keeping
-pub mod Promising
-pub mod WhereKnown
+mod CatalogRead
+mod Placing
+mod Playable
+mod BenchPlayable
+mod Headline
+mod Playing
+mod Schemas
+mod Sessions
+mod Loads
+mod Retiring
+mod Keeping
+mod Promising
+mod WhereKnown
+pub mod Public

@@ -9,14 +9,13 @@ use Rattle.std.proofs.lemmas.Option.{slice_get_within, get_or_from_slice_get}
 use Rattle.std.proofs.lemmas.Slice.Eq.{bytes_eq-Decides}
 use Rattle.sdb_app.specs.Types.{Place, Table, TableName}
 use Rattle.sdb_stores.specs.Views.{Attached, StoreView as Counted, AreDistinct, home, names_of, place_of, route_of}
-use Rattle.sdb_stores.proofs.Distinct.{apart}
+use Rattle.sdb_stores.proofs.Public.{apart}
 use Rattle.sdb_model.specs.Rows.{Name}
 use Rattle.sdb_model.specs.Events.{store_of}
 use Rattle.sdb_contents.specs.Board.{AreUsable, contents_of_views}
-use Rattle.sdb_contents.proofs.Shelves.{named_home}
+use Rattle.sdb_contents.proofs.Public.{named_home, take_suc}
 use Rattle.sdb_app.specs.Run.{CanBePlaced}
-use Rattle.sdb_types.proofs.Basics.{by_test, none_some, some_is}
-use Rattle.sdb_contents.proofs.Lists.{take_suc}
+use Rattle.sdb_types.proofs.Public.{by_test, none_some, some_is}
 use Rattle.sdb_model.specs.Tables.{is_table_of_run}
 
 ---- the stores of places

@@ -8,11 +8,10 @@ use Rattle.std.proofs.lemmas.List.Folds.{list_all-append}
 use Rattle.sdb_app.specs.Types.{Act, Move, Script, ScriptClient, Table, TableName}
 use Rattle.sdb_types.specs.Exact.{equal_of}
 use Rattle.sdb_types.specs.Order.{table_cmp}
-use Rattle.sdb_types.proofs.Bools.{and_first, and_second}
-use Rattle.sdb_types.proofs.KeyOrder.{table_exact}
+use Rattle.sdb_types.proofs.Public.{and_first, and_second, by_test, nat_at_most as at_most, some_is, table_exact}
 use Rattle.sdb_record.specs.Coordinator.{coordinator_table, is_coordinator_table}
 use Rattle.sdb_record.specs.Names.{same_name}
-use Rattle.sdb_record.proofs.NameLemmas.{same_name-true}
+use Rattle.sdb_record.proofs.Public.{same_name-true}
 use Rattle.sdb_schema.specs.Catalog.{is_catalog}
 use Rattle.sdb_loader.specs.Words.{names_table}
 use Rattle.sdb_model.specs.declared.script.Act.TheVariants as act
@@ -25,12 +24,10 @@ use Rattle.sdb_script.specs.Lines.{client_lines, is_act, is_client, is_line, is_
 use Rattle.sdb_script.specs.Begun.{IsSchema}
 use Rattle.sdb_script.specs.Whole.{IsScript}
 use Rattle.sdb_app.specs.Run.{CanBePlaced}
-use Rattle.sdb_script.proofs.OneLine.{json_may, may_name}
-use Rattle.sdb_script.proofs.Pieces.{no_some}
+use Rattle.sdb_script.proofs.Public.{json_may, may_name, no_some}
 use Rattle.sdb_client.specs.Execution.{IsPlayable}
 use Rattle.sdb_world.specs.Step.{CanAct, CanFollow, CanMove}
 use Rattle.sdb_app.proofs.CatalogRead.{catalog_read}
-use Rattle.sdb_types.proofs.Basics.{by_test, some_is, nat_at_most as at_most}
 
 ---- its catalog
 

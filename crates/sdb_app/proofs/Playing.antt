@@ -19,7 +19,7 @@ use Rattle.sdb_world.specs.Ran.{HasNotRun, HasRun, HasRunOn, IsOutcomeOf, IsRunE
 use Rattle.sdb_contents.specs.Held.{IsOddIn}
 use Rattle.sdb_app.proofs.WhereKnown.{ShowsAs, odd_as, read_as, shows_less}
 use Rattle.sdb_world.specs.Step.{HasFollowed}
-use Rattle.sdb_world.proofs.Broken.{breaks_more, breaks_still}
+use Rattle.sdb_world.proofs.Public.{breaks_more, breaks_still}
 use Rattle.sdb_app.specs.Run.{AreReady, Stops, status_of_call, status_of_closing}
 use Rattle.sdb_stores.specs.Views.{HaveRisen}
 

@@ -10,7 +10,7 @@ use Rattle.sdb_contents.specs.Dropped.{HoldsStill, IsRetired, OpensTheSame}
 use Rattle.sdb_contents.specs.Read.{AreOpened, IsBadRow}
 use Rattle.sdb_contents.specs.Retired.{AreKnown, AreAllMoved, IsBarred, IsBlockedCopy, IsLeft, IsSurvey, IsUnmoved, IsUnmovedKnown, OthersArePreserved, Sides, writes_of}
 use Rattle.sdb_contents.specs.Writes.{GoOn, IsScanned, Write}
-use Rattle.sdb_contents.proofs.Making.{all_less}
+use Rattle.sdb_contents.proofs.Public.{all_less}
 use Rattle.sdb_app.specs.declared.status.Status.{Status}
 use Rattle.sdb_app.specs.Ends.{Stream, Work, work_on}
 use Rattle.sdb_app.specs.Retire.{IsStoreRetired, IsUnretired, StopsRetire, moved_text}

@@ -9,7 +9,7 @@ use Rattle.sdb_model.specs.Images.{decision_at}
 use Rattle.sdb_model.specs.Transactions.{Recorded}
 use Rattle.sdb_contents.specs.Board.{AreUsableFor, KnownAreUnchanged, contents_of_views}
 use Rattle.sdb_contents.specs.Opening.{HoldNothing, IsFirstKey, first_key, records_in, records_of}
-use Rattle.sdb_contents.proofs.GoesOn.{fit_for_as}
+use Rattle.sdb_contents.proofs.Public.{fit_for_as}
 use Rattle.sdb_contents.specs.Decided.{is_decided}
 use Rattle.sdb_contents.specs.Dumped.{dump_by}
 use Rattle.sdb_contents.specs.Held.{AreDecisions, IsOddIn}

@@ -4,13 +4,13 @@ use Rattle.std.specs.Prelude.{◌==◌, take_while}
 use Rattle.std.specs.List.{AllByRecursion, prefix_len}
 use Rattle.std.proofs.lemmas.Bool.Decides.{nat_tests}
 use Rattle.sdb_bench.specs.Types.{Event, ScriptClient, Statement, TxId}
-use Rattle.sdb_types.proofs.Basics.{all_each, by_test, clash, eq_of}
+use Rattle.sdb_types.proofs.Public.{all_each, by_test, clash, eq_of}
 use Rattle.sdb_model.specs.declared.statement.Statement.TheVariants as statement
 use Rattle.sdb_model.specs.Follows.{takes_of, texts_of}
 use Rattle.sdb_model.specs.Sql.{Reads, statement_text_of}
 use Rattle.sdb_model.specs.Serial.{AreRead}
 use Rattle.sdb_model.specs.Transactions.{Executed, begins, body, client_of, ends, from_begin, id_of, is_done, is_effective, ordinal_of, rest_of, statements_by, statements_since}
-use Rattle.sdb_model.proofs.Basics.{id_again}
+use Rattle.sdb_model.proofs.Public.{id_again}
 use Rattle.sdb_bench.specs.Script.{bench_clients}
 use Rattle.sdb_bench.proofs.Taken.{AreTaken, taken_texts}
 use Rattle.sdb_bench.proofs.ReadAs.{IsInsert, IsLater, IsText, IsUpdate, all_kept, insert_kind, later_begins, later_statements, later_texts, setup_kind, setup_texts, update_kind, update_texts}

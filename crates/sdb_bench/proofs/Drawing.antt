@@ -4,7 +4,7 @@ use Rattle.std.specs.Prelude.{decimal}
 use Rattle.std.proofs.lemmas.Fmt.{decimal_digit}
 use Rattle.std.proofs.lemmas.Bool.Decides.{nat_tests}
 use Rattle.sdb_types.specs.Identifier.{is_name}
-use Rattle.sdb_types.proofs.Basics.{map_last}
+use Rattle.sdb_types.proofs.Public.{map_last}
 use Rattle.sdb_bench.specs.declared.texts.Turn.{Turn}
 use Rattle.sdb_bench.specs.Draws.{numbers_below, state_after}
 use Rattle.sdb_bench.specs.Script.{turn_after, turn_of, writer_name}

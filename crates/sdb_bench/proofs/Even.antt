@@ -9,10 +9,7 @@ use Rattle.sdb_types.specs.declared.value.Value.TheVariants as value
 use Rattle.sdb_types.specs.Columns.{column, is_null, put_pair, take_out}
 use Rattle.sdb_types.specs.Fits.{fits_int}
 use Rattle.sdb_types.specs.Order.{key_cmp}
-use Rattle.sdb_types.proofs.Basics.{all_each, cond_by}
-use Rattle.sdb_types.proofs.ColumnLemmas.{by_order}
-use Rattle.sdb_types.proofs.ColumnMap.{column-put_same}
-use Rattle.sdb_types.proofs.KeyOrder.{key_exact, key_total}
+use Rattle.sdb_types.proofs.Public.{all_each, by_order, column-put_same, cond_by, key_exact, key_total}
 use Rattle.sdb_model.specs.declared.statement.Statement.TheVariants as statement
 use Rattle.sdb_model.specs.declared.statement.Comparison.TheVariants.{Eq}
 use Rattle.sdb_model.specs.declared.statement.Test.TheVariants.{Compare}

@@ -12,8 +12,7 @@ use Rattle.sdb_types.specs.Columns.{column}
 use Rattle.sdb_types.specs.Exact.{equal_of}
 use Rattle.sdb_types.specs.Order.{table_cmp, value_cmp}
 use Rattle.sdb_types.specs.ValueLaws.{value_exact, value_total}
-use Rattle.sdb_types.proofs.Basics.{all_each, append_all, by_test}
-use Rattle.sdb_types.proofs.KeyOrder.{table_exact}
+use Rattle.sdb_types.proofs.Public.{all_each, append_all, by_test, table_exact}
 use Rattle.sdb_schema.specs.Order.{row_key_cmp}
 use Rattle.sdb_model.specs.Exec.{Tables, all_rows, is_row_of, placed, row_of_entry, projected, sorted}
 use Rattle.sdb_model.specs.Serial.{dump_of, dumps_of}

@@ -6,5 +6,6 @@ mod Evenness
 mod ReadAs
 mod Bodied
 mod Serial
-pub mod Playable
-pub mod Lines
+mod Playable
+mod Lines
+pub mod Public

@@ -1,12 +1,12 @@
 -- No statement of a bench has an LF.
 use Rattle.std.proofs.Common.{◌≡◌, ℕ, ◌<◌, true, List, ◌++◌, codes, Some, refl, sym, subst, arith}
 use Rattle.std.specs.Prelude.{decimal, slice_get, ◌==◌}
-use Rattle.sdb_types.proofs.Basics.{by_test, eq_of}
+use Rattle.sdb_types.proofs.Public.{by_test, eq_of}
 use Rattle.sdb_model.specs.declared.statement.Statement.{Statement}
 use Rattle.sdb_model.specs.Follows.{texts_of}
 use Rattle.sdb_model.specs.Plain.{HasLines, is_one_line}
 use Rattle.sdb_model.specs.Sql.{statement_text_of}
-use Rattle.sdb_report.proofs.LineLaws.{decimal_one, lines_joined}
+use Rattle.sdb_report.proofs.Public.{decimal_one, lines_joined}
 use Rattle.sdb_bench.specs.declared.side.Side.{Side}
 use Rattle.sdb_bench.specs.declared.side.Side.TheVariants.{Left, Right}
 use Rattle.sdb_bench.specs.Setup.{insert_of, namespace_of, update_of}

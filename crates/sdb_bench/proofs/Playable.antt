@@ -8,8 +8,7 @@ use Rattle.std.proofs.lemmas.List.{length-append}
 use Rattle.sdb_bench.specs.Types.{Statement, TableName}
 use Rattle.sdb_types.specs.Exact.{equal_of}
 use Rattle.sdb_types.specs.Order.{table_cmp}
-use Rattle.sdb_types.proofs.Basics.{append_all, by_test, clash, eq_of, none_some, some_is}
-use Rattle.sdb_types.proofs.KeyOrder.{table_exact}
+use Rattle.sdb_types.proofs.Public.{append_all, by_test, clash, eq_of, none_some, some_is, table_exact}
 use Rattle.sdb_record.specs.Names.{base_name, is_meta}
 use Rattle.sdb_record.specs.Coordinator.{is_coordinator_table}
 use Rattle.sdb_schema.specs.Catalog.{is_catalog}

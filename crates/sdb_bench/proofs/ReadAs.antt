@@ -4,15 +4,13 @@ use Rattle.std.specs.Prelude.{FitsSigned, slice_get, ◌/◌}
 use Rattle.std.specs.Option.{option_map_or}
 use Rattle.std.specs.List.{AllByRecursion}
 use Rattle.std.specs.Int.{w64}
-use Rattle.sdb_types.proofs.Basics.{all_each, append_all, by_test}
+use Rattle.sdb_types.proofs.Public.{all_each, append_all, by_test}
 use Rattle.sdb_bench.specs.Types.{ScriptClient, Statement}
 use Rattle.sdb_model.specs.declared.statement.Statement.TheVariants as statement
 use Rattle.sdb_model.specs.declared.token.Token.TheVariants.{Name}
 use Rattle.sdb_model.specs.Follows.{texts_of}
 use Rattle.sdb_model.specs.Sql.{CanSpell, Reads, reads_begin, statement_text_of}
-use Rattle.sdb_sqltext.proofs.AllPrinted.{statement_read}
-use Rattle.sdb_sqltext.proofs.Clauses.{one_statement}
-use Rattle.sdb_sqltext.proofs.OneWord.{begin_read}
+use Rattle.sdb_sqltext.proofs.Public.{begin_read, one_statement, statement_read}
 use Rattle.sdb_bench.specs.declared.side.Side.{Side}
 use Rattle.sdb_bench.specs.declared.side.Side.TheVariants.{Left, Right}
 use Rattle.sdb_bench.specs.declared.texts.Turn.{Turn}

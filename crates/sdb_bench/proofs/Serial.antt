@@ -6,7 +6,7 @@ use Rattle.std.specs.List.Sorted.{IsStrictlyIncreasing}
 use Rattle.std.specs.FinMap.{empty}
 use Rattle.sdb_bench.specs.Types.{Event, Outcome, Pair, Point, Statement, TxId}
 use Rattle.sdb_types.specs.Order.{key_cmp}
-use Rattle.sdb_types.proofs.Basics.{all_each, by_test, clash, eq_of}
+use Rattle.sdb_types.proofs.Public.{all_each, by_test, clash, eq_of}
 use Rattle.sdb_model.specs.Events.{StoreContents}
 use Rattle.sdb_model.specs.Exec.{Tables, exec}
 use Rattle.sdb_model.specs.Serial.{AreBodies, AreRead, IsRun, run_body, serial}

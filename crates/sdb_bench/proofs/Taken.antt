@@ -8,8 +8,8 @@ use Rattle.sdb_model.specs.declared.script.Act.TheVariants as act
 use Rattle.sdb_model.specs.declared.script.Move.TheVariants as move
 use Rattle.sdb_model.specs.Follows.{AreOfMoves, AreStepsOf, Follows, IsActed, IsCallOf, IsHowOfDiscard, IsHowOfLose, IsHowOfStep, IsOfMove, IsRest, IsStep, IsTakeOf, has_work, is_pending, takes_of, is_take_of, texts_of}
 use Rattle.sdb_model.specs.Transactions.{Executed, statements_by, statements_after, with_answer}
-use Rattle.sdb_types.proofs.Basics.{assoc, by_test, eq_of, map_last, none_some, some_is}
-use Rattle.law_clients.proofs.Tellings.{said_more}
+use Rattle.sdb_types.proofs.Public.{assoc, by_test, eq_of, map_last, none_some, some_is}
+use Rattle.law_clients.proofs.Public.{said_more}
 
 abbrev pub taken_texts : List Executed → List (List ℕ)
 taken_texts = map (λ s. s.text)

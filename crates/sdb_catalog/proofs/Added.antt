@@ -6,8 +6,7 @@ use Rattle.sdb_catalog.specs.Types.{Key, Pair, Place, Record, Table}
 use Rattle.sdb_types.specs.Contents.{Contents, record_at}
 use Rattle.sdb_types.specs.Exact.{equal_of}
 use Rattle.sdb_types.specs.Order.{key_cmp}
-use Rattle.sdb_types.proofs.Basics.{none_some}
-use Rattle.sdb_types.proofs.KeyOrder.{key_exact, key_total}
+use Rattle.sdb_types.proofs.Public.{key_exact, key_total, none_some}
 use Rattle.sdb_catalog.specs.declared.entry.Entry.{Entry}
 use Rattle.sdb_catalog.specs.declared.outcome.Outcome.{Outcome}
 use Rattle.sdb_catalog.specs.declared.outcome.Outcome.TheVariants as outcome

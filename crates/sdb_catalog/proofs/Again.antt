@@ -6,22 +6,21 @@ use Rattle.std.specs.Option.{option_map_or}
 use Rattle.serde_json.specs.Data.{Data, string}
 use Rattle.serde_json.specs.View.{items_of}
 use Rattle.sdb_catalog.specs.Types.{Column, Direction, Kind, Order, Table, TableName, TableRefused}
-use Rattle.sdb_types.proofs.Bools.{and_first, and_second, and_both}
+use Rattle.sdb_types.proofs.Public.{and_both, and_first, and_second, false_true}
 use Rattle.sdb_record.specs.Names.{same_name}
 use Rattle.sdb_record.specs.Parts.{is_column_name}
-use Rattle.sdb_record.proofs.NameLemmas.{same_name-true}
+use Rattle.sdb_record.proofs.Public.{same_name-true}
 use Rattle.sdb_schema.specs.declared.table.Kind.TheVariants as kind
 use Rattle.sdb_schema.specs.declared.table.Direction.TheVariants.{Asc, Desc}
 use Rattle.sdb_schema.specs.Table.{refuse, none_of, first_unknown, key_names, order_names, has_column, checked_table, in_order, rises, is_table}
-use Rattle.sdb_schema.proofs.ColumnOrder.{in_order-rising}
+use Rattle.sdb_schema.proofs.Public.{in_order-rising}
 use Rattle.sdb_loader.specs.Words.{direction_named, kind_named, order_named}
 use Rattle.sdb_loader.specs.Fields.{bad_member, each_item, each_named, list_of, name_given, order_given, columns_among, unknown_among, unknown_column}
 use Rattle.sdb_loader.specs.declared.fault.SchemaFault.TheVariants as fault
 use Rattle.sdb_loader.specs.Described.{described_table, described_tables, refusal_in, table_of}
-use Rattle.sdb_loader.proofs.WordLaws.{order_named-behind}
+use Rattle.sdb_loader.proofs.Public.{order_named-behind}
 use Rattle.sdb_catalog.proofs.Texts.{read_again}
 use Rattle.sdb_catalog.specs.Definition.{columns_data, definition_of, definition_text, direction_text, kind_text, order_text}
-use Rattle.sdb_types.proofs.Basics.{false_true}
 
 ---- single texts
 

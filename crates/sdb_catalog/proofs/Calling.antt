@@ -6,11 +6,11 @@ use Rattle.sdb_types.specs.Contents.{Contents, after}
 use Rattle.sdb_store.specs.Store.{Performs}
 use Rattle.sdb_catalog.specs.Types.{Place, Reply, Request}
 use Rattle.sdb_stores.specs.Views.{Attached, StoreView, IsCallAt, HaveRisen, home, home_in, names_of, total_faults}
-use Rattle.sdb_stores.proofs.Called.{same_names, grown}
+use Rattle.sdb_stores.proofs.Public.{grown, same_names}
 use Rattle.sdb_catalog.specs.declared.refused.CatalogRefused.{CatalogRefused}
 use Rattle.sdb_catalog.specs.declared.refused.CatalogRefused.TheVariants as refused
 use Rattle.sdb_catalog.specs.Calls.{Called, GoOn, IsStopped, IsUnread, MayChange, first_contents}
-use Rattle.sdb_types.proofs.Basics.{none_some as no_some}
+use Rattle.sdb_types.proofs.Public.{none_some as no_some}
 
 -- without places each namespace belongs to the first store
 pub at_first : (ns : List ℕ) (q : Request) (r : Reply) (old new : Attached) → old.places ≡ [] → IsCallAt (home_in old ns) q r old new → IsCallAt 0 q r old new

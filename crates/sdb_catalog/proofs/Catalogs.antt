@@ -13,19 +13,17 @@ use Rattle.std.proofs.lemmas.List.Sums.{length-filter}
 use Rattle.sdb_types.specs.Contents.{in_span, rise, starts_after}
 use Rattle.sdb_types.specs.Identifier.{is_name}
 use Rattle.sdb_types.specs.Order.{key_cmp, name_cmp, table_cmp, table_text}
-use Rattle.sdb_types.proofs.Bools.{and_first, and_second, and_both}
-use Rattle.sdb_types.proofs.KeyOrder.{by_text, table_total}
+use Rattle.sdb_types.proofs.Public.{and_both, and_first, and_second, by_text, less_of, table_total}
 use Rattle.sdb_record.specs.Parts.{is_column_name}
 use Rattle.sdb_schema.specs.Catalog.{rises, is_above_name}
 use Rattle.sdb_schema.specs.Table.{is_table}
 use Rattle.sdb_loader.specs.Words.{is_open}
-use Rattle.sdb_record.proofs.NameLemmas.{name_of_column}
+use Rattle.sdb_record.proofs.Public.{name_of_column}
 use Rattle.sdb_stores.specs.Views.{Attached, StoreView, names_of}
 use Rattle.sdb_catalog.specs.declared.entry.Entry.{Entry}
 use Rattle.sdb_catalog.specs.Calls.{IsRead, metadata_span}
 use Rattle.sdb_catalog.specs.Opened.{Follow, agrees, are_attached, is_attached, is_coordinators, open_count, open_entries, tables_of}
 use Rattle.sdb_catalog.specs.Rows.{MayHaveRow, coordinators, metadata_key_of, row_of}
-use Rattle.sdb_types.proofs.Basics.{less_of}
 
 ---- each entry
 

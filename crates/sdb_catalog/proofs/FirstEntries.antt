@@ -14,8 +14,7 @@ use Rattle.std.proofs.lemmas.Slice.Eq.{bytes_eq-Decides}
 use Rattle.sdb_types.specs.Exact.{equal_of}
 use Rattle.sdb_types.specs.Identifier.{is_name}
 use Rattle.sdb_types.specs.Order.{table_cmp}
-use Rattle.sdb_types.proofs.Bools.{and_first, and_second, and_both}
-use Rattle.sdb_types.proofs.KeyOrder.{table_exact, table_total}
+use Rattle.sdb_types.proofs.Public.{and_both, and_first, and_second, table_exact, table_total}
 use Rattle.sdb_record.specs.Parts.{is_column_name}
 use Rattle.sdb_schema.specs.Catalog.{rises, is_above_name, with_table}
 use Rattle.sdb_schema.specs.Table.{is_table}

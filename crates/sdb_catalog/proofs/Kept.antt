@@ -14,8 +14,7 @@ use Rattle.sdb_types.specs.declared.record.Condition.TheVariants.{Absent}
 use Rattle.sdb_types.specs.Contents.{Contents, holds, in_span, put_reply, record_at, rows_in}
 use Rattle.sdb_types.specs.Identifier.{is_name}
 use Rattle.sdb_types.specs.Order.{key_cmp, table_cmp}
-use Rattle.sdb_types.proofs.Bools.{and_first, and_second, and_both}
-use Rattle.sdb_types.proofs.KeyOrder.{table_total}
+use Rattle.sdb_types.proofs.Public.{and_both, and_first, and_second, less_of, table_total}
 use Rattle.sdb_schema.specs.Catalog.{rises}
 use Rattle.sdb_stores.specs.Views.{Attached, StoreView, route_of}
 use Rattle.sdb_catalog.specs.declared.entry.Entry.{Entry}
@@ -28,7 +27,6 @@ use Rattle.sdb_catalog.specs.Written.{AreWritten, IsWritten, Line, entry_for, gr
 use Rattle.sdb_catalog.proofs.Calling.{first_before, first_now}
 use Rattle.sdb_catalog.proofs.Catalogs.{key_order}
 use Rattle.sdb_catalog.proofs.LastRows.{are_below, none_at, rows_pushed}
-use Rattle.sdb_types.proofs.Basics.{less_of}
 
 ---- the entry of a table
 

@@ -12,9 +12,7 @@ use Rattle.sdb_catalog.specs.Types.{Key, Pair, Record, Span}
 use Rattle.sdb_types.specs.Contents.{Contents, in_span, record_at, record_of, rows_among, rows_in}
 use Rattle.sdb_types.specs.Exact.{equal_of}
 use Rattle.sdb_types.specs.Order.{key_cmp}
-use Rattle.sdb_types.proofs.Bools.{and_first, and_second, and_both}
-use Rattle.sdb_types.proofs.KeyOrder.{key_exact, key_total}
-use Rattle.sdb_types.proofs.Basics.{less_of, truth}
+use Rattle.sdb_types.proofs.Public.{and_both, and_first, and_second, key_exact, key_total, less_of, truth}
 
 -- the records have keys below this one
 abbrev pub are_below : Key → List Record → Bool

@@ -1,15 +1,16 @@
-pub mod Members
-pub mod Texts
-pub mod Again
-pub mod Reading
-pub mod Calling
-pub mod Opening
-pub mod Catalogs
-pub mod Writes
-pub mod Known
-pub mod Added
-pub mod OneReading
-pub mod LastRows
-pub mod Kept
-pub mod FirstEntries
-pub mod ReadBack
+mod Members
+mod Texts
+mod Again
+mod Reading
+mod Calling
+mod Opening
+mod Catalogs
+mod Writes
+mod Known
+mod Added
+mod OneReading
+mod LastRows
+mod Kept
+mod FirstEntries
+mod ReadBack
+pub mod Public

@@ -8,9 +8,7 @@ use Rattle.serde_json.specs.Data.{Data, Members, no_members, member, put}
 use Rattle.serde_json.specs.Read.{of_json, of_members}
 use Rattle.serde_json.specs.Written.{outline, members_outline}
 use Rattle.sdb_types.specs.Order.{name_cmp}
-use Rattle.sdb_types.proofs.Bools.{and_first, and_second}
-use Rattle.sdb_types.proofs.KeyOrder.{name_total}
-use Rattle.sdb_types.proofs.Basics.{less_of}
+use Rattle.sdb_types.proofs.Public.{and_first, and_second, less_of, name_total}
 
 -- the members of a list: a key and a value of each
 abbrev pub members_of : {A : Type 0} → (A → List ℕ) → (A → Data) → List A → Members

@@ -4,17 +4,17 @@ use Rattle.sdb_catalog.specs.Types.{Key, Record, Table, TableName, TxId}
 use Rattle.sdb_types.specs.Order.{table_text}
 use Rattle.sdb_types.specs.TxId.{id_text}
 use Rattle.sdb_record.specs.Ids.{id_of_text}
-use Rattle.sdb_record.proofs.IdLemmas.{id_of_text-id_text}
+use Rattle.sdb_record.proofs.Public.{id_of_text-id_text}
 use Rattle.sdb_loader.specs.Words.{table_named}
 use Rattle.sdb_loader.specs.Described.{described_table}
-use Rattle.sdb_loader.proofs.WordLaws.{table_named-text}
+use Rattle.sdb_loader.proofs.Public.{table_named-text}
 use Rattle.sdb_catalog.specs.declared.entry.Entry.{Entry}
 use Rattle.sdb_catalog.specs.Definition.{definition_text}
 use Rattle.sdb_catalog.specs.Rows.{MayHaveRow, Texts, row_of, texts_of}
 use Rattle.sdb_catalog.specs.Opened.{Follow, Follows, IsEntry, IsFirstBad, Opens}
 use Rattle.sdb_catalog.proofs.Again.{definition_again}
 use Rattle.sdb_catalog.proofs.Reading.{own_name, own_table, row_texts, said_by, same_entry}
-use Rattle.sdb_types.proofs.Basics.{some_is}
+use Rattle.sdb_types.proofs.Public.{some_is}
 
 one_table : (t u : Table) → MayHaveRow t → MayHaveRow u → table_text t.name ≡ table_text u.name → definition_text t ≡ definition_text u → t ≡ u
 one_table t u h k named defined =

@@ -9,12 +9,11 @@ use Rattle.std.proofs.lemmas.List.Folds.{find-append}
 use Rattle.std.proofs.lemmas.List.Elements.{filter-append}
 use Rattle.std.proofs.lemmas.Slice.Eq.{bytes_eq-Decides}
 use Rattle.sdb_catalog.specs.Types.{Key, Place, Record}
-use Rattle.sdb_types.proofs.Bools.{and_first, and_second}
+use Rattle.sdb_types.proofs.Public.{and_first, and_second, none_before}
 use Rattle.sdb_stores.specs.Views.{place_of, route_of}
 use Rattle.sdb_catalog.specs.declared.entry.Entry.{Entry}
 use Rattle.sdb_catalog.specs.Rows.{row_of}
 use Rattle.sdb_catalog.specs.Opened.{Follow, Follows, IsFirstBad, are_attached, is_attached, is_coordinators, open_entries, store_in, tables_of}
-use Rattle.sdb_types.proofs.Basics.{none_before}
 
 ---- stores that are attached
 

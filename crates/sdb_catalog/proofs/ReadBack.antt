@@ -7,7 +7,7 @@ use Rattle.std.specs.Str.{bytes_eq}
 use Rattle.std.proofs.lemmas.Slice.Eq.{bytes_eq-Decides}
 use Rattle.sdb_types.specs.Contents.{rows_in}
 use Rattle.sdb_types.specs.Identifier.{is_name}
-use Rattle.sdb_types.proofs.Bools.{and_first, and_second}
+use Rattle.sdb_types.proofs.Public.{and_first, and_second}
 use Rattle.sdb_catalog.specs.Types.{Place, Table}
 use Rattle.sdb_schema.specs.Catalog.{is_catalog, rises}
 use Rattle.sdb_schema.specs.Table.{is_table}

@@ -12,8 +12,7 @@ use Rattle.sdb_schema.specs.Table.{is_table, rises}
 use Rattle.sdb_loader.specs.Words.{names_table, table_named}
 use Rattle.sdb_loader.specs.Described.{described_table, Faults}
 use Rattle.sdb_loader.specs.declared.fault.SchemaFault.TheVariants as fault
-use Rattle.sdb_loader.proofs.Names.{text_of}
-use Rattle.sdb_loader.proofs.WordLaws.{table_named-text}
+use Rattle.sdb_loader.proofs.Public.{table_named-text, text_of}
 use Rattle.sdb_catalog.specs.declared.entry.Entry.{Entry}
 use Rattle.sdb_catalog.specs.declared.read.Texts.{Texts as Borrowed}
 use Rattle.sdb_catalog.specs.Definition.{definition_text}
@@ -21,7 +20,7 @@ use Rattle.sdb_catalog.specs.Rows.{MayHaveRow, Texts, coordinators, metadata_key
 use Rattle.sdb_catalog.specs.Opened.{is_attached}
 use Rattle.sdb_catalog.specs.Borrowed.{names_of_borrowed}
 use Rattle.sdb_catalog.proofs.Again.{definition_again, rising_columns}
-use Rattle.sdb_types.proofs.Basics.{some_is, none_some}
+use Rattle.sdb_types.proofs.Public.{none_some, some_is}
 
 ---- tables
 

@@ -15,7 +15,7 @@ use Rattle.serde_json.specs.View.{items_of}
 use Rattle.serde_json.specs.Written.{outline, items_outline, members_outline, has_float, items_have_float, members_have_float}
 use Rattle.serde_json.proofs.Texts.{print-outline}
 use Rattle.sdb_types.specs.Order.{name_cmp}
-use Rattle.sdb_types.proofs.Bools.{and_first, and_second, and_both}
+use Rattle.sdb_types.proofs.Public.{and_both, and_first, and_second}
 use Rattle.sdb_catalog.specs.Types.{Column, Table}
 use Rattle.sdb_schema.specs.Table.{rises}
 use Rattle.sdb_catalog.proofs.Members.{AreRead, keys_rise, members_of, members_read}

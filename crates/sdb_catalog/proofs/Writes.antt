@@ -9,10 +9,10 @@ use Rattle.std.proofs.lemmas.List.{map-append}
 use Rattle.std.proofs.lemmas.Option.{slice_get_within, get_or_from_slice_get}
 use Rattle.sdb_catalog.specs.Types.{Place, Reply, Request, Table}
 use Rattle.sdb_types.specs.Order.{table_cmp}
-use Rattle.sdb_types.proofs.Bools.{and_first, and_second, and_both}
+use Rattle.sdb_types.proofs.Public.{and_both, and_first, and_second}
 use Rattle.sdb_schema.specs.Catalog.{is_catalog, rises as names_rise, with_table}
 use Rattle.sdb_schema.specs.Table.{is_table, rises}
-use Rattle.sdb_schema.proofs.CatalogLaws.{with_table-is}
+use Rattle.sdb_schema.proofs.Public.{with_table-is}
 use Rattle.sdb_stores.specs.Views.{Attached, StoreView, names_of}
 use Rattle.sdb_catalog.specs.declared.entry.Entry.{Entry}
 use Rattle.sdb_catalog.specs.declared.outcome.Outcome.{Outcome}

@@ -7,23 +7,21 @@ use Rattle.sdb_exec.specs.Plans.{Planned, step_of}
 use Rattle.sdb_txn.specs.declared.read.ReadStep.TheVariants as step
 use Rattle.sdb_txn.specs.Read.{ReadAt, ReadStage, read_result, read_step}
 use Rattle.sdb_snapshot.specs.Entries.{value_at}
-use Rattle.sdb_snapshot.proofs.Keys.{value_last}
+use Rattle.sdb_snapshot.proofs.Public.{get_forgotten, scan_forgotten, value_last}
 use Rattle.sdb_snapshot.specs.Reads.{ReadRecord, is_key_read}
 use Rattle.sdb_snapshot.specs.Sets.{IsSetInvariant}
 use Rattle.sdb_snapshot.specs.Seen.{Seen, forgotten, mark_of, overlay}
-use Rattle.sdb_txn.proofs.Notes.{kept_cut}
+use Rattle.sdb_txn.proofs.Public.{kept_cut}
 use Rattle.sdb_txn.specs.declared.txn.Doing.TheVariants as doing
 use Rattle.sdb_model.specs.Reads.{access_of}
 use Rattle.sdb_client.specs.Inside.{IsKeyRead, IsReadOf}
-use Rattle.sdb_snapshot.proofs.Forgotten.{get_forgotten, scan_forgotten}
 use Rattle.sdb_txn.specs.declared.progress.Progress.TheVariants as progress
 use Rattle.sdb_txn.specs.Txn.{IfReading, ImagesPost as ImagesEnd, ReadPost, StepPost, TxnAt, idle}
 use Rattle.sdb_client.specs.declared.next.Next.{Next}
 use Rattle.sdb_client.specs.declared.next.Next.TheVariants as next
 use Rattle.sdb_client.specs.Client.{CallPost, IsAsRead, IsChangedAt, StagePost, gives, given_answer, given_left, with_rows_read}
-use Rattle.sdb_types.proofs.Basics.{or_else}
+use Rattle.sdb_types.proofs.Public.{or_else, same_key_self}
 use Rattle.sdb_types.specs.Order.{same_key}
-use Rattle.sdb_types.proofs.Keys.{same_key_self}
 
 -- neither rows nor a conflict
 abbrev pub IsPlain : Progress → Type 0

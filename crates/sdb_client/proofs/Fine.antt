@@ -6,15 +6,14 @@ use Rattle.std.specs.List.{list_all}
 use Rattle.std.proofs.lemmas.Bool.{and_parts}
 use Rattle.sdb_client.specs.Types.{Column, Key, Pair, Table, TableRefused, Value}
 use Rattle.sdb_types.specs.Columns.{are_columns, with_column}
-use Rattle.sdb_types.proofs.Bools.{and_both}
-use Rattle.sdb_types.proofs.ColumnLemmas.{with_column-are_columns}
+use Rattle.sdb_types.proofs.Public.{and_both, with_column-are_columns}
 use Rattle.sdb_record.specs.Names.{is_user, same_name}
 use Rattle.sdb_record.specs.Parts.{are_user_columns, is_column_name, is_user_pair}
 use Rattle.sdb_schema.specs.Table.{refuse, none_of, first_unknown, first_listed_twice, first_repeated, first_reserved, checked_table, is_table, is_reserved, key_names, rises}
 use Rattle.sdb_schema.specs.Rows.{fits_table, is_of_column, is_stored_in, is_value_of}
 use Rattle.sdb_model.specs.Rows.{Name, is_key_column, literal_at}
 use Rattle.sdb_model.specs.Exec.{with_named, with_sets}
-use Rattle.sdb_record.proofs.NameLemmas.{same_name-true as same}
+use Rattle.sdb_record.proofs.Public.{same_name-true as same}
 
 ---- user columns
 

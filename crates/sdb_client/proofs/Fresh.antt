@@ -3,7 +3,7 @@ use Rattle.std.proofs.Common.{◌≡◌, ◌≢◌, ℕ, zero, suc, ◌+◌, ◌
 use Rattle.std.specs.Prelude.{slice_get}
 use Rattle.sdb_client.specs.declared.slot.ClientSlot.{ClientSlot}
 use Rattle.sdb_client.specs.Execution.{AreFresh, initial_client}
-use Rattle.sdb_types.proofs.Basics.{none_some, some_is}
+use Rattle.sdb_types.proofs.Public.{none_some, some_is}
 
 -- what is so of each by its place is so with one more
 each_more : {A : Type 0} (P : ℕ → A → Type 0) (xs : List A) (x : A) → ((j : ℕ) (s : A) → slice_get xs j ≡ Some s → P j s) → P (length xs) x → (j : ℕ) (s : A) → slice_get (xs ++ x ∷ []) j ≡ Some s → P j s

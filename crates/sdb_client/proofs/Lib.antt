@@ -1,10 +1,11 @@
-pub mod Fine
-pub mod SeenRows
-pub mod Writable
-pub mod Calls
-pub mod Taken
-pub mod Left
-pub mod Pending
-pub mod Waits
-pub mod Fresh
-pub mod Paths
+mod Fine
+mod SeenRows
+mod Writable
+mod Calls
+mod Taken
+mod Left
+mod Pending
+mod Waits
+mod Fresh
+mod Paths
+pub mod Public

@@ -11,23 +11,21 @@ use Rattle.std.proofs.lemmas.Bool.{and_parts}
 use Rattle.sdb_client.specs.Types.{Access, Change, Image, Key, Pair, Record, Write}
 use Rattle.sdb_types.specs.Order.{key_cmp, same_key}
 use Rattle.sdb_types.specs.Columns.{are_columns}
-use Rattle.sdb_types.proofs.Bools.{and_first}
-use Rattle.sdb_types.proofs.KeyOrder.{key_total}
-use Rattle.sdb_record.proofs.ColumnLaws.{are_columns-filter}
+use Rattle.sdb_types.proofs.Public.{and_first, key_total, less_of, truth as true_from_T}
+use Rattle.sdb_record.proofs.Public.{are_columns-filter}
 use Rattle.sdb_record.specs.Parts.{are_stored, is_user_pair, user_columns}
 use Rattle.sdb_record.specs.Rolls.{IsBaseOf, is_change, is_tombstone, row_of_change, row_of_image}
 use Rattle.sdb_record.specs.declared.write.Change.TheVariants as change
 use Rattle.sdb_record.specs.Among.{write_among}
 use Rattle.sdb_model.specs.Exec.{Tables, row_of_entry}
 use Rattle.sdb_model.specs.Access.{in_access, rows_at}
-use Rattle.sdb_exec.proofs.Laid.{by_key}
+use Rattle.sdb_exec.proofs.Public.{by_key}
 use Rattle.sdb_snapshot.specs.Reads.{ReadRecord, AreBases, base_at, is_key_read, record_read_at}
 use Rattle.sdb_snapshot.specs.Sets.{IsSetInvariant}
 use Rattle.sdb_snapshot.specs.Rows.{row_found}
 use Rattle.sdb_snapshot.specs.Seen.{Seen, overlay, row_seen, row_with, tables_seen}
 use Rattle.sdb_snapshot.specs.Written.{AreWrites}
-use Rattle.sdb_snapshot.proofs.Shown.{get_seen, no_row}
-use Rattle.sdb_types.proofs.Basics.{less_of, truth as true_from_T}
+use Rattle.sdb_snapshot.proofs.Public.{get_seen, no_row}
 
 -- a row of a key that was read, with its columns in order
 abbrev pub IsSeenRow : List ReadRecord → Image → Type 0

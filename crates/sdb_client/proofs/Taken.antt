@@ -7,7 +7,7 @@ use Rattle.sdb_model.specs.declared.answer.Answer.TheVariants as answer
 use Rattle.sdb_model.specs.Refused.{refusal_by, refusal_on}
 use Rattle.sdb_model.specs.Sql.{Refuses}
 use Rattle.sdb_exec.specs.Plans.{Planned, has_all_literals}
-use Rattle.sdb_exec.proofs.Places.{named_is_table}
+use Rattle.sdb_exec.proofs.Public.{named_is_table}
 use Rattle.sdb_client.specs.Client.{ClientAt, Taking, TextPost, is_out_of_memory}
 use Rattle.sdb_client.specs.Inside.{IsValidPlan, IsPlanOf}
 

@@ -8,7 +8,7 @@ use Rattle.std.proofs.lemmas.Bool.{and_parts}
 use Rattle.sdb_client.specs.Types.{Change, Image, Key, Keyed, Pair, Statement, Table}
 use Rattle.sdb_types.specs.Order.{key_cmp}
 use Rattle.sdb_types.specs.Columns.{are_columns}
-use Rattle.sdb_types.proofs.Bools.{and_both}
+use Rattle.sdb_types.proofs.Public.{and_both}
 use Rattle.sdb_record.specs.Parts.{are_user_columns}
 use Rattle.sdb_record.specs.Rolls.{is_change}
 use Rattle.sdb_record.specs.declared.write.Change.TheVariants as change
@@ -18,7 +18,7 @@ use Rattle.sdb_model.specs.declared.statement.Statement.TheVariants as statement
 use Rattle.sdb_model.specs.Exec.{key_of, passes, with_sets}
 use Rattle.sdb_exec.specs.Plans.{Planned, change_is_well_typed, changes_on, columns_at, finished, first_unfit, is_unfit, put_row, step_at, step_of}
 use Rattle.sdb_model.specs.Reads.{access_of}
-use Rattle.sdb_exec.proofs.Fits.{changes_fit}
+use Rattle.sdb_exec.proofs.Public.{changes_fit}
 use Rattle.sdb_snapshot.specs.Reads.{ReadRecord, is_key_read}
 use Rattle.sdb_snapshot.specs.Sets.{IsSetInvariant}
 use Rattle.sdb_snapshot.specs.Seen.{Seen, overlay}

@@ -13,7 +13,7 @@ use Rattle.sdb_types.specs.declared.value.Value.TheVariants as value
 use Rattle.sdb_types.specs.Fits.{value_fits}
 use Rattle.sdb_codec.specs.Spelling.{sized_bytes, value_bytes, ValueIsEncodable}
 use Rattle.sdb_codec.specs.Reading.{◌>>=◌, number_at, sized_at, text_at, bool_at, value_of, value_at}
-use Rattle.sdb_types.proofs.Basics.{done}
+use Rattle.sdb_types.proofs.Public.{done}
 
 abbrev pub IsBytes : List ℕ → Type 0
 IsBytes bytes = (i : ℕ) → get_or bytes i 0 < 256

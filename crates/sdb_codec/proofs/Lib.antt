@@ -1,6 +1,7 @@
-pub mod Texts
-pub mod Loops
-pub mod FieldLaws
-pub mod ItemLaws
-pub mod RecordLaws
-pub mod PlaceLaws
+mod Texts
+mod Loops
+mod FieldLaws
+mod ItemLaws
+mod RecordLaws
+mod PlaceLaws
+pub mod Public

@@ -18,7 +18,7 @@ use Rattle.sdb_codec.specs.Places.{Field, Format, Table, Count, Item, ColumnCoun
 use Rattle.sdb_codec.proofs.FieldLaws.{IsBytes, IsBytes-rest, bind_ok, guard_ok, passed_ok, ok_is, IsWide, wide16, wide32, wide64, number_takes, number_again, sized_again, text_again, value_takes}
 use Rattle.sdb_codec.proofs.ItemLaws.{values_after, values_take}
 use Rattle.sdb_codec.proofs.RecordLaws.{name_length, table_takes, table_again, column_name_takes, column_value_takes, key_takes, format_takes}
-use Rattle.sdb_types.proofs.Basics.{done}
+use Rattle.sdb_types.proofs.Public.{done}
 
 ---- fields one after another
 

@@ -11,15 +11,12 @@ use Rattle.sdb_types.specs.Identifier.{is_part, is_identifier, is_name}
 use Rattle.sdb_types.specs.Order.{table_text}
 use Rattle.sdb_types.specs.Columns.{is_null, starts_above, are_columns}
 use Rattle.sdb_types.specs.Fits.{pair_fits, key_fits, columns_fit, record_fits}
-use Rattle.sdb_types.proofs.Bools.{and_first, and_second, and_both}
-use Rattle.sdb_types.proofs.KeyOrder.{parts}
-use Rattle.sdb_types.proofs.ColumnMap.{tail_above, tail_columns}
+use Rattle.sdb_types.proofs.Public.{and_both, and_first, and_second, onto, parts, tail_above, tail_columns}
 use Rattle.sdb_codec.specs.declared.refused.ReadRefused.{ReadRefused}
 use Rattle.sdb_codec.specs.Spelling.{sized_bytes, value_bytes, values_bytes, key_bytes, pair_bytes, columns_bytes, record_bytes, ValueIsEncodable, KeyIsEncodable, ColumnsAreEncodable, RecordIsEncodable}
 use Rattle.sdb_codec.specs.Reading.{◌>>=◌, number_at, sized_at, value_at, values_at, name_of, dot_split, names_of, table_at, key_at, is_above, column_name_at, column_value_at, pair_at, items_at, columns_at, format_at, record_at, whole, from_front, record_in, key_in, Reads}
 use Rattle.sdb_codec.proofs.FieldLaws.{IsBytes, IsBytes-rest, bind_ok, guard_ok, passed_ok, ok_is, Takes, Takes-then, Takes-after, TakesValue, wide16, number_takes, number_again, sized_takes, sized_again, value_takes, value_again}
 use Rattle.sdb_codec.proofs.ItemLaws.{Chain, Chain-all, items_take, items_again, values_take, values_again}
-use Rattle.sdb_types.proofs.Basics.{onto}
 
 ---- tables
 

@@ -5,11 +5,8 @@ use Rattle.std.specs.Str.{is_utf8}
 use Rattle.std.proofs.lemmas.Str.{IsUtf8-from_ascii, IsUtf8-from_is_utf8}
 use Rattle.std.proofs.lemmas.Bool.{cases_lt, lt-ltb, le-ltb, ltb-true}
 use Rattle.sdb_types.specs.Identifier.{is_part, is_name}
-use Rattle.sdb_types.proofs.Bools.{and_first, and_second}
-use Rattle.sdb_types.proofs.KeyOrder.{parts}
+use Rattle.sdb_types.proofs.Public.{and_first, and_second, onto, part_small, parts}
 use Rattle.sdb_codec.specs.Reading.{dot_split}
-use Rattle.sdb_types.proofs.Basics.{onto}
-use Rattle.sdb_types.proofs.Words.{part_small}
 
 -- no text
 pub not_utf8 : (bs : List ℕ) → (IsUtf8 bs → ⊥) → is_utf8 bs ≡ false

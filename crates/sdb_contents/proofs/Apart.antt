@@ -11,12 +11,10 @@ use Rattle.sdb_types.specs.declared.record.Request.TheVariants as ask
 use Rattle.sdb_types.specs.declared.record.State.TheVariants.{Committed}
 use Rattle.sdb_types.specs.Contents.{Contents, after, holds, record_at, rise, starts_after}
 use Rattle.sdb_types.specs.Order.{key_cmp}
-use Rattle.sdb_types.proofs.Bools.{and_first, and_second}
-use Rattle.sdb_types.proofs.KeyOrder.{key_total}
-use Rattle.sdb_types.proofs.Keys.{same_key_tells}
+use Rattle.sdb_types.proofs.Public.{and_first, and_second, key_total, same_key_tells}
 use Rattle.sdb_catalog.specs.Rows.{metadata_key_of, metadata_table, row_of}
-use Rattle.sdb_catalog.proofs.Catalogs.{key_of_row}
-use Rattle.law_protocol.proofs.Effects.{after_put}
+use Rattle.sdb_catalog.proofs.Public.{key_of_row}
+use Rattle.law_protocol.proofs.Public.{after_put}
 use Rattle.sdb_contents.specs.Joined.{AreApart}
 use Rattle.sdb_contents.specs.Moving.{is_moving, moving_tables, renewal, renewals, renewed}
 use Rattle.sdb_contents.specs.Writes.{after_write, after_writes, write_at, writes_at}

@@ -4,13 +4,13 @@ use Rattle.std.specs.Prelude.{slice_get, IsSome, ◌≢◌}
 use Rattle.sdb_contents.specs.Types.{Record, Reply, Request, TableName}
 use Rattle.sdb_types.specs.declared.record.Reply.TheVariants as reply
 use Rattle.sdb_types.specs.Contents.{Contents, after, rows_in}
-use Rattle.sdb_types.proofs.Basics.{by_test, eq_of, false_true, none_some}
+use Rattle.sdb_types.proofs.Public.{by_test, eq_of, false_true, none_some}
 use Rattle.sdb_store.specs.Store.{Performs}
 use Rattle.sdb_stores.specs.Views.{Attached, StoreView, IsCallAt, HaveRisen, index_at, index_in, place_of}
 use Rattle.std.specs.Prelude.{unwrap_or}
-use Rattle.sdb_stores.proofs.Called.{same_names, grown}
+use Rattle.sdb_stores.proofs.Public.{grown, same_names}
 use Rattle.sdb_contents.specs.Writes.{GoOn, Hold, HoldFirst, IsScanned, MayHold, Write, after_write, after_writes, contents_at, contents_of, span_of, write_at}
-use Rattle.sdb_catalog.proofs.Calling.{left_by}
+use Rattle.sdb_catalog.proofs.Public.{left_by}
 
 ---- one call
 

@@ -11,8 +11,7 @@ use Rattle.sdb_contents.specs.Types.{Decided, Key, Place, Record, Table, TableDu
 use Rattle.sdb_types.specs.Contents.{are_rows_of, in_span, rise}
 use Rattle.sdb_types.specs.Exact.{equal_of}
 use Rattle.sdb_types.specs.Order.{table_cmp}
-use Rattle.sdb_types.proofs.Bools.{and_first, and_second}
-use Rattle.sdb_types.proofs.KeyOrder.{table_exact}
+use Rattle.sdb_types.proofs.Public.{all_each, and_first, and_second, none_some, or_second, some_is, table_exact}
 use Rattle.sdb_record.specs.Coordinator.{coordinator_table, is_coordinator_table}
 use Rattle.sdb_stores.specs.Views.{Attached}
 use Rattle.sdb_model.specs.Events.{StoreContents}
@@ -33,7 +32,6 @@ use Rattle.sdb_contents.proofs.Coordinated.{IsCommitted, recorded_all, recorded_
 use Rattle.sdb_contents.proofs.Images.{decision_there, dump_same, dumps_are, first_ill_formed_same}
 use Rattle.sdb_contents.proofs.DumpLists.{contains_at, last_or_before}
 use Rattle.sdb_contents.proofs.OddRecords.{first_behind, first_same, none_of_all, odd_record, odd_row}
-use Rattle.sdb_types.proofs.Basics.{all_each, none_some, or_second, some_is}
 use Rattle.sdb_model.specs.Tables.{is_table_of_run}
 
 ---- tables of the run

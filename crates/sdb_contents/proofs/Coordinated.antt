@@ -14,18 +14,14 @@ use Rattle.sdb_types.specs.declared.value.Value.TheVariants as value
 use Rattle.sdb_types.specs.Contents.{rise, starts_after, record_among}
 use Rattle.sdb_types.specs.Order.{key_cmp, same_key}
 use Rattle.sdb_types.specs.TxId.{id_text}
-use Rattle.sdb_types.proofs.Bools.{and_both, and_first, and_second}
-use Rattle.sdb_types.proofs.KeyOrder.{key_total}
+use Rattle.sdb_types.proofs.Public.{and_both, and_first, and_second, by_test, clash as true_false, key_total, none_some, same_key_exact, same_key_is, same_key_self, same_key_turned, some_is}
 use Rattle.sdb_record.specs.declared.coordinator.Decision.TheVariants as decision
 use Rattle.sdb_record.specs.Coordinator.{coordinator_key_of, decision_in, id_in_values, id_of_key, if_empty, is_coordinator_table}
 use Rattle.sdb_record.specs.Refused.{Refuses as MetaRefuses}
 use Rattle.sdb_record.specs.declared.meta.MetaRefused.TheVariants.{BadMeta, NoMemory}
-use Rattle.sdb_record.proofs.IdLemmas.{id_of_text-is}
-use Rattle.sdb_record.proofs.ImageLaws.{key-of-id}
+use Rattle.sdb_record.proofs.Public.{id_of_text-is, key-of-id}
 use Rattle.sdb_contents.specs.Decided.{committed_one, decision_among, is_decided, recorded_among, recorded_by, recorded_in}
 use Rattle.sdb_contents.proofs.DumpLists.{err_is, first_or_later, here_in, kept_from, kept_in, later_in, none_in, pairs_more}
-use Rattle.sdb_types.proofs.Basics.{by_test, none_some, some_is, clash as true_false}
-use Rattle.sdb_types.proofs.Keys.{same_key_self, same_key_exact, same_key_is, same_key_turned}
 use Rattle.sdb_contents.proofs.RunTables.{coordinator_is}
 
 ---- the transaction of a row

@@ -6,7 +6,7 @@ use Rattle.std.proofs.lemmas.List.{drop-map, length-map, map-append, take-map}
 use Rattle.std.proofs.lemmas.Option.{slice_get-get_or}
 use Rattle.std.proofs.lemmas.List.Quantifiers.{position-Some}
 use Rattle.std.proofs.lemmas.Slice.Eq.{bytes_eq-Decides}
-use Rattle.sdb_types.proofs.Basics.{false_by, false_true, none_before}
+use Rattle.sdb_types.proofs.Public.{false_by, false_true, none_before}
 use Rattle.sdb_stores.specs.Views.{Attached, StoreView, IsDropped, index_at, index_in, names_of, place_of, places_without}
 use Rattle.sdb_catalog.specs.Calls.{first_contents, with_states}
 use Rattle.sdb_catalog.specs.Opened.{is_attached}

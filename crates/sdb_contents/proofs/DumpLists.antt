@@ -4,7 +4,7 @@ use Rattle.std.specs.Prelude.{AllPairs, Contains, find, slice_get}
 use Rattle.std.specs.List.{cons_option, filter_map}
 use Rattle.std.specs.Result.{result_ok}
 use Rattle.std.proofs.lemmas.List.Elements.{Contains-get_or}
-use Rattle.sdb_types.proofs.Basics.{by_test, none_some, some_is}
+use Rattle.sdb_types.proofs.Public.{by_test, none_some, some_is}
 
 -- what is so of a success
 pub ok_is : {A E : Type 0} (P : A → Type 0) (r : Result A E) (x : A) → IfOk r P → Some x ≡ result_ok r → P x

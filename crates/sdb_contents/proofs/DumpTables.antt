@@ -12,9 +12,8 @@ use Rattle.std.specs.declared.cmp.Ordering.TheVariants.{Less, Equal, Greater}
 use Rattle.sdb_types.specs.Contents.{Contents, in_span, record_at, record_of, rows_in}
 use Rattle.sdb_types.specs.Exact.{equal_of}
 use Rattle.sdb_types.specs.Order.{key_cmp, table_cmp}
-use Rattle.sdb_types.proofs.KeyOrder.{key_exact, key_total, table_exact, table_total}
+use Rattle.sdb_types.proofs.Public.{and_true as inside_is, both_t, by_test, clash as true_false, first_t, key_exact, key_total, second_t, table_exact, table_total}
 use Rattle.sdb_model.specs.Exec.{Tables, all_rows, is_row_of, row_of_entry}
-use Rattle.sdb_types.proofs.Basics.{by_test, and_true as inside_is, first_t, second_t, both_t, clash as true_false}
 use Rattle.sdb_contents.specs.Opening.{whole}
 
 abbrev pub Entry : Type 0

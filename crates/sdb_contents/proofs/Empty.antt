@@ -15,10 +15,9 @@ use Rattle.sdb_types.specs.declared.record.Request.TheVariants as ask
 use Rattle.sdb_types.specs.declared.record.Reply.TheVariants as reply
 use Rattle.sdb_types.specs.Contents.{Contents, are_rows_of, record_at, record_of, rise, rows_in, in_span, record_among}
 use Rattle.sdb_types.specs.Order.{key_cmp, table_cmp}
-use Rattle.sdb_types.proofs.KeyOrder.{table_exact, table_total}
-use Rattle.sdb_types.proofs.Bools.{and_first, and_second}
+use Rattle.sdb_types.proofs.Public.{and_first, and_second, none_some, some_is, table_exact, table_total, take_all as taken_up}
 use Rattle.sdb_types.specs.Exact.{equal_of}
-use Rattle.law_protocol.proofs.Shown.{row_there}
+use Rattle.law_protocol.proofs.Public.{row_there}
 use Rattle.sdb_stores.specs.Views.{Attached, StoreView as Counted, home, home_in, names_of}
 use Rattle.sdb_model.specs.Rows.{Name}
 use Rattle.sdb_model.specs.Events.{StoreContents, contents_under, store_of}
@@ -29,7 +28,6 @@ use Rattle.sdb_contents.proofs.GoesOn.{fit_for, fit_for_on}
 use Rattle.sdb_contents.proofs.Lists.{all_at}
 use Rattle.sdb_contents.proofs.Shelves.{held_at, named_home}
 use Rattle.sdb_contents.proofs.RunTables.{names_played, of_played}
-use Rattle.sdb_types.proofs.Basics.{none_some, some_is, take_all as taken_up}
 use Rattle.sdb_model.specs.Tables.{is_table_of_run}
 
 pub nothing_at : (key : Key) → record_at empty key ≡ None

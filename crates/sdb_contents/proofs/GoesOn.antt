@@ -7,7 +7,7 @@ use Rattle.std.proofs.lemmas.List.Quantifiers.{any-set}
 use Rattle.std.proofs.lemmas.Option.{get_or_from_slice_get, slice_get_within}
 use Rattle.sdb_contents.specs.Types.{Event, Place, Reply, Request, Table, TableName}
 use Rattle.sdb_stores.specs.Views.{Attached, StoreView as Counted, AreDistinct, HaveRisen, IsCallAt, names_of, home, home_in, place_of, route_of}
-use Rattle.sdb_stores.proofs.Called.{same_names, grown, not_fewer}
+use Rattle.sdb_stores.proofs.Public.{grown, not_fewer, same_names}
 use Rattle.sdb_model.specs.Rows.{Name}
 use Rattle.sdb_model.specs.Events.{StoreContents, IsTrace, Effect}
 use Rattle.sdb_contents.specs.Board.{AreUsable, AreUsableFor, GoOn, IsFull, KnownAreUnchanged, Refuses, known_before}

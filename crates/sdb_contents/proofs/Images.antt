@@ -13,14 +13,12 @@ use Rattle.sdb_types.specs.Columns.{column}
 use Rattle.sdb_types.specs.Contents.{Contents, in_span, record_at, rise, rows_among, rows_in, tx_id, record_among}
 use Rattle.sdb_types.specs.Exact.{equal_of}
 use Rattle.sdb_types.specs.Order.{key_cmp, table_cmp}
-use Rattle.sdb_types.proofs.Bools.{and_first}
-use Rattle.sdb_types.proofs.KeyOrder.{key_exact, key_total, table_exact}
-use Rattle.sdb_types.proofs.Replies.{rows_in-are_rows_of}
+use Rattle.sdb_types.proofs.Public.{all_each, and_first, key_exact, key_total, none_some, rows_in-are_rows_of, table_exact}
 use Rattle.sdb_record.specs.Coordinator.{coordinator_key_of, coordinator_table, decision_in}
 use Rattle.sdb_record.specs.Meta.{id_in, id_in_value, is_transactional}
 use Rattle.sdb_record.specs.Rolls.{image_of, row_of_image}
-use Rattle.sdb_record.proofs.IdLemmas.{id_of_text-is}
-use Rattle.law_protocol.proofs.Shown.{row_there}
+use Rattle.sdb_record.proofs.Public.{id_of_text-is}
+use Rattle.law_protocol.proofs.Public.{row_there}
 use Rattle.sdb_schema.specs.Rows.{fits_table}
 use Rattle.sdb_model.specs.Events.{StoreContents, contents_under, stored_at, store_of}
 use Rattle.sdb_model.specs.Exec.{Tables, all_rows, find_table, is_row_of, projected, sorted}
@@ -34,7 +32,6 @@ use Rattle.sdb_contents.specs.Held.{AreDecisions}
 use Rattle.sdb_contents.specs.Refused.{first_unlike}
 use Rattle.sdb_contents.proofs.DumpLists.{found_same}
 use Rattle.sdb_contents.proofs.DumpTables.{of_table, table_rows}
-use Rattle.sdb_types.proofs.Basics.{none_some, all_each}
 use Rattle.sdb_contents.proofs.Empty.{nothing_at}
 
 ---- decisions

@@ -10,13 +10,8 @@ use Rattle.sdb_types.specs.declared.record.Request.TheVariants as ask
 use Rattle.sdb_types.specs.Contents.{Contents, after, holds, in_span, record_among, record_at, rise, rows_in, starts_after}
 use Rattle.sdb_types.specs.Order.{key_cmp, same_key, table_cmp}
 use Rattle.sdb_types.specs.Exact.{equal_of}
-use Rattle.sdb_types.proofs.Basics.{by_test, false_true, less_of}
-use Rattle.sdb_types.proofs.Bools.{and_first, and_second}
-use Rattle.sdb_types.proofs.KeyOrder.{key_total, starts_trans, table_exact}
-use Rattle.sdb_types.proofs.Keys.{same_key_exact, same_key_self, same_key_tells}
-use Rattle.sdb_types.proofs.Replies.{rows_in-are_rows_of}
-use Rattle.law_protocol.proofs.Effects.{after_delete, after_put}
-use Rattle.law_protocol.proofs.Shown.{row_there}
+use Rattle.sdb_types.proofs.Public.{and_first, and_second, by_test, false_true, key_total, less_of, rows_in-are_rows_of, same_key_exact, same_key_self, same_key_tells, starts_trans, table_exact}
+use Rattle.law_protocol.proofs.Public.{after_delete, after_put, row_there}
 use Rattle.sdb_contents.specs.declared.seen.Seen.{Seen}
 use Rattle.sdb_contents.specs.Copying.{IsFree, delete_of, delete_on, put_of, requests_for, requests_of, version_in}
 use Rattle.sdb_contents.specs.Joined.{AreApart, IsWhole, after_all, is_among}

@@ -4,8 +4,7 @@ use Rattle.std.specs.Prelude.{if◌then◌else◌}
 use Rattle.std.specs.List.{AllByRecursion}
 use Rattle.sdb_contents.specs.Types.{Record, Request, TableName}
 use Rattle.sdb_types.specs.Contents.{Contents, after, record_at, rise}
-use Rattle.sdb_types.proofs.Basics.{all_each, by_test, eq_of, append_all}
-use Rattle.sdb_types.proofs.Bools.{and_first}
+use Rattle.sdb_types.proofs.Public.{all_each, and_first, append_all, by_test, eq_of}
 use Rattle.sdb_stores.specs.Views.{Attached, index_at}
 use Rattle.sdb_contents.specs.declared.seen.Seen.{Seen}
 use Rattle.sdb_contents.specs.declared.survey.Survey.{Survey}

@@ -6,10 +6,10 @@ use Rattle.std.specs.Ordering.{is_eq}
 use Rattle.std.specs.Cmp.{tied_itself}
 use Rattle.sdb_contents.specs.Types.{Decided, Key, Place, Record, Table, TableDump, TableName, TxId}
 use Rattle.sdb_types.specs.Contents.{Contents, in_span, record_among, record_at, rows_in}
-use Rattle.sdb_types.proofs.KeyOrder.{table_total}
+use Rattle.sdb_types.proofs.Public.{table_total}
 use Rattle.sdb_record.specs.declared.coordinator.Decision.TheVariants as decision
 use Rattle.sdb_record.specs.Coordinator.{coordinator_table}
-use Rattle.law_protocol.proofs.Shown.{row_there}
+use Rattle.law_protocol.proofs.Public.{row_there}
 use Rattle.sdb_stores.specs.Views.{Attached}
 use Rattle.sdb_model.specs.Events.{StoreContents, contents_under, stored_at, store_of}
 use Rattle.sdb_model.specs.Images.{decision_at}

@@ -1,35 +1,36 @@
-pub mod Lists
-pub mod Shelves
-pub mod Made
-pub mod GoesOn
-pub mod RunTables
-pub mod Empty
-pub mod DumpLists
-pub mod Refusals
-pub mod Coordinated
-pub mod Kept
-pub mod DumpTables
-pub mod Images
-pub mod OddRecords
-pub mod Closings
-pub mod Later
-pub mod Saying
-pub mod Ended
-pub mod Prepared
-pub mod Rising
-pub mod Calls
-pub mod Scans
-pub mod Moved
-pub mod Steps
-pub mod Making
-pub mod Surveys
-pub mod Versions
-pub mod Joins
-pub mod Apart
-pub mod Known
-pub mod Settled
-pub mod Passing
-pub mod Renewing
-pub mod Dropping
-pub mod Staying
-pub mod RetireEnded
+mod Lists
+mod Shelves
+mod Made
+mod GoesOn
+mod RunTables
+mod Empty
+mod DumpLists
+mod Refusals
+mod Coordinated
+mod Kept
+mod DumpTables
+mod Images
+mod OddRecords
+mod Closings
+mod Later
+mod Saying
+mod Ended
+mod Prepared
+mod Rising
+mod Calls
+mod Scans
+mod Moved
+mod Steps
+mod Making
+mod Surveys
+mod Versions
+mod Joins
+mod Apart
+mod Known
+mod Settled
+mod Passing
+mod Renewing
+mod Dropping
+mod Staying
+mod RetireEnded
+pub mod Public

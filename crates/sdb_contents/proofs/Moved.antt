@@ -3,10 +3,10 @@ use Rattle.std.proofs.Common.{◌≡◌, ℕ, suc, ◌<◌, List, [], ◌∷◌,
 use Rattle.std.specs.List.{list_all}
 use Rattle.std.proofs.Math.Seq.{drop-cons}
 use Rattle.sdb_contents.specs.Types.{Entry, Key, Record}
-use Rattle.sdb_types.proofs.Bools.{and_both}
+use Rattle.sdb_types.proofs.Public.{and_both}
 use Rattle.sdb_schema.specs.Table.{rises}
 use Rattle.sdb_catalog.specs.Rows.{row_of}
-use Rattle.sdb_catalog.proofs.Reading.{kept_rises}
+use Rattle.sdb_catalog.proofs.Public.{kept_rises}
 use Rattle.sdb_contents.specs.Moving.{FollowMoving, FollowsMoving, IsFirstBadMoving}
 
 pub follow_more : (names : List (List ℕ)) (from to : List ℕ) (passed es : List Entry) (e : Entry) → FollowMoving names from to passed es → FollowsMoving names from to (passed ++ es) e → FollowMoving names from to passed (es ++ e ∷ [])

@@ -8,11 +8,9 @@ use Rattle.sdb_contents.specs.Types.{Decided, Key, Place, Record, Table, TableNa
 use Rattle.sdb_types.specs.Contents.{Contents, in_span, record_at, rise, rows_in}
 use Rattle.sdb_types.specs.Exact.{equal_of}
 use Rattle.sdb_types.specs.Order.{table_cmp}
-use Rattle.sdb_types.proofs.Bools.{and_first, and_second}
-use Rattle.sdb_types.proofs.KeyOrder.{table_exact}
-use Rattle.sdb_types.proofs.Replies.{rows_in-are_rows_of}
+use Rattle.sdb_types.proofs.Public.{and_first, and_second, none_some, rows_in-are_rows_of, some_is, table_exact}
 use Rattle.sdb_record.specs.Coordinator.{coordinator_table, is_coordinator_table}
-use Rattle.law_protocol.proofs.Shown.{row_there}
+use Rattle.law_protocol.proofs.Public.{row_there}
 use Rattle.sdb_model.specs.Events.{StoreContents, contents_under, stored_at, store_of}
 use Rattle.sdb_contents.specs.Opening.{records_of, whole}
 use Rattle.sdb_contents.specs.Decided.{is_decided}
@@ -21,7 +19,6 @@ use Rattle.sdb_contents.specs.Odd.{IsOddAt, first_ill_formed, first_in, first_of
 use Rattle.sdb_contents.specs.Refused.{first_unlike}
 use Rattle.sdb_contents.proofs.Coordinated.{row_found}
 use Rattle.sdb_contents.proofs.DumpLists.{first_or_later, found_in_list, none_in}
-use Rattle.sdb_types.proofs.Basics.{none_some, some_is}
 
 not_so : (b : Bool) → not b ≡ true → b ≡ false
 not_so true e = let f = e in cc

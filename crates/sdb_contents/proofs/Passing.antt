@@ -16,13 +16,12 @@ use Rattle.sdb_types.specs.Contents.{Contents, after, has_value, holds, in_span,
 use Rattle.sdb_types.specs.Order.{key_cmp, same_key}
 use Rattle.sdb_types.specs.TxId.{id_text}
 use Rattle.sdb_types.specs.ValueLaws.{value_total}
-use Rattle.sdb_types.proofs.Basics.{all_each, and_false, append_all, by_test, eq_of, false_true}
-use Rattle.sdb_types.proofs.Bools.{and_both, and_first, and_second}
+use Rattle.sdb_types.proofs.Public.{all_each, and_both, and_false, and_first, and_second, append_all, by_test, eq_of, false_true}
 use Rattle.sdb_record.specs.Parts.{is_column_name}
 use Rattle.sdb_stores.specs.Views.{Attached, StoreView, index_at}
 use Rattle.sdb_catalog.specs.Rows.{MayHaveRow, metadata_table, row_of}
-use Rattle.sdb_catalog.proofs.Catalogs.{own_ns, key_of_row}
-use Rattle.law_protocol.proofs.Effects.{after_put}
+use Rattle.sdb_catalog.proofs.Public.{key_of_row, own_ns}
+use Rattle.law_protocol.proofs.Public.{after_put}
 use Rattle.sdb_contents.specs.declared.seen.Seen.{Seen}
 use Rattle.sdb_contents.specs.declared.survey.Survey.{Survey}
 use Rattle.sdb_contents.specs.Copying.{Passes, WasUnmet, delete_of, delete_on, put_of, requests_for, requests_of, version_in}

@@ -9,7 +9,7 @@ use Rattle.sdb_types.specs.Columns.{column}
 use Rattle.sdb_types.specs.Contents.{has_value, state_number, tx_id, tx_state}
 use Rattle.sdb_types.specs.TxId.{id_text}
 use Rattle.sdb_record.specs.Meta.{id_in}
-use Rattle.sdb_record.proofs.ImageLaws.{written}
+use Rattle.sdb_record.proofs.Public.{written}
 use Rattle.sdb_contents.specs.Order.{is_of}
 use Rattle.sdb_model.specs.Transactions.{is_prepared_record}
 

@@ -10,15 +10,10 @@ use Rattle.sdb_types.specs.declared.record.Condition.TheVariants.{Version}
 use Rattle.sdb_types.specs.declared.record.State.TheVariants.{Committed}
 use Rattle.sdb_types.specs.Contents.{Contents, after, holds, in_span, record_among, record_at, rise, rows_in, starts_after}
 use Rattle.sdb_types.specs.Order.{key_cmp, same_key}
-use Rattle.sdb_types.proofs.Basics.{by_test, false_true, less_of, none_some, some_is}
-use Rattle.sdb_types.proofs.Bools.{and_first, and_second}
-use Rattle.sdb_types.proofs.KeyOrder.{key_total, starts_trans}
-use Rattle.sdb_types.proofs.Keys.{same_key_exact, same_key_self, same_key_turned}
-use Rattle.sdb_types.proofs.Replies.{rows_in-are_rows_of}
+use Rattle.sdb_types.proofs.Public.{and_first, and_second, by_test, false_true, key_total, less_of, none_some, rows_in-are_rows_of, same_key_exact, same_key_self, same_key_turned, some_is, starts_trans}
 use Rattle.sdb_stores.specs.Views.{Attached, index_at}
 use Rattle.sdb_catalog.specs.Rows.{metadata_key_of, metadata_table, row_of}
-use Rattle.law_protocol.proofs.Effects.{after_put}
-use Rattle.law_protocol.proofs.Shown.{row_there}
+use Rattle.law_protocol.proofs.Public.{after_put, row_there}
 use Rattle.sdb_contents.specs.declared.survey.Survey.{Survey}
 use Rattle.sdb_contents.specs.Copying.{requests_of}
 use Rattle.sdb_contents.specs.Joined.{after_all, settle}

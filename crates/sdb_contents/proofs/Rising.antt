@@ -8,7 +8,7 @@ use Rattle.std.proofs.lemmas.List.Sorted.{Contains-permutation, IsPermutation-sy
 use Rattle.sdb_contents.specs.Types.{Event, Point, TxId}
 use Rattle.sdb_model.specs.Transactions.{point, ArePointsApart, point_at}
 use Rattle.sdb_contents.specs.Order.{rising_from}
-use Rattle.sdb_types.proofs.Basics.{lt_of as is_less}
+use Rattle.sdb_types.proofs.Public.{lt_of as is_less}
 
 ---- what a list has
 

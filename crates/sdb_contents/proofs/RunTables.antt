@@ -9,14 +9,12 @@ use Rattle.std.proofs.lemmas.List.{map-append}
 use Rattle.sdb_contents.specs.Types.{Table, TableName}
 use Rattle.sdb_types.specs.Exact.{equal_of}
 use Rattle.sdb_types.specs.Order.{table_cmp}
-use Rattle.sdb_types.proofs.Bools.{and_first, and_second}
-use Rattle.sdb_types.proofs.KeyOrder.{table_exact, table_total}
+use Rattle.sdb_types.proofs.Public.{all_each, and_first, and_second, by_test, either as or_cases, or_second, table_exact, table_total}
 use Rattle.sdb_record.specs.Coordinator.{coordinator_table, is_coordinator_table}
-use Rattle.sdb_record.proofs.NameLemmas.{same_name-true}
+use Rattle.sdb_record.proofs.Public.{same_name-true}
 use Rattle.sdb_model.specs.Exec.{find_table}
 use Rattle.sdb_contents.specs.Opening.{run_tables, table_names}
 use Rattle.sdb_contents.proofs.Lists.{take_suc}
-use Rattle.sdb_types.proofs.Basics.{by_test, or_second, all_each, either as or_cases}
 use Rattle.sdb_model.specs.Tables.{is_table_of_run}
 
 or_first : (a b : Bool) → a ≡ true → (a || b) ≡ true

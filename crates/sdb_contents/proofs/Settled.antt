@@ -6,7 +6,7 @@ use Rattle.std.specs.Str.{bytes_eq}
 use Rattle.std.proofs.lemmas.List.{map-append}
 use Rattle.std.proofs.lemmas.List.Sums.{sum_by-cons}
 use Rattle.sdb_contents.specs.Types.{Entry, TxId}
-use Rattle.sdb_types.proofs.Basics.{by_test, lt_of}
+use Rattle.sdb_types.proofs.Public.{by_test, lt_of}
 use Rattle.sdb_catalog.specs.Opened.{Follow, IsEntry, agrees, fits, is_attached, is_coordinators, open_count, tables_of}
 use Rattle.sdb_contents.specs.Joined.{ArePartly, AreStillAttached, settle}
 use Rattle.sdb_contents.specs.Moving.{FollowMoving, agrees_moving, agrees_with_moving, next_revision, renewed, settled}

@@ -8,13 +8,13 @@ use Rattle.std.proofs.lemmas.List.Quantifiers.{position-Some}
 use Rattle.std.proofs.lemmas.Option.{slice_get-map, slice_get_within, slice_get-get_or, get_or_from_slice_get}
 use Rattle.std.proofs.lemmas.Slice.Eq.{bytes_eq-Decides}
 use Rattle.sdb_types.specs.Contents.{Contents}
-use Rattle.sdb_record.proofs.NameLemmas.{same_name-itself, same_name-true}
+use Rattle.sdb_record.proofs.Public.{same_name-itself, same_name-true}
 use Rattle.sdb_stores.specs.Views.{StoreView as Counted, AreDistinct, names_of, place_of, route_of, home, home_of}
 use Rattle.sdb_types.specs.declared.place.Place.{Place}
 use Rattle.sdb_model.specs.Rows.{Name, same_name}
 use Rattle.sdb_model.specs.Events.{contents_under, with_contents, first_name, store_of}
 use Rattle.sdb_contents.specs.Board.{contents_of_views}
-use Rattle.sdb_types.proofs.Basics.{by_test, some_is, clash as true_false}
+use Rattle.sdb_types.proofs.Public.{by_test, clash as true_false, some_is}
 
 ---- names
 

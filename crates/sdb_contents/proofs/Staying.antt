@@ -13,9 +13,7 @@ use Rattle.std.proofs.lemmas.Slice.Eq.{bytes_eq-Decides}
 use Rattle.sdb_contents.specs.Types.{Entry, Key, Record, Table, TableName, TxId}
 use Rattle.sdb_types.specs.Contents.{in_span, record_at, rows_in}
 use Rattle.sdb_types.specs.Order.{table_cmp}
-use Rattle.sdb_types.proofs.Basics.{by_test, either, eq_of, false_by, false_true, none_some, or_second, some_is}
-use Rattle.sdb_types.proofs.Bools.{and_both, and_first, and_second, or_first}
-use Rattle.sdb_types.proofs.KeyOrder.{table_total}
+use Rattle.sdb_types.proofs.Public.{and_both, and_first, and_second, by_test, either, eq_of, false_by, false_true, none_some, or_first, or_second, some_is, table_total}
 use Rattle.sdb_record.specs.Coordinator.{coordinator_key_of, coordinator_table, decision_in}
 use Rattle.sdb_record.specs.Meta.{id_in}
 use Rattle.sdb_record.specs.Parts.{is_column_name}
@@ -24,7 +22,7 @@ use Rattle.sdb_stores.specs.Views.{Attached, StoreView, index_at, index_in, name
 use Rattle.sdb_catalog.specs.Calls.{first_contents, metadata_span}
 use Rattle.sdb_catalog.specs.Opened.{Opens, is_attached, store_in}
 use Rattle.sdb_catalog.specs.Rows.{MayHaveRow, coordinators, metadata_table}
-use Rattle.sdb_catalog.proofs.Opening.{attached_placed}
+use Rattle.sdb_catalog.proofs.Public.{attached_placed}
 use Rattle.sdb_contents.specs.Copying.{requests_of}
 use Rattle.sdb_contents.specs.Imaged.{image_by, record_in_store, record_before}
 use Rattle.sdb_contents.specs.Joined.{is_among, settle}

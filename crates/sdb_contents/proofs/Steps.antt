@@ -10,7 +10,7 @@ use Rattle.std.proofs.lemmas.List.{map-append}
 use Rattle.std.proofs.lemmas.List.Elements.{Contains-get_or}
 use Rattle.sdb_contents.specs.Types.{Key, Record, Request, TableName}
 use Rattle.sdb_types.specs.declared.record.Reply.TheVariants.{NotMet}
-use Rattle.sdb_types.proofs.Basics.{all_last, below, none_some}
+use Rattle.sdb_types.proofs.Public.{all_last, below, none_some}
 use Rattle.sdb_stores.specs.Views.{Attached, StoreView, IsCallAt, index_at, index_in, names_of, place_of}
 use Rattle.sdb_catalog.specs.Calls.{with_states}
 use Rattle.sdb_contents.specs.declared.retire_refused.RetireRefused.{RetireRefused}

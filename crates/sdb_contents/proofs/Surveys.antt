@@ -2,7 +2,7 @@
 use Rattle.std.proofs.Common.{◌≡◌, inl, inr, ℕ, List, [], ◌++◌, refl, sym, ap, subst, ◌∙◌, append-nil}
 use Rattle.std.specs.Prelude.{OnErr, Result, Ok, Err}
 use Rattle.sdb_contents.specs.Types.{Entry, Key, Request, TableName}
-use Rattle.sdb_types.proofs.Basics.{all_each}
+use Rattle.sdb_types.proofs.Public.{all_each}
 use Rattle.sdb_stores.specs.Views.{Attached, StoreView, index_at}
 use Rattle.sdb_contents.specs.declared.retire_refused.RetireRefused.{RetireRefused}
 use Rattle.sdb_contents.specs.declared.retire_refused.RetireRefused.TheVariants as refused

@@ -7,11 +7,9 @@ use Rattle.sdb_types.specs.declared.value.Value.TheVariants as value
 use Rattle.sdb_types.specs.Columns.{column}
 use Rattle.sdb_types.specs.Contents.{has_value, holds, state_number, tx_id, tx_state}
 use Rattle.sdb_types.specs.TxId.{id_text}
-use Rattle.sdb_types.proofs.Bools.{and_both}
+use Rattle.sdb_types.proofs.Public.{and_both}
 use Rattle.sdb_record.specs.Meta.{id_in, id_in_value, state_in}
-use Rattle.sdb_record.proofs.IdLemmas.{id_of_text-is}
-use Rattle.sdb_record.proofs.RollLaws.{has_int}
-use Rattle.sdb_record.proofs.States.{state_value}
+use Rattle.sdb_record.proofs.Public.{has_int, id_of_text-is, state_value}
 use Rattle.sdb_types.specs.ValueLaws.{value_total}
 use Rattle.std.specs.Ordering.{is_eq}
 use Rattle.std.specs.Cmp.{tied_itself}

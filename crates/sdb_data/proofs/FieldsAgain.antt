@@ -18,7 +18,7 @@ use Rattle.hex.proofs.HexLemmas.{IsAscii-encode_with, decode_of-encode_upper}
 use Rattle.hex.proofs.OnLiterals.{hex_on_literals}
 use Rattle.sdb_types.specs.declared.value.Value.{Value}
 use Rattle.sdb_types.specs.declared.value.Value.TheVariants as value
-use Rattle.sdb_types.proofs.Bools.{and_first, and_second}
+use Rattle.sdb_types.proofs.Public.{and_first, and_second}
 use Rattle.sdb_schema.specs.declared.table.Kind.{Kind}
 use Rattle.sdb_schema.specs.declared.table.Kind.TheVariants as kind
 use Rattle.sdb_schema.specs.declared.table.Column.{Column}

@@ -1,9 +1,10 @@
-pub mod AllRead
-pub mod Lists
-pub mod Lenient
-pub mod Numbers
-pub mod FieldsAgain
-pub mod NamesAgain
-pub mod RowsAgain
-pub mod TextAgain
-pub mod Texts
+mod AllRead
+mod Lists
+mod Lenient
+mod Numbers
+mod FieldsAgain
+mod NamesAgain
+mod RowsAgain
+mod TextAgain
+mod Texts
+pub mod Public

@@ -11,11 +11,10 @@ use Rattle.std.proofs.lemmas.Bool.Decides.{nat_tests}
 use Rattle.sdb_types.specs.Order.{name_cmp}
 use Rattle.sdb_types.specs.Identifier.{is_identifier, is_start, is_part}
 use Rattle.sdb_types.specs.declared.value.Value.TheVariants as value
-use Rattle.sdb_types.proofs.Bools.{and_first, and_second, and_both}
-use Rattle.sdb_types.proofs.KeyOrder.{name_total}
+use Rattle.sdb_types.proofs.Public.{and_both, and_first, and_second, less_of, name_total, one_more, part_small as part-small, start_part as start-part}
 use Rattle.sdb_record.specs.Names.{same_name}
 use Rattle.sdb_record.specs.Parts.{is_column_name}
-use Rattle.sdb_record.proofs.NameLemmas.{same_name-itself}
+use Rattle.sdb_record.proofs.Public.{same_name-itself}
 use Rattle.sdb_schema.specs.declared.table.Kind.TheVariants as kind
 use Rattle.sdb_schema.specs.declared.table.Column.{Column}
 use Rattle.sdb_schema.specs.declared.table.Table.{Table}
@@ -26,8 +25,6 @@ use Rattle.sdb_data.specs.declared.fault.Mode.TheVariants as mode
 use Rattle.sdb_data.specs.Tables.{header_fault, is_named, named_at, names_fault, nothing_to_set, repeat_place, column_taken}
 use Rattle.sdb_data.specs.Printed.{can_load}
 use Rattle.sdb_data.proofs.FieldsAgain.{ascii-utf8}
-use Rattle.sdb_types.proofs.Basics.{less_of, one_more}
-use Rattle.sdb_types.proofs.Words.{part_small as part-small, start_part as start-part}
 
 ---- columns whose names rise
 

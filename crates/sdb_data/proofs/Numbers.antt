@@ -11,7 +11,7 @@ use Rattle.std.proofs.lemmas.Bool.{false_from_ne_true, eqb-true}
 use Rattle.std.proofs.lemmas.Bool.Decides.{nat_tests}
 use Rattle.std.proofs.lemmas.Fmt.{decimal_is_IsNumeral, parse-signed_decimal}
 use lib.Signed.{mag}
-use Rattle.sdb_types.proofs.Bools.{and_first, and_second}
+use Rattle.sdb_types.proofs.Public.{and_first, and_second}
 use Rattle.sdb_data.specs.Fields.{number_of_digits, is_shortest, is_big, number_in}
 use Rattle.sdb_types.specs.Fits.{fits_int}
 

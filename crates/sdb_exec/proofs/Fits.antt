@@ -13,7 +13,7 @@ use Rattle.std.proofs.lemmas.Bool.Decides.{nat_tests}
 use Rattle.sdb_types.specs.declared.value.Value.TheVariants as value
 use Rattle.sdb_types.specs.Order.{name_cmp, key_cmp}
 use Rattle.sdb_types.specs.Columns.{is_null, with_column, put_pair, take_out, choose_by}
-use Rattle.sdb_types.proofs.KeyOrder.{name_exact, name_total}
+use Rattle.sdb_types.proofs.Public.{name_exact, name_total}
 use Rattle.sdb_schema.specs.declared.table.Kind.TheVariants as kind
 use Rattle.sdb_schema.specs.Table.{has_column, key_names, is_key_column as is_listed_key}
 use Rattle.sdb_schema.specs.Rows.{is_of_kind, is_in_range, is_value_of, are_values_of, is_stored_in, fits_table}

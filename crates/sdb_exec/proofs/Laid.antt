@@ -8,11 +8,10 @@ use Rattle.std.specs.FinMap.Entries.{below_all}
 use Rattle.std.proofs.lemmas.Bool.{and_parts}
 use Rattle.sdb_exec.specs.Types.{Change, Image, Key, Keyed, Pair}
 use Rattle.sdb_types.specs.Order.{key_cmp}
-use Rattle.sdb_types.proofs.KeyOrder.{key_exact, key_total}
+use Rattle.sdb_types.proofs.Public.{key_exact, key_total, less_of as less}
 use Rattle.sdb_model.specs.Exec.{Tables, row_of_entry, entry_of_row}
 use Rattle.sdb_record.specs.Rolls.{row_of_change}
 use Rattle.sdb_model.specs.Access.{with_row, with_changes}
-use Rattle.sdb_types.proofs.Basics.{less_of as less}
 
 apart : (x : Key) (es : List (Key × List Pair)) → below_all key_cmp x es ≡ true → find key_cmp x es ≡ None
 apart x [] h = refl

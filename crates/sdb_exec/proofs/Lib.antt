@@ -1,10 +1,11 @@
-pub mod Fixed
-pub mod Gathered
-pub mod Sorting
-pub mod Places
-pub mod Narrow
-pub mod Laid
-pub mod Local
-pub mod Whole
-pub mod InOrder
-pub mod Fits
+mod Fixed
+mod Gathered
+mod Sorting
+mod Places
+mod Narrow
+mod Laid
+mod Local
+mod Whole
+mod InOrder
+mod Fits
+pub mod Public

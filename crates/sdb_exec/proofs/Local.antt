@@ -6,7 +6,7 @@ use Rattle.std.specs.FinMap.{get, insert, entries, entries_sorted, find, is_sort
 use Rattle.std.specs.FinMap.Entries.{where_key, is_sorted-where_key, find-where_key}
 use Rattle.sdb_exec.specs.Types.{Access, Image, Key, Pair, Statement, Table, Test}
 use Rattle.sdb_types.specs.Order.{key_cmp}
-use Rattle.sdb_types.proofs.KeyOrder.{key_exact, key_total}
+use Rattle.sdb_types.proofs.Public.{cond_some as each, key_exact, key_total, truth as true_from_T}
 use Rattle.sdb_model.specs.declared.statement.Statement.TheVariants as statement
 use Rattle.sdb_record.specs.declared.access.Access.TheVariants as access
 use Rattle.sdb_model.specs.declared.answer.Answer.TheVariants as answer
@@ -18,8 +18,7 @@ use Rattle.sdb_model.specs.Access.{in_access, rows_at, with_changes}
 use Rattle.sdb_exec.specs.Plans.{has_shape, are_shaped, put_row, columns_at, answer_on, changes_on}
 use Rattle.sdb_exec.proofs.Narrow.{narrow, tests_imply_access}
 use Rattle.sdb_exec.proofs.Laid.{outcome, keyed, laid, mapped_at, find-mapped, sieved_at, find-sieved}
-use Rattle.sdb_types.proofs.Basics.{truth as true_from_T, cond_some as each}
-use Rattle.sdb_model.proofs.Basics.{where_rows}
+use Rattle.sdb_model.proofs.Public.{where_rows}
 
 -- the rows that pass are found among those of the access
 pub passing : (t : Table) (ts : List Test) (d : Tables) → is_table t ≡ true → are_shaped t (all_rows d) ≡ true → filter (passes t ts) (all_rows d) ≡ filter (passes t ts) (rows_at (access_for t ts) d)

@@ -12,7 +12,7 @@ use Rattle.std.proofs.lemmas.List.Folds.{list_any-append}
 use Rattle.sdb_exec.specs.Types.{Image, Key, Table, TableName, Test, Value}
 use Rattle.sdb_types.specs.Order.{key_cmp, table_cmp, value_cmp}
 use Rattle.sdb_types.specs.ValueLaws.{value_exact, value_total}
-use Rattle.sdb_types.proofs.KeyOrder.{name_exact, table_exact, table_total, key_total}
+use Rattle.sdb_types.proofs.Public.{key_total, name_exact, table_exact, table_total}
 use Rattle.sdb_schema.specs.Table.{is_table, first_repeated, is_among, key_names}
 use Rattle.sdb_model.specs.declared.statement.Comparison.TheVariants.{Eq, Ne, Lt, Le, Gt, Ge}
 use Rattle.sdb_model.specs.declared.statement.Test.TheVariants.{Compare, IsNull, NotNull}

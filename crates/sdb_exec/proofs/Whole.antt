@@ -8,7 +8,7 @@ use Rattle.std.proofs.lemmas.Bool.{and_parts, and_from, eq-eqb}
 use Rattle.std.proofs.lemmas.List.{length-map}
 use Rattle.sdb_exec.specs.Types.{Column, Image, Key, Pair, Statement, Table, TableName, Value}
 use Rattle.sdb_types.specs.Order.{key_cmp, table_cmp}
-use Rattle.sdb_types.proofs.KeyOrder.{table_total, key_exact}
+use Rattle.sdb_types.proofs.Public.{key_exact, table_total}
 use Rattle.sdb_schema.specs.Table.{is_table, order_names}
 use Rattle.sdb_schema.specs.Rows.{fits_table, are_values_of, is_value_of, is_stored_in}
 use Rattle.sdb_model.specs.Rows.{Name}

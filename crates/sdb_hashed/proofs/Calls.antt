@@ -13,7 +13,7 @@ use Rattle.sdb_types.specs.declared.record.Reply.TheVariants.{Applied, NotMet}
 use Rattle.sdb_types.specs.declared.record.Request.TheVariants.{PutIf, DeleteIf}
 use Rattle.sdb_types.specs.Order.{key_cmp}
 use Rattle.sdb_types.specs.Contents.{Contents, record_of, record_at, holds, put_reply, after, reply_to}
-use Rattle.sdb_types.proofs.KeyOrder.{key_total, key_exact}
+use Rattle.sdb_types.proofs.Public.{key_exact, key_total}
 use Rattle.sdb_store.specs.Store.{Answers}
 use Rattle.sdb_hashed.specs.Gathered.{contents_of_all, in_part, part_at, HasOwnKeys, ChangesAt}
 use Rattle.sdb_hashed.proofs.Changes.{IsLocal, nothing_local, insert_local, remove_absent}

@@ -9,7 +9,7 @@ use Rattle.sdb_types.specs.declared.record.Request.TheVariants.{PutIf, DeleteIf}
 use Rattle.sdb_types.specs.Order.{key_cmp}
 use Rattle.sdb_types.specs.Contents.{Contents, record_of, holds, after}
 use Rattle.sdb_types.specs.Exact.{equal_of}
-use Rattle.sdb_types.proofs.KeyOrder.{key_total, key_exact}
+use Rattle.sdb_types.proofs.Public.{key_exact, key_total}
 
 -- A change of what is at k alone: other keys keep what they have, and what k then has comes from what it had.
 pub record IsLocal (k : Key) (op : Contents → Contents) : Type 0 where

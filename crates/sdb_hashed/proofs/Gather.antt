@@ -10,8 +10,7 @@ use Rattle.sdb_hashed.specs.Types.{Key, Pair}
 use Rattle.sdb_types.specs.Order.{key_cmp}
 use Rattle.sdb_types.specs.Contents.{Contents}
 use Rattle.sdb_types.specs.Exact.{equal_of}
-use Rattle.sdb_types.proofs.KeyOrder.{key_total, key_exact}
-use Rattle.sdb_types.proofs.Basics.{or_else, or_none, false_by}
+use Rattle.sdb_types.proofs.Public.{false_by, key_exact, key_total, or_else, or_none}
 use Rattle.sdb_hashed.specs.Gathered.{gathered, contents_of_all, in_part, part_at, HasOwnKeys, ChangesAt}
 use Rattle.sdb_hashed.proofs.Changes.{IsLocal}
 

@@ -9,8 +9,7 @@ use Rattle.sdb_types.specs.Order.{table_cmp, value_cmp}
 use Rattle.sdb_types.specs.Exact.{equal_of}
 use Rattle.sdb_types.specs.ValueLaws.{value_exact}
 use Rattle.sdb_types.specs.Contents.{in_span, is_partition}
-use Rattle.sdb_types.proofs.Bools.{and_first, and_second}
-use Rattle.sdb_types.proofs.KeyOrder.{table_exact}
+use Rattle.sdb_types.proofs.Public.{and_first, and_second, table_exact}
 
 pub table_inside : (span : Span) (key : Key) → in_span span key ≡ true → key.table ≡ span.table
 table_inside span key h =

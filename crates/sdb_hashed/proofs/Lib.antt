@@ -1,7 +1,7 @@
-pub mod Inside
-pub mod Changes
-pub mod Gather
+mod Inside
+mod Changes
+mod Gather
 mod Calls
-pub mod Spans
+mod Spans
 mod Sorting
 mod Parting

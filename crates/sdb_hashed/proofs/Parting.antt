@@ -13,15 +13,13 @@ use Rattle.sdb_types.specs.Order.{key_cmp, table_cmp}
 use Rattle.sdb_types.specs.Exact.{order_decides}
 use Rattle.sdb_types.specs.ValueLaws.{value_exact, value_total}
 use Rattle.sdb_types.specs.Contents.{Contents, record_of, in_span, is_partition, rows_in, rise}
-use Rattle.sdb_types.proofs.Bools.{and_both}
-use Rattle.sdb_types.proofs.KeyOrder.{key_total, key_exact, table_total, table_exact}
+use Rattle.sdb_types.proofs.Public.{and_both, find_span, key_exact, key_total, same_rows, table_exact, table_total}
 use Rattle.sdb_hashed.specs.Bucket.{contents_of_bucket}
 use Rattle.sdb_hashed.specs.Gathered.{contents_of_all, in_part, part_at, HasOwnKeys, IsPartOf}
 use Rattle.sdb_hashed.proofs.Gather.{held_get}
 use Rattle.sdb_hashed.proofs.Inside.{table_inside, partition_inside}
 use Rattle.sdb_hashed.proofs.Sorting.{in_order, unpaired}
 use Rattle.sdb_hashed.proofs.Spans.{no_rows}
-use Rattle.sdb_types.proofs.SpanRows.{find_span, same_rows}
 
 ---- one part
 

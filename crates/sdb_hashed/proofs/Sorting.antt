@@ -14,10 +14,8 @@ use Rattle.std.proofs.lemmas.List.Sorted.{searchable_from_sorted}
 use Rattle.sdb_hashed.specs.Types.{Key, Pair, Record, Span}
 use Rattle.sdb_types.specs.Order.{key_cmp}
 use Rattle.sdb_types.specs.Contents.{record_of, record_at, in_span, rows_in, rise, starts_after}
-use Rattle.sdb_types.proofs.Basics.{less_of, t_both, both_t}
-use Rattle.sdb_types.proofs.Bools.{and_first, and_second}
-use Rattle.sdb_types.proofs.KeyOrder.{key_total, key_exact, starts_trans}
-use Rattle.sdb_store.proofs.Lawful.{rises}
+use Rattle.sdb_types.proofs.Public.{and_first, and_second, both_t, key_exact, key_total, less_of, starts_trans, t_both}
+use Rattle.sdb_store.proofs.Public.{rises}
 use Rattle.sdb_hashed.specs.Bucket.{IsAt, IsGapFor, entries_of, contents_of_bucket}
 use Rattle.sdb_hashed.proofs.Changes.{remove_absent}
 

@@ -7,7 +7,7 @@ use Rattle.std.specs.FinMap.Entries.{where_key}
 use Rattle.sdb_hashed.specs.Types.{Key, Pair, Record, Span}
 use Rattle.sdb_types.specs.Order.{key_cmp}
 use Rattle.sdb_types.specs.Contents.{Contents, record_of, in_span, rows_in}
-use Rattle.sdb_types.proofs.KeyOrder.{key_total}
+use Rattle.sdb_types.proofs.Public.{find_span, key_total, or_else, same_rows}
 use Rattle.sdb_hashed.specs.Put.{with_rows}
 use Rattle.std.specs.Prelude.{IfOk, Result}
 use Rattle.std.specs.Map.{lookup, keys_of}
@@ -19,8 +19,6 @@ use Rattle.std.specs.FinMap.{get-from_entries}
 use Rattle.sdb_hashed.specs.Gathered.{gathered, contents_of_all, in_part, HasOwnKeys}
 use Rattle.sdb_hashed.proofs.Gather.{find_append, held_get}
 use Rattle.std.proofs.lemmas.List.{append-nil as append_nil}
-use Rattle.sdb_types.proofs.Basics.{or_else}
-use Rattle.sdb_types.proofs.SpanRows.{find_span, same_rows}
 
 put_get : (es : List (Key × List Pair)) (m : Contents) (q : Key) → get (with_rows (map record_of es) m) q ≡ or_else (find key_cmp q es) (get m q)
 put_get [] m q = refl

@@ -5,7 +5,7 @@ ghost use Rattle.std.specs.FinMap.{slice_cmp-IsAntisymmetric};
 ghost use Rattle.std.specs.Ordering.{eq_by_cmp};
 ghost use Rattle.sdb_types.specs.Exact.{order_decides};
 ghost use Rattle.sdb_types.specs.ValueLaws.{value_exact, value_total};
-ghost use Rattle.sdb_types.proofs.KeyOrder.{table_exact, table_total};
+ghost use Rattle.sdb_types.proofs.Public.{table_exact, table_total};
 ghost use Rattle.sdb_types.specs.declared.key.Key.{Key};
 ghost use Rattle.sdb_types.specs.Contents.{in_span};
 

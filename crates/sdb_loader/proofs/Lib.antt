@@ -1,4 +1,5 @@
-pub mod Order
-pub mod Names
-pub mod Values
-pub mod WordLaws
+mod Order
+mod Names
+mod Values
+mod WordLaws
+pub mod Public

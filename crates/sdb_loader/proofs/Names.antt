@@ -15,14 +15,12 @@ use Rattle.serde_json.specs.declared.value.Value.{Value}
 use Rattle.sdb_types.specs.declared.key.TableName.{TableName}
 use Rattle.sdb_types.specs.Identifier.{is_name}
 use Rattle.sdb_types.specs.Order.{table_cmp, table_text}
-use Rattle.sdb_types.proofs.Bools.{and_first, and_both}
-use Rattle.sdb_types.proofs.KeyOrder.{by_text}
+use Rattle.sdb_types.proofs.Public.{and_both, and_first, at_byte, by_text, some_is}
 use Rattle.sdb_record.specs.Parts.{is_column_name}
-use Rattle.sdb_record.proofs.NameLemmas.{name_of_column}
+use Rattle.sdb_record.proofs.Public.{name_of_column}
 use Rattle.sdb_schema.specs.Catalog.{rises, is_above_name}
 use Rattle.sdb_loader.specs.Words.{is_open, names_table, table_named}
 use Rattle.sdb_loader.specs.Described.{bad_name, named, table_of}
-use Rattle.sdb_types.proofs.Basics.{some_is, at_byte}
 
 none_is : (t : TableName) → None ≡ Some t → ⊥
 none_is t h = cc

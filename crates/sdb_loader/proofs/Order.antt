@@ -5,11 +5,9 @@ use Rattle.std.specs.declared.cmp.Ordering.TheVariants.{Less, Equal, Greater}
 use Rattle.std.specs.Ordering.{is_lt, is_eq}
 use Rattle.sdb_types.specs.declared.key.TableName.{TableName}
 use Rattle.sdb_types.specs.Order.{table_cmp}
-use Rattle.sdb_types.proofs.Bools.{and_first, and_second, and_both}
-use Rattle.sdb_types.proofs.KeyOrder.{table_total}
+use Rattle.sdb_types.proofs.Public.{and_both, and_first, and_second, less_of, table_total}
 use Rattle.sdb_schema.specs.declared.table.Table.{Table}
 use Rattle.sdb_schema.specs.Catalog.{has_table, with_table, is_above_name, rises}
-use Rattle.sdb_types.proofs.Basics.{less_of}
 
 lower : (t u v : TableName) → is_lt (table_cmp t u) ≡ true → is_lt (table_cmp u v) ≡ true → is_lt (table_cmp t v) ≡ true
 lower t u v h k = ap is_lt (table_total.trans t u v (less_of _ h) (less_of _ k))

@@ -11,7 +11,7 @@ use Rattle.serde_json.specs.Read.{read}
 use Rattle.serde_json.specs.View.{view, items_view}
 use Rattle.serde_json.specs.declared.value.Value.{Value}
 use Rattle.sdb_types.specs.Identifier.{is_identifier}
-use Rattle.sdb_types.proofs.Bools.{and_first, and_both}
+use Rattle.sdb_types.proofs.Public.{and_both, and_first}
 use Rattle.sdb_record.specs.Parts.{is_column_name}
 use Rattle.sdb_schema.specs.declared.table.Kind.{Kind}
 use Rattle.sdb_schema.specs.declared.table.Column.{Column}

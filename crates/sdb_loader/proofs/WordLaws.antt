@@ -7,16 +7,13 @@ use Rattle.std.proofs.lemmas.Bool.Decides.{nat_tests}
 use Rattle.sdb_types.specs.declared.key.TableName.{TableName}
 use Rattle.sdb_types.specs.Identifier.{is_part}
 use Rattle.sdb_types.specs.Order.{table_text}
-use Rattle.sdb_types.proofs.Bools.{and_first, and_second}
-use Rattle.sdb_types.proofs.KeyOrder.{parts}
+use Rattle.sdb_types.proofs.Public.{all_lack, and_first, and_second, around_at, around_behind, at_byte, lacks, no_dot, parts, suc_of as one_more}
 use Rattle.sdb_record.specs.Parts.{is_column_name}
 use Rattle.sdb_schema.specs.declared.table.Direction.{Direction}
 use Rattle.sdb_schema.specs.declared.table.Direction.TheVariants.{Asc}
 use Rattle.sdb_schema.specs.declared.table.Order.{Order}
 use Rattle.sdb_loader.specs.Words.{is_open, names_table, table_named, direction_named, ordered_by, order_around, order_named, IsOrderText}
-use Rattle.sdb_record.proofs.NameLemmas.{name_of_column}
-use Rattle.sdb_types.proofs.Basics.{lacks, suc_of as one_more, around_at, all_lack, at_byte, around_behind}
-use Rattle.sdb_types.proofs.Words.{no_dot}
+use Rattle.sdb_record.proofs.Public.{name_of_column}
 use Rattle.sdb_types.specs.NameText.{around}
 
 ---- bytes that no name has

@@ -1,5 +1,6 @@
-pub mod RealTime
-pub mod Basics
-pub mod Requests
-pub mod Doubled
-pub mod Pieces
+mod RealTime
+mod Basics
+mod Requests
+mod Doubled
+mod Pieces
+pub mod Public

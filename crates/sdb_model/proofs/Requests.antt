@@ -5,9 +5,7 @@ use Rattle.sdb_model.specs.Types.{Key, Record, Reply, Request, TxId}
 use Rattle.sdb_types.specs.declared.record.Reply.TheVariants as reply
 use Rattle.sdb_types.specs.declared.record.Request.TheVariants as ask
 use Rattle.sdb_types.specs.Order.{same_key}
-use Rattle.sdb_types.proofs.Basics.{clash, none_some, one_of, some_is}
-use Rattle.sdb_types.proofs.Bools.{and_second}
-use Rattle.sdb_types.proofs.Keys.{same_key_exact}
+use Rattle.sdb_types.proofs.Public.{and_second, clash, none_some, one_of, same_key_exact, some_is}
 use Rattle.sdb_model.specs.declared.answer.Answer.{Answer}
 use Rattle.sdb_model.specs.declared.event.Event.{Event}
 use Rattle.sdb_model.specs.declared.event.Event.TheVariants as event

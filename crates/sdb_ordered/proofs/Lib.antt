@@ -1,3 +1,4 @@
-pub mod TreeLemmas
-pub mod SpanLemmas
+mod TreeLemmas
+mod SpanLemmas
 mod Writes
+pub mod Public

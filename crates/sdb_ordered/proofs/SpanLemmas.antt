@@ -24,15 +24,12 @@ use Rattle.sdb_types.specs.Order.{key_cmp, table_cmp, value_cmp}
 use Rattle.sdb_types.specs.Exact.{equal_of}
 use Rattle.sdb_types.specs.ValueLaws.{value_exact, value_total}
 use Rattle.sdb_types.specs.Contents.{in_span, is_partition, record_of, rows_among}
-use Rattle.sdb_types.proofs.Bools.{and_first, and_second, and_both}
-use Rattle.sdb_types.proofs.KeyOrder.{table_exact, table_total}
+use Rattle.sdb_types.proofs.Public.{and_both, and_first, and_second, first_t, key_total, second_t, table_exact, table_total}
 use Rattle.std.specs.Prelude.{Result, Ok, Err, IfOk, OnOk}
 use Rattle.std.specs.FinMap.{from_entries}
 use Rattle.sdb_types.specs.Contents.{Contents, rows_in}
-use Rattle.sdb_types.proofs.KeyOrder.{key_total}
 use Rattle.sdb_ordered.proofs.TreeLemmas.{in_order as entries_in_order}
 use Rattle.sdb_ordered.specs.Start.{span_start, partition_or_none}
-use Rattle.sdb_types.proofs.Basics.{first_t, second_t}
 
 ---- orders
 

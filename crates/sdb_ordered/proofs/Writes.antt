@@ -15,7 +15,7 @@ use Rattle.sdb_types.specs.declared.memory.NoMemory.{NoMemory}
 use Rattle.sdb_types.specs.declared.record.Reply.{Reply}
 use Rattle.sdb_types.specs.declared.record.Reply.TheVariants.{Applied, NotMet}
 use Rattle.sdb_types.specs.Contents.{Contents, record_of, record_at, holds}
-use Rattle.sdb_types.proofs.KeyOrder.{key_total, key_exact}
+use Rattle.sdb_types.proofs.Public.{key_exact, key_total}
 use Rattle.sdb_store.specs.Store.{Answers}
 use Rattle.sdb_ordered.proofs.TreeLemmas.{get_entries, inserted}
 

@@ -12,7 +12,7 @@ use Rattle.sdb_record.specs.declared.coordinator.Decision.TheVariants as decisio
 use Rattle.sdb_record.specs.Coordinator.{coordinator_row_of}
 use Rattle.sdb_record.specs.Meta.{is_in}
 use Rattle.sdb_record.specs.Rolls.{prepared_record, forward_record, state_of_change, undo}
-use Rattle.sdb_record.proofs.ImageLaws.{prepared-version, forward-prepared-version}
+use Rattle.sdb_record.proofs.Public.{forward-prepared-version, prepared-version}
 use Rattle.sdb_phases.specs.declared.check.Check.{Check}
 use Rattle.sdb_phases.specs.declared.step.DecidePhase.TheVariants as phase
 use Rattle.sdb_phases.specs.Work.{Work, prepare_of, forward_of, back_of, decide_of, abort_of}

@@ -1,7 +1,8 @@
-pub mod Stands
-pub mod Derived
-pub mod RecoverStands
-pub mod RecoverAnswers
-pub mod Starved
-pub mod DecidingPut
-pub mod Rows
+mod Stands
+mod Derived
+mod RecoverStands
+mod RecoverAnswers
+mod Starved
+mod DecidingPut
+mod Rows
+pub mod Public

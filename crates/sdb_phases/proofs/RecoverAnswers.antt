@@ -7,7 +7,7 @@ use Rattle.sdb_record.specs.declared.coordinator.Decision.TheVariants as decisio
 use Rattle.sdb_record.specs.Coordinator.{coordinator_key_of, decision_in, is_expired}
 use Rattle.sdb_record.specs.Rolls.{forward_record}
 use Rattle.sdb_record.specs.Parts.{before_record}
-use Rattle.sdb_record.proofs.ImageLaws.{row-key}
+use Rattle.sdb_record.proofs.Public.{row-key}
 use Rattle.sdb_phases.specs.declared.step.RecoverStep.{RecoverStep}
 use Rattle.sdb_phases.specs.declared.step.RecoverStep.TheVariants as steps
 use Rattle.sdb_phases.specs.declared.step.RecoverPhase.{RecoverPhase}

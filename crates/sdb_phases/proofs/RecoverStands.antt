@@ -7,7 +7,7 @@ use Rattle.sdb_types.specs.declared.record.Reply.TheVariants as reply
 use Rattle.sdb_record.specs.declared.coordinator.Decision.TheVariants as decision
 use Rattle.sdb_record.specs.Coordinator.{coordinator_key_of, coordinator_row_of, decision_in, is_expired}
 use Rattle.sdb_record.specs.Meta.{is_moment}
-use Rattle.sdb_record.proofs.ImageLaws.{row-key, row-decision}
+use Rattle.sdb_record.proofs.Public.{row-decision, row-key}
 use Rattle.sdb_phases.specs.declared.step.RecoverStep.{RecoverStep}
 use Rattle.sdb_phases.specs.declared.step.RecoverStep.TheVariants as steps
 use Rattle.sdb_phases.specs.declared.step.RecoverPhase.{RecoverPhase}

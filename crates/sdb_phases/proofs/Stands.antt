@@ -5,10 +5,10 @@ use Rattle.std.proofs.lemmas.Bool.Decides.{nat_tests}
 use Rattle.sdb_phases.specs.Types.{Decided, Decision, Key, Record, Reply, Request, TxId}
 use Rattle.sdb_types.specs.declared.record.Request.TheVariants as ask
 use Rattle.sdb_types.specs.declared.record.Reply.TheVariants as reply
-use Rattle.sdb_types.proofs.Keys.{same_key_self}
+use Rattle.sdb_types.proofs.Public.{and_both, fails_second, or_second as right, same_key_self}
 use Rattle.sdb_record.specs.declared.coordinator.Decision.TheVariants as decision
 use Rattle.sdb_record.specs.Coordinator.{coordinator_key_of, coordinator_row_of, decision_in, same_decision}
-use Rattle.sdb_record.proofs.ImageLaws.{row-key, row-decision}
+use Rattle.sdb_record.proofs.Public.{decision_itself, row-decision, row-key}
 use Rattle.sdb_phases.specs.declared.check.Check.{Check}
 use Rattle.sdb_phases.specs.declared.step.Outcome.{Outcome}
 use Rattle.sdb_phases.specs.declared.step.Outcome.TheVariants as outcome
@@ -24,11 +24,8 @@ use Rattle.sdb_phases.specs.Steps as small
 use Rattle.sdb_phases.specs.Steps.{CanGet, step_of_row}
 use Rattle.sdb_phases.specs.Commit.{Stage, Preparing, Checking, Deciding, Forward, Stopping, Back, Over, pending, step, after, preparing, checking, forward, back, after_prepare, after_check, after_decide}
 use Rattle.sdb_phases.specs.CommitLaws.{IsWork, Seen, seen, item, nothing_seen, AreReplies, StageInvariant, IsCaused, is_unrecorded, may_undo, without_effect, is_more, is_decision, is_row_with, observes_decision, is_malformed, holds_malformed, writes_of, reads_of, most_calls}
-use Rattle.sdb_types.proofs.Basics.{or_second as right, fails_second}
 use Rattle.sdb_types.specs.Replies.{is_fault}
-use Rattle.sdb_types.proofs.Bools.{and_both}
 use Rattle.sdb_types.specs.Order.{same_key}
-use Rattle.sdb_record.proofs.States.{decision_itself}
 
 ---- tests
 

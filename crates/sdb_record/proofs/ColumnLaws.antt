@@ -7,17 +7,13 @@ use Rattle.std.specs.Ordering.{is_lt}
 use Rattle.sdb_types.specs.declared.pair.Pair.{Pair}
 use Rattle.sdb_types.specs.Order.{name_cmp}
 use Rattle.sdb_types.specs.Columns.{is_null, starts_above, are_columns, put_pair, with_column}
-use Rattle.sdb_types.proofs.Bools.{and_first, and_second, and_both}
-use Rattle.sdb_types.proofs.KeyOrder.{name_exact, name_total}
-use Rattle.sdb_types.proofs.ColumnLemmas.{by_order}
+use Rattle.sdb_types.proofs.Public.{and_both, and_first, and_second, by_order, less_of, name_exact, name_total, turned as swapped}
 use Rattle.std.proofs.lemmas.List.{append-nil}
 use Rattle.std.specs.Prelude.{is_some, map}
 use Rattle.sdb_record.specs.Names.{before_name, base_name, is_before, is_meta}
 use Rattle.sdb_record.specs.Parts.{with_columns, before_pair, before_part, are_user_columns, is_user_pair, is_column_name}
 use Rattle.sdb_record.proofs.NameLemmas.{base_name-before_name, base_name-is}
-use Rattle.sdb_types.proofs.Basics.{less_of}
 use Rattle.std.proofs.lemmas.Bool.{not-true}
-use Rattle.sdb_types.proofs.ColumnMap.{turned as swapped}
 
 less_less : (a b c : List ℕ) → name_cmp a b ≡ Less → name_cmp b c ≡ Less → name_cmp a c ≡ Less
 less_less a b c = name_total.trans a b c

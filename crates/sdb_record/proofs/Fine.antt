@@ -11,14 +11,13 @@ use Rattle.sdb_types.specs.Order.{value_cmp}
 use Rattle.sdb_types.specs.Exact.{equal_of}
 use Rattle.sdb_types.specs.ValueLaws.{value_exact}
 use Rattle.sdb_types.specs.Contents.{tx_id, tx_state, has_value}
-use Rattle.sdb_types.proofs.Bools.{and_first, and_second, and_both}
+use Rattle.sdb_types.proofs.Public.{and_both, and_first, and_second, or_neither as or-false}
 use Rattle.std.proofs.lemmas.Bool.Decides.{nat_tests}
 use Rattle.sdb_record.specs.declared.meta.Meta.{Meta}
 use Rattle.sdb_record.proofs.NameLemmas.{same_name-true}
 use Rattle.sdb_record.specs.Names.{tx_version, tx_prepared_at, tx_committed_at, tx_tombstone, base_name, is_before, is_meta, same_name}
 use Rattle.sdb_record.specs.Parts.{before_part, is_before_pair, are_short, are_stored}
 use Rattle.sdb_record.specs.Meta.{id_in, state_in, state_in_value, version_in, moment_in, committed_at_in, tombstone_in, is_stray, is_early, is_committed, is_deleted, is_misnamed, is_in, need, refuse, then_check, only_if, meta_in, checked_columns, checked_part, checked_before, checked, any_state, with_before, have_identifiers, is_badly_named, is_transactional}
-use Rattle.sdb_types.proofs.Basics.{or_neither as or-false}
 
 ---- steps that went on
 

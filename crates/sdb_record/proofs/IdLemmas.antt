@@ -6,13 +6,11 @@ use Rattle.uuid.specs.Text.{parsed}
 use Rattle.uuid.proofs.OrderLemmas.{from_be_bytes-to_be_bytes_16}
 use Rattle.sdb_record.specs.Types.{TxId, Value}
 use Rattle.sdb_types.specs.TxId.{id_text}
-use Rattle.sdb_types.proofs.TxIdLemmas.{id_text_parses}
-use Rattle.sdb_types.proofs.Bools.{and_first, and_second, and_both}
+use Rattle.sdb_types.proofs.Public.{and_both, and_first, and_second, id_text_parses, none_some}
 use Rattle.sdb_record.specs.Names.{same_name}
 use Rattle.sdb_record.specs.Ids.{id_of_text, id_with_text, is_id_with_text}
 use Rattle.sdb_record.proofs.NameLemmas.{same_name-true, same_name-itself}
 use Rattle.sdb_types.specs.declared.value.Value.TheVariants as value
-use Rattle.sdb_types.proofs.Basics.{none_some}
 use Rattle.sdb_record.specs.Meta.{id_in_value}
 
 pub id_of_text-id_text : (n : ℕ) → n < 2 ^ 128 → id_of_text (id_text n) ≡ Some (record { 0 = n })

@@ -14,7 +14,7 @@ use Rattle.sdb_types.specs.TxId.{id_text}
 use Rattle.sdb_types.specs.ValueLaws.{value_total}
 use Rattle.sdb_types.specs.Columns.{column}
 use Rattle.sdb_types.specs.Contents.{tx_id, tx_state, state_number, has_value, is_version}
-use Rattle.sdb_types.proofs.Bools.{and_first, and_both}
+use Rattle.sdb_types.proofs.Public.{and_both, and_first}
 use Rattle.sdb_record.specs.declared.meta.Meta.{Meta}
 use Rattle.sdb_record.specs.declared.write.Change.{Change}
 use Rattle.sdb_record.specs.declared.write.Change.TheVariants as change

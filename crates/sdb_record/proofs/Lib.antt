@@ -1,12 +1,13 @@
-pub mod NameLemmas
-pub mod Within
-pub mod IdLemmas
-pub mod ColumnLaws
-pub mod Fine
-pub mod PreparedLaws
-pub mod Settings
-pub mod States
-pub mod RollLaws
-pub mod WriteLaws
-pub mod TakenLaws
-pub mod ImageLaws
+mod NameLemmas
+mod Within
+mod IdLemmas
+mod ColumnLaws
+mod Fine
+mod PreparedLaws
+mod Settings
+mod States
+mod RollLaws
+mod WriteLaws
+mod TakenLaws
+mod ImageLaws
+pub mod Public

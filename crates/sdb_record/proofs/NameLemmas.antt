@@ -5,7 +5,7 @@ use Rattle.std.proofs.Common.{◌+◌, ◌≤◌, length-append}
 use Rattle.std.specs.Prelude.{nat_le}
 use Rattle.sdb_types.specs.Identifier.{is_identifier, is_name, is_start, is_part}
 use Rattle.std.specs.List.{list_all}
-use Rattle.sdb_types.proofs.Bools.{and_first, and_second, and_both, or_first}
+use Rattle.sdb_types.proofs.Public.{and_both, and_first, and_second, at_most_nat, longer, name_exact, name_total, nat_at_most, or_first}
 use Rattle.std.specs.Borrow.{Bor}
 use Rattle.std.specs.Option.{option_copied}
 use Rattle.std.specs.Str.Pattern.{FindsTextPrefix, StripsPrefix}
@@ -15,9 +15,7 @@ use Rattle.std.proofs.lemmas.Map.Text.{is_eq-slice_cmp}
 use Rattle.std.specs.Ordering.{is_eq}
 use Rattle.sdb_types.specs.Exact.{equal_of}
 use Rattle.sdb_types.specs.Order.{name_cmp}
-use Rattle.sdb_types.proofs.KeyOrder.{name_exact, name_total}
 use Rattle.sdb_record.specs.Names.{before_prefix, before_name, after_front, base_name, same_name}
-use Rattle.sdb_types.proofs.Basics.{nat_at_most, at_most_nat, longer}
 use Rattle.sdb_record.specs.Parts.{is_column_name}
 
 -- what follows a prefix in a text that begins with it

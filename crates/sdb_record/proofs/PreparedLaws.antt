@@ -2,7 +2,7 @@
 use Rattle.std.proofs.Common.{◌≡◌, ℤ, List, true, refl, ap, ◌∙◌, map, Option, Some, None, IfSome}
 use Rattle.sdb_record.specs.Types.{Key, Pair, Record, State, TxId, Value}
 use Rattle.sdb_types.specs.Columns.{column, are_columns}
-use Rattle.sdb_types.proofs.Bools.{and_first, and_second}
+use Rattle.sdb_types.proofs.Public.{and_first, and_second}
 use Rattle.sdb_record.specs.declared.write.Change.{Change}
 use Rattle.sdb_record.specs.declared.write.Change.TheVariants as change
 use Rattle.sdb_record.specs.declared.write.Write.{Write}

@@ -13,8 +13,7 @@ use Rattle.sdb_types.specs.Contents.{tx_id, tx_state, has_value, is_version}
 use Rattle.sdb_types.specs.ValueLaws.{value_total}
 use Rattle.sdb_types.specs.TxId.{id_text}
 use Rattle.sdb_record.proofs.NameLemmas.{kept-is_name}
-use Rattle.sdb_types.proofs.Bools.{and_first, and_second, and_both}
-use Rattle.sdb_types.proofs.ColumnLemmas.{with_column-are_columns}
+use Rattle.sdb_types.proofs.Public.{and_both, and_first, and_second, and_true as and-true, or_false as or-right, or_neither as or-false, with_column-are_columns}
 use Rattle.sdb_record.specs.declared.meta.Meta.{Meta}
 use Rattle.sdb_record.specs.Names.{tx_version, tx_prepared_at, tx_committed_at, tx_tombstone, same_name, is_user, is_before, is_meta, base_name}
 use Rattle.sdb_record.specs.Parts.{with_columns, own_columns, user_columns, is_before_pair, is_user_pair, are_stored, before_part, before_record, record_with}
@@ -25,7 +24,6 @@ use Rattle.sdb_record.proofs.States.{is_in-says, says-committed, says-deleted, n
 use Rattle.sdb_record.proofs.ColumnLaws.{not_before, are_columns-filter, are_columns-before_part}
 use Rattle.sdb_record.proofs.Settings.{column-put-same, column-put-other, none-put, none-filter, all-put, all-filter, filter-put, column-filter}
 use Rattle.std.proofs.lemmas.Bool.{not-true as not-not}
-use Rattle.sdb_types.proofs.Basics.{and_true as and-true, or_false as or-right, or_neither as or-false}
 
 ---- the columns
 

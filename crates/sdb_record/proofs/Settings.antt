@@ -6,9 +6,7 @@ use Rattle.std.specs.Option.{option_map}
 use Rattle.sdb_types.specs.declared.pair.Pair.{Pair}
 use Rattle.sdb_types.specs.Order.{name_cmp}
 use Rattle.sdb_types.specs.Columns.{column, is_named, is_null, put_pair, with_column}
-use Rattle.sdb_types.proofs.Bools.{and_first, and_second, and_both}
-use Rattle.sdb_types.proofs.KeyOrder.{name_exact}
-use Rattle.sdb_types.proofs.ColumnLemmas.{by_order}
+use Rattle.sdb_types.proofs.Public.{and_both, and_first, and_second, by_order, name_exact}
 use Rattle.sdb_record.specs.Names.{same_name, base_name}
 use Rattle.sdb_record.specs.Parts.{with_columns, before_pair, base_pair, before_part}
 use Rattle.sdb_record.proofs.NameLemmas.{same_name-itself, same_name-true, base_name-before_name}

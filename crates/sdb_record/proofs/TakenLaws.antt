@@ -12,8 +12,7 @@ use Rattle.sdb_types.specs.TxId.{id_text}
 use Rattle.sdb_types.specs.Columns.{column, are_columns, with_column, is_null, is_named}
 use Rattle.sdb_types.specs.Identifier.{is_name, is_identifier}
 use Rattle.sdb_types.specs.Contents.{tx_id, tx_state, state_number}
-use Rattle.sdb_types.proofs.Bools.{and_first, and_second, and_both}
-use Rattle.sdb_types.proofs.ColumnLemmas.{with_column-are_columns}
+use Rattle.sdb_types.proofs.Public.{and_both, and_false as and-no, and_first, and_second, longer as wider, with_column-are_columns}
 use Rattle.sdb_record.specs.declared.meta.Meta.{Meta}
 use Rattle.sdb_record.specs.declared.write.Change.{Change}
 use Rattle.sdb_record.specs.declared.write.Change.TheVariants as change
@@ -30,7 +29,6 @@ use Rattle.sdb_record.proofs.Settings.{none-with_columns, misses, all-with_colum
 use Rattle.sdb_record.proofs.Fine.{Says, Fine, accepted, valid-committed, checked-valid, checked_part-valid, committed-state, ok-of, none-make}
 use Rattle.sdb_record.proofs.RollLaws.{any-none, before_part-any, refuse_before}
 use Rattle.sdb_record.proofs.WriteLaws.{Fitting, fitting, with_base, base-kept, no-column, marked, marked-id, marked-state, marked-version, marked-time, marked-other, marked-before, marked-in-order, all-user, kept-user}
-use Rattle.sdb_types.proofs.Basics.{longer as wider, and_false as and-no}
 
 ---- the base
 

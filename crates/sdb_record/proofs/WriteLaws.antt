@@ -8,8 +8,7 @@ use Rattle.sdb_types.specs.TxId.{id_text}
 use Rattle.sdb_types.specs.Columns.{column, are_columns, put_pair, is_named, is_null}
 use Rattle.sdb_types.specs.Identifier.{is_name}
 use Rattle.sdb_types.specs.Contents.{tx_id, tx_state, state_number}
-use Rattle.sdb_types.proofs.Bools.{and_first, and_second, and_both}
-use Rattle.sdb_types.proofs.ColumnLemmas.{with_column-are_columns}
+use Rattle.sdb_types.proofs.Public.{and_both, and_false as and-false, and_first, and_second, with_column-are_columns}
 use Rattle.sdb_record.specs.declared.write.Write.{Write}
 use Rattle.sdb_record.specs.Names.{tx_version, tx_prepared_at, same_name, before_name, is_user, is_before, is_meta, base_name}
 use Rattle.sdb_record.specs.Parts.{with_columns, before_pair, user_columns, is_user_pair, is_column_name, are_stored, are_user_columns, before_part}
@@ -19,7 +18,6 @@ use Rattle.sdb_record.proofs.PreparedLaws.{change-user, change-columns}
 use Rattle.sdb_record.proofs.ColumnLaws.{stays, leaves, not_before, with_columns-apart, with_columns-none, are_columns-kept, leaves-kept, stays-user, is_before-kept, columns-full, columns-rest}
 use Rattle.sdb_record.proofs.Settings.{column-put-same, column-put-other, none-with_columns, misses, filter-with_columns, filter-all, before_part-with_columns, before_part-kept, other_name}
 use Rattle.sdb_record.proofs.Fine.{none-make}
-use Rattle.sdb_types.proofs.Basics.{and_false as and-false}
 
 ---- the parts that make it
 

@@ -19,7 +19,7 @@ use Rattle.sdb_report.proofs.NumberLaws.{natural_sound, natural_again, below_sou
 use Rattle.sdb_report.proofs.Lists.{Each-all, counted_is, counted_again}
 use Rattle.sdb_report.proofs.ValueLaws.{row_sound, row_again}
 use Rattle.sdb_report.proofs.KeyLaws.{key_sound, key_again, columns_sound, columns_again}
-use Rattle.sdb_types.proofs.Basics.{bind_some}
+use Rattle.sdb_types.proofs.Public.{bind_some}
 use Rattle.sdb_types.specs.Options.{◌>>=◌}
 
 -- no digit goes on

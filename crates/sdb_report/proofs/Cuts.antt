@@ -9,7 +9,7 @@ use Rattle.std.proofs.Common.{take-append-drop}
 use Rattle.sdb_model.specs.Plain.{is_no_lf, is_one_line}
 use Rattle.sdb_report.proofs.WordLaws.{front_again}
 use Rattle.sdb_report.specs.Reading.{behind_lf, cut_line}
-use Rattle.sdb_types.proofs.Basics.{by_test, front_passes}
+use Rattle.sdb_types.proofs.Public.{by_test, front_passes}
 
 -- what a cut says
 pub record IsCut (bytes : List ℕ) (cut : List ℕ × List ℕ) : Type 0 where

@@ -16,7 +16,7 @@ use Rattle.sdb_report.proofs.WordLaws.{case_some, join, Says, Sound, after_is, a
 use Rattle.sdb_report.proofs.NumberLaws.{below_sound, below_again, IsLong, integer_sound, integer_again}
 use Rattle.sdb_report.proofs.AnswerLaws.{behind_sound, join_space, given_sound, given_again}
 use Rattle.sdb_report.proofs.RequestLaws.{request_sound, request_again, any_how, how_sound, how_again, reply_sound, reply_again}
-use Rattle.sdb_types.proofs.Basics.{bind_some}
+use Rattle.sdb_types.proofs.Public.{bind_some}
 use Rattle.sdb_types.specs.Options.{◌>>=◌}
 
 abbrev IsClient : ℕ → Type 0

@@ -22,7 +22,7 @@ use Rattle.sdb_report.proofs.LineLaws.{lines_joined, line_ends, decimal_one, tab
 use Rattle.sdb_report.proofs.EventLaws.{whole_is, numbered_is, numbered_again}
 use Rattle.sdb_report.specs.Reading.{fixed_of, heading_of, point_of, row_of, is_after, next_table_of, table_of}
 use Rattle.sdb_report.proofs.Readers.{HasForm}
-use Rattle.sdb_types.proofs.Basics.{bind_some}
+use Rattle.sdb_types.proofs.Public.{bind_some}
 use Rattle.sdb_types.specs.Options.{◌>>=◌}
 
 ---- fixed lines

@@ -9,8 +9,7 @@ use Rattle.sdb_types.specs.Fits.{value_fits, pair_fits, key_fits, columns_fit, r
 use Rattle.sdb_types.specs.Identifier.{is_part}
 use Rattle.sdb_types.specs.Order.{table_text}
 use Rattle.sdb_report.specs.Types.{Key, Pair, Record, Span, TableName, Value}
-use Rattle.sdb_types.proofs.Bools.{and_first, and_second, and_both}
-use Rattle.sdb_types.proofs.ColumnMap.{tail_above, tail_columns}
+use Rattle.sdb_types.proofs.Public.{and_both, and_first, and_second, bind_some, tail_above, tail_columns}
 use Rattle.sdb_model.specs.Plain.{table_is_plain, span_is_plain, values_are_plain}
 use Rattle.sdb_model.specs.Texts.{value_text_of, values_text_of, row_text_of, clustering_text_of, key_text_of, partition_text_of, span_text_of, pair_text_of, columns_text_of, record_text_of}
 use Rattle.sdb_report.specs.FieldReading.{after, name_at, value_at, many, some_values_at, values_at, row_at, table_at, clustering_at, key_at, partition_at, span_at, is_next_column, column_of, pair_at, next_pair_at, some_pairs_at, pairs_at, columns_at, record_at}
@@ -18,8 +17,7 @@ use Rattle.sdb_report.proofs.WordLaws.{case_some, join, Says, Sound, Again, afte
 use Rattle.sdb_report.proofs.Lists.{Each, Each-all, many_is, many_again, count_le}
 use Rattle.sdb_report.proofs.ValueLaws.{value_sound, value_again, some_values_sound, some_values_again, values_sound, values_again, ends_values, row_sound, row_again, EndsValue}
 use Rattle.sdb_codec.specs.Reading.{last_of, is_above}
-use Rattle.sdb_codec.proofs.Loops.{last_of-push}
-use Rattle.sdb_types.proofs.Basics.{bind_some}
+use Rattle.sdb_codec.proofs.Public.{last_of-push}
 use Rattle.sdb_types.specs.Options.{◌>>=◌}
 
 ---- tables

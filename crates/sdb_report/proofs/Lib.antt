@@ -1,18 +1,19 @@
-pub mod Loops
-pub mod Cuts
-pub mod Readers
-pub mod Forms
-pub mod PartLaws
-pub mod Told
-pub mod Stops
-pub mod StopLaws
-pub mod Shown
-pub mod WordLaws
-pub mod NumberLaws
-pub mod Lists
-pub mod ValueLaws
-pub mod KeyLaws
-pub mod AnswerLaws
-pub mod RequestLaws
-pub mod EventLaws
-pub mod LineLaws
+mod Loops
+mod Cuts
+mod Readers
+mod Forms
+mod PartLaws
+mod Told
+mod Stops
+mod StopLaws
+mod Shown
+mod WordLaws
+mod NumberLaws
+mod Lists
+mod ValueLaws
+mod KeyLaws
+mod AnswerLaws
+mod RequestLaws
+mod EventLaws
+mod LineLaws
+pub mod Public

@@ -21,8 +21,7 @@ use Rattle.sdb_types.specs.declared.record.Reply.TheVariants as reply
 use Rattle.sdb_types.specs.declared.record.Request.TheVariants as ask
 use Rattle.sdb_types.specs.declared.record.State.TheVariants.{Prepared, Deleted, Committed, Aborted}
 use Rattle.sdb_types.specs.declared.value.Value.TheVariants as value
-use Rattle.sdb_types.proofs.Bools.{and_first, and_second, and_both}
-use Rattle.sdb_types.proofs.KeyOrder.{parts}
+use Rattle.sdb_types.proofs.Public.{and_both, and_first, and_second, by_test, parts}
 use Rattle.sdb_model.specs.Plain.{is_no_lf, is_one_line, table_is_plain, IsFoundAt, values_are_plain, request_is_plain, reply_is_plain, IsPlainAnswer, IsPlainGiven, HasPlainParts}
 use Rattle.sdb_model.specs.Report.{given_text_of, condition_text_of, request_text_of, how_text_of, found_text_of, reply_text_of, event_text_of}
 use Rattle.sdb_model.specs.Texts.{doubled, value_text_of, values_text_of, row_text_of, clustering_text_of, key_text_of, partition_text_of, pair_text_of, columns_text_of, record_text_of, found_columns_text_of, rows_text_of, answer_text_of}
@@ -30,7 +29,6 @@ use Rattle.sdb_model.specs.declared.answer.Answer.TheVariants as answer
 use Rattle.sdb_model.specs.declared.event.Event.TheVariants as event
 use Rattle.sdb_model.specs.declared.event.How.TheVariants.{Seen, Lost, Discarded, Broken}
 use Rattle.sdb_report.specs.OneLine.{ValueHasNoLf, ValuesHaveNoLf, KeyHasNoLf, ColumnsHaveNoLf, RecordHasNoLf, AnswerHasNoLf, RequestHasNoLf, ReplyHasNoLf, EventHasNoLf}
-use Rattle.sdb_types.proofs.Basics.{by_test}
 use Rattle.sdb_report.proofs.ValueLaws.{is_long}
 
 abbrev One : List ℕ → Type 0

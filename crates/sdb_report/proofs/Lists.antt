@@ -7,7 +7,7 @@ use Rattle.sdb_report.specs.declared.unread.Unread.{Unread}
 use Rattle.sdb_report.specs.declared.unread.Unread.TheVariants.{Bad, NoMemory}
 use Rattle.sdb_report.specs.FieldReading.{Read, case_of, Fails, many, counted}
 use Rattle.sdb_report.proofs.WordLaws.{Says, Sound, join}
-use Rattle.sdb_types.proofs.Basics.{bind_some}
+use Rattle.sdb_types.proofs.Public.{bind_some}
 
 ---- turns of the loops
 

@@ -18,10 +18,10 @@ use Rattle.sdb_types.specs.TxId.{id_text}
 use Rattle.sdb_types.specs.declared.txid.TxId.{TxId}
 use Rattle.sdb_model.specs.Plain.{id_is_plain}
 use Rattle.sdb_record.specs.Ids.{id_of_text}
-use Rattle.sdb_record.proofs.IdLemmas.{id_of_text-id_text, id_of_text-is}
+use Rattle.sdb_record.proofs.Public.{id_of_text-id_text, id_of_text-is}
 use Rattle.sdb_report.specs.FieldReading.{case_of, after, with_digit, number_on, natural_at, natural_below, positive, negative, number_at, integer_at, text_of, id_at}
 use Rattle.sdb_report.proofs.WordLaws.{Says, Sound, Again, after_is, after_again, stops_at}
-use Rattle.sdb_types.proofs.Basics.{by_test, bind_some}
+use Rattle.sdb_types.proofs.Public.{bind_some, by_test}
 use Rattle.sdb_types.specs.Options.{◌>>=◌}
 
 is_digit : (d : ℕ) → d < 10 → is_ascii_digit (48 + d) ≡ true

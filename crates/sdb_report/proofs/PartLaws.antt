@@ -7,7 +7,7 @@ use Rattle.std.proofs.lemmas.List.{append-nil, length-append}
 use Rattle.std.proofs.lemmas.List.Elements.{All-from_recursion, recursion_from_All}
 use Rattle.sdb_types.specs.Order.{table_text}
 use Rattle.sdb_report.specs.Types.{Event, Outcome, Point, TableDump, Value}
-use Rattle.sdb_types.proofs.Bools.{and_first, and_second, and_both}
+use Rattle.sdb_types.proofs.Public.{and_both, and_first, and_second}
 use Rattle.sdb_model.specs.Plain.{is_counted, is_one_line, IsPlainEvent, IsPlainPoint, IsPlainRow, IsPlainDump, starts_after, are_rising, IsPlain}
 use Rattle.sdb_model.specs.Report.{event_text_of, event_line, event_lines, point_line, row_line, table_lines, events_text_of, order_text_of, tables_text_of, report_text_of}
 use Rattle.sdb_report.specs.Lines.{numbered_event_of, is_empty}
@@ -16,8 +16,7 @@ use Rattle.sdb_report.specs.Reading.{Positioned, line_at, lines_at, fixed_of, he
 use Rattle.sdb_report.proofs.Readers.{Reads, with_lf, line_reads, both_reads, texts, Items, items_read, read_as}
 use Rattle.sdb_report.proofs.Forms.{itself, IsWord, fixed_form, IsCount, heading_form, event_form, point_text, point_form, row_form, Headed, headed_text, IsNext, table_form}
 use Rattle.sdb_codec.specs.Reading.{last_of}
-use Rattle.sdb_codec.proofs.Loops.{last_of-push}
-use Rattle.sdb_codec.proofs.FieldLaws.{ok_is}
+use Rattle.sdb_codec.proofs.Public.{last_of-push, ok_is}
 
 ---- a part
 

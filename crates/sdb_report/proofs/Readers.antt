@@ -9,8 +9,8 @@ use Rattle.sdb_report.proofs.WordLaws.{join, Says}
 use Rattle.sdb_report.proofs.Lists.{Each}
 use Rattle.sdb_report.specs.Reading.{Positioned, then_read, both, cut_line, line_at, lines_at}
 use Rattle.sdb_report.proofs.Cuts.{cut_is, cut_again}
-use Rattle.sdb_types.proofs.Basics.{done}
-use Rattle.sdb_codec.proofs.FieldLaws.{ok_is}
+use Rattle.sdb_types.proofs.Public.{done}
+use Rattle.sdb_codec.proofs.Public.{ok_is}
 
 pub then_ok : {X Y : Type 0} (r : Positioned X) (f : X × List ℕ → Positioned Y) (y : Y × List ℕ) → then_read r f ≡ Ok y → (x : X × List ℕ) × (r ≡ Ok x) × (f x ≡ Ok y)
 then_ok (Ok x) f y e = (x, refl, e)

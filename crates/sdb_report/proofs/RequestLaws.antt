@@ -29,7 +29,7 @@ use Rattle.sdb_report.proofs.WordLaws.{case_some, join, Says, Sound, after_is}
 use Rattle.sdb_report.proofs.NumberLaws.{id_text_of, id_sound, id_again}
 use Rattle.sdb_report.proofs.KeyLaws.{key_sound, key_again, span_sound, span_again, record_sound, record_again}
 use Rattle.sdb_report.proofs.AnswerLaws.{behind_sound, made_sound, word_sound, join_space, CountedFit, items_sound, items_again, EndsDigits}
-use Rattle.sdb_types.proofs.Basics.{by_test, bind_some}
+use Rattle.sdb_types.proofs.Public.{bind_some, by_test}
 use Rattle.sdb_types.specs.Options.{◌>>=◌}
 
 ---- conditions

@@ -23,7 +23,7 @@ use Rattle.sdb_report.proofs.Forms.{itself, IsWord, fixed_form, heading_form, He
 use Rattle.sdb_report.proofs.PartLaws.{DumpAfter, dump_reads, each_rising, events_read, order_read, places_text, parts_text, title, pieces}
 use Rattle.sdb_report.proofs.Stops.{AreLines, SameLine, Stop, err_is, failed}
 use Rattle.sdb_report.proofs.StopLaws.{Halt, halted, report_stopping, dead_of, count_lines}
-use Rattle.sdb_types.proofs.Basics.{by_test, done}
+use Rattle.sdb_types.proofs.Public.{by_test, done}
 use Rattle.sdb_codec.specs.Reading.{last_of}
 
 ---- the first table that doesn't come after the one before

@@ -8,7 +8,7 @@ use Rattle.std.proofs.lemmas.List.Sums.{sum_by-cons}
 use Rattle.std.proofs.lemmas.List.Elements.{All-from_recursion, recursion_from_All}
 use Rattle.sdb_types.specs.Fits.{value_fits}
 use Rattle.sdb_report.specs.Types.{Event, Outcome, Point, TableDump, Value}
-use Rattle.sdb_types.proofs.Bools.{and_first, and_second}
+use Rattle.sdb_types.proofs.Public.{and_first, and_second, by_test, done}
 use Rattle.sdb_model.specs.Plain.{is_counted, table_is_plain, is_no_lf, is_one_line, IsPlainEvent, IsPlainPoint, IsPlainRow, IsPlainDump, IsPlain}
 use Rattle.sdb_model.specs.Report.{event_text_of, point_line, table_lines, events_text_of, order_text_of, tables_text_of, report_text_of}
 use Rattle.sdb_model.specs.Texts.{row_text_of}
@@ -23,7 +23,6 @@ use Rattle.sdb_report.proofs.LineLaws.{lines_joined, decimal_one}
 use Rattle.sdb_report.proofs.Forms.{itself, IsWord, fixed_form, IsCount, heading_form, event_form, point_text, point_form, row_form, Headed, headed_text, IsNext, table_form}
 use Rattle.sdb_report.proofs.PartLaws.{part_text, IsPart, const_texts, each_all, all_each, event_text, EventAfter, event_reads, event_texts, EventsPlain, events_read, point_after, PointAfter, point_reads, OrderPlain, order_read, row_after, RowAfter, row_reads, DumpAfter, dump_of, RowsOf, dump_same, dump_after, dump_reads, TablesPlain, rising_each, PlacesPlain, places_text, parts_text, parts_read, title, end_word, pieces, report_read, in_again}
 use Rattle.sdb_report.proofs.Stops.{AreLines, lines_append, SameLine, failed, err_is, Stopping, line_stopping, Filled, both_stopping, items_fill, items_stopping, stopping_as}
-use Rattle.sdb_types.proofs.Basics.{by_test, done}
 use Rattle.sdb_codec.specs.Reading.{last_of}
 
 ---- a part

@@ -8,7 +8,7 @@ use Rattle.sdb_report.specs.FieldReading.{case_of}
 use Rattle.sdb_report.specs.Reading.{Positioned, then_read, both, cut_line, line_at, lines_at}
 use Rattle.sdb_report.specs.Reports.{text_of_lines}
 use Rattle.sdb_report.proofs.Readers.{Reads, HasForm, with_lf, IsMade, texts, Items}
-use Rattle.sdb_types.proofs.Basics.{done}
+use Rattle.sdb_types.proofs.Public.{done}
 
 ---- lines
 

@@ -8,7 +8,7 @@ use Rattle.sdb_report.specs.Reports.{Reads, Answers}
 use Rattle.sdb_report.specs.declared.refused.ReportRefused.{ReportRefused}
 use Rattle.sdb_report.specs.declared.refused.ReportRefused.TheVariants as refused
 use Rattle.sdb_report.proofs.PartLaws.{in_sound, in_again}
-use Rattle.sdb_codec.proofs.FieldLaws.{ok_is}
+use Rattle.sdb_codec.proofs.Public.{ok_is}
 
 pub ok_told : (bytes : List ℕ) (r : Result Outcome ReportRefused) → Reads bytes r (report_in bytes) → IfOk r (λ o. IsPlain o × (bytes ≡ report_text_of o))
 ok_told bytes (Ok o) h = in_sound bytes o h

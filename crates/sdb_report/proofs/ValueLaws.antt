@@ -25,8 +25,8 @@ use Rattle.sdb_report.proofs.WordLaws.{case_some, join, Says, Sound, Again, afte
 use Rattle.sdb_report.proofs.NumberLaws.{digits_go, begins_digit, integer_sound, integer_again, IsLong}
 use Rattle.sdb_report.proofs.Lists.{Each-all, Each-from_all, many_is, many_again, count_le}
 use lib.Utf8.{scalar, scalars, encode, encodes, next, scalar_cases}
-use Rattle.sdb_types.proofs.Basics.{and_parts, by_test, bind_some}
-use Rattle.sdb_model.proofs.Basics.{are_bytes, is_bytes}
+use Rattle.sdb_types.proofs.Public.{and_parts, bind_some, by_test}
+use Rattle.sdb_model.proofs.Public.{are_bytes, is_bytes}
 use Rattle.sdb_types.specs.Options.{◌>>=◌}
 
 ---- a text in UTF-8 is bytes

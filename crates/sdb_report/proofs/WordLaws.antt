@@ -9,10 +9,8 @@ use Rattle.std.proofs.lemmas.Option.{same_Some, cond_some}
 use Rattle.std.proofs.lemmas.Str.{IsUtf8-from_is_utf8}
 use Rattle.std.proofs.Common.{take-append-drop}
 use Rattle.sdb_types.specs.Identifier.{is_part, is_name}
-use Rattle.sdb_types.proofs.Bools.{and_first, and_second}
-use Rattle.sdb_types.proofs.KeyOrder.{parts}
+use Rattle.sdb_types.proofs.Public.{and_first, and_second, bind_some, by_test, one_more, parts}
 use Rattle.sdb_report.specs.FieldReading.{Read, case_of, after, name_of, name_at}
-use Rattle.sdb_types.proofs.Basics.{by_test, one_more, bind_some}
 
 ---- steps
 

@@ -8,13 +8,11 @@ use Rattle.std.specs.Ordering.{is_lt, is_eq, ordering_reverse}
 use Rattle.std.proofs.lemmas.Bool.Decides.{nat_tests}
 use Rattle.sdb_types.specs.declared.key.TableName.{TableName}
 use Rattle.sdb_types.specs.Order.{table_cmp}
-use Rattle.sdb_types.proofs.Bools.{and_first, and_second, and_both}
-use Rattle.sdb_types.proofs.KeyOrder.{table_total}
+use Rattle.sdb_types.proofs.Public.{and_both, and_first, and_second, one_more, or_neither as or-false, table_total}
 use Rattle.sdb_schema.specs.declared.table.Table.{Table}
 use Rattle.sdb_schema.specs.declared.catalog.AddRefused.{AddRefused}
 use Rattle.sdb_schema.specs.Table.{is_table}
 use Rattle.sdb_schema.specs.Catalog.{is_called, has_table, with_table, is_above_name, rises, is_catalog}
-use Rattle.sdb_types.proofs.Basics.{one_more, or_neither as or-false}
 
 abbrev pub below : Table → Table → Bool
 below t u = is_lt (table_cmp u.name t.name)

@@ -8,12 +8,10 @@ use Rattle.std.specs.Ordering.{is_lt, is_eq, ordering_reverse}
 use Rattle.std.proofs.lemmas.List.{append-nil}
 use Rattle.sdb_types.specs.Order.{name_cmp}
 use Rattle.sdb_types.specs.Identifier.{is_name, is_identifier}
-use Rattle.sdb_types.proofs.Bools.{and_first, and_second, and_both}
-use Rattle.sdb_types.proofs.KeyOrder.{name_total}
+use Rattle.sdb_types.proofs.Public.{and_both, and_first, and_second, less_of, name_total, one_more}
 use Rattle.sdb_record.specs.Parts.{is_column_name}
 use Rattle.sdb_schema.specs.declared.table.Column.{Column}
 use Rattle.sdb_schema.specs.Table.{put_column, put_columns, in_order, rises, is_above_column, next_repeats, first_listed_twice, are_short}
-use Rattle.sdb_types.proofs.Basics.{less_of, one_more}
 
 abbrev pub below : Column → Column → Bool
 below c d = is_lt (name_cmp d.name c.name)

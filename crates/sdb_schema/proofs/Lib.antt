@@ -1,4 +1,5 @@
-pub mod ColumnOrder
-pub mod TableLaws
-pub mod OrderLaws
-pub mod CatalogLaws
+mod ColumnOrder
+mod TableLaws
+mod OrderLaws
+mod CatalogLaws
+pub mod Public

@@ -3,7 +3,7 @@ use Rattle.std.proofs.Common.{◌≡◌, List, [], true, refl, sym, ap, ◌∙�
 use Rattle.std.specs.Prelude.{is_ok}
 use Rattle.std.specs.List.{list_all}
 use Rattle.sdb_types.specs.Identifier.{is_name}
-use Rattle.sdb_types.proofs.Bools.{and_both}
+use Rattle.sdb_types.proofs.Public.{and_both}
 use Rattle.sdb_record.specs.Parts.{is_column_name}
 use Rattle.sdb_schema.specs.declared.table.Column.{Column}
 use Rattle.sdb_schema.specs.declared.table.Table.{Table}

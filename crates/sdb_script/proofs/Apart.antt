@@ -9,7 +9,7 @@ use Rattle.std.proofs.lemmas.List.Folds.{list_any_at}
 use Rattle.std.proofs.lemmas.List.Quantifiers.{all_pairs_push}
 use Rattle.std.proofs.lemmas.Map.Views.{Contains-from_any}
 use Rattle.sdb_script.proofs.Pieces.{same_bytes, itself}
-use Rattle.sdb_types.proofs.Basics.{by_test}
+use Rattle.sdb_types.proofs.Public.{by_test}
 
 abbrev pub Text : Type 0
 Text = List ℕ

@@ -20,9 +20,8 @@ use Rattle.serde_json.proofs.Texts.{print-outline}
 use Rattle.sdb_script.specs.Types.{Column, Direction, Kind, Order, Table, TableName}
 use Rattle.sdb_types.specs.Identifier.{is_start, is_part, is_identifier, is_name}
 use Rattle.sdb_types.specs.Order.{name_cmp, table_cmp, table_text}
-use Rattle.sdb_types.proofs.Bools.{and_first, and_second, and_both}
-use Rattle.sdb_types.proofs.KeyOrder.{by_text}
-use Rattle.sdb_codec.proofs.Texts.{name_utf8}
+use Rattle.sdb_types.proofs.Public.{and_both, and_first, and_second, by_text}
+use Rattle.sdb_codec.proofs.Public.{name_utf8}
 use Rattle.sdb_record.specs.Parts.{is_column_name}
 use Rattle.sdb_schema.specs.declared.table.Direction.TheVariants.{Asc, Desc}
 use Rattle.sdb_schema.specs.declared.table.Kind.TheVariants as kind
@@ -30,12 +29,10 @@ use Rattle.sdb_schema.specs.Table.{is_table}
 use Rattle.sdb_schema.specs.Catalog.{is_catalog, rises}
 use Rattle.sdb_loader.specs.Words.{is_open, names_table, table_named}
 use Rattle.sdb_loader.specs.Described.{bad_name, bad_field, bad_table, unknown_type, untransactional, first_given, named, table_of, described_members, described_tables, catalog_in}
-use Rattle.sdb_record.proofs.NameLemmas.{name_of_column}
-use Rattle.sdb_loader.proofs.WordLaws.{table_named-text}
+use Rattle.sdb_record.proofs.Public.{name_of_column}
+use Rattle.sdb_loader.proofs.Public.{table_named-text}
 use Rattle.sdb_catalog.specs.Definition.{columns_data, definition_of, definition_text, direction_text, kind_text, order_text}
-use Rattle.sdb_catalog.proofs.Again.{defined, fields_again, kinds_again, refused_none, rising_columns, sound, table_again}
-use Rattle.sdb_catalog.proofs.Members.{AreRead, keys_rise, members_of, members_read}
-use Rattle.sdb_catalog.proofs.Texts.{all_numbered, outline_read, printed_read, shallow}
+use Rattle.sdb_catalog.proofs.Public.{all_numbered, AreRead, defined, fields_again, keys_rise, kinds_again, members_of, members_read, outline_read, printed_read, refused_none, rising_columns, shallow, sound, table_again}
 use Rattle.sdb_script.specs.Printed.{catalog_text, member_text}
 use Rattle.sdb_script.proofs.JsonUtf8.{AreTexts, ItemsAreTexts, MembersAreTexts, compact_utf8}
 use Rattle.sdb_script.proofs.OneLine.{may_name}

@@ -9,7 +9,7 @@ use Rattle.std.proofs.lemmas.List.Concat.{flat_map-append}
 use Rattle.std.proofs.lemmas.List.Elements.{All-nil, All-cons, All-head, All-tail, All-push}
 use Rattle.std.proofs.lemmas.List.Folds.{list_all-append}
 use Rattle.std.proofs.lemmas.List.Sums.{sum_by_push}
-use Rattle.sdb_types.proofs.Bools.{and_first, and_second}
+use Rattle.sdb_types.proofs.Public.{and_first, and_second, by_test, not_true}
 use Rattle.sdb_script.specs.Types.{Move, Place, SchemaFault, ScriptClient, Table}
 use Rattle.sdb_loader.specs.Described.{catalog_in}
 use Rattle.sdb_model.specs.Form.{client_line, is_client_name}
@@ -21,7 +21,6 @@ use Rattle.sdb_script.proofs.Pieces.{itself}
 use Rattle.sdb_script.proofs.MoveLines.{move_text}
 use Rattle.sdb_script.proofs.Apart.{none_apart, more_apart, attached_of}
 use Rattle.sdb_script.proofs.Steps.{past}
-use Rattle.sdb_types.proofs.Basics.{by_test, not_true}
 
 abbrev Lines : Type 0
 Lines = List (List ℕ)

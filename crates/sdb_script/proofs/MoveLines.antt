@@ -5,9 +5,9 @@ use Rattle.std.specs.Fmt.{decimal}
 use Rattle.std.specs.Option.{option_map, option_and_then}
 use Rattle.std.specs.Str.{bytes_eq}
 use Rattle.std.proofs.lemmas.Bool.Decides.{nat_tests}
-use Rattle.sdb_types.proofs.Bools.{and_first, and_second, and_both}
+use Rattle.sdb_types.proofs.Public.{and_both, and_first, and_second, by_test, some_is}
 use Rattle.sdb_record.specs.Names.{after_front}
-use Rattle.sdb_record.proofs.NameLemmas.{is_front}
+use Rattle.sdb_record.proofs.Public.{is_front}
 use Rattle.sdb_script.specs.Types.{Act, Move}
 use Rattle.sdb_model.specs.declared.script.Act.TheVariants as act
 use Rattle.sdb_model.specs.declared.script.Move.TheVariants as move
@@ -16,7 +16,6 @@ use Rattle.sdb_script.specs.Lines.{act_line, move_line, IsActText, IsMoveText, i
 use Rattle.sdb_script.specs.Reading.{client_in, act_in, repeat_of, step_in, clock_of, clock_in, rest_in, clock_or, stop_or, drop_or, lose_or, move_in}
 use Rattle.sdb_script.proofs.Pieces.{same_bytes, no_some, map_is, bind_is, map_or_is}
 use Rattle.sdb_script.proofs.Numerals.{numeral_no_space, around_again, around_none, around_is, counted_is, counted_again, text_counts, counts_text}
-use Rattle.sdb_types.proofs.Basics.{by_test, some_is}
 use Rattle.sdb_types.specs.NameText.{around}
 
 abbrev Says : ℕ → List ℕ → Move → Type 0

@@ -9,14 +9,13 @@ use Rattle.std.proofs.lemmas.List.Sums.{fold_push}
 use Rattle.std.proofs.lemmas.List.{length-append}
 use Rattle.std.proofs.Math.Seq.{take-append_seam, drop-append-add}
 use Rattle.sdb_types.specs.Identifier.{is_start, is_part, is_identifier}
-use Rattle.sdb_types.proofs.Bools.{and_first, and_second, and_both}
+use Rattle.sdb_types.proofs.Public.{and_both, and_first, and_second, at_byte, by_test, some_is}
 use Rattle.sdb_model.specs.SqlTokens.{is_digit, digits_value}
 use Rattle.sdb_model.specs.Form.{is_client_name}
 use Rattle.sdb_script.specs.Words.{is_numeral, Counts, numeral_in}
 use Rattle.sdb_script.proofs.Pieces.{no_some}
-use Rattle.sdb_types.proofs.Basics.{by_test, some_is, at_byte}
 use Rattle.sdb_types.specs.NameText.{around}
-use Rattle.sdb_model.proofs.Basics.{digit_is}
+use Rattle.sdb_model.proofs.Public.{digit_is}
 
 ---- words before a space
 

@@ -14,17 +14,16 @@ use Rattle.serde_json.specs.Written.{comma_if, compact_text, items_text, members
 use Rattle.sdb_script.specs.Types.{Column, SchemaFault, Table, TableName}
 use Rattle.sdb_types.specs.Identifier.{is_start, is_part, is_identifier}
 use Rattle.sdb_types.specs.Order.{table_text}
-use Rattle.sdb_types.proofs.Bools.{and_first, and_second, and_both}
+use Rattle.sdb_types.proofs.Public.{and_both, and_first, and_second, by_test}
 use Rattle.sdb_record.specs.Parts.{is_column_name}
 use Rattle.sdb_loader.specs.Words.{is_open, names_table, table_named}
 use Rattle.sdb_loader.specs.Fields.{clustering_key, columns, partition_key, secondary_index}
 use Rattle.sdb_loader.specs.declared.fault.SchemaFault.TheVariants as schema
 use Rattle.sdb_loader.specs.Described.{bad_name, named, table_of, untransactional, bad_field, unknown_type, bad_table, first_given, refuse, within_limit, described_tables, described_members, described, json_of, catalog_in}
-use Rattle.sdb_loader.proofs.Names.{text_of}
+use Rattle.sdb_loader.proofs.Public.{text_of}
 use Rattle.sdb_catalog.specs.Definition.{kind_text, order_text, columns_data, names_data, orders_data, definition_text}
 use Rattle.sdb_script.specs.Printed.{member_text, catalog_text}
 use Rattle.sdb_script.specs.Printed as printed
-use Rattle.sdb_types.proofs.Basics.{by_test}
 
 -- no LF is in a text
 abbrev pub is_single : List ℕ → Bool

@@ -10,7 +10,7 @@ use Rattle.std.proofs.lemmas.Slice.Eq.{bytes_eq-Decides}
 use Rattle.sdb_types.specs.Exact.{order_decides}
 use Rattle.sdb_types.specs.Order.{name_cmp}
 use Rattle.sdb_types.specs.declared.place.Place.{Place}
-use Rattle.sdb_types.proofs.KeyOrder.{name_total, name_exact}
+use Rattle.sdb_types.proofs.Public.{name_exact, name_total}
 use Rattle.sdb_script.specs.Begun.{is_placed}
 use Rattle.sdb_script.specs.Placings.{HasNamespaces}
 

@@ -9,7 +9,7 @@ use Rattle.sdb_loader.specs.Described.{catalog_in}
 use Rattle.sdb_loader.specs.declared.fault.SchemaFault.TheVariants as schema
 use Rattle.std.proofs.lemmas.List.Concat.{flat_map-append}
 use Rattle.std.proofs.lemmas.List.Folds.{list_all-append}
-use Rattle.sdb_types.proofs.Bools.{and_first, and_second, and_both}
+use Rattle.sdb_types.proofs.Public.{and_both, and_first, and_second, by_test}
 use Rattle.sdb_script.specs.Types.{Script, ScriptClient, Table}
 use Rattle.sdb_schema.specs.Catalog.{is_catalog}
 use Rattle.sdb_model.specs.Form.{lines_of, onto_first, client_line}
@@ -19,7 +19,6 @@ use Rattle.sdb_script.specs.Whole.{whole, IsScript}
 use Rattle.sdb_script.specs.Printed.{catalog_text, schema_text, place_text, client_text, script_text_of, schema_lines, fits_line}
 use Rattle.sdb_script.proofs.CatalogBack.{catalog_again}
 use Rattle.sdb_script.proofs.OneLine.{is_single, json_single, json_may, may_name}
-use Rattle.sdb_types.proofs.Basics.{by_test}
 use Rattle.sdb_model.specs.Texts.{with_lf}
 
 abbrev Lines : Type 0

@@ -18,7 +18,7 @@ use Rattle.sdb_script.specs.Reading.{read_line_on, at_line, read_next, read_from
 use Rattle.sdb_script.proofs.Steps.{told_is, cause_is, cause_again}
 use Rattle.sdb_script.proofs.Growth.{none_begun, more_begun}
 use Rattle.sdb_script.proofs.Sections.{begun_goes}
-use Rattle.sdb_types.proofs.Basics.{by_test}
+use Rattle.sdb_types.proofs.Public.{by_test}
 
 abbrev Lines : Type 0
 Lines = List (List ℕ)

@@ -7,7 +7,7 @@ use Rattle.std.proofs.lemmas.Bool.Decides.{nat_tests}
 use Rattle.std.proofs.lemmas.List.{length-append}
 use Rattle.std.proofs.lemmas.List.Folds.{list_all-append}
 use Rattle.std.proofs.lemmas.List.Sums.{sum_by-append}
-use Rattle.sdb_types.proofs.Bools.{and_first, and_second, and_both}
+use Rattle.sdb_types.proofs.Public.{and_both, and_first, and_second, by_test}
 use Rattle.sdb_script.specs.Types.{Move, Place, ScriptClient, Table}
 use Rattle.sdb_model.specs.Form.{client_line, is_client_name}
 use Rattle.sdb_script.specs.declared.fault.LineRefused.{LineRefused}
@@ -19,7 +19,6 @@ use Rattle.sdb_script.proofs.MoveLines.{text_move}
 use Rattle.sdb_script.proofs.BlockLaws.{add_last, count_last}
 use Rattle.sdb_script.proofs.Apart.{new_again, attached_again, at_next}
 use Rattle.sdb_script.proofs.Steps.{past, told_again}
-use Rattle.sdb_types.proofs.Basics.{by_test}
 
 abbrev Lines : Type 0
 Lines = List (List ℕ)

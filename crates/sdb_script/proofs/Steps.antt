@@ -4,9 +4,9 @@ use Rattle.std.specs.Prelude.{Result, nat_le, nat_lt}
 use Rattle.std.specs.Option.{option_map_or}
 use Rattle.std.specs.Str.{bytes_eq, is_utf8}
 use Rattle.std.proofs.lemmas.Bool.Decides.{nat_tests}
-use Rattle.sdb_types.proofs.Bools.{and_first, and_second, and_both}
+use Rattle.sdb_types.proofs.Public.{and_both, and_first, and_second, by_test, not_true}
 use Rattle.sdb_record.specs.Names.{after_front}
-use Rattle.sdb_record.proofs.NameLemmas.{is_front}
+use Rattle.sdb_record.proofs.Public.{is_front}
 use Rattle.sdb_script.specs.Types.{SchemaFault, Table}
 use Rattle.sdb_loader.specs.Described.{catalog_in}
 use Rattle.sdb_model.specs.declared.script.Which.TheVariants as which
@@ -20,7 +20,6 @@ use Rattle.sdb_script.specs.Reading.{move_in, form, with_place, with_words, take
 use Rattle.sdb_script.proofs.Pieces.{same_bytes}
 use Rattle.sdb_script.proofs.Numerals.{name_no_space, around_again, around_is}
 use Rattle.sdb_script.proofs.MoveLines.{move_is, move_again}
-use Rattle.sdb_types.proofs.Basics.{by_test, not_true}
 use Rattle.sdb_types.specs.NameText.{around}
 
 -- what comes of something that may come next

@@ -6,7 +6,7 @@ use Rattle.std.specs.Prelude.{is_some, map, not, if◌then◌else◌}
 use Rattle.std.specs.List.{AllByRecursion}
 use Rattle.sdb_shell.specs.Types.{Answer, Table, TxId}
 use Rattle.sdb_types.specs.Draws.{IsAppended}
-use Rattle.sdb_types.proofs.Basics.{map_last}
+use Rattle.sdb_types.proofs.Public.{map_last}
 use Rattle.sdb_stores.specs.Views.{Attached, HaveRisen}
 use Rattle.sdb_contents.specs.Board.{AreUsable, GoOn, contents_of_views}
 use Rattle.sdb_client.specs.Client.{nothing_done}
@@ -16,10 +16,7 @@ use Rattle.law_clients.specs.Chain.{Chain, IsReached, open_after}
 use Rattle.law_clients.specs.Session.{AreNewIds, AreAccepted, Exchange, IsNewId, IsAccepted, Part, Parts, begins, begun_ids, ends, faults_in, is_of_fault, no_parts, part_after, parts_of}
 use Rattle.law_clients.specs.SessionTurns.{IsWellFormed}
 use Rattle.law_clients.specs.Working.{is_open_after}
-use Rattle.law_clients.proofs.Betweens.{between_more, parts_more}
-use Rattle.law_clients.proofs.SessionFresh.{chain_more, fresh_ids, reached}
-use Rattle.law_clients.proofs.Plain.{own_at}
-use Rattle.law_clients.proofs.SessionSteps.{session_serial}
+use Rattle.law_clients.proofs.Public.{between_more, chain_more, fresh_ids, own_at, parts_more, reached, session_serial}
 use Rattle.sdb_shell.specs.Answering.{IsAlone, database_in, exchange}
 use Rattle.sdb_shell.specs.Drawn.{drawn_id}
 use Rattle.sdb_shell.specs.Sessions.{FaultsWithin, HasAnswered, IsNextId, IsSession, IsSessionSoFar, SessionAt, AreAppended}

@@ -3,7 +3,7 @@ use Rattle.std.proofs.Common.{◌≡◌, ◌≢◌, ℕ, ◌+◌, Bool, true, fa
 use Rattle.std.specs.Prelude.{◌==◌, ◌||◌}
 use Rattle.std.proofs.lemmas.Bool.Decides.{nat_tests}
 use Rattle.sdb_types.specs.Bytes.{Takes}
-use Rattle.sdb_types.proofs.Pieces.{takes_more}
+use Rattle.sdb_types.proofs.Public.{takes_more}
 use Rattle.sdb_shell.specs.declared.lines.LineStop.TheVariants as line_stop
 use Rattle.sdb_shell.specs.Lines.{IsCut, has_lf}
 

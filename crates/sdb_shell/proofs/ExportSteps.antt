@@ -3,7 +3,7 @@ use Rattle.std.proofs.Common.{◌≡◌, ℕ, List, [], ◌∷◌, ◌++◌, ref
 use Rattle.sdb_shell.specs.Types.{Answer, Statement, Table}
 use Rattle.sdb_stores.specs.Views.{Attached}
 use Rattle.sdb_contents.specs.Board.{GoOn}
-use Rattle.sdb_contents.proofs.GoesOn.{goes_more, goes_none}
+use Rattle.sdb_contents.proofs.Public.{goes_more, goes_none}
 use Rattle.sdb_model.specs.declared.statement.Statement.TheVariants as statement
 use Rattle.law_clients.specs.Session.{Exchange}
 use Rattle.sdb_shell.proofs.Chains.{session_whole}

@@ -3,8 +3,7 @@ use Rattle.std.proofs.Common.{◌≡◌, Result, Ok, Err, ap}
 use Rattle.sdb_shell.specs.Types.{Refusal, Statement}
 use Rattle.sdb_model.specs.declared.statement.Statement.TheVariants as statement
 use Rattle.sdb_model.specs.Sql.{Reads, statement_text_of}
-use Rattle.sdb_sqltext.proofs.AllPrinted.{statement_read}
-use Rattle.sdb_sqltext.proofs.Clauses.{not_both, one_statement}
+use Rattle.sdb_sqltext.proofs.Public.{not_both, one_statement, statement_read}
 use Rattle.sdb_client.specs.Client.{Parses}
 use Rattle.sdb_shell.specs.Groups.{IsParsedAsItself}
 

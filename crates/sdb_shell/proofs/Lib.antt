@@ -1,18 +1,19 @@
-pub mod Used
-pub mod Cut
-pub mod Refusing
-pub mod SoFar
-pub mod Making
-pub mod Moments
-pub mod Sessions
-pub mod Chains
-pub mod Pairs
-pub mod Names
-pub mod Spelled
-pub mod RowColumns
-pub mod ReadAgain
-pub mod Itself
-pub mod Points
-pub mod GroupSteps
-pub mod LoadSteps
-pub mod ExportSteps
+mod Used
+mod Cut
+mod Refusing
+mod SoFar
+mod Making
+mod Moments
+mod Sessions
+mod Chains
+mod Pairs
+mod Names
+mod Spelled
+mod RowColumns
+mod ReadAgain
+mod Itself
+mod Points
+mod GroupSteps
+mod LoadSteps
+mod ExportSteps
+pub mod Public

@@ -3,30 +3,21 @@ use Rattle.std.proofs.Common.{◌⊎◌, inl, inr, arith, true, ◌≡◌, ◌�
 use Rattle.std.specs.Prelude.{is_some}
 use Rattle.sdb_shell.specs.Types.{Answer, Place, Refusal, Reply, Statement, Table, TxId}
 use Rattle.sdb_model.specs.declared.answer.Answer.TheVariants as answer
-use Rattle.sdb_types.proofs.Basics.{none_some, some_is}
+use Rattle.sdb_types.proofs.Public.{none_some, some_is}
 use Rattle.sdb_stores.specs.Views.{Attached, HaveCause, HaveRisen}
 use Rattle.sdb_model.specs.Events.{table_asked}
 use Rattle.sdb_contents.specs.Board.{GoOn, how_seen, contents_of_views}
 use Rattle.sdb_contents.specs.declared.refused.CallRefused.TheVariants as refused
-use Rattle.sdb_contents.proofs.GoesOn.{fit_for, refused_after}
+use Rattle.sdb_contents.proofs.Public.{fit_for, refused_after}
 use Rattle.sdb_client.specs.Client.{ClientAt, IsIdle, ParsedPost, Parses, Taking, TextPost, out_of_memory}
 use Rattle.law_clients.specs.About.{IsOfTables}
-use Rattle.law_clients.proofs.ClientIn.{asks_in, replies_in, takes_in}
-use Rattle.law_clients.proofs.Whole.{by_memory}
+use Rattle.law_clients.proofs.Public.{asks_in, by_memory, called, faults_replied, faults_taken, own_at, replies, replies_in, replies_lead, starves, takes, takes_in, takings_lead, text_is_read}
 use Rattle.law_clients.specs.Database.{Called, database_of}
 use Rattle.law_clients.specs.Between.{Answers, LeadsTo, More, StatementEnds, Waits}
 use Rattle.law_clients.specs.Chain.{Exchanged, Answers as Was}
 use Rattle.law_clients.specs.Session.{is_of_fault, rejected}
 use Rattle.law_clients.specs.Faults.{IsOfFault, IsAfterFault}
-use Rattle.law_clients.proofs.Faults.{faults_replied, faults_taken}
 use Rattle.law_clients.specs.Working.{IsAtWork, IsEnded, LeadsOn, ExecutedBy}
-use Rattle.law_clients.proofs.SessionCalls.{called}
-use Rattle.law_clients.proofs.Plain.{own_at}
-use Rattle.law_clients.proofs.Replies.{replies}
-use Rattle.law_clients.proofs.Starves.{starves}
-use Rattle.law_clients.proofs.Takings.{takes}
-use Rattle.law_clients.proofs.Texts.{text_is_read}
-use Rattle.law_clients.proofs.Working.{replies_lead, takings_lead}
 use Rattle.sdb_shell.specs.Answering.{AreMade, HasCalled, IsAlone, IsAnswered, IsWorking, WaitsOver, database_in, exchange}
 
 ok_one : (x y : Statement) → ◌≡◌ {A = Result Statement Refusal} (Ok x) (Ok y) → x ≡ y

@@ -4,9 +4,9 @@ use Rattle.std.specs.Prelude.{◌&&◌}
 use Rattle.std.specs.List.{cons_option, list_all, list_any}
 use Rattle.sdb_shell.specs.Types.{Column, Value}
 use Rattle.sdb_types.specs.declared.value.Value.TheVariants as value
-use Rattle.sdb_types.proofs.Basics.{and_false, and_parts, or_second}
+use Rattle.sdb_types.proofs.Public.{and_false, and_parts, or_second}
 use Rattle.sdb_record.specs.Names.{same_name}
-use Rattle.sdb_record.proofs.NameLemmas.{same_name-itself, same_name-true}
+use Rattle.sdb_record.proofs.Public.{same_name-itself, same_name-true}
 use Rattle.sdb_schema.specs.Table.{column_names, has_column}
 use Rattle.sdb_data.specs.Tables.{is_named, named_row}
 use Rattle.sdb_shell.specs.Statements.{is_text}

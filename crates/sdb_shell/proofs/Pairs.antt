@@ -3,7 +3,7 @@ use Rattle.std.proofs.Common.{◌≡◌, ◌<◌, ◌≤◌, ℕ, ◌+◌, true,
 use Rattle.std.specs.List.{list_any}
 use Rattle.std.proofs.lemmas.List.{drop_all}
 use Rattle.sdb_shell.specs.Types.{Column, Pair, Value}
-use Rattle.sdb_types.proofs.Basics.{drop_next}
+use Rattle.sdb_types.proofs.Public.{drop_next}
 use Rattle.sdb_shell.specs.Statements.{is_text, names_listed, pair_of, pairs_of}
 
 no_values : (names : List (List ℕ)) → pairs_of names [] ≡ []

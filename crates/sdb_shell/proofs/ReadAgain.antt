@@ -7,22 +7,22 @@ use Rattle.std.proofs.lemmas.Bool.{eqb-true}
 use Rattle.std.proofs.lemmas.List.{length-map}
 use Rattle.sdb_types.specs.Identifier.{is_identifier}
 use Rattle.sdb_shell.specs.Types.{Column, CsvFault, Head, Keyword, Mode, Pair, Table, Test, Token, Value}
-use Rattle.sdb_types.proofs.Basics.{and_parts, append_all, none_before, or_second}
+use Rattle.sdb_types.proofs.Public.{and_parts, append_all, none_before, or_second}
 use Rattle.sdb_record.specs.Names.{same_name}
 use Rattle.sdb_record.specs.Parts.{is_column_name}
-use Rattle.sdb_record.proofs.NameLemmas.{same_name-itself, same_name-true}
+use Rattle.sdb_record.proofs.Public.{same_name-itself, same_name-true}
 use Rattle.sdb_schema.specs.Table.{checked_table, first_unknown, has_column, is_key_column, is_table, none_of, order_names, rises}
 use Rattle.sdb_data.specs.declared.fault.CsvFault.TheVariants as fault
 use Rattle.sdb_data.specs.declared.fault.Mode.TheVariants as mode
 use Rattle.sdb_data.specs.Records.{csv_records}
 use Rattle.sdb_data.specs.Tables.{at_place, bad_place, fault_from, first_fault, header_fault, heads_of, in_record, is_named, missing_place, names_fault, not_text, nothing_to_set, other_length, read_rows, record_fault, repeat_place, row_of, rows_in, columns_taken, unknown_place}
-use Rattle.sdb_data.proofs.NamesAgain.{has-partition, keys-known}
+use Rattle.sdb_data.proofs.Public.{has-partition, keys-known}
 use Rattle.sdb_model.specs.declared.statement.Statement.TheVariants as statement
 use Rattle.sdb_model.specs.declared.token.Keyword.TheVariants as word
 use Rattle.sdb_model.specs.declared.token.Sign.TheVariants as sign
 use Rattle.sdb_model.specs.declared.token.Token.TheVariants.{Word, Sign as Mark}
 use Rattle.sdb_model.specs.Sql.{CanSpell, IsLiteral, IsSet, IsTest, Reads, Tokens, insert_tokens, literal_tokens, name_tokens, separated, set_tokens, statement_text_of, table_tokens, test_tokens, where_tokens}
-use Rattle.sdb_sqltext.proofs.AllPrinted.{statement_read}
+use Rattle.sdb_sqltext.proofs.Public.{statement_read}
 use Rattle.sdb_shell.specs.declared.load.Load.{Load}
 use Rattle.sdb_shell.specs.Statements.{AreRead, has_short_name, literal_of, load_of, pairs_of, row_statement, rows_after, select_all, sets_of, test_of, tests_of}
 use Rattle.sdb_shell.proofs.Names.{names_named}

@@ -2,7 +2,7 @@
 use Rattle.std.proofs.Common.{◌≡◌, ℕ, false, List, Option, Some, sym, subst}
 use Rattle.std.specs.Str.{is_utf8, IsUtf8}
 use Rattle.std.proofs.lemmas.Str.{IsUtf8-from_is_utf8}
-use Rattle.sdb_types.proofs.Basics.{by_test}
+use Rattle.sdb_types.proofs.Public.{by_test}
 use Rattle.sdb_schema.specs.declared.table.Table.{Table}
 use Rattle.sdb_shell.specs.Sessions.{SessionAt}
 use Rattle.sdb_shell.specs.declared.lines.LineEnd.{LineEnd}

@@ -7,15 +7,15 @@ use Rattle.std.specs.List.{AllByRecursion, cons_option, list_all, list_any}
 use Rattle.std.proofs.lemmas.List.Quantifiers.{position-Some}
 use Rattle.sdb_shell.specs.Types.{Column, ColumnTaken, Head, Pair, Table, Value}
 use Rattle.sdb_types.specs.declared.value.Value.TheVariants as value
-use Rattle.sdb_types.proofs.Basics.{and_parts, none_before, or_second}
+use Rattle.sdb_types.proofs.Public.{and_parts, none_before, or_second}
 use Rattle.sdb_record.specs.Names.{same_name}
 use Rattle.sdb_record.specs.Parts.{is_column_name}
-use Rattle.sdb_record.proofs.NameLemmas.{same_name-true}
+use Rattle.sdb_record.proofs.Public.{same_name-true}
 use Rattle.sdb_schema.specs.declared.table.Kind.TheVariants as kind
 use Rattle.sdb_schema.specs.Table.{column_names, is_key_column, kind_in, rises}
 use Rattle.sdb_data.specs.Fields.{is_null_field, or_null, suits, value_at, value_in}
 use Rattle.sdb_data.specs.Tables.{bad_place, cell_of, head_of, heads_of, is_named, row_of, columns_taken}
-use Rattle.sdb_data.proofs.NamesAgain.{kinds}
+use Rattle.sdb_data.proofs.Public.{kinds}
 use Rattle.sdb_model.specs.declared.token.Token.TheVariants.{Name}
 use Rattle.sdb_model.specs.Sql.{CanSpell, HasItems, IsLiteral, IsValue, literal_token}
 use Rattle.sdb_shell.specs.Statements.{literal_of, pair_of, pairs_of, sets_of}

@@ -7,13 +7,13 @@ use Rattle.std.proofs.lemmas.List.{append-nil}
 use Rattle.std.proofs.lemmas.Bool.Decides.{nat_tests}
 use Rattle.sdb_types.specs.Bytes.{Appends, IsAtEnd, Takes}
 use Rattle.sdb_types.specs.Draws.{IsAppended}
-use Rattle.sdb_types.proofs.Pieces.{appends_more, takes_more}
+use Rattle.sdb_types.proofs.Public.{appends_more, takes_more}
 use Rattle.sdb_schema.specs.declared.table.Table.{Table}
 use Rattle.sdb_model.specs.Form.{lines_of, onto_first}
 use Rattle.sdb_model.specs.Rows.{Name}
 use Rattle.sdb_stores.specs.Views.{Attached, AreDistinct, home, place_of, route_of}
 use Rattle.sdb_contents.specs.Board.{GoOn, HoldTheSame, contents_of_views}
-use Rattle.sdb_contents.proofs.GoesOn.{some_more}
+use Rattle.sdb_contents.proofs.Public.{some_more}
 use Rattle.sdb_client.specs.Client.{Parses, nothing_done}
 use Rattle.law_clients.specs.Database.{Database, database_of}
 use Rattle.law_clients.specs.Between.{Between}

@@ -12,10 +12,10 @@ use Rattle.sdb_shell.specs.Types.{FromHexError, Kind, Value}
 use Rattle.hex.proofs.HexLemmas.{decode_of-ok}
 use Rattle.sdb_types.specs.Fits.{AreBytes, fits_int}
 use Rattle.sdb_types.specs.declared.value.Value.TheVariants as value
-use Rattle.sdb_types.proofs.Basics.{and_parts, some_is}
+use Rattle.sdb_types.proofs.Public.{and_parts, some_is}
 use Rattle.sdb_schema.specs.declared.table.Kind.TheVariants as kind
 use Rattle.sdb_data.specs.Fields.{begins_backslash, blob_in, bool_in, decoded, if_short, is_big, is_short, is_shortest, number_in, or_null, value_given, number_of_digits, text_in, unescaped, value_at, value_in}
-use Rattle.sdb_data.proofs.Numbers.{big-fits, int-small}
+use Rattle.sdb_data.proofs.Public.{big-fits, int-small}
 use Rattle.sdb_model.specs.Sql.{CanSpell, literal_token}
 use Rattle.sdb_shell.specs.Statements.{literal_of}
 

@@ -10,8 +10,7 @@ use Rattle.sdb_snapshot.specs.Types.{Key, Keyed, Record, Span, Write}
 use Rattle.sdb_types.specs.Order.{key_cmp, same_key}
 use Rattle.sdb_types.specs.Exact.{equal_of}
 use Rattle.sdb_types.specs.Contents.{in_span, starts_after, rise, record_among}
-use Rattle.sdb_types.proofs.Bools.{and_first, and_second}
-use Rattle.sdb_types.proofs.KeyOrder.{key_total, key_exact}
+use Rattle.sdb_types.proofs.Public.{all_last, and_first, and_second, by_test, key_exact, key_total, less_of, or_else, or_none, same_key_exact, some_is}
 use Rattle.sdb_snapshot.specs.Entries.{value_at}
 use Rattle.sdb_record.specs.Rolls.{IsBaseOf, IsWrite, AreCommitted}
 use Rattle.sdb_record.specs.Among.{write_among}
@@ -19,8 +18,6 @@ use Rattle.sdb_snapshot.specs.Reads.{ReadRecord, is_key_read, base_at, with_read
 use Rattle.sdb_snapshot.specs.Written.{with_write, with_writes, with_change_of, write_of, AreWrites, AreChanges}
 use Rattle.sdb_snapshot.specs.Sets.{WereRead, differs_from}
 use Rattle.sdb_snapshot.proofs.Keys.{value_last}
-use Rattle.sdb_types.proofs.Basics.{by_test, less_of, some_is, all_last, or_else, or_none}
-use Rattle.sdb_types.proofs.Keys.{same_key_exact}
 
 ---- what is noted of a scan
 

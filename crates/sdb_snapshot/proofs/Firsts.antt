@@ -10,8 +10,7 @@ use Rattle.std.proofs.lemmas.Option.{slice_get-map}
 use Rattle.indexmap.specs.IndexMap.{insert_entry}
 use Rattle.sdb_types.specs.declared.key.Key.{Key}
 use Rattle.sdb_types.specs.Order.{key_cmp, same_key}
-use Rattle.sdb_types.proofs.Basics.{or_else, by_test, clash, some_is, none_some, by_option, one_more}
-use Rattle.sdb_types.proofs.Keys.{same_key_exact, same_key_is, same_key_turned}
+use Rattle.sdb_types.proofs.Public.{by_option, by_test, clash, none_some, one_more, or_else, same_key_exact, same_key_is, same_key_turned, some_is}
 use Rattle.sdb_snapshot.specs.Places.{is_key_at, HaveFirstIndexes}
 
 one_less : (n m : ℕ) → nat_lt (suc n) (suc m) ≡ nat_lt n m

@@ -7,7 +7,7 @@ use Rattle.std.proofs.lemmas.List.{map-append, take-map, length-map}
 use Rattle.indexmap.specs.IndexMap.{insert_entry}
 use Rattle.sdb_types.specs.declared.key.Key.{Key}
 use Rattle.sdb_types.specs.Order.{key_cmp, same_key}
-use Rattle.sdb_types.proofs.Keys.{same_key_is}
+use Rattle.sdb_types.proofs.Public.{same_key_is}
 use Rattle.sdb_snapshot.specs.Places.{AreNumbered, HaveFirstIndexes}
 use Rattle.sdb_snapshot.proofs.Firsts.{entry_there, put_there, indexes_first, indexes_kept, indexes_more}
 use Rattle.sdb_snapshot.proofs.Numbered.{last_inserted, numbered_first, numbered_more, there_inserted}

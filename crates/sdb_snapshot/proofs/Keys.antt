@@ -6,8 +6,7 @@ use Rattle.std.specs.Ordering.{is_eq}
 use Rattle.sdb_types.specs.declared.key.Key.{Key}
 use Rattle.sdb_types.specs.Order.{key_cmp, same_key}
 use Rattle.sdb_snapshot.specs.Entries.{value_at, with_value}
-use Rattle.sdb_types.proofs.Keys.{same_key_is}
-use Rattle.sdb_types.proofs.Basics.{by_test, or_else}
+use Rattle.sdb_types.proofs.Public.{by_test, or_else, same_key_is}
 
 pub value_is : {V : Type 0} (es : List (Key × V)) (key : Key) → value_at es key ≡ find key_cmp key es
 value_is [] key = refl

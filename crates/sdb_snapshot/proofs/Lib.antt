@@ -1,14 +1,15 @@
-pub mod Keys
-pub mod Fronts
-pub mod Orders
-pub mod Places
-pub mod Scans
-pub mod SpanPlaces
-pub mod Opening
-pub mod Shown
-pub mod Differences
-pub mod Owned
-pub mod Forgotten
-pub mod Firsts
-pub mod Numbered
-pub mod Kept
+mod Keys
+mod Fronts
+mod Orders
+mod Places
+mod Scans
+mod SpanPlaces
+mod Opening
+mod Shown
+mod Differences
+mod Owned
+mod Forgotten
+mod Firsts
+mod Numbered
+mod Kept
+pub mod Public

@@ -5,7 +5,7 @@ use Rattle.std.specs.Map.{values_of}
 use Rattle.std.proofs.lemmas.Bool.Decides.{nat_tests}
 use Rattle.std.proofs.lemmas.List.{map-append, take-map}
 use Rattle.indexmap.specs.IndexMap.{insert_entry}
-use Rattle.sdb_types.proofs.Basics.{none_some}
+use Rattle.sdb_types.proofs.Public.{none_some}
 use Rattle.sdb_snapshot.specs.Places.{AreNumbered}
 
 other : (a b : ℕ) → b < a → nat_eq a b ≡ false

@@ -3,7 +3,7 @@ use Rattle.std.proofs.Common.{◌≡◌, suc, Bool, true, false, cond, List, [],
 use Rattle.std.specs.Prelude.{is_some}
 use Rattle.sdb_snapshot.specs.Types.{Key, Keyed, Write}
 use Rattle.sdb_types.specs.Order.{same_key}
-use Rattle.sdb_types.proofs.Keys.{same_key_self}
+use Rattle.sdb_types.proofs.Public.{same_key_self}
 use Rattle.sdb_record.specs.Among.{write_among, is_written}
 use Rattle.sdb_snapshot.specs.Sets.{StartsWith}
 use Rattle.sdb_snapshot.specs.Reads.{ReadRecord}

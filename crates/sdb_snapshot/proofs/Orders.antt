@@ -7,8 +7,7 @@ use Rattle.sdb_snapshot.specs.Types.{Key, Pair, Record, Span}
 use Rattle.sdb_types.specs.Order.{key_cmp, same_key}
 use Rattle.sdb_types.specs.Exact.{equal_of}
 use Rattle.sdb_types.specs.Contents.{Contents, in_span, rows_among, rows_in, record_of}
-use Rattle.sdb_types.proofs.KeyOrder.{key_total, key_exact}
-use Rattle.sdb_types.proofs.Replies.{rows_in-are_rows_of}
+use Rattle.sdb_types.proofs.Public.{by_test, key_exact, key_total, or_else, rows_in-are_rows_of, same_key_is}
 use Rattle.sdb_snapshot.specs.Entries.{value_at, with_value}
 use Rattle.sdb_snapshot.specs.Sets.{InOrder}
 use Rattle.sdb_snapshot.specs.Reads.{ReadRecord, is_key_read, has_key, AreKeysOf}
@@ -16,8 +15,6 @@ use Rattle.sdb_snapshot.specs.Reads.{with_read_record}
 use Rattle.sdb_snapshot.specs.Sets.{StartsWith}
 use Rattle.sdb_snapshot.proofs.Fronts.{starts_more}
 use Rattle.sdb_snapshot.proofs.Keys.{value_last, value_take, put_new}
-use Rattle.sdb_types.proofs.Basics.{by_test, or_else}
-use Rattle.sdb_types.proofs.Keys.{same_key_is}
 
 pub nothing_noted : (m : Contents) → InOrder [] m
 nothing_noted m q h = absurd (cc)

@@ -11,9 +11,8 @@ use Rattle.sdb_snapshot.specs.Written.{AreChanges, HaveBases, HaveKeysOnce, with
 use Rattle.sdb_snapshot.specs.Sets.{IsSetInvariant}
 use Rattle.sdb_snapshot.proofs.Keys.{value_last}
 use Rattle.sdb_snapshot.proofs.Differences.{or_there, noted_images, noted_last_keeps, still_noted, bases_last, bases_images, writes_fine, writes_read}
-use Rattle.sdb_types.proofs.Basics.{by_test}
+use Rattle.sdb_types.proofs.Public.{by_test, same_key_exact, same_key_self}
 use Rattle.sdb_types.specs.Order.{same_key}
-use Rattle.sdb_types.proofs.Keys.{same_key_self, same_key_exact}
 
 ---- bases
 

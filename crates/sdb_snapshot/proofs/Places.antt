@@ -14,7 +14,7 @@ use Rattle.sdb_snapshot.specs.Sets.{AreIndexed}
 use Rattle.sdb_snapshot.specs.Opened.{with_new, with_laid}
 use Rattle.sdb_snapshot.proofs.Fronts.{starts_itself, starts_more, starts_take}
 use Rattle.sdb_snapshot.proofs.Keys.{put_new}
-use Rattle.sdb_types.proofs.Basics.{by_test, one_more}
+use Rattle.sdb_types.proofs.Public.{by_test, one_more}
 use Rattle.sdb_types.specs.Order.{same_key}
 
 abbrev pub key_of : Write → Key

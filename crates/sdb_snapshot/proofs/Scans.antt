@@ -5,7 +5,7 @@ use Rattle.std.specs.Option.{option_map_or}
 use Rattle.std.proofs.lemmas.List.Folds.{find_at}
 use Rattle.sdb_snapshot.specs.Types.{Scan, Span}
 use Rattle.sdb_types.specs.Exactness.{span_is_exact}
-use Rattle.sdb_types.proofs.Basics.{by_test, clash, false_by, one_more, or_second, some_is}
+use Rattle.sdb_types.proofs.Public.{by_test, clash, false_by, one_more, or_second, some_is}
 use Rattle.sdb_snapshot.specs.Sets.{HaveFirstIndexes, first_scan, is_scan_at}
 use Rattle.sdb_snapshot.specs.Seen.{is_scanned, same_span}
 

@@ -11,8 +11,7 @@ use Rattle.sdb_snapshot.specs.Types.{Access, Image, Key, Keyed, Pair, Record, Sp
 use Rattle.sdb_types.specs.Order.{key_cmp, same_key}
 use Rattle.sdb_types.specs.Exact.{equal_of}
 use Rattle.sdb_types.specs.Contents.{in_span, starts_after, rise, are_rows_of}
-use Rattle.sdb_types.proofs.Bools.{and_first, and_second}
-use Rattle.sdb_types.proofs.KeyOrder.{key_total, key_exact, starts_trans}
+use Rattle.sdb_types.proofs.Public.{and_first, and_second, both_t as t_two, by_test, cond_some as each, key_exact, key_total, less_of, same_key_exact, same_key_is, starts_trans, t_both}
 use Rattle.sdb_snapshot.specs.Entries.{value_at}
 use Rattle.sdb_record.specs.declared.access.Access.TheVariants as access
 use Rattle.sdb_record.specs.Rolls.{row_of_change}
@@ -24,9 +23,7 @@ use Rattle.sdb_model.specs.Access.{in_access, rows_at, with_row, with_changes}
 use Rattle.sdb_snapshot.specs.Rows.{with_own, row_found, tables_of_reads}
 use Rattle.sdb_snapshot.specs.Sets.{WereRead}
 use Rattle.sdb_snapshot.specs.Seen.{Seen, tables_seen, overlay, Agrees, row_with, row_seen, images_with, images_at}
-use Rattle.sdb_types.proofs.Basics.{by_test, less_of, t_both, both_t as t_two, cond_some as each}
-use Rattle.sdb_types.proofs.Keys.{same_key_is, same_key_exact}
-use Rattle.sdb_model.proofs.Basics.{where_rows}
+use Rattle.sdb_model.proofs.Public.{where_rows}
 
 ---- what tables have at a key
 

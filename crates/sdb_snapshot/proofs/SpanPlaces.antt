@@ -10,8 +10,7 @@ use Rattle.sdb_types.specs.Exact.{order_decides}
 use Rattle.sdb_types.specs.Exactness.{span_is_exact}
 use Rattle.sdb_types.specs.Order.{table_cmp}
 use Rattle.sdb_types.specs.ValueLaws.{value_exact, value_total}
-use Rattle.sdb_types.proofs.Basics.{by_test, clash}
-use Rattle.sdb_types.proofs.KeyOrder.{table_exact, table_total}
+use Rattle.sdb_types.proofs.Public.{by_test, clash, table_exact, table_total}
 use Rattle.sdb_snapshot.specs.Seen.{same_span}
 use Rattle.sdb_snapshot.specs.Spans.{partition_cmp, place_in_table, place_in_tables}
 

@@ -20,9 +20,9 @@ use Rattle.sdb_types.specs.Order.{key_cmp, table_text}
 use Rattle.sdb_types.specs.Exact.{equal_of}
 use Rattle.sdb_types.specs.Fits.{record_fits}
 use Rattle.sdb_types.specs.Contents.{record_at, record_of}
-use Rattle.sdb_types.proofs.KeyOrder.{key_exact, key_total}
+use Rattle.sdb_types.proofs.Public.{key_exact, key_total}
 use Rattle.sdb_codec.specs.Spelling.{key_bytes, record_bytes, RecordIsEncodable}
-use Rattle.sdb_codec.proofs.RecordLaws.{record_round_trip}
+use Rattle.sdb_codec.proofs.Public.{record_round_trip}
 use Rattle.sdb_sqlite.specs.Spans.{partition_key}
 use Rattle.sdb_sqlite.specs.Rows.{stored, IsRowOfStore, row_key, entry_of, own_columns, has_key, rows_at, contents_of_rows}
 use Rattle.sdb_sqlite.proofs.Lists.{weaker, passed, each_passed, still_passed, none_passed, none_any}

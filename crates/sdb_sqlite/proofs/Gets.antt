@@ -19,10 +19,10 @@ use Rattle.sdb_types.specs.Order.{key_cmp}
 use Rattle.sdb_types.specs.Exact.{equal_of}
 use Rattle.sdb_types.specs.Fits.{key_fits}
 use Rattle.sdb_types.specs.Contents.{Contents, record_at, record_of}
-use Rattle.sdb_types.proofs.KeyOrder.{key_exact, key_total}
+use Rattle.sdb_types.proofs.Public.{and_true, key_exact, key_total}
 use Rattle.sdb_codec.specs.Spelling.{key_bytes, KeyIsEncodable}
 use Rattle.sdb_codec.specs.Reading.{record_in}
-use Rattle.sdb_codec.proofs.RecordLaws.{key_round_trip}
+use Rattle.sdb_codec.proofs.Public.{key_round_trip}
 use Rattle.sdb_store.specs.Store.{Performs}
 use Rattle.sdb_sqlite.specs.declared.refused.Stopped.{Stopped}
 use Rattle.sdb_sqlite.specs.declared.refused.Stopped.TheVariants as stopped
@@ -36,7 +36,6 @@ use Rattle.sdb_sqlite.proofs.Texts.{by_k, body_shown, get_is, get_plain}
 use Rattle.sdb_sqlite.proofs.Keys.{same_key}
 use Rattle.sdb_sqlite.proofs.Lists.{filter_same, weaker, passed, few_permutation}
 use Rattle.sdb_sqlite.proofs.Queries.{passes, blobs_test, answered, query_keeps}
-use Rattle.sdb_types.proofs.Basics.{and_true}
 
 ---- the connection is open and returns what was written
 
@@ -115,12 +114,12 @@ due_found q m due found (inr e) h = subst (λ (r : Result (Option Record) Stoppe
 pub got_is : {S : Type 0} (g : Ghosts S) (q : Key) (old new : Connected S) (found : Result (Option Record) Stopped) → IsSure g new → key_fits q → KeyIsEncodable q → HasTable (state g old) → IsGot g q old new found
     → IsFound q (state g old) (state g new) found
 got_is g q old new found sure known fits it got =
-    let observed = got.asked.observed sure.1 in
-    let keeps = query_keeps get_body get_plain (Blob (key_bytes q) ∷ []) (state g old) (state g new) it got.asked.limit got.answer sure.0 observed in
+    let shown = got.asked.shown sure.1 in
+    let keeps = query_keeps get_body get_plain (Blob (key_bytes q) ∷ []) (state g old) (state g new) it got.asked.limit got.answer sure.0 shown in
     record {
       kept = keeps.0;
       same = keeps.1;
-      there = due_found q (contents_of_state (state g old)) (found_by q got.answer) found got.due (by_answer got.answer observed);
+      there = due_found q (contents_of_state (state g old)) (found_by q got.answer) found got.due (by_answer got.answer shown);
     }
   where
     by_answer : (answer : Result (List Row) Error) → MatchResult answer (Shown get_body (Blob (key_bytes q) ∷ []) (state g old) (state g new)) (FailsToQuery get_body (Blob (key_bytes q) ∷ []) (state g old) (state g new)) → IfOk (found_by q answer) (λ o. o ≡ record_at (contents_of_state (state g old)) q)

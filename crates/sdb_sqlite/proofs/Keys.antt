@@ -14,10 +14,9 @@ use Rattle.sdb_types.specs.Exact.{order_decides}
 use Rattle.sdb_types.specs.Fits.{key_fits, value_fits}
 use Rattle.sdb_types.specs.ValueLaws.{value_exact, value_total}
 use Rattle.sdb_types.specs.Contents.{in_span}
-use Rattle.sdb_types.proofs.Bools.{and_first, and_second, and_both}
-use Rattle.sdb_types.proofs.KeyOrder.{key_exact, key_total, table_exact, table_total, by_text}
+use Rattle.sdb_types.proofs.Public.{and_both, and_first, and_second, by_text, key_exact, key_total, table_exact, table_total}
 use Rattle.sdb_codec.specs.Spelling.{key_bytes, KeyIsEncodable, ValueIsEncodable}
-use Rattle.sdb_codec.proofs.RecordLaws.{key_apart}
+use Rattle.sdb_codec.proofs.Public.{key_apart}
 use Rattle.sdb_sqlite.specs.Spans.{partition_key, table_is_encodable}
 
 -- the bytes of keys are equal exactly where the keys are

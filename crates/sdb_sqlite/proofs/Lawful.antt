@@ -10,7 +10,7 @@ use Rattle.sqlite.specs.Store.{Ghosts}
 use Rattle.sqlite.specs.Held.{Held as Connected}
 use Rattle.sdb_types.specs.declared.record.Request.TheVariants.{Get, Scan, PutIf, DeleteIf}
 use Rattle.sdb_types.specs.Contents.{in_span, rise, are_rows_of, CanAnswer, IsUnmet}
-use Rattle.sdb_types.proofs.Bools.{and_both}
+use Rattle.sdb_types.proofs.Public.{and_both}
 use Rattle.sdb_codec.specs.Reading.{key_in}
 use Rattle.sdb_sqlite.specs.declared.calls.Written.{Written}
 use Rattle.sdb_sqlite.specs.declared.calls.Written.TheVariants.{Applied, NotMet}

@@ -1,16 +1,16 @@
-pub mod Sorting
-pub mod Columns
-pub mod Lawful
-pub mod Listing
-pub mod Texts
-pub mod Keys
-pub mod Lists
-pub mod Queries
-pub mod Gets
-pub mod Scans
-pub mod Edits
-pub mod Writes
-pub mod Puts
-pub mod Making
-pub mod Released
-pub mod Stops
+mod Sorting
+mod Columns
+mod Lawful
+mod Listing
+mod Texts
+mod Keys
+mod Lists
+mod Queries
+mod Gets
+mod Scans
+mod Edits
+mod Writes
+mod Puts
+mod Making
+mod Released
+mod Stops

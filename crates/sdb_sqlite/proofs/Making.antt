@@ -41,8 +41,8 @@ makes_table old new count it limit h =
         rows = rw empty tt;
         numbered = rw empty tt;
         once = λ k. rw empty (omega arith);
-        settled = rw (it.autocommit) at w.observed.committed_is;
-        autocommit = w.observed.mode ∙ it.autocommit;
+        settled = rw (it.autocommit) at w.shown.committed_is;
+        autocommit = w.shown.mode ∙ it.autocommit;
         unlimited = limit ∙ it.unlimited;
       },
       empty,
@@ -72,8 +72,8 @@ makes_index old new count it limit h =
         rows = rw rows (it.rows);
         numbered = rw rows (it.numbered);
         once = λ k. rw rows (it.once k);
-        settled = rw (it.autocommit) at w.observed.committed_is;
-        autocommit = w.observed.mode ∙ it.autocommit;
+        settled = rw (it.autocommit) at w.shown.committed_is;
+        autocommit = w.shown.mode ∙ it.autocommit;
         unlimited = limit ∙ it.unlimited;
       },
       rows,

@@ -13,7 +13,7 @@ use Rattle.sdb_types.specs.declared.record.Reply.TheVariants as reply
 use Rattle.sdb_types.specs.Order.{key_cmp}
 use Rattle.sdb_types.specs.Exact.{equal_of}
 use Rattle.sdb_types.specs.Fits.{key_fits, record_fits}
-use Rattle.sdb_types.proofs.KeyOrder.{key_exact, key_total}
+use Rattle.sdb_types.proofs.Public.{key_exact, key_total}
 use Rattle.sdb_types.specs.Contents.{Contents, record_at, record_of, holds, put_reply, reply_to, after}
 use Rattle.sdb_codec.specs.Spelling.{key_bytes, KeyIsEncodable, RecordIsEncodable}
 use Rattle.sdb_store.specs.Store.{Performs}

@@ -9,7 +9,7 @@ use Rattle.sqlite.specs.Held.{Held as Connected, state}
 use Rattle.sdb_sqlite.specs.Types.{Key, Pair}
 use Rattle.sdb_types.specs.Order.{table_text}
 use Rattle.sdb_types.specs.Contents.{record_at, record_of}
-use Rattle.sdb_types.proofs.KeyOrder.{key_total}
+use Rattle.sdb_types.proofs.Public.{key_total}
 use Rattle.sdb_codec.specs.Spelling.{key_bytes}
 use Rattle.sdb_codec.specs.Reading.{record_in}
 use Rattle.sdb_sqlite.specs.Spans.{partition_key}

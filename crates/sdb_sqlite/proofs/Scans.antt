@@ -24,11 +24,10 @@ use Rattle.sdb_types.specs.declared.record.Request.TheVariants.{Scan}
 use Rattle.sdb_types.specs.declared.record.Reply.TheVariants as reply
 use Rattle.sdb_types.specs.Order.{key_cmp, table_text}
 use Rattle.sdb_types.specs.Contents.{record_of, rows_in, in_span, rise, starts_after}
-use Rattle.sdb_types.proofs.Bools.{and_first, and_second}
-use Rattle.sdb_types.proofs.KeyOrder.{key_exact, key_total, starts_trans}
+use Rattle.sdb_types.proofs.Public.{and_first, and_second, and_true, both_t as t_two, key_exact, key_total, less_of, starts_trans, t_both}
 use Rattle.sdb_codec.specs.Spelling.{key_bytes, KeyIsEncodable}
 use Rattle.sdb_codec.specs.Reading.{key_in}
-use Rattle.sdb_codec.proofs.RecordLaws.{key_round_trip}
+use Rattle.sdb_codec.proofs.Public.{key_round_trip}
 use Rattle.sdb_store.specs.Store.{Performs}
 use Rattle.sdb_sqlite.specs.declared.refused.Stopped.{Stopped}
 use Rattle.sdb_sqlite.specs.declared.refused.Stopped.TheVariants as stopped
@@ -44,7 +43,6 @@ use Rattle.sdb_sqlite.proofs.Lists.{filter_same, weaker, passed, few_permutation
 use Rattle.sdb_sqlite.proofs.Queries.{passes, blobs_test, texts_test, answered, query_keeps}
 use Rattle.sdb_sqlite.proofs.Gets.{IsSure, tied_key, stopped_performs}
 use Rattle.sdb_sqlite.proofs.Lawful.{due_stops}
-use Rattle.sdb_types.proofs.Basics.{less_of, and_true, t_both, both_t as t_two}
 
 ---- the rows that the query of a span passes
 
@@ -192,14 +190,14 @@ list_in span rows answer result tied once shuffled (inr h) =
     let given : AllByRecursion Given answer = recursion_from_All Given answer (All-permutation Given _ answer shuffled (All-from_recursion Given _ each)) in
     let read : rows_records span answer ≡ Ok (map record_of_row answer) = all_given span answer given in
     let sorted = listed_ok (map record_of_row answer) result (subst (λ (r : Result (List Record) Stopped). IsListedBy r result) read h) in
-    let observed : IsPermutation (map (λ r. record_of (entry_of r)) (inside span rows)) (map record_of_row answer) =
+    let shown : IsPermutation (map (λ r. record_of (entry_of r)) (inside span rows)) (map record_of_row answer) =
     subst (λ (xs : List Record). IsPermutation xs (map record_of_row answer)) (map-map record_of_row projected (inside span rows)) (IsPermutation-map record_of_row _ answer shuffled) in
-    by_result result sorted observed
+    by_result result sorted shown
   where
     by_result : (r : Result (List Record) Stopped) → IfOk r (λ list. IsPermutation (map record_of_row answer) list × (rise list ≡ true)) → IsPermutation (map (λ r. record_of (entry_of r)) (inside span rows)) (map record_of_row answer)
         → IfOk r (λ list. list ≡ rows_in span (contents_of_rows rows))
-    by_result (Ok list) s observed = rows_are span rows once list (IsPermutation-trans _ _ list observed s.0) s.1
-    by_result (Err e) s observed = tt
+    by_result (Ok list) s shown = rows_are span rows once list (IsPermutation-trans _ _ list shown s.0) s.1
+    by_result (Err e) s shown = tt
 
 rows_performs : (span : Span) (old new : State) (result : Result (List Record) Stopped) → new.now ≡ old.now → IfOk result (λ list. list ≡ rows_in span (contents_of_state old)) → Performs (Scan span) (rows_reply result) (contents_of_state old) (contents_of_state new)
 rows_performs span old new (Ok rows) same is = (ap reply.Rows is, ap (λ (d : Database). contents_of_rows (d.trees 0)) same)
@@ -208,9 +206,9 @@ rows_performs span old new (Err s) same is = stopped_performs (Scan span) s (con
 scan_is : {S : Type 0} (g : Ghosts S) (span : Span) (old new : Connected S) (result : Result (List Record) Stopped) → IsSure g new → span_is_encodable span → SpanIsEncodable span → HasTable (state g old) → IsScanned g span old new result
     → IsAnswered (Scan span) (rows_reply result) (state g old) (state g new)
 scan_is g span old new result sure known fits it got =
-    let observed = got.asked.observed sure.1 in
-    let keeps = query_keeps (span_text span.partition) (plain span.partition) (span_params span.table span.partition) (state g old) (state g new) it got.asked.limit got.answer sure.0 observed in
-    record { kept = keeps.0; performed = rows_performs span (state g old) (state g new) result keeps.1 (by_answer got.answer observed got.listed) }
+    let shown = got.asked.shown sure.1 in
+    let keeps = query_keeps (span_text span.partition) (plain span.partition) (span_params span.table span.partition) (state g old) (state g new) it got.asked.limit got.answer sure.0 shown in
+    record { kept = keeps.0; performed = rows_performs span (state g old) (state g new) result keeps.1 (by_answer got.answer shown got.listed) }
   where
     plain : (o : Option (List Cell)) → IsPlain (understood records_schema (span_text o))
     plain None = table_plain

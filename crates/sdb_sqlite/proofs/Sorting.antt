@@ -9,7 +9,7 @@ use Rattle.std.proofs.lemmas.List.Sorted.{ranks_by}
 use Rattle.std.proofs.lemmas.Fn.{always_returns_same}
 use denote.Ref.{Bor}
 use denote.Param.Members.{Mut}
-use Rattle.sdb_types.proofs.KeyOrder.{key_total}
+use Rattle.sdb_types.proofs.Public.{key_total}
 use Rattle.sdb_types.specs.Order.{key_cmp}
 
 pub by_keys : {F : Type 0} {g : Mut F (Bor Record × (Bor Record × Unit {0})) Ordering} {f : F} (rs : List Record)

@@ -31,11 +31,11 @@ abbrev pub by_p : List Term
 by_p = equals 2 0 ∷ equals 3 1 ∷ []
 
 abbrev pub selected : List Term → List Term → Query
-selected terms observed = record {
+selected terms shown = record {
   from = inner 0 end;
   filter = terms;
   group = None;
-  project = observed;
+  project = shown;
   distinct = false;
   collations = [];
   order = [];

@@ -131,8 +131,8 @@ adds old new r count it h =
       record {
         schema = ap (λ (d : Database). d.schema) now;
         rows = ap (λ (d : Database). d.trees 0) now ∙ ap (λ (t : Trees). t 0) trees ∙ step.rows ∙ rows;
-        settled = rw (it.autocommit) at w.observed.committed_is;
-        mode = w.observed.mode ∙ it.autocommit;
+        settled = rw (it.autocommit) at w.shown.committed_is;
+        mode = w.shown.mode ∙ it.autocommit;
       },
       not_true _ fresh,
     )
@@ -154,12 +154,12 @@ insert_told old new r count it known fits limit none h =
 
 ---- the one row that a query by key shows
 
-one_shown : (db : Trees) (observed : List Term) (q : Key) (others : Row) (y : Row) (rows : List Row) → key_fits q → KeyIsEncodable q → AllByRecursion IsRowOfStore (db 0) → rows_at q (db 0) ≡ y ∷ []
-    → IsProgramAnswer [] (selected by_k observed) db (Blob (key_bytes q) ∷ others) rows → rows ≡ shown_by by_k observed (Blob (key_bytes q) ∷ others) y ∷ []
-one_shown db observed q others y rows known fits tied one h =
+one_shown : (db : Trees) (shown : List Term) (q : Key) (others : Row) (y : Row) (rows : List Row) → key_fits q → KeyIsEncodable q → AllByRecursion IsRowOfStore (db 0) → rows_at q (db 0) ≡ y ∷ []
+    → IsProgramAnswer [] (selected by_k shown) db (Blob (key_bytes q) ∷ others) rows → rows ≡ shown_by by_k shown (Blob (key_bytes q) ∷ others) y ∷ []
+one_shown db shown q others y rows known fits tied one h =
     let params = Blob (key_bytes q) ∷ others in
     let passing : filter (passes by_k params) (db 0) ≡ y ∷ [] = keys_passed q others known fits (db 0) tied ∙ one in
-    few_permutation (shown_by by_k observed params y ∷ []) rows (omega arith) (subst (λ (xs : List Row). IsPermutation (map (shown_by by_k observed params) xs) rows) passing (answered db by_k observed params rows h))
+    few_permutation (shown_by by_k shown params y ∷ []) rows (omega arith) (subst (λ (xs : List Row). IsPermutation (map (shown_by by_k shown params) xs) rows) passing (answered db by_k shown params rows h))
 
 ---- the UPDATE
 
@@ -184,8 +184,8 @@ updates old new q id t p b c count it known fits one h =
     record {
       schema = ap (λ (d : Database). d.schema) now;
       rows = ap (λ (d : Database). d.trees 0) now ∙ ap (λ (s : Trees). s 0) trees ∙ step.rows ∙ made;
-      settled = rw (it.autocommit) at w.observed.committed_is;
-      mode = w.observed.mode ∙ it.autocommit;
+      settled = rw (it.autocommit) at w.shown.committed_is;
+      mode = w.shown.mode ∙ it.autocommit;
     }
 
 -- the row of a key is one that the store writes
@@ -242,8 +242,8 @@ deletes old new q id t p b count it known fits one h =
     record {
       schema = ap (λ (d : Database). d.schema) now;
       rows = ap (λ (d : Database). d.trees 0) now ∙ ap (λ (s : Trees). s 0) trees ∙ step.rows ∙ made;
-      settled = rw (it.autocommit) at w.observed.committed_is;
-      mode = w.observed.mode ∙ it.autocommit;
+      settled = rw (it.autocommit) at w.shown.committed_is;
+      mode = w.shown.mode ∙ it.autocommit;
     }
 
 -- A DELETE of a key's row leaves the map without the key.

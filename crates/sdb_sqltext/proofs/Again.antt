@@ -16,7 +16,7 @@ use Rattle.sdb_sqltext.specs.States as state
 use Rattle.sdb_sqltext.specs.Machine.{is_select, step}
 use Rattle.sdb_sqltext.specs.Parsing.{finish}
 use Rattle.sdb_sqltext.proofs.Complete.{run, whole_reads}
-use Rattle.sdb_types.proofs.Basics.{none_some, bind_some}
+use Rattle.sdb_types.proofs.Public.{bind_some, none_some}
 
 -- ---- no statement has an overlong token
 

@@ -18,8 +18,8 @@ use Rattle.sdb_sqltext.specs.declared.lex_fault.LexRefused.{LexRefused}
 use Rattle.sdb_sqltext.specs.declared.lex_fault.LexRefused.TheVariants as refused
 use Rattle.sdb_sqltext.proofs.Lexing.{gap_turn, token_turn}
 use Rattle.sdb_sqltext.proofs.Printed.{clear, Again, keyword_identifier, by_keyword, word_read, name_read, sign_read, number_read, text_read, blob_read, drop_seam, begins_more}
-use Rattle.sdb_types.proofs.Basics.{by_test}
-use Rattle.sdb_model.proofs.Basics.{is_bytes}
+use Rattle.sdb_types.proofs.Public.{by_test}
+use Rattle.sdb_model.proofs.Public.{is_bytes}
 
 -- ---- one token
 

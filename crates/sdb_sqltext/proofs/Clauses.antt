@@ -13,7 +13,7 @@ use Rattle.sdb_sqltext.specs.Machine.{step}
 use Rattle.sdb_sqltext.specs.Parsing.{finish, or_at, then, parse_from, no_statement, of_tokens, of_fault, parsed_by, parsed}
 use Rattle.sdb_sqltext.proofs.Complete.{run, run_append, spelled_reads, open_insert, open_insert_run, open_insert_is, draft}
 use Rattle.sdb_sqltext.proofs.Places.{run_so, finish_spells, found_from, parse_run, front_of, begins_at, place_from}
-use Rattle.sdb_types.proofs.Basics.{by_option, bind_some}
+use Rattle.sdb_types.proofs.Public.{bind_some, by_option}
 use Rattle.sdb_types.specs.Options.{◌>>=◌}
 
 -- ---- from the reader to the grammar

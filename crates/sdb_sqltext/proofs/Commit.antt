@@ -16,8 +16,7 @@ use Rattle.sdb_model.specs.Sql.{is_lexed_word, is_sign, is_word, reads_commit}
 use Rattle.sdb_model.specs.SqlTokens.{Lexed, Lexeme, Bad, Wide, minus, begins, begins_blob, behind, blob_in, blob_token, closes, enclosed, first_token, digits_len, is_digit, is_gap, is_single_quote, keyword_of, letter_at, lexed, name_token, negative_at, number_at, number_of, or_word, quote_place, quoted_name_at, sign_of, sign_text, sign_token, signs, text_at, text_token, token_at, tokens_from, word_at, word_len, word_or_name}
 use Rattle.sdb_sqltext.specs.OneWord.{after_gaps, ends_text, is_commit, is_commit_at, is_end, spells_commit}
 use Rattle.sdb_sqltext.proofs.Lexing.{gap_turn, token_turn}
-use Rattle.sdb_types.proofs.Basics.{by_test, one_more, cond_by as either}
-use Rattle.sdb_types.proofs.Words.{start_part as start_is_part}
+use Rattle.sdb_types.proofs.Public.{by_test, cond_by as either, one_more, start_part as start_is_part}
 
 both_pass : (a b c : Bool) → a ≡ true → b ≡ true → (a && (b && c)) ≡ c
 both_pass a b c s h = rw (s, h) refl

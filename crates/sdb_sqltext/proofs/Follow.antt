@@ -19,7 +19,7 @@ use Rattle.sdb_sqltext.specs.Readers.{Read, place, next_word, next_sign, after_w
 use Rattle.sdb_sqltext.proofs.Told.{sign_is}
 use Rattle.sdb_sqltext.proofs.Complete.{draft}
 use Rattle.sdb_sqltext.proofs.Linked.{onward, other, all_other, other_part, other_word, other_sign, word_goes, sign_goes, word_stops, sign_stops, left_len, part_shorter, word_shorter, sign_shorter, then_shorter, Follows, list_follows}
-use Rattle.sdb_types.proofs.Basics.{by_test as by_bool, by_option}
+use Rattle.sdb_types.proofs.Public.{by_option, by_test as by_bool}
 use Rattle.sdb_types.specs.Options.{◌>>=◌}
 
 -- ---- what is left is shorter

@@ -1,19 +1,20 @@
-pub mod Told
-pub mod Complete
-pub mod Viable
-pub mod Places
-pub mod Clauses
-pub mod Again
-pub mod Within
-pub mod Answered
-pub mod Turns
-pub mod Linked
-pub mod Follow
-pub mod OneWord
-pub mod Words
-pub mod Enclosed
-pub mod Lexing
-pub mod Printed
-pub mod AllPrinted
-pub mod Spelled
-pub mod Commit
+mod Told
+mod Complete
+mod Viable
+mod Places
+mod Clauses
+mod Again
+mod Within
+mod Answered
+mod Turns
+mod Linked
+mod Follow
+mod OneWord
+mod Words
+mod Enclosed
+mod Lexing
+mod Printed
+mod AllPrinted
+mod Spelled
+mod Commit
+pub mod Public

@@ -9,7 +9,7 @@ use Rattle.sdb_model.specs.declared.token.Token.TheVariants.{Word, Sign as Mark}
 use Rattle.sdb_model.specs.SqlTokens.{Lexed, lexed}
 use Rattle.sdb_model.specs.Sql.{Tokens, IsWhole, Reads, Spells, is_word, is_sign, are_word, is_lexed_word, reads_word, statement_tokens, tokens_of}
 use Rattle.sdb_sqltext.proofs.Told.{word_is, sign_is}
-use Rattle.sdb_types.proofs.Basics.{and_parts as and_both}
+use Rattle.sdb_types.proofs.Public.{and_parts as and_both}
 
 are_spelled : (k : Keyword) (st : Statement) → statement_tokens st ≡ Word k ∷ [] → (ts : Tokens) → are_word k ts ≡ true → Spells ts st
 are_spelled k st e [] h = absurd cc

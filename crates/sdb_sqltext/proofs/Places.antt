@@ -13,7 +13,7 @@ use Rattle.sdb_sqltext.specs.Parsing.{finish, or_at, then, parse_from}
 use Rattle.sdb_sqltext.proofs.Told.{so_far, Fine, answered, filter_is, whole_filter}
 use Rattle.sdb_sqltext.proofs.Complete.{run, run_append, spelled_reads, open_insert, open_insert_run, open_insert_is, draft}
 use Rattle.sdb_sqltext.proofs.Viable.{viable}
-use Rattle.sdb_types.proofs.Basics.{some_is, none_some, bind_some}
+use Rattle.sdb_types.proofs.Public.{bind_some, none_some, some_is}
 use Rattle.sdb_types.specs.Options.{◌>>=◌}
 
 pub run_so : (ts : Tokens) (s n : State) → Fine s → run s ts ≡ Some n → (so_far n ≡ so_far s ++ ts) × Fine n

@@ -20,9 +20,8 @@ use Rattle.sdb_model.specs.declared.token.Keyword.TheVariants as word
 use Rattle.sdb_model.specs.declared.token.Sign.TheVariants as sign
 use Rattle.sdb_model.specs.declared.token.Token.TheVariants.{Word, Name, Number, Text, Blob, Sign as Mark}
 use Rattle.sdb_sqltext.proofs.Enclosed.{encloses_none, encloses_byte, encloses_quote}
-use Rattle.sdb_types.proofs.Basics.{and_parts as and_true, by_test, one_more, fails_second as and_false}
-use Rattle.sdb_types.proofs.Words.{start_part as start_is_part}
-use Rattle.sdb_model.proofs.Basics.{digit_is}
+use Rattle.sdb_types.proofs.Public.{and_parts as and_true, by_test, fails_second as and_false, one_more, start_part as start_is_part}
+use Rattle.sdb_model.proofs.Public.{digit_is}
 
 -- ---- what ends a token: the end of the text, a space, `,` `)` or `.`
 

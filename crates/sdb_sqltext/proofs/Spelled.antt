@@ -15,8 +15,8 @@ use Rattle.sdb_model.specs.Sql.{tokens_of}
 use Rattle.sdb_model.specs.declared.token.Token.TheVariants.{Name, Overlong, Number, Text}
 use Rattle.sdb_sqltext.specs.Spelled.{IsSpelled}
 use Rattle.sdb_sqltext.proofs.Words.{front_is_identifier}
-use Rattle.sdb_types.proofs.Basics.{by_test, cond_by as either}
-use Rattle.sdb_model.proofs.Basics.{are_bytes}
+use Rattle.sdb_types.proofs.Public.{by_test, cond_by as either}
+use Rattle.sdb_model.proofs.Public.{are_bytes}
 
 abbrev Fine : Lexeme → Type 0
 Fine (Ok p) = IsSpelled p.0

@@ -24,7 +24,7 @@ use Rattle.sdb_sqltext.specs.States.{Filter}
 use Rattle.sdb_sqltext.specs.States.{State}
 use Rattle.sdb_sqltext.specs.States as state
 use Rattle.sdb_sqltext.specs.Machine.{on_sign, name_of, word_value, value_of, literal_of, limit_of, sign_comparison, comparison_of, with_name, with_literal, with_test, inserted, filtered, filtered_by, is_select, begun, ending, more_sets, untested, with_set, step}
-use Rattle.sdb_types.proofs.Basics.{and_parts as and_both, some_is, eq_of as same_length, all_last as all_more, bind_some}
+use Rattle.sdb_types.proofs.Public.{all_last as all_more, and_parts as and_both, bind_some, eq_of as same_length, some_is}
 use Rattle.sdb_types.specs.Options.{◌>>=◌}
 
 -- ---- the tokens so far

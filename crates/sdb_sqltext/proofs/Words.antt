@@ -5,8 +5,7 @@ use Rattle.std.specs.Str.{IsAscii, IsUtf8, is_utf8}
 use Rattle.std.proofs.lemmas.Str.{IsUtf8-from_ascii, IsUtf8-from_is_utf8}
 use Rattle.sdb_types.specs.Identifier.{is_start, is_part, is_identifier}
 use Rattle.sdb_model.specs.SqlTokens.{begins, word_len}
-use Rattle.sdb_types.proofs.Basics.{and_parts as and_true, by_test, one_more, front_passes as all_pass}
-use Rattle.sdb_types.proofs.Words.{part_small, start_part as start_is_part}
+use Rattle.sdb_types.proofs.Public.{and_parts as and_true, by_test, front_passes as all_pass, one_more, part_small, start_part as start_is_part}
 
 pub front_is_identifier : (bs : List ℕ) → begins is_start bs ≡ true → is_identifier (take (word_len bs) bs) ≡ true
 front_is_identifier [] h = absurd cc

@@ -15,7 +15,7 @@ use Rattle.sdb_types.specs.declared.record.Request.{Request}
 use Rattle.sdb_types.specs.declared.record.Request.TheVariants as ask
 use Rattle.sdb_types.specs.declared.record.Reply.TheVariants as reply
 use Rattle.sdb_types.specs.Contents.{Contents, record_of, record_at, in_span, rows_among, rows_in, holds, put_reply, reply_to, CanAnswer, starts_after, rise, are_rows_of, IsUnmet}
-use Rattle.sdb_types.proofs.Basics.{second_t as right}
+use Rattle.sdb_types.proofs.Public.{second_t as right}
 
 left : (a b : Bool) → T (a && b) → a ≡ true
 left true b h = refl

@@ -1,3 +1,4 @@
-pub mod Texts
-pub mod Lawful
-pub mod Counts
+mod Texts
+mod Lawful
+mod Counts
+pub mod Public

@@ -15,7 +15,7 @@ use Rattle.sdb_types.specs.declared.record.Request.{Request}
 use Rattle.sdb_types.specs.declared.record.Reply.{Reply}
 use Rattle.sdb_types.specs.declared.record.Reply.TheVariants as reply
 use Rattle.sdb_store.specs.Store.{StoreState, IsStoreCall}
-use Rattle.sdb_store.proofs.Counts.{faults_grown, next_risen}
+use Rattle.sdb_store.proofs.Public.{faults_grown, next_risen}
 use Rattle.sdb_types.specs.declared.place.Place.{Place}
 use Rattle.sdb_stores.specs.Views.{Attached, StoreView, AreSound, IsCallAt, IsTakenOut, HaveCause, attached_as, view_of, names_of, place_of, route_of, places_without, home, home_of, total_faults}
 

@@ -12,7 +12,7 @@ use Rattle.sdb_store.specs.Store.{StoreState}
 use Rattle.sdb_types.specs.declared.place.Place.{Place}
 use Rattle.sdb_stores.specs.Views.{StoreView, AreDistinct, IsAdded, attached_as, view_of, names_of, place_of, total_faults}
 use Rattle.sdb_stores.proofs.Called.{names_of-map, map-remove, set_same}
-use Rattle.sdb_types.proofs.Basics.{none_before}
+use Rattle.sdb_types.proofs.Public.{none_before}
 
 -- names that are distinct among the items are so among what they show
 pub observed : {A : Type 0} (store_content : A → StoreView) (xs : List A) → AreDistinct (map (λ a. (store_content a).name) xs) → AreDistinct (names_of (map store_content xs))

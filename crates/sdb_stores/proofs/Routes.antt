@@ -16,8 +16,7 @@ use Rattle.std.proofs.lemmas.Slice.Eq.{bytes_eq-Decides}
 use Rattle.sdb_types.specs.declared.place.Place.{Place}
 use Rattle.sdb_types.specs.Exact.{order_decides}
 use Rattle.sdb_types.specs.Order.{name_cmp}
-use Rattle.sdb_types.proofs.Basics.{by_test, none_some, or_else}
-use Rattle.sdb_types.proofs.KeyOrder.{name_total, name_exact}
+use Rattle.sdb_types.proofs.Public.{by_test, name_exact, name_total, none_some, or_else}
 use Rattle.sdb_stores.specs.Routes.{HasRoutes}
 use Rattle.sdb_stores.specs.Views.{route_of, places_without}
 

@@ -6,16 +6,14 @@ use Rattle.sdb_types.specs.declared.value.Value.TheVariants as value
 use Rattle.sdb_types.specs.declared.record.State.TheVariants.{Committed}
 use Rattle.sdb_types.specs.Columns.{column}
 use Rattle.sdb_types.specs.Contents.{tx_id, tx_state}
-use Rattle.sdb_types.proofs.Bools.{and_first, and_second}
+use Rattle.sdb_types.proofs.Public.{and_first, and_second, not_true}
 use Rattle.sdb_record.specs.declared.coordinator.Decision.TheVariants as decision
 use Rattle.sdb_record.specs.Names.{tx_created_at}
 use Rattle.sdb_record.specs.Coordinator.{id_of_key, decision_in, decision_in_value}
 use Rattle.sdb_record.specs.Meta.{is_in, is_moment, moment_in, moment_in_value, is_transactional, is_unresolved}
 use Rattle.sdb_record.specs.Parts.{before_record}
 use Rattle.sdb_record.specs.Rolls.{IsBaseOf, forward_record}
-use Rattle.sdb_record.proofs.ImageLaws.{image-open, image-is}
-use Rattle.sdb_record.proofs.Fine.{need-ok as need_ok}
-use Rattle.sdb_types.proofs.Basics.{not_true}
+use Rattle.sdb_record.proofs.Public.{image-is, image-open, need-ok as need_ok}
 
 ---- a row's moment
 

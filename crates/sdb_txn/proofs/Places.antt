@@ -7,10 +7,8 @@ use Rattle.sdb_txn.specs.Types.{Key, Record, Request, Span}
 use Rattle.sdb_types.specs.declared.record.Request.TheVariants as ask
 use Rattle.sdb_types.specs.Order.{key_cmp}
 use Rattle.sdb_types.specs.Contents.{in_span, rise, starts_after}
-use Rattle.sdb_types.proofs.Bools.{and_first, and_second}
-use Rattle.sdb_types.proofs.KeyOrder.{key_total}
+use Rattle.sdb_types.proofs.Public.{and_first, and_second, key_total, less_of}
 use Rattle.sdb_txn.specs.Valid.{AreWithin}
-use Rattle.sdb_types.proofs.Basics.{less_of}
 
 both : (a b : Bool) → a ≡ true → b ≡ true → (a && b) ≡ true
 both true true x y = refl

@@ -1,11 +1,12 @@
-pub mod Basics
-pub mod Bools
-pub mod KeyOrder
-pub mod Keys
-pub mod ColumnLemmas
-pub mod TxIdLemmas
-pub mod Pieces
-pub mod Replies
-pub mod ColumnMap
-pub mod Words
-pub mod SpanRows
+mod Basics
+mod Bools
+mod KeyOrder
+mod Keys
+mod ColumnLemmas
+mod TxIdLemmas
+mod Pieces
+mod Replies
+mod ColumnMap
+mod Words
+mod SpanRows
+pub mod Public

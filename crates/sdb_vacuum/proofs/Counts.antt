@@ -10,13 +10,13 @@ use Rattle.sdb_types.specs.declared.record.Reply.TheVariants as reply
 use Rattle.sdb_types.specs.declared.record.Request.TheVariants as ask
 use Rattle.sdb_types.specs.declared.record.Condition.TheVariants as condition
 use Rattle.sdb_types.specs.declared.record.State.TheVariants as state
-use Rattle.sdb_types.proofs.Bools.{and_second}
+use Rattle.sdb_types.proofs.Public.{and_second}
 use Rattle.sdb_record.specs.declared.coordinator.Decision.TheVariants as decision
 use Rattle.sdb_record.specs.Coordinator.{decision_in, is_expired}
 use Rattle.sdb_record.specs.Meta.{checked, id_in, is_committed, is_in, is_transactional, is_unresolved}
 use Rattle.sdb_record.specs.Parts.{before_record}
 use Rattle.sdb_record.specs.Rolls.{IsBaseOf, is_tombstone, AreCommitted, remove_request, undo}
-use Rattle.sdb_record.proofs.ImageLaws.{checked-state}
+use Rattle.sdb_record.proofs.Public.{checked-state}
 use Rattle.sdb_phases.specs.declared.step.RecoverStep.TheVariants as steps
 use Rattle.sdb_phases.specs.declared.step.RecoverPhase.TheVariants as recover
 use Rattle.sdb_phases.specs.Recover.{Received, recover_next, recover_request_at, roll_to, is_as_found, undecided}

@@ -9,22 +9,20 @@ use Rattle.sdb_vacuum.specs.Types.{Decided, Key, Meta, Record, RecoverPhase, Rec
 use Rattle.sdb_types.specs.declared.record.Reply.TheVariants as reply
 use Rattle.sdb_types.specs.declared.record.State.TheVariants as state
 use Rattle.sdb_types.specs.Order.{key_cmp}
-use Rattle.sdb_types.proofs.Basics.{or_second}
-use Rattle.sdb_types.proofs.Bools.{and_both, and_second, or_first}
-use Rattle.sdb_types.proofs.KeyOrder.{key_total}
+use Rattle.sdb_types.proofs.Public.{and_both, and_second, key_total, or_first, or_second}
 use Rattle.sdb_record.specs.declared.coordinator.Decision.TheVariants as decision
 use Rattle.sdb_record.specs.Coordinator.{coordinator_key_of, decision_in, is_expired}
 use Rattle.sdb_record.specs.Meta.{checked, is_in, is_transactional}
 use Rattle.sdb_record.specs.Parts.{are_stored}
 use Rattle.sdb_record.specs.Rolls.{is_tombstone}
-use Rattle.sdb_record.proofs.ImageLaws.{row-key}
+use Rattle.sdb_record.proofs.Public.{row-key}
 use Rattle.sdb_phases.specs.declared.step.RecoverStep.TheVariants as steps
 use Rattle.sdb_phases.specs.declared.step.RecoverPhase.TheVariants as recover
 use Rattle.sdb_phases.specs.CommitLaws.{holds_malformed, is_malformed}
 use Rattle.sdb_phases.specs.Recover.{Received, recover_next, recover_request_at, roll_to, undecided}
 use Rattle.sdb_phases.specs.RecoverLaws.{received_fault}
 use Rattle.sdb_phases.specs.Steps.{CanGet}
-use Rattle.sdb_phases.proofs.Stands.{row_malformed}
+use Rattle.sdb_phases.proofs.Public.{row_malformed}
 use Rattle.sdb_txn.specs.Read.{Kind, Firm, Open, Bad, kind_of, opened}
 use Rattle.sdb_vacuum.specs.declared.work.VacuumStep.{VacuumStep}
 use Rattle.sdb_vacuum.specs.declared.work.VacuumStep.TheVariants as step

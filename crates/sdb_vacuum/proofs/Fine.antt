@@ -12,12 +12,11 @@ use Rattle.sdb_phases.specs.Recover.{Received, recover_next}
 use Rattle.sdb_phases.specs.Steps.{CanGet}
 use Rattle.sdb_txn.specs.Read.{Kind, Firm, Open, Bad, Resolving as Reads, kind_of, resolved as read_resolved}
 use Rattle.sdb_txn.specs.Valid.{IsValid as IsReadFine}
-use Rattle.sdb_txn.proofs.Keeps.{step_fine, firm_by, open_by}
+use Rattle.sdb_txn.proofs.Public.{firm_by, open_by, open_unresolved, step_fine}
 use Rattle.sdb_vacuum.specs.Vacuum.{First, Nothing, Tombstone, Unresolved, Malformed, VacuumStage, Scanning, Resolving, Removing, Over, answered, first_of, first_one, with_call, next_of_row, next_table, pending_at, removal_answered, resolved, spans_of, step_at, tombstone_or}
 use Rattle.sdb_vacuum.specs.Valid.{IsValid}
 use Rattle.sdb_vacuum.specs.Calls.{VacuumReplies, vacuum_after}
 use Rattle.sdb_txn.specs.Rows.{sort_of}
-use Rattle.sdb_txn.proofs.Firm.{open_unresolved}
 
 ---- what a row is
 

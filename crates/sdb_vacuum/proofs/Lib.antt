@@ -1,6 +1,7 @@
-pub mod Firm
-pub mod Asks
-pub mod Fine
-pub mod Counts
-pub mod Spans
-pub mod Ends
+mod Firm
+mod Asks
+mod Fine
+mod Counts
+mod Spans
+mod Ends
+pub mod Public

@@ -122,7 +122,7 @@ impl Work {
     }
 
     // Resolves a record.
-    #[tactic(auto, using(sdb_txn::proofs::Firm::open_unresolved, sdb_txn::proofs::Firm::open_kind))]
+    #[tactic(auto, using(sdb_txn::proofs::Public::open_unresolved, sdb_txn::proofs::Public::open_kind))]
     fn resolve(&self, row: Record) -> Next
         requires { sort_of (kind_of row) ≡ sort.Open }
         ensures next { Gives (next_of_row self.now.spans.items self.now.removed (open_first (kind_of row) row self.now.left.items)) (at_of self.now result.doing) result.step }

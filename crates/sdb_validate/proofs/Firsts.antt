@@ -7,7 +7,7 @@ use Rattle.std.specs.Ordering.{is_eq, is_lt, ordering_reverse}
 use Rattle.sdb_validate.specs.Types.{Key, Ordering, Record, Wanted}
 use Rattle.std.specs.declared.cmp.Ordering.TheVariants.{Less, Equal, Greater}
 use Rattle.sdb_types.specs.Order.{key_cmp, same_key}
-use Rattle.sdb_types.proofs.KeyOrder.{key_total, key_exact}
+use Rattle.sdb_types.proofs.Public.{key_exact, key_total}
 use Rattle.sdb_phases.specs.Checks.{expected_at, is_fulfilled, differs, lesser, least, keys_among, first_difference}
 use Rattle.std.proofs.lemmas.Bool.{not-true as not_true}
 use Rattle.sdb_types.specs.Contents.{record_among}

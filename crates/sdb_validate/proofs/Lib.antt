@@ -1,7 +1,8 @@
-pub mod Firsts
-pub mod Merges
-pub mod Ordered
-pub mod Ranges
-pub mod Rescans
-pub mod Trees
-pub mod Places
+mod Firsts
+mod Merges
+mod Ordered
+mod Ranges
+mod Rescans
+mod Trees
+mod Places
+pub mod Public

@@ -7,15 +7,12 @@ use Rattle.sdb_validate.specs.Types.{Expected, Key, Ordering, Record, Wanted}
 use Rattle.std.specs.declared.cmp.Ordering.TheVariants.{Less, Equal, Greater}
 use Rattle.sdb_types.specs.Order.{key_cmp, same_key}
 use Rattle.sdb_types.specs.Contents.{rise, starts_after, record_among}
-use Rattle.sdb_types.proofs.KeyOrder.{key_total, key_exact}
-use Rattle.sdb_types.proofs.Bools.{and_first, and_second, and_both}
+use Rattle.sdb_types.proofs.Public.{and_both, and_first, and_second, key_exact, key_total, less_of, same_key_exact, same_key_self as same_itself}
 use Rattle.sdb_phases.specs.Checks.{expected_at, is_fulfilled, is_granted, differs, first_difference}
 use Rattle.sdb_validate.specs.declared.rescan.Verdict.{Verdict}
 use Rattle.sdb_validate.specs.declared.rescan.Verdict.TheVariants as verdict
 use Rattle.sdb_validate.specs.Merge.{merge, row_place, below_wanted, wanted_rise}
 use Rattle.sdb_validate.proofs.Firsts.{IsFirst, first_is, turned}
-use Rattle.sdb_types.proofs.Basics.{less_of}
-use Rattle.sdb_types.proofs.Keys.{same_key_exact, same_key_self as same_itself}
 
 ---- below all
 

@@ -7,12 +7,11 @@ use Rattle.std.specs.FinMap.{entries, entries_sorted}
 use Rattle.std.specs.FinMap.Entries.{is_sorted, below_all}
 use Rattle.sdb_validate.specs.Types.{Check, Expected, Key, Read, Scan, Write}
 use Rattle.sdb_types.specs.Order.{key_cmp}
-use Rattle.sdb_types.proofs.Bools.{and_first, and_second, and_both}
+use Rattle.sdb_types.proofs.Public.{and_both, and_first, and_second, truth as is_true}
 use Rattle.sdb_record.specs.Among.{is_written}
 use Rattle.sdb_phases.specs.Checks.{wanted, wanted_of, wishes, check_of_read, check_of_scan, checks_of}
 use Rattle.sdb_validate.specs.Merge.{below_wanted, wanted_rise, target_rises}
 use Rattle.sdb_validate.specs.Inside.{AreOrdered}
-use Rattle.sdb_types.proofs.Basics.{truth as is_true}
 
 below_entries : (key : Key) (es : List (Key × Expected)) → below_all key_cmp key es ≡ true → below_wanted key (map wanted_of es) ≡ true
 below_entries key [] h = refl

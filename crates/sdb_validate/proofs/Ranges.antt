@@ -9,13 +9,11 @@ use Rattle.std.proofs.lemmas.Map.Entries.{lookup-filter-keys}
 use Rattle.sdb_validate.specs.Types.{Expected, Key, Span, TxId, Write}
 use Rattle.sdb_types.specs.Contents.{in_span}
 use Rattle.sdb_types.specs.Order.{key_cmp, same_key}
-use Rattle.sdb_types.proofs.Bools.{and_both}
-use Rattle.sdb_types.proofs.KeyOrder.{key_total, key_exact}
-use Rattle.sdb_types.proofs.Keys.{same_key_exact}
+use Rattle.sdb_types.proofs.Public.{and_both, key_exact, key_total, same_key_exact}
 use Rattle.sdb_phases.specs.declared.check.Expected.TheVariants as wish
 use Rattle.sdb_phases.specs.Checks.{Wishes, with_writes, wished_version, base_of}
 use Rattle.sdb_ordered.specs.Start.{span_start}
-use Rattle.sdb_ordered.proofs.SpanLemmas.{StandsFrom, from_start, is_from, past_end}
+use Rattle.sdb_ordered.proofs.Public.{from_start, is_from, past_end, StandsFrom}
 use Rattle.sdb_validate.specs.Rescan.{expected_of_written}
 use Rattle.sdb_validate.proofs.Rescans.{again, writes-get}
 

@@ -8,8 +8,7 @@ use Rattle.std.specs.declared.cmp.Ordering.TheVariants.{Less}
 use Rattle.sdb_validate.specs.Types.{Expected, Key, Read, Record, Scan, Span, TxId, Write}
 use Rattle.sdb_types.specs.Order.{key_cmp, same_key}
 use Rattle.sdb_types.specs.Contents.{in_span, rise, record_among}
-use Rattle.sdb_types.proofs.KeyOrder.{key_total}
-use Rattle.sdb_types.proofs.Bools.{and_first, and_second}
+use Rattle.sdb_types.proofs.Public.{and_first, and_second, key_total, less_of, same_key_exact, same_key_self as same_itself}
 use Rattle.sdb_record.specs.Moved.{version_of, same_version, is_unchanged}
 use Rattle.sdb_record.specs.Among.{version_among}
 use Rattle.sdb_phases.specs.declared.check.Expected.TheVariants as wish
@@ -19,8 +18,6 @@ use Rattle.sdb_validate.specs.Rescan.{expected_of_written, is_unchanged_by, is_u
 use Rattle.sdb_validate.proofs.Firsts.{IsFirst, first_is}
 use Rattle.sdb_validate.proofs.Merges.{merge_is}
 use Rattle.sdb_validate.proofs.Ordered.{wanted_in_order}
-use Rattle.sdb_types.proofs.Basics.{less_of}
-use Rattle.sdb_types.proofs.Keys.{same_key_exact, same_key_self as same_itself}
 use Rattle.std.proofs.lemmas.Bool.{not-false as not_false, not-true as not_true}
 
 wish-find : (es : List (Key × Expected)) (q : Key) → expected_at (map wanted_of es) q ≡ find key_cmp q es

@@ -5,8 +5,8 @@ use Rattle.std.specs.Map.{keys_of}
 use Rattle.std.specs.FinMap.{entries, from_entries}
 use Rattle.sdb_validate.specs.Types.{Expected, Key, Wanted}
 use Rattle.sdb_types.specs.Order.{key_cmp}
-use Rattle.sdb_types.proofs.KeyOrder.{key_total}
-use Rattle.sdb_ordered.proofs.TreeLemmas.{in_order}
+use Rattle.sdb_types.proofs.Public.{key_total}
+use Rattle.sdb_ordered.proofs.Public.{in_order}
 use Rattle.sdb_phases.specs.Checks.{Wishes, wanted_of}
 
 -- what is listed of a tree is what the map that it is seen as wishes

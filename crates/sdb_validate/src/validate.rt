@@ -125,7 +125,7 @@ fn found_took(check: &Check, found: Option<Record>, more: bool) -> ValidateStep
     }
 }
 
-#[tactic(auto, using(sdb_types::proofs::Bools::and_first))]
+#[tactic(auto, using(sdb_types::proofs::Public::and_first))]
 fn scan_took(check: &Check, rows: Records, more: bool) -> ValidateStep
     requires order { target_rises check.now.target ≡ true }
     requires reply { CanAnswer check.now.request (reply.Rows rows) }

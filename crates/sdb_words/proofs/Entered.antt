@@ -1,7 +1,7 @@
 -- The name of the subcommand that a parse entered, with what was read of its words.
 use Rattle.std.proofs.Common.{Result, Ok, Err, IsErrOf, ◌≡◌, ◌∙◌, Option, Some, None, ap₂, refl, sym, option_map}
 use Rattle.std.specs.Prelude.{IsErrAnd}
-use Rattle.sdb_types.proofs.Basics.{some_is, none_some}
+use Rattle.sdb_types.proofs.Public.{none_some, some_is}
 
 abbrev pub pair : {N R : Type 0} → N → R → Option (N × R)
 pair x y = Some (x, y)

@@ -5,7 +5,7 @@ use Rattle.std.proofs.lemmas.Slice.Eq.{bytes_eq-Decides}
 use Rattle.std.specs.Prelude.{All}
 use Rattle.std.proofs.lemmas.Fmt.{decimal_injective}
 use Rattle.std.proofs.lemmas.List.Elements.{All-head, All-tail}
-use Rattle.sdb_types.proofs.Basics.{false_true, some_is}
+use Rattle.sdb_types.proofs.Public.{false_true, some_is}
 use Rattle.sdb_types.specs.declared.key.TableName.{TableName}
 use Rattle.sdb_loader.specs.Words.{kind_named}
 use Rattle.sdb_types.specs.declared.place.Place.{Place}

@@ -3,16 +3,13 @@ use Rattle.std.proofs.Common.{◌≡◌, ℕ, List, ◌∷◌, ◌++◌, length,
 use Rattle.std.specs.Prelude.{nat_lt}
 use Rattle.std.specs.List.{before_first, after_first, position_or_len}
 use Rattle.std.proofs.lemmas.Bool.Decides.{nat_tests}
-use Rattle.sdb_types.proofs.Bools.{and_both}
-use Rattle.sdb_types.proofs.KeyOrder.{parts}
+use Rattle.sdb_types.proofs.Public.{all_lack, and_both, around_behind, at_byte, no_dot, none_some, parts, some_is}
 use Rattle.sdb_types.specs.Identifier.{is_part}
 use Rattle.sdb_types.specs.declared.key.TableName.{TableName}
 use Rattle.sdb_record.specs.Parts.{is_column_name}
 use Rattle.sdb_words.specs.Names.{IsTable, table_text}
-use Rattle.sdb_types.proofs.Basics.{at_byte, all_lack, around_behind, none_some, some_is}
-use Rattle.sdb_types.proofs.Words.{no_dot}
 use Rattle.sdb_types.specs.NameText.{around}
-use Rattle.sdb_record.proofs.NameLemmas.{name_of_column}
+use Rattle.sdb_record.proofs.Public.{name_of_column}
 
 abbrev pub Halves : Type 0
 Halves = List ℕ × List ℕ

@@ -1,9 +1,9 @@
-pub mod Decimals
-pub mod Entered
-pub mod Fits
-pub mod Forms
-pub mod Joined
-pub mod Placing
-pub mod Reading
-pub mod Steps
-pub mod Taken
+mod Decimals
+mod Entered
+mod Fits
+mod Forms
+mod Joined
+mod Placing
+mod Reading
+mod Steps
+mod Taken

@@ -7,7 +7,7 @@ use Rattle.std.proofs.lemmas.List.Elements.{All-push, All-cons, All-contains, Al
 use Rattle.std.proofs.lemmas.List.Quantifiers.{all_pairs_push}
 use Rattle.std.proofs.lemmas.List.{map-append, take-append-drop, take_more}
 use Rattle.sdb_types.specs.NameText.{around}
-use Rattle.sdb_types.proofs.Basics.{by_test, drop_next, false_true, none_some, some_is}
+use Rattle.sdb_types.proofs.Public.{by_test, drop_next, false_true, none_some, some_is}
 use Rattle.sdb_record.specs.Parts.{is_column_name}
 use Rattle.sdb_stores.specs.Views.{AreDistinct}
 use Rattle.sdb_types.specs.declared.place.Place.{Place}

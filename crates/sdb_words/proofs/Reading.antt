@@ -2,8 +2,7 @@
 use Rattle.std.proofs.Common.{◌≡◌, ◌≢◌, ◌∙◌, List, [], ◌∷◌, true, false, Option, Some, None, refl, sym, subst, ap, codes}
 use Rattle.std.specs.Str.{bytes_eq}
 use Rattle.std.proofs.lemmas.Slice.Eq.{bytes_eq-Decides}
-use Rattle.sdb_types.proofs.Bools.{and_first, and_second}
-use Rattle.sdb_types.proofs.Basics.{by_test, some_is}
+use Rattle.sdb_types.proofs.Public.{and_first, and_second, by_test, some_is}
 use Rattle.clap.specs.Lexer.{strip_byte}
 use Rattle.clap.specs.Kinds.{Kinds, or_else}
 use Rattle.clap.specs.Walk.{Row, Text, nothing_held, rows_after}

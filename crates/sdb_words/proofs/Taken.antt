@@ -3,7 +3,7 @@ use Rattle.std.proofs.Common.{Ok, Err, inl, inr, subst, ◌≡◌, ◌∙◌, �
 use Rattle.std.proofs.lemmas.Bool.Decides.{nat_tests}
 use Rattle.std.specs.Prelude.{fold, is_some, nat_lt}
 use Rattle.std.specs.Str.{bytes_eq}
-use Rattle.sdb_types.proofs.Bools.{and_first, and_second}
+use Rattle.sdb_types.proofs.Public.{and_first, and_second}
 use Rattle.clap.specs.Lexer.{strip_byte, usize_max}
 use Rattle.clap.specs.Kinds.{FailsBy, HasKind, Kinds, or_else, values_kinds}
 use Rattle.clap.specs.Values.{kind_of}

@@ -5,7 +5,7 @@ use Rattle.sdb_stores.specs.Views.{Attached}
 use Rattle.sdb_model.specs.declared.event.Event.TheVariants as event
 use Rattle.sdb_model.specs.Rows.{Name}
 use Rattle.sdb_contents.specs.Board.{IsDelivered}
-use Rattle.sdb_contents.proofs.Made.{unasked}
+use Rattle.sdb_contents.proofs.Public.{unasked}
 use Rattle.law_runs.specs.World.{WorldAt}
 use Rattle.sdb_world.specs.Asked.{AskedBy, AsksOnce}
 use Rattle.sdb_world.specs.Step.{HasStopped, HasStarted}

@@ -10,18 +10,15 @@ use Rattle.sdb_stores.specs.Views.{Attached}
 use Rattle.sdb_contents.specs.Board.{contents_of_views}
 use Rattle.law_clients.specs.Fitting.{tables_are_well_typed}
 use Rattle.law_clients.specs.States.{doing_of, system_of}
-use Rattle.law_runs.proofs.Explains.{going_is_explained, going_is_taken}
-use Rattle.law_runs.proofs.Moments.{lone_effect}
+use Rattle.law_runs.proofs.Public.{execution_linked, going_is_explained, going_is_taken, lone_effect, no_coordinator}
 use Rattle.sdb_client.specs.Execution.{IsExecution, IsReachedBy}
 use Rattle.law_runs.specs.World.{IsWorld, WorldAt, states_of, state_of}
 use Rattle.law_runs.specs.Linked.{one_name}
-use Rattle.law_runs.proofs.Steps.{execution_linked}
-use Rattle.law_runs.proofs.Beginnings.{no_coordinator}
 use Rattle.sdb_world.specs.Ran.{HasRun}
 use Rattle.sdb_world.specs.Step.{HasCome, IsExecutionStep, IsOne}
 use Rattle.sdb_world.specs.Explained.{IsExplained, IsExplainedAfter}
 use Rattle.sdb_world.proofs.Acts.{Came}
-use Rattle.sdb_client.proofs.Paths.{paths_on}
+use Rattle.sdb_client.proofs.Public.{paths_on}
 use Rattle.sdb_world.proofs.Goes.{traces_on}
 
 pub world_explained : (w : WorldAt) → IsWorld w → IsExecution w.script w.events → (places : List Place) (opening closing : List StoreContents) (moments : List (List StoreContents)) → HoldAs w.script.catalog places opening empty → IsTrace places w.events opening moments closing → Explained w.script.catalog places w.events opening moments

@@ -14,23 +14,15 @@ use Rattle.law_protocol.specs.History.{History, ProtocolState}
 use Rattle.law_protocol.specs.Lawful.{IsLawful, id, protocol_state}
 use Rattle.law_protocol.specs.Serial.{IsIn}
 use Rattle.law_protocol.specs.Trace.{IsTraced, StartsEmpty, closing, history}
-use Rattle.law_protocol.proofs.Derived.{points_differ, recorded_row, row_recorded}
-use Rattle.law_protocol.proofs.Known.{taken_fits}
-use Rattle.law_protocol.proofs.Small.{any_key}
-use Rattle.law_protocol.proofs.Times.{traced_of, whole_of}
-use Rattle.law_protocol.proofs.Whole.{Whole}
+use Rattle.law_protocol.proofs.Public.{any_key, points_differ, recorded_row, row_recorded, taken_fits, traced_of, Whole, whole_of}
 use Rattle.law_clients.specs.System.{SystemAt}
-use Rattle.law_clients.proofs.Begin.{taken_begun}
+use Rattle.law_clients.proofs.Public.{beyond, order_runs, ran_of, taken_begun, taken_counts}
 use Rattle.law_clients.specs.Filed.{number}
 use Rattle.law_clients.specs.Left.{ExecutionOk, ContainsTables}
 use Rattle.law_clients.specs.Story.{Closed, Finished, Opened, Rest, txn_ended_at}
 use Rattle.law_clients.specs.History.{ClientHistory, begun_in, count_of}
-use Rattle.law_clients.proofs.Faith.{beyond}
-use Rattle.law_clients.proofs.Files.{taken_counts}
-use Rattle.law_clients.proofs.Wholes.{order_runs}
 use Rattle.law_clients.specs.Invariant.{RunInvariant, OpenedOk, RanOk}
-use Rattle.law_clients.proofs.InvariantEnds.{ran_of}
-use Rattle.sdb_contents.proofs.DumpLists.{first_or_later, here_in, later_in, none_in}
+use Rattle.sdb_contents.proofs.Public.{first_or_later, here_in, later_in, none_in}
 use Rattle.sdb_world.proofs.Orders.{ordered}
 
 all_in : (P : ℕ → Type 0) (ts : List ℕ) → ((t : ℕ) → IsIn t ts → P t) → AllByRecursion P ts

@@ -9,9 +9,7 @@ use Rattle.std.specs.Cmp.{tied_itself}
 use Rattle.sdb_world.specs.Types.{Decided, Key, Pair, Place, Record, Table, TxId}
 use Rattle.sdb_types.specs.Exact.{equal_of}
 use Rattle.sdb_types.specs.Order.{key_cmp, table_cmp}
-use Rattle.sdb_types.proofs.Basics.{by_test, less_of, none_some, some_is}
-use Rattle.sdb_types.proofs.Bools.{and_first, and_second, or_first}
-use Rattle.sdb_types.proofs.KeyOrder.{key_exact, table_total}
+use Rattle.sdb_types.proofs.Public.{and_first, and_second, by_test, key_exact, less_of, none_some, or_first, some_is, table_total}
 use Rattle.sdb_record.specs.declared.coordinator.Decision.TheVariants as decision
 use Rattle.sdb_record.specs.Coordinator.{coordinator_table}
 use Rattle.sdb_record.specs.Meta.{id_in}
@@ -23,19 +21,15 @@ use Rattle.sdb_model.specs.Images.{decision_at, decision_on, row_at}
 use Rattle.sdb_model.specs.Transactions.{Recorded}
 use Rattle.law_clients.specs.Fitting.{row_is_well_typed, tables_are_well_typed}
 use Rattle.law_clients.specs.Left.{ContainsTables}
-use Rattle.law_clients.proofs.RowsFit.{is_fitting, Entries}
+use Rattle.law_clients.proofs.Public.{Entries, is_fitting}
 use Rattle.law_protocol.specs.Spread.{one_store}
-use Rattle.law_protocol.proofs.Single.{Single, single}
-use Rattle.law_protocol.proofs.Told.{one_standing}
+use Rattle.law_protocol.proofs.Public.{one_standing, Single, single}
 use Rattle.sdb_contents.specs.Opening.{records_of}
 use Rattle.sdb_contents.specs.Decided.{recorded_among}
-use Rattle.sdb_contents.proofs.Coordinated.{recorded_all, recorded_has, recorded_small}
-use Rattle.sdb_contents.proofs.Images.{decision_there, records_rise}
-use Rattle.sdb_contents.proofs.DumpLists.{first_or_later, none_in}
-use Rattle.law_runs.proofs.Ended.{decides, starts_empty}
+use Rattle.sdb_contents.proofs.Public.{decision_there, first_or_later, none_in, recorded_all, recorded_has, recorded_small, records_rise}
+use Rattle.law_runs.proofs.Public.{decides, execution_linked, starts_empty}
 use Rattle.law_runs.specs.Linked.{one_name}
 use Rattle.law_runs.specs.World.{IsWorld, WorldAt, states_of}
-use Rattle.law_runs.proofs.Steps.{execution_linked}
 use Rattle.law_clients.specs.States.{doing_of, system_of}
 use Rattle.sdb_world.specs.Ran.{HasRun}
 use Rattle.sdb_world.proofs.FinalRows.{tables_left}

@@ -6,7 +6,7 @@ use Rattle.sdb_model.specs.Events.{Effect, IsTrace, StoreContents}
 use Rattle.sdb_stores.specs.Views.{Attached}
 use Rattle.sdb_contents.specs.Board.{AreUsable, GoOn, contents_of_views}
 use Rattle.law_runs.specs.World.{WorldAt, state_of}
-use Rattle.sdb_client.proofs.Paths.{paths_on}
+use Rattle.sdb_client.proofs.Public.{paths_on}
 use Rattle.sdb_client.specs.Execution.{IsPath, IsStepFrom}
 use Rattle.sdb_world.specs.Step.{HasCome, IsExecutionStep}
 

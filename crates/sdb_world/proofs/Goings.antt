@@ -2,7 +2,7 @@
 use Rattle.std.proofs.Common.{◌≡◌, ℕ, ℤ, zero, suc, ◌-◌, ◌<◌, ◌≤◌, Bool, true, false, List, [], ◌∷◌, ◌++◌, length, Option, IfSome, sym, ap, subst, ◌∙◌, arith, get_or}
 use Rattle.std.specs.Prelude.{not, nat_lt, slice_get}
 use Rattle.std.proofs.lemmas.Bool.{ltb-true}
-use Rattle.sdb_types.proofs.Bools.{and_second}
+use Rattle.sdb_types.proofs.Public.{and_second}
 use Rattle.sdb_world.specs.Types.{Act, ClientSlot, Event}
 use Rattle.sdb_model.specs.declared.event.Event.TheVariants as event
 use Rattle.sdb_model.specs.declared.script.Act.TheVariants as act

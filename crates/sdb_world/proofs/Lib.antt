@@ -1,15 +1,16 @@
-pub mod Goes
-pub mod Acts
-pub mod Rounds
-pub mod Orders
-pub mod FinalRows
-pub mod Fitting
-pub mod Outcomes
-pub mod Fresh
-pub mod Works
-pub mod Takings
-pub mod Goings
-pub mod Explained
-pub mod Broken
-pub mod Hows
-pub mod Asked
+mod Goes
+mod Acts
+mod Rounds
+mod Orders
+mod FinalRows
+mod Fitting
+mod Outcomes
+mod Fresh
+mod Works
+mod Takings
+mod Goings
+mod Explained
+mod Broken
+mod Hows
+mod Asked
+pub mod Public

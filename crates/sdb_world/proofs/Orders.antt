@@ -6,7 +6,7 @@ use Rattle.sdb_record.specs.declared.coordinator.Decision.TheVariants.{Committed
 use Rattle.law_protocol.specs.Explained.{PointsDiffer}
 use Rattle.law_protocol.specs.History.{History}
 use Rattle.law_protocol.specs.Serial.{AllAbove, IsIn, IsOrdered, IsRising}
-use Rattle.sdb_types.proofs.Basics.{by_test, eq_of, lt_of}
+use Rattle.sdb_types.proofs.Public.{by_test, eq_of, lt_of}
 
 -- one number is less, the same, or greater
 compared : {G : Type 0} (a b : ℕ) → (a < b → G) → (a ≡ b → G) → (b < a → G) → G

@@ -5,7 +5,7 @@ use Rattle.std.specs.FinMap.{empty, get}
 use Rattle.std.specs.Option.{option_and_then, option_map, option_map_or}
 use Rattle.sdb_world.specs.Types.{Decided, Event, Key, Pair, Place, Point, Record, Table, TableDump, TableName, TxId}
 use Rattle.sdb_types.specs.Contents.{Contents, record_at, record_of}
-use Rattle.sdb_types.proofs.Bools.{and_both, and_first}
+use Rattle.sdb_types.proofs.Public.{and_both, and_first}
 use Rattle.sdb_record.specs.Coordinator.{decision_in, is_coordinator_table}
 use Rattle.sdb_record.specs.Meta.{is_transactional}
 use Rattle.sdb_record.specs.Rolls.{image_of, row_of_image}
@@ -18,18 +18,15 @@ use Rattle.sdb_model.specs.Transactions.{Recorded}
 use Rattle.law_clients.specs.Fitting.{row_is_well_typed, tables_are_well_typed}
 use Rattle.law_clients.specs.Invariant.{RunInvariant}
 use Rattle.law_clients.specs.States.{ClientState, doing_of, system_of}
-use Rattle.law_clients.proofs.RowsFit.{is_fitting}
+use Rattle.law_clients.proofs.Public.{is_fitting}
 use Rattle.sdb_contents.specs.Dumped.{image_is_well_typed, row_by}
 use Rattle.sdb_contents.specs.Odd.{IsOddAt}
 use Rattle.law_runs.specs.Ending.{IsEnd}
 use Rattle.law_runs.specs.Order.{HasRisen}
 use Rattle.law_runs.specs.Stores.{AreSound, IsTraceOnEmpty}
-use Rattle.law_runs.proofs.Ended.{going_is_run_on_stores}
-use Rattle.law_runs.proofs.OnStores.{points_on_stores, sound_on_stores}
-use Rattle.law_runs.proofs.Ordered.{is_order, risen_fits}
+use Rattle.law_runs.proofs.Public.{execution_linked, going_is_run_on_stores, is_order, points_on_stores, risen_fits, sound_on_stores}
 use Rattle.law_runs.specs.World.{IsWorld, WorldAt, states_of}
 use Rattle.law_runs.specs.Linked.{on_one, one_name}
-use Rattle.law_runs.proofs.Steps.{execution_linked}
 use Rattle.sdb_world.specs.Ran.{HasRun}
 use Rattle.sdb_world.proofs.Fitting.{final_row_fits, found_by_name}
 

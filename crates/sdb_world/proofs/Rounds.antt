@@ -6,7 +6,7 @@ use Rattle.sdb_world.specs.Types.{Act, Event, Move, Script, ScriptClient}
 use Rattle.sdb_model.specs.declared.script.Act.TheVariants as act
 use Rattle.sdb_model.specs.declared.script.Move.TheVariants as move
 use Rattle.sdb_model.specs.Follows.{AllIdle, AreOfMoves, AreStepsOf, IsHowOfStep, IsOfMove, IsRest, IsStep, IsTurn, end_of, has_work}
-use Rattle.sdb_contents.proofs.Lists.{take_suc}
+use Rattle.sdb_contents.proofs.Public.{take_suc}
 use Rattle.sdb_world.specs.Step.{AreSteps, CanAct, CanMove, IsNumber, IsOne}
 
 ---- who is idle

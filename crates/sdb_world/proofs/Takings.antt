@@ -12,13 +12,12 @@ use Rattle.sdb_model.specs.Events.{store_of, table_asked}
 use Rattle.sdb_model.specs.Follows.{texts_of}
 use Rattle.sdb_client.specs.Client.{ClientAt, ReplyPost, client_pending, next_id, TextStep}
 use Rattle.sdb_contents.specs.Board.{AreUsable, IsMade, contents_of_views}
-use Rattle.sdb_contents.proofs.Made.{asked}
-use Rattle.sdb_contents.proofs.Shelves.{named_home}
+use Rattle.sdb_contents.proofs.Public.{asked, named_home}
 use Rattle.sdb_world.specs.declared.delivery.Delivery.{Delivery}
 use Rattle.law_runs.specs.World.{IsWorld, WorldAt}
 use Rattle.sdb_world.specs.Step.{HasCalled, HasLeft, HasStarted, IsDeliveryOf, IsPendingAt}
 use Rattle.sdb_client.specs.Execution.{IsGateAt}
-use Rattle.sdb_types.proofs.Basics.{some_is}
+use Rattle.sdb_types.proofs.Public.{some_is}
 use Rattle.sdb_model.specs.Tables.{is_table_of_run}
 use Rattle.sdb_model.specs.Calls.{is_stored_reply}
 

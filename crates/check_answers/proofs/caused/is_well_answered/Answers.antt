@@ -1,6 +1,6 @@
 use Rattle.std.proofs.Common.{sym, ◌∙◌}
 use Rattle.check_answers.proofs.caused.is_well_answered.Goals as goal
-use Rattle.sdb_types.proofs.Basics.{clash}
+use Rattle.sdb_types.proofs.Public.{clash}
 
 pub returns-then-caused : goal.returns-then-caused
 returns-then-caused c = (λ t. (c.in_ok-caused.ensures.0 c.if-caused.true, c.in_ok-turned.ensures.0 t), λ w. c.in_ok-turned.ensures.1 w.1)

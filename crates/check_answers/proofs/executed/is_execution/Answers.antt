@@ -1,5 +1,5 @@
 use Rattle.std.proofs.Common.{◌+◌, take}
-use Rattle.sdb_client.proofs.Paths.{reached_on}
+use Rattle.sdb_client.proofs.Public.{reached_on}
 use Rattle.check_answers.proofs.Steps.{event_more}
 use Rattle.check_answers.proofs.executed.is_execution.Goals as goal
 

@@ -2,9 +2,9 @@ use Rattle.std.proofs.Common.{◌≡◌, Some, ap, sym, subst, ◌∙◌}
 use Rattle.std.specs.Prelude.{IfSome}
 use Rattle.sdb_model.specs.Sql.{Reads, Refuses}
 use Rattle.sdb_sqltext.specs.Answers.{refusal_of}
-use Rattle.check_protocol.proofs.Lists.{none_some}
+use Rattle.check_protocol.proofs.Public.{none_some}
 use Rattle.check_answers.proofs.reading.refusal_in.Goals as goal
-use Rattle.sdb_types.proofs.Basics.{some_is}
+use Rattle.sdb_types.proofs.Public.{some_is}
 
 pub returns-in-Ok : goal.returns-in-Ok
 returns-in-Ok c r = (

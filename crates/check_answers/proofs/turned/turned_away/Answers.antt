@@ -1,5 +1,5 @@
 use Rattle.std.proofs.Common.{sym, ◌∙◌}
-use Rattle.check_protocol.proofs.Lists.{none_some}
+use Rattle.check_protocol.proofs.Public.{none_some}
 use Rattle.check_answers.proofs.Decided.{if_ok}
 use Rattle.check_answers.proofs.TurnedLaws.{turned_neither, turned_read, turned_unread}
 use Rattle.check_answers.proofs.turned.turned_away.Goals as goal

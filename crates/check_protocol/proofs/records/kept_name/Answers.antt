@@ -1,4 +1,4 @@
-use Rattle.sdb_record.proofs.NameLemmas.{stripped}
+use Rattle.sdb_record.proofs.Public.{stripped}
 use Rattle.check_protocol.proofs.records.kept_name.Goals as goal
 
 pub returns : goal.returns

@@ -1,6 +1,6 @@
 use Rattle.std.proofs.Common.{◌≡◌, drop}
 use Rattle.sdb_model.specs.Reads.{all_fixed}
-use Rattle.sdb_exec.proofs.Fixed.{after_values}
+use Rattle.sdb_exec.proofs.Public.{after_values}
 use Rattle.check_tables.proofs.access.fixed_values.Given as goal
 
 abbrev pub invariant-loop-name : goal.invariant-loop-name

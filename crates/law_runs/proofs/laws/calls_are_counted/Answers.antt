@@ -1,5 +1,4 @@
-use Rattle.law_answers.proofs.Counting.{all_counted}
-use Rattle.law_answers.proofs.Faults.{seen_no_faults}
+use Rattle.law_answers.proofs.Public.{all_counted, seen_no_faults}
 use Rattle.law_runs.proofs.Steps.{execution_caused}
 use Rattle.law_runs.proofs.laws.calls_are_counted.Goals as goal
 

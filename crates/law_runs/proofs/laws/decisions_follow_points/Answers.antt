@@ -1,4 +1,4 @@
-use Rattle.law_answers.proofs.Faults.{answered_seen}
+use Rattle.law_answers.proofs.Public.{answered_seen}
 use Rattle.law_runs.proofs.WroteRuns.{execution_points}
 use Rattle.law_runs.proofs.laws.decisions_follow_points.Goals as goal
 

@@ -1,5 +1,4 @@
-use Rattle.law_answers.proofs.Faults.{answered_seen}
-use Rattle.law_answers.proofs.Rolled.{all_resolved}
+use Rattle.law_answers.proofs.Public.{all_resolved, answered_seen}
 use Rattle.law_runs.proofs.Steps.{execution_caused}
 use Rattle.law_runs.proofs.laws.records_are_resolved.Goals as goal
 

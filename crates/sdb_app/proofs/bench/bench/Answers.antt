@@ -5,7 +5,7 @@ use Rattle.sdb_model.specs.declared.script.Script.{Script}
 use Rattle.sdb_model.specs.Plain.{HasLines}
 use Rattle.sdb_client.specs.Execution.{IsPlayable}
 use Rattle.sdb_world.specs.Step.{CanFollow}
-use Rattle.sdb_bench.proofs.Lines.{bench_lines}
+use Rattle.sdb_bench.proofs.Public.{bench_lines}
 use Rattle.sdb_app.specs.Bench.{bench_over, name_at}
 use Rattle.sdb_app.specs.Run.{CanBePlaced, IsReportable, StopsRun}
 use Rattle.sdb_app.proofs.BenchPlayable.{benched_on, followable, placed_over, playable}

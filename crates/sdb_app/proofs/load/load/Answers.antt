@@ -5,7 +5,7 @@ use Rattle.sdb_app.specs.Load.StopsLoad.{OutOfMemory, Unread, Untabled}
 use Rattle.sdb_app.specs.Load.IsTableUnopened.{Unnamed, Unopened}
 use Rattle.sdb_app.proofs.Loads.{loaded_on, starved_on}
 use Rattle.sdb_shell.specs.Statements.{load_of, rows_after}
-use Rattle.sdb_shell.proofs.LoadSteps.{starved_after}
+use Rattle.sdb_shell.proofs.Public.{starved_after}
 use Rattle.sdb_app.proofs.Playing.{err_then, ok_then}
 use Rattle.sdb_app.proofs.load.load.Goals as goal
 

@@ -1,7 +1,7 @@
 use Rattle.std.proofs.Common.{subst, sym}
 use Rattle.std.proofs.lemmas.Result.{IfOk-from_err}
 use Rattle.sdb_model.specs.declared.script.Script.{Script}
-use Rattle.sdb_contents.proofs.GoesOn.{goes_more, goes_none, some_more}
+use Rattle.sdb_contents.proofs.Public.{goes_more, goes_none, some_more}
 use Rattle.sdb_contents.specs.Board.{known_before}
 use Rattle.sdb_contents.specs.Held.{IsOddIn}
 use Rattle.sdb_world.specs.Ran.{HasNotRun}

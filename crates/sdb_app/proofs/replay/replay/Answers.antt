@@ -1,5 +1,5 @@
 use Rattle.std.proofs.Common.{List, ℕ, subst, sym, ◌∙◌}
-use Rattle.sdb_report.proofs.PartLaws.{one_text_of}
+use Rattle.sdb_report.proofs.Public.{one_text_of}
 use Rattle.sdb_app.specs.declared.status.Status.{Status}
 use Rattle.sdb_app.specs.Ends.{stream, work_of}
 use Rattle.sdb_app.specs.Run.{CanBePlaced, IsScriptRead, StopsReplay}

@@ -1,6 +1,6 @@
 use Rattle.std.proofs.Common.{arith, length-drop, length, drop, ◌-◌}
 use Rattle.std.proofs.lemmas.List.{length-take}
-use Rattle.sdb_types.proofs.Pieces.{appends_piece}
+use Rattle.sdb_types.proofs.Public.{appends_piece}
 use Rattle.sdb_app.proofs.streams.write_all.Goals as goal
 
 pub loop-at-preserved : goal.loop-at-preserved

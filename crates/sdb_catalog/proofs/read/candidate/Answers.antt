@@ -7,7 +7,7 @@ use Rattle.sdb_catalog.specs.Opened.{is_attached}
 use Rattle.sdb_catalog.specs.Rows.{MayHaveRow, Texts}
 use Rattle.sdb_catalog.proofs.Reading.{no_texts, texts_said, no_store, store_is, store_there, same_entry}
 use Rattle.sdb_catalog.proofs.read.candidate.Goals as goal
-use Rattle.sdb_types.proofs.Basics.{some_is, none_some}
+use Rattle.sdb_types.proofs.Public.{none_some, some_is}
 
 pub returns-in_default-clause-read : goal.returns-in_default-clause-read
 returns-in_default-clause-read c = λ e fit row. no_texts e c.args.row.now c.texts_of.result c.texts_of.ensures c.in_default.is row

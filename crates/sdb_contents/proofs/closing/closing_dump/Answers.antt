@@ -2,7 +2,7 @@ use Rattle.std.proofs.Common.{◌≡◌, ◌∙◌, true, List, sym, ap, subst}
 use Rattle.std.specs.Prelude.{Contains}
 use Rattle.sdb_contents.specs.Types.{TableName, TxId}
 use Rattle.sdb_types.specs.Contents.{are_rows_of}
-use Rattle.sdb_types.proofs.Bools.{and_first}
+use Rattle.sdb_types.proofs.Public.{and_first}
 use Rattle.sdb_record.specs.Coordinator.{coordinator_table}
 use Rattle.sdb_contents.specs.Board.{AreUsableFor}
 use Rattle.sdb_contents.specs.Opening.{records_in, whole}

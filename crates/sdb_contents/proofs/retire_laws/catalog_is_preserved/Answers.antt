@@ -1,6 +1,6 @@
 use Rattle.std.proofs.Common.{◌∙◌, ap}
 use Rattle.sdb_catalog.specs.Opened.{tables_of}
-use Rattle.sdb_catalog.proofs.OneReading.{one_reading}
+use Rattle.sdb_catalog.proofs.Public.{one_reading}
 use Rattle.sdb_contents.proofs.retire_laws.catalog_is_preserved.Goals as goal
 
 pub returns : goal.returns

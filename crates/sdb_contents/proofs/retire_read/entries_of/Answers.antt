@@ -3,7 +3,7 @@ use Rattle.std.specs.Prelude.{IfSome}
 use Rattle.sdb_catalog.specs.declared.entry.Entry.{Entry}
 use Rattle.sdb_contents.specs.Moving.{FollowMoving, FollowsMoving}
 use Rattle.sdb_catalog.specs.Rows.{row_of}
-use Rattle.sdb_catalog.proofs.Opening.{rows_more}
+use Rattle.sdb_catalog.proofs.Public.{rows_more}
 use Rattle.sdb_contents.proofs.Moved.{first_bad, follow_more}
 use Rattle.sdb_contents.proofs.retire_read.entries_of.Goals as goal
 

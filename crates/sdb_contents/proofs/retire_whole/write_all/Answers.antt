@@ -2,7 +2,7 @@ use Rattle.std.proofs.Common.{◌∙◌, ap}
 use Rattle.std.specs.List.{list_all}
 use Rattle.sdb_schema.specs.Table.{rises}
 use Rattle.sdb_catalog.specs.declared.entry.Entry.{Entry}
-use Rattle.sdb_catalog.proofs.Known.{passed_on}
+use Rattle.sdb_catalog.proofs.Public.{passed_on}
 use Rattle.sdb_contents.specs.Copying.{requests_of}
 use Rattle.sdb_contents.specs.Moving.{renewals}
 use Rattle.sdb_contents.proofs.Calls.{goes_more, still_there}

@@ -4,8 +4,8 @@ use Rattle.std.specs.List.Sorted.{IsStableBy}
 use Rattle.std.proofs.lemmas.List.Sorted.{ranks_by}
 use Rattle.std.proofs.lemmas.Fn.{always_returns_same}
 use Rattle.sdb_schema.specs.Order.{row_key_cmp}
-use Rattle.sdb_schema.proofs.OrderLaws.{row-total}
-use Rattle.sdb_exec.proofs.Sorting.{sorts}
+use Rattle.sdb_schema.proofs.Public.{row-total}
+use Rattle.sdb_exec.proofs.Public.{sorts}
 use Rattle.sdb_record.specs.declared.access.Image.{Image}
 use Rattle.sdb_contents.proofs.rows.sorted.Goals as goal
 

@@ -1,4 +1,4 @@
-use Rattle.sdb_catalog.proofs.Known.{passed_on}
+use Rattle.sdb_catalog.proofs.Public.{passed_on}
 use Rattle.sdb_contents.proofs.Steps.{blocked_free}
 use Rattle.sdb_contents.proofs.see.see_table.Goals as goal
 

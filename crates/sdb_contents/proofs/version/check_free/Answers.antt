@@ -1,5 +1,5 @@
 use Rattle.std.proofs.Common.{◌≡◌, ◌∙◌, false, sym, rules}
-use Rattle.sdb_types.proofs.Basics.{false_true, not_true}
+use Rattle.sdb_types.proofs.Public.{false_true, not_true}
 use Rattle.sdb_contents.proofs.Steps.{first_blocking}
 use Rattle.sdb_contents.proofs.version.check_free.Goals as goal
 

@@ -1,5 +1,5 @@
 use Rattle.sdb_record.specs.declared.coordinator.Decision.TheVariants.{Committed}
-use Rattle.sdb_phases.proofs.Rows.{unmet_row}
+use Rattle.sdb_phases.proofs.Public.{unmet_row}
 use Rattle.sdb_decide.proofs.decide.put_took.Goals as goal
 
 pub follow-step-requires : goal.follow-step-requires

@@ -1,6 +1,6 @@
 use Rattle.std.proofs.Common.{rules, ◌<◌, ◌^◌, IfSome}
 use Rattle.sdb_types.specs.declared.txid.TxId.{TxId}
-use Rattle.sdb_record.proofs.IdLemmas.{reads}
+use Rattle.sdb_record.proofs.Public.{reads}
 use Rattle.sdb_report.proofs.numbers.id_of.Goals as goal
 
 pub returns : goal.returns

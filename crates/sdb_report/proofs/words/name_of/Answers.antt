@@ -1,5 +1,5 @@
 use Rattle.std.proofs.Common.{refl}
-use Rattle.sdb_codec.proofs.Texts.{not_name}
+use Rattle.sdb_codec.proofs.Public.{not_name}
 use Rattle.sdb_report.proofs.words.name_of.Goals as goal
 
 pub returns-in_default : goal.returns-in_default

@@ -1,6 +1,6 @@
 use mir.Val.{of_z, to_z}
 use Rattle.std.proofs.Common.{rules, ◌≡◌, ℤ, None, subst, w64}
-use Rattle.sdb_contents.proofs.GoesOn.{goes_more, goes_none, some_more}
+use Rattle.sdb_contents.proofs.Public.{goes_more, goes_none, some_more}
 use Rattle.sdb_shell.specs.Answering.{AreMade}
 use Rattle.sdb_shell.proofs.Making.{about_still, faults_still, made_after, over_later, waits_still, working, works_still}
 use Rattle.sdb_shell.proofs.answering.make_calls.Goals as goal

@@ -1,5 +1,5 @@
 use Rattle.std.proofs.Common.{refl}
-use Rattle.sdb_contents.proofs.GoesOn.{goes_none}
+use Rattle.sdb_contents.proofs.Public.{goes_none}
 use Rattle.sdb_shell.specs.declared.export_refused.ExportRefused.TheVariants as refused
 use Rattle.sdb_shell.specs.Ends.{ends}
 use Rattle.sdb_shell.specs.Exports.{IsNotExported}

@@ -1,4 +1,4 @@
-use Rattle.sdb_contents.proofs.GoesOn.{goes_more}
+use Rattle.sdb_contents.proofs.Public.{goes_more}
 use Rattle.sdb_shell.specs.declared.export_refused.ExportRefused.TheVariants as refused
 use Rattle.sdb_shell.specs.Exports.{HaveNotRead}
 use Rattle.sdb_shell.specs.Turns.{point}

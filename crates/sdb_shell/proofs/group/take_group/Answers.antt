@@ -1,5 +1,5 @@
 use Rattle.std.proofs.Common.{sym, ◌∙◌}
-use Rattle.sdb_contents.proofs.GoesOn.{goes_more}
+use Rattle.sdb_contents.proofs.Public.{goes_more}
 use Rattle.sdb_shell.specs.Turns.{HasLoaded, HaveLoaded, point}
 use Rattle.sdb_shell.proofs.GroupSteps.{group_begun, group_not_begun}
 use Rattle.sdb_shell.proofs.Points.{map_ok}

@@ -1,4 +1,4 @@
-use Rattle.sdb_types.proofs.Basics.{all_each}
+use Rattle.sdb_types.proofs.Public.{all_each}
 use Rattle.sdb_model.specs.declared.statement.Statement.TheVariants as statement
 use Rattle.sdb_shell.specs.Groups.{IsParsedAsItself}
 use Rattle.sdb_shell.specs.Statements.{load_of, row_statement, rows_after, select_all}

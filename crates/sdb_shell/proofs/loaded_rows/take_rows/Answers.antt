@@ -1,7 +1,7 @@
 use Rattle.std.proofs.Common.{◌≡◌, ◌+◌, [], ◌∷◌, ◌++◌, cond, take, drop, sym, ap, subst, ◌∙◌, arith}
 use Rattle.std.proofs.lemmas.List.{take-append-drop, take_more}
-use Rattle.sdb_types.proofs.Basics.{drop_next}
-use Rattle.sdb_contents.proofs.GoesOn.{goes_more, goes_none, some_more}
+use Rattle.sdb_types.proofs.Public.{drop_next}
+use Rattle.sdb_contents.proofs.Public.{goes_more, goes_none, some_more}
 use Rattle.sdb_shell.specs.Groups.{is_written}
 use Rattle.sdb_shell.specs.Statements.{row_statement}
 use Rattle.sdb_shell.specs.Turns.{AreAllExecuted, IsExecuted, point}

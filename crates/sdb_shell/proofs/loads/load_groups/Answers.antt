@@ -1,8 +1,8 @@
 use Rattle.std.proofs.Common.{◌≡◌, ◌<◌, ◌∙◌, false, length, take, drop, refl, sym, ap, arith, string_bytes}
 use Rattle.std.specs.Prelude.{◌==◌}
 use Rattle.std.proofs.lemmas.Bool.Decides.{nat_tests}
-use Rattle.sdb_types.proofs.Basics.{eq_of}
-use Rattle.sdb_contents.proofs.GoesOn.{goes_more, goes_none, some_more}
+use Rattle.sdb_types.proofs.Public.{eq_of}
+use Rattle.sdb_contents.proofs.Public.{goes_more, goes_none, some_more}
 use Rattle.sdb_shell.specs.Turns.{point}
 use Rattle.sdb_shell.proofs.LoadSteps.{loaded_all, so_more, so_start, starved_so_far}
 use Rattle.sdb_shell.proofs.Points.{all_errs, so_none}

@@ -1,5 +1,5 @@
 use Rattle.std.proofs.Common.{arith, subst}
-use Rattle.sdb_contents.proofs.GoesOn.{goes_more, goes_none, some_more}
+use Rattle.sdb_contents.proofs.Public.{goes_more, goes_none, some_more}
 use Rattle.sdb_shell.specs.Ahead.{ahead, left}
 use Rattle.sdb_shell.specs.Session.{HasExecutedLine}
 use Rattle.sdb_shell.proofs.SoFar.{at_end, left_start, so_cut, so_more, so_past, so_start, so_whole}

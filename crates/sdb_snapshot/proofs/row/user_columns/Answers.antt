@@ -1,6 +1,6 @@
 use Rattle.std.proofs.Common.{◌∙◌, ap, []}
 use Rattle.sdb_record.specs.Parts.{user_columns, is_user_pair, with_columns}
-use Rattle.sdb_record.proofs.ColumnLaws.{with_columns-none, are_columns-filter}
+use Rattle.sdb_record.proofs.Public.{are_columns-filter, with_columns-none}
 use Rattle.sdb_snapshot.proofs.row.user_columns.Goals as goal
 
 pub returns : goal.returns

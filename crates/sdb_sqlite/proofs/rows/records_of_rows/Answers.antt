@@ -3,7 +3,7 @@ use Rattle.sdb_types.specs.declared.record.Record.{Record}
 use Rattle.sdb_sqlite.specs.Asked.{rows_records}
 use Rattle.sdb_sqlite.proofs.Listing.{onto, one_more}
 use Rattle.sdb_sqlite.proofs.rows.records_of_rows.Goals as goal
-use Rattle.sdb_types.proofs.Basics.{drop_next}
+use Rattle.sdb_types.proofs.Public.{drop_next}
 
 pub loop-row-preserved : goal.loop-row-preserved
 loop-row-preserved c =

@@ -11,7 +11,7 @@ use Rattle.sdb_types.specs.Contents.{in_span}
 use Rattle.sdb_types.specs.Order.{key_cmp}
 use Rattle.sdb_phases.specs.declared.check.Expected.TheVariants.{Based}
 use Rattle.sdb_phases.specs.Checks.{wished_version}
-use Rattle.sdb_ordered.proofs.SpanLemmas.{StandsFrom, is_from, stands_from, stands_later}
+use Rattle.sdb_ordered.proofs.Public.{is_from, stands_from, stands_later, StandsFrom}
 use Rattle.sdb_validate.specs.Rescan.{expected_of_written}
 use Rattle.sdb_validate.proofs.Ranges.{from_least, one_based, all_passed}
 use Rattle.sdb_validate.proofs.checks.put_writes.Goals as goal

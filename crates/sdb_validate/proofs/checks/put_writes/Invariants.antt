@@ -5,7 +5,7 @@ use Rattle.std.specs.Map.{lookup}
 use Rattle.sdb_types.specs.declared.key.Key.{Key}
 use Rattle.sdb_types.specs.Contents.{in_span}
 use Rattle.sdb_types.specs.Order.{key_cmp}
-use Rattle.sdb_ordered.proofs.SpanLemmas.{StandsFrom}
+use Rattle.sdb_ordered.proofs.Public.{StandsFrom}
 use Rattle.sdb_validate.specs.Rescan.{expected_of_written}
 use Rattle.sdb_validate.proofs.checks.put_writes.Given as goal
 

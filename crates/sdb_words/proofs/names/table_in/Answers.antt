@@ -1,5 +1,5 @@
 use Rattle.std.proofs.Common.{◌≡◌, ◌&&◌, true, sym, rules}
-use Rattle.sdb_types.proofs.Bools.{and_first, and_second}
+use Rattle.sdb_types.proofs.Public.{and_first, and_second}
 use Rattle.sdb_record.specs.Parts.{is_column_name}
 use Rattle.sdb_words.proofs.Joined.{joined, undotted, unnamed}
 use Rattle.sdb_words.proofs.names.table_in.Goals as goal

@@ -7,7 +7,7 @@ use Rattle.sdb_words.specs.declared.command.WordsRefused.TheVariants as refused
 use Rattle.sdb_words.specs.Parser.{are_undashed, program}
 use Rattle.sdb_words.proofs.Entered.{entered_is, entered_none, passed_on}
 use Rattle.sdb_words.proofs.Fits.{fits, is_read}
-use Rattle.sdb_types.proofs.Basics.{false_true}
+use Rattle.sdb_types.proofs.Public.{false_true}
 use Rattle.sdb_words.proofs.read.command_of.Goals as goal
 
 pub returns-then-not-are_undashed-clause-usage : goal.returns-then-not-are_undashed-clause-usage

@@ -1,7 +1,7 @@
 use Rattle.std.proofs.Common.{sym, subst}
 use Rattle.sdb_world.specs.Types.{How, Reply}
 use Rattle.sdb_contents.specs.Board.{IsDelivered, IsMade, how_lost}
-use Rattle.sdb_contents.proofs.Made.{discarded, lost, once_lost, once_seen, unasked}
+use Rattle.sdb_contents.proofs.Public.{discarded, lost, once_lost, once_seen, unasked}
 use Rattle.sdb_model.specs.Follows.{IsHowOfLose, IsHowOfStep}
 use Rattle.sdb_world.specs.declared.delivery.Delivery.{Delivery}
 use Rattle.sdb_world.specs.Step.{IsDeliveryOf}

@@ -1,7 +1,7 @@
 use Rattle.std.proofs.Common.{◌∙◌, ap}
 use Rattle.std.specs.FinMap.{insert}
-use Rattle.sdb_types.proofs.KeyOrder.{key_total, key_exact}
-use Rattle.sdb_ordered.proofs.TreeLemmas.{inserted}
+use Rattle.sdb_types.proofs.Public.{key_exact, key_total}
+use Rattle.sdb_ordered.proofs.Public.{inserted}
 use Rattle.check_tables.proofs.tables.PlainTables.put.Goals as goal
 
 pub returns : goal.returns

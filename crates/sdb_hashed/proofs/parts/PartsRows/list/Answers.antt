@@ -4,7 +4,7 @@ use Rattle.std.proofs.lemmas.Map.Keys.{IsDistinct-from_sorted}
 use Rattle.sdb_types.specs.Contents.{rows_in}
 use Rattle.sdb_hashed.specs.Gathered.{contents_of_all}
 use Rattle.sdb_hashed.proofs.Spans.{rows_along, part_rows, no_part}
-use Rattle.sdb_types.proofs.SpanRows.{same_rows}
+use Rattle.sdb_types.proofs.Public.{same_rows}
 use Rattle.sdb_hashed.proofs.parts.PartsRows.list.Goals as goal
 
 pub returns-in-Some-get : goal.returns-in-Some-get

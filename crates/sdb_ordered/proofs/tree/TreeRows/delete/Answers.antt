@@ -1,7 +1,7 @@
 use Rattle.std.proofs.Common.{◌∙◌, ap, refl}
 use Rattle.std.specs.FinMap.{remove}
 use Rattle.std.specs.Option.{option_copied}
-use Rattle.sdb_types.proofs.KeyOrder.{key_total, key_exact}
+use Rattle.sdb_types.proofs.Public.{key_exact, key_total}
 use Rattle.sdb_ordered.proofs.TreeLemmas.{removed}
 use Rattle.sdb_ordered.proofs.Writes.{stands_at, unmet_delete, delete}
 use Rattle.sdb_ordered.proofs.tree.TreeRows.delete.Goals as goal

@@ -1,6 +1,6 @@
 use Rattle.std.proofs.Common.{◌∙◌, ap}
 use Rattle.std.specs.FinMap.{insert}
-use Rattle.sdb_types.proofs.KeyOrder.{key_total, key_exact}
+use Rattle.sdb_types.proofs.Public.{key_exact, key_total}
 use Rattle.sdb_ordered.proofs.TreeLemmas.{inserted}
 use Rattle.sdb_ordered.proofs.tree.TreeRows.insert.Goals as goal
 

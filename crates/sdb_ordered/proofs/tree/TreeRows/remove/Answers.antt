@@ -1,6 +1,6 @@
 use Rattle.std.proofs.Common.{◌∙◌, ap}
 use Rattle.std.specs.FinMap.{remove}
-use Rattle.sdb_types.proofs.KeyOrder.{key_total, key_exact}
+use Rattle.sdb_types.proofs.Public.{key_exact, key_total}
 use Rattle.sdb_ordered.proofs.TreeLemmas.{removed}
 use Rattle.sdb_ordered.proofs.tree.TreeRows.remove.Goals as goal
 

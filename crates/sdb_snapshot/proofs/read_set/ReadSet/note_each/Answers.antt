@@ -4,7 +4,7 @@ use Rattle.sdb_snapshot.specs.Sets.{StartsWith}
 use Rattle.sdb_snapshot.proofs.Fronts.{starts_itself}
 use Rattle.sdb_snapshot.proofs.Orders.{note_front}
 use Rattle.sdb_snapshot.proofs.read_set.ReadSet.note_each.Goals as goal
-use Rattle.sdb_types.proofs.Basics.{drop_next}
+use Rattle.sdb_types.proofs.Public.{drop_next}
 
 pub loop-rec-init : goal.loop-rec-init
 loop-rec-init c = record { answered = refl; front = starts_itself c.args.self.now }

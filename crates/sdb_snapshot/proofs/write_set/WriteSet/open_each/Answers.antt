@@ -5,7 +5,7 @@ use Rattle.sdb_snapshot.specs.Sets.{StartsWith}
 use Rattle.sdb_snapshot.proofs.Fronts.{starts_itself}
 use Rattle.sdb_snapshot.proofs.Opening.{new_front}
 use Rattle.sdb_snapshot.proofs.write_set.WriteSet.open_each.Goals as goal
-use Rattle.sdb_types.proofs.Basics.{drop_next}
+use Rattle.sdb_types.proofs.Public.{drop_next}
 
 pub loop-keyed-init : goal.loop-keyed-init
 loop-keyed-init c = record { answered = refl; front = starts_itself c.args.self.now }

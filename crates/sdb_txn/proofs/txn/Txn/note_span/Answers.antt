@@ -1,6 +1,6 @@
 use Rattle.std.proofs.Common.{◌≡◌, refl, ap, ◌∙◌}
 use Rattle.sdb_snapshot.specs.Seen.{Seen, forgotten, mark_of}
-use Rattle.sdb_snapshot.proofs.Forgotten.{scan_forgotten}
+use Rattle.sdb_snapshot.proofs.Public.{scan_forgotten}
 use Rattle.sdb_txn.proofs.Notes.{kept_cut, cut_is}
 use Rattle.sdb_txn.proofs.txn.Txn.note_span.Goals as goal
 

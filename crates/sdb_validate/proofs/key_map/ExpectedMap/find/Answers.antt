@@ -1,7 +1,7 @@
 use Rattle.std.proofs.Common.{◌∙◌, ap, sym}
 use Rattle.std.specs.FinMap.{get}
-use Rattle.sdb_types.proofs.KeyOrder.{key_total}
-use Rattle.sdb_ordered.proofs.TreeLemmas.{get_entries}
+use Rattle.sdb_types.proofs.Public.{key_total}
+use Rattle.sdb_ordered.proofs.Public.{get_entries}
 use Rattle.sdb_validate.proofs.key_map.ExpectedMap.find.Goals as goal
 
 pub returns : goal.returns

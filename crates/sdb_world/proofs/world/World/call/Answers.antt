@@ -4,7 +4,7 @@ use Rattle.sdb_client.specs.Client.{ReplyPost}
 use Rattle.sdb_types.specs.declared.record.Reply.{Reply}
 use Rattle.sdb_model.specs.declared.event.Event.TheVariants as event
 use Rattle.sdb_model.specs.Events.{table_asked}
-use Rattle.sdb_contents.proofs.GoesOn.{fit_for}
+use Rattle.sdb_contents.proofs.Public.{fit_for}
 use Rattle.law_runs.specs.World.{WorldAt}
 use Rattle.sdb_world.proofs.Takings.{called, named_store}
 use Rattle.sdb_world.proofs.Asked.{asks_called}

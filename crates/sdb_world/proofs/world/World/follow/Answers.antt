@@ -1,6 +1,6 @@
 use Rattle.std.proofs.Common.{◌≡◌, ◌+◌, take, refl}
 use Rattle.sdb_model.specs.Follows.{AreOfMoves, IsOfMove}
-use Rattle.sdb_contents.proofs.GoesOn.{goes_more, goes_none, some_more}
+use Rattle.sdb_contents.proofs.Public.{goes_more, goes_none, some_more}
 use Rattle.sdb_world.proofs.Broken.{breaks_more, breaks_none}
 use Rattle.sdb_world.proofs.Goes.{come_more, come_none}
 use Rattle.sdb_world.proofs.Rounds.{follows_more}

@@ -5,7 +5,7 @@ use Rattle.law_runs.specs.World.{WorldAt}
 use Rattle.sdb_world.proofs.Goings.{at_write, goes_call, goes_idle, goes_take, left_of, place_low}
 use Rattle.sdb_world.proofs.Takings.{on_ok}
 use Rattle.sdb_model.specs.declared.event.Event.TheVariants as event
-use Rattle.sdb_contents.proofs.Made.{unasked}
+use Rattle.sdb_contents.proofs.Public.{unasked}
 use Rattle.sdb_world.proofs.Asked.{asks_pushed, asks_take}
 use Rattle.sdb_world.proofs.Broken.{breaks_pushed, breaks_take}
 use Rattle.sdb_world.proofs.world.World.go.Goals as goal

@@ -1,4 +1,4 @@
-use Rattle.law_runs.proofs.First.{world_first}
+use Rattle.law_runs.proofs.Public.{world_first}
 use Rattle.sdb_world.proofs.Fresh.{initial_new}
 use Rattle.sdb_world.proofs.world.World.new.Goals as goal
 

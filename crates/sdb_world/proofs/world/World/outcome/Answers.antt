@@ -2,14 +2,11 @@ use Rattle.std.proofs.Common.{◌≡◌, List, ap, subst, sym}
 use Rattle.std.specs.Prelude.{All, Contains}
 use Rattle.sdb_world.specs.Types.{Event, Point, Script, Table, TxId}
 use Rattle.sdb_model.specs.Transactions.{point}
-use Rattle.sdb_contents.proofs.GoesOn.{fit_for_before}
-use Rattle.sdb_contents.proofs.Later.{odd_before, recorded_later}
+use Rattle.sdb_contents.proofs.Public.{coordinator_fit, fit_for_before, odd_before, passed, recorded_later, refused_as}
 use Rattle.sdb_record.specs.Coordinator.{coordinator_table}
 use Rattle.sdb_contents.specs.Held.{AreDumpsWhereKnown, AreWellFormedWhereKnown, IsOddIn}
-use Rattle.sdb_contents.proofs.Closings.{coordinator_fit}
 use Rattle.sdb_contents.specs.Board.{AreUsable, known_before, contents_of_views}
 use Rattle.law_runs.specs.Order.{HasRisen}
-use Rattle.sdb_contents.proofs.Refusals.{passed, refused_as}
 use Rattle.sdb_world.proofs.Explained.{played_explained}
 use Rattle.sdb_world.proofs.Outcomes.{outcome_run, outcome_sound}
 use Rattle.sdb_world.proofs.world.World.outcome.Goals as goal

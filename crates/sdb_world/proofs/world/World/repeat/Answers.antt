@@ -1,7 +1,7 @@
 use Rattle.std.proofs.Common.{◌≡◌, ◌+◌, ℕ, refl, sym, ap, subst, arith}
 use Rattle.sdb_model.specs.declared.script.Act.TheVariants as act
 use Rattle.sdb_model.specs.declared.script.Script.{Script}
-use Rattle.sdb_contents.proofs.GoesOn.{goes_more, goes_none, some_more}
+use Rattle.sdb_contents.proofs.Public.{goes_more, goes_none, some_more}
 use Rattle.sdb_world.specs.Step.{AreSteps, HasCome, IsNumber, IsOne}
 use Rattle.sdb_world.proofs.Broken.{breaks_more, breaks_none}
 use Rattle.sdb_world.proofs.Goes.{come_more, come_none}

@@ -2,7 +2,7 @@ use Rattle.std.proofs.Common.{◌≡◌, ◌≤◌, ◌+◌, List, sym, ap, subs
 use Rattle.sdb_world.specs.Types.{Event, Script}
 use Rattle.sdb_model.specs.declared.script.Act.TheVariants as act
 use Rattle.sdb_model.specs.Follows.{IsRest, end_of}
-use Rattle.sdb_contents.proofs.GoesOn.{goes_more, some_more}
+use Rattle.sdb_contents.proofs.Public.{goes_more, some_more}
 use Rattle.sdb_world.specs.Step.{IsOne}
 use Rattle.sdb_world.proofs.Broken.{breaks_more}
 use Rattle.sdb_world.proofs.Goes.{come_as, come_more}

@@ -8,7 +8,7 @@ use Rattle.sdb_world.proofs.Acts.{Came, acts_stop}
 use Rattle.sdb_world.proofs.Explained.{came_explained, on_explained}
 use Rattle.sdb_world.proofs.Goings.{goes_clock}
 use Rattle.sdb_world.proofs.Takings.{on_ok}
-use Rattle.sdb_contents.proofs.Made.{unasked}
+use Rattle.sdb_contents.proofs.Public.{unasked}
 use Rattle.sdb_world.proofs.Asked.{asks_pushed, asks_stop}
 use Rattle.sdb_world.proofs.Broken.{breaks_pushed, breaks_stop}
 use Rattle.sdb_world.proofs.world.World.step.Goals as goal

@@ -1,0 +1,11 @@
+-- The lemmas of this crate that others cite.
+pub use Rattle.law_runs.proofs.Beginnings.{no_coordinator}
+pub use Rattle.law_runs.proofs.Ended.{decides, going_is_run_on_stores, starts_empty}
+pub use Rattle.law_runs.proofs.Explains.{going_is_explained, going_is_taken}
+pub use Rattle.law_runs.proofs.Finding.{answers_as, answers_committed}
+pub use Rattle.law_runs.proofs.First.{world_first}
+pub use Rattle.law_runs.proofs.Moments.{lone_effect}
+pub use Rattle.law_runs.proofs.OnStores.{points_on_stores, sound_on_stores}
+pub use Rattle.law_runs.proofs.Ordered.{is_order, risen_fits}
+pub use Rattle.law_runs.proofs.PlainRuns.{run_plain}
+pub use Rattle.law_runs.proofs.Steps.{execution_caused, execution_linked, led, step_world}

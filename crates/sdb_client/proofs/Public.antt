@@ -1,0 +1,6 @@
+-- The lemmas of this crate that others cite.
+pub use Rattle.sdb_client.proofs.Calls.{last_noted, noting_id, noting_idle}
+pub use Rattle.sdb_client.proofs.Left.{given_idle}
+pub use Rattle.sdb_client.proofs.Paths.{paths_on, reached_on}
+pub use Rattle.sdb_client.proofs.SeenRows.{none_below}
+pub use Rattle.sdb_client.proofs.Writable.{may_write}

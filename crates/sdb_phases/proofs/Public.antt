@@ -1,0 +1,6 @@
+-- The lemmas of this crate that others cite.
+pub use Rattle.sdb_phases.proofs.DecidingPut.{asks_deciding_put}
+pub use Rattle.sdb_phases.proofs.Derived.{at_most, ends_exactly}
+pub use Rattle.sdb_phases.proofs.RecoverStands.{recover_stands}
+pub use Rattle.sdb_phases.proofs.Rows.{unmet_row}
+pub use Rattle.sdb_phases.proofs.Stands.{row_malformed}

@@ -1,0 +1,2 @@
+-- The lemmas of this crate that others cite.
+pub use Rattle.sdb_shell.proofs.LoadSteps.{starved_after}
