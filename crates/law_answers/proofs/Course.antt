@@ -158,12 +158,6 @@ puts p n (Over (outcome.BadRecord key)) e at = absurd e
 puts p n (Over outcome.NoMemory) e at = absurd e
 
 goes_by : (p : Work) (n : ℕ) (s : Stage) → Course p n s → n < exact_calls p → is_over s ≡ false
-goes_by p n (Preparing i) e less = refl
-goes_by p n (Checking i) e less = refl
-goes_by p n (Deciding d) e less = refl
-goes_by p n (Forward i) e less = refl
-goes_by p n (Stopping a m) e less = refl
-goes_by p n (Back a m i) e less = refl
 goes_by p n (Over outcome.Committed) e less = absurd (omega arith)
 goes_by p n (Over (outcome.Conflict key found)) e less = absurd e
 goes_by p n (Over (outcome.Expired id)) e less = absurd e
@@ -171,6 +165,7 @@ goes_by p n (Over outcome.Faulted) e less = absurd e
 goes_by p n (Over (outcome.Unknown id)) e less = absurd e
 goes_by p n (Over (outcome.BadRecord key)) e less = absurd e
 goes_by p n (Over outcome.NoMemory) e less = absurd e
+goes_by p n s e less = refl
 
 ends_by : (p : Work) (n : ℕ) (s : Stage) → Course p n s → n ≡ exact_calls p → s ≡ Over outcome.Committed
 ends_by p n (Preparing i) (e, l) at = absurd (omega arith)
@@ -193,12 +188,7 @@ ends_by p n (Over outcome.NoMemory) e at = absurd e
 
 committed : (p : Work) (n : ℕ) (a : Outcome) → Course p n (Over a) → a ≡ outcome.Committed
 committed p n outcome.Committed e = refl
-committed p n (outcome.Conflict key found) e = absurd e
-committed p n (outcome.Expired id) e = absurd e
-committed p n outcome.Faulted e = absurd e
-committed p n (outcome.Unknown id) e = absurd e
-committed p n (outcome.BadRecord key) e = absurd e
-committed p n outcome.NoMemory e = absurd e
+committed p n a e = absurd e
 
 course_made : (p : Work) (calls : List Call) (s : Stage) → MakesWell p calls s → Course p (length calls) s
 course_made p calls s k =

@@ -128,10 +128,7 @@ caused_more p calls c (outcome.Conflict key found) other (m, among, moves, unput
     (m, Contains-append_left calls (c ∷ []) m among, moves, all_last (λ (d : Call). d.request ≢ decide_of p.id p.now) calls c unput other)
 caused_more p calls c (outcome.Expired id) other (same, given, leads) = (same, given_more p calls c given, leads_more p calls c leads)
 caused_more p calls c outcome.NoMemory other caused = all_last (λ (d : Call). d.request ≡ decide_of p.id p.now → d.reply ≡ reply.NoMemory) calls c caused (λ e. absurd (other e))
-caused_more p calls c outcome.Committed other caused = tt
-caused_more p calls c outcome.Faulted other caused = tt
-caused_more p calls c (outcome.Unknown id) other caused = tt
-caused_more p calls c (outcome.BadRecord key) other caused = tt
+caused_more p calls c a other caused = tt
 
 pub learned_more : (p : Work) (calls : List Call) (c : Call) → IsLearned p calls → IsLearned p (calls ++ c ∷ [])
 learned_more p calls c l = record { call = l.call; among = Contains-append_left calls (c ∷ []) l.call l.among; for_row = l.for_row; learned = l.learned }

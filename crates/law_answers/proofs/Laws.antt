@@ -31,13 +31,10 @@ rolls_committed p calls m =
     let at = goes_made p calls (Over outcome.Committed) m in asks_of p calls (writes_of p) (reads_of p) at.row (forwards p) at.asks
 
 lost_so : (p : Work) (calls : List Call) (a : Outcome) → IsLost a → Ends p calls a → IsUndone p calls
-lost_so p calls (outcome.Conflict key found) lost at = at.rolled
-lost_so p calls (outcome.Expired id) lost at = at.rolled
-lost_so p calls outcome.Faulted lost at = at.rolled
-lost_so p calls outcome.NoMemory lost at = at.rolled
 lost_so p calls outcome.Committed lost at = absurd lost
 lost_so p calls (outcome.Unknown id) lost at = absurd lost
 lost_so p calls (outcome.BadRecord key) lost at = absurd lost
+lost_so p calls a lost at = at.rolled
 
 pub rolls_lost : (p : Work) (calls : List Call) (a : Outcome) → IsLost a → Makes p calls (Over a) → IsUndone p calls
 rolls_lost p calls a lost m = lost_so p calls a lost (goes_made p calls (Over a) m)
@@ -92,13 +89,10 @@ begins_led : (p : Work) (calls : List Call) → Leads p calls → Begins p calls
 begins_led p calls l = begins_here p calls (writes_of p) (touches_led p calls l)
 
 begins_over : (p : Work) (calls : List Call) (a : Outcome) → Ends p calls a → Begins p calls
-begins_over p calls (outcome.Conflict key found) at = at.begins
-begins_over p calls (outcome.Expired id) at = at.begins
-begins_over p calls outcome.Faulted at = at.begins
-begins_over p calls outcome.NoMemory at = at.begins
 begins_over p calls outcome.Committed at = begins_led p calls at.leads
 begins_over p calls (outcome.Unknown id) at = begins_led p calls at.leads
 begins_over p calls (outcome.BadRecord key) at = begins_led p calls at.leads
+begins_over p calls a at = at.begins
 
 begins_stage : (p : Work) (calls : List Call) (s : Stage) → Goes p calls s → Begins p calls
 begins_stage p calls (Preparing i) at = subst (Begins p) (sym at.whole) (begins_front p.id p.now p.writes i)
@@ -171,7 +165,6 @@ passed_led p calls i k h l =
     (c, ap (λ cs. slice_get cs (writes_of p + i)) l.whole ∙ get_front l.front l.more (writes_of p + i) c at, passed)
 
 passed_stage : (p : Work) (calls : List Call) (s : Stage) (i : ℕ) (k : Check) → slice_get (checks p) i ≡ Some k → is_checked i s ≡ true → Goes p calls s → PassedAt p calls i k
-passed_stage p calls (Preparing j) i k h is at = absurd (cc)
 passed_stage p calls (Checking j) i k h is at = passed_checked p j calls i k (lt_of i j is) h at.checked
 passed_stage p calls (Deciding phase.Put) i k h is at = passed_checked p (reads_of p) calls i k (slice_get_within (checks p) i k h) h at.checked
 passed_stage p calls (Deciding phase.Look) i k h is at = passed_led p calls i k h at.0.leads
@@ -179,8 +172,6 @@ passed_stage p calls (Deciding phase.Abort) i k h is at = passed_led p calls i k
 passed_stage p calls (Deciding phase.Again) i k h is at = passed_led p calls i k h at.leads
 passed_stage p calls (Deciding phase.Ended) i k h is at = absurd at
 passed_stage p calls (Forward j) i k h is at = passed_led p calls i k h at.0.leads
-passed_stage p calls (Stopping a n) i k h is at = absurd (cc)
-passed_stage p calls (Back a n j) i k h is at = absurd (cc)
 passed_stage p calls (Over outcome.Committed) i k h is at = passed_led p calls i k h at.leads
 passed_stage p calls (Over (outcome.Expired id)) i k h is at = passed_led p calls i k h at.caused.2
 passed_stage p calls (Over (outcome.Unknown id)) i k h is at = passed_led p calls i k h at.leads
@@ -188,6 +179,7 @@ passed_stage p calls (Over (outcome.BadRecord key)) i k h is at = passed_led p c
 passed_stage p calls (Over (outcome.Conflict key found)) i k h is at = absurd (cc)
 passed_stage p calls (Over outcome.Faulted) i k h is at = absurd (cc)
 passed_stage p calls (Over outcome.NoMemory) i k h is at = absurd (cc)
+passed_stage p calls s i k h is at = absurd (cc)
 
 pub checked_at : (p : Work) (calls : List Call) (s : Stage) (i : ℕ) → Makes p calls s → is_checked i s ≡ true → HasPassed p calls i
 checked_at p calls s i m is k h = passed_stage p calls s i k h is (goes_made p calls s m)
@@ -226,12 +218,7 @@ pub ready_at : (p : Work) (calls : List Call) (s : Stage) → Makes p calls s �
 ready_at p calls s m asked = subst (IsReady p) m.made (ready_past p m.past asked.0 m.correct (subst (λ cs. Contains cs asked.0) (sym m.made) asked.1) asked.2)
 
 learned_stage : (p : Work) (calls : List Call) (s : Stage) → has_committed s ≡ true → Goes p calls s → IsLearned p calls
-learned_stage p calls (Preparing i) is at = absurd (cc)
-learned_stage p calls (Checking i) is at = absurd (cc)
-learned_stage p calls (Deciding d) is at = absurd (cc)
 learned_stage p calls (Forward i) is at = at.0.learned
-learned_stage p calls (Stopping a n) is at = absurd (cc)
-learned_stage p calls (Back a n i) is at = absurd (cc)
 learned_stage p calls (Over outcome.Committed) is at = at.learned
 learned_stage p calls (Over (outcome.Expired id)) is at = absurd (cc)
 learned_stage p calls (Over (outcome.Unknown id)) is at = absurd (cc)
@@ -239,6 +226,7 @@ learned_stage p calls (Over (outcome.BadRecord key)) is at = absurd (cc)
 learned_stage p calls (Over (outcome.Conflict key found)) is at = absurd (cc)
 learned_stage p calls (Over outcome.Faulted) is at = absurd (cc)
 learned_stage p calls (Over outcome.NoMemory) is at = absurd (cc)
+learned_stage p calls s is at = absurd (cc)
 
 pub learned_from : (p : Work) (calls : List Call) (s : Stage) → Makes p calls s → has_committed s ≡ true → IsLearned p calls
 learned_from p calls s m is = learned_stage p calls s is (goes_made p calls s m)

@@ -1,12 +1,12 @@
 -- A recovery that nothing stops goes on to its image, or is busy; and any answer ends it.
-use Rattle.std.proofs.Common.{◌≡◌, ◌≢◌, ◌<◌, ◌^◌, ◌||◌, ℕ, ℤ, List, [], ◌∷◌, ◌++◌, length, map, Option, Some, None, Result, Ok, Err, is_err, arith, Bool, true, false, not, refl, sym, ap, ◌∙◌, cond}
+use Rattle.std.proofs.Common.{◌≡◌, ◌≢◌, ◌<◌, ◌^◌, ◌||◌, ℕ, ℤ, List, [], ◌∷◌, ◌++◌, length, map, Option, Some, None, is_err, arith, Bool, true, false, not, refl, sym, ap, ◌∙◌, cond}
 use Rattle.std.specs.Prelude.{is_some, reverse}
 use Rattle.std.proofs.lemmas.List.{map-append}
 use Rattle.sdb_types.specs.Replies.{is_fault}
-use Rattle.law_answers.specs.Types.{Decided, Decision, Meta, Record, RecoverPhase, RecoverStep, Reply, Request}
+use Rattle.law_answers.specs.Types.{Meta, Record, RecoverPhase, RecoverStep, Reply, Request}
 use Rattle.sdb_types.specs.declared.record.Reply.TheVariants as reply
 use Rattle.sdb_record.specs.declared.coordinator.Decision.TheVariants as decision
-use Rattle.sdb_record.specs.Coordinator.{coordinator_key_of, decision_in, is_expired}
+use Rattle.sdb_record.specs.Coordinator.{coordinator_key_of, is_expired}
 use Rattle.sdb_record.specs.Parts.{before_record}
 use Rattle.sdb_record.proofs.Public.{row-key}
 use Rattle.sdb_record.specs.Rolls.{undo}
@@ -14,9 +14,9 @@ use Rattle.sdb_phases.specs.declared.step.RecoverStep.TheVariants as steps
 use Rattle.sdb_phases.specs.declared.step.RecoverPhase.TheVariants as phase
 use Rattle.sdb_phases.specs.Steps.{CanGet}
 use Rattle.sdb_phases.specs.CommitLaws.{is_malformed, holds_malformed}
-use Rattle.sdb_phases.specs.Recover.{Received, AreRecoverReplies, recover_after, recover_answer, recover_next, recover_pending, recover_request_at, roll_to, is_as_found}
+use Rattle.sdb_phases.specs.Recover.{Received, AreRecoverReplies, recover_after, recover_answer, recover_next, recover_pending, recover_request_at, row_followed, is_as_found}
+use Rattle.sdb_phases.proofs.Public.{by_row, by_steps, recover_stands, row_malformed}
 use Rattle.sdb_phases.specs.RecoverLaws.{RecoverInvariant, found_pending, received_fault}
-use Rattle.sdb_phases.proofs.Public.{recover_stands, row_malformed}
 use Rattle.sdb_types.proofs.Public.{clash}
 use Rattle.law_answers.specs.Ends.{is_served}
 use Rattle.law_answers.proofs.PathLists.{reverse_more}
@@ -46,10 +46,7 @@ fine_told meta (Some q) c calls gets all = fine_last meta calls (record { reques
 no_fault : (r : Reply) → is_served r ≡ true → is_fault r ≡ false
 no_fault reply.Fault h = cc
 no_fault reply.NoMemory h = cc
-no_fault reply.Applied h = refl
-no_fault (reply.Found o) h = refl
-no_fault (reply.Rows rows) h = refl
-no_fault (reply.NotMet o) h = refl
+no_fault r h = refl
 
 neither : (a b : Bool) → a ≡ false → b ≡ false → (a || b) ≡ false
 neither true b p q = cc
@@ -74,21 +71,11 @@ as_resolved : (rec : Record) (meta : Meta) (past : List Received) (s : RecoverSt
 as_resolved rec meta past steps.More by = by
 as_resolved rec meta past (steps.Image image) by = tt
 as_resolved rec meta past (steps.Busy id prepared_at) by = by
-as_resolved rec meta past steps.Faulted by = absurd by
-as_resolved rec meta past (steps.BadRecord key) by = absurd by
-as_resolved rec meta past steps.NoMemory by = absurd by
+as_resolved rec meta past s by = absurd by
 
-follows_one : (rec : Record) (meta : Meta) (past : List Received) (e : Decision) (d : Decided)
-    → By rec meta past (elim e as (λ _. RecoverPhase × RecoverStep) [ decision.Committed ↦ (phase.Forward d.created_at, steps.More) | decision.Aborted ↦ (phase.Back, steps.More) ]).0 (elim e as (λ _. RecoverPhase × RecoverStep) [ decision.Committed ↦ (phase.Forward d.created_at, steps.More) | decision.Aborted ↦ (phase.Back, steps.More) ]).1
-follows_one rec meta past decision.Committed d = refl
-follows_one rec meta past decision.Aborted d = refl
-
-follows : (rec : Record) (meta : Meta) (past : List Received) (v : Result Decided (List ℕ)) → (is_err v ≡ true → ⊥) → By rec meta past (roll_to meta v).0 (roll_to meta v).1
-follows rec meta past (Err column) formed = absurd (formed refl)
-follows rec meta past (Ok d) formed = follows_one rec meta past d.decision d
-
-row_follows : (rec : Record) (meta : Meta) (past : List Received) (row : Record) → row.key ≡ coordinator_key_of meta.id → is_malformed meta.id row ≡ false → By rec meta past (roll_to meta (decision_in row)).0 (roll_to meta (decision_in row)).1
-row_follows rec meta past row key formed = follows rec meta past (decision_in row) (λ is. clash (sym (row_malformed meta.id row key is) ∙ formed))
+row_follows : (rec : Record) (meta : Meta) (past : List Received) (row : Record) → row.key ≡ coordinator_key_of meta.id → is_malformed meta.id row ≡ false → By rec meta past (row_followed meta row).0 (row_followed meta row).1
+row_follows rec meta past row key formed =
+    by_row meta row (λ n. By rec meta past n.0 n.1) (λ d says is. refl) (λ d says is. refl) (λ column says. clash (sym (row_malformed meta.id row key (ap is_err says)) ∙ formed))
 
 waits : (rec : Record) (meta : Meta) (past : List Received) (n : ℤ) (b : Bool) → length past ≡ 0 → is_expired meta.prepared_at n ≡ b
     → By rec meta (record { reply = reply.Found None; now = n } ∷ past) (cond {A = RecoverPhase × RecoverStep} b (phase.Abort n, steps.More) (phase.Ended, steps.Busy meta.id meta.prepared_at)).0 (cond {A = RecoverPhase × RecoverStep} b (phase.Abort n, steps.More) (phase.Ended, steps.Busy meta.id meta.prepared_at)).1
@@ -119,9 +106,6 @@ resolves_step rec meta past phase.Look (reply.Found (Some row)) n s gets seen fo
 resolves_step rec meta past phase.Look (reply.Found None) n s gets seen formed none = waits rec meta past n (is_expired meta.prepared_at n) s refl
 resolves_step rec meta past phase.Look reply.Fault n s gets seen formed none = absurd (cc)
 resolves_step rec meta past phase.Look reply.NoMemory n s gets seen formed none = absurd (cc)
-resolves_step rec meta past phase.Look reply.Applied n s gets seen formed none = absurd gets
-resolves_step rec meta past phase.Look (reply.NotMet o) n s gets seen formed none = absurd gets
-resolves_step rec meta past phase.Look (reply.Rows rows) n s gets seen formed none = absurd gets
 resolves_step rec meta past (phase.Abort now) reply.Applied n s gets seen formed none = refl
 resolves_step rec meta past (phase.Abort now) (reply.NotMet (Some row)) n s gets seen formed none = row_follows rec meta (record { reply = reply.NotMet (Some row); now = n } ∷ past) row (gets.0 ∙ row-key meta.id decision.Aborted now) formed
 resolves_step rec meta past (phase.Abort now) (reply.NotMet None) n s gets seen formed none = absurd (clash gets.1)
@@ -143,6 +127,7 @@ resolves_step rec meta past phase.Back reply.NoMemory n s gets seen formed none 
 resolves_step rec meta past phase.Back (reply.Found o) n s gets seen formed none = absurd (no_read rec meta o gets)
 resolves_step rec meta past phase.Back (reply.Rows rows) n s gets seen formed none = absurd (no_rows rec meta rows gets)
 resolves_step rec meta past phase.Ended r n s gets seen formed none = absurd gets
+resolves_step rec meta past phase.Look r n s gets seen formed none = absurd gets
 
 resolves_by : (rec : Record) (meta : Meta) (past : List Received) → meta.id.0 < 2 ^ 128 → AreRecoverReplies rec meta past → HaveNoFailure meta (calls_of_recovery rec meta past) → Resolves rec meta past (recover_answer rec meta past)
 resolves_by rec meta [] small correct all = refl
@@ -161,61 +146,25 @@ abbrev Ends : RecoverPhase → RecoverStep → Type 0
 Ends p steps.More = Unit {0}
 Ends p s = p ≡ phase.Ended
 
-ends_row : (meta : Meta) (v : Result Decided (List ℕ)) → Ends (roll_to meta v).0 (roll_to meta v).1
-ends_row meta (Err column) = refl
-ends_row meta (Ok d) = by d.decision
-  where
-    by : (e : Decision) → Ends (elim e as (λ _. RecoverPhase × RecoverStep) [ decision.Committed ↦ (phase.Forward d.created_at, steps.More) | decision.Aborted ↦ (phase.Back, steps.More) ]).0 (elim e as (λ _. RecoverPhase × RecoverStep) [ decision.Committed ↦ (phase.Forward d.created_at, steps.More) | decision.Aborted ↦ (phase.Back, steps.More) ]).1
-    by decision.Committed = tt
-    by decision.Aborted = tt
-
-ends_wait : (meta : Meta) (n : ℤ) (b : Bool) → Ends (cond {A = RecoverPhase × RecoverStep} b (phase.Abort n, steps.More) (phase.Ended, steps.Busy meta.id meta.prepared_at)).0 (cond {A = RecoverPhase × RecoverStep} b (phase.Abort n, steps.More) (phase.Ended, steps.Busy meta.id meta.prepared_at)).1
-ends_wait meta n true = tt
-ends_wait meta n false = refl
-
 ends_step : (rec : Record) (meta : Meta) (d : RecoverPhase) (n : ℤ) (r : Reply) → Ends (recover_next rec meta d n r).0 (recover_next rec meta d n r).1
-ends_step rec meta phase.Look n (reply.Found (Some row)) = ends_row meta (decision_in row)
-ends_step rec meta phase.Look n (reply.Found None) = ends_wait meta n (is_expired meta.prepared_at n)
-ends_step rec meta phase.Look n reply.Fault = refl
-ends_step rec meta phase.Look n reply.NoMemory = refl
-ends_step rec meta phase.Look n reply.Applied = refl
-ends_step rec meta phase.Look n (reply.NotMet o) = refl
-ends_step rec meta phase.Look n (reply.Rows rows) = refl
-ends_step rec meta (phase.Abort now) n reply.Applied = tt
-ends_step rec meta (phase.Abort now) n (reply.NotMet (Some row)) = ends_row meta (decision_in row)
-ends_step rec meta (phase.Abort now) n (reply.NotMet None) = refl
-ends_step rec meta (phase.Abort now) n reply.Fault = tt
-ends_step rec meta (phase.Abort now) n reply.NoMemory = refl
-ends_step rec meta (phase.Abort now) n (reply.Found o) = refl
-ends_step rec meta (phase.Abort now) n (reply.Rows rows) = refl
-ends_step rec meta phase.Again n (reply.Found (Some row)) = ends_row meta (decision_in row)
-ends_step rec meta phase.Again n (reply.Found None) = refl
-ends_step rec meta phase.Again n reply.Fault = refl
-ends_step rec meta phase.Again n reply.NoMemory = refl
-ends_step rec meta phase.Again n reply.Applied = refl
-ends_step rec meta phase.Again n (reply.NotMet o) = refl
-ends_step rec meta phase.Again n (reply.Rows rows) = refl
-ends_step rec meta (phase.Forward at) n reply.Applied = refl
-ends_step rec meta (phase.Forward at) n (reply.NotMet o) = refl
-ends_step rec meta (phase.Forward at) n reply.Fault = refl
-ends_step rec meta (phase.Forward at) n reply.NoMemory = refl
-ends_step rec meta (phase.Forward at) n (reply.Found o) = refl
-ends_step rec meta (phase.Forward at) n (reply.Rows rows) = refl
-ends_step rec meta phase.Back n reply.Applied = refl
-ends_step rec meta phase.Back n (reply.NotMet o) = refl
-ends_step rec meta phase.Back n reply.Fault = refl
-ends_step rec meta phase.Back n reply.NoMemory = refl
-ends_step rec meta phase.Back n (reply.Found o) = refl
-ends_step rec meta phase.Back n (reply.Rows rows) = refl
-ends_step rec meta phase.Ended n r = refl
+ends_step rec meta =
+    by_steps rec meta (λ x. Ends x.0 x.1)
+    (record {
+      forward = λ at. tt;
+      back = tt;
+      abort = λ now. tt;
+      again = tt;
+      forwarded = λ at. refl;
+      undone = refl;
+      busy = refl;
+      fault = refl;
+      bad = refl;
+      no_memory = refl;
+    })
 
 has_ended : (p : RecoverPhase) (s : RecoverStep) → Ends p s → s ≢ steps.More → p ≡ phase.Ended
 has_ended p steps.More ends not = absurd (not refl)
-has_ended p (steps.Image image) ends not = ends
-has_ended p (steps.Busy id prepared_at) ends not = ends
-has_ended p steps.Faulted ends not = ends
-has_ended p (steps.BadRecord key) ends not = ends
-has_ended p steps.NoMemory ends not = ends
+has_ended p s ends not = ends
 
 pub ended_so : (rec : Record) (meta : Meta) (past : List Received) → recover_answer rec meta past ≢ steps.More → recover_after rec meta past ≡ phase.Ended
 ended_so rec meta [] not = absurd (not refl)

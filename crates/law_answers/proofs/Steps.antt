@@ -188,13 +188,10 @@ forwarding p calls i at l =
     subst (AtForward p calls) (take_all i (forwards p) (omega arith)) at)
 
 lost_end : (p : Work) (calls : List Call) (a : Outcome) → IsLost a → AtLost p calls a → Ends p calls a
-lost_end p calls (outcome.Conflict key found) lost at = at
-lost_end p calls (outcome.Expired id) lost at = at
-lost_end p calls outcome.Faulted lost at = at
-lost_end p calls outcome.NoMemory lost at = at
 lost_end p calls outcome.Committed lost at = absurd lost
 lost_end p calls (outcome.Unknown id) lost at = absurd lost
 lost_end p calls (outcome.BadRecord key) lost at = absurd lost
+lost_end p calls a lost at = at
 
 -- the roll backs of the first so many writes, where these may have accepted effect
 pub undone_is : (p : Work) (calls : List Call) (n : ℕ) → Touches p calls n → undone p calls ≡ take n (backs p)
@@ -303,9 +300,6 @@ decide_step p calls phase.Look (reply.Found None) at gets =
     (row_more p calls (look_of p.id) (reply.Found None) at.0 (inr (inl refl)), own_more p calls (look_of p.id) (reply.Found None) at.1 (look_no_abort p))
 decide_step p calls phase.Look reply.Fault at gets = row_more p calls (look_of p.id) reply.Fault at.0 (inr (inl refl))
 decide_step p calls phase.Look reply.NoMemory at gets = row_more p calls (look_of p.id) reply.NoMemory at.0 (inr (inl refl))
-decide_step p calls phase.Look reply.Applied at gets = absurd gets
-decide_step p calls phase.Look (reply.NotMet o) at gets = absurd gets
-decide_step p calls phase.Look (reply.Rows rows) at gets = absurd gets
 decide_step p calls phase.Abort reply.Applied at gets =
     backs_all p (calls ++ one (abort_of p.id p.now) reply.Applied ∷ []) phase.Ended steps.Faulted (row_more p calls (abort_of p.id p.now) reply.Applied at.0 (inr (inr refl))) tt
 decide_step p calls phase.Abort (reply.NotMet (Some row)) at gets =
@@ -324,10 +318,9 @@ decide_step p calls phase.Again (reply.Found (Some row)) at gets =
 decide_step p calls phase.Again (reply.Found None) at gets = row_more p calls (look_of p.id) (reply.Found None) at (inr (inl refl))
 decide_step p calls phase.Again reply.Fault at gets = row_more p calls (look_of p.id) reply.Fault at (inr (inl refl))
 decide_step p calls phase.Again reply.NoMemory at gets = row_more p calls (look_of p.id) reply.NoMemory at (inr (inl refl))
-decide_step p calls phase.Again reply.Applied at gets = absurd gets
-decide_step p calls phase.Again (reply.NotMet o) at gets = absurd gets
-decide_step p calls phase.Again (reply.Rows rows) at gets = absurd gets
 decide_step p calls phase.Ended r at gets = absurd at
+decide_step p calls phase.Look r at gets = absurd gets
+decide_step p calls phase.Again r at gets = absurd gets
 
 ---- rolls and stops
 

@@ -12,7 +12,7 @@ use Rattle.sdb_model.specs.Transactions.{Recorded}
 use Rattle.law_clients.specs.System.{SystemAt}
 use Rattle.law_clients.specs.Invariant.{RunInvariant}
 use Rattle.law_protocol.specs.Spread.{relocated_events, one_store}
-use Rattle.law_protocol.proofs.Public.{commit_moved, one_standing, point_moved, single, Single}
+use Rattle.law_protocol.proofs.Public.{commit_moved, one_standing, point_moved, Single, single}
 use Rattle.law_runs.specs.Points.{HavePoints}
 use Rattle.law_runs.specs.Stores.{AreSound, IsTraceOnEmpty}
 use Rattle.law_runs.proofs.Ended.{decides, starts_empty}

@@ -10,7 +10,7 @@ use Rattle.sdb_model.specs.Events.{IsCall, IsTrace, StoreContents}
 use Rattle.sdb_model.specs.Plain.{is_one_line, HasLines}
 use Rattle.sdb_model.specs.Rows.{Name}
 use Rattle.law_protocol.specs.Spread.{HoldAs, relocated_events, one_store}
-use Rattle.law_protocol.proofs.Public.{one_held, one_left, single, Single}
+use Rattle.law_protocol.proofs.Public.{one_held, one_left, Single, single}
 use Rattle.sdb_client.specs.Execution.{AreFresh, CallStep, IsPath, State, TakeStep, client_after, client_stopped, with_client_at}
 use Rattle.law_runs.specs.Laws.{ExecutionOf}
 use Rattle.law_runs.specs.Moments.{TraceOf}

@@ -1,3 +1,5 @@
+mod RecoverRows
+mod DecideRows
 mod Stands
 mod Derived
 mod RecoverStands
@@ -5,4 +7,5 @@ mod RecoverAnswers
 mod Starved
 mod DecidingPut
 mod Rows
+mod RecoverCalls
 pub mod Public

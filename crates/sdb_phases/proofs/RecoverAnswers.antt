@@ -14,22 +14,16 @@ use Rattle.sdb_phases.specs.declared.step.RecoverPhase.{RecoverPhase}
 use Rattle.sdb_phases.specs.declared.step.RecoverPhase.TheVariants as phase
 use Rattle.sdb_phases.specs.Steps.{CanGet}
 use Rattle.sdb_phases.specs.CommitLaws.{is_malformed, holds_malformed}
-use Rattle.sdb_phases.specs.Recover.{Received, AreRecoverReplies, recover_after, recover_answer, recover_request_at, recover_next, roll_to}
+use Rattle.sdb_phases.specs.Recover.{Received, AreRecoverReplies, recover_after, recover_answer, recover_request_at, recover_next, row_followed}
 use Rattle.sdb_phases.specs.RecoverLaws.{RecoverInvariant, RecoverEnds, WasRolled, RollsTo, found_pending, received_fault, received_malformed}
+use Rattle.sdb_phases.proofs.RecoverRows.{by_row, by_rows}
 use Rattle.sdb_phases.proofs.Stands.{row_malformed}
 use Rattle.sdb_phases.proofs.RecoverStands.{recover_stands}
 
 -- a row that was found is followed, or isn't well formed
-follow_ends : (rec : Record) (meta : Meta) (past : List Received) (v : Result Decided (List ℕ)) → (is_err v ≡ true → received_malformed meta past ≡ true) → RecoverEnds rec meta past (roll_to meta v).1
-follow_ends rec meta past (Err column) malformed = (refl, malformed refl)
-follow_ends rec meta past (Ok d) malformed = by_decision d.decision d where
-  by_decision : (e : Decision) (d : Decided) → RecoverEnds rec meta past (elim e as (λ _. RecoverPhase × RecoverStep) [ decision.Committed ↦ (phase.Forward d.created_at, steps.More) | decision.Aborted ↦ (phase.Back, steps.More) ]).1
-  by_decision decision.Committed d = tt
-  by_decision decision.Aborted d = tt
-
-row_ends : (rec : Record) (meta : Meta) (past : List Received) (c : Received) (row : Record) → row.key ≡ coordinator_key_of meta.id → holds_malformed meta.id c.reply ≡ is_malformed meta.id row → RecoverEnds rec meta (c ∷ past) (roll_to meta (decision_in row)).1
+row_ends : (rec : Record) (meta : Meta) (past : List Received) (c : Received) (row : Record) → row.key ≡ coordinator_key_of meta.id → holds_malformed meta.id c.reply ≡ is_malformed meta.id row → RecoverEnds rec meta (c ∷ past) (row_followed meta row).1
 row_ends rec meta past c row key holds =
-    follow_ends rec meta (c ∷ past) (decision_in row) (λ is. holds ∙ row_malformed meta.id row key is)
+    by_row meta row (λ n. RecoverEnds rec meta (c ∷ past) n.1) (λ d says is. tt) (λ d says is. tt) (λ column says. (refl, holds ∙ row_malformed meta.id row key (ap is_err says)))
 
 -- without a row it is busy until the record expires
 waits : (rec : Record) (meta : Meta) (past : List Received) (n : ℤ) (b : Bool) → length past ≡ 0 → is_expired meta.prepared_at n ≡ b
@@ -41,47 +35,32 @@ waits rec meta (c ∷ past) n false none is = absurd (omega arith)
 roll_ends : (rec : Record) (meta : Meta) (past : List Received) (d : RecoverPhase) (image : Option Record) → recover_after rec meta past ≡ d → RollsTo rec meta past d image → RollsTo rec meta past (recover_after rec meta past) image
 roll_ends rec meta past d image e rolls = subst (λ x. RollsTo rec meta past x image) (sym e) rolls
 
-ends : (rec : Record) (meta : Meta) (past : List Received) (d : RecoverPhase) (r : Reply) (n : ℤ) → recover_after rec meta past ≡ d → RecoverInvariant rec meta past d → CanGet (recover_request_at rec meta d) r
-    → RecoverEnds rec meta (record { reply = r; now = n } ∷ past) (recover_next rec meta d n r).1
-ends rec meta past phase.Look (reply.Found (Some row)) n e s gets = row_ends rec meta past (record { reply = reply.Found (Some row); now = n }) row gets refl
-ends rec meta past phase.Look (reply.Found None) n e s gets = waits rec meta past n (is_expired meta.prepared_at n) s refl
-ends rec meta past phase.Look reply.Fault n e s gets = refl
-ends rec meta past phase.Look reply.NoMemory n e s gets = tt
-ends rec meta past phase.Look reply.Applied n e s gets = absurd gets
-ends rec meta past phase.Look (reply.NotMet o) n e s gets = absurd gets
-ends rec meta past phase.Look (reply.Rows rows) n e s gets = absurd gets
-ends rec meta past (phase.Abort now) reply.Applied n e s gets = tt
-ends rec meta past (phase.Abort now) (reply.NotMet (Some row)) n e s gets = row_ends rec meta past (record { reply = reply.NotMet (Some row); now = n }) row (gets.0 ∙ row-key meta.id decision.Aborted now) refl
-ends rec meta past (phase.Abort now) (reply.NotMet None) n e s gets = cc (gets.1)
-ends rec meta past (phase.Abort now) reply.Fault n e s gets = tt
-ends rec meta past (phase.Abort now) reply.NoMemory n e s gets = tt
-ends rec meta past (phase.Abort now) (reply.Found o) n e s gets = absurd gets
-ends rec meta past (phase.Abort now) (reply.Rows rows) n e s gets = absurd gets
-ends rec meta past phase.Again (reply.Found (Some row)) n e s gets = row_ends rec meta past (record { reply = reply.Found (Some row); now = n }) row gets refl
-ends rec meta past phase.Again (reply.Found None) n e (calls, expired, faulted) gets = faulted
-ends rec meta past phase.Again reply.Fault n e s gets = refl
-ends rec meta past phase.Again reply.NoMemory n e s gets = tt
-ends rec meta past phase.Again reply.Applied n e s gets = absurd gets
-ends rec meta past phase.Again (reply.NotMet o) n e s gets = absurd gets
-ends rec meta past phase.Again (reply.Rows rows) n e s gets = absurd gets
-ends rec meta past (phase.Forward at) reply.Applied n e (few, some, learned) gets = (refl, roll_ends rec meta past (phase.Forward at) (Some (forward_record rec at)) e (refl, learned))
-ends rec meta past (phase.Forward at) (reply.NotMet o) n e (few, some, learned) gets = (refl, roll_ends rec meta past (phase.Forward at) (Some (forward_record rec at)) e (refl, learned))
-ends rec meta past (phase.Forward at) reply.Fault n e s gets = refl
-ends rec meta past (phase.Forward at) reply.NoMemory n e s gets = tt
-ends rec meta past (phase.Forward at) (reply.Found o) n e s gets = tt
-ends rec meta past (phase.Forward at) (reply.Rows rows) n e s gets = tt
-ends rec meta past phase.Back reply.Applied n e (few, some, learned) gets = (refl, roll_ends rec meta past phase.Back (before_record rec) e (refl, learned))
-ends rec meta past phase.Back (reply.NotMet o) n e (few, some, learned) gets = (refl, roll_ends rec meta past phase.Back (before_record rec) e (refl, learned))
-ends rec meta past phase.Back reply.Fault n e s gets = refl
-ends rec meta past phase.Back reply.NoMemory n e s gets = tt
-ends rec meta past phase.Back (reply.Found o) n e s gets = tt
-ends rec meta past phase.Back (reply.Rows rows) n e s gets = tt
-ends rec meta past phase.Ended r n e s gets = absurd gets
+-- what is answered to one reply more
+abbrev KeepsEnds : Record → Meta → List Received → ℤ → RecoverPhase → Reply → RecoverPhase × RecoverStep → Type 0
+KeepsEnds rec meta past n d r x =
+    recover_after rec meta past ≡ d → RecoverInvariant rec meta past d → CanGet (recover_request_at rec meta d) r → RecoverEnds rec meta (record { reply = r; now = n } ∷ past) x.1
+
+ends : (rec : Record) (meta : Meta) (past : List Received) (n : ℤ) (d : RecoverPhase) (r : Reply) → KeepsEnds rec meta past n d r (recover_next rec meta d n r)
+ends rec meta past n =
+    by_rows rec meta n (KeepsEnds rec meta past n)
+    (record {
+      look_row = λ row e s gets. row_ends rec meta past (record { reply = reply.Found (Some row); now = n }) row gets refl;
+      look_none = λ e s gets. waits rec meta past n (is_expired meta.prepared_at n) s refl;
+      abort_applied = λ now e s gets. tt;
+      abort_row = λ now row e s gets. row_ends rec meta past (record { reply = reply.NotMet (Some row); now = n }) row (gets.0 ∙ row-key meta.id decision.Aborted now) refl;
+      abort_fault = λ now e s gets. tt;
+      again_row = λ row e s gets. row_ends rec meta past (record { reply = reply.Found (Some row); now = n }) row gets refl;
+      again_none = λ e s gets. s.2;
+      forward = λ at r is e s gets. (is, roll_ends rec meta past (phase.Forward at) (Some (forward_record rec at)) e (refl, s.2));
+      back = λ r is e s gets. (is, roll_ends rec meta past phase.Back (before_record rec) e (refl, s.2));
+      fault = λ d e s gets. refl;
+      no_memory = λ d r e s gets. tt;
+    })
 
 recover_so : (rec : Record) (meta : Meta) (past : List Received) → meta.id.0 < 2 ^ 128 → AreRecoverReplies rec meta past → RecoverEnds rec meta past (recover_answer rec meta past)
 recover_so rec meta [] small correct = tt
 recover_so rec meta (c ∷ past) small (correct, gets, moment) =
-    ends rec meta past (recover_after rec meta past) c.reply c.now refl (recover_stands rec meta past small correct) gets
+    ends rec meta past c.now (recover_after rec meta past) c.reply refl (recover_stands rec meta past small correct) gets
 
 answers_at : (rec : Record) (meta : Meta) (past : List Received) (a : RecoverStep) → meta.id.0 < 2 ^ 128 → AreRecoverReplies rec meta past → recover_answer rec meta past ≡ a → RecoverEnds rec meta past a
 answers_at rec meta past a small correct e = subst (RecoverEnds rec meta past) e (recover_so rec meta past small correct)

@@ -17,6 +17,7 @@ use Rattle.sdb_phases.specs.Steps.{CanGet}
 use Rattle.sdb_phases.specs.CommitLaws.{observes_decision, is_decision}
 use Rattle.sdb_phases.specs.Recover.{Received, AreRecoverReplies, recover_after, recover_pending, recover_request_at, recover_next, roll_to}
 use Rattle.sdb_phases.specs.RecoverLaws.{RecoverInvariant, learned_committed, learned_aborted, found_expired, was_committed_at, observes_committed_at}
+use Rattle.sdb_phases.proofs.RecoverRows.{by_rows}
 use Rattle.sdb_phases.proofs.Stands.{row_says, left}
 
 -- The list of what was heard, seen from outside: what was learned by it.
@@ -79,53 +80,44 @@ own_aborted_says : (id : TxId) (now : ℤ) → id.0 < 2 ^ 128 → is_moment now 
 own_aborted_says id now small moment =
     row_says id decision.Aborted (coordinator_row_of id decision.Aborted now) (row-key id decision.Aborted now) (ap (is_decision decision.Aborted) (row-decision id decision.Aborted now small moment))
 
-step : (rec : Record) (meta : Meta) (past : List Received) (d : RecoverPhase) (r : Reply) (n : ℤ) → meta.id.0 < 2 ^ 128 → is_moment n ≡ true → recover_after rec meta past ≡ d → RecoverInvariant rec meta past d → CanGet (recover_request_at rec meta d) r
-    → RecoverInvariant rec meta (record { reply = r; now = n } ∷ past) (recover_next rec meta d n r).0
-step rec meta past phase.Look (reply.Found (Some row)) n small moment e s gets =
-    row_rolls rec meta past phase.Look (record { reply = reply.Found (Some row); now = n }) row e (omega arith) gets (λ at. refl) (row_says meta.id decision.Aborted row gets)
-step rec meta past phase.Look (reply.Found None) n small moment e s gets = expires rec meta past n (is_expired meta.prepared_at n) s moment refl
-step rec meta past phase.Look reply.Fault n small moment e s gets = omega arith
-step rec meta past phase.Look reply.NoMemory n small moment e s gets = omega arith
-step rec meta past phase.Look reply.Applied n small moment e s gets = absurd gets
-step rec meta past phase.Look (reply.NotMet o) n small moment e s gets = absurd gets
-step rec meta past phase.Look (reply.Rows rows) n small moment e s gets = absurd gets
-step rec meta past (phase.Abort now) reply.Applied n small moment e (calls, expired, here, valid) gets =
-    (omega arith, omega arith, learns_aborted rec meta past (phase.Abort now) (record { reply = reply.Applied; now = n }) e (own_aborted_says meta.id now small valid))
-step rec meta past (phase.Abort now) (reply.NotMet (Some row)) n small moment e (calls, expired, here, valid) gets =
-    let key : row.key ≡ coordinator_key_of meta.id = gets.0 ∙ row-key meta.id decision.Aborted now in
-    row_rolls rec meta past (phase.Abort now) (record { reply = reply.NotMet (Some row); now = n }) row e (omega arith) key (λ at. refl) (row_says meta.id decision.Aborted row key)
-step rec meta past (phase.Abort now) (reply.NotMet None) n small moment e s gets = cc (gets.1)
-step rec meta past (phase.Abort now) reply.Fault n small moment e (calls, expired, here, valid) gets =
-    (omega arith, still_expired meta (record { reply = reply.Fault; now = n }) past (omega arith) expired, refl)
-step rec meta past (phase.Abort now) reply.NoMemory n small moment e (calls, expired, here, valid) gets = omega arith
-step rec meta past (phase.Abort now) (reply.Found o) n small moment e s gets = absurd gets
-step rec meta past (phase.Abort now) (reply.Rows rows) n small moment e s gets = absurd gets
-step rec meta past phase.Again (reply.Found (Some row)) n small moment e (calls, expired, faulted) gets =
-    row_rolls rec meta past phase.Again (record { reply = reply.Found (Some row); now = n }) row e (omega arith) gets (λ at. refl) (row_says meta.id decision.Aborted row gets)
-step rec meta past phase.Again (reply.Found None) n small moment e (calls, expired, faulted) gets = omega arith
-step rec meta past phase.Again reply.Fault n small moment e (calls, expired, faulted) gets = omega arith
-step rec meta past phase.Again reply.NoMemory n small moment e (calls, expired, faulted) gets = omega arith
-step rec meta past phase.Again reply.Applied n small moment e s gets = absurd gets
-step rec meta past phase.Again (reply.NotMet o) n small moment e s gets = absurd gets
-step rec meta past phase.Again (reply.Rows rows) n small moment e s gets = absurd gets
-step rec meta past (phase.Forward at) reply.Applied n small moment e (few, some, learned) gets = omega arith
-step rec meta past (phase.Forward at) (reply.NotMet o) n small moment e (few, some, learned) gets = omega arith
-step rec meta past (phase.Forward at) reply.Fault n small moment e (few, some, learned) gets = omega arith
-step rec meta past (phase.Forward at) reply.NoMemory n small moment e (few, some, learned) gets = omega arith
-step rec meta past (phase.Forward at) (reply.Found o) n small moment e (few, some, learned) gets = omega arith
-step rec meta past (phase.Forward at) (reply.Rows rows) n small moment e (few, some, learned) gets = omega arith
-step rec meta past phase.Back reply.Applied n small moment e (few, some, learned) gets = omega arith
-step rec meta past phase.Back (reply.NotMet o) n small moment e (few, some, learned) gets = omega arith
-step rec meta past phase.Back reply.Fault n small moment e (few, some, learned) gets = omega arith
-step rec meta past phase.Back reply.NoMemory n small moment e (few, some, learned) gets = omega arith
-step rec meta past phase.Back (reply.Found o) n small moment e (few, some, learned) gets = omega arith
-step rec meta past phase.Back (reply.Rows rows) n small moment e (few, some, learned) gets = omega arith
-step rec meta past phase.Ended r n small moment e s gets = absurd gets
+-- a call that ends it is the fourth at most
+ended_few : (rec : Record) (meta : Meta) (past : List Received) (d : RecoverPhase) (r : Reply) → RecoverInvariant rec meta past d → CanGet (recover_request_at rec meta d) r → length past ≤ 3
+ended_few rec meta past phase.Look r s gets = omega arith
+ended_few rec meta past (phase.Abort now) r (calls, expired, here, valid) gets = omega arith
+ended_few rec meta past phase.Again r (calls, expired, faulted) gets = omega arith
+ended_few rec meta past (phase.Forward at) r (few, some, learned) gets = few
+ended_few rec meta past phase.Back r (few, some, learned) gets = few
+ended_few rec meta past phase.Ended r s gets = absurd gets
+
+-- the invariant after one reply more
+abbrev KeepsInvariant : Record → Meta → List Received → ℤ → RecoverPhase → Reply → RecoverPhase × RecoverStep → Type 0
+KeepsInvariant rec meta past n d r x =
+    recover_after rec meta past ≡ d → RecoverInvariant rec meta past d → CanGet (recover_request_at rec meta d) r → RecoverInvariant rec meta (record { reply = r; now = n } ∷ past) x.0
+
+step : (rec : Record) (meta : Meta) (past : List Received) → meta.id.0 < 2 ^ 128 → (n : ℤ) → is_moment n ≡ true → (d : RecoverPhase) (r : Reply) → KeepsInvariant rec meta past n d r (recover_next rec meta d n r)
+step rec meta past small n moment =
+    by_rows rec meta n (KeepsInvariant rec meta past n)
+    (record {
+      look_row = λ row e s gets. row_rolls rec meta past phase.Look (record { reply = reply.Found (Some row); now = n }) row e (omega arith) gets (λ at. refl) (row_says meta.id decision.Aborted row gets);
+      look_none = λ e s gets. expires rec meta past n (is_expired meta.prepared_at n) s moment refl;
+      abort_applied = λ now e s gets. let (calls, expired, here, valid) = s in (omega arith, omega arith, learns_aborted rec meta past (phase.Abort now) (record { reply = reply.Applied; now = n }) e (own_aborted_says meta.id now small valid));
+      abort_row = λ now row e s gets.
+          let (calls, expired, here, valid) = s in
+          let key : row.key ≡ coordinator_key_of meta.id = gets.0 ∙ row-key meta.id decision.Aborted now in
+          row_rolls rec meta past (phase.Abort now) (record { reply = reply.NotMet (Some row); now = n }) row e (omega arith) key (λ at. refl) (row_says meta.id decision.Aborted row key);
+      abort_fault = λ now e s gets. let (calls, expired, here, valid) = s in (omega arith, still_expired meta (record { reply = reply.Fault; now = n }) past (omega arith) expired, refl);
+      again_row = λ row e s gets. let (calls, expired, faulted) = s in row_rolls rec meta past phase.Again (record { reply = reply.Found (Some row); now = n }) row e (omega arith) gets (λ at. refl) (row_says meta.id decision.Aborted row gets);
+      again_none = λ e s gets. let (calls, expired, faulted) = s in omega arith;
+      forward = λ at r is e s gets. let (few, some, learned) = s in omega arith;
+      back = λ r is e s gets. let (few, some, learned) = s in omega arith;
+      fault = λ d e s gets. let few : length past ≤ 3 = ended_few rec meta past d reply.Fault s gets in omega arith;
+      no_memory = λ d r e s gets. let few : length past ≤ 3 = ended_few rec meta past d r s gets in omega arith;
+    })
 
 pub recover_stands : (rec : Record) (meta : Meta) (past : List Received) → meta.id.0 < 2 ^ 128 → AreRecoverReplies rec meta past → RecoverInvariant rec meta past (recover_after rec meta past)
 recover_stands rec meta [] small correct = refl
 recover_stands rec meta (c ∷ past) small (correct, gets, moment) =
-    step rec meta past (recover_after rec meta past) c.reply c.now small moment refl (recover_stands rec meta past small correct) gets
+    step rec meta past small c.now moment (recover_after rec meta past) c.reply refl (recover_stands rec meta past small correct) gets
 
 stands_at : (rec : Record) (meta : Meta) (past : List Received) (d : RecoverPhase) → meta.id.0 < 2 ^ 128 → AreRecoverReplies rec meta past → recover_after rec meta past ≡ d → RecoverInvariant rec meta past d
 stands_at rec meta past d small correct e = subst (RecoverInvariant rec meta past) e (recover_stands rec meta past small correct)

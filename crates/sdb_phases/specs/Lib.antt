@@ -7,3 +7,4 @@ pub mod CommitLaws
 pub mod Recover
 pub mod RecoverLaws
 pub mod Run
+pub mod RecoverCalls

@@ -2,19 +2,18 @@
 use Rattle.std.proofs.Common.{◌≡◌, ℕ, ℤ, Bool, true, false, List, [], ◌∷◌, ◌++◌, Option, Some, None, Result, Ok, Err, refl, sym, ap, subst}
 use Rattle.std.specs.Prelude.{if◌then◌else◌}
 use Rattle.std.proofs.lemmas.List.{append_assoc, append-nil}
-use Rattle.sdb_txn.specs.Types.{Decided, Decision, Meta, Record, RecoverPhase, RecoverStep, Reply, Request}
+use Rattle.sdb_txn.specs.Types.{Meta, Record, RecoverPhase, RecoverStep, Reply, Request}
 use Rattle.sdb_types.specs.declared.record.Reply.TheVariants as reply
 use Rattle.sdb_types.specs.declared.record.Request.TheVariants as ask
 use Rattle.sdb_types.specs.declared.record.State.TheVariants as state
-use Rattle.sdb_record.specs.declared.coordinator.Decision.TheVariants as decision
-use Rattle.sdb_record.specs.Coordinator.{decision_in, is_expired}
 use Rattle.sdb_record.specs.Meta.{checked, is_in, is_transactional, is_unresolved}
 use Rattle.sdb_record.specs.Parts.{before_record}
 use Rattle.sdb_record.specs.Rolls.{IsBaseOf, AreCommitted}
 use Rattle.sdb_phases.specs.declared.step.RecoverStep.TheVariants as steps
 use Rattle.sdb_phases.specs.declared.step.RecoverPhase.TheVariants as phase
-use Rattle.sdb_phases.specs.Recover.{recover_next, roll_to, row_followed, undecided}
+use Rattle.sdb_phases.specs.Recover.{recover_next, row_followed}
 use Rattle.sdb_phases.specs.Steps.{CanGet}
+use Rattle.sdb_phases.proofs.Public.{by_expiry, by_row, by_rows}
 use Rattle.sdb_txn.specs.Read.{Kind, Firm, Open, Bad, ReadStage, Asking, Resolving, Ended, answered, kind_of, opened, read_pending_at, read_step, resolved, settle, settle_one}
 use Rattle.sdb_txn.specs.Rows.{sort_of}
 use Rattle.sdb_txn.specs.Valid.{AreWithin, IsValid, IsPhase}
@@ -75,22 +74,7 @@ IsFineNext rec (p, steps.Image (Some b)) = IsBaseOf rec.key b
 IsFineNext rec (p, s) = Unit {0}
 
 followed_fine : (rec : Record) (meta : Meta) (row : Record) → IsFineNext rec (row_followed meta row)
-followed_fine rec meta row = by (decision_in row) refl
-  where
-    to : (d : Decided) → decision_in row ≡ Ok d → (x : Decision) → IsFineNext rec (elim x [ decision.Committed ↦ (phase.Forward d.created_at, steps.More) | decision.Aborted ↦ (phase.Back, steps.More) ])
-    to d e decision.Committed = decided_at row d e
-    to d e decision.Aborted = tt
-
-    by : (o : Result Decided (List ℕ)) → decision_in row ≡ o → IsFineNext rec (roll_to meta o)
-    by (Ok d) e = to d e d.decision
-    by (Err column) e = tt
-
-undecided_fine : (rec : Record) (meta : Meta) (now : ℤ) → IsFineNext rec (undecided meta now)
-undecided_fine rec meta now = by (is_expired meta.prepared_at now)
-  where
-    by : (b : Bool) → IsFineNext rec (if b then (phase.Abort now, steps.More) else (phase.Ended, steps.Busy meta.id meta.prepared_at))
-    by true = tt
-    by false = tt
+followed_fine rec meta row = by_row meta row (IsFineNext rec) (λ d says is. decided_at row d says) (λ d says is. tt) (λ column says. tt)
 
 before_fine : (rec : Record) → is_unresolved rec ≡ true → IsFineNext rec (phase.Ended, steps.Image (before_record rec))
 before_fine rec loose = by (before_record rec) refl
@@ -99,41 +83,22 @@ before_fine rec loose = by (before_record rec) refl
     by None e = tt
     by (Some b) e = before_firm rec b loose e
 
-next_fine : (rec : Record) (meta : Meta) (p : RecoverPhase) (now : ℤ) (r : Reply) → is_unresolved rec ≡ true → IsPhase p → IsFineNext rec (recover_next rec meta p now r)
-next_fine rec meta phase.Look now (reply.Found None) loose h = undecided_fine rec meta now
-next_fine rec meta phase.Look now (reply.Found (Some row)) loose h = followed_fine rec meta row
-next_fine rec meta phase.Look now (reply.Rows rows) loose h = tt
-next_fine rec meta phase.Look now reply.Applied loose h = tt
-next_fine rec meta phase.Look now (reply.NotMet found) loose h = tt
-next_fine rec meta phase.Look now reply.Fault loose h = tt
-next_fine rec meta phase.Look now reply.NoMemory loose h = tt
-next_fine rec meta (phase.Abort moment) now (reply.Found found) loose h = tt
-next_fine rec meta (phase.Abort moment) now (reply.Rows rows) loose h = tt
-next_fine rec meta (phase.Abort moment) now reply.Applied loose h = tt
-next_fine rec meta (phase.Abort moment) now (reply.NotMet None) loose h = tt
-next_fine rec meta (phase.Abort moment) now (reply.NotMet (Some row)) loose h = followed_fine rec meta row
-next_fine rec meta (phase.Abort moment) now reply.Fault loose h = tt
-next_fine rec meta (phase.Abort moment) now reply.NoMemory loose h = tt
-next_fine rec meta phase.Again now (reply.Found None) loose h = tt
-next_fine rec meta phase.Again now (reply.Found (Some row)) loose h = followed_fine rec meta row
-next_fine rec meta phase.Again now (reply.Rows rows) loose h = tt
-next_fine rec meta phase.Again now reply.Applied loose h = tt
-next_fine rec meta phase.Again now (reply.NotMet found) loose h = tt
-next_fine rec meta phase.Again now reply.Fault loose h = tt
-next_fine rec meta phase.Again now reply.NoMemory loose h = tt
-next_fine rec meta (phase.Forward at) now (reply.Found found) loose h = tt
-next_fine rec meta (phase.Forward at) now (reply.Rows rows) loose h = tt
-next_fine rec meta (phase.Forward at) now reply.Applied loose h = forward_firm rec at loose h
-next_fine rec meta (phase.Forward at) now (reply.NotMet found) loose h = forward_firm rec at loose h
-next_fine rec meta (phase.Forward at) now reply.Fault loose h = tt
-next_fine rec meta (phase.Forward at) now reply.NoMemory loose h = tt
-next_fine rec meta phase.Back now (reply.Found found) loose h = tt
-next_fine rec meta phase.Back now (reply.Rows rows) loose h = tt
-next_fine rec meta phase.Back now reply.Applied loose h = before_fine rec loose
-next_fine rec meta phase.Back now (reply.NotMet found) loose h = before_fine rec loose
-next_fine rec meta phase.Back now reply.Fault loose h = tt
-next_fine rec meta phase.Back now reply.NoMemory loose h = tt
-next_fine rec meta phase.Ended now r loose h = tt
+next_fine : (rec : Record) (meta : Meta) → is_unresolved rec ≡ true → (p : RecoverPhase) (now : ℤ) (r : Reply) → IsPhase p → IsFineNext rec (recover_next rec meta p now r)
+next_fine rec meta loose p now r =
+    by_rows rec meta now (λ p r n. IsPhase p → IsFineNext rec n)
+    (record {
+      look_row = λ row h. followed_fine rec meta row;
+      look_none = λ h. by_expiry meta now (IsFineNext rec) (λ is. tt) (λ is. tt);
+      abort_applied = λ moment h. tt;
+      abort_row = λ moment row h. followed_fine rec meta row;
+      abort_fault = λ moment h. tt;
+      again_row = λ row h. followed_fine rec meta row;
+      again_none = λ h. tt;
+      forward = λ at r is h. forward_firm rec at loose h;
+      back = λ r is h. before_fine rec loose;
+      fault = λ p h. tt;
+      no_memory = λ p r h. tt;
+    }) p r
 
 resolved_fine : (q : Request) (images : List Record) (rec : Record) (meta : Meta) (left : List Record) (n : RecoverPhase × RecoverStep) → AreCommitted images → AreWithin q (images ++ rec ∷ left) → is_unresolved rec ≡ true → checked rec.columns ≡ Ok meta → IsFineNext rec n → IsValid q (resolved images rec meta left n)
 resolved_fine q images rec meta left (p, steps.More) f place loose says h = (f, place, loose, says, h)
@@ -148,5 +113,5 @@ resolved_fine q images rec meta left (p, steps.NoMemory) f place loose says h = 
 pub step_fine : (q : Request) (s : ReadStage) (now : ℤ) (r : Reply) → IsValid q s → CanGet (read_pending_at q s) r → IsValid q (read_step s now r)
 step_fine q Asking now r f h = answered_fine q r h
 step_fine q (Resolving images rec meta p left) now r f h =
-    resolved_fine q images rec meta left (recover_next rec meta p now r) f.0 f.1 f.2 f.3 (next_fine rec meta p now r f.2 f.4)
+    resolved_fine q images rec meta left (recover_next rec meta p now r) f.0 f.1 f.2 f.3 (next_fine rec meta f.2 p now r f.4)
 step_fine q (Ended s) now r f h = absurd h

@@ -6,7 +6,6 @@ pub use Rattle.sdb_phases.specs.declared.step.RecoverStep.{RecoverStep}
 pub use Rattle.sdb_phases.specs.declared.step.ValidateStep.{ValidateStep}
 pub use Rattle.sdb_record.specs.declared.access.Access.{Access}
 pub use Rattle.sdb_record.specs.declared.coordinator.Decided.{Decided}
-pub use Rattle.sdb_record.specs.declared.coordinator.Decision.{Decision}
 pub use Rattle.sdb_record.specs.declared.meta.Meta.{Meta}
 pub use Rattle.sdb_types.specs.declared.key.Key.{Key}
 pub use Rattle.sdb_types.specs.declared.record.Record.{Record}

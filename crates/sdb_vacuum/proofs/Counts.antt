@@ -1,26 +1,26 @@
 -- How many calls a VACUUM makes, and how many tombstones it removes.
-use Rattle.std.proofs.Common.{◌≡◌, ℕ, ℤ, suc, ◌+◌, ◌*◌, ◌≤◌, Bool, true, false, cond, ◌&&◌, List, [], ◌∷◌, ◌++◌, length, Option, Some, None, Result, Ok, Err, refl, sym, ap, subst, ◌∙◌, arith}
-use Rattle.std.specs.Prelude.{if◌then◌else◌, not}
+use Rattle.std.proofs.Common.{◌≡◌, ℕ, ℤ, suc, ◌+◌, ◌*◌, ◌≤◌, Bool, true, false, cond, ◌&&◌, List, [], ◌∷◌, ◌++◌, length, Option, Some, None, Ok, refl, sym, ap, subst, ◌∙◌, arith}
+use Rattle.std.specs.Prelude.{if◌then◌else◌, is_some, not}
 use Rattle.std.specs.Option.{option_map}
 use Rattle.std.specs.List.{filter}
 use Rattle.std.proofs.lemmas.List.{length-append, length-map}
 use Rattle.std.proofs.lemmas.List.Elements.{filter-append}
-use Rattle.sdb_vacuum.specs.Types.{Decided, Meta, Record, RecoverPhase, RecoverStep, Reply, Request, Span, Table, TxId}
+use Rattle.sdb_vacuum.specs.Types.{Meta, Record, RecoverPhase, RecoverStep, Reply, Request, Span, Table, TxId}
 use Rattle.sdb_types.specs.declared.record.Reply.TheVariants as reply
 use Rattle.sdb_types.specs.declared.record.Request.TheVariants as ask
 use Rattle.sdb_types.specs.declared.record.Condition.TheVariants as condition
 use Rattle.sdb_types.specs.declared.record.State.TheVariants as state
 use Rattle.sdb_types.proofs.Public.{and_second}
-use Rattle.sdb_record.specs.declared.coordinator.Decision.TheVariants as decision
-use Rattle.sdb_record.specs.Coordinator.{decision_in, is_expired}
 use Rattle.sdb_record.specs.Meta.{checked, id_in, is_committed, is_in, is_transactional, is_unresolved}
 use Rattle.sdb_record.specs.Parts.{before_record}
 use Rattle.sdb_record.specs.Rolls.{IsBaseOf, is_tombstone, AreCommitted, remove_request, undo}
 use Rattle.sdb_record.proofs.Public.{checked-state}
 use Rattle.sdb_phases.specs.declared.step.RecoverStep.TheVariants as steps
 use Rattle.sdb_phases.specs.declared.step.RecoverPhase.TheVariants as recover
-use Rattle.sdb_phases.specs.Recover.{Received, recover_next, recover_request_at, roll_to, is_as_found, undecided}
+use Rattle.sdb_phases.specs.Recover.{Received, recover_next, recover_request_at, is_as_found}
+use Rattle.sdb_phases.specs.RecoverCalls.{calls_left}
 use Rattle.sdb_phases.specs.Steps.{CanGet}
+use Rattle.sdb_phases.proofs.Public.{IsNearer, recover_nearer}
 use Rattle.sdb_txn.specs.Read.{Kind, Firm, Open, Bad, kind_of}
 use Rattle.sdb_vacuum.specs.declared.work.VacuumStep.{VacuumStep}
 use Rattle.sdb_vacuum.specs.declared.work.VacuumStep.TheVariants as step
@@ -38,18 +38,10 @@ first_weight (Tombstone b left) = 1 + 5 * length left
 first_weight (Unresolved r meta left) = 5 + 5 * length left
 first_weight (Malformed key) = 0
 
-abbrev phase_weight : RecoverPhase → ℕ
-phase_weight recover.Look = 4
-phase_weight (recover.Abort now) = 3
-phase_weight recover.Again = 2
-phase_weight (recover.Forward at) = 1
-phase_weight recover.Back = 1
-phase_weight recover.Ended = 0
-
 -- how many calls a stage may still make, without those for other tables
 abbrev stage_weight : VacuumStage → ℕ
 stage_weight (Scanning span) = 1
-stage_weight (Resolving rec meta p left) = phase_weight p + (1 + 5 * length left)
+stage_weight (Resolving rec meta p left) = calls_left p + (1 + 5 * length left)
 stage_weight (Removing b left) = 1 + 5 * length left
 stage_weight Over = 0
 
@@ -100,53 +92,9 @@ image_light ss n left b = by (is_tombstone b)
     by true = omega arith
     by false = let h = on_light ss n left in omega arith
 
--- a recovery that goes on has one call less to make
-abbrev IsNearer : ℕ → RecoverPhase × RecoverStep → Type 0
-IsNearer m (p, steps.More) = suc (phase_weight p) ≤ m
-IsNearer m (p, s) = 1 ≤ m
-
-roll_nearer : (meta : Meta) (o : Result Decided (List ℕ)) (m : ℕ) → 2 ≤ m → IsNearer m (roll_to meta o)
-roll_nearer meta (Err column) m h = omega arith
-roll_nearer meta (Ok d) m h = elim d.decision as (λ x. IsNearer m (elim x [ decision.Committed ↦ (recover.Forward d.created_at, steps.More) | decision.Aborted ↦ (recover.Back, steps.More) ])) [ decision.Committed ↦ h | decision.Aborted ↦ h ]
-
-undecided_nearer : (meta : Meta) (now : ℤ) → IsNearer 4 (undecided meta now)
-undecided_nearer meta now = elim (is_expired meta.prepared_at now) as (λ b. IsNearer 4 (cond b (recover.Abort now, steps.More) (recover.Ended, steps.Busy meta.id meta.prepared_at))) [ true ↦ omega arith | false ↦ omega arith ]
-
-recover_nearer : (rec : Record) (meta : Meta) (p : RecoverPhase) (now : ℤ) (r : Reply) → CanGet (recover_request_at rec meta p) r → IsNearer (phase_weight p) (recover_next rec meta p now r)
-recover_nearer rec meta recover.Look now (reply.Found None) e = undecided_nearer meta now
-recover_nearer rec meta recover.Look now (reply.Found (Some row)) e = roll_nearer meta (decision_in row) 4 (omega arith)
-recover_nearer rec meta recover.Look now (reply.Rows rows) e = omega arith
-recover_nearer rec meta recover.Look now reply.Applied e = omega arith
-recover_nearer rec meta recover.Look now (reply.NotMet found) e = omega arith
-recover_nearer rec meta recover.Look now reply.Fault e = omega arith
-recover_nearer rec meta recover.Look now reply.NoMemory e = omega arith
-recover_nearer rec meta (recover.Abort m) now (reply.Found found) e = omega arith
-recover_nearer rec meta (recover.Abort m) now (reply.Rows rows) e = omega arith
-recover_nearer rec meta (recover.Abort m) now reply.Applied e = omega arith
-recover_nearer rec meta (recover.Abort m) now (reply.NotMet None) e = omega arith
-recover_nearer rec meta (recover.Abort m) now (reply.NotMet (Some row)) e = roll_nearer meta (decision_in row) 3 (omega arith)
-recover_nearer rec meta (recover.Abort m) now reply.Fault e = omega arith
-recover_nearer rec meta (recover.Abort m) now reply.NoMemory e = omega arith
-recover_nearer rec meta recover.Again now (reply.Found None) e = omega arith
-recover_nearer rec meta recover.Again now (reply.Found (Some row)) e = roll_nearer meta (decision_in row) 2 (omega arith)
-recover_nearer rec meta recover.Again now (reply.Rows rows) e = omega arith
-recover_nearer rec meta recover.Again now reply.Applied e = omega arith
-recover_nearer rec meta recover.Again now (reply.NotMet found) e = omega arith
-recover_nearer rec meta recover.Again now reply.Fault e = omega arith
-recover_nearer rec meta recover.Again now reply.NoMemory e = omega arith
-recover_nearer rec meta (recover.Forward m) now (reply.Found found) e = omega arith
-recover_nearer rec meta (recover.Forward m) now (reply.Rows rows) e = omega arith
-recover_nearer rec meta (recover.Forward m) now reply.Applied e = omega arith
-recover_nearer rec meta (recover.Forward m) now (reply.NotMet found) e = omega arith
-recover_nearer rec meta (recover.Forward m) now reply.Fault e = omega arith
-recover_nearer rec meta (recover.Forward m) now reply.NoMemory e = omega arith
-recover_nearer rec meta recover.Back now (reply.Found found) e = omega arith
-recover_nearer rec meta recover.Back now (reply.Rows rows) e = omega arith
-recover_nearer rec meta recover.Back now reply.Applied e = omega arith
-recover_nearer rec meta recover.Back now (reply.NotMet found) e = omega arith
-recover_nearer rec meta recover.Back now reply.Fault e = omega arith
-recover_nearer rec meta recover.Back now reply.NoMemory e = omega arith
-recover_nearer rec meta recover.Ended now r e = absurd e
+can_get_some : (o : Option Request) (r : Reply) → CanGet o r → is_some o ≡ true
+can_get_some None r h = absurd h
+can_get_some (Some q) r h = refl
 
 resolved_light : (ss : List Span) (n : ℕ) (rec : Record) (meta : Meta) (left : List Record) (m : ℕ) (x : RecoverPhase × RecoverStep) → IsNearer m x → suc (weight (resolved ss n rec meta left x).0) ≤ m + (1 + 5 * length left) + length ss
 resolved_light ss n rec meta left m (p, steps.More) h = omega arith
@@ -167,7 +115,7 @@ removal_light ss n left reply.NoMemory = omega arith
 
 step_light : (ss : List Span) (n : ℕ) (s : VacuumStage) (now : ℤ) (r : Reply) → CanGet (pending_at s) r → suc (weight (step_at ss n s now r).0) ≤ stage_weight s + length ss + 5 * length (rows_in r)
 step_light ss n (Scanning span) now r h = let k = answered_light ss n r in omega arith
-step_light ss n (Resolving rec meta p left) now r h = let k = resolved_light ss n rec meta left (phase_weight p) (recover_next rec meta p now r) (recover_nearer rec meta p now r h) in omega arith
+step_light ss n (Resolving rec meta p left) now r h = let k = resolved_light ss n rec meta left (calls_left p) (recover_next rec meta p now r) (recover_nearer rec meta p now r (can_get_some (recover_request_at rec meta p) r h)) in omega arith
 step_light ss n (Removing b left) now r h = let k = removal_light ss n left r in omega arith
 step_light ss n Over now r h = absurd h
 

@@ -1,17 +1,17 @@
 -- What a VACUUM knows of its replies, and why it ends.
-use Rattle.std.proofs.Common.{◌≡◌, ℕ, ℤ, ◌+◌, Bool, true, false, cond, List, [], ◌∷◌, ◌++◌, Some, None, Result, Ok, Err, refl, sym, ap, subst, ◌∙◌, inl, inr}
+use Rattle.std.proofs.Common.{◌≡◌, ℕ, ℤ, ◌+◌, Bool, true, false, List, [], ◌∷◌, ◌++◌, Some, None, Result, Ok, Err, refl, sym, ap, subst, ◌∙◌, inl, inr}
 use Rattle.std.specs.Prelude.{if◌then◌else◌, is_err, is_ok, not}
 use Rattle.std.specs.List.{list_any}
 use Rattle.std.specs.Ordering.{is_eq}
 use Rattle.std.proofs.lemmas.Cmp.{eq_by_cmp_equiv}
 use Rattle.std.proofs.lemmas.List.Folds.{list_any-append}
-use Rattle.sdb_vacuum.specs.Types.{Decided, Key, Meta, Record, RecoverPhase, RecoverStep, Reply, Span, Table}
+use Rattle.sdb_vacuum.specs.Types.{Key, Meta, Record, RecoverPhase, RecoverStep, Reply, Span, Table}
 use Rattle.sdb_types.specs.declared.record.Reply.TheVariants as reply
 use Rattle.sdb_types.specs.declared.record.State.TheVariants as state
 use Rattle.sdb_types.specs.Order.{key_cmp}
 use Rattle.sdb_types.proofs.Public.{and_both, and_second, key_total, or_first, or_second}
 use Rattle.sdb_record.specs.declared.coordinator.Decision.TheVariants as decision
-use Rattle.sdb_record.specs.Coordinator.{coordinator_key_of, decision_in, is_expired}
+use Rattle.sdb_record.specs.Coordinator.{coordinator_key_of}
 use Rattle.sdb_record.specs.Meta.{checked, is_in, is_transactional}
 use Rattle.sdb_record.specs.Parts.{are_stored}
 use Rattle.sdb_record.specs.Rolls.{is_tombstone}
@@ -19,10 +19,10 @@ use Rattle.sdb_record.proofs.Public.{row-key}
 use Rattle.sdb_phases.specs.declared.step.RecoverStep.TheVariants as steps
 use Rattle.sdb_phases.specs.declared.step.RecoverPhase.TheVariants as recover
 use Rattle.sdb_phases.specs.CommitLaws.{holds_malformed, is_malformed}
-use Rattle.sdb_phases.specs.Recover.{Received, recover_next, recover_request_at, roll_to, undecided}
+use Rattle.sdb_phases.specs.Recover.{Received, recover_next, recover_request_at, row_followed}
+use Rattle.sdb_phases.proofs.Public.{by_expiry, by_row, by_rows, row_malformed}
 use Rattle.sdb_phases.specs.RecoverLaws.{received_fault}
 use Rattle.sdb_phases.specs.Steps.{CanGet}
-use Rattle.sdb_phases.proofs.Public.{row_malformed}
 use Rattle.sdb_txn.specs.Read.{Kind, Firm, Open, Bad, kind_of, opened}
 use Rattle.sdb_vacuum.specs.declared.work.VacuumStep.{VacuumStep}
 use Rattle.sdb_vacuum.specs.declared.work.VacuumStep.TheVariants as step
@@ -147,51 +147,30 @@ RecoverSo past (p, steps.BadRecord key) = HoldsBadRow key past
 RecoverSo past (p, steps.NoMemory) = Unit {0}
 
 -- a row that was found is followed, or isn't well formed
-rolls_so : (c : Received) (past : List Received) (meta : Meta) (o : Result Decided (List ℕ)) → (is_err o ≡ true → holds_malformed meta.id c.reply ≡ true) → RecoverSo (c ∷ past) (roll_to meta o)
-rolls_so c past meta (Err column) h = (meta.id, refl, h refl)
-rolls_so c past meta (Ok d) h = elim d.decision as (λ x. RecoverSo (c ∷ past) (elim x [ decision.Committed ↦ (recover.Forward d.created_at, steps.More) | decision.Aborted ↦ (recover.Back, steps.More) ])) [ decision.Committed ↦ tt | decision.Aborted ↦ tt ]
+row_so : (c : Received) (past : List Received) (meta : Meta) (row : Record) → row.key ≡ coordinator_key_of meta.id → holds_malformed meta.id c.reply ≡ is_malformed meta.id row → RecoverSo (c ∷ past) (row_followed meta row)
+row_so c past meta row key holds =
+    by_row meta row (RecoverSo (c ∷ past)) (λ d says is. tt) (λ d says is. tt) (λ column says. (meta.id, refl, holds ∙ row_malformed meta.id row key (ap is_err says)))
 
-row_so : (c : Received) (past : List Received) (meta : Meta) (row : Record) → row.key ≡ coordinator_key_of meta.id → holds_malformed meta.id c.reply ≡ is_malformed meta.id row → RecoverSo (c ∷ past) (roll_to meta (decision_in row))
-row_so c past meta row key holds = rolls_so c past meta (decision_in row) (λ is. holds ∙ row_malformed meta.id row key is)
+-- what is so after one reply more
+abbrev RecoverKeeps : List Received → Record → Meta → ℤ → RecoverPhase → Reply → RecoverPhase × RecoverStep → Type 0
+RecoverKeeps past rec meta now p r n = WasFault past p → CanGet (recover_request_at rec meta p) r → RecoverSo (record { reply = r; now = now } ∷ past) n
 
-waits_so : (past : List Received) (meta : Meta) (now : ℤ) → RecoverSo past (undecided meta now)
-waits_so past meta now = elim (is_expired meta.prepared_at now) as (λ b. RecoverSo past (cond b (recover.Abort now, steps.More) (recover.Ended, steps.Busy meta.id meta.prepared_at))) [ true ↦ tt | false ↦ tt ]
-
-recover_so : (past : List Received) (rec : Record) (meta : Meta) (p : RecoverPhase) (now : ℤ) (r : Reply) → WasFault past p → CanGet (recover_request_at rec meta p) r → RecoverSo (record { reply = r; now = now } ∷ past) (recover_next rec meta p now r)
-recover_so past rec meta recover.Look now (reply.Found None) f h = waits_so (record { reply = reply.Found None; now = now } ∷ past) meta now
-recover_so past rec meta recover.Look now (reply.Found (Some row)) f h = row_so (record { reply = reply.Found (Some row); now = now }) past meta row h refl
-recover_so past rec meta recover.Look now (reply.Rows rows) f h = tt
-recover_so past rec meta recover.Look now reply.Applied f h = tt
-recover_so past rec meta recover.Look now (reply.NotMet found) f h = tt
-recover_so past rec meta recover.Look now reply.Fault f h = refl
-recover_so past rec meta recover.Look now reply.NoMemory f h = tt
-recover_so past rec meta (recover.Abort m) now (reply.Found found) f h = tt
-recover_so past rec meta (recover.Abort m) now (reply.Rows rows) f h = tt
-recover_so past rec meta (recover.Abort m) now reply.Applied f h = tt
-recover_so past rec meta (recover.Abort m) now (reply.NotMet None) f h = tt
-recover_so past rec meta (recover.Abort m) now (reply.NotMet (Some row)) f h = row_so (record { reply = reply.NotMet (Some row); now = now }) past meta row (h.0 ∙ row-key meta.id decision.Aborted m) refl
-recover_so past rec meta (recover.Abort m) now reply.Fault f h = refl
-recover_so past rec meta (recover.Abort m) now reply.NoMemory f h = tt
-recover_so past rec meta recover.Again now (reply.Found None) f h = fault_later (record { reply = reply.Found None; now = now }) past f
-recover_so past rec meta recover.Again now (reply.Found (Some row)) f h = row_so (record { reply = reply.Found (Some row); now = now }) past meta row h refl
-recover_so past rec meta recover.Again now (reply.Rows rows) f h = tt
-recover_so past rec meta recover.Again now reply.Applied f h = tt
-recover_so past rec meta recover.Again now (reply.NotMet found) f h = tt
-recover_so past rec meta recover.Again now reply.Fault f h = refl
-recover_so past rec meta recover.Again now reply.NoMemory f h = tt
-recover_so past rec meta (recover.Forward m) now (reply.Found found) f h = tt
-recover_so past rec meta (recover.Forward m) now (reply.Rows rows) f h = tt
-recover_so past rec meta (recover.Forward m) now reply.Applied f h = tt
-recover_so past rec meta (recover.Forward m) now (reply.NotMet found) f h = tt
-recover_so past rec meta (recover.Forward m) now reply.Fault f h = refl
-recover_so past rec meta (recover.Forward m) now reply.NoMemory f h = tt
-recover_so past rec meta recover.Back now (reply.Found found) f h = tt
-recover_so past rec meta recover.Back now (reply.Rows rows) f h = tt
-recover_so past rec meta recover.Back now reply.Applied f h = tt
-recover_so past rec meta recover.Back now (reply.NotMet found) f h = tt
-recover_so past rec meta recover.Back now reply.Fault f h = refl
-recover_so past rec meta recover.Back now reply.NoMemory f h = tt
-recover_so past rec meta recover.Ended now r f h = absurd h
+recover_so : (past : List Received) (rec : Record) (meta : Meta) (p : RecoverPhase) (now : ℤ) (r : Reply) → RecoverKeeps past rec meta now p r (recover_next rec meta p now r)
+recover_so past rec meta p now r =
+    by_rows rec meta now (RecoverKeeps past rec meta now)
+    (record {
+      look_row = λ row f h. row_so (record { reply = reply.Found (Some row); now = now }) past meta row h refl;
+      look_none = λ f h. by_expiry meta now (RecoverSo (record { reply = reply.Found None; now = now } ∷ past)) (λ is. tt) (λ is. tt);
+      abort_applied = λ m f h. tt;
+      abort_row = λ m row f h. row_so (record { reply = reply.NotMet (Some row); now = now }) past meta row (h.0 ∙ row-key meta.id decision.Aborted m) refl;
+      abort_fault = λ m f h. refl;
+      again_row = λ row f h. row_so (record { reply = reply.Found (Some row); now = now }) past meta row h refl;
+      again_none = λ f h. fault_later (record { reply = reply.Found None; now = now }) past f;
+      forward = λ at r is f h. tt;
+      back = λ r is f h. tt;
+      fault = λ p f h. refl;
+      no_memory = λ p r f h. tt;
+    }) p r
 
 resolved_so : (past : List Received) (ss : List Span) (n : ℕ) (rec : Record) (meta : Meta) (left : List Record) (x : RecoverPhase × RecoverStep) → AreHeard past left → RecoverSo past x → SoFar past (resolved ss n rec meta left x)
 resolved_so past ss n rec meta left (p, steps.More) h k = ((k, h), tt)

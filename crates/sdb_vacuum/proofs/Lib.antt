@@ -1,5 +1,4 @@
 mod Firm
-mod Asks
 mod Fine
 mod Counts
 mod Spans

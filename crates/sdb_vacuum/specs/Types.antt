@@ -1,7 +1,6 @@
 -- The types of other crates that this crate speaks of.
 pub use Rattle.sdb_phases.specs.declared.step.RecoverPhase.{RecoverPhase}
 pub use Rattle.sdb_phases.specs.declared.step.RecoverStep.{RecoverStep}
-pub use Rattle.sdb_record.specs.declared.coordinator.Decided.{Decided}
 pub use Rattle.sdb_record.specs.declared.meta.Meta.{Meta}
 pub use Rattle.sdb_schema.specs.declared.table.Table.{Table}
 pub use Rattle.sdb_types.specs.declared.key.Key.{Key}
