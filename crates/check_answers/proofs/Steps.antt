@@ -7,6 +7,7 @@ use Rattle.check_answers.specs.Types.{Answer, ClientSlot, Event, Gate, Reply, Re
 use Rattle.sdb_types.specs.Contents.{CanAnswer}
 use Rattle.sdb_model.specs.Follows.{texts_of}
 use Rattle.sdb_client.specs.Client.{ClientAt, IsIdle, ReplyPost, client_pending, next_id, TextStep}
+use Rattle.sdb_client.proofs.Public.{step_of_reply, step_of_text}
 use Rattle.sdb_client.specs.Execution.{CallStep, IsGateAt, State, TakeStep, client_after, with_client_at}
 use Rattle.sdb_model.specs.Calls.{is_stored_reply}
 
@@ -25,7 +26,7 @@ took script s c at client_slot gate text answer client number low goes read idle
   next = subst (λ n. slice_get (texts_of script.clients n) client_slot.accepted ≡ Some text) (sym number) next;
   gated = gated;
   small = small;
-  takes = takes;
+  takes = step_of_text (record { catalog = script.catalog; now = s.clock; gate = gate; fresh = next_id client_slot.client }) text client_slot.client answer client takes;
   left = refl;
 }
   where
@@ -45,7 +46,7 @@ called s v c at client_slot q r answer client number low goes read pending can s
   pending = pending;
   can = can;
   stored = stored;
-  takes = takes;
+  takes = step_of_reply client_slot.client q r s.clock pending answer client takes;
   left = left ∙ ap (λ n. with_client_at s at (record { client = client; accepted = n; stopped = client_slot.stopped })) (sym (add-zero client_slot.accepted));
 }
   where

@@ -38,7 +38,7 @@ use Rattle.sdb_phases.specs.Steps.{decide_next, decide_request_at, judged, prepa
 use Rattle.sdb_phases.specs.Work.{Work, abort_of, back_of, backs, decide_of, forward_of, forwards, look_of, prepare_of}
 use Rattle.sdb_phases.specs.Work as work
 use Rattle.law_clients.proofs.Public.{each_at, each_map}
-use Rattle.law_clients.specs.System.{answer_of_outcome}
+use Rattle.sdb_client.specs.Step.{answer_of_outcome}
 use Rattle.law_answers.specs.Commits.{EndsBy}
 use Rattle.law_answers.specs.Counts.{AllPut, CommitCounted, CommitIsCounted, HasPut, NoneFaulted, ReadItemsAre, decides, keys_got, later_by, wanted_by}
 use Rattle.law_answers.proofs.Conflicts.{key_turned, mapped_at, prepared_is, row_unprepared, undo_unprepared}

@@ -1,24 +1,22 @@
 -- Where a COMMIT goes, what it ends with, and which transaction it ends.
-use Rattle.std.proofs.Common.{◌≡◌, ◌<◌, ◌^◌, ◌⊎◌, inl, inr, ℕ, true, false, List, [], ◌∷◌, ◌++◌, Option, Some, None, refl, sym, ap, subst, ◌∙◌}
+use Rattle.std.proofs.Common.{◌≡◌, ◌<◌, ◌^◌, ◌⊎◌, inl, inr, ℕ, true, false, List, [], ◌∷◌, ◌++◌, Option, Some, None, sym, ap, subst, ◌∙◌}
 use Rattle.std.specs.Prelude.{if◌then◌else◌, find, Contains}
 use Rattle.std.specs.Option.{option_and_then}
 use Rattle.std.proofs.lemmas.List.Elements.{Contains-append_left, Contains-push}
 use Rattle.law_answers.specs.Types.{Event, Key, Outcome, Record, Reply, Table, TxId}
-use Rattle.sdb_types.proofs.Public.{clash, none_some, some_is}
+use Rattle.sdb_types.proofs.Public.{clash}
 use Rattle.sdb_model.specs.declared.answer.Answer.TheVariants as answer
 use Rattle.sdb_model.specs.Calls.{StoreCall, calls_of}
 use Rattle.sdb_model.specs.Causes.{ConflictsAtCommit, IsCaused, IsCommitOf}
 use Rattle.sdb_model.specs.Sql.{reads_commit}
 use Rattle.sdb_model.specs.Transactions.{Executed, client_of, commit_of, ends, from_begin, id_of, is_conflict, ordinal_of, rest_of, statements_by}
-use Rattle.sdb_txn.specs.Phases.{IsNext, ended_at}
+use Rattle.sdb_txn.specs.Phases.{IsNext}
 use Rattle.sdb_phases.specs.declared.step.Outcome.TheVariants as outcome
-use Rattle.sdb_phases.specs.Commit.{Stage, Preparing, Checking, Deciding, Forward, Stopping, Back, Over, out_of_memory as out_of_memory_stage, step as commit_step}
+use Rattle.sdb_phases.specs.Commit.{Stage, out_of_memory as out_of_memory_stage, step as commit_step}
 use Rattle.sdb_phases.specs.Work.{Work}
 use Rattle.sdb_model.specs.ReadSet.{ReadItem}
-use Rattle.sdb_txn.specs.Txn.{TxnAt, progress_of}
-use Rattle.sdb_client.specs.declared.next.Next.TheVariants as next
-use Rattle.sdb_client.specs.Client.{next_of}
-use Rattle.law_clients.specs.System.{answer_of_outcome}
+use Rattle.sdb_txn.specs.Txn.{TxnAt}
+use Rattle.sdb_client.specs.Step.{answer_of_outcome}
 use Rattle.law_answers.specs.Commits.{EndsBy, HasFailed, IsGivenUp}
 use Rattle.law_answers.specs.Views.{GivesOwn}
 use Rattle.law_answers.specs.Invariant.{IsOpenAs}
@@ -37,25 +35,6 @@ next_by P p s r m z h k = either (next_stage p s r m z)
     either : (m ≡ commit_step p s r) ⊎ (m ≡ out_of_memory_stage (commit_step p s r)) → P m
     either (inl e) = subst P (sym e) h
     either (inr e) = subst P (sym e) k
-
-pub ended_is : (s : Stage) (a : Outcome) → ended_at s ≡ Some a → s ≡ Over a
-ended_is (Preparing i) a e = none_some a e
-ended_is (Checking i) a e = none_some a e
-ended_is (Deciding d) a e = none_some a e
-ended_is (Forward i) a e = none_some a e
-ended_is (Stopping b n) a e = none_some a e
-ended_is (Back b n i) a e = none_some a e
-ended_is (Over b) a e = ap Over (some_is b a e)
-
--- the answer that it ends with
-pub told_end : (a : Outcome) → next_of (progress_of (Some a)) ≡ next.End (answer_of_outcome a)
-told_end outcome.Committed = refl
-told_end (outcome.Conflict key found) = refl
-told_end (outcome.Expired id) = refl
-told_end outcome.Faulted = refl
-told_end (outcome.Unknown id) = refl
-told_end (outcome.BadRecord key) = refl
-told_end outcome.NoMemory = refl
 
 -- the conflict that a COMMIT ends with
 pub conflict_of : (read_set : List ReadItem) (p : Work) (calls : List StoreCall) (a : Outcome) (key : Key) (found : Option Record) → answer_of_outcome a ≡ answer.Conflict key found → ConflictBy read_set p calls a → ConflictsAtCommit calls read_set p.id key found

@@ -1,15 +1,15 @@
 -- A client that gets the reply to its call keeps what ties the events to it.
 use Rattle.std.proofs.Common.{◌≡◌, ◌≤◌, ◌<◌, ◌^◌, ◌+◌, inl, inr, ℕ, true, false, not, List, [], ◌∷◌, ◌++◌, length, Option, Some, None, refl, sym, ap, subst, ◌∙◌, arith}
-use Rattle.std.specs.Prelude.{◌&&◌, ◌||◌, is_some, IfSome, nat_le, nat_lt}
+use Rattle.std.specs.Prelude.{◌≢◌, ◌&&◌, ◌||◌, is_some, IfSome, nat_le, nat_lt}
 use Rattle.std.specs.List.{AllByRecursion, count_by}
 use Rattle.std.proofs.lemmas.List.{append-nil}
-use Rattle.law_answers.specs.Types.{Access, Answer, Doing, Event, Key, Next, Outcome, Read, Record, Request, Table, TableName, TxId, VacuumStep, Write}
+use Rattle.law_answers.specs.Types.{Access, Answer, Doing, Event, Key, Outcome, Read, ReadStep, Record, Request, Table, TableName, TxId, VacuumStep, Write}
 use Rattle.sdb_types.proofs.Public.{all_each as each_any, clash, id_fits, length_more, some_is}
 use Rattle.sdb_record.specs.Meta.{is_moment}
 use Rattle.sdb_schema.specs.Catalog.{is_catalog}
 use Rattle.sdb_model.specs.declared.answer.Answer.TheVariants as answer
 use Rattle.sdb_model.specs.Calls.{StoreCall, calls_of, clock_at, calls_by, end_of, is_stored_reply}
-use Rattle.law_clients.proofs.Public.{access_table, by_next, each_more, found_itself, given_finishes, other_no_commit, own_table}
+use Rattle.law_clients.proofs.Public.{access_table, asked_at, each_more, ended as read_ended, ended_is, found_itself, given_finishes, other_no_commit, own_table}
 use Rattle.sdb_model.specs.Access.{in_access}
 use Rattle.sdb_model.specs.Causes.{ConflictsAtCommit, HasReply, IsBadRecord, IsCaused, IsCommitOf, IsRejected, MayPassMost, before, is_open, is_open_after, records_found, removes}
 use Rattle.sdb_model.specs.declared.statement.Statement.TheVariants as statement
@@ -18,7 +18,7 @@ use Rattle.sdb_sqltext.proofs.Public.{vacuum_read}
 use Rattle.sdb_model.specs.Sql.{Reads, reads_commit, reads_rollback, reads_vacuum}
 use Rattle.sdb_model.specs.Transactions.{Executed, begins, changes_nothing, ends, from_begin, id_of, is_conflict, is_done, rest_of, statements_by}
 use Rattle.sdb_exec.specs.Plans.{Planned, changes_on, first_unfit}
-use Rattle.sdb_txn.specs.Phases.{CommitAt, IsNext, ended_at}
+use Rattle.sdb_txn.specs.Phases.{CommitAt, IsNext}
 use Rattle.sdb_phases.specs.Commit.{Stage, Over, pending as commit_pending, step as commit_step}
 use Rattle.sdb_phases.specs.Work.{Work}
 use Rattle.sdb_txn.specs.declared.read.ReadStep.TheVariants as step
@@ -26,17 +26,16 @@ use Rattle.sdb_txn.specs.Read.{Asking, Ended, ReadAt, ReadStage, Resolving, read
 use Rattle.sdb_model.specs.ReadSet.{ReadItem, has_read, read_items, read_finished}
 use Rattle.sdb_snapshot.specs.Sets.{WereRead}
 use Rattle.sdb_snapshot.specs.Seen.{overlay}
-use Rattle.sdb_txn.specs.declared.progress.Progress.TheVariants as progress
 use Rattle.sdb_txn.specs.declared.txn.Doing.TheVariants as doing
-use Rattle.sdb_txn.specs.Txn.{IsCommitting as GoesOn, TxnAt, idle, pending_in, progress_of}
-use Rattle.sdb_client.specs.declared.next.Next.TheVariants as next
+use Rattle.sdb_txn.specs.Txn.{TxnAt, idle, pending_in}
 use Rattle.sdb_vacuum.specs.declared.work.VacuumStep.TheVariants as vacuuming
 use Rattle.sdb_vacuum.specs.Vacuum.{Gives, VacuumAt, vacuum_step}
-use Rattle.sdb_client.specs.Client.{CallPost, ClientAt as Client, CommitNext, RowsReadPost, IsChangedAt, NextPost, OpenTxnPost, ReplyPost, StagePost, VacuumPost, after, answer_in, answer_of, given_answer, given_left, gives, holding, next_of, with_rows_read, pending_by, pending_of, resting, too_many, vacuum_left}
+use Rattle.sdb_client.specs.Client.{ClientAt as Client, IsChangedAt, answer_of, given_answer, given_left, gives, holding, with_rows_read, pending_by, pending_of, resting, too_many}
 use Rattle.law_clients.specs.About.{IsDoingIn, IsIn, IsOfTables, IsReadIn, IsRecordIn, IsStageIn, IsVacuumIn, IsWorkIn}
-use Rattle.law_clients.specs.States.{ClientState, IsAskedBy, IsCalled, IsFittedBy, IsUsing, IsUsingTxn}
+use Rattle.law_clients.specs.States.{ClientState, IsAskedBy, IsCalled}
 use Rattle.law_clients.specs.History.{executed_with_answer, waiting_of}
-use Rattle.law_clients.specs.System.{ClientCall, answer_of_outcome, call_event}
+use Rattle.law_clients.specs.System.{ClientCall, call_event}
+use Rattle.sdb_client.specs.Step.{answer_of_outcome, CommitEnds, CommitGoesOn, CommitGoesTo, Fails, HasFaulted, IsBusy, IsCommitAt, IsMalformed, IsReadAt, IsVacuumAt, OutOfMemory, ReadConflicts, ReadEnds, ReadFails, ReadGoesOn, Receives, Step, VacuumEnds, VacuumGoesOn}
 use Rattle.law_answers.specs.Commits.{EndsBy, ObservesBad, StageByCalls}
 use Rattle.law_answers.specs.Invariant.{IsAnswered, IsCommitting, IsDoing, CauseInvariant, IsReadSetOf, IsReading, IsInVacuum, IsWaiting, Knows, DoingByHistory, ClientByHistory, begun_in, open_after}
 use Rattle.law_answers.specs.Unfit.{IsFitOrReadTxn, SeesFitOrRead, SeesFitOrReadIn, AreStoredReplies}
@@ -58,7 +57,7 @@ use Rattle.law_answers.proofs.Noting.{moved_all, moved_still, noted_more, noted_
 use Rattle.law_answers.proofs.Rows.{bad_unfinished}
 use Rattle.law_answers.proofs.Settling.{read_checks, read_noted}
 use Rattle.law_answers.proofs.Showing.{IsOpenAt, shows_on}
-use Rattle.law_answers.proofs.Ends.{next_by, ended_is, told_end, conflict_of, commit_is, outcome_caused, outcome_tells}
+use Rattle.law_answers.proofs.Ends.{next_by, conflict_of, commit_is, outcome_caused, outcome_tells}
 use Rattle.law_answers.proofs.Calls.{before_same, call_said, calls_open, clock_more, end_answered, end_waiting, later_calls, later_more, later_within, made_at, own_made, silent_said, within_more, one_made}
 use Rattle.law_answers.proofs.Filling.{filled_few, filled_found, filled_given, filled_idle, filled_more, filled_noting, filled_stays, images_few, passes_given}
 use Rattle.law_answers.proofs.Passing.{pass_now, least}
@@ -381,15 +380,8 @@ module _ (catalog : List Table) (events : List Event) (states : ℕ → ClientSt
         no_fit : (b : Answer) → reads_commit w.text ≡ true → CommitIsCounted so_noted so_id (Some b) (ms ++ made ∷ [])
         no_fit b e = clash (sym e ∙ is.inner.commit)
 
-        -- where it leads
-        abbrev Left : Next → TxnAt → Type 0
-        Left n u = So (answer_in n) (after h n u)
-
-        as_left : (n m : Next) (u v : TxnAt) → n ≡ m → u ≡ v → Left m v → Left n u
-        as_left n m u v e f s = subst (λ (z : Next). Left z u) (sym e) (subst (λ (z : TxnAt). Left m z) (sym f) s)
-
         -- the statement is answered, and nothing is noted
-        fails : (b : Answer) → changes_nothing b ≡ true → read_finished (ms ++ made ∷ []) b ≡ false → IsMiddle b → (is_conflict (Some b) ≡ false → IsCaused catalog (E (Some b)) c (done b) b) → Left (next.Answer b) (idle t)
+        fails : (b : Answer) → changes_nothing b ≡ true → read_finished (ms ++ made ∷ []) b ≡ false → IsMiddle b → (is_conflict (Some b) ≡ false → IsCaused catalog (E (Some b)) c (done b) b) → So (Some b) (holding h (idle t))
         fails b nothing unfinished m caused =
             answers b (holding h (idle t)) caused (stays b m.agrees) refl refl
             (held b (idle t) m is.inner.commit refl refl (noted_more catalog events (call_event y (Some b)) c h.begun k.answered t stands_open.1 k.answered (done b) t.seen t.seen refl refl noting_now))
@@ -398,7 +390,7 @@ module _ (catalog : List Table) (events : List Event) (states : ℕ → ClientSt
             (fits_idle catalog (E (Some b)) c h.begun k.answered (done b) stands_open.1.begin stands_open.1.body (idle t) stands_open.1.since refl (fits_more catalog (E (Some b)) c stands_open.1.body (done b) t.seen (fit_now (Some b)))) (λ z. clash (sym z ∙ unfinished))
             (next_same catalog c events (call_event y (Some b)) k.answered k.answered h.begun stands_open.1.begin stands_open.1.body stands_open.1.since t.seen sees_now (done b) b (idle t) refl nothing refl refl)
 
-        reads_further : (s : ReadStage) → ReadsBy (ms ++ made ∷ []) s → StageObserves x.request (ms ++ made ∷ []) s → ReadCounted (ms ++ made ∷ []) s → ReadRolls (E None) (reads_vacuum w.text) (ms ++ made ∷ []) s → Left next.Call (record t { doing = doing.Read a (record x { stage = s }) })
+        reads_further : (s : ReadStage) → ReadsBy (ms ++ made ∷ []) s → StageObserves x.request (ms ++ made ∷ []) s → ReadCounted (ms ++ made ∷ []) s → ReadRolls (E None) (reads_vacuum w.text) (ms ++ made ∷ []) s → So None (record h { txn = Some (record t { doing = doing.Read a (record x { stage = s }) }) })
         reads_further s i j n r =
             goes_on (record h { txn = Some (record t { doing = doing.Read a (record x { stage = s }) }) }) refl refl refl
             (further (record t { doing = doing.Read a (record x { stage = s }) }) h.plan refl
@@ -488,7 +480,7 @@ module _ (catalog : List Table) (events : List Event) (states : ℕ → ClientSt
             read_next catalog c events (call_event y (Some (given_then images))) k.answered k.answered h.begun stands_open.1.begin stands_open.1.body stands_open.1.since k.begun t sees_now (sound free t a x some reads).1 (done (given_then images)) p a (ms ++ made ∷ []) images (calls_done (given_then images)) (was_read images e) is_fine is.text (waits.vacuum ∙ ap is_some free) asked.named asked.asked asked.access refl
             (finished images e)
 
-        is_known : (images : List Record) → read_step x.stage y.now y.reply ≡ Ended (step.Images images) → Left (next.Answer (given_then images)) (left_then images)
+        is_known : (images : List Record) → read_step x.stage y.now y.reply ≡ Ended (step.Images images) → So (Some (given_then images)) (holding h (left_then images))
         is_known images e =
             let v : TxnAt = seen_then images in
             let b : Answer = given_then images in
@@ -525,34 +517,33 @@ module _ (catalog : List Table) (events : List Event) (states : ℕ → ClientSt
                   (subst (λ (z : Key). ChangesAtScan (ms ++ made ∷ []) (read_items_of_body events c stands_open.1.body) z others) keys (subst (λ (z : Option Record). ChangesAtScan (ms ++ made ∷ []) (read_items_of_body events c stands_open.1.body) key z) founds here))));
             }
 
-        images_case : (images : List Record) → read_step x.stage y.now y.reply ≡ Ended (step.Images images) → (n : Next) (u : TxnAt) → RowsReadPost t p a images n u → Left n u
-        images_case images ends_at (next.Answer z) u e = as_left (next.Answer z) (next.Answer (given_then images)) u _ (ap next.Answer e.1) e.2 (is_known images ends_at)
-        images_case images ends_at (next.End (answer.Conflict key found)) u e =
+        read_ends : (images : List Record) → read_result (read_step x.stage y.now y.reply) ≡ step.Images images → So (Some (given_then images)) (holding h (left_then images))
+        read_ends images e = is_known images (read_ended (read_step x.stage y.now y.reply) (step.Images images) e (λ n. cc))
+
+        read_conflicts : (images : List Record) (key : Key) (found : Option Record) → read_result (read_step x.stage y.now y.reply) ≡ step.Images images → IsChangedAt t a images key found → So (Some (answer.Conflict key found)) (resting h)
+        read_conflicts images key found e moved =
+            let ends_at : read_step x.stage y.now y.reply ≡ Ended (step.Images images) = read_ended (read_step x.stage y.now y.reply) (step.Images images) e (λ n. cc) in
             let over : ends (done (answer.Conflict key found)) ≡ true = ap (λ b. b || true || (reads_rollback w.text && false)) is.inner.commit in
-            answers (answer.Conflict key found) (resting h) (λ z. clash z) (moved_now images key found ends_at e over) refl refl (ended (answer.Conflict key found) over) (no_fit (answer.Conflict key found), tt) tt tt (λ z. clash (sym z)) ((λ was. tt), tt)
-        images_case images ends_at n u e = absurd e
+            answers (answer.Conflict key found) (resting h) (λ z. clash z) (moved_now images key found ends_at moved over) refl refl (ended (answer.Conflict key found) over) (no_fit (answer.Conflict key found), tt) tt tt (λ z. clash (sym z)) ((λ was. tt), tt)
 
-        stage_case : (s : ReadStage) → read_step x.stage y.now y.reply ≡ s → (n : Next) (u : TxnAt) → StagePost t p a x s (read_result s) n u → Left n u
-        stage_case Asking e n u z = as_left n next.Call u _ z.0 z.1 (reads_further Asking tt (subst (StageObserves x.request (ms ++ made ∷ [])) e observed) (subst (ReadCounted (ms ++ made ∷ [])) e counted_read) (subst (ReadRolls (E None) (reads_vacuum w.text) (ms ++ made ∷ [])) e (rolled_read None)))
-        stage_case (Resolving images rec meta q left) e n u z = as_left n next.Call u _ z.0 z.1 (reads_further (Resolving images rec meta q left) (subst (LedBy (E None) (ms ++ made ∷ [])) e (leads None)) (subst (StageObserves x.request (ms ++ made ∷ [])) e observed) (subst (ReadCounted (ms ++ made ∷ [])) e counted_read) (subst (ReadRolls (E None) (reads_vacuum w.text) (ms ++ made ∷ [])) e (rolled_read None)))
-        stage_case (Ended step.More) e n u z = absurd (subst (LedBy (E None) (ms ++ made ∷ [])) e (leads None))
-        stage_case (Ended (step.Images images)) e n u z = images_case images e n u z
-        stage_case (Ended (step.Busy key id at)) e n u z =
-            as_left n (next.Answer (answer.Busy key id at)) u (idle t) z.0 z.1
-            (fails (answer.Busy key id at) refl refl (record { undone = refl; agrees = refl }) (λ g. busy_caused (E (Some (answer.Busy key id at))) c (done (answer.Busy key id at)) key id at (subst (λ cs. IsBusyBy (E (Some (answer.Busy key id at))) cs key id at) (sym (calls_done (answer.Busy key id at))) (subst (LedBy (E (Some (answer.Busy key id at))) (ms ++ made ∷ [])) e (leads (Some (answer.Busy key id at)))))))
-        stage_case (Ended step.Faulted) e n u z =
-            as_left n (next.Answer answer.Faulted) u (idle t) z.0 z.1
-            (fails answer.Faulted refl refl (record { undone = refl; agrees = refl }) (λ g. subst (HasReply is_fault) (sym (calls_done answer.Faulted)) (subst (LedBy (E (Some answer.Faulted)) (ms ++ made ∷ [])) e (leads (Some answer.Faulted)))))
-        stage_case (Ended (step.BadRecord key)) e n u z =
-            let bad : ObservesBad (ms ++ made ∷ []) key = subst (LedBy (E (Some (answer.BadRecord key))) (ms ++ made ∷ [])) e (leads (Some (answer.BadRecord key))) in
-            as_left n (next.Answer (answer.BadRecord key)) u (idle t) z.0 z.1 (fails (answer.BadRecord key) refl (bad_unfinished (ms ++ made ∷ []) key bad) (record { undone = refl; agrees = refl }) (λ g. bad_caused key bad))
-        stage_case (Ended step.NoMemory) e n u z = absurd z
+        read_goes_on : (s : ReadStage) → read_step x.stage y.now y.reply ≡ s → read_result s ≡ step.More → So None (record h { txn = Some (record t { doing = doing.Read a (record x { stage = s }) }) })
+        read_goes_on Asking e more = reads_further Asking tt (subst (StageObserves x.request (ms ++ made ∷ [])) e observed) (subst (ReadCounted (ms ++ made ∷ [])) e counted_read) (subst (ReadRolls (E None) (reads_vacuum w.text) (ms ++ made ∷ [])) e (rolled_read None))
+        read_goes_on (Resolving images rec meta q left) e more = reads_further (Resolving images rec meta q left) (subst (LedBy (E None) (ms ++ made ∷ [])) e (leads None)) (subst (StageObserves x.request (ms ++ made ∷ [])) e observed) (subst (ReadCounted (ms ++ made ∷ [])) e counted_read) (subst (ReadRolls (E None) (reads_vacuum w.text) (ms ++ made ∷ [])) e (rolled_read None))
+        read_goes_on (Ended o) e more = absurd (subst (LedBy (E None) (ms ++ made ∷ [])) (e ∙ ap Ended more) (leads None))
 
-        read_case : (n : Next) (u : TxnAt) → CallPost t p a x y.reply y.now n u → Left n u
-        read_case n u z =
-            by_next n
-            (λ e. as_left n (next.Answer answer.NoMemory) u (idle t) e (z.memory e) (fails answer.NoMemory refl refl (record { undone = refl; agrees = refl }) (λ g. tt)))
-            (λ e. stage_case (read_step x.stage y.now y.reply) refl n u (z.answered e))
+        -- it ends without images, or is out of memory
+        led_to : (result : Option Answer) (o : ReadStep) → read_result (read_step x.stage y.now y.reply) ≡ o → o ≢ step.More → LedBy (E result) (ms ++ made ∷ []) (Ended o)
+        led_to result o e n = subst (LedBy (E result) (ms ++ made ∷ [])) (read_ended (read_step x.stage y.now y.reply) o e n) (leads result)
+
+        failed : (o : ReadStep) (b : Answer) → read_result (read_step x.stage y.now y.reply) ≡ o → Fails o b → So (Some b) (holding h (idle t))
+        failed o b e (IsBusy key id at) =
+            fails (answer.Busy key id at) refl refl (record { undone = refl; agrees = refl }) (λ g. busy_caused (E (Some (answer.Busy key id at))) c (done (answer.Busy key id at)) key id at (subst (λ cs. IsBusyBy (E (Some (answer.Busy key id at))) cs key id at) (sym (calls_done (answer.Busy key id at))) (led_to (Some (answer.Busy key id at)) (step.Busy key id at) e (λ n. cc))))
+        failed o b e HasFaulted =
+            fails answer.Faulted refl refl (record { undone = refl; agrees = refl }) (λ g. subst (HasReply is_fault) (sym (calls_done answer.Faulted)) (led_to (Some answer.Faulted) step.Faulted e (λ n. cc)))
+        failed o b e (IsMalformed key) =
+            let bad : ObservesBad (ms ++ made ∷ []) key = led_to (Some (answer.BadRecord key)) (step.BadRecord key) e (λ n. cc) in
+            fails (answer.BadRecord key) refl (bad_unfinished (ms ++ made ∷ []) key bad) (record { undone = refl; agrees = refl }) (λ g. bad_caused key bad)
+        failed o b e (OutOfMemory s) = fails answer.NoMemory refl refl (record { undone = refl; agrees = refl }) (λ g. tt)
 
       ---- a COMMIT
 
@@ -588,9 +579,6 @@ module _ (catalog : List Table) (events : List Event) (states : ℕ → ClientSt
 
         counted_commit : CommitCounted so_noted j.work (ms ++ made ∷ []) then_at
         counted_commit = commit_more so_noted j.work commit_noted commit_so.2 ms made j.stage commit_so.3 pends_commit
-
-        abbrev Led : Next → TxnAt → Type 0
-        Led n u = So (answer_in n) (after h n u)
 
         over_done : (b : Answer) → ends (done b) ≡ true
         over_done b = ap (λ z. z || is_conflict (Some b) || (reads_rollback w.text && is_done (Some b))) is.text
@@ -671,20 +659,8 @@ module _ (catalog : List Table) (events : List Event) (states : ℕ → ClientSt
         by_checks : (m : Stage) → IsNext j.work j.stage y.reply m → (ns : List ReadItem) → ChecksBy ns j.work (ms ++ made ∷ []) then_at → ChecksBy ns j.work (ms ++ made ∷ []) m
         by_checks m z ns v = next_by (ChecksBy ns j.work (ms ++ made ∷ [])) j.work j.stage y.reply m z v (starved_checks ns j.work (ms ++ made ∷ []) then_at v)
 
-        by_doing : (u : TxnAt) (d : Doing) → u.id ≡ t.id → u.doing ≡ d → GoesOn d (λ m. (m.work ≡ j.work) × IsNext j.work j.stage y.reply m.stage) → Led next.Call u
-        by_doing u (doing.Commit m) same e z = commits_on u m same e z.0 (by_stage m.stage z.1) (by_checks m.stage z.1) (by_counts m.stage z.1)
-        by_doing u doing.Idle same e z = absurd z
-        by_doing u (doing.Read a x) same e z = absurd z
-        by_doing u doing.Over same e z = absurd z
-
-        commit_case : (n : Next) (u : TxnAt) → CommitNext t j y.reply n u → Led n u
-        commit_case n u z = by_end (ended_at then_at) refl
-          where
-            by_end : (o : Option Outcome) → ended_at then_at ≡ o → Led n u
-            by_end None e =
-                let more : z.progress ≡ progress.More = z.answered.answer ∙ ap progress_of e in
-                subst (λ (x : Next). Led x u) (sym (z.next ∙ ap next_of more)) (by_doing u u.doing z.answered.same refl (z.answered.next more))
-            by_end (Some a) e = subst (λ (x : Next). Led x u) (sym (z.next ∙ ap next_of (z.answered.answer ∙ ap progress_of e) ∙ told_end a)) (is_over a (ended_is then_at a e))
+        commit_goes_on : (u : TxnAt) (m : Stage) → CommitGoesTo j y.reply t u m → So None (record h { txn = Some u })
+        commit_goes_on u m z = commits_on u (record { work = j.work; stage = m }) z.same z.doing refl (by_stage m z.next) (by_checks m z.next) (by_counts m z.next)
 
     ---- a VACUUM
 
@@ -722,51 +698,60 @@ module _ (catalog : List Table) (events : List Event) (states : ℕ → ClientSt
           (λ e. clash (sym e ∙ no_commit), subst (ReadByTxn (read_items_since (E (Some b)) c h.begun (k.answered ++ done b ∷ []))) (sym is.0) tt)
           (subst (λ (o : Option TxnAt). IfSome o (IsFilled (E (Some b)) c (rest_of (from_begin h.begun (k.answered ++ done b ∷ []))))) (sym is.0) tt) (subst (λ (o : Option TxnAt). IfSome o (IsFitOrReadTxn catalog (E (Some b)) c (rest_of (from_begin h.begun (k.answered ++ done b ∷ []))))) (sym is.0) tt) rolls ((λ was. clash (sym was ∙ is.1)), subst (λ (o : Option TxnAt). IfSome o (IsViewOf catalog (E (Some b)) c (rest_of (from_begin h.begun (k.answered ++ done b ∷ []))))) (sym is.0) tt)
 
-      as_swept : (r result : Option Answer) (x o : Option VacuumAt) → result ≡ r → o ≡ x → So r (record h { vacuum = x }) → So result (record h { vacuum = o })
-      as_swept r result x o e f g = subst (λ (z : Option Answer). So z (record h { vacuum = o })) (sym e) (subst (λ (z : Option VacuumAt). So r (record h { vacuum = z })) (sym f) g)
+      sweep_goes_on : (left : VacuumAt) → Gives (vacuum_step v y.now y.reply) left vacuuming.More → So None (record h { vacuum = Some left })
+      sweep_goes_on left g =
+          sweeps_on left (subst (VacuumBy (ms ++ made ∷ [])) (sym g.0) (subst (λ (z : VacuumStep). IfMore z (VacuumBy (ms ++ made ∷ []) (vacuum_step v y.now y.reply).0)) (sym g.1) led.0)) (subst (VacuumIsCounted catalog (ms ++ made ∷ [])) (sym g.0) counted_sweep) (subst (λ (u : VacuumAt). VacuumRolls (E None) (reads_vacuum w.text) (ms ++ made ∷ []) u.stage) (sym g.0) (subst (RolledTo None) (sym g.1) (rolled_sweep None)))
 
-      sweeps_told : (s : VacuumStep) (left : VacuumAt) (result : Option Answer) (o : Option VacuumAt) → Gives (vacuum_step v y.now y.reply) left s → result ≡ answer_of s → o ≡ vacuum_left s left → So result (record h { vacuum = o })
-      sweeps_told vacuuming.More left result o g a e =
-          as_swept None result (Some left) o a e (sweeps_on left (subst (VacuumBy (ms ++ made ∷ [])) (sym g.0) (subst (λ (z : VacuumStep). IfMore z (VacuumBy (ms ++ made ∷ []) (vacuum_step v y.now y.reply).0)) (sym g.1) led.0)) (subst (VacuumIsCounted catalog (ms ++ made ∷ [])) (sym g.0) counted_sweep) (subst (λ (u : VacuumAt). VacuumRolls (E None) (reads_vacuum w.text) (ms ++ made ∷ []) u.stage) (sym g.0) (subst (RolledTo None) (sym g.1) (rolled_sweep None))))
-      sweeps_told (vacuuming.Count n) left result o g a e =
-          as_swept (Some (answer.Count n)) result None o a e
+      sweep_answered : (s : VacuumStep) (left : VacuumAt) (b : Answer) → Gives (vacuum_step v y.now y.reply) left s → answer_of s ≡ Some b → So (Some b) (record h { vacuum = None })
+      sweep_answered vacuuming.More left b g e = clash (sym (ap is_some e))
+      sweep_answered (vacuuming.Count n) left b g e =
+          subst (λ (z : Answer). So (Some z) (record h { vacuum = None })) (some_is (answer.Count n) b e)
           (sweep_ends (answer.Count n) (record { undone = refl; agrees = refl }) (λ t. (statement.Vacuum, reads_it, subst (λ cs. n ≡ count_by removes cs) (sym (calls_done (answer.Count n))) (subst (VacuumEndBy (ms ++ made ∷ [])) (sym g.1) led.1))) (λ z. subst (RolledTo (Some (answer.Count n))) (sym g.1) (rolled_sweep (Some (answer.Count n)))))
-      sweeps_told vacuuming.Faulted left result o g a e =
-          as_swept (Some answer.Faulted) result None o a e
+      sweep_answered vacuuming.Faulted left b g e =
+          subst (λ (z : Answer). So (Some z) (record h { vacuum = None })) (some_is answer.Faulted b e)
           (sweep_ends answer.Faulted (record { undone = refl; agrees = refl }) (λ t. subst (HasReply is_fault) (sym (calls_done answer.Faulted)) (subst (VacuumEndBy (ms ++ made ∷ [])) (sym g.1) led.1)) (λ z. clash (sym z)))
-      sweeps_told (vacuuming.BadRecord key) left result o g a e =
-          as_swept (Some (answer.BadRecord key)) result None o a e
+      sweep_answered (vacuuming.BadRecord key) left b g e =
+          subst (λ (z : Answer). So (Some z) (record h { vacuum = None })) (some_is (answer.BadRecord key) b e)
           (sweep_ends (answer.BadRecord key) (record { undone = refl; agrees = refl }) (λ t. bad_caused key (subst (VacuumEndBy (ms ++ made ∷ [])) (sym g.1) led.1))
           (λ z. clash (sym z ∙ bad_unfinished (ms ++ made ∷ []) key (subst (VacuumEndBy (ms ++ made ∷ [])) (sym g.1) led.1))))
-      sweeps_told vacuuming.NoMemory left result o g a e = as_swept (Some answer.NoMemory) result None o a e (sweep_ends answer.NoMemory (record { undone = refl; agrees = refl }) (λ t. tt) (λ z. clash (sym z)))
-
-      sweeps_case : (result : Option Answer) (o : Option VacuumAt) → VacuumPost v y.reply y.now result o → So result (record h { vacuum = o })
-      sweeps_case result o z = sweeps_told z.step z.left result o z.answered z.answer z.goes
+      sweep_answered vacuuming.NoMemory left b g e =
+          subst (λ (z : Answer). So (Some z) (record h { vacuum = None })) (some_is answer.NoMemory b e) (sweep_ends answer.NoMemory (record { undone = refl; agrees = refl }) (λ t. tt) (λ z. clash (sym z)))
 
   ---- whatever it does
 
-  next_case : (t : TxnAt) (d : Doing) (o : Option Planned) (v : Option Executed) (n : Next) (u : TxnAt) → h.vacuum ≡ None → h.txn ≡ Some t → t.doing ≡ d → h.plan ≡ o → k.waiting ≡ v → IsUsing catalog d o → IsDoing events c t o v d → NextPost t d o y.reply y.now n u → So (answer_in n) (after h n u)
-  next_case t (doing.Read a x) (Some p) (Some w) n u free some does plan waiting asked is z = read_case w waiting t some free p a x plan does asked is n u z
-  next_case t (doing.Read a x) (Some p) None n u free some does plan waiting asked is z = absurd is
-  next_case t (doing.Read a x) None v n u free some does plan waiting asked is z = absurd z
-  next_case t (doing.Commit j) None (Some w) n u free some does plan waiting asked is z = commit_case w waiting t some free j plan does is n u z
-  next_case t (doing.Commit j) None None n u free some does plan waiting asked is z = absurd is
-  next_case t (doing.Commit j) (Some p) v n u free some does plan waiting asked is z = absurd z
-  next_case t doing.Idle o v n u free some does plan waiting asked is z = absurd z
-  next_case t doing.Over o v n u free some does plan waiting asked is z = absurd z
+  does : (t : TxnAt) → h.vacuum ≡ None → h.txn ≡ Some t → IsDoing events c t h.plan k.waiting t.doing
+  does t free some = (subst (DoingByHistory events c h.begun k.answered k.waiting h.plan) some (subst (ClientByHistory events c h.begun k.answered k.waiting h.plan h.txn) free k.agrees)).2
 
-  txn_case : (o : Option TxnAt) (result : Option Answer) (d : Client) → h.vacuum ≡ None → h.txn ≡ o → IsUsingTxn catalog o h.plan → DoingByHistory events c h.begun k.answered k.waiting h.plan o → OpenTxnPost h o y.reply y.now result d → So result d
-  txn_case None result d free e fitted is z = absurd z
-  txn_case (Some t) result d free e fitted is z =
-      subst (λ (r : Option Answer). So r d) (sym z.answer) (subst (λ (x : Client). So (answer_in z.next) x) (sym z.client) (next_case t t.doing h.plan k.waiting z.next z.left free e refl refl refl fitted is.2 z.answered))
+  reads_for : (t : TxnAt) (p : Planned) (a : Access) (x : ReadAt) → IsReadAt h y.request t p a x → (w : Executed) × (k.waiting ≡ Some w) × IsReading events c w p x
+  reads_for t p a x at = by k.waiting refl (subst (λ (o : Option Planned). IsDoing events c t o k.waiting (doing.Read a x)) at.plan (subst (IsDoing events c t h.plan k.waiting) at.doing (does t at.free at.opened)))
+    where
+      by : (v : Option Executed) → k.waiting ≡ v → IsDoing events c t (Some p) v (doing.Read a x) → (w : Executed) × (k.waiting ≡ Some w) × IsReading events c w p x
+      by None e is = absurd is
+      by (Some w) e is = (w, e, is)
 
-  sweep_case : (v : VacuumAt) (o : Option Executed) (result : Option Answer) (d : Client) → h.vacuum ≡ Some v → k.waiting ≡ o → IsInVacuum events c k.answered o h.txn v → VacuumPost v y.reply y.now result d.vacuum → d ≡ record h { vacuum = d.vacuum } → So result d
-  sweep_case v None result d runs waiting is z same = absurd is
-  sweep_case v (Some w) result d runs waiting is z same = subst (λ (x : Client). So result x) (sym same) (sweeps_case w waiting v runs is result d.vacuum z)
+  commits_for : (t : TxnAt) (j : CommitAt) → IsCommitAt h y.request t j → (w : Executed) × (k.waiting ≡ Some w) × IsCommitting events c w t j
+  commits_for t j at = by k.waiting refl (subst (λ (o : Option Planned). IsDoing events c t o k.waiting (doing.Commit j)) at.plan (subst (IsDoing events c t h.plan k.waiting) at.doing (does t at.free at.opened)))
+    where
+      by : (v : Option Executed) → k.waiting ≡ v → IsDoing events c t None v (doing.Commit j) → (w : Executed) × (k.waiting ≡ Some w) × IsCommitting events c w t j
+      by None e is = absurd is
+      by (Some w) e is = (w, e, is)
 
-  vacuum_case : (o : Option VacuumAt) (result : Option Answer) (d : Client) → h.vacuum ≡ o → ReplyPost h o y.reply y.now result d → So result d
-  vacuum_case None result d free z = txn_case h.txn result d free refl (subst (λ (o : Option VacuumAt). IsFittedBy catalog o h) free called.waiting.fitted) (subst (ClientByHistory events c h.begun k.answered k.waiting h.plan h.txn) free k.agrees) z
-  vacuum_case (Some v) result d runs z = sweep_case v k.waiting result d runs refl (subst (ClientByHistory events c h.begun k.answered k.waiting h.plan h.txn) runs k.agrees) z.0 z.1
+  sweeps_for : (v : VacuumAt) → IsVacuumAt h y.request v → (w : Executed) × (k.waiting ≡ Some w) × IsInVacuum events c k.answered (Some w) h.txn v
+  sweeps_for v at = by k.waiting refl (subst (ClientByHistory events c h.begun k.answered k.waiting h.plan h.txn) at.runs k.agrees)
+    where
+      by : (o : Option Executed) → k.waiting ≡ o → IsInVacuum events c k.answered o h.txn v → (w : Executed) × (k.waiting ≡ Some w) × IsInVacuum events c k.answered (Some w) h.txn v
+      by None e is = absurd is
+      by (Some w) e is = (w, e, is)
 
-  pub replies_known : (result : Option Answer) (d : Client) → ReplyPost h h.vacuum y.reply y.now result d → So result d
-  replies_known result d z = vacuum_case h.vacuum result d refl z
+  asked_by : (t : TxnAt) (p : Planned) (a : Access) (x : ReadAt) → IsReadAt h y.request t p a x → IsAskedBy catalog p a x
+  asked_by t p a x at = asked_at catalog h y.request y.reply y.now called.waiting.fitted t p a x at
+
+  pub replies_known : (result : Option Answer) (d : Client) → Step h (Receives y.request y.reply y.now) result d → So result d
+  replies_known result d (ReadGoesOn t p a x at more) = let w = reads_for t p a x at in read_goes_on w.0 w.1 t at.opened at.free p a x at.plan at.doing (asked_by t p a x at) w.2 (read_step x.stage y.now y.reply) refl more
+  replies_known result d (ReadEnds t p a x images at ends is_asked as_read) = let w = reads_for t p a x at in read_ends w.0 w.1 t at.opened at.free p a x at.plan at.doing (asked_by t p a x at) w.2 images ends
+  replies_known result d (ReadConflicts t p a x images key found at ends changed) = let w = reads_for t p a x at in read_conflicts w.0 w.1 t at.opened at.free p a x at.plan at.doing (asked_by t p a x at) w.2 images key found ends changed
+  replies_known result d (ReadFails {b = b} t p a x at f) = let w = reads_for t p a x at in failed w.0 w.1 t at.opened at.free p a x at.plan at.doing (asked_by t p a x at) w.2 (read_result (read_step x.stage y.now y.reply)) b refl f
+  replies_known result d (CommitGoesOn {u = u} t j next at to) = let w = commits_for t j at in commit_goes_on w.0 w.1 t at.opened at.free j at.plan at.doing w.2 u next to
+  replies_known result d (CommitEnds t j a at over) = let w = commits_for t j at in is_over w.0 w.1 t at.opened at.free j at.plan at.doing w.2 a (ended_is (commit_step j.work j.stage y.reply) a over)
+  replies_known result d (VacuumGoesOn {w = left} v at gave) = let w = sweeps_for v at in sweep_goes_on w.0 w.1 v at.runs w.2 left gave
+  replies_known result d (VacuumEnds {b = b} v left s at gave answers) = let w = sweeps_for v at in sweep_answered w.0 w.1 v at.runs w.2 s left b gave answers

@@ -17,7 +17,7 @@ use Rattle.sdb_txn.specs.declared.read.ReadStep.TheVariants as step
 use Rattle.sdb_txn.specs.Read.{Asking, Ended, ReadStage, Resolving}
 use Rattle.law_clients.specs.History.{waiting_of}
 use Rattle.law_clients.specs.States.{ClientState}
-use Rattle.law_clients.specs.System.{answer_of_outcome}
+use Rattle.sdb_client.specs.Step.{answer_of_outcome}
 use Rattle.law_clients.proofs.Public.{each_more}
 use Rattle.sdb_txn.specs.declared.txn.Doing.TheVariants as doing
 use Rattle.sdb_txn.specs.Txn.{TxnAt}

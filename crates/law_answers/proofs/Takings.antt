@@ -14,9 +14,9 @@ use Rattle.sdb_model.specs.declared.event.Event.TheVariants as event
 use Rattle.sdb_model.specs.declared.statement.Statement.TheVariants as statement
 use Rattle.sdb_model.specs.Calls.{StoreCall, calls_by, calls_of, end_of}
 use Rattle.sdb_model.specs.Causes.{IsBadRecord, IsCaused, IsRejected, MayPassMost, NeedsTransaction, SomeClient, before, is_open, is_open_after, records_found, refused, removes, runs_vacuum}
-use Rattle.sdb_model.specs.Exec.{find_table, named_table, table_of}
+use Rattle.sdb_model.specs.Exec.{find_table, table_of}
 use Rattle.sdb_model.specs.Follows.{has_stopped}
-use Rattle.sdb_model.specs.Refused.{refusal_by, refusal_of}
+use Rattle.sdb_model.specs.Refused.{refusal_of}
 use Rattle.sdb_model.specs.Sql.{Reads, reads_begin, reads_commit, reads_rollback, reads_vacuum}
 use Rattle.sdb_model.specs.Transactions.{Executed, begins, changes_nothing, ends, from_begin, id_of, is_conflict, is_done, rest_of, statements_by}
 use Rattle.sdb_sqltext.proofs.Public.{begin_read, commit_read, not_both, one_refusal, one_statement, rollback_read, vacuum_read}
@@ -27,11 +27,13 @@ use Rattle.sdb_phases.specs.Commit.{preparing}
 use Rattle.sdb_txn.specs.declared.txn.Doing.TheVariants as doing
 use Rattle.sdb_txn.specs.Txn.{TxnAt, begun, committing, reading, work_of}
 use Rattle.sdb_vacuum.specs.Vacuum.{begun as begins_sweep}
-use Rattle.sdb_client.specs.Client.{AskPost, BeginPost, ClientAt as Client, CommitStartPost, GatePost, IsAnsweredAtOnce, RollbackPost, RowsPost, StatementPost, TablePost, Taking, TextPost, VacuumStartPost, given_answer, given_left, gives, holding, is_covered, next_id, plan_of, resting, out_of_memory, too_many, with_begun, written, TextStep}
+use Rattle.sdb_client.specs.Client.{AskPost, BeginPost, ClientAt as Client, CommitStartPost, GatePost, RollbackPost, StatementPost, Taking, TextPost, VacuumStartPost, given_answer, given_left, gives, holding, next_id, plan_of, resting, too_many, with_begun, written}
+use Rattle.sdb_client.specs.Step.{AnsweredAtOnce, AtOnce, Begins, ByCatalog, CommitStarts, IsOnRows, LosesCommit, NoMemory, NoStatement, NoTable, NoneOpen, OpenAlready, OthersOpen, ReadKnown, ReadStarts, RollsBack, Step, Takes, VacuumRuns, VacuumStarts}
 use Rattle.law_clients.specs.Invariant.{IsInner}
 use Rattle.sdb_snapshot.specs.Seen.{overlay, row_seen}
 use Rattle.law_clients.specs.States.{ClientState, IsReady}
-use Rattle.law_clients.proofs.Public.{access_table, by_memory, each_more, found_itself, given_finishes, literals_read, other_no_begin, other_no_commit, other_no_rollback, own_table, refused_no_commit, take_said}
+use Rattle.law_clients.proofs.Public.{access_table, by_memory, each_more, found_itself, given_finishes, inner_read, IsOnTable, literals_read, on_table, other_no_begin, other_no_commit, own_table, refused_no_commit, take_said}
+use Rattle.sdb_client.proofs.Public.{names_table, text_of_step}
 use Rattle.law_clients.specs.History.{executed_of_take, waiting_of}
 use Rattle.sdb_types.proofs.Public.{by_test, clash, length_more, none_some, some_is}
 use Rattle.law_answers.specs.Commits.{StageByCalls}
@@ -526,15 +528,12 @@ module _ (q : Taking) (events : List Event) (states : ℕ → ClientState) (ex :
           let o = (stands_open t e).1 in
           next_same q.catalog c events (event.Take c text (Some b)) k.answered k.answered h.begun o.begin o.body o.since t.seen (sees_open t e) (one (Some b)) b t refl (idles (ap is_some e)) (idle_of t e) refl
 
-  as_told : (b : Answer) (result : Option Answer) (d : Client) → IsMiddle b → (is_some h.txn ≡ true → reads_commit text ≡ false) → (is_some h.txn ≡ true → changes_nothing b ≡ true) → IsAnsweredAtOnce h b result d → Caused b → Turned result → So result d
-  as_told b result d m no_commit idles x caused turned = as_so (Some b) result h d x.answer x.same (same b m no_commit idles caused (subst Turned x.answer turned))
-
   refused_middle : (r : Refusal) → IsMiddle (answer.Refused r)
   refused_middle r = record { undone = refl; agrees = refl }
 
   -- it is refused
-  as_refused : (r : Refusal) (result : Option Answer) (d : Client) → (is_some h.txn ≡ true → reads_commit text ≡ false) → IsAnsweredAtOnce h (answer.Refused r) result d → IsRejected q.catalog events c text (answer.Refused r) → Turned result → So result d
-  as_refused r result d no_commit x why turned = as_told (answer.Refused r) result d (refused_middle r) no_commit (λ z. refl) x (λ e. inl (by_turning (answer.Refused r) why)) turned
+  as_refused : (r : Refusal) → (is_some h.txn ≡ true → reads_commit text ≡ false) → IsRejected q.catalog events c text (answer.Refused r) → Turned (Some (answer.Refused r)) → So (Some (answer.Refused r)) h
+  as_refused r no_commit why turned = same (answer.Refused r) (refused_middle r) no_commit (λ z. refl) (λ e. inl (by_turning (answer.Refused r) why)) turned
 
   outside : (st : Statement) → Reads text st → NeedsTransaction st → h.txn ≡ None → IsRejected q.catalog events c text (refused 5)
   outside st reads needs e = inr (inr (inl (st, reads, needs, opened c ∙ ap is_some e, refl)))
@@ -546,9 +545,12 @@ module _ (q : Taking) (events : List Event) (states : ℕ → ClientState) (ex :
   at_end b agrees caused turned no_begin over is_known =
       at_once b (resting h) agrees caused turned refl (k.begun ∙ sym (begun_same k.answered (one (Some b)) no_begin)) k.small (on_free (Some b) h.begun (k.answered ++ one (Some b) ∷ []) None None None (refl, after_more k.answered (one (Some b)) ∙ after_end (open_after k.answered) (one (Some b)) b no_begin over refl)) tt tt tt ((λ opens. is_known (rest_of (from_begin (begun_in k.answered) k.answered))), tt)
 
-  begin_case : (o : Option TxnAt) (result : Option Answer) (d : Client) → h.txn ≡ o → Reads text statement.Begin → d.begun < 2 ^ 64 → Turned result → BeginPost q.gate q.fresh h o result d → So result d
-  begin_case (Some t) result d e reads few turned x = as_refused (record { kind = 4; place = 0 }) result d (λ z. other_no_commit text statement.Begin reads (λ y. cc)) x (inr (inl (reads, opened c ∙ ap is_some e, refl))) turned
-  begin_case None result d e reads few turned x = by q.gate.vacuum_runs refl x
+  -- a transaction begins
+  begins_now : h.txn ≡ None → Reads text statement.Begin → h.begun + 1 < 2 ^ 64 → Turned (Some answer.Done) → So (Some answer.Done) (with_begun h (next_id h))
+  begins_now e reads few turned =
+      at_once answer.Done (with_begun h (next_id h)) refl (λ z. inl reads) turned refl (ap (λ n. n + 1) k.begun ∙ sym (begun_more k.answered (one (Some answer.Done)) begun_now)) few
+      (after_more k.answered (one (Some answer.Done)) ∙ after_begin (open_after k.answered) (one (Some answer.Done)) begun_now, opens, refl, record { reads = tt; scans = tt }) (subst (λ ss. ReadItemsAre (read_items_of_body (E (Some answer.Done)) c (rest_of ss)) [] []) (sym opens.since) (record { reads = refl; scans = refl }))
+      (filled_nothing (rows_counted_by (rest_of (from_begin (h.begun + 1) (k.answered ++ one (Some answer.Done) ∷ [])))) (records_found_by (E (Some answer.Done)) c (rest_of (from_begin (h.begun + 1) (k.answered ++ one (Some answer.Done) ∷ []))))) (fit_nothing q.catalog (E (Some answer.Done)) c (rest_of (from_begin (h.begun + 1) (k.answered ++ one (Some answer.Done) ∷ [])))) ((λ was. tt), (λ key as_read fits. clash (sym as_read)))
     where
       begun_now : begins (one (Some answer.Done)) ≡ true
       begun_now = ap (λ b. b && true) ((begin_read text).1 reads)
@@ -566,35 +568,17 @@ module _ (q : Taking) (events : List Event) (states : ℕ → ClientState) (ex :
         client = ready.small;
       }
 
-      by : (b : Bool) → q.gate.vacuum_runs ≡ b → GatePost b q.fresh h result d → So result d
-      by true f y =
-          let other : SomeInVacuum states c = gate.vacuums f in
-          as_told answer.Vacuuming result d (record { undone = refl; agrees = refl }) (λ z. other_no_commit text statement.Begin reads (λ w. cc)) (λ z. clash (sym z ∙ ap is_some e)) y (λ z. by_turning answer.Vacuuming (inr (inr (inr (inr (inl (reads, opened c ∙ ap is_some e, (other.0, ex.stopped other.0 ∙ other.2, sweeping other.0 ∙ other.3), refl))))))) turned
-      by false f y =
-          as_so (Some answer.Done) result (with_begun h (next_id h)) d y.0 (y.1 ∙ ap (with_begun h) numbered)
-          (at_once answer.Done (with_begun h (next_id h)) refl (λ z. inl reads) (subst Turned y.0 turned) refl (ap (λ n. n + 1) k.begun ∙ sym (begun_more k.answered (one (Some answer.Done)) begun_now)) (subst (λ (x : Client). x.begun < 2 ^ 64) (y.1 ∙ ap (with_begun h) numbered) few)
-          (after_more k.answered (one (Some answer.Done)) ∙ after_begin (open_after k.answered) (one (Some answer.Done)) begun_now, opens, refl, record { reads = tt; scans = tt }) (subst (λ ss. ReadItemsAre (read_items_of_body (E (Some answer.Done)) c (rest_of ss)) [] []) (sym opens.since) (record { reads = refl; scans = refl }))
-          (filled_nothing (rows_counted_by (rest_of (from_begin (h.begun + 1) (k.answered ++ one (Some answer.Done) ∷ [])))) (records_found_by (E (Some answer.Done)) c (rest_of (from_begin (h.begun + 1) (k.answered ++ one (Some answer.Done) ∷ []))))) (fit_nothing q.catalog (E (Some answer.Done)) c (rest_of (from_begin (h.begun + 1) (k.answered ++ one (Some answer.Done) ∷ [])))) ((λ was. tt), (λ key as_read fits. clash (sym as_read))))
-
-  commit_case : (o : Option TxnAt) (result : Option Answer) (d : Client) → h.txn ≡ o → Reads text statement.Commit → Turned result → CommitStartPost q.now h o result d → So result d
-  commit_case None result d e reads turned x = as_refused (record { kind = 5; place = 0 }) result d (λ z. clash (sym z ∙ ap is_some e)) x (outside statement.Commit reads ((λ y. cc), (λ y. cc)) e) turned
-  commit_case (Some t) result d e reads turned x =
+  -- a COMMIT is accepted
+  commits_now : (t : TxnAt) → h.txn ≡ Some t → Reads text statement.Commit → Turned None → So None (holding h (committing t q.now))
+  commits_now t e reads turned =
       let s = stands_open t e in
-      as_so None result (holding h (committing t q.now)) d x.0 x.1
-      (waits_open (holding h (committing t q.now)) (subst Turned x.0 turned) (other_no_begin text statement.Commit reads (λ y. cc)) (no_sweep text statement.Commit reads (λ y. cc)) (ap is_some e) refl refl refl (
+      waits_open (holding h (committing t q.now)) turned (other_no_begin text statement.Commit reads (λ y. cc)) (no_sweep text statement.Commit reads (λ y. cc)) (ap is_some e) refl refl refl (
         s.0,
         record { begin = s.1.begin; body = s.1.body; since = s.1.since; goes_on = s.1.goes_on; id = s.1.id; client = s.1.client },
         record { text = (commit_read text).1 reads; same = refl; moment = moment; stage = subst (λ ms. StageByCalls (work_of t q.now) ms (preparing (work_of t q.now) 0)) (sym (none_yet c events text None)) (begins_standing (work_of t q.now)) },
         let seen : SeenBy (read_items_of_body (E None) c s.1.body) t.seen = noted_still q.catalog events (event.Take c text None) c h.begun k.answered t s.1 k.answered t.seen s.2 in
             (work_by (read_items_of_body (E None) c s.1.body) t q.now seen (sound t e), subst (λ ms. ChecksBy (read_items_of_body (E None) c s.1.body) (work_of t q.now) ms (preparing (work_of t q.now) 0)) (sym (none_yet c events text None)) (begins_checked (read_items_of_body (E None) c s.1.body) (work_of t q.now))),
-      ) (noted_open t e, ((commit_read text).1 reads, s.1.id, (sound t e).kept.valid, commit_begins so_noted (work_of t q.now))) tt tt tt (λ z. tt))
-
-  rollback_case : (o : Option TxnAt) (result : Option Answer) (d : Client) → h.txn ≡ o → Reads text statement.Rollback → Turned result → RollbackPost h o result d → So result d
-  rollback_case None result d e reads turned x = as_refused (record { kind = 5; place = 0 }) result d (λ z. clash (sym z ∙ ap is_some e)) x (outside statement.Rollback reads ((λ y. cc), (λ y. cc)) e) turned
-  rollback_case (Some t) result d e reads turned x =
-      as_so (Some answer.Done) result (resting h) d x.0 x.1
-      (at_end answer.Done refl (λ z. inr reads) (subst Turned x.0 turned) (ap (λ b. b && true) (other_no_begin text statement.Rollback reads (λ y. cc)))
-      (ap (λ b. b || false || (reads_rollback text && true)) (other_no_commit text statement.Rollback reads (λ y. cc)) ∙ ap (λ b. false || false || (b && true)) ((rollback_read text).1 reads)) (λ body. tt))
+      ) (noted_open t e, ((commit_read text).1 reads, s.1.id, (sound t e).kept.valid, commit_begins so_noted (work_of t q.now))) tt tt tt (λ z. tt)
 
   -- no transaction is open
   none_open : (is_some h.txn || q.gate.open_elsewhere) ≡ false → is_some h.txn ≡ false
@@ -608,153 +592,137 @@ module _ (q : Taking) (events : List Event) (states : ℕ → ClientState) (ex :
   no_txn None f = refl
   no_txn (Some t) f = clash f
 
-  vacuum_case : (b : Bool) (catalog : List Table) (result : Option Answer) (d : Client) → (is_some h.txn || q.gate.open_elsewhere) ≡ b → Reads text statement.Vacuum → Turned result → VacuumStartPost b catalog h result d → catalog ≡ q.catalog → So result d
-  vacuum_case true catalog result d e reads turned x of_it =
-      as_told answer.OpenTransactions result d (record { undone = refl; agrees = refl }) (λ z. other_no_commit text statement.Vacuum reads (λ y. cc)) (λ z. refl) x (λ z. by_turning answer.OpenTransactions (inr (inr (inr (inr (inr (reads, some (is_some h.txn) refl e, refl))))))) turned
-    where
-      some : (b : Bool) → is_some h.txn ≡ b → (b || q.gate.open_elsewhere) ≡ true → SomeClient is_open events
-      some true f z = (c, goes_on, opened c ∙ f)
-      some false f z = let y = gate.some z in (y.0, ex.stopped y.0 ∙ y.2, opened y.0 ∙ y.3)
-  vacuum_case false [] result d e reads turned x of_it =
-      as_told (answer.Count 0) result d (record { undone = refl; agrees = refl }) (λ z. other_no_commit text statement.Vacuum reads (λ y. cc)) (λ z. clash (sym z ∙ none_open e)) x
-      (λ z. (statement.Vacuum, reads, sym (ap (count_by removes) (none_yet c events text (Some (answer.Count 0)))))) turned
-  vacuum_case false (t ∷ ts) result d e reads turned x of_it =
+  -- a transaction is open, of this client or of another
+  some_open : (b : Bool) → is_some h.txn ≡ b → (b || q.gate.open_elsewhere) ≡ true → SomeClient is_open events
+  some_open true f z = (c, goes_on, opened c ∙ f)
+  some_open false f z = let y = gate.some z in (y.0, ex.stopped y.0 ∙ y.2, opened y.0 ∙ y.3)
+
+  -- a VACUUM begins
+  vacuum_begins : (t : Table) (ts : List Table) → Reads text statement.Vacuum → (is_some h.txn || q.gate.open_elsewhere) ≡ false → q.catalog ≡ t ∷ ts → Turned None → So None (record h { vacuum = Some (begins_sweep (t ∷ ts)) })
+  vacuum_begins t ts reads e is_catalog turned =
       let shut : h.txn ≡ None = no_txn h.txn (none_open e) in
-      as_so None result (record h { vacuum = Some (begins_sweep (t ∷ ts)) }) d x.0 x.1
-      (waits (record h { vacuum = Some (begins_sweep (t ∷ ts)) }) (subst Turned x.0 turned) (other_no_begin text statement.Vacuum reads (λ y. cc)) ((vacuum_read text).1 reads) (none_open e) refl refl (
+      waits (record h { vacuum = Some (begins_sweep (t ∷ ts)) }) turned (other_no_begin text statement.Vacuum reads (λ y. cc)) ((vacuum_read text).1 reads) (none_open e) refl refl (
         shut,
         stands_closed shut,
         (sym (ap (count_by removes) (none_yet c events text None)), tt),
-      ) (k.counted.as_read, subst (λ (catalog : List Table). VacuumIsCounted catalog [] (begins_sweep (t ∷ ts))) of_it (sweep_begins t ts)) (subst (λ (o : Option TxnAt). IfSome o (IsFilled (E None) c (rest_of (from_begin h.begun k.answered)))) (sym shut) tt) (subst (λ (o : Option TxnAt). IfSome o (IsFitOrReadTxn q.catalog (E None) c (rest_of (from_begin h.begun k.answered)))) (sym shut) tt) (none_found (E None) (reads_vacuum text)) (λ z. subst (λ (o : Option TxnAt). IfSome o (IsViewOf q.catalog (E None) c (rest_of (from_begin h.begun k.answered)))) (sym shut) tt))
+      ) (k.counted.as_read, subst (λ (catalog : List Table). VacuumIsCounted catalog [] (begins_sweep (t ∷ ts))) (sym is_catalog) (sweep_begins t ts)) (subst (λ (o : Option TxnAt). IfSome o (IsFilled (E None) c (rest_of (from_begin h.begun k.answered)))) (sym shut) tt) (subst (λ (o : Option TxnAt). IfSome o (IsFitOrReadTxn q.catalog (E None) c (rest_of (from_begin h.begun k.answered)))) (sym shut) tt) (none_found (E None) (reads_vacuum text)) (λ z. subst (λ (o : Option TxnAt). IfSome o (IsViewOf q.catalog (E None) c (rest_of (from_begin h.begun k.answered)))) (sym shut) tt)
 
   abbrev given_now : Table → Statement → TxnAt → Answer
   given_now table st t = given_answer t (gives (plan_of table st) (access_of table st) t)
 
-  rows_case : (st : Statement) (t : TxnAt) (result : Option Answer) (d : Client) (table : Table) → h.txn ≡ Some t → Reads text st → IsInner text → reads_vacuum text ≡ false → refusal_of q.catalog st ≡ None → named_table q.catalog st ≡ Some table → Turned result
-      → RowsPost (plan_of table st) (access_of table st) h t result d → So result d
-  rows_case st t result d table e reads inner no_sweep accepted named turned x =
-      by_test (is_covered t.seen (access_of table st))
-      (λ b. let r = x.known b in as_so (Some (given_answer t (gives (plan_of table st) (access_of table st) t))) result (holding h (given_left t (gives (plan_of table st) (access_of table st) t))) d r.0 r.1 (known (subst Turned r.0 turned)))
-      (λ b. let r = x.unknown b in as_so None result (record h { txn = Some (reading t (access_of table st)); plan = Some (plan_of table st) }) d r.0 r.1 (unknown (subst Turned r.0 turned)))
-    where
-      s : (open_after k.answered ≡ true) × (o : IsOpenAs c h.begun k.answered t) × SeenBy (read_items_of_body events c o.body) t.seen
-      s = stands_open t e
+  module _ (t : TxnAt) (table : Table) (st : Statement) (on : IsOnRows h q text t table st) where
+    abbrev e : h.txn ≡ Some t
+    e = on.opened
 
-      idle : t.doing ≡ doing.Idle
-      idle = idle_of t e
+    on_a_table : IsOnTable st
+    on_a_table = on_table st (names_table q.catalog st table on.named)
 
-      listed : find_table q.catalog table.name ≡ Some table
-      listed = found_itself q.catalog (table_of st) table named
+    inner : IsInner text
+    inner = inner_read text st on.reads on_a_table
 
-      open_before : is_open (before (one (Some (given_answer t (gives (plan_of table st) (access_of table st) t)))) (E (Some (given_answer t (gives (plan_of table st) (access_of table st) t))))) c ≡ true
-      open_before = ap (λ es. is_open es c) (before_taken events (event.Take c text (Some (given_answer t (gives (plan_of table st) (access_of table st) t)))) text (Some (given_answer t (gives (plan_of table st) (access_of table st) t)))) ∙ opened c ∙ ap is_some e
+    abbrev s : (open_after k.answered ≡ true) × (o : IsOpenAs c h.begun k.answered t) × SeenBy (read_items_of_body events c o.body) t.seen
+    s = stands_open t e
 
-      known_noted : (u : TxnAt) → (u.seen.reads ≡ t.seen.reads) × (u.seen.scans ≡ t.seen.scans) → u.doing ≡ doing.Idle → NotedThen (Some (given_answer t (gives (plan_of table st) (access_of table st) t))) (holding h u)
-      known_noted u same idles =
-          subst (λ ns. ReadByDoing ns u.seen u.doing) (sym (noted_at_once (Some (given_answer t (gives (plan_of table st) (access_of table st) t)))))
-          (noted_idle so_noted u.seen u.doing idles (subst (λ rs. ReadItemsAre so_noted rs u.seen.scans) (sym same.0) (subst (ReadItemsAre so_noted t.seen.reads) (sym same.1) (noted_open t e))))
+    idle : t.doing ≡ doing.Idle
+    idle = idle_of t e
 
-      filled_now : IsFilledBy (rows_counted_by s.1.body) (records_found_by events c s.1.body + 0) t.seen
-      filled_now = filled_up (rows_counted_by s.1.body) (rows_counted_by s.1.body) (records_found_by events c s.1.body) (records_found_by events c s.1.body + 0) t.seen (least (rows_counted_by s.1.body)) (further (records_found_by events c s.1.body) 0) (filled_open t e)
+    listed : find_table q.catalog table.name ≡ Some table
+    listed = found_itself q.catalog (table_of st) table on.named
 
-      -- its read has finished
-      own_data : not (is_coordinator_table (access_table (access_of table st))) ≡ true
-      own_data = subst (λ x. not (is_coordinator_table x) ≡ true) (sym (own_table table st)) (apart (record { table = table.name; partition = []; clustering = [] }) (ap is_some listed))
+    open_before : is_open (before (one (Some (given_answer t (gives (plan_of table st) (access_of table st) t)))) (E (Some (given_answer t (gives (plan_of table st) (access_of table st) t))))) c ≡ true
+    open_before = ap (λ es. is_open es c) (before_taken events (event.Take c text (Some (given_answer t (gives (plan_of table st) (access_of table st) t)))) text (Some (given_answer t (gives (plan_of table st) (access_of table st) t)))) ∙ opened c ∙ ap is_some e
 
-      finished : has_read (E (Some (given_now table st t))) c (one (Some (given_now table st t))) ≡ true
-      finished =
-          ap (λ ms. read_finished ms (given_now table st t)) (none_yet c events text (Some (given_now table st t)))
-          ∙ given_finishes [] (plan_of table st) (overlay (access_of table st) t.seen) t refl (λ key f. unfit_data (access_of table st) t.seen table key own_data f) refl
+    known_noted : (u : TxnAt) → (u.seen.reads ≡ t.seen.reads) × (u.seen.scans ≡ t.seen.scans) → u.doing ≡ doing.Idle → NotedThen (Some (given_answer t (gives (plan_of table st) (access_of table st) t))) (holding h u)
+    known_noted u same idles =
+        subst (λ ns. ReadByDoing ns u.seen u.doing) (sym (noted_at_once (Some (given_answer t (gives (plan_of table st) (access_of table st) t)))))
+        (noted_idle so_noted u.seen u.doing idles (subst (λ rs. ReadItemsAre so_noted rs u.seen.scans) (sym same.0) (subst (ReadItemsAre so_noted t.seen.reads) (sym same.1) (noted_open t e))))
 
-      -- the changes may be too many
-      passes : too_many t (changes_on table st (overlay (access_of table st) t.seen)) ≡ true → MayPassMost (E (Some (given_now table st t))) c (one (Some (given_now table st t)))
-      passes many =
-          pass_now c h.begun (E (Some (given_now table st t))) k.answered s.1.begin (one (Some (given_now table st t))) s.1.body st k.small (said_then (given_now table st t)) s.1.since s.1.goes_on reads
-          (passes_given (rows_counted_by s.1.body) (records_found_by (E (Some (given_now table st t))) c s.1.body + records_found (calls_of (E (Some (given_now table st t))) c (one (Some (given_now table st t))))) t (access_of table st) table st (filled_found q.catalog events (event.Take c text (Some (given_now table st t))) c s.1.body 0 (records_found (calls_of (E (Some (given_now table st t))) c (one (Some (given_now table st t))))) t.seen (body_open t e) (zero_least (records_found (calls_of (E (Some (given_now table st t))) c (one (Some (given_now table st t)))))) filled_now) many)
+    filled_now : IsFilledBy (rows_counted_by s.1.body) (records_found_by events c s.1.body + 0) t.seen
+    filled_now = filled_up (rows_counted_by s.1.body) (rows_counted_by s.1.body) (records_found_by events c s.1.body) (records_found_by events c s.1.body + 0) t.seen (least (rows_counted_by s.1.body)) (further (records_found_by events c s.1.body) 0) (filled_open t e)
 
-      left_filled : IsFilled (E (Some (given_now table st t))) c (rest_of (from_begin h.begun (k.answered ++ one (Some (given_now table st t)) ∷ []))) (given_left t (gives (plan_of table st) (access_of table st) t))
-      left_filled =
-          filled_idle (E (Some (given_now table st t))) c h.begun k.answered (one (Some (given_now table st t))) s.1.begin s.1.body (given_left t (gives (plan_of table st) (access_of table st) t)) s.1.since (left_idle t (gives (plan_of table st) (access_of table st) t) idle)
-          (filled_given q.catalog events (event.Take c text (Some (given_now table st t))) c s.1.body (one (Some (given_now table st t))) (plan_of table st) (overlay (access_of table st) t.seen) t 0 (body_open t e) refl finished (zero_least (records_found (calls_of (E (Some (given_now table st t))) c (one (Some (given_now table st t)))))) filled_now)
+    -- its read has finished
+    own_data : not (is_coordinator_table (access_table (access_of table st))) ≡ true
+    own_data = subst (λ x. not (is_coordinator_table x) ≡ true) (sym (own_table table st)) (apart (record { table = table.name; partition = []; clustering = [] }) (ap is_some listed))
 
-      left_fits : IsFitOrReadTxn q.catalog (E (Some (given_now table st t))) c (rest_of (from_begin h.begun (k.answered ++ one (Some (given_now table st t)) ∷ []))) (given_left t (gives (plan_of table st) (access_of table st) t))
-      left_fits =
-          fits_idle q.catalog (E (Some (given_now table st t))) c h.begun k.answered (one (Some (given_now table st t))) s.1.begin s.1.body (given_left t (gives (plan_of table st) (access_of table st) t)) s.1.since (left_idle t (gives (plan_of table st) (access_of table st) t) idle)
-          (given_fits q.catalog (plan_of table st) (access_of table st) listed (own_table table st) is named refl accepted (literals_read text st reads) refl (E (Some (given_now table st t))) c (s.1.body ++ one (Some (given_now table st t)) ∷ []) t (fit_more (given_now table st t) t e))
+    finished : has_read (E (Some (given_now table st t))) c (one (Some (given_now table st t))) ≡ true
+    finished =
+        ap (λ ms. read_finished ms (given_now table st t)) (none_yet c events text (Some (given_now table st t)))
+        ∙ given_finishes [] (plan_of table st) (overlay (access_of table st) t.seen) t refl (λ key f. unfit_data (access_of table st) t.seen table key own_data f) refl
 
-      -- a row that doesn't fit was read by a statement before
-      misfit_caused : (key : Key) → first_unfit table (overlay (access_of table st) t.seen) ≡ Some key → IsBadRecord q.catalog (E (Some (given_now table st t))) c (one (Some (given_now table st t))) key
-      misfit_caused key f =
-          let m = was_misfit q.catalog (plan_of table st) (access_of table st) listed (own_table table st) (E (Some (given_now table st t))) c (s.1.body ++ one (Some (given_now table st t)) ∷ []) t.seen key (fit_more (given_now table st t) t e) f in
-          inr (meets_now q.catalog c h.begun (E (Some (given_now table st t))) k.answered s.1.begin (one (Some (given_now table st t))) s.1.body st table key k.small (said_then (given_now table st t)) s.1.since s.1.goes_on reads named m.0 m.1)
+    -- the changes may be too many
+    passes : too_many t (changes_on table st (overlay (access_of table st) t.seen)) ≡ true → MayPassMost (E (Some (given_now table st t))) c (one (Some (given_now table st t)))
+    passes many =
+        pass_now c h.begun (E (Some (given_now table st t))) k.answered s.1.begin (one (Some (given_now table st t))) s.1.body st k.small (said_then (given_now table st t)) s.1.since s.1.goes_on on.reads
+        (passes_given (rows_counted_by s.1.body) (records_found_by (E (Some (given_now table st t))) c s.1.body + records_found (calls_of (E (Some (given_now table st t))) c (one (Some (given_now table st t))))) t (access_of table st) table st (filled_found q.catalog events (event.Take c text (Some (given_now table st t))) c s.1.body 0 (records_found (calls_of (E (Some (given_now table st t))) c (one (Some (given_now table st t))))) t.seen (body_open t e) (zero_least (records_found (calls_of (E (Some (given_now table st t))) c (one (Some (given_now table st t)))))) filled_now) many)
 
-      shows_known : ShowsNext q.catalog (E (Some (given_now table st t))) c k.answered (one (Some (given_now table st t))) (given_now table st t) (holding h (given_left t (gives (plan_of table st) (access_of table st) t)))
-      shows_known =
-          let before : SeesOwn q.catalog (E (Some (given_now table st t))) c s.1.body t.seen = sees_then q.catalog c events (event.Take c text (Some (given_now table st t))) k.answered k.answered h.begun s.1.begin s.1.body s.1.since t.seen (sees_open t e) (one (Some (given_now table st t))) in
-          next_given q.catalog (E (Some (given_now table st t))) c h.begun k.answered (one (Some (given_now table st t))) s.1.begin s.1.body (plan_of table st) (access_of table st) t s.1.since k.begun is reads named refl refl refl (left_idle t (gives (plan_of table st) (access_of table st) t) idle) (sound t e).kept.read
-          (λ key as_read fits. has_before q.catalog (E (Some (given_now table st t))) c s.1.body (one (Some (given_now table st t))) key (row_seen t.seen.read_set t.seen.writes key) (before key as_read fits))
+    left_filled : IsFilled (E (Some (given_now table st t))) c (rest_of (from_begin h.begun (k.answered ++ one (Some (given_now table st t)) ∷ []))) (given_left t (gives (plan_of table st) (access_of table st) t))
+    left_filled =
+        filled_idle (E (Some (given_now table st t))) c h.begun k.answered (one (Some (given_now table st t))) s.1.begin s.1.body (given_left t (gives (plan_of table st) (access_of table st) t)) s.1.since (left_idle t (gives (plan_of table st) (access_of table st) t) idle)
+        (filled_given q.catalog events (event.Take c text (Some (given_now table st t))) c s.1.body (one (Some (given_now table st t))) (plan_of table st) (overlay (access_of table st) t.seen) t 0 (body_open t e) refl finished (zero_least (records_found (calls_of (E (Some (given_now table st t))) c (one (Some (given_now table st t)))))) filled_now)
 
-      known : Turned (Some (given_answer t (gives (plan_of table st) (access_of table st) t))) → So (Some (given_answer t (gives (plan_of table st) (access_of table st) t))) (holding h (given_left t (gives (plan_of table st) (access_of table st) t)))
-      known turned =
-          let m = given_middle (plan_of table st) (overlay (access_of table st) t.seen) t in
-          at_once (given_answer t (gives (plan_of table st) (access_of table st) t)) (holding h (given_left t (gives (plan_of table st) (access_of table st) t))) m.agrees (given_caused q.catalog (E (Some (given_answer t (gives (plan_of table st) (access_of table st) t)))) c (one (Some (given_answer t (gives (plan_of table st) (access_of table st) t)))) (plan_of table st) (overlay (access_of table st) t.seen) t reads named refl open_before misfit_caused passes) turned refl (begun_plain (given_answer t (gives (plan_of table st) (access_of table st) t)) m.undone) k.small
-          (on_free (Some (given_answer t (gives (plan_of table st) (access_of table st) t))) h.begun (k.answered ++ one (Some (given_answer t (gives (plan_of table st) (access_of table st) t))) ∷ []) None None (Some (given_left t (gives (plan_of table st) (access_of table st) t))) (stands_held (given_answer t (gives (plan_of table st) (access_of table st) t)) None t (given_left t (gives (plan_of table st) (access_of table st) t)) m inner.commit (left_id t (gives (plan_of table st) (access_of table st) t)) (left_idle t (gives (plan_of table st) (access_of table st) t) idle) s.0 s.1 s.2 (left_reads t (gives (plan_of table st) (access_of table st) t)).0 (left_reads t (gives (plan_of table st) (access_of table st) t)).1))
-          (known_noted (given_left t (gives (plan_of table st) (access_of table st) t)) (left_reads t (gives (plan_of table st) (access_of table st) t)) (left_idle t (gives (plan_of table st) (access_of table st) t) idle)) left_filled left_fits shows_known
+    left_fits : IsFitOrReadTxn q.catalog (E (Some (given_now table st t))) c (rest_of (from_begin h.begun (k.answered ++ one (Some (given_now table st t)) ∷ []))) (given_left t (gives (plan_of table st) (access_of table st) t))
+    left_fits =
+        fits_idle q.catalog (E (Some (given_now table st t))) c h.begun k.answered (one (Some (given_now table st t))) s.1.begin s.1.body (given_left t (gives (plan_of table st) (access_of table st) t)) s.1.since (left_idle t (gives (plan_of table st) (access_of table st) t) idle)
+        (given_fits q.catalog (plan_of table st) (access_of table st) listed (own_table table st) is on.named refl on.accepted (literals_read text st on.reads) refl (E (Some (given_now table st t))) c (s.1.body ++ one (Some (given_now table st t)) ∷ []) t (fit_more (given_now table st t) t e))
 
-      unknown : Turned None → So None (record h { txn = Some (reading t (access_of table st)); plan = Some (plan_of table st) })
-      unknown turned =
-          waits_open (record h { txn = Some (reading t (access_of table st)); plan = Some (plan_of table st) }) turned inner.begin no_sweep (ap is_some e) refl refl refl (
-            s.0,
-            record { begin = s.1.begin; body = s.1.body; since = s.1.since; goes_on = s.1.goes_on; id = s.1.id; client = s.1.client },
-            record { text = reads; inner = inner; stage = tt; shows = none_yet c events text None },
-            noted_still q.catalog events (event.Take c text None) c h.begun k.answered t s.1 k.answered t.seen s.2,
-          ) (noted_open t e, (inner.commit, refl)) (filled_reading t e) (fit_reading t e) (none_found (E None) (reads_vacuum text)) (sees_reading t e)
+    -- a row that doesn't fit was read by a statement before
+    misfit_caused : (key : Key) → first_unfit table (overlay (access_of table st) t.seen) ≡ Some key → IsBadRecord q.catalog (E (Some (given_now table st t))) c (one (Some (given_now table st t))) key
+    misfit_caused key f =
+        let m = was_misfit q.catalog (plan_of table st) (access_of table st) listed (own_table table st) (E (Some (given_now table st t))) c (s.1.body ++ one (Some (given_now table st t)) ∷ []) t.seen key (fit_more (given_now table st t) t e) f in
+        inr (meets_now q.catalog c h.begun (E (Some (given_now table st t))) k.answered s.1.begin (one (Some (given_now table st t))) s.1.body st table key k.small (said_then (given_now table st t)) s.1.since s.1.goes_on on.reads on.named m.0 m.1)
 
-  table_case : (st : Statement) (t : TxnAt) (result : Option Answer) (d : Client) → h.txn ≡ Some t → Reads text st → IsInner text → reads_vacuum text ≡ false → is_some (table_of st) ≡ true → Turned result → TablePost q.catalog st h t result d → So result d
-  table_case st t result d e reads inner no_sweep on turned x = by_refusal (refusal_of q.catalog st) refl
-    where
-      by_table : (o : Option Table) → refusal_of q.catalog st ≡ None → named_table q.catalog st ≡ o → So result d
-      by_table (Some table) accepted named = rows_case st t result d table e reads inner no_sweep accepted named turned (x.reads table accepted named)
-      by_table None accepted named = absurd (let y : Some (record { kind = 6; place = 0 }) ≡ None = sym (ap (λ (o : Option Table). refusal_by o st) named) ∙ accepted in cc)
+    shows_known : ShowsNext q.catalog (E (Some (given_now table st t))) c k.answered (one (Some (given_now table st t))) (given_now table st t) (holding h (given_left t (gives (plan_of table st) (access_of table st) t)))
+    shows_known =
+        let before : SeesOwn q.catalog (E (Some (given_now table st t))) c s.1.body t.seen = sees_then q.catalog c events (event.Take c text (Some (given_now table st t))) k.answered k.answered h.begun s.1.begin s.1.body s.1.since t.seen (sees_open t e) (one (Some (given_now table st t))) in
+        next_given q.catalog (E (Some (given_now table st t))) c h.begun k.answered (one (Some (given_now table st t))) s.1.begin s.1.body (plan_of table st) (access_of table st) t s.1.since k.begun is on.reads on.named refl refl refl (left_idle t (gives (plan_of table st) (access_of table st) t) idle) (sound t e).kept.read
+        (λ key as_read fits. has_before q.catalog (E (Some (given_now table st t))) c s.1.body (one (Some (given_now table st t))) key (row_seen t.seen.read_set t.seen.writes key) (before key as_read fits))
 
-      by_refusal : (o : Option Refusal) → refusal_of q.catalog st ≡ o → So result d
-      by_refusal (Some r) f = as_refused r result d (λ z. inner.commit) (x.refused r f) (inr (inr (inr (inl (st, r, reads, opened c ∙ ap is_some e, on, f, refl))))) turned
-      by_refusal None f = by_table (named_table q.catalog st) f refl
+    known : Turned (Some (given_answer t (gives (plan_of table st) (access_of table st) t))) → So (Some (given_answer t (gives (plan_of table st) (access_of table st) t))) (holding h (given_left t (gives (plan_of table st) (access_of table st) t)))
+    known turned =
+        let m = given_middle (plan_of table st) (overlay (access_of table st) t.seen) t in
+        at_once (given_answer t (gives (plan_of table st) (access_of table st) t)) (holding h (given_left t (gives (plan_of table st) (access_of table st) t))) m.agrees (given_caused q.catalog (E (Some (given_answer t (gives (plan_of table st) (access_of table st) t)))) c (one (Some (given_answer t (gives (plan_of table st) (access_of table st) t)))) (plan_of table st) (overlay (access_of table st) t.seen) t on.reads on.named refl open_before misfit_caused passes) turned refl (begun_plain (given_answer t (gives (plan_of table st) (access_of table st) t)) m.undone) k.small
+        (on_free (Some (given_answer t (gives (plan_of table st) (access_of table st) t))) h.begun (k.answered ++ one (Some (given_answer t (gives (plan_of table st) (access_of table st) t))) ∷ []) None None (Some (given_left t (gives (plan_of table st) (access_of table st) t))) (stands_held (given_answer t (gives (plan_of table st) (access_of table st) t)) None t (given_left t (gives (plan_of table st) (access_of table st) t)) m inner.commit (left_id t (gives (plan_of table st) (access_of table st) t)) (left_idle t (gives (plan_of table st) (access_of table st) t) idle) s.0 s.1 s.2 (left_reads t (gives (plan_of table st) (access_of table st) t)).0 (left_reads t (gives (plan_of table st) (access_of table st) t)).1))
+        (known_noted (given_left t (gives (plan_of table st) (access_of table st) t)) (left_reads t (gives (plan_of table st) (access_of table st) t)) (left_idle t (gives (plan_of table st) (access_of table st) t) idle)) left_filled left_fits shows_known
 
-  ask_case : (st : Statement) (o : Option TxnAt) (result : Option Answer) (d : Client) → h.txn ≡ o → Reads text st → IsInner text → reads_vacuum text ≡ false → is_some (table_of st) ≡ true → NeedsTransaction st → Turned result → AskPost q.catalog st h o result d → So result d
-  ask_case st None result d e reads inner no_sweep on needs turned x = as_refused (record { kind = 5; place = 0 }) result d (λ z. inner.commit) x (outside st reads needs e) turned
-  ask_case st (Some t) result d e reads inner no_sweep on needs turned x = table_case st t result d e reads inner no_sweep on turned x
-
-  statement_case : (st : Statement) (result : Option Answer) (d : Client) → Reads text st → d.begun < 2 ^ 64 → Turned result → StatementPost q st h result d → So result d
-  statement_case statement.Begin result d reads few turned x = begin_case h.txn result d refl reads few turned x
-  statement_case statement.Commit result d reads few turned x = commit_case h.txn result d refl reads turned x
-  statement_case statement.Rollback result d reads few turned x = rollback_case h.txn result d refl reads turned x
-  statement_case statement.Vacuum result d reads few turned x = vacuum_case (is_some h.txn || q.gate.open_elsewhere) q.catalog result d refl reads turned x refl
-  statement_case (statement.Insert s) result d reads few turned x = ask_case (statement.Insert s) h.txn result d refl reads (record { begin = other_no_begin text (statement.Insert s) reads (λ e. cc); commit = other_no_commit text (statement.Insert s) reads (λ e. cc); rollback = other_no_rollback text (statement.Insert s) reads (λ e. cc) }) (no_sweep text (statement.Insert s) reads (λ e. cc)) refl ((λ e. cc), (λ e. cc)) turned x
-  statement_case (statement.Upsert s) result d reads few turned x = ask_case (statement.Upsert s) h.txn result d refl reads (record { begin = other_no_begin text (statement.Upsert s) reads (λ e. cc); commit = other_no_commit text (statement.Upsert s) reads (λ e. cc); rollback = other_no_rollback text (statement.Upsert s) reads (λ e. cc) }) (no_sweep text (statement.Upsert s) reads (λ e. cc)) refl ((λ e. cc), (λ e. cc)) turned x
-  statement_case (statement.Update s) result d reads few turned x = ask_case (statement.Update s) h.txn result d refl reads (record { begin = other_no_begin text (statement.Update s) reads (λ e. cc); commit = other_no_commit text (statement.Update s) reads (λ e. cc); rollback = other_no_rollback text (statement.Update s) reads (λ e. cc) }) (no_sweep text (statement.Update s) reads (λ e. cc)) refl ((λ e. cc), (λ e. cc)) turned x
-  statement_case (statement.Delete s) result d reads few turned x = ask_case (statement.Delete s) h.txn result d refl reads (record { begin = other_no_begin text (statement.Delete s) reads (λ e. cc); commit = other_no_commit text (statement.Delete s) reads (λ e. cc); rollback = other_no_rollback text (statement.Delete s) reads (λ e. cc) }) (no_sweep text (statement.Delete s) reads (λ e. cc)) refl ((λ e. cc), (λ e. cc)) turned x
-  statement_case (statement.Select s) result d reads few turned x = ask_case (statement.Select s) h.txn result d refl reads (record { begin = other_no_begin text (statement.Select s) reads (λ e. cc); commit = other_no_commit text (statement.Select s) reads (λ e. cc); rollback = other_no_rollback text (statement.Select s) reads (λ e. cc) }) (no_sweep text (statement.Select s) reads (λ e. cc)) refl ((λ e. cc), (λ e. cc)) turned x
-
-  text_case : (result : Option Answer) (d : Client) → d.begun < 2 ^ 64 → Turned result → TextPost q text h result d → So result d
-  text_case result d few turned (Ok st, reads, x) = statement_case st result d reads few turned x
-  text_case result d few turned (Err r, reads, x) = as_refused r result d (λ z. refused_no_commit text r reads) x (inl (r, reads, refl)) turned
+    unknown : Turned None → So None (record h { txn = Some (reading t (access_of table st)); plan = Some (plan_of table st) })
+    unknown turned =
+        waits_open (record h { txn = Some (reading t (access_of table st)); plan = Some (plan_of table st) }) turned inner.begin (no_sweep text st on.reads on_a_table.vacuum) (ap is_some e) refl refl refl (
+          s.0,
+          record { begin = s.1.begin; body = s.1.body; since = s.1.since; goes_on = s.1.goes_on; id = s.1.id; client = s.1.client },
+          record { text = on.reads; inner = inner; stage = tt; shows = none_yet c events text None },
+          noted_still q.catalog events (event.Take c text None) c h.begun k.answered t s.1 k.answered t.seen s.2,
+        ) (noted_open t e, (inner.commit, refl)) (filled_reading t e) (fit_reading t e) (none_found (E None) (reads_vacuum text)) (sees_reading t e)
 
   memory_middle : IsMiddle answer.NoMemory
   memory_middle = record { undone = refl; agrees = refl }
 
-  -- out of memory
-  so_starved : So (Some answer.NoMemory) (out_of_memory text h)
-  so_starved = by_test (reads_commit text) (λ t. rw t (commits t)) (λ f. rw f (same answer.NoMemory memory_middle (λ z. f) (λ z. refl) (λ z. tt) (λ b z. inr refl)))
-    where
-      no_begin : begins (one (Some answer.NoMemory)) ≡ false
-      no_begin = undone_begins (one (Some answer.NoMemory)) answer.NoMemory refl refl
+  -- it is answered at once, and as it was
+  answered_once : (b : Answer) → AtOnce h q text b → Turned (Some b) → So (Some b) h
+  answered_once b (NoStatement r refuses) turned = as_refused r (λ z. refused_no_commit text r refuses) (inl (r, refuses, refl)) turned
+  answered_once b (OpenAlready t reads e) turned = as_refused (record { kind = 4; place = 0 }) (λ z. other_no_commit text statement.Begin reads (λ y. cc)) (inr (inl (reads, opened c ∙ ap is_some e, refl))) turned
+  answered_once b (NoneOpen st reads needs e) turned = as_refused (record { kind = 5; place = 0 }) (λ z. clash (sym z ∙ ap is_some e)) (outside st reads needs e) turned
+  answered_once b (VacuumRuns reads e f) turned =
+      let other : SomeInVacuum states c = gate.vacuums f in
+      same answer.Vacuuming (record { undone = refl; agrees = refl }) (λ z. other_no_commit text statement.Begin reads (λ w. cc)) (λ z. clash (sym z ∙ ap is_some e)) (λ z. by_turning answer.Vacuuming (inr (inr (inr (inr (inl (reads, opened c ∙ ap is_some e, (other.0, ex.stopped other.0 ∙ other.2, sweeping other.0 ∙ other.3), refl))))))) turned
+  answered_once b (OthersOpen reads e) turned =
+      same answer.OpenTransactions (record { undone = refl; agrees = refl }) (λ z. other_no_commit text statement.Vacuum reads (λ y. cc)) (λ z. refl) (λ z. by_turning answer.OpenTransactions (inr (inr (inr (inr (inr (reads, some_open (is_some h.txn) refl e, refl))))))) turned
+  answered_once b (NoTable reads e f) turned =
+      same (answer.Count 0) (record { undone = refl; agrees = refl }) (λ z. other_no_commit text statement.Vacuum reads (λ y. cc)) (λ z. clash (sym z ∙ none_open e)) (λ z. (statement.Vacuum, reads, sym (ap (count_by removes) (none_yet c events text (Some (answer.Count 0)))))) turned
+  answered_once b (ByCatalog st t r reads names e f) turned = as_refused r (λ z. other_no_commit text st reads (on_table st names).commit) (inr (inr (inr (inl (st, r, reads, opened c ∙ ap is_some e, names, f, refl))))) turned
+  answered_once b (NoMemory no_commit) turned = same answer.NoMemory memory_middle (λ z. no_commit) (λ z. refl) (λ z. tt) turned
 
-      commits : reads_commit text ≡ true → So (Some answer.NoMemory) (resting h)
-      commits t = at_end answer.NoMemory refl (λ z. tt) (λ b z. inr refl) no_begin (ap (λ b. b || false || (reads_rollback text && false)) t) (λ body. tt)
+  rows_known : (result : Option Answer) (d : Client) → d.begun < 2 ^ 64 → Turned result → Step h (Takes q text) result d → So result d
+  rows_known result d few turned (AnsweredAtOnce {a = b} at) = answered_once b at turned
+  rows_known result d few turned (Begins reads e shut) = subst (λ (i : TxId). So (Some answer.Done) (with_begun h i)) (sym numbered) (begins_now e reads few turned)
+  rows_known result d few turned (RollsBack t reads e) =
+      at_end answer.Done refl (λ z. inr reads) turned (ap (λ b. b && true) (other_no_begin text statement.Rollback reads (λ y. cc)))
+      (ap (λ b. b || false || (reads_rollback text && true)) (other_no_commit text statement.Rollback reads (λ y. cc)) ∙ ap (λ b. false || false || (b && true)) ((rollback_read text).1 reads)) (λ body. tt)
+  rows_known result d few turned (LosesCommit reads) =
+      at_end answer.NoMemory refl (λ z. tt) turned (undone_begins (one (Some answer.NoMemory)) answer.NoMemory refl refl) (ap (λ b. b || false || (reads_rollback text && false)) reads) (λ body. tt)
+  rows_known result d few turned (CommitStarts t reads e) = commits_now t e reads turned
+  rows_known result d few turned (VacuumStarts t ts reads e f) = vacuum_begins t ts reads e f turned
+  rows_known result d few turned (ReadKnown t table st on covered) = known t table st on turned
+  rows_known result d few turned (ReadStarts t table st on uncovered) = unknown t table st on turned
 
-  pub takes_known : (result : Option Answer) (d : Client) → d.begun < 2 ^ 64 → TextStep q text h result d → So result d
-  takes_known result d few x =
-      by_memory result
-      (λ e. as_so (Some answer.NoMemory) result (out_of_memory text h) d e (x.memory e) so_starved)
-      (λ n. text_case result d few (turned_told result d (x.answered n)) (x.answered n))
+  pub takes_known : (result : Option Answer) (d : Client) → d.begun < 2 ^ 64 → Step h (Takes q text) result d → So result d
+  takes_known result d few x = rows_known result d few (by_memory result (λ e b z. inr e) (λ n. turned_told result d ((text_of_step q text h result d x).answered n))) x

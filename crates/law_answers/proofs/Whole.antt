@@ -19,7 +19,8 @@ use Rattle.sdb_model.specs.Causes.{ConflictsAtCommit, IsCaused, IsCommitOf, IsCo
 use Rattle.sdb_model.specs.Exec.{Tables, find_table}
 use Rattle.sdb_model.specs.Follows.{has_stopped, stops}
 use Rattle.sdb_model.specs.Transactions.{Executed, ends, from_begin, id_of, is_conflict, ordinal_of, rest_of, statements_by, statements_of, through_end, with_answer}
-use Rattle.sdb_client.specs.Client.{ClientAt as Client, ReplyPost, Taking, nothing_done, next_id, TextStep}
+use Rattle.sdb_client.specs.Client.{ClientAt as Client, Taking, nothing_done, next_id}
+use Rattle.sdb_client.specs.Step.{Receives, Step, Takes}
 use Rattle.sdb_snapshot.specs.Sets.{WereRead}
 use Rattle.law_clients.specs.About.{IsOfTables}
 use Rattle.law_clients.specs.States.{ClientState, IsCalled, IsReady, doing_of, system_of, with_state}
@@ -114,7 +115,7 @@ going_taken catalog fit es states g c ready t some = record { answered = record 
     ok : ClientOk g.plan g.past c (Open t.id t.seen)
     ok = subst (ClientOk g.plan g.past c) here (g.system.each c)
 
-pub takes_all : (q : Taking) (events : List Event) (states : ℕ → ClientState) (c : ℕ) (text : List ℕ) (result : Option Answer) (d : Client) → CauseInvariant q.catalog events q.now states → IsReady states c → IsGate states c q.gate → is_moment q.now ≡ true → is_catalog q.catalog ≡ true → (es : List Event) (fit : Tables → Bool) → RunInvariant q.catalog fit es (system_of states) (doing_of states) → ((x : Key) → is_some (find_table q.catalog x.table) ≡ true → is_data x ≡ true) → q.fresh ≡ next_id (states c).client → d.begun < 2 ^ 64 → TextStep q text (states c).client result d
+pub takes_all : (q : Taking) (events : List Event) (states : ℕ → ClientState) (c : ℕ) (text : List ℕ) (result : Option Answer) (d : Client) → CauseInvariant q.catalog events q.now states → IsReady states c → IsGate states c q.gate → is_moment q.now ≡ true → is_catalog q.catalog ≡ true → (es : List Event) (fit : Tables → Bool) → RunInvariant q.catalog fit es (system_of states) (doing_of states) → ((x : Key) → is_some (find_table q.catalog x.table) ≡ true → is_data x ≡ true) → q.fresh ≡ next_id (states c).client → d.begun < 2 ^ 64 → Step (states c).client (Takes q text) result d
     → CauseInvariant q.catalog (events ++ event.Take c text result ∷ []) q.now (with_state states c d)
 takes_all q events states c text result d ex ready gate moment is es fit g apart numbered few x = record {
   clock = clock_more events (event.Take c text result) ∙ ex.clock;
@@ -133,7 +134,7 @@ going_told catalog fit es states g c goes_on free t a x some reads = (record { r
     ok = subst (ClientOk g.plan g.past c) here (g.system.each c)
 
 pub replies_all : (catalog : List Table) (events : List Event) (states : ℕ → ClientState) (y : ClientCall) (result : Option Answer) (d : Client) → is_catalog catalog ≡ true → ((k : Key) → is_some (find_table catalog k.table) ≡ true → is_data k ≡ true) → IsCalled catalog states y → is_stored_reply y.reply ≡ true → IsOfTables catalog (states y.client).client → (es : List Event) (fit : Tables → Bool) → RunInvariant catalog fit es (system_of states) (doing_of states) → CauseInvariant catalog events y.now states
-    → ReplyPost (states y.client).client (states y.client).client.vacuum y.reply y.now result d → CauseInvariant catalog (events ++ call_event y result ∷ []) y.now (with_state states y.client d)
+    → Step (states y.client).client (Receives y.request y.reply y.now) result d → CauseInvariant catalog (events ++ call_event y result ∷ []) y.now (with_state states y.client d)
 replies_all catalog events states y result d is apart called stored about es fit g ex x = record {
   clock = clock_more events (call_event y result) ∙ ex.clock;
   stopped = none_stops catalog events (call_event y result) states y.client d ex.stopped called.waiting.goes_on (λ n. refl);

@@ -1,6 +1,5 @@
 -- The types of other crates that this crate speaks of.
 pub use Rattle.sdb_client.specs.declared.gate.Gate.{Gate}
-pub use Rattle.sdb_client.specs.declared.next.Next.{Next}
 pub use Rattle.sdb_exec.specs.declared.plan.PlanStep.{PlanStep}
 pub use Rattle.sdb_model.specs.declared.answer.Answer.{Answer}
 pub use Rattle.sdb_model.specs.declared.answer.Refusal.{Refusal}

@@ -18,7 +18,7 @@ use Rattle.sdb_model.specs.declared.event.Event.TheVariants as event
 use Rattle.sdb_model.specs.Rows.{Name}
 use Rattle.law_protocol.specs.Plan.{Plan}
 use Rattle.law_protocol.specs.History as laws
-use Rattle.law_protocol.specs.History.{Action, Other, Removes}
+use Rattle.law_protocol.specs.History.{Action, Other}
 use Rattle.law_protocol.specs.Lawful.{Labelled, IsEnabled, protocol_state, is_quiet, labelled_with, ends_with}
 use Rattle.sdb_phases.specs.declared.step.RecoverStep.TheVariants as steps
 use Rattle.sdb_phases.specs.declared.step.RecoverPhase.TheVariants as phase
@@ -26,7 +26,7 @@ use Rattle.sdb_phases.specs.Recover.{recover_next, recover_request_at}
 use Rattle.sdb_snapshot.specs.Seen.{Seen}
 use Rattle.law_clients.specs.Reads.{OpenOk, SeenOk}
 use Rattle.law_clients.specs.Reader.{RecoverOk, recover_action}
-use Rattle.law_clients.specs.ReadAt.{AreKinds, IsKind, ReadAt, Asking, Resolving, Done, Failed, read_pending, read_action, read_step, IsImage, IsLeft, IsOfData, ReadOk, keys_of}
+use Rattle.law_clients.specs.ReadAt.{IsKind, ReadAt, Asking, Resolving, Done, Failed, read_pending, read_action, read_step, IsImage, IsLeft, IsOfData, ReadOk, keys_of}
 use Rattle.law_clients.specs.Vacuum as vacuum
 use Rattle.law_clients.specs.Vacuum.{VacuumModel, VacuumModelOk, remove_or, removes_action, vacuum_rows, vacuum_one, vacuum_resolved, vacuum_removed, vacuum_scanned, vacuum_call, vacuum_action, vacuum_model_step}
 use Rattle.law_clients.specs.System.{Reading, RunsVacuum, Resting, ClientOk, Has, is_in_vacuum, Gate, SystemAt, SystemOk, with_client, ClientCall, call_event, IsReplyTo, IsInState}
@@ -39,6 +39,8 @@ use Rattle.law_clients.proofs.Rows.{rise_is, inside_each, rows_left, read_kept, 
 use Rattle.law_clients.proofs.Seen.{seen_later}
 use Rattle.sdb_txn.specs.Read.{request_of, Kind, Firm, Open, Bad}
 use Rattle.sdb_model.specs.Tables.{is_data}
+use Rattle.law_clients.proofs.Machine.{kind_is}
+use Rattle.sdb_txn.specs.Read.{kind_of}
 
 ---- parts of a recovery
 
@@ -118,19 +120,19 @@ read_may plan past a c (Resolving images rec meta p left) store q how r answered
 read_may plan past a c (Done images) store q how r answered ok asked = absurd (cc)
 read_may plan past a c Failed store q how r answered ok asked = absurd (cc)
 
-pub read_turn : (kind : Record → Kind) (plan : ℕ → Plan) (past : List Labelled) (sys : SystemAt) (x : ClientCall) (id : TxId) (seen : Seen) (a : Access) (s : ReadAt) (answered : Option Answer)
-    → AreKinds kind → IsInState plan past sys x.client (Reading id seen a s) → IsReplyTo (read_pending a s) x → answered ≢ Some answer.Committed
-    → SystemOk plan (labelled_with (read_action s x.reply) (call_event x answered) ∷ past) (with_client sys x.client (Reading id seen a (read_step kind s x.now x.reply)))
-read_turn kind plan past sys x id seen a s answered kinds agrees reply other = turned plan past sys c one (Reading id seen a (read_step kind s x.now r)) agrees.ok (record {
+pub read_turn : (plan : ℕ → Plan) (past : List Labelled) (sys : SystemAt) (x : ClientCall) (id : TxId) (seen : Seen) (a : Access) (s : ReadAt) (answered : Option Answer)
+    → IsInState plan past sys x.client (Reading id seen a s) → IsReplyTo (read_pending a s) x → answered ≢ Some answer.Committed
+    → SystemOk plan (labelled_with (read_action s x.reply) (call_event x answered) ∷ past) (with_client sys x.client (Reading id seen a (read_step s x.now x.reply)))
+read_turn plan past sys x id seen a s answered agrees reply other = turned plan past sys c one (Reading id seen a (read_step s x.now r)) agrees.ok (record {
   by = refl;
   may = read_may plan past a c s x.store x.request x.how r answered known.3 reply.asked;
   ends = λ u n. absurd (cc (n));
   begins = apart_begins (read_action s r) (read_apart s r);
   is_known = λ e. absurd (other e);
   denies = λ x executed denial u n. absurd (cc (n));
-  knows = (open_later past one c id.0 (apart_event id.0 c (read_action s r) e (read_apart s r)) known.0, seen_later past one seen known.1, known.2, read_kept kind past a c s x.now x.store x.request x.how r answered kinds known.2 known.3 reply.asked reply.can reply.moment);
+  knows = (open_later past one c id.0 (apart_event id.0 c (read_action s r) e (read_apart s r)) known.0, seen_later past one seen known.1, known.2, read_kept past a c s x.now x.store x.request x.how r answered known.2 known.3 reply.asked reply.can reply.moment);
   holds = λ u h o. inr (subst (λ x. Has x u) agrees.at h);
-  starts = no_start (Reading id seen a (read_step kind s x.now r)) refl;
+  starts = no_start (Reading id seen a (read_step s x.now r)) refl;
 })
   where
     c : ℕ
@@ -222,31 +224,31 @@ remove_ok past b left rest image outside l ok = by (is_tombstone b) refl
     by true gone = (image, gone, outside, l)
     by false kept = ok
 
-sweep_ok : (kind : Record → Kind) (past : List Labelled) (left : List Record) → AreKinds kind → AllByRecursion (IsLeft past) left → VacuumModelOk past (vacuum_rows kind left)
-sweep_ok kind past [] kinds l = tt
-sweep_ok kind past (r ∷ left) kinds l = by (kind r) (kinds r) (sweep_ok kind past left kinds l.1)
+sweep_ok : (past : List Labelled) (left : List Record) → AllByRecursion (IsLeft past) left → VacuumModelOk past (vacuum_rows left)
+sweep_ok past [] l = tt
+sweep_ok past (r ∷ left) l = by (kind_of r) (kind_is r) (sweep_ok past left l.1)
   where
-    by : (x : Kind) → IsKind r x → VacuumModelOk past (vacuum_rows kind left) → VacuumModelOk past (vacuum_one x r left (vacuum_rows kind left))
-    by Firm k rest = remove_ok past r left (vacuum_rows kind left) (Rattle.law_protocol.specs.Lawful.Itself l.0.0 refl k.1, k.0, k.1) l.0.1 l.1 rest
+    by : (x : Kind) → IsKind r x → VacuumModelOk past (vacuum_rows left) → VacuumModelOk past (vacuum_one x r left (vacuum_rows left))
+    by Firm k rest = remove_ok past r left (vacuum_rows left) (Rattle.law_protocol.specs.Lawful.Itself l.0.0 refl k.1, k.0, k.1) l.0.1 l.1 rest
     by (Open meta) k rest = (record { of = meta_of r meta k.0 k.1; unresolved = k.0; observed = l.0.0; outside = l.0.1; phase = tt }, l.1)
     by Bad k rest = tt
 
-scanned_ok : (kind : Record → Kind) (past : List Labelled) (c : ℕ) (span : Span) (store : Name) (how : How) (r : Reply) (answered : Option Answer) → AreKinds kind → IsOfData (access.Scan span) → CanAnswer (ask.Scan span) r → VacuumModelOk (labelled_with Other (event.Call c store (ask.Scan span) how r answered) ∷ past) (vacuum_scanned kind r)
-scanned_ok kind past c span store how reply.Fault answered kinds tables can = tt
-scanned_ok kind past c span store how reply.NoMemory answered kinds tables can = tt
-scanned_ok kind past c span store how reply.Applied answered kinds tables can = tt
-scanned_ok kind past c span store how (reply.NotMet found) answered kinds tables can = tt
-scanned_ok kind past c span store how (reply.Found found) answered kinds tables can = tt
-scanned_ok kind past c span store how (reply.Rows rows) answered kinds tables can =
+scanned_ok : (past : List Labelled) (c : ℕ) (span : Span) (store : Name) (how : How) (r : Reply) (answered : Option Answer) → IsOfData (access.Scan span) → CanAnswer (ask.Scan span) r → VacuumModelOk (labelled_with Other (event.Call c store (ask.Scan span) how r answered) ∷ past) (vacuum_scanned r)
+scanned_ok past c span store how reply.Fault answered tables can = tt
+scanned_ok past c span store how reply.NoMemory answered tables can = tt
+scanned_ok past c span store how reply.Applied answered tables can = tt
+scanned_ok past c span store how (reply.NotMet found) answered tables can = tt
+scanned_ok past c span store how (reply.Found found) answered tables can = tt
+scanned_ok past c span store how (reply.Rows rows) answered tables can =
     let up = rise_is rows (and_first (rise rows) (list_all (λ r. in_span span r.key) rows) can) in
     let inside = inside_each span rows (and_second (rise rows) (list_all (λ r. in_span span r.key) rows) can) in
     let q : Labelled = labelled_with Other (event.Call c store (ask.Scan span) how (reply.Rows rows) answered) in
-    sweep_ok kind (q ∷ past) rows kinds (rows_left past q rows (λ x f. inl f) up (each_any (λ k. in_span span k ≡ true) (λ k. is_data k ≡ true) (keys_of rows) tables inside))
+    sweep_ok (q ∷ past) rows (rows_left past q rows (λ x f. inl f) up (each_any (λ k. in_span span k ≡ true) (λ k. is_data k ≡ true) (keys_of rows) tables inside))
 
-sweep_resolved_ok : (kind : Record → Kind) (past : List Labelled) (c : ℕ) (rec : Record) (meta : Meta) (p : RecoverPhase) (left : List Record) (now : ℤ) (store : Name) (q : Request) (how : How) (r : Reply) (answered : Option Answer)
-    → AreKinds kind → VacuumModelOk past (vacuum.Resolving rec meta p left) → recover_request_at rec meta p ≡ Some q → CanAnswer q r → is_moment now ≡ true
-    → VacuumModelOk (labelled_with (recover_action rec meta p r) (event.Call c store q how r answered) ∷ past) (vacuum_resolved kind rec meta left (recover_next rec meta p now r))
-sweep_resolved_ok kind past c rec meta p left now store q how r answered kinds ok asked can moment = by (recover_next rec meta p now r) refl
+sweep_resolved_ok : (past : List Labelled) (c : ℕ) (rec : Record) (meta : Meta) (p : RecoverPhase) (left : List Record) (now : ℤ) (store : Name) (q : Request) (how : How) (r : Reply) (answered : Option Answer)
+    → VacuumModelOk past (vacuum.Resolving rec meta p left) → recover_request_at rec meta p ≡ Some q → CanAnswer q r → is_moment now ≡ true
+    → VacuumModelOk (labelled_with (recover_action rec meta p r) (event.Call c store q how r answered) ∷ past) (vacuum_resolved rec meta left (recover_next rec meta p now r))
+sweep_resolved_ok past c rec meta p left now store q how r answered ok asked can moment = by (recover_next rec meta p now r) refl
   where
     one : Labelled
     one = labelled_with (recover_action rec meta p r) (event.Call c store q how r answered)
@@ -254,43 +256,43 @@ sweep_resolved_ok kind past c rec meta p left now store q how r answered kinds o
     left_now : AllByRecursion (IsLeft (one ∷ past)) left
     left_now = left_later past one left ok.1
 
-    by : (n : RecoverPhase × RecoverStep) → recover_next rec meta p now r ≡ n → VacuumModelOk (one ∷ past) (vacuum_resolved kind rec meta left n)
+    by : (n : RecoverPhase × RecoverStep) → recover_next rec meta p now r ≡ n → VacuumModelOk (one ∷ past) (vacuum_resolved rec meta left n)
     by (n, steps.More) e = (subst (λ (x : RecoverPhase × RecoverStep). RecoverOk (one ∷ past) rec meta x.0) e (recover_kept past c rec meta p now store q how r answered ok.0 asked can moment), left_now)
-    by (n, steps.Image None) e = sweep_ok kind (one ∷ past) left kinds left_now
+    by (n, steps.Image None) e = sweep_ok (one ∷ past) left left_now
     by (n, steps.Image (Some b)) e =
         let i = image_after past one rec meta p now r b ok.0 (ap (λ (x : RecoverPhase × RecoverStep). x.1) e) in
-        remove_ok (one ∷ past) b left (vacuum_rows kind left) i.0 (ap is_data i.1 ∙ ok.0.outside) left_now (sweep_ok kind (one ∷ past) left kinds left_now)
-    by (n, steps.Busy id prepared_at) e = sweep_ok kind (one ∷ past) left kinds left_now
+        remove_ok (one ∷ past) b left (vacuum_rows left) i.0 (ap is_data i.1 ∙ ok.0.outside) left_now (sweep_ok (one ∷ past) left left_now)
+    by (n, steps.Busy id prepared_at) e = sweep_ok (one ∷ past) left left_now
     by (n, steps.Faulted) e = tt
     by (n, steps.BadRecord key) e = tt
     by (n, steps.NoMemory) e = tt
 
-removed_ok : (kind : Record → Kind) (past : List Labelled) (q : Labelled) (left : List Record) (r : Reply) → AreKinds kind → AllByRecursion (IsLeft past) left → VacuumModelOk (q ∷ past) (vacuum_removed kind left r)
-removed_ok kind past q left reply.Applied kinds l = sweep_ok kind (q ∷ past) left kinds (left_later past q left l)
-removed_ok kind past q left (reply.NotMet found) kinds l = sweep_ok kind (q ∷ past) left kinds (left_later past q left l)
-removed_ok kind past q left reply.Fault kinds l = tt
-removed_ok kind past q left reply.NoMemory kinds l = tt
-removed_ok kind past q left (reply.Found found) kinds l = tt
-removed_ok kind past q left (reply.Rows rows) kinds l = tt
+removed_ok : (past : List Labelled) (q : Labelled) (left : List Record) (r : Reply) → AllByRecursion (IsLeft past) left → VacuumModelOk (q ∷ past) (vacuum_removed left r)
+removed_ok past q left reply.Applied l = sweep_ok (q ∷ past) left (left_later past q left l)
+removed_ok past q left (reply.NotMet found) l = sweep_ok (q ∷ past) left (left_later past q left l)
+removed_ok past q left reply.Fault l = tt
+removed_ok past q left reply.NoMemory l = tt
+removed_ok past q left (reply.Found found) l = tt
+removed_ok past q left (reply.Rows rows) l = tt
 
-sweep_kept : (kind : Record → Kind) (past : List Labelled) (c : ℕ) (v : VacuumModel) (now : ℤ) (store : Name) (q : Request) (how : How) (r : Reply) (answered : Option Answer) → AreKinds kind → VacuumModelOk past v → vacuum_call v ≡ Some q → CanAnswer q r → is_moment now ≡ true
-    → VacuumModelOk (labelled_with (vacuum_action v r) (event.Call c store q how r answered) ∷ past) (vacuum_model_step kind v now r)
-sweep_kept kind past c (vacuum.Scanning span) now store q how r answered kinds ok asked can moment = subst (λ x. CanAnswer x r → VacuumModelOk (labelled_with Other (event.Call c store x how r answered) ∷ past) (vacuum_scanned kind r)) (some_is (ask.Scan span) q asked) (scanned_ok kind past c span store how r answered kinds ok) can
-sweep_kept kind past c (vacuum.Resolving rec meta p left) now store q how r answered kinds ok asked can moment = sweep_resolved_ok kind past c rec meta p left now store q how r answered kinds ok asked can moment
-sweep_kept kind past c (vacuum.Removing b left) now store q how r answered kinds ok asked can moment = removed_ok kind past (labelled_with (removes_action b (id_in b.columns)) (event.Call c store q how r answered)) left r kinds ok.3
-sweep_kept kind past c vacuum.Between now store q how r answered kinds ok asked can moment = tt
+sweep_kept : (past : List Labelled) (c : ℕ) (v : VacuumModel) (now : ℤ) (store : Name) (q : Request) (how : How) (r : Reply) (answered : Option Answer) → VacuumModelOk past v → vacuum_call v ≡ Some q → CanAnswer q r → is_moment now ≡ true
+    → VacuumModelOk (labelled_with (vacuum_action v r) (event.Call c store q how r answered) ∷ past) (vacuum_model_step v now r)
+sweep_kept past c (vacuum.Scanning span) now store q how r answered ok asked can moment = subst (λ x. CanAnswer x r → VacuumModelOk (labelled_with Other (event.Call c store x how r answered) ∷ past) (vacuum_scanned r)) (some_is (ask.Scan span) q asked) (scanned_ok past c span store how r answered ok) can
+sweep_kept past c (vacuum.Resolving rec meta p left) now store q how r answered ok asked can moment = sweep_resolved_ok past c rec meta p left now store q how r answered ok asked can moment
+sweep_kept past c (vacuum.Removing b left) now store q how r answered ok asked can moment = removed_ok past (labelled_with (removes_action b (id_in b.columns)) (event.Call c store q how r answered)) left r ok.3
+sweep_kept past c vacuum.Between now store q how r answered ok asked can moment = tt
 
-pub vacuum_turn : (kind : Record → Kind) (plan : ℕ → Plan) (past : List Labelled) (sys : SystemAt) (x : ClientCall) (v : VacuumModel) (answered : Option Answer)
-    → AreKinds kind → IsInState plan past sys x.client (RunsVacuum v) → IsReplyTo (vacuum_call v) x → answered ≢ Some answer.Committed
-    → SystemOk plan (labelled_with (vacuum_action v x.reply) (call_event x answered) ∷ past) (with_client sys x.client (RunsVacuum (vacuum_model_step kind v x.now x.reply)))
-vacuum_turn kind plan past sys x v answered kinds agrees reply other = turned plan past sys c one (RunsVacuum (vacuum_model_step kind v x.now r)) agrees.ok (record {
+pub vacuum_turn : (plan : ℕ → Plan) (past : List Labelled) (sys : SystemAt) (x : ClientCall) (v : VacuumModel) (answered : Option Answer)
+    → IsInState plan past sys x.client (RunsVacuum v) → IsReplyTo (vacuum_call v) x → answered ≢ Some answer.Committed
+    → SystemOk plan (labelled_with (vacuum_action v x.reply) (call_event x answered) ∷ past) (with_client sys x.client (RunsVacuum (vacuum_model_step v x.now x.reply)))
+vacuum_turn plan past sys x v answered agrees reply other = turned plan past sys c one (RunsVacuum (vacuum_model_step v x.now r)) agrees.ok (record {
   by = refl;
   may = sweep_may plan past c v x.store x.request x.how r answered (agrees.ok.gate c (ap is_in_vacuum agrees.at)) known.1 reply.asked;
   ends = λ u n. absurd (cc (n));
   begins = apart_begins (vacuum_action v r) (sweep_apart v r);
   is_known = λ e. absurd (other e);
   denies = λ x executed denial u n. absurd (cc (n));
-  knows = (running past one c (apart_goes c (vacuum_action v r) (sweep_apart v r)) ∙ known.0, sweep_kept kind past c v x.now x.store x.request x.how r answered kinds known.1 reply.asked reply.can reply.moment);
+  knows = (running past one c (apart_goes c (vacuum_action v r) (sweep_apart v r)) ∙ known.0, sweep_kept past c v x.now x.store x.request x.how r answered known.1 reply.asked reply.can reply.moment);
   holds = λ u h o. absurd (subst (λ x. Has x u) agrees.at h);
   starts = λ t. ap is_in_vacuum agrees.at;
 })

@@ -25,7 +25,8 @@ use Rattle.sdb_phases.specs.Steps.{validate_step, judged}
 use Rattle.sdb_phases.specs.Commit.{Stage, Preparing, Checking, Deciding, Forward, Stopping, Back, Over, pending, step, after_check, out_of_memory, out_of_memory_answer}
 use Rattle.sdb_phases.specs.CommitLaws.{as_wished, is_more, IsLost}
 use Rattle.law_clients.specs.Owner.{CommitOk, StageOk, OverOk, IsReading, action_of, prepare_action, roll_action}
-use Rattle.law_clients.specs.System.{ClientAt, Committing, ClientOk, Has, is_in_vacuum, SystemAt, SystemOk, answer_at, ending_at, answer_of_outcome, commit_left, commit_labelled, with_client, ClientCall, call_event, IsReplyTo, IsInState}
+use Rattle.law_clients.specs.System.{ClientAt, Committing, ClientOk, Has, is_in_vacuum, SystemAt, SystemOk, answer_at, ending_at, commit_left, commit_labelled, with_client, ClientCall, call_event, IsReplyTo, IsInState}
+use Rattle.sdb_client.specs.Step.{answer_of_outcome}
 use Rattle.law_clients.proofs.Own.{prepare_lawful, check_lawful, decide_lawful, abort_lawful, forward_lawful, back_lawful}
 use Rattle.law_clients.proofs.Kept.{prepare_kept, decide_kept, look_kept, abort_kept, again_kept, stop_kept, forward_kept, back_kept, passed_kept}
 use Rattle.law_clients.proofs.Clients.{BeginsNone, turned, moved}

@@ -2,7 +2,7 @@
 use Rattle.std.proofs.Common.{◌≡◌, ℕ, true, List, [], ◌∷◌, Option, Some, None, refl, subst, arith}
 use Rattle.std.specs.Prelude.{pos, codes}
 use Rattle.std.specs.Ordering.{is_eq}
-use Rattle.law_clients.specs.Types.{Answer, Ordering, Record}
+use Rattle.law_clients.specs.Types.{Answer, Ordering}
 use Rattle.std.specs.declared.cmp.Ordering.TheVariants.{Less, Equal, Greater}
 use Rattle.std.proofs.lemmas.Bool.Decides.{nat_tests}
 use Rattle.sdb_types.specs.declared.record.Request.TheVariants as ask
@@ -32,15 +32,10 @@ use Rattle.law_clients.proofs.Calls.{read_turn}
 use Rattle.law_clients.proofs.Commit.{commit_turn}
 use Rattle.law_clients.proofs.Quiet.{quiet_turn, asks, read_set, writes}
 use Rattle.law_clients.proofs.Take.{take_turn}
-use Rattle.sdb_txn.specs.Read.{Kind, Bad}
 use Rattle.sdb_model.specs.Tables.{is_data}
 
 abbrev plans : ℕ → Plan
 plans t = no_plan
-
--- no row is accepted for a record here
-abbrev no_kind : Record → Kind
-no_kind r = Bad
 
 equal_of : (o : Ordering) → is_eq o ≡ true → o ≡ Equal
 equal_of Less h = absurd (cc (h))
@@ -83,7 +78,7 @@ count_other : ◌≡◌ {A = Option Answer} (Some (answer.Count 1)) (Some answer
 count_other e = cc
 
 key_read : SystemOk plans past3 sys3
-key_read = read_turn no_kind plans past2 sys2 (call_of (ask.Get account) (reply.Found None)) first_id nothing (access.Get account) Asking (Some (answer.Count 1)) (λ r. tt) (record { ok = key_asked; at = refl }) (record { asked = refl; can = tt; moment = refl }) (λ e. absurd (count_other e))
+key_read = read_turn plans past2 sys2 (call_of (ask.Get account) (reply.Found None)) first_id nothing (access.Get account) Asking (Some (answer.Count 1)) (record { ok = key_asked; at = refl }) (record { asked = refl; can = tt; moment = refl }) (λ e. absurd (count_other e))
 
 -- it is noted, and the row is written
 abbrev sys4 : SystemAt

@@ -17,9 +17,10 @@ use Rattle.sdb_snapshot.specs.Seen.{Seen, with_written}
 use Rattle.sdb_snapshot.specs.Written.{AreChanges}
 use Rattle.law_clients.specs.Reads.{MayRecord, SeenOk, with_read}
 use Rattle.law_clients.specs.Owner.{StageOk, action_of}
-use Rattle.law_clients.specs.ReadAt.{AreKinds, Done, IsOfData, ReadAt, read_pending, read_action, read_step}
+use Rattle.law_clients.specs.ReadAt.{Done, IsOfData, ReadAt, read_pending, read_action, read_step}
 use Rattle.law_clients.specs.Vacuum.{VacuumModel, Scanning, vacuum_call, vacuum_action, vacuum_model_step}
-use Rattle.law_clients.specs.System.{ClientAt, ClientCall, ClientOk, Has, IsReplyTo, Open, Committing, Reading, Resting, RunsVacuum, SamePlans, IsInState, SystemAt, SystemOk, answer_at, answer_of_outcome, call_event, commit_left, ending_at, idle, with_client}
+use Rattle.law_clients.specs.System.{ClientAt, ClientCall, ClientOk, Has, IsReplyTo, Open, Committing, Reading, Resting, RunsVacuum, SamePlans, IsInState, SystemAt, SystemOk, answer_at, call_event, commit_left, ending_at, idle, with_client}
+use Rattle.sdb_client.specs.Step.{answer_of_outcome}
 use Rattle.law_clients.proofs.Calls.{read_turn, read_ends_turn, vacuum_turn}
 use Rattle.law_clients.proofs.Commit.{commit_turn, own_kept}
 use Rattle.law_clients.proofs.Quiet.{gives_up, read_set, sweep_ends, sweep_goes, writes}
@@ -45,7 +46,6 @@ use Rattle.law_clients.proofs.InvariantTurns as one
 use Rattle.law_clients.proofs.Small.{committing_as, running_as, twice, waiting_as}
 use Rattle.law_clients.proofs.InvariantOwn.{IsPlainRole, closed_as, commit_plain, goes_gap, goes_over, gone, opened_as, over, plain_apart, plain_counts, read_plain, sweep_plain}
 use Rattle.sdb_types.proofs.Public.{and_false as no_second, clash, some_is}
-use Rattle.sdb_txn.specs.Read.{Kind}
 
 ---- one client
 
@@ -211,7 +211,7 @@ module _ (catalog : List Table) (fit : Tables → Bool) (events : List Event) (s
 
     ---- a call of a read
 
-    module _ (kind : Record → Kind) (kinds : AreKinds kind) (i : TxId) (seen : Seen) (a : Access) (s : ReadAt) (at_read : sys.clients c ≡ Reading i seen a s) (asked : IsReplyTo (read_pending a s) y) where
+    module _ (i : TxId) (seen : Seen) (a : Access) (s : ReadAt) (at_read : sys.clients c ≡ Reading i seen a s) (asked : IsReplyTo (read_pending a s) y) where
       held_then_read : IsOpened x.rest × IsRunning (doing c) x.waiting × ((ran n).seen ≡ seen)
       held_then_read = hand_at (Reading i seen a s) at_read
 
@@ -222,7 +222,7 @@ module _ (catalog : List Table) (fit : Tables → Bool) (events : List Event) (s
       read_untaken = ap (protocol_state g.past).accepted (sym read_id) ∙ (client_at (Reading i seen a s) at_read).0.fresh
 
       abbrev next_read : ReadAt
-      next_read = read_step kind s now reply
+      next_read = read_step s now reply
 
       made_then : IsMadeSince events c x.waiting (Reading i seen a s)
       made_then = subst (IsMadeSince events c x.waiting) at_read (g.as_read c).made
@@ -234,13 +234,13 @@ module _ (catalog : List Table) (fit : Tables → Bool) (events : List Event) (s
         x = x;
         ran = ran;
         same = same;
-        system = read_turn kind g.plan g.past sys y i seen a s None kinds (agrees (Reading i seen a s) at_read) asked (λ e. none_some e);
+        system = read_turn g.plan g.past sys y i seen a s None (agrees (Reading i seen a s) at_read) asked (λ e. none_some e);
         by = refl;
         others = client_stands sys c (Reading i seen a next_read);
         story = story_stays events g.past sys (with_client sys c (Reading i seen a next_read)) c x q story (plain_counts q.action plain) (plain_apart g.past c q.action plain) (keeps (Reading i seen a s) (Reading i seen a next_read) at_read (λ u h. h)) call_silent;
         own = record { ended = (kept q plain).0; opened = (kept q plain).1; next_state = subst (IsOpenOf (doing c) x (ran n)) (sym (here (Reading i seen a next_read))) held_then_read };
         as_read = noted_elsewhere events c q.event (sys.clients c) x ran (g.as_read c) ((with_client sys c (Reading i seen a next_read)).clients c) (subst (IsMadeSince (events ++ q.event ∷ []) c x.waiting) (sym (here (Reading i seen a next_read)))
-            (made_reads kind events c x.waiting i seen a s store request how reply now None kinds (g.as_read c).accepted made_then asked.asked asked.can));
+            (made_reads events c x.waiting i seen a s store request how reply now None (g.as_read c).accepted made_then asked.asked asked.can));
       })
         where
           none_some : ◌≡◌ {A = Option Answer} None (Some answer.Committed) → ⊥
@@ -267,7 +267,7 @@ module _ (catalog : List Table) (fit : Tables → Bool) (events : List Event) (s
         is_said_read = said_later events g.past sys c x answered_q w.0 store request how reply b story w.1 refl
 
         system_read : IsMild b → SystemOk g.plan (answered_q ∷ g.past) (with_client sys c (Reading i seen a next_read))
-        system_read m = read_turn kind g.plan g.past sys y i seen a s (Some b) kinds (agrees (Reading i seen a s) at_read) asked (uncommitted (Some b) b refl m)
+        system_read m = read_turn g.plan g.past sys y i seen a s (Some b) (agrees (Reading i seen a s) at_read) asked (uncommitted (Some b) b refl m)
 
         stands_read : IsMild b → IsInState g.plan (answered_q ∷ g.past) (with_client sys c (Reading i seen a next_read)) c (Reading i seen a next_read)
         stands_read m = record { ok = system_read m; at = here (Reading i seen a next_read) }
@@ -279,7 +279,7 @@ module _ (catalog : List Table) (fit : Tables → Bool) (events : List Event) (s
         made_before = subst (λ o. IsMadeSince events c o (Reading i seen a s)) w.1 made_then
 
         made_now : ReadMade (calls_since (events ++ answered_q.event ∷ []) c w.0.accepted) a next_read
-        made_now = since_read kind events c w.0.accepted a s store request how reply now (Some b) kinds taken_before made_before asked.asked asked.can
+        made_now = since_read events c w.0.accepted a s store request how reply now (Some b) taken_before made_before asked.asked asked.can
 
         inside_then : InsideOk catalog fit (answered_q ∷ g.past) (opened_as x.rest held_then_read.0).2 (ran n)
         inside_then = (open_ran answered_q (read_plain s reply) (opened_as x.rest held_then_read.0).0 (opened_as x.rest held_then_read.0).1 (opened_as x.rest held_then_read.0).2 (opened_as x.rest held_then_read.0).3).inside
@@ -420,18 +420,18 @@ module _ (catalog : List Table) (fit : Tables → Bool) (events : List Event) (s
 
     ---- a call of a VACUUM
 
-    module _ (kind : Record → Kind) (kinds : AreKinds kind) (v : VacuumModel) (at_sweep : sys.clients c ≡ RunsVacuum v) (asked : IsReplyTo (vacuum_call v) y) where
+    module _ (v : VacuumModel) (at_sweep : sys.clients c ≡ RunsVacuum v) (asked : IsReplyTo (vacuum_call v) y) where
       held_then_sweep : IsClosed x.rest × IsWaiting x.waiting
       held_then_sweep = hand_at (RunsVacuum v) at_sweep
 
       abbrev next_sweep : VacuumModel
-      next_sweep = vacuum_model_step kind v now reply
+      next_sweep = vacuum_model_step v now reply
 
       abbrev vacuumed : Option Answer → Labelled
       vacuumed a = labelled_with (vacuum_action v reply) (call_event y a)
 
       system_swept : (a : Option Answer) → (a ≡ Some answer.Committed → ⊥) → SystemOk g.plan (vacuumed a ∷ g.past) (with_client sys c (RunsVacuum next_sweep))
-      system_swept a other = vacuum_turn kind g.plan g.past sys y v a kinds (agrees (RunsVacuum v) at_sweep) asked other
+      system_swept a other = vacuum_turn g.plan g.past sys y v a (agrees (RunsVacuum v) at_sweep) asked other
 
       stands_swept : (a : Option Answer) → (a ≡ Some answer.Committed → ⊥) → IsInState g.plan (vacuumed a ∷ g.past) (with_client sys c (RunsVacuum next_sweep)) c (RunsVacuum next_sweep)
       stands_swept a other = record { ok = system_swept a other; at = here (RunsVacuum next_sweep) }

@@ -25,7 +25,7 @@ use Rattle.sdb_phases.specs.Commit.{Stage, Preparing, Checking, Deciding, Forwar
 use Rattle.sdb_phases.specs.Work.{Work}
 use Rattle.sdb_snapshot.specs.Seen.{Seen, nothing, with_written}
 use Rattle.law_clients.specs.Reads.{with_read}
-use Rattle.law_clients.specs.ReadAt.{AreKinds, Done, IsOfData, ReadAt, read_pending, read_step}
+use Rattle.law_clients.specs.ReadAt.{Done, IsOfData, ReadAt, read_pending, read_step}
 use Rattle.law_clients.specs.System.{ClientAt, Committing, IsBy, Open, Reading, Resting, Stopped, RunsVacuum, commit_left}
 use Rattle.law_clients.proofs.Lists.{each_more}
 use Rattle.law_clients.specs.Calls.{IsMade, ReadsNothing, RecordsRead, ReadMade, WasAnswered, call_made, calls_since}
@@ -40,7 +40,7 @@ use Rattle.law_clients.specs.Invariant.{IsSilent}
 use Rattle.law_clients.specs.Progress.{FinishesOn}
 use Rattle.law_clients.specs.ReadSets.{ReadSetsOfClient, ReadSetsEnded, ReadSetInside, IsMadeSince, ReadSetOpened}
 use Rattle.law_clients.proofs.InvariantOwn.{below, finished, ran_before, ran_here, settled_begin, settled_gap, settled_inside, settled_over}
-use Rattle.sdb_txn.specs.Read.{request_of, Kind}
+use Rattle.sdb_txn.specs.Read.{request_of}
 
 ---- numbers of events
 
@@ -292,17 +292,17 @@ not_rows (access.Scan span) tables = untrue (is_coordinator_table span.table) (t
     there = ap (λ b. b && is_partition span.partition inside) (ap is_eq (tied_itself table_total span.table)) ∙ of_part span.partition
 
 -- A read whose call was made and answered has made one call more since its statement was accepted.
-pub since_read : (kind : Record → Kind) (events : List Event) (c accepted : ℕ) (a : Access) (s : ReadAt) (store : Name) (q : Request) (how : How) (r : Reply) (now : ℤ) (o : Option Answer) → AreKinds kind → accepted ≤ length events → ReadMade (calls_since events c accepted) a s
-    → read_pending a s ≡ Some q → CanAnswer q r → ReadMade (calls_since (events ++ event.Call c store q how r o ∷ []) c accepted) a (read_step kind s now r)
-since_read kind events c accepted a s store q how r now o kinds low made pending can =
+pub since_read : (events : List Event) (c accepted : ℕ) (a : Access) (s : ReadAt) (store : Name) (q : Request) (how : How) (r : Reply) (now : ℤ) (o : Option Answer) → accepted ≤ length events → ReadMade (calls_since events c accepted) a s
+    → read_pending a s ≡ Some q → CanAnswer q r → ReadMade (calls_since (events ++ event.Call c store q how r o ∷ []) c accepted) a (read_step s now r)
+since_read events c accepted a s store q how r now o low made pending can =
     let m : StoreCall = record { at = 1 + length events; store = store; request = q; how = how; reply = r } in
-    subst (λ ms. ReadMade ms a (read_step kind s now r)) (sym (since_more events c accepted (event.Call c store q how r o) low ∙ ap (λ ms. calls_since events c accepted ++ ms) (own_call c (1 + length events) store q how r o)))
-    (read_made kind (calls_since events c accepted) m a s now q r kinds made pending can (record { request = refl; reply = refl }))
+    subst (λ ms. ReadMade ms a (read_step s now r)) (sym (since_more events c accepted (event.Call c store q how r o) low ∙ ap (λ ms. calls_since events c accepted ++ ms) (own_call c (1 + length events) store q how r o)))
+    (read_made (calls_since events c accepted) m a s now q r made pending can (record { request = refl; reply = refl }))
 
-pub made_reads : (kind : Record → Kind) (events : List Event) (c : ℕ) (w : Option Executed) (i : TxId) (seen : Seen) (a : Access) (s : ReadAt) (store : Name) (q : Request) (how : How) (r : Reply) (now : ℤ) (o : Option Answer) → AreKinds kind → IfSome w (λ w. w.accepted ≤ length events)
-    → IsMadeSince events c w (Reading i seen a s) → read_pending a s ≡ Some q → CanAnswer q r → IsMadeSince (events ++ event.Call c store q how r o ∷ []) c w (Reading i seen a (read_step kind s now r))
-made_reads kind events c None i seen a s store q how r now o kinds low made pending can = tt
-made_reads kind events c (Some w) i seen a s store q how r now o kinds low made pending can = since_read kind events c w.accepted a s store q how r now o kinds low made pending can
+pub made_reads : (events : List Event) (c : ℕ) (w : Option Executed) (i : TxId) (seen : Seen) (a : Access) (s : ReadAt) (store : Name) (q : Request) (how : How) (r : Reply) (now : ℤ) (o : Option Answer) → IfSome w (λ w. w.accepted ≤ length events)
+    → IsMadeSince events c w (Reading i seen a s) → read_pending a s ≡ Some q → CanAnswer q r → IsMadeSince (events ++ event.Call c store q how r o ∷ []) c w (Reading i seen a (read_step s now r))
+made_reads events c None i seen a s store q how r now o low made pending can = tt
+made_reads events c (Some w) i seen a s store q how r now o low made pending can = since_read events c w.accepted a s store q how r now o low made pending can
 
 -- Where by all calls up to a reply the read of a statement has not finished, which the reply answers, it has not.
 pub notes_unfinished : (events : List Event) (c : ℕ) (store : Name) (q : Request) (how : How) (r : Reply) (s : Executed) (b : Answer) → IsJustAnswered events s → s.answer ≡ Some b → s.accepted ≤ length events → ((m : StoreCall) → IsMade m q r → read_finished (calls_since events c s.accepted ++ m ∷ []) b ≡ false)

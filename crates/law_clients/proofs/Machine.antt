@@ -9,38 +9,39 @@ use Rattle.sdb_phases.specs.declared.step.RecoverStep.TheVariants as steps
 use Rattle.sdb_phases.specs.Recover.{recover_next}
 use Rattle.sdb_txn.specs.declared.read.ReadStep.TheVariants as step
 use Rattle.sdb_txn.specs.Read as machine
-use Rattle.law_clients.specs.Machine.{kind_at, machine_kind, abstract_read}
-use Rattle.law_clients.specs.ReadAt.{AreKinds, IsKind, after_recovery, read_pending, read_step, settle, settle_one, settle_reply}
+use Rattle.law_clients.specs.Machine.{abstract_read}
+use Rattle.law_clients.specs.ReadAt.{IsKind, after_recovery, read_pending, read_step, settle, settle_one, settle_reply}
 use Rattle.sdb_txn.specs.Read.{request_of}
 
 ---- rows
 
-opened_kind : (r : Record) (m : Result Meta (List ℕ)) → is_transactional r ≡ true → is_in state.Committed r.columns ≡ false → checked r.columns ≡ m → IsKind r (kind_at (machine.opened m))
+opened_kind : (r : Record) (m : Result Meta (List ℕ)) → is_transactional r ≡ true → is_in state.Committed r.columns ≡ false → checked r.columns ≡ m → IsKind r (machine.opened m)
 opened_kind r (Ok meta) t i e = (rw (t, i) refl, e)
 opened_kind r (Err column) t i e = tt
 
-pub machine_kinds : AreKinds machine_kind
-machine_kinds r =
-    elim (is_transactional r) as (λ t. is_transactional r ≡ t → IsKind r (kind_at (cond t (cond (is_in state.Committed r.columns) machine.Firm (machine.opened (checked r.columns))) machine.Bad))) [
-      | true ↦ λ t. elim (is_in state.Committed r.columns) as (λ i. is_in state.Committed r.columns ≡ i → IsKind r (kind_at (cond i machine.Firm (machine.opened (checked r.columns))))) [
+-- A record is of the kind that it is accepted for.
+pub kind_is : (r : Record) → IsKind r (machine.kind_of r)
+kind_is r =
+    elim (is_transactional r) as (λ t. is_transactional r ≡ t → IsKind r ((cond t (cond (is_in state.Committed r.columns) machine.Firm (machine.opened (checked r.columns))) machine.Bad))) [
+      | true ↦ λ t. elim (is_in state.Committed r.columns) as (λ i. is_in state.Committed r.columns ≡ i → IsKind r ((cond i machine.Firm (machine.opened (checked r.columns))))) [
         | true ↦ λ i. (t, i)
         | false ↦ λ i. opened_kind r (checked r.columns) t i refl
       ] refl
       | false ↦ λ t. tt
     ] refl
 
-one_same : (k : machine.Kind) (images : List Record) (r : Record) (left : List Record) (rest : machine.ReadStage) → abstract_read (machine.settle_one k images r left rest) ≡ settle_one (kind_at k) images r left (abstract_read rest)
+one_same : (k : machine.Kind) (images : List Record) (r : Record) (left : List Record) (rest : machine.ReadStage) → abstract_read (machine.settle_one k images r left rest) ≡ settle_one k images r left (abstract_read rest)
 one_same machine.Firm images r left rest = refl
 one_same (machine.Open meta) images r left rest = refl
 one_same machine.Bad images r left rest = refl
 
-settle_same : (images left : List Record) → abstract_read (machine.settle images left) ≡ settle machine_kind images left
+settle_same : (images left : List Record) → abstract_read (machine.settle images left) ≡ settle images left
 settle_same images [] = refl
-settle_same images (r ∷ left) = one_same (machine.kind_of r) images r left (machine.settle (images ++ r ∷ []) left) ∙ ap (settle_one (machine_kind r) images r left) (settle_same (images ++ r ∷ []) left)
+settle_same images (r ∷ left) = one_same (machine.kind_of r) images r left (machine.settle (images ++ r ∷ []) left) ∙ ap (settle_one (machine.kind_of r) images r left) (settle_same (images ++ r ∷ []) left)
 
 ---- replies
 
-answered_same : (r : Reply) → abstract_read (machine.answered r) ≡ settle_reply machine_kind r
+answered_same : (r : Reply) → abstract_read (machine.answered r) ≡ settle_reply r
 answered_same (reply.Found None) = refl
 answered_same (reply.Found (Some r)) = settle_same [] (r ∷ [])
 answered_same (reply.Rows rows) = settle_same [] rows
@@ -49,7 +50,7 @@ answered_same (reply.NotMet found) = refl
 answered_same reply.Fault = refl
 answered_same reply.NoMemory = refl
 
-resolved_same : (images : List Record) (rec : Record) (meta : Meta) (left : List Record) (n : RecoverPhase × RecoverStep) → abstract_read (machine.resolved images rec meta left n) ≡ after_recovery machine_kind images rec meta left n
+resolved_same : (images : List Record) (rec : Record) (meta : Meta) (left : List Record) (n : RecoverPhase × RecoverStep) → abstract_read (machine.resolved images rec meta left n) ≡ after_recovery images rec meta left n
 resolved_same images rec meta left (p, steps.More) = refl
 resolved_same images rec meta left (p, steps.Image None) = settle_same images left
 resolved_same images rec meta left (p, steps.Image (Some b)) = settle_same (images ++ b ∷ []) left
@@ -58,7 +59,7 @@ resolved_same images rec meta left (p, steps.Faulted) = refl
 resolved_same images rec meta left (p, steps.BadRecord key) = refl
 resolved_same images rec meta left (p, steps.NoMemory) = refl
 
-pub machine_steps : (s : machine.ReadStage) (now : ℤ) (r : Reply) → abstract_read (machine.read_step s now r) ≡ read_step machine_kind (abstract_read s) now r
+pub machine_steps : (s : machine.ReadStage) (now : ℤ) (r : Reply) → abstract_read (machine.read_step s now r) ≡ read_step (abstract_read s) now r
 machine_steps machine.Asking now r = answered_same r
 machine_steps (machine.Resolving images rec meta p left) now r = resolved_same images rec meta left (recover_next rec meta p now r)
 machine_steps (machine.Ended step.More) now r = refl

@@ -1,22 +1,20 @@
 -- What the metadata of an unresolved record and a coordinator's row say, and that images are committed records of their keys.
-use Rattle.std.proofs.Common.{◌≡◌, ◌<◌, ◌^◌, ℕ, ℤ, Bool, true, false, cond, List, Option, Some, None, Result, Ok, Err, refl, sym, ap, ◌∙◌}
-use Rattle.std.specs.Prelude.{if◌then◌else◌, not, find}
+use Rattle.std.proofs.Common.{◌≡◌, ◌<◌, ◌^◌, ℕ, ℤ, Bool, true, false, cond, List, Option, Some, None, Result, Ok, Err, sym, ap, ◌∙◌}
+use Rattle.std.specs.Prelude.{not, find}
 use Rattle.std.specs.List.{list_any}
 use Rattle.law_clients.specs.Types.{Decided, Meta, Pair, Record, TxId, Value}
 use Rattle.sdb_types.specs.declared.value.Value.TheVariants as value
 use Rattle.sdb_types.specs.declared.record.State.TheVariants.{Committed}
 use Rattle.sdb_types.specs.Columns.{column}
 use Rattle.sdb_types.specs.Contents.{tx_id}
-use Rattle.sdb_types.proofs.Public.{and_both, and_first}
+use Rattle.sdb_types.proofs.Public.{and_first}
 use Rattle.sdb_record.specs.declared.coordinator.Decision.TheVariants as decision
 use Rattle.sdb_record.specs.Meta.{id_in, id_in_value, is_in, is_moment, is_committed, is_transactional, is_unresolved, checked, checked_before, checked_part, refuse, with_before, is_misnamed}
 use Rattle.sdb_record.specs.Parts.{before_record, before_part, is_before_pair}
 use Rattle.sdb_record.specs.Rolls.{forward_record}
 use Rattle.sdb_record.proofs.Public.{accepted, checked-state, id_of_text-is, image-is, image-open, refuse-ok}
-use Rattle.law_clients.specs.ReadAt.{AreKinds, IsKind, kind_by, kind_of}
 use Rattle.law_clients.specs.Reader.{IsMetaOf}
 use Rattle.sdb_txn.proofs.Public.{held_of}
-use Rattle.sdb_txn.specs.Read.{Firm, Open, Bad}
 
 ---- a row's moment
 
@@ -65,21 +63,3 @@ pub before_firm : (r b : Record) → is_unresolved r ≡ true → before_record 
 before_firm r b loose says =
     let i = image-is r b None (and_first (is_transactional r) (not (is_in Committed r.columns)) loose) tt (image-open r None (held_of r loose) ∙ says) in
     record { key = i.key; accepted = i.accepted; committed = i.committed }
-
----- kinds
-
--- What a record is by its columns it is.
-pub kinds_are : AreKinds kind_of
-kinds_are r = by (is_transactional r) refl
-  where
-    committed : (m : Meta) → is_transactional r ≡ true → checked r.columns ≡ Ok m → (b : Bool) → is_committed m.state ≡ b → IsKind r (if b then Firm else Open m)
-    committed m accepted says true t = (accepted, checked-state r.columns m says ∙ t)
-    committed m accepted says false f = (and_both (is_transactional r) (not (is_in Committed r.columns)) accepted (ap not (checked-state r.columns m says ∙ f)), says)
-
-    at : (c : Result Meta (List ℕ)) → is_transactional r ≡ true → checked r.columns ≡ c → IsKind r (kind_by c)
-    at (Err column) accepted says = tt
-    at (Ok m) accepted says = committed m accepted says (is_committed m.state) refl
-
-    by : (b : Bool) → is_transactional r ≡ b → IsKind r (if b then kind_by (checked r.columns) else Bad)
-    by true accepted = at (checked r.columns) accepted refl
-    by false f = tt

@@ -27,11 +27,13 @@ use Rattle.sdb_phases.specs.Work.{abort_of, look_of}
 use Rattle.sdb_txn.specs.Read.{Bad, Firm, Kind, Open, request_of}
 use Rattle.sdb_snapshot.specs.Reads.{reads_of}
 use Rattle.law_clients.specs.Reads.{first_image}
-use Rattle.law_clients.specs.ReadAt.{AreKinds, IsKind, ReadAt, Asking, Resolving, Done, Failed, after_recovery, read_pending, read_step, settle, settle_one, settle_reply}
+use Rattle.law_clients.specs.ReadAt.{IsKind, ReadAt, Asking, Resolving, Done, Failed, after_recovery, read_pending, read_step, settle, settle_one, settle_reply}
 use Rattle.law_clients.proofs.Lists.{each_more}
 use Rattle.law_clients.specs.Calls.{HasMeaning, IsMade, ReadMade, RowsMade, read_item_with, rows_of}
 use Rattle.law_clients.proofs.Meanings.{IsRollTo, all_have_more, each_of, ends_rolled, find_last, goes_on_unrolled, meaning_rolled, meaning_settled, meanings_more, read_unrolled, reads_meant, rolls_none_after, unrolled_more}
 use Rattle.sdb_txn.proofs.Public.{held_of}
+use Rattle.law_clients.proofs.Machine.{kind_is}
+use Rattle.sdb_txn.specs.Read.{kind_of}
 
 some_is : {A : Type 0} (x y : A) → Some x ≡ Some y → y ≡ x
 some_is x y e = cc
@@ -56,11 +58,11 @@ row_done ms a images r left made has checks more e = record {
   others = made.others;
 }
 
-pub settle_made : (kind : Record → Kind) (ms : List StoreCall) (a : Access) (images left : List Record) → AreKinds kind → RowsMade ms a images left → ReadMade ms a (settle kind images left)
-settle_made kind ms a images [] kinds made = made
-settle_made kind ms a images (r ∷ left) kinds made = by (kind r) (kinds r) (λ checks firm. settle_made kind ms a (images ++ r ∷ []) left kinds (row_done ms a images r left made (inl firm) checks (images ++ r ∷ []) (ap (λ o. images ++ cons_option o []) (sym (meaning_settled ms r firm)))))
+pub settle_made : (ms : List StoreCall) (a : Access) (images left : List Record) → RowsMade ms a images left → ReadMade ms a (settle images left)
+settle_made ms a images [] made = made
+settle_made ms a images (r ∷ left) made = by (kind_of r) (kind_is r) (λ checks firm. settle_made ms a (images ++ r ∷ []) left (row_done ms a images r left made (inl firm) checks (images ++ r ∷ []) (ap (λ o. images ++ cons_option o []) (sym (meaning_settled ms r firm)))))
   where
-    by : (x : Kind) → IsKind r x → (is_transactional r ≡ true → is_in state.Committed r.columns ≡ true → ReadMade ms a (settle kind (images ++ r ∷ []) left)) → ReadMade ms a (settle_one x images r left (settle kind (images ++ r ∷ []) left))
+    by : (x : Kind) → IsKind r x → (is_transactional r ≡ true → is_in state.Committed r.columns ≡ true → ReadMade ms a (settle (images ++ r ∷ []) left)) → ReadMade ms a (settle_one x images r left (settle (images ++ r ∷ []) left))
     by Firm k rest = rest k.0 k.1
     by (Open meta) k rest = (made, k.0, k.1)
     by Bad k rest = tt
@@ -140,9 +142,9 @@ row_rolled ms m a images rec left o apart open_still roll made more e = record {
     rolled : find (rolls rec) (ms ++ m ∷ []) ≡ Some m
     rolled = find_last (rolls rec) ms m made.unrolled.0 roll.rolls_it
 
-recovered_made : (kind : Record → Kind) (ms : List StoreCall) (m : StoreCall) (a : Access) (images : List Record) (rec : Record) (meta : Meta) (p : RecoverPhase) (left : List Record) (now : ℤ) (q : Request) (r : Reply) → AreKinds kind → ReadMade ms a (Resolving images rec meta p left) → recover_request_at rec meta p ≡ Some q → IsMade m q r
-    → ReadMade (ms ++ m ∷ []) a (after_recovery kind images rec meta left (recover_next rec meta p now r))
-recovered_made kind ms m a images rec meta p left now q r kinds made e is = by (recover_next rec meta p now r) refl
+recovered_made : (ms : List StoreCall) (m : StoreCall) (a : Access) (images : List Record) (rec : Record) (meta : Meta) (p : RecoverPhase) (left : List Record) (now : ℤ) (q : Request) (r : Reply) → ReadMade ms a (Resolving images rec meta p left) → recover_request_at rec meta p ≡ Some q → IsMade m q r
+    → ReadMade (ms ++ m ∷ []) a (after_recovery images rec meta left (recover_next rec meta p now r))
+recovered_made ms m a images rec meta p left now q r made e is = by (recover_next rec meta p now r) refl
   where
     asks : recover_request_at rec meta p ≡ Some m.request
     asks = e ∙ ap Some (sym is.request)
@@ -153,10 +155,10 @@ recovered_made kind ms m a images rec meta p left now q r kinds made e is = by (
     image : (o : Option Record) (n : RecoverPhase) → recover_next rec meta p now r ≡ (n, steps.Image o) → (more : List Record) → more ≡ images ++ cons_option o [] → RowsMade (ms ++ m ∷ []) a more left
     image o n h more same = row_rolled ms m a images rec left o apart made.1 (ends_rolled rec meta made.1 made.2 m p now r o asks (ap (λ (x : RecoverPhase × RecoverStep). x.1) h)) made.0 more same
 
-    by : (n : RecoverPhase × RecoverStep) → recover_next rec meta p now r ≡ n → ReadMade (ms ++ m ∷ []) a (after_recovery kind images rec meta left n)
+    by : (n : RecoverPhase × RecoverStep) → recover_next rec meta p now r ≡ n → ReadMade (ms ++ m ∷ []) a (after_recovery images rec meta left n)
     by (n, steps.More) h = (rows_made_more ms m a images (rec ∷ left) apart (each_of (λ (x : Record). rolls x m ≡ false) (rec ∷ left) (goes_on_unrolled rec meta made.1 made.2 m p now r asks (ap (λ (x : RecoverPhase × RecoverStep). x.1) h))) made.0, made.1, made.2)
-    by (n, steps.Image None) h = settle_made kind (ms ++ m ∷ []) a images left kinds (image None n h images (sym (append-nil images)))
-    by (n, steps.Image (Some b)) h = settle_made kind (ms ++ m ∷ []) a (images ++ b ∷ []) left kinds (image (Some b) n h (images ++ b ∷ []) refl)
+    by (n, steps.Image None) h = settle_made (ms ++ m ∷ []) a images left (image None n h images (sym (append-nil images)))
+    by (n, steps.Image (Some b)) h = settle_made (ms ++ m ∷ []) a (images ++ b ∷ []) left (image (Some b) n h (images ++ b ∷ []) refl)
     by (n, steps.Busy id at) h = tt
     by (n, steps.Faulted) h = tt
     by (n, steps.BadRecord key) h = tt
@@ -190,21 +192,21 @@ scan_rises : (a : Access) (rows : List Record) → CanAnswer (request_of a) (rep
 scan_rises (access.Get key) rows can = absurd can
 scan_rises (access.Scan span) rows can = (and_parts (rise rows) _ can).0
 
-asked_made : (kind : Record → Kind) (m : StoreCall) (a : Access) (r : Reply) → AreKinds kind → IsMade m (request_of a) r → CanAnswer (request_of a) r → ReadMade (m ∷ []) a (settle_reply kind r)
-asked_made kind m a (reply.Found None) kinds is can = rows_made m a (reply.Found None) [] is can refl refl
-asked_made kind m a (reply.Found (Some x)) kinds is can = settle_made kind (m ∷ []) a [] (x ∷ []) kinds (rows_made m a (reply.Found (Some x)) (x ∷ []) is can refl refl)
-asked_made kind m a (reply.Rows rows) kinds is can = settle_made kind (m ∷ []) a [] rows kinds (rows_made m a (reply.Rows rows) rows is can refl (scan_rises a rows can))
-asked_made kind m a reply.Applied kinds is can = tt
-asked_made kind m a (reply.NotMet found) kinds is can = tt
-asked_made kind m a reply.Fault kinds is can = tt
-asked_made kind m a reply.NoMemory kinds is can = tt
+asked_made : (m : StoreCall) (a : Access) (r : Reply) → IsMade m (request_of a) r → CanAnswer (request_of a) r → ReadMade (m ∷ []) a (settle_reply r)
+asked_made m a (reply.Found None) is can = rows_made m a (reply.Found None) [] is can refl refl
+asked_made m a (reply.Found (Some x)) is can = settle_made (m ∷ []) a [] (x ∷ []) (rows_made m a (reply.Found (Some x)) (x ∷ []) is can refl refl)
+asked_made m a (reply.Rows rows) is can = settle_made (m ∷ []) a [] rows (rows_made m a (reply.Rows rows) rows is can refl (scan_rises a rows can))
+asked_made m a reply.Applied is can = tt
+asked_made m a (reply.NotMet found) is can = tt
+asked_made m a reply.Fault is can = tt
+asked_made m a reply.NoMemory is can = tt
 
 -- Whatever call of a read is pending, with it and its reply the read keeps what its calls showed.
-pub read_made : (kind : Record → Kind) (ms : List StoreCall) (m : StoreCall) (a : Access) (s : ReadAt) (now : ℤ) (q : Request) (r : Reply) → AreKinds kind → ReadMade ms a s → read_pending a s ≡ Some q → CanAnswer q r → IsMade m q r → ReadMade (ms ++ m ∷ []) a (read_step kind s now r)
-read_made kind ms m a Asking now q r kinds made e can is = subst (λ xs. ReadMade (xs ++ m ∷ []) a (settle_reply kind r)) (sym made) (asked_made kind m a r kinds (record { request = is.request ∙ some_is (request_of a) q e; reply = is.reply }) (subst (λ x. CanAnswer x r) (some_is (request_of a) q e) can))
-read_made kind ms m a (Resolving images rec meta p left) now q r kinds made e can is = recovered_made kind ms m a images rec meta p left now q r kinds made e is
-read_made kind ms m a (Done images) now q r kinds made e can is = absurd (cc)
-read_made kind ms m a Failed now q r kinds made e can is = absurd (cc)
+pub read_made : (ms : List StoreCall) (m : StoreCall) (a : Access) (s : ReadAt) (now : ℤ) (q : Request) (r : Reply) → ReadMade ms a s → read_pending a s ≡ Some q → CanAnswer q r → IsMade m q r → ReadMade (ms ++ m ∷ []) a (read_step s now r)
+read_made ms m a Asking now q r made e can is = subst (λ xs. ReadMade (xs ++ m ∷ []) a (settle_reply r)) (sym made) (asked_made m a r (record { request = is.request ∙ some_is (request_of a) q e; reply = is.reply }) (subst (λ x. CanAnswer x r) (some_is (request_of a) q e) can))
+read_made ms m a (Resolving images rec meta p left) now q r made e can is = recovered_made ms m a images rec meta p left now q r made e is
+read_made ms m a (Done images) now q r made e can is = absurd (cc)
+read_made ms m a Failed now q r made e can is = absurd (cc)
 
 ---- the model's note
 

@@ -7,7 +7,7 @@ pub use Rattle.law_clients.proofs.Faith.{beyond}
 pub use Rattle.law_clients.proofs.Faults.{faults_replied, faults_taken}
 pub use Rattle.law_clients.proofs.Files.{clients_faithful, taken_counts}
 pub use Rattle.law_clients.proofs.Finishing.{given_finishes}
-pub use Rattle.law_clients.proofs.Fitted.{by_next, replies_fitted, takes_fitted}
+pub use Rattle.law_clients.proofs.Fitted.{asked_at, by_next, replies_fitted, takes_fitted}
 pub use Rattle.law_clients.proofs.InTables.{access_table, own_table}
 pub use Rattle.law_clients.proofs.InvariantEnds.{going_is_noted, going_is_run, ran_of}
 pub use Rattle.law_clients.proofs.InvariantTurns.{going_stops}
@@ -17,7 +17,8 @@ pub use Rattle.law_clients.proofs.Meanings.{IsRollTo, abort_rolls_none, among_fo
 pub use Rattle.law_clients.proofs.Meta.{meta_of}
 pub use Rattle.law_clients.proofs.Noting.{coordinators}
 pub use Rattle.law_clients.proofs.Plain.{own_at}
-pub use Rattle.law_clients.proofs.Replied.{next_stage, replies_so}
+pub use Rattle.law_clients.proofs.ReadReplies.{ended}
+pub use Rattle.law_clients.proofs.Replied.{ended_is, next_stage, replies_so}
 pub use Rattle.law_clients.proofs.Replies.{replies}
 pub use Rattle.law_clients.proofs.Rests.{going_rests, going_starts}
 pub use Rattle.law_clients.proofs.RowsFit.{Entries, all_in_fit, answers_on, done_is, fits_there, found_itself, is_fitting}
@@ -29,7 +30,7 @@ pub use Rattle.law_clients.proofs.Taken.{kept_at, mapped_at, other_no_begin, oth
 pub use Rattle.law_clients.proofs.Takings.{takes}
 pub use Rattle.law_clients.proofs.Tellings.{numbers_more, others_silent, said_more}
 pub use Rattle.law_clients.proofs.Texts.{text_is_read}
-pub use Rattle.law_clients.proofs.Whole.{by_memory, literals_read, other_no_rollback, takes_so}
+pub use Rattle.law_clients.proofs.Whole.{IsOnTable, by_memory, inner_read, literals_read, on_table, takes_so}
 pub use Rattle.law_clients.proofs.Wholes.{order_runs}
 pub use Rattle.law_clients.proofs.Work.{no_base}
 pub use Rattle.law_clients.proofs.Working.{replies_lead, takings_lead}

@@ -1,8 +1,8 @@
 -- A client that gets a reply to its read keeps what ties the events to the clients.
-use Rattle.std.proofs.Common.{◌≡◌, ◌⊎◌, inl, inr, ℕ, Bool, true, false, not, ◌&&◌, ◌||◌, List, [], ◌∷◌, ◌++◌, Option, Some, None, refl, sym, ap, subst, ◌∙◌}
+use Rattle.std.proofs.Common.{◌≢◌, ◌≡◌, ◌⊎◌, inl, inr, ℕ, Bool, true, false, not, ◌&&◌, ◌||◌, List, [], ◌∷◌, ◌++◌, Option, Some, None, refl, sym, ap, subst, ◌∙◌}
 use Rattle.std.specs.Prelude.{if◌then◌else◌}
 use Rattle.std.specs.Option.{option_map}
-use Rattle.law_clients.specs.Types.{Access, Answer, Doing, Event, Key, Keyed, Next, PlanStep, Record, Request, Scan, Table}
+use Rattle.law_clients.specs.Types.{Access, Answer, Doing, Event, Key, Keyed, PlanStep, ReadStep, Record, Request, Scan, Table}
 use Rattle.sdb_types.specs.Exactness.{span_is_exact}
 use Rattle.sdb_record.specs.declared.access.Access.TheVariants as access
 use Rattle.sdb_schema.specs.Catalog.{is_catalog}
@@ -23,17 +23,17 @@ use Rattle.sdb_snapshot.specs.Seen.{Seen, is_scanned, overlay, same_span, with_w
 use Rattle.sdb_snapshot.specs.Written.{AreChanges}
 use Rattle.sdb_txn.specs.declared.txn.Doing.TheVariants as doing
 use Rattle.sdb_txn.specs.Txn.{TxnAt, idle as idle_of, pending, pending_in}
-use Rattle.sdb_client.specs.declared.next.Next.TheVariants as next
 use Rattle.sdb_vacuum.specs.Vacuum.{VacuumAt}
-use Rattle.sdb_client.specs.Client.{CallPost, ClientAt as Client, RowsReadPost, IsAsRead, StagePost, after, answer_in, gives, given_answer, given_left, holding, with_rows_read, pending_by, pending_of, resting, too_many, written}
+use Rattle.sdb_client.specs.Client.{ClientAt as Client, IsAsRead, gives, given_answer, given_left, holding, with_rows_read, pending_by, pending_of, resting, too_many, written}
 use Rattle.sdb_client.specs.Inside.{IsValidPlan, IsKeyRead, MayWrite}
+use Rattle.sdb_client.specs.Step.{Fails, HasFaulted, IsBusy, IsMalformed, OutOfMemory}
 use Rattle.sdb_client.proofs.Public.{last_noted, may_write}
-use Rattle.law_clients.specs.Machine.{machine_kind, abstract_read}
+use Rattle.law_clients.specs.Machine.{abstract_read}
 use Rattle.law_clients.specs.Reads.{MayRecord, first_image, with_read}
 use Rattle.law_clients.specs.ReadAt.{Done}
 use Rattle.law_clients.specs.ReadAt as laws
 use Rattle.law_clients.specs.System.{ClientAt, ClientCall, ClientOk, IsReplyTo, Open, Reading, SystemOk, call_event, with_client}
-use Rattle.law_clients.proofs.Machine.{machine_asks, machine_kinds, machine_steps}
+use Rattle.law_clients.proofs.Machine.{machine_asks, machine_steps}
 use Rattle.law_clients.proofs.Quiet.{read_set}
 use Rattle.law_clients.specs.Body.{AnswersOn, IsCovered}
 use Rattle.law_clients.specs.Invariant.{RunInvariant}
@@ -50,7 +50,6 @@ use Rattle.law_clients.specs.Fitting.{tables_are_well_typed}
 use Rattle.law_clients.specs.States.{ClientState, IsAskedBy, IsCalled, doing_of, abstract_txn, system_of}
 use Rattle.law_clients.proofs.RowsFit.{answers_on}
 use Rattle.law_clients.proofs.Asked.{from_rows}
-use Rattle.law_clients.proofs.Fitted.{by_next}
 use Rattle.law_clients.proofs.Taken.{IsSo, moved}
 use Rattle.sdb_types.proofs.Public.{by_test, itself as same_number, none_some, or_second as or_so}
 
@@ -86,6 +85,12 @@ pub is_noting : (t : TxnAt) (a : Access) (images : List Record) → IsNoting t a
 is_noting t (access.Get key) images = noting_first t key images
 is_noting t (access.Scan span) images = record { id = refl; seen = refl; idle = refl }
 
+-- where a read has ended
+pub ended : (s : ReadStage) (o : ReadStep) → read_result s ≡ o → o ≢ step.More → s ≡ Ended o
+ended Asking o e n = absurd (n (sym e))
+ended (Resolving images rec meta phase left) o e n = absurd (n (sym e))
+ended (Ended r) o e n = ap Ended e
+
 pub at_itself : {X : Type 0} (f : ℕ → X) (c : ℕ) (x : X) → at f c x c ≡ x
 at_itself f c x = ap (λ (b : Bool). if b then x else f c) (same_number c)
 
@@ -96,13 +101,6 @@ module _ (catalog : List Table) (events : List Event) (states : ℕ → ClientSt
   -- what ties them is so with the event of the call
   abbrev pub RepliedSo : Option Answer → Client → Type 0
   RepliedSo result d = IsSo catalog (tables_are_well_typed catalog) states y.client d (events ++ call_event y result ∷ [])
-
-  -- where the reply leads
-  abbrev pub LedSo : Next → TxnAt → Type 0
-  LedSo n u = RepliedSo (answer_in n) (after now n u)
-
-  pub as_led : (n m : Next) (u v : TxnAt) → n ≡ m → u ≡ v → LedSo m v → LedSo n u
-  as_led n m u v e k s = subst (λ (x : Next). LedSo x u) (sym e) (subst (λ (x : TxnAt). LedSo m x) (sym k) s)
 
   module _ (t : TxnAt) (p : Planned) (a : Access) (x : ReadAt) (free : now.vacuum ≡ None) (some : now.txn ≡ Some t) (reads : t.doing ≡ doing.Read a x) (plan : now.plan ≡ Some p) (k : IsAskedBy catalog p a x) where
     here : (system_of states).clients y.client ≡ Reading t.id t.seen a (abstract_read x.stage)
@@ -126,12 +124,12 @@ module _ (catalog : List Table) (events : List Event) (states : ℕ → ClientSt
 
     -- the read goes on
     abbrev read_then : laws.ReadAt
-    read_then = laws.read_step machine_kind (abstract_read x.stage) y.now y.reply
+    read_then = laws.read_step (abstract_read x.stage) y.now y.reply
 
     running : RunInvariant catalog (tables_are_well_typed catalog) (events ++ call_event y None ∷ []) (with_client (system_of states) y.client (Reading t.id t.seen a read_then)) (at (doing_of states) y.client (doing_of states y.client))
-    running = going_reads catalog (tables_are_well_typed catalog) events (system_of states) (doing_of states) g y.client y.store y.request y.how y.reply y.now machine_kind machine_kinds t.id t.seen a (abstract_read x.stage) here asked
+    running = going_reads catalog (tables_are_well_typed catalog) events (system_of states) (doing_of states) g y.client y.store y.request y.how y.reply y.now t.id t.seen a (abstract_read x.stage) here asked
 
-    reads_on : (s : ReadStage) → read_step x.stage y.now y.reply ≡ s → RepliedSo None (record now { txn = Some (record t { doing = doing.Read a (record x { stage = s }) }) })
+    pub reads_on : (s : ReadStage) → read_step x.stage y.now y.reply ≡ s → RepliedSo None (record now { txn = Some (record t { doing = doing.Read a (record x { stage = s }) }) })
     reads_on s e =
         moved catalog (tables_are_well_typed catalog) states y.client (record now { txn = Some (record t { doing = doing.Read a (record x { stage = s }) }) }) (events ++ call_event y None ∷ []) free refl
         (subst (λ (z : laws.ReadAt). RunInvariant catalog (tables_are_well_typed catalog) (events ++ call_event y None ∷ []) (with_client (system_of states) y.client (Reading t.id t.seen a z)) (at (doing_of states) y.client (doing_of states y.client)))
@@ -144,7 +142,7 @@ module _ (catalog : List Table) (events : List Event) (states : ℕ → ClientSt
     fails : (b : Answer) → changes_nothing b ≡ true → Unfinished b → RepliedSo (Some b) (holding now (idle_of t))
     fails b nothing unfinished =
         moved catalog (tables_are_well_typed catalog) states y.client (holding now (idle_of t)) (events ++ call_event y (Some b) ∷ []) free refl
-        (going_fails catalog (tables_are_well_typed catalog) events (system_of states) (doing_of states) g y.client y.store y.request y.how y.reply y.now machine_kind machine_kinds t.id t.seen a (abstract_read x.stage) here asked b p.statement runs_it nothing unfinished)
+        (going_fails catalog (tables_are_well_typed catalog) events (system_of states) (doing_of states) g y.client y.store y.request y.how y.reply y.now t.id t.seen a (abstract_read x.stage) here asked b p.statement runs_it nothing unfinished)
 
     -- its access is of tables
     of_data : laws.IsOfData a
@@ -174,10 +172,10 @@ module _ (catalog : List Table) (events : List Event) (states : ℕ → ClientSt
         by (inr unchecked) = ap (λ b. not (is_coordinator_table key.table) && b) (read_unchecked ms m a (abstract_read x.stage) y.request y.reply made asked.asked is of_rows unchecked) ∙ none (not (is_coordinator_table key.table))
 
     -- a key that was read differs
-    differs : (key : Key) (found : Option Record) → RepliedSo (Some (answer.Conflict key found)) (resting now)
+    pub differs : (key : Key) (found : Option Record) → RepliedSo (Some (answer.Conflict key found)) (resting now)
     differs key found =
         moved catalog (tables_are_well_typed catalog) states y.client (resting now) (events ++ call_event y (Some (answer.Conflict key found)) ∷ []) free refl
-        (going_differs catalog (tables_are_well_typed catalog) events (system_of states) (doing_of states) g y.client y.store y.request y.how y.reply y.now machine_kind machine_kinds t.id t.seen a (abstract_read x.stage) here asked (answer.Conflict key found) p.statement runs_it refl)
+        (going_differs catalog (tables_are_well_typed catalog) events (system_of states) (doing_of states) g y.client y.store y.request y.how y.reply y.now t.id t.seen a (abstract_read x.stage) here asked (answer.Conflict key found) p.statement runs_it refl)
 
     -- the read is done
     module _ (images : List Record) (ends : read_step x.stage y.now y.reply ≡ Ended (step.Images images)) (as_read : IsAsRead t a images) where
@@ -208,7 +206,7 @@ module _ (catalog : List Table) (events : List Event) (states : ℕ → ClientSt
           let answers : AnswersOn catalog (tables_are_well_typed catalog) seen p.statement a b ks = subst (λ (q : Access). AnswersOn catalog (tables_are_well_typed catalog) seen p.statement q b ks) (sym k.access) (answers_on catalog p seen b ks is k.named k.asked k.accepted k.literals h) in
           moved catalog (tables_are_well_typed catalog) states y.client (holding now (written v ks)) (events ++ call_event y (Some b) ∷ []) free refl
           (subst (λ (z : ClientAt). RunInvariant catalog (tables_are_well_typed catalog) (events ++ call_event y (Some b) ∷ []) (with_client (system_of states) y.client z) (at (doing_of states) y.client None)) (sym by_doing)
-          (going_tells catalog (tables_are_well_typed catalog) events (system_of states) (doing_of states) g y.client y.store y.request y.how y.reply y.now machine_kind machine_kinds t.id t.seen a (abstract_read x.stage) here asked b p.statement runs_it images ks
+          (going_tells catalog (tables_are_well_typed catalog) events (system_of states) (doing_of states) g y.client y.store y.request y.how y.reply y.now t.id t.seen a (abstract_read x.stage) here asked b p.statement runs_it images ks
           rows done (may_note t a images as_read) (covered_now t.seen a images) answers changes))
         where
           by_doing : abstract_txn (Some (written v ks)) ≡ Open t.id (with_written seen ks)
@@ -219,7 +217,7 @@ module _ (catalog : List Table) (events : List Event) (states : ℕ → ClientSt
       keeps v b n nothing finishes =
           moved catalog (tables_are_well_typed catalog) states y.client (holding now v) (events ++ call_event y (Some b) ∷ []) free refl
           (subst (λ (z : ClientAt). RunInvariant catalog (tables_are_well_typed catalog) (events ++ call_event y (Some b) ∷ []) (with_client (system_of states) y.client z) (at (doing_of states) y.client None)) (sym by_doing)
-          (going_keeps catalog (tables_are_well_typed catalog) events (system_of states) (doing_of states) g y.client y.store y.request y.how y.reply y.now machine_kind machine_kinds t.id t.seen a (abstract_read x.stage) here asked b p.statement runs_it images nothing finishes done
+          (going_keeps catalog (tables_are_well_typed catalog) events (system_of states) (doing_of states) g y.client y.store y.request y.how y.reply y.now t.id t.seen a (abstract_read x.stage) here asked b p.statement runs_it images nothing finishes done
           (may_note t a images as_read)))
         where
           by_doing : abstract_txn (Some v) ≡ Open t.id seen
@@ -248,25 +246,16 @@ module _ (catalog : List Table) (events : List Event) (states : ℕ → ClientSt
           by_unfit None e = subst (Told v) (sym (gave None e)) (finished_so v _ _ n (gave None e) (λ ms made. answer_finishes ms p.table p.statement (overlay a v.seen)) (from_rows p.table p.statement (overlay a v.seen)))
           by_unfit (Some key) e = subst (Told v) (sym (gave (Some key) e)) (finished_so v (answer.BadRecord key) [] n (gave (Some key) e) (λ ms made. misfit_finishes ms key (not_is (is_coordinator_table key.table) (of_data key (unfit_inside a v.seen p.table key e))) (read_checks ms a images made of_rows)) (λ h. absurd (cc)))
 
-    images_case : (images : List Record) → read_step x.stage y.now y.reply ≡ Ended (step.Images images) → (n : Next) (u : TxnAt) → RowsReadPost t p a images n u → LedSo n u
-    images_case images ends (next.Answer z) u h =
-        as_led (next.Answer z) (next.Answer (given_answer (with_rows_read t a images) (gives p a (with_rows_read t a images)))) u (given_left (with_rows_read t a images) (gives p a (with_rows_read t a images))) (ap next.Answer h.1) h.2
-        (answered images ends h.0 (with_rows_read t a images) (is_noting t a images))
-    images_case images ends (next.End (answer.Conflict key found)) u h = differs key found
-    images_case images ends n u h = absurd h
+    -- it ends without images, or is out of memory
+    failed : (o : ReadStep) (b : Answer) → read_result (read_step x.stage y.now y.reply) ≡ o → Fails o b → RepliedSo (Some b) (holding now (idle_of t))
+    failed o b e (IsBusy key id moment) = fails b refl (λ ms m made is. refl)
+    failed o b e HasFaulted = fails b refl (λ ms m made is. refl)
+    failed o b e (IsMalformed key) = fails b refl (bad_unfinished key (ended (read_step x.stage y.now y.reply) o e (λ n. cc)))
+    failed o b e (OutOfMemory s) = fails b refl (λ ms m made is. refl)
 
-    stage_case : (s : ReadStage) → read_step x.stage y.now y.reply ≡ s → (n : Next) (u : TxnAt) → StagePost t p a x s (read_result s) n u → LedSo n u
-    stage_case Asking e n u h = as_led n next.Call u (record t { doing = doing.Read a (record x { stage = Asking }) }) h.0 h.1 (reads_on Asking e)
-    stage_case (Resolving images rec meta q left) e n u h = as_led n next.Call u (record t { doing = doing.Read a (record x { stage = Resolving images rec meta q left }) }) h.0 h.1 (reads_on (Resolving images rec meta q left) e)
-    stage_case (Ended step.More) e n u h = as_led n next.Call u (record t { doing = doing.Read a (record x { stage = Ended step.More }) }) h.0 h.1 (reads_on (Ended step.More) e)
-    stage_case (Ended (step.Images images)) e n u h = images_case images e n u h
-    stage_case (Ended (step.Busy key id moment)) e n u h = as_led n (next.Answer (answer.Busy key id moment)) u (idle_of t) h.0 h.1 (fails (answer.Busy key id moment) refl (λ ms m made is. refl))
-    stage_case (Ended step.Faulted) e n u h = as_led n (next.Answer answer.Faulted) u (idle_of t) h.0 h.1 (fails answer.Faulted refl (λ ms m made is. refl))
-    stage_case (Ended (step.BadRecord key)) e n u h = as_led n (next.Answer (answer.BadRecord key)) u (idle_of t) h.0 h.1 (fails (answer.BadRecord key) refl (bad_unfinished key e))
-    stage_case (Ended step.NoMemory) e n u h = absurd h
+    pub read_fails : (b : Answer) → Fails (read_result (read_step x.stage y.now y.reply)) b → RepliedSo (Some b) (holding now (idle_of t))
+    read_fails b f = failed (read_result (read_step x.stage y.now y.reply)) b refl f
 
-    pub replied_read : (n : Next) (u : TxnAt) → CallPost t p a x y.reply y.now n u → LedSo n u
-    replied_read n u h =
-        by_next n
-        (λ e. as_led n (next.Answer answer.NoMemory) u (idle_of t) e (h.memory e) (fails answer.NoMemory refl (λ ms m made is. refl)))
-        (λ e. stage_case (read_step x.stage y.now y.reply) refl n u (h.answered e))
+    pub read_ends : (images : List Record) → read_result (read_step x.stage y.now y.reply) ≡ step.Images images → IsAsRead t a images
+        → RepliedSo (Some (given_answer (with_rows_read t a images) (gives p a (with_rows_read t a images)))) (holding now (given_left (with_rows_read t a images) (gives p a (with_rows_read t a images))))
+    read_ends images e as_read = answered images (ended (read_step x.stage y.now y.reply) (step.Images images) e (λ n. cc)) as_read (with_rows_read t a images) (is_noting t a images)

@@ -2,13 +2,14 @@
 use Rattle.std.proofs.Common.{◌≡◌, ℕ, ◌+◌, true, length, List, [], ◌∷◌, ◌++◌, Option, Some, None, refl, sym, ap, subst, ◌∙◌, ◌⊎◌, inl, inr}
 use Rattle.std.specs.Prelude.{is_some, nat_lt, slice_get}
 use Rattle.std.specs.Option.{option_map}
-use Rattle.law_clients.specs.Types.{Answer, Doing, Event, Key, Next, Outcome, Reply, Span, Statement, Table, VacuumStep, ValidateStep}
+use Rattle.law_clients.specs.Types.{Access, Answer, Doing, Event, Key, Outcome, Reply, Span, Statement, Table, VacuumStep, ValidateStep}
+use Rattle.sdb_types.proofs.Public.{some_is}
 use Rattle.sdb_schema.specs.Catalog.{is_catalog}
 use Rattle.sdb_model.specs.declared.answer.Answer.TheVariants as answer
 use Rattle.sdb_model.specs.Exec.{find_table}
 use Rattle.sdb_exec.specs.Plans.{Planned}
+use Rattle.sdb_txn.specs.Read.{ReadAt, read_step}
 use Rattle.law_protocol.specs.History.{at}
-use Rattle.sdb_phases.specs.declared.step.Outcome.TheVariants as outcome
 use Rattle.sdb_phases.specs.declared.step.ValidateStep.TheVariants as validate
 use Rattle.sdb_phases.specs.Work.{Work}
 use Rattle.sdb_phases.specs.Checks.{checks}
@@ -16,26 +17,24 @@ use Rattle.sdb_phases.specs.Steps.{validate_step}
 use Rattle.sdb_phases.specs.Commit.{Stage, Preparing, Checking, Deciding, Forward, Stopping, Back, Over, after_check, pending as commit_pending, out_of_memory as out_of_memory_stage, step as commit_step}
 use Rattle.sdb_validate.specs.Inside.{Judges}
 use Rattle.sdb_txn.specs.Phases.{CommitAt, IsNext, ended_at}
-use Rattle.sdb_txn.specs.declared.progress.Progress.TheVariants as progress
 use Rattle.sdb_txn.specs.declared.txn.Doing.TheVariants as doing
-use Rattle.sdb_txn.specs.Txn.{IsCommitting, TxnAt, pending_in, progress_of}
-use Rattle.sdb_client.specs.declared.next.Next.TheVariants as next
+use Rattle.sdb_txn.specs.Txn.{TxnAt, pending_in}
 use Rattle.sdb_vacuum.specs.declared.work.VacuumStep.TheVariants as step
 use Rattle.sdb_vacuum.specs.Vacuum.{Gives, VacuumAt, VacuumStage, vacuum_step}
-use Rattle.sdb_client.specs.Client.{ClientAt as Client, CommitNext, NextPost, OpenTxnPost, ReplyPost, VacuumPost, answer_in, answer_of, next_of, pending_by, pending_of, resting, vacuum_left}
-use Rattle.law_clients.specs.Machine.{machine_kind}
+use Rattle.sdb_client.specs.Client.{ClientAt as Client, answer_of, pending_by, pending_of, resting}
 use Rattle.law_clients.specs.Vacuum.{Scanning, VacuumModel, vacuum_call, vacuum_model_step}
-use Rattle.law_clients.proofs.Machine.{machine_kinds}
-use Rattle.law_clients.specs.System.{ClientAt, ClientCall, Committing, IsReplyTo, Resting, RunsVacuum, answer_at, answer_of_outcome, call_event, commit_left, with_client}
+use Rattle.law_clients.specs.System.{ClientAt, ClientCall, Committing, IsReplyTo, Resting, RunsVacuum, answer_at, call_event, commit_left, with_client}
+use Rattle.sdb_client.specs.Step.{answer_of_outcome, CommitEnds, CommitGoesOn, IsReadAt, ReadConflicts, ReadEnds, ReadFails, ReadGoesOn, Receives, Step, VacuumEnds, VacuumGoesOn}
 use Rattle.law_clients.specs.Invariant.{RunInvariant, IsMild}
 use Rattle.law_clients.proofs.Rests.{going_starves}
 use Rattle.law_clients.proofs.Small.{twice}
 use Rattle.law_clients.proofs.InvariantCalls.{going_commit_calls, going_scans, going_sweeps, going_swept}
 use Rattle.law_clients.specs.Fitting.{tables_are_well_typed}
 use Rattle.law_clients.specs.About.{AreListed, IsListed}
-use Rattle.law_clients.specs.States.{ClientState, IsCalled, IsFittedBy, IsUsing, IsUsingTxn, doing_of, abstract_doing, abstract_txn, system_of}
+use Rattle.law_clients.specs.States.{ClientState, IsAskedBy, IsCalled, doing_of, abstract_doing, abstract_txn, system_of}
 use Rattle.law_clients.specs.Vacuums.{abstract_vacuum}
-use Rattle.law_clients.proofs.ReadReplies.{LedSo, RepliedSo, at_itself, replied_read}
+use Rattle.law_clients.proofs.ReadReplies.{RepliedSo, at_itself, differs, read_ends, read_fails, reads_on}
+use Rattle.law_clients.proofs.Fitted.{asked_at, vacuum_at}
 use Rattle.law_clients.proofs.Sweeps.{Leads, scan_data, step_leads, sweep_asks}
 use Rattle.law_clients.proofs.Taken.{moved, moved_so}
 use Rattle.sdb_model.specs.Tables.{is_data}
@@ -68,7 +67,14 @@ next_stage p (Stopping a n) r m h = inl h
 next_stage p (Back a n i) r m h = inl h
 next_stage p (Over a) r m h = inl h
 
-ended_is : (s : Stage) (a : Outcome) → ended_at s ≡ Some a → s ≡ Over a
+vacuum_answered : (e : VacuumStep) (b : Answer) → answer_of e ≡ Some b → IsMild b
+vacuum_answered step.More b e = absurd (cc)
+vacuum_answered (step.Count n) b e = subst IsMild (some_is (answer.Count n) b e) (record { undone = refl; agrees = refl; other = λ k. cc })
+vacuum_answered step.Faulted b e = subst IsMild (some_is answer.Faulted b e) (record { undone = refl; agrees = refl; other = λ k. cc })
+vacuum_answered (step.BadRecord key) b e = subst IsMild (some_is (answer.BadRecord key) b e) (record { undone = refl; agrees = refl; other = λ k. cc })
+vacuum_answered step.NoMemory b e = subst IsMild (some_is answer.NoMemory b e) (record { undone = refl; agrees = refl; other = λ k. cc })
+
+pub ended_is : (s : Stage) (a : Outcome) → ended_at s ≡ Some a → s ≡ Over a
 ended_is (Preparing i) a e = absurd (cc)
 ended_is (Checking i) a e = absurd (cc)
 ended_is (Deciding d) a e = absurd (cc)
@@ -77,25 +83,12 @@ ended_is (Stopping b n) a e = absurd (cc)
 ended_is (Back b n i) a e = absurd (cc)
 ended_is (Over b) a e = cc
 
--- the answer that it ends with
-told_end : (a : Outcome) → next_of (progress_of (Some a)) ≡ next.End (answer_of_outcome a)
-told_end outcome.Committed = refl
-told_end (outcome.Conflict key found) = refl
-told_end (outcome.Expired id) = refl
-told_end outcome.Faulted = refl
-told_end (outcome.Unknown id) = refl
-told_end (outcome.BadRecord key) = refl
-told_end outcome.NoMemory = refl
-
 module _ (catalog : List Table) (events : List Event) (states : ℕ → ClientState) (g : RunInvariant catalog (tables_are_well_typed catalog) events (system_of states) (doing_of states)) (y : ClientCall) (is : is_catalog catalog ≡ true) (called : IsCalled catalog states y) where
   abbrev now : Client
   now = (states y.client).client
 
   abbrev Replied : Option Answer → Client → Type 0
   Replied result d = RepliedSo catalog events states g y is called result d
-
-  abbrev Led : Next → TxnAt → Type 0
-  Led n u = LedSo catalog events states g y is called n u
 
   module _ (t : TxnAt) (k : CommitAt) (free : now.vacuum ≡ None) (some : now.txn ≡ Some t) (commits : t.doing ≡ doing.Commit k) (none : now.plan ≡ None) where
     here : (system_of states).clients y.client ≡ Committing k.work k.stage
@@ -155,34 +148,6 @@ module _ (catalog : List Table) (events : List Event) (states : ℕ → ClientSt
         (subst (λ (o : Option Statement). RunInvariant catalog (tables_are_well_typed catalog) (events ++ call_event y None ∷ []) (with_client (system_of states) y.client (abstract_doing u u.doing)) (at (doing_of states) y.client o)) (sym no_run)
         (subst (λ (d : Doing). Goes None (abstract_doing u d)) (sym doing_it) (subst (λ (p : Work). Goes None (Committing p m.stage)) (sym same) (goes_there m.stage n h))))
 
-    by_doing : (u : TxnAt) (d : Doing) → u.doing ≡ d → IsCommitting d (λ m. (m.work ≡ k.work) × IsNext k.work k.stage y.reply m.stage) → ended_at then_at ≡ None → Led next.Call u
-    by_doing u (doing.Commit m) e h n = goes_on u m e h.0 h.1 n
-    by_doing u doing.Idle e h n = absurd h
-    by_doing u (doing.Read a x) e h n = absurd h
-    by_doing u doing.Over e h n = absurd h
-
-    replied_commit : (n : Next) (u : TxnAt) → CommitNext t k y.reply n u → Led n u
-    replied_commit n u h = by_end (ended_at then_at) refl
-      where
-        by_end : (o : Option Outcome) → ended_at then_at ≡ o → Led n u
-        by_end None e =
-            let more : h.progress ≡ progress.More = h.answered.answer ∙ ap progress_of e in
-            subst (λ (x : Next). Led x u) (sym (h.next ∙ ap next_of more)) (by_doing u u.doing refl (h.answered.next more) e)
-        by_end (Some a) e = subst (λ (x : Next). Led x u) (sym (h.next ∙ ap next_of (h.answered.answer ∙ ap progress_of e) ∙ told_end a)) (is_over a (ended_is then_at a e))
-
-  next_case : (t : TxnAt) (d : Doing) (o : Option Planned) (n : Next) (u : TxnAt) → now.vacuum ≡ None → now.txn ≡ Some t → t.doing ≡ d → now.plan ≡ o → IsUsing catalog d o → NextPost t d o y.reply y.now n u → Led n u
-  next_case t (doing.Read a x) (Some p) n u free some does plan fitted h = replied_read catalog events states g y is called t p a x free some does plan fitted n u h
-  next_case t (doing.Commit k) None n u free some does plan fitted h = replied_commit t k free some does plan n u h
-  next_case t (doing.Read a x) None n u free some does plan fitted h = absurd h
-  next_case t (doing.Commit k) (Some p) n u free some does plan fitted h = absurd h
-  next_case t doing.Idle o n u free some does plan fitted h = absurd h
-  next_case t doing.Over o n u free some does plan fitted h = absurd h
-
-  txn_case : (o : Option TxnAt) (result : Option Answer) (d : Client) → now.vacuum ≡ None → now.txn ≡ o → IsUsingTxn catalog o now.plan → OpenTxnPost now o y.reply y.now result d → Replied result d
-  txn_case None result d free e fitted h = absurd h
-  txn_case (Some t) result d free e fitted h =
-      subst (λ (r : Option Answer). Replied r d) (sym h.answer) (subst (λ (x : Client). Replied (answer_in h.next) x) (sym h.client) (next_case t t.doing now.plan h.next h.left free e refl refl fitted h.answered))
-
   ---- a call of a VACUUM
 
   module _ (apart : (k : Key) → is_some (find_table catalog k.table) ≡ true → is_data k ≡ true) (v : VacuumAt) (runs_it : now.vacuum ≡ Some v) (none : now.txn ≡ None) (free : now.plan ≡ None) (listed : AreListed catalog v.spans) where
@@ -206,11 +171,11 @@ module _ (catalog : List Table) (events : List Event) (states : ℕ → ClientSt
     abbrev SweepsTo : VacuumModel → Type 0
     SweepsTo w = RunInvariant catalog (tables_are_well_typed catalog) (events ++ call_event y None ∷ []) (with_client (system_of states) y.client (RunsVacuum w)) (at (doing_of states) y.client None)
 
-    goes_sweep : SweepsTo (vacuum_model_step machine_kind (abstract_vacuum v.stage) y.now y.reply)
-    goes_sweep = going_sweeps catalog (tables_are_well_typed catalog) events (system_of states) (doing_of states) g y.client y.store y.request y.how y.reply y.now machine_kind machine_kinds (abstract_vacuum v.stage) here_sweeps asked_sweep
+    goes_sweep : SweepsTo (vacuum_model_step (abstract_vacuum v.stage) y.now y.reply)
+    goes_sweep = going_sweeps catalog (tables_are_well_typed catalog) events (system_of states) (doing_of states) g y.client y.store y.request y.how y.reply y.now (abstract_vacuum v.stage) here_sweeps asked_sweep
 
     scans_next : (span : Span) → IsListed catalog span.table → SweepsTo (Scanning span)
-    scans_next span is_listed = going_scans catalog (tables_are_well_typed catalog) events (system_of states) (doing_of states) g y.client y.store y.request y.how y.reply y.now machine_kind machine_kinds (abstract_vacuum v.stage) here_sweeps asked_sweep span (scan_data catalog span is_listed apart)
+    scans_next span is_listed = going_scans catalog (tables_are_well_typed catalog) events (system_of states) (doing_of states) g y.client y.store y.request y.how y.reply y.now (abstract_vacuum v.stage) here_sweeps asked_sweep span (scan_data catalog span is_listed apart)
 
     -- another call is pending
     sweeps_on : (w : VacuumAt) → SweepsTo (abstract_vacuum w.stage) → Replied None (record now { vacuum = Some w })
@@ -221,7 +186,7 @@ module _ (catalog : List Table) (events : List Event) (states : ℕ → ClientSt
     first_listed : (ss : List Span) (span : Span) (rest : List Span) → ss ≡ span ∷ rest → AreListed catalog ss → IsListed catalog span.table
     first_listed ss span rest e h = (subst (AreListed catalog) e h).0
 
-    more_case : (n : VacuumAt × VacuumStep) → n.1 ≡ step.More → Leads v.spans (vacuum_model_step machine_kind (abstract_vacuum v.stage) y.now y.reply) n → SweepsTo (abstract_vacuum n.0.stage)
+    more_case : (n : VacuumAt × VacuumStep) → n.1 ≡ step.More → Leads v.spans (vacuum_model_step (abstract_vacuum v.stage) y.now y.reply) n → SweepsTo (abstract_vacuum n.0.stage)
     more_case (w, step.More) e (inl h) = subst SweepsTo (sym h.0) goes_sweep
     more_case (w, step.More) e (inr (span, at_span, rest)) = subst (λ (s : VacuumStage). SweepsTo (abstract_vacuum s)) (sym at_span) (scans_next span (first_listed v.spans span w.spans rest listed))
     more_case (w, step.Count n) e h = absurd (cc)
@@ -235,23 +200,25 @@ module _ (catalog : List Table) (events : List Event) (states : ℕ → ClientSt
         moved catalog (tables_are_well_typed catalog) states y.client (record now { vacuum = None }) (events ++ call_event y (Some b) ∷ []) refl refl
         (subst (λ (o : Option TxnAt). RunInvariant catalog (tables_are_well_typed catalog) (events ++ call_event y (Some b) ∷ []) (with_client (system_of states) y.client (abstract_txn o)) (at (doing_of states) y.client (option_map (λ (p : Planned). p.statement) now.plan))) (sym none)
         (subst (λ (o : Option Statement). RunInvariant catalog (tables_are_well_typed catalog) (events ++ call_event y (Some b) ∷ []) (with_client (system_of states) y.client Resting) (at (doing_of states) y.client o)) (sym no_statement)
-        (going_swept catalog (tables_are_well_typed catalog) events (system_of states) (doing_of states) g y.client y.store y.request y.how y.reply y.now machine_kind machine_kinds (abstract_vacuum v.stage) here_sweeps asked_sweep b mild)))
+        (going_swept catalog (tables_are_well_typed catalog) events (system_of states) (doing_of states) g y.client y.store y.request y.how y.reply y.now (abstract_vacuum v.stage) here_sweeps asked_sweep b mild)))
 
-    swept_case : (e : VacuumStep) (w : VacuumAt) → Gives then_machine w e → Replied (answer_of e) (record now { vacuum = vacuum_left e w })
-    swept_case step.More w h = sweeps_on w (subst (λ (x : VacuumAt). SweepsTo (abstract_vacuum x.stage)) (sym h.0) (more_case then_machine (sym h.1) (step_leads v.spans v.removed v.stage y.now y.reply)))
-    swept_case (step.Count n) w h = swept_so (answer.Count n) (record { undone = refl; agrees = refl; other = λ e. cc })
-    swept_case step.Faulted w h = swept_so answer.Faulted (record { undone = refl; agrees = refl; other = λ e. cc })
-    swept_case (step.BadRecord key) w h = swept_so (answer.BadRecord key) (record { undone = refl; agrees = refl; other = λ e. cc })
-    swept_case step.NoMemory w h = swept_so answer.NoMemory (record { undone = refl; agrees = refl; other = λ e. cc })
+    vacuum_goes : (w : VacuumAt) → Gives then_machine w step.More → Replied None (record now { vacuum = Some w })
+    vacuum_goes w h = sweeps_on w (subst (λ (x : VacuumAt). SweepsTo (abstract_vacuum x.stage)) (sym h.0) (more_case then_machine (sym h.1) (step_leads v.spans v.removed v.stage y.now y.reply)))
 
-    sweep_case : (result : Option Answer) (d : Client) → VacuumPost v y.reply y.now result d.vacuum → d ≡ record now { vacuum = d.vacuum } → Replied result d
-    sweep_case result d h is_so =
-        subst (λ (r : Option Answer). Replied r d) (sym h.answer)
-        (subst (λ (x : Client). Replied (answer_of h.step) x) (sym (is_so ∙ ap (λ (o : Option VacuumAt). record now { vacuum = o }) h.goes)) (swept_case h.step h.left h.answered))
+  -- the statement that reads
+  asked_by : (t : TxnAt) (p : Planned) (a : Access) (x : ReadAt) → IsReadAt now y.request t p a x → IsAskedBy catalog p a x
+  asked_by t p a x at = asked_at catalog now y.request y.reply y.now called.waiting.fitted t p a x at
 
-  pub replies_so : ((k : Key) → is_some (find_table catalog k.table) ≡ true → is_data k ≡ true) → (result : Option Answer) (d : Client) → ReplyPost now now.vacuum y.reply y.now result d → Replied result d
-  replies_so apart result d h = by now.vacuum refl called.waiting.fitted h
-    where
-      by : (o : Option VacuumAt) → now.vacuum ≡ o → IsFittedBy catalog o now → ReplyPost now o y.reply y.now result d → Replied result d
-      by None e fitted h = txn_case now.txn result d e refl fitted h
-      by (Some v) e fitted h = sweep_case apart v e fitted.0 fitted.1 fitted.2 result d h.0 h.1
+  pub replies_so : ((k : Key) → is_some (find_table catalog k.table) ≡ true → is_data k ≡ true) → (result : Option Answer) (d : Client) → Step now (Receives y.request y.reply y.now) result d → Replied result d
+  replies_so apart result d (ReadGoesOn t p a x at more) = reads_on catalog events states g y is called t p a x at.free at.opened at.doing at.plan (asked_by t p a x at) (read_step x.stage y.now y.reply) refl
+  replies_so apart result d (ReadEnds t p a x images at ends is_asked as_read) = read_ends catalog events states g y is called t p a x at.free at.opened at.doing at.plan (asked_by t p a x at) images ends as_read
+  replies_so apart result d (ReadConflicts t p a x images key found at ends changed) = differs catalog events states g y is called t p a x at.free at.opened at.doing at.plan (asked_by t p a x at) key found
+  replies_so apart result d (ReadFails {b = b} t p a x at f) = read_fails catalog events states g y is called t p a x at.free at.opened at.doing at.plan (asked_by t p a x at) b f
+  replies_so apart result d (CommitGoesOn {u = u} t k next at to) = goes_on t k at.free at.opened at.doing at.plan u (record { work = k.work; stage = next }) to.doing refl to.next to.more
+  replies_so apart result d (CommitEnds t k a at ended) = is_over t k at.free at.opened at.doing at.plan a (ended_is (commit_step k.work k.stage y.reply) a ended)
+  replies_so apart result d (VacuumGoesOn {w = w} v at gave) =
+      let k = vacuum_at catalog now y.request y.reply y.now called.waiting.fitted v at in
+      vacuum_goes apart v at.runs k.0 k.1 k.2 w gave
+  replies_so apart result d (VacuumEnds {b = b} v w s at gave answers) =
+      let k = vacuum_at catalog now y.request y.reply y.now called.waiting.fitted v at in
+      swept_so apart v at.runs k.0 k.1 k.2 b (vacuum_answered s b answers)

@@ -22,13 +22,15 @@ use Rattle.law_protocol.specs.Lawful.{Labelled, IsObserved, IsPreparedObserved, 
 use Rattle.sdb_phases.specs.declared.step.RecoverStep.TheVariants as steps
 use Rattle.sdb_phases.specs.Recover.{recover_next, recover_request_at}
 use Rattle.law_clients.specs.Reader.{RecoverOk, recover_action}
-use Rattle.law_clients.specs.ReadAt.{IsKind, AreKinds, ReadAt, Asking, Resolving, Done, Failed, read_pending, read_action, read_step, settle, settle_one, settle_reply, after_recovery, IsImage, IsLeft, IsOfData, Rise, AreInOrder, keys_of, ReadOk}
+use Rattle.law_clients.specs.ReadAt.{IsKind, ReadAt, Asking, Resolving, Done, Failed, read_pending, read_action, read_step, settle, settle_one, settle_reply, after_recovery, IsImage, IsLeft, IsOfData, Rise, AreInOrder, keys_of, ReadOk}
 use Rattle.law_clients.proofs.Kept.{row_later}
 use Rattle.law_clients.proofs.Lists.{each_both, each_drop, each_more, each_unmap}
 use Rattle.law_clients.proofs.Meta.{meta_of}
 use Rattle.law_clients.proofs.Reading.{IsImageOf, phase_kept, image_settled}
 use Rattle.sdb_txn.specs.Read.{request_of, Kind, Firm, Open, Bad}
 use Rattle.sdb_model.specs.Tables.{is_data}
+use Rattle.law_clients.proofs.Machine.{kind_is}
+use Rattle.sdb_txn.specs.Read.{kind_of}
 
 ---- what stays
 
@@ -95,11 +97,11 @@ inside_each span (r ∷ rs) h = (and_first (in_span span r.key) (list_all (λ x.
 
 ---- rows are settled
 
-pub settle_ok : (kind : Record → Kind) (past : List Labelled) (a : Access) (images left : List Record) → AreKinds kind → AllByRecursion (IsImage past) images → AllByRecursion (IsLeft past) left → AreInOrder a (keys_of images ++ keys_of left) → ReadOk past a (settle kind images left)
-settle_ok kind past a images [] kinds i l place = (i, subst (AreInOrder a) (append-nil (keys_of images)) place)
-settle_ok kind past a images (r ∷ left) kinds i l place = by (kind r) (kinds r) (λ firm. settle_ok kind past a (images ++ r ∷ []) left kinds (each_more (IsImage past) images r i (Itself l.0.0 refl firm.1, firm.0, firm.1)) l.1 (place_more a images r r.key (keys_of left) refl place))
+pub settle_ok : (past : List Labelled) (a : Access) (images left : List Record) → AllByRecursion (IsImage past) images → AllByRecursion (IsLeft past) left → AreInOrder a (keys_of images ++ keys_of left) → ReadOk past a (settle images left)
+settle_ok past a images [] i l place = (i, subst (AreInOrder a) (append-nil (keys_of images)) place)
+settle_ok past a images (r ∷ left) i l place = by (kind_of r) (kind_is r) (λ firm. settle_ok past a (images ++ r ∷ []) left (each_more (IsImage past) images r i (Itself l.0.0 refl firm.1, firm.0, firm.1)) l.1 (place_more a images r r.key (keys_of left) refl place))
   where
-    by : (x : Kind) → IsKind r x → (IsKind r Firm → ReadOk past a (settle kind (images ++ r ∷ []) left)) → ReadOk past a (settle_one x images r left (settle kind (images ++ r ∷ []) left))
+    by : (x : Kind) → IsKind r x → (IsKind r Firm → ReadOk past a (settle (images ++ r ∷ []) left)) → ReadOk past a (settle_one x images r left (settle (images ++ r ∷ []) left))
     by Firm k rest = rest k
     by (Open meta) k rest = (i, record { of = meta_of r meta k.0 k.1; unresolved = k.0; observed = l.0.0; outside = l.0.1; phase = tt }, l.1, place)
     by Bad k rest = tt
@@ -113,27 +115,27 @@ rows_left past q rs observed up outside = each_both (λ x. record_among rs x.key
 key_itself : (k q : Key) → q ≡ k → in_access (access.Get k) q ≡ true
 key_itself k q e = subst (λ x. is_eq (key_cmp k x) ≡ true) (sym e) (ap is_eq (tied_itself key_total k))
 
-pub asked_ok : (kind : Record → Kind) (past : List Labelled) (c : ℕ) (a : Access) (store : Name) (how : How) (r : Reply) (answer : Option Answer) → AreKinds kind → IsOfData a → CanAnswer (request_of a) r
-    → ReadOk (labelled_with Rattle.law_protocol.specs.History.Other (event.Call c store (request_of a) how r answer) ∷ past) a (settle_reply kind r)
-asked_ok kind past c (access.Get k) store how reply.Fault answer kinds tables can = tt
-asked_ok kind past c (access.Get k) store how reply.NoMemory answer kinds tables can = tt
-asked_ok kind past c (access.Get k) store how reply.Applied answer kinds tables can = absurd can
-asked_ok kind past c (access.Get k) store how (reply.NotMet found) answer kinds tables can = absurd can
-asked_ok kind past c (access.Get k) store how (reply.Rows rows) answer kinds tables can = absurd can
-asked_ok kind past c (access.Get k) store how (reply.Found None) answer kinds tables can = (tt, (tt, tt))
-asked_ok kind past c (access.Get k) store how (reply.Found (Some r)) answer kinds tables can =
+pub asked_ok : (past : List Labelled) (c : ℕ) (a : Access) (store : Name) (how : How) (r : Reply) (answer : Option Answer) → IsOfData a → CanAnswer (request_of a) r
+    → ReadOk (labelled_with Rattle.law_protocol.specs.History.Other (event.Call c store (request_of a) how r answer) ∷ past) a (settle_reply r)
+asked_ok past c (access.Get k) store how reply.Fault answer tables can = tt
+asked_ok past c (access.Get k) store how reply.NoMemory answer tables can = tt
+asked_ok past c (access.Get k) store how reply.Applied answer tables can = absurd can
+asked_ok past c (access.Get k) store how (reply.NotMet found) answer tables can = absurd can
+asked_ok past c (access.Get k) store how (reply.Rows rows) answer tables can = absurd can
+asked_ok past c (access.Get k) store how (reply.Found None) answer tables can = (tt, (tt, tt))
+asked_ok past c (access.Get k) store how (reply.Found (Some r)) answer tables can =
     let here = key_itself k r.key can in
-    settle_ok kind (labelled_with Rattle.law_protocol.specs.History.Other (event.Call c store (ask.Get k) how (reply.Found (Some r)) answer) ∷ past) (access.Get k) [] (r ∷ []) kinds tt ((inl refl, tables r.key here), tt) ((tt, tt), (here, tt))
-asked_ok kind past c (access.Scan span) store how reply.Fault answer kinds tables can = tt
-asked_ok kind past c (access.Scan span) store how reply.NoMemory answer kinds tables can = tt
-asked_ok kind past c (access.Scan span) store how reply.Applied answer kinds tables can = absurd can
-asked_ok kind past c (access.Scan span) store how (reply.NotMet found) answer kinds tables can = absurd can
-asked_ok kind past c (access.Scan span) store how (reply.Found found) answer kinds tables can = absurd can
-asked_ok kind past c (access.Scan span) store how (reply.Rows rows) answer kinds tables can =
+    settle_ok (labelled_with Rattle.law_protocol.specs.History.Other (event.Call c store (ask.Get k) how (reply.Found (Some r)) answer) ∷ past) (access.Get k) [] (r ∷ []) tt ((inl refl, tables r.key here), tt) ((tt, tt), (here, tt))
+asked_ok past c (access.Scan span) store how reply.Fault answer tables can = tt
+asked_ok past c (access.Scan span) store how reply.NoMemory answer tables can = tt
+asked_ok past c (access.Scan span) store how reply.Applied answer tables can = absurd can
+asked_ok past c (access.Scan span) store how (reply.NotMet found) answer tables can = absurd can
+asked_ok past c (access.Scan span) store how (reply.Found found) answer tables can = absurd can
+asked_ok past c (access.Scan span) store how (reply.Rows rows) answer tables can =
     let up = rise_is rows (and_first (rise rows) (list_all (λ r. in_span span r.key) rows) can) in
     let inside = inside_each span rows (and_second (rise rows) (list_all (λ r. in_span span r.key) rows) can) in
     let q : Labelled = labelled_with Rattle.law_protocol.specs.History.Other (event.Call c store (ask.Scan span) how (reply.Rows rows) answer) in
-    settle_ok kind (q ∷ past) (access.Scan span) [] rows kinds tt (rows_left past q rows (λ x f. inl f) up (each_any (λ k. in_span span k ≡ true) (λ k. is_data k ≡ true) (keys_of rows) tables inside)) (up, inside)
+    settle_ok (q ∷ past) (access.Scan span) [] rows tt (rows_left past q rows (λ x f. inl f) up (each_any (λ k. in_span span k ≡ true) (λ k. is_data k ≡ true) (keys_of rows) tables inside)) (up, inside)
 
 ---- a reply to a recovery
 
@@ -147,10 +149,10 @@ pub recover_kept : (past : List Labelled) (c : ℕ) (rec : Record) (meta : Meta)
     → RecoverOk (labelled_with (recover_action rec meta p r) (event.Call c store q how r a) ∷ past) rec meta (recover_next rec meta p now r).0
 recover_kept past c rec meta p now store q how r a ok asked can moment = record { of = ok.of; unresolved = ok.unresolved; observed = inr ok.observed; outside = ok.outside; phase = phase_kept past c rec meta p now store q how r a ok asked can moment }
 
-resolved_ok : (kind : Record → Kind) (past : List Labelled) (a : Access) (c : ℕ) (images : List Record) (rec : Record) (meta : Meta) (p : RecoverPhase) (left : List Record) (now : ℤ) (store : Name) (q : Request) (how : How) (r : Reply) (answer : Option Answer)
-    → AreKinds kind → ReadOk past a (Resolving images rec meta p left) → recover_request_at rec meta p ≡ Some q → CanAnswer q r → is_moment now ≡ true
-    → ReadOk (labelled_with (recover_action rec meta p r) (event.Call c store q how r answer) ∷ past) a (after_recovery kind images rec meta left (recover_next rec meta p now r))
-resolved_ok kind past a c images rec meta p left now store q how r answer kinds ok asked can moment = by (recover_next rec meta p now r) refl
+resolved_ok : (past : List Labelled) (a : Access) (c : ℕ) (images : List Record) (rec : Record) (meta : Meta) (p : RecoverPhase) (left : List Record) (now : ℤ) (store : Name) (q : Request) (how : How) (r : Reply) (answer : Option Answer)
+    → ReadOk past a (Resolving images rec meta p left) → recover_request_at rec meta p ≡ Some q → CanAnswer q r → is_moment now ≡ true
+    → ReadOk (labelled_with (recover_action rec meta p r) (event.Call c store q how r answer) ∷ past) a (after_recovery images rec meta left (recover_next rec meta p now r))
+resolved_ok past a c images rec meta p left now store q how r answer ok asked can moment = by (recover_next rec meta p now r) refl
   where
     one : Labelled
     one = labelled_with (recover_action rec meta p r) (event.Call c store q how r answer)
@@ -161,25 +163,25 @@ resolved_ok kind past a c images rec meta p left now store q how r answer kinds 
     left_now : AllByRecursion (IsLeft (one ∷ past)) left
     left_now = left_later past one left ok.2
 
-    by : (n : RecoverPhase × RecoverStep) → recover_next rec meta p now r ≡ n → ReadOk (one ∷ past) a (after_recovery kind images rec meta left n)
+    by : (n : RecoverPhase × RecoverStep) → recover_next rec meta p now r ≡ n → ReadOk (one ∷ past) a (after_recovery images rec meta left n)
     by (n, steps.More) e = (images_now, subst (λ (x : RecoverPhase × RecoverStep). RecoverOk (one ∷ past) rec meta x.0) e (recover_kept past c rec meta p now store q how r answer ok.1 asked can moment), left_now, ok.3)
-    by (n, steps.Image None) e = settle_ok kind (one ∷ past) a images left kinds images_now left_now (place_drop a (keys_of images) rec.key (keys_of left) ok.3)
+    by (n, steps.Image None) e = settle_ok (one ∷ past) a images left images_now left_now (place_drop a (keys_of images) rec.key (keys_of left) ok.3)
     by (n, steps.Image (Some b)) e =
         let i = image_after past one rec meta p now r b ok.1 (ap (λ (x : RecoverPhase × RecoverStep). x.1) e) in
-        settle_ok kind (one ∷ past) a (images ++ b ∷ []) left kinds (each_more (IsImage (one ∷ past)) images b images_now i.0) left_now (place_more a images b rec.key (keys_of left) i.1 ok.3)
+        settle_ok (one ∷ past) a (images ++ b ∷ []) left (each_more (IsImage (one ∷ past)) images b images_now i.0) left_now (place_more a images b rec.key (keys_of left) i.1 ok.3)
     by (n, steps.Busy id prepared_at) e = tt
     by (n, steps.Faulted) e = tt
     by (n, steps.BadRecord key) e = tt
     by (n, steps.NoMemory) e = tt
 
 -- A reply leaves a read knowing of each image that it came to it.
-pub read_kept : (kind : Record → Kind) (past : List Labelled) (a : Access) (c : ℕ) (s : ReadAt) (now : ℤ) (store : Name) (q : Request) (how : How) (r : Reply) (answer : Option Answer)
-    → AreKinds kind → IsOfData a → ReadOk past a s → read_pending a s ≡ Some q → CanAnswer q r → is_moment now ≡ true
-    → ReadOk (labelled_with (read_action s r) (event.Call c store q how r answer) ∷ past) a (read_step kind s now r)
-read_kept kind past a c Asking now store q how r answer kinds tables ok asked can moment = subst (λ x. CanAnswer x r → ReadOk (labelled_with Rattle.law_protocol.specs.History.Other (event.Call c store x how r answer) ∷ past) a (settle_reply kind r)) (some_is (request_of a) q asked) (asked_ok kind past c a store how r answer kinds tables) can
+pub read_kept : (past : List Labelled) (a : Access) (c : ℕ) (s : ReadAt) (now : ℤ) (store : Name) (q : Request) (how : How) (r : Reply) (answer : Option Answer)
+    → IsOfData a → ReadOk past a s → read_pending a s ≡ Some q → CanAnswer q r → is_moment now ≡ true
+    → ReadOk (labelled_with (read_action s r) (event.Call c store q how r answer) ∷ past) a (read_step s now r)
+read_kept past a c Asking now store q how r answer tables ok asked can moment = subst (λ x. CanAnswer x r → ReadOk (labelled_with Rattle.law_protocol.specs.History.Other (event.Call c store x how r answer) ∷ past) a (settle_reply r)) (some_is (request_of a) q asked) (asked_ok past c a store how r answer tables) can
   where
     some_is : (x y : Request) → Some x ≡ Some y → x ≡ y
     some_is x y e = cc
-read_kept kind past a c (Resolving images rec meta p left) now store q how r answer kinds tables ok asked can moment = resolved_ok kind past a c images rec meta p left now store q how r answer kinds ok asked can moment
-read_kept kind past a c (Done images) now store q how r answer kinds tables ok asked can moment = absurd (cc)
-read_kept kind past a c Failed now store q how r answer kinds tables ok asked can moment = tt
+read_kept past a c (Resolving images rec meta p left) now store q how r answer tables ok asked can moment = resolved_ok past a c images rec meta p left now store q how r answer ok asked can moment
+read_kept past a c (Done images) now store q how r answer tables ok asked can moment = absurd (cc)
+read_kept past a c Failed now store q how r answer tables ok asked can moment = tt

@@ -17,7 +17,6 @@ use Rattle.sdb_txn.specs.Read as read
 use Rattle.sdb_vacuum.specs.declared.work.VacuumStep.TheVariants as step
 use Rattle.sdb_vacuum.specs.Vacuum as machine
 use Rattle.sdb_vacuum.specs.Vacuum.{VacuumAt, VacuumStage}
-use Rattle.law_clients.specs.Machine.{kind_at, machine_kind}
 use Rattle.law_clients.specs.ReadAt.{IsOfData}
 use Rattle.law_clients.specs.Vacuum.{VacuumModel, remove_or, vacuum_rows, vacuum_one, vacuum_call, vacuum_removed, vacuum_resolved, vacuum_scanned, vacuum_model_step}
 use Rattle.law_clients.specs.About.{AreListed, IsListed, IsVacuumIn}
@@ -44,20 +43,20 @@ next_leads : (ss : List Span) (n : ℕ) (w : VacuumModel) → Leads ss w (machin
 next_leads [] n w = tt
 next_leads (s ∷ ss) n w = inr (s, refl, refl)
 
-going_leads : (ss : List Span) (n : ℕ) (left : List Record) → Leads ss (vacuum_rows machine_kind left) (machine.next_of_row ss n (machine.first_of left))
+going_leads : (ss : List Span) (n : ℕ) (left : List Record) → Leads ss (vacuum_rows left) (machine.next_of_row ss n (machine.first_of left))
 going_leads ss n [] = next_leads ss n _
 going_leads ss n (r ∷ left) = by (read.kind_of r) (going_leads ss n left)
   where
-    here : (b : Bool) → Leads ss (vacuum_rows machine_kind left) (machine.next_of_row ss n (machine.first_of left)) → Leads ss (if b then Rattle.law_clients.specs.Vacuum.Removing r left else vacuum_rows machine_kind left) (machine.next_of_row ss n (if b then machine.Tombstone r left else machine.first_of left))
+    here : (b : Bool) → Leads ss (vacuum_rows left) (machine.next_of_row ss n (machine.first_of left)) → Leads ss (if b then Rattle.law_clients.specs.Vacuum.Removing r left else vacuum_rows left) (machine.next_of_row ss n (if b then machine.Tombstone r left else machine.first_of left))
     here true rest = inl (refl, refl)
     here false rest = rest
 
-    by : (k : read.Kind) → Leads ss (vacuum_rows machine_kind left) (machine.next_of_row ss n (machine.first_of left)) → Leads ss (vacuum_one (kind_at k) r left (vacuum_rows machine_kind left)) (machine.next_of_row ss n (machine.first_one k r left (machine.first_of left)))
+    by : (k : read.Kind) → Leads ss (vacuum_rows left) (machine.next_of_row ss n (machine.first_of left)) → Leads ss (vacuum_one k r left (vacuum_rows left)) (machine.next_of_row ss n (machine.first_one k r left (machine.first_of left)))
     by read.Firm rest = here (is_tombstone r) rest
     by (read.Open meta) rest = inl (refl, refl)
     by read.Bad rest = tt
 
-answered_leads : (ss : List Span) (n : ℕ) (r : Reply) → Leads ss (vacuum_scanned machine_kind r) (machine.answered ss n r)
+answered_leads : (ss : List Span) (n : ℕ) (r : Reply) → Leads ss (vacuum_scanned r) (machine.answered ss n r)
 answered_leads ss n (reply.Rows rows) = going_leads ss n rows
 answered_leads ss n (reply.Found found) = tt
 answered_leads ss n reply.Applied = tt
@@ -65,14 +64,14 @@ answered_leads ss n (reply.NotMet found) = tt
 answered_leads ss n reply.Fault = tt
 answered_leads ss n reply.NoMemory = tt
 
-image_leads : (ss : List Span) (n : ℕ) (left : List Record) (b : Record) → Leads ss (remove_or b left (vacuum_rows machine_kind left)) (machine.tombstone_or ss n left b)
+image_leads : (ss : List Span) (n : ℕ) (left : List Record) (b : Record) → Leads ss (remove_or b left (vacuum_rows left)) (machine.tombstone_or ss n left b)
 image_leads ss n left b = by (is_tombstone b)
   where
-    by : (t : Bool) → Leads ss (if t then Rattle.law_clients.specs.Vacuum.Removing b left else vacuum_rows machine_kind left) (if t then machine.with_call ss n (machine.Removing b left) else machine.next_of_row ss n (machine.first_of left))
+    by : (t : Bool) → Leads ss (if t then Rattle.law_clients.specs.Vacuum.Removing b left else vacuum_rows left) (if t then machine.with_call ss n (machine.Removing b left) else machine.next_of_row ss n (machine.first_of left))
     by true = inl (refl, refl)
     by false = going_leads ss n left
 
-resolved_leads : (ss : List Span) (n : ℕ) (rec : Record) (meta : Meta) (left : List Record) (x : RecoverPhase × RecoverStep) → Leads ss (vacuum_resolved machine_kind rec meta left x) (machine.resolved ss n rec meta left x)
+resolved_leads : (ss : List Span) (n : ℕ) (rec : Record) (meta : Meta) (left : List Record) (x : RecoverPhase × RecoverStep) → Leads ss (vacuum_resolved rec meta left x) (machine.resolved ss n rec meta left x)
 resolved_leads ss n rec meta left (p, steps.More) = inl (refl, refl)
 resolved_leads ss n rec meta left (p, steps.Image None) = going_leads ss n left
 resolved_leads ss n rec meta left (p, steps.Image (Some b)) = image_leads ss n left b
@@ -81,7 +80,7 @@ resolved_leads ss n rec meta left (p, steps.Faulted) = tt
 resolved_leads ss n rec meta left (p, steps.BadRecord key) = tt
 resolved_leads ss n rec meta left (p, steps.NoMemory) = tt
 
-removal_leads : (ss : List Span) (n : ℕ) (left : List Record) (r : Reply) → Leads ss (vacuum_removed machine_kind left r) (machine.removal_answered ss n left r)
+removal_leads : (ss : List Span) (n : ℕ) (left : List Record) (r : Reply) → Leads ss (vacuum_removed left r) (machine.removal_answered ss n left r)
 removal_leads ss n left reply.Applied = going_leads ss (n + 1) left
 removal_leads ss n left (reply.NotMet found) = going_leads ss n left
 removal_leads ss n left (reply.Found found) = tt
@@ -89,7 +88,7 @@ removal_leads ss n left (reply.Rows rows) = tt
 removal_leads ss n left reply.Fault = tt
 removal_leads ss n left reply.NoMemory = tt
 
-pub step_leads : (ss : List Span) (n : ℕ) (s : VacuumStage) (now : ℤ) (r : Reply) → Leads ss (vacuum_model_step machine_kind (abstract_vacuum s) now r) (machine.step_at ss n s now r)
+pub step_leads : (ss : List Span) (n : ℕ) (s : VacuumStage) (now : ℤ) (r : Reply) → Leads ss (vacuum_model_step (abstract_vacuum s) now r) (machine.step_at ss n s now r)
 step_leads ss n (machine.Scanning span) now r = answered_leads ss n r
 step_leads ss n (machine.Resolving rec meta p left) now r = resolved_leads ss n rec meta left (recover_next rec meta p now r)
 step_leads ss n (machine.Removing b left) now r = removal_leads ss n left r

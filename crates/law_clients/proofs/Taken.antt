@@ -22,7 +22,7 @@ use Rattle.sdb_model.specs.Transactions.{id_of}
 use Rattle.sdb_txn.specs.declared.txn.Doing.TheVariants as doing
 use Rattle.sdb_txn.specs.Txn.{TxnAt, committing, work_of as txn_work}
 use Rattle.sdb_vacuum.specs.Vacuum.{VacuumAt, begun, whole}
-use Rattle.sdb_client.specs.Client.{ClientAt as Client, holding, next_id as client_next, resting as client_resting, out_of_memory, with_begun as client_begun}
+use Rattle.sdb_client.specs.Client.{ClientAt as Client, holding, next_id as client_next, resting as client_resting, with_begun as client_begun}
 use Rattle.law_clients.specs.ReadAt.{IsOfData}
 use Rattle.law_clients.specs.Vacuum.{Scanning}
 use Rattle.law_clients.specs.System.{ClientAt, Committing, NoneOpen, NoneRunVacuum, Open, Resting, RunsVacuum, SystemAt, commit_left, has_open, next_id, is_in_vacuum, with_begun, with_client}
@@ -199,20 +199,15 @@ module _ (catalog : List Table) (fit : Tables → Bool) (events : List Event) (s
   pub told_rollback : (text : List ℕ) (t : TxnAt) → now.txn ≡ Some t → Reads text statement.Rollback → IsSo catalog fit states c (client_resting now) (events ++ event.Take c text (Some answer.Done) ∷ [])
   told_rollback text t some reads = told_left text t answer.Done some (inl (refl, other_no_begin text statement.Rollback reads (λ e. cc), (rollback_read text).1 reads))
 
-  memory_plain : IsPlainAnswer answer.NoMemory
-  memory_plain = record { idle = refl; mild = record { undone = refl; agrees = refl; other = λ e. cc } }
-
   rests : now.txn ≡ None → abstract_by (client_resting now).vacuum (client_resting now).txn ≡ abstract_client (states c)
   rests k = rw (ready.goes_on, ready.idle.free, k) refl
 
-  -- out of memory
-  pub told_starved : (text : List ℕ) → IsSo catalog fit states c (out_of_memory text now) (events ++ event.Take c text (Some answer.NoMemory) ∷ [])
-  told_starved text =
-      by_test (reads_commit text)
-      (λ q. rw q (elim (now.txn) as (λ o. now.txn ≡ o → IsSo catalog fit states c (client_resting now) (events ++ event.Take c text (Some answer.NoMemory) ∷ [])) [
+  -- a COMMIT is out of memory
+  pub commit_lost : (text : List ℕ) → reads_commit text ≡ true → IsSo catalog fit states c (client_resting now) (events ++ event.Take c text (Some answer.NoMemory) ∷ [])
+  commit_lost text q =
+      elim (now.txn) as (λ o. now.txn ≡ o → IsSo catalog fit states c (client_resting now) (events ++ event.Take c text (Some answer.NoMemory) ∷ [])) [
         | None ↦ λ k.
             unmoved catalog fit states c (client_resting now) (events ++ event.Take c text (Some answer.NoMemory) ∷ []) refl (rests k) refl
-            (going_outside catalog fit events (system_of states) (doing_of states) g c text answer.NoMemory (at_rest catalog fit events states g c ready k) memory_plain.mild)
+            (going_outside catalog fit events (system_of states) (doing_of states) g c text answer.NoMemory (at_rest catalog fit events states g c ready k) (record { undone = refl; agrees = refl; other = λ e. cc }))
         | Some t ↦ λ k. told_left text t answer.NoMemory k (inr (refl, q))
-      ] refl))
-      (λ q. rw q (told_same catalog fit events states g c ready text answer.NoMemory memory_plain q))
+      ] refl

@@ -20,8 +20,8 @@ use Rattle.law_protocol.specs.Plan.{Plan}
 use Rattle.law_clients.specs.Reads.{first_image, work_of}
 use Rattle.law_clients.specs.Owner.{plan_of}
 use Rattle.law_clients.specs.System.{ClientCall, IsReplyTo}
-use Rattle.law_clients.specs.ReadAt.{AreKinds, ReadAt, Asking, Resolving, Done, Failed, read_pending, read_step}
-use Rattle.sdb_txn.specs.Read.{Kind, request_of}
+use Rattle.law_clients.specs.ReadAt.{ReadAt, Asking, Resolving, Done, Failed, read_pending, read_step}
+use Rattle.sdb_txn.specs.Read.{request_of}
 
 -- a record has a meaning by some calls: it is committed, or one of them rolled it
 abbrev pub HasMeaning : List StoreCall → Record → Type 0
@@ -74,8 +74,6 @@ HasUnchecked rows = list_all is_transactional rows ≡ false
 
 -- A reply to the pending call of a read, whose rows are as they were observed, and the calls that it has made.
 pub record MadeReply : Type 0 where
-  pub kind : Record → Kind
-  pub kinds : AreKinds kind
   pub asked : Access
   pub stage : ReadAt
   pub made : List StoreCall
@@ -85,7 +83,7 @@ pub record MadeReply : Type 0 where
 
 -- where it takes the read to
 abbrev pub stage_after : MadeReply → ReadAt
-stage_after r = read_step r.kind r.stage r.call.now r.call.reply
+stage_after r = read_step r.stage r.call.now r.call.reply
 
 -- the read item of a read that returned these images
 abbrev pub read_item_with : Access → List Record → ReadItem

@@ -10,7 +10,6 @@ use Rattle.law_protocol.specs.Plan.{Plan}
 use Rattle.sdb_phases.specs.Commit.{Stage, pending, step}
 use Rattle.sdb_phases.specs.Recover.{recover_next, recover_request_at}
 use Rattle.sdb_phases.specs.Work.{Work}
-use Rattle.sdb_txn.specs.Read.{Kind}
 use Rattle.sdb_snapshot.specs.Seen.{Seen, nothing}
 use Rattle.law_clients.specs.Reads.{with_read}
 use Rattle.law_clients.specs.Reader.{RecoverOk, recover_action}
@@ -105,8 +104,8 @@ pub record AnsweredRead (sys : SystemAt) : Type 0 where
   pub other : answered ≢ Some answer.Committed
 
 -- where it takes the read to
-abbrev pub read_after : {sys : SystemAt} → (Record → Kind) → AnsweredRead sys → ClientAt
-read_after kind r = Reading r.id r.seen r.asked (read_step kind r.stage r.call.now r.call.reply)
+abbrev pub read_after : {sys : SystemAt} → AnsweredRead sys → ClientAt
+read_after r = Reading r.id r.seen r.asked (read_step r.stage r.call.now r.call.reply)
 
 -- its event, with its part
 abbrev pub read_labelled : {sys : SystemAt} → AnsweredRead sys → Labelled
@@ -126,8 +125,8 @@ pub record VacuumReplyAt (sys : SystemAt) : Type 0 where
   pub other : answered ≢ Some answer.Committed
 
 -- where it takes the VACUUM to
-abbrev pub vacuum_after : {sys : SystemAt} → (Record → Kind) → VacuumReplyAt sys → ClientAt
-vacuum_after kind r = RunsVacuum (vacuum_model_step kind r.stage r.call.now r.call.reply)
+abbrev pub vacuum_after : {sys : SystemAt} → VacuumReplyAt sys → ClientAt
+vacuum_after r = RunsVacuum (vacuum_model_step r.stage r.call.now r.call.reply)
 
 -- its event, with its part
 abbrev pub vacuum_labelled : {sys : SystemAt} → VacuumReplyAt sys → Labelled
@@ -174,5 +173,5 @@ pub record RowsReply (past : List Labelled) (a : Access) : Type 0 where
   pub replies : IsReplyTo (read_pending a stage) call
 
 -- its rows hold the same after it
-abbrev pub SettlesOn : {past : List Labelled} {a : Access} → (Record → Kind) → RowsReply past a → Option Answer → Type 0
-SettlesOn {past} {a} kind r answered = ReadOk (labelled_with (read_action r.stage r.call.reply) (call_event r.call answered) ∷ past) a (read_step kind r.stage r.call.now r.call.reply)
+abbrev pub SettlesOn : {past : List Labelled} {a : Access} → RowsReply past a → Option Answer → Type 0
+SettlesOn {past} {a} r answered = ReadOk (labelled_with (read_action r.stage r.call.reply) (call_event r.call answered) ∷ past) a (read_step r.stage r.call.now r.call.reply)

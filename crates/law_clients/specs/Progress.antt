@@ -13,11 +13,10 @@ use Rattle.sdb_model.specs.Transactions.{IsOrder, changes_nothing, is_answered_f
 use Rattle.law_protocol.specs.History.{at}
 use Rattle.law_protocol.specs.Trace.{StartsEmpty}
 use Rattle.sdb_phases.specs.Commit.{preparing}
-use Rattle.sdb_txn.specs.Read.{Kind}
 use Rattle.sdb_snapshot.specs.Seen.{Seen, with_written}
 use Rattle.sdb_snapshot.specs.Written.{AreChanges}
 use Rattle.law_clients.specs.Reads.{MayRecord, with_read, work_of}
-use Rattle.law_clients.specs.ReadAt.{AreKinds, Done, IsOfData, ReadAt, read_pending, read_step}
+use Rattle.law_clients.specs.ReadAt.{Done, IsOfData, ReadAt, read_pending, read_step}
 use Rattle.law_clients.specs.Vacuum.{VacuumModel, vacuum_call, vacuum_model_step}
 use Rattle.law_clients.specs.System.{ClientAt, ClientCall, IsReplyTo, Open, Reading, RunsVacuum, SystemAt, call_event, commit_left, with_client}
 use Rattle.law_clients.specs.Body.{AnswersOn, IsCovered}
@@ -110,8 +109,6 @@ seen_asked q = with_written q.asked.seen q.rows.changes
 
 -- A reply to the pending call of a read.
 pub record ReadReply (p : Progress) : Type 0 where
-  pub kind : Record → Kind
-  pub kinds : AreKinds kind
   pub call : ClientCall
   pub id : TxId
   pub seen : Seen
@@ -122,7 +119,7 @@ pub record ReadReply (p : Progress) : Type 0 where
 
 -- where it takes the read to
 abbrev pub read_next : {p : Progress} → ReadReply p → ReadAt
-read_next r = read_step r.kind r.stage r.call.now r.call.reply
+read_next r = read_step r.stage r.call.now r.call.reply
 
 -- A statement is answered so with this reply, and by whatever calls its read has made up to it, the read has not finished.
 abbrev pub IsUnfinished : {p : Progress} → ReadReply p → Answer → Type 0
@@ -162,8 +159,6 @@ seen_after r = with_written (with_read r.reply.seen r.reply.asked r.images) r.an
 
 -- A reply to the pending call of a VACUUM.
 pub record VacuumReplied (p : Progress) : Type 0 where
-  pub kind : Record → Kind
-  pub kinds : AreKinds kind
   pub call : ClientCall
   pub stage : VacuumModel
   pub vacuums : p.sys.clients call.client ≡ RunsVacuum stage
@@ -171,7 +166,7 @@ pub record VacuumReplied (p : Progress) : Type 0 where
 
 -- where it takes the VACUUM to
 abbrev pub vacuum_next_at : {p : Progress} → VacuumReplied p → VacuumModel
-vacuum_next_at r = vacuum_model_step r.kind r.stage r.call.now r.call.reply
+vacuum_next_at r = vacuum_model_step r.stage r.call.now r.call.reply
 
 ---- the end of the events
 

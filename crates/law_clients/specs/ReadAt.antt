@@ -1,12 +1,12 @@
 -- A read of a statement: its rows are settled one after the other, each unresolved one by a recovery.
-use Rattle.std.specs.Prelude.{◌≡◌, ℤ, true, List, [], ◌∷◌, ◌++◌, map, Option, Some, None, Ok, Result, Err, if◌then◌else◌, ℕ}
+use Rattle.std.specs.Prelude.{◌≡◌, ℤ, true, List, [], ◌∷◌, ◌++◌, map, Option, Some, None, Ok}
 use Rattle.std.specs.List.{AllByRecursion}
 use Rattle.std.specs.declared.cmp.Ordering.TheVariants.{Less}
 use Rattle.law_clients.specs.Types.{Access, Key, Meta, Record, RecoverPhase, RecoverStep, Reply, Request}
 use Rattle.sdb_types.specs.declared.record.Reply.TheVariants as reply
 use Rattle.sdb_types.specs.declared.record.State.TheVariants as state
 use Rattle.sdb_types.specs.Order.{key_cmp}
-use Rattle.sdb_record.specs.Meta.{checked, is_committed, is_in, is_transactional, is_unresolved}
+use Rattle.sdb_record.specs.Meta.{checked, is_in, is_transactional, is_unresolved}
 use Rattle.sdb_model.specs.Access.{in_access}
 use Rattle.law_protocol.specs.History.{Action, Other}
 use Rattle.law_protocol.specs.Lawful.{Labelled, IsObserved, IsSettled}
@@ -14,30 +14,16 @@ use Rattle.sdb_phases.specs.declared.step.RecoverStep.TheVariants as steps
 use Rattle.sdb_phases.specs.declared.step.RecoverPhase.TheVariants as phase
 use Rattle.sdb_phases.specs.Recover.{recover_next, recover_request_at}
 use Rattle.law_clients.specs.Reader.{RecoverOk, recover_action}
-use Rattle.sdb_txn.specs.Read.{request_of, Kind, Firm, Open, Bad}
+use Rattle.sdb_txn.specs.Read.{request_of, Kind, Firm, Open, Bad, kind_of}
 use Rattle.sdb_model.specs.Tables.{is_data}
 
 ---- rows
 
--- the kind says what the record is
+-- the says what the record is
 abbrev pub IsKind : Record → Kind → Type 0
 IsKind r Firm = (is_transactional r ≡ true) × (is_in state.Committed r.columns ≡ true)
 IsKind r (Open meta) = (is_unresolved r ≡ true) × (checked r.columns ≡ Ok meta)
 IsKind r Bad = Unit {0}
-
--- a test of rows that says of each what it is
-abbrev pub AreKinds : (Record → Kind) → Type 0
-AreKinds kind = (r : Record) → IsKind r (kind r)
-
--- by its metadata
-abbrev pub kind_by : Result Meta (List ℕ) → Kind
-kind_by (Err column) = Bad
-kind_by (Ok meta) = if is_committed meta.state then Firm else Open meta
-
--- What a record is by its columns: committed in state 3, unresolved in states 1 and 2, and none of a transaction where they don't pass
--- the checks.
-abbrev pub kind_of : Record → Kind
-kind_of r = if is_transactional r then kind_by (checked r.columns) else Bad
 
 ---- the model
 
@@ -62,29 +48,29 @@ settle_one (Open meta) images r left rest = Resolving images r meta phase.Look l
 settle_one Bad images r left rest = Failed
 
 -- Committed rows are images, up to the first that is unresolved.
-abbrev pub settle : (Record → Kind) → List Record → List Record → ReadAt
-settle kind images [] = Done images
-settle kind images (r ∷ left) = settle_one (kind r) images r left (settle kind (images ++ r ∷ []) left)
+abbrev pub settle : List Record → List Record → ReadAt
+settle images [] = Done images
+settle images (r ∷ left) = settle_one (kind_of r) images r left (settle (images ++ r ∷ []) left)
 
 -- the rows of a reply begin to be settled
-abbrev pub settle_reply : (Record → Kind) → Reply → ReadAt
-settle_reply kind (reply.Found None) = Done []
-settle_reply kind (reply.Found (Some r)) = settle kind [] (r ∷ [])
-settle_reply kind (reply.Rows rows) = settle kind [] rows
-settle_reply kind r = Failed
+abbrev pub settle_reply : Reply → ReadAt
+settle_reply (reply.Found None) = Done []
+settle_reply (reply.Found (Some r)) = settle [] (r ∷ [])
+settle_reply (reply.Rows rows) = settle [] rows
+settle_reply r = Failed
 
 -- The image that a recovery gives takes the record's place. Any other end of it fails the read.
-abbrev pub after_recovery : (Record → Kind) → List Record → Record → Meta → List Record → RecoverPhase × RecoverStep → ReadAt
-after_recovery kind images rec meta left (p, steps.More) = Resolving images rec meta p left
-after_recovery kind images rec meta left (p, steps.Image None) = settle kind images left
-after_recovery kind images rec meta left (p, steps.Image (Some b)) = settle kind (images ++ b ∷ []) left
-after_recovery kind images rec meta left (p, s) = Failed
+abbrev pub after_recovery : List Record → Record → Meta → List Record → RecoverPhase × RecoverStep → ReadAt
+after_recovery images rec meta left (p, steps.More) = Resolving images rec meta p left
+after_recovery images rec meta left (p, steps.Image None) = settle images left
+after_recovery images rec meta left (p, steps.Image (Some b)) = settle (images ++ b ∷ []) left
+after_recovery images rec meta left (p, s) = Failed
 
 -- where a reply at a moment leads
-abbrev pub read_step : (Record → Kind) → ReadAt → ℤ → Reply → ReadAt
-read_step kind Asking now r = settle_reply kind r
-read_step kind (Resolving images rec meta p left) now r = after_recovery kind images rec meta left (recover_next rec meta p now r)
-read_step kind s now r = s
+abbrev pub read_step : ReadAt → ℤ → Reply → ReadAt
+read_step Asking now r = settle_reply r
+read_step (Resolving images rec meta p left) now r = after_recovery images rec meta left (recover_next rec meta p now r)
+read_step s now r = s
 
 -- the action of its call
 abbrev pub read_action : ReadAt → Reply → Action

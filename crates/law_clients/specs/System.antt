@@ -1,6 +1,6 @@
 -- The model of several clients: the state of each, and the invariant of all of them after the events so far.
 use Rattle.std.specs.Prelude.{◌≡◌, ◌≢◌, ◌⊎◌, ◌≤◌, ◌<◌, ◌+◌, ◌/◌, ◌%◌, ◌^◌, ℕ, ℤ, Bool, true, false, List, Option, Some, None}
-use Rattle.law_clients.specs.Types.{Access, Answer, Event, How, Outcome, Reply, Request, TxId}
+use Rattle.law_clients.specs.Types.{Access, Answer, Event, How, Reply, Request, TxId}
 use Rattle.sdb_types.specs.Contents.{CanAnswer}
 use Rattle.sdb_record.specs.Meta.{is_moment}
 use Rattle.sdb_model.specs.declared.answer.Answer.TheVariants as answer
@@ -12,7 +12,6 @@ use Rattle.law_protocol.specs.Plan.{Plan}
 use Rattle.law_protocol.specs.History as laws
 use Rattle.law_protocol.specs.History.{Begins, Takes, ProtocolState}
 use Rattle.law_protocol.specs.Lawful.{Labelled, IsLawful, protocol_state, answer_of, is_quiet, labelled_with}
-use Rattle.sdb_phases.specs.declared.step.Outcome.TheVariants as outcome
 use Rattle.sdb_phases.specs.Work.{Work}
 use Rattle.sdb_phases.specs.Commit.{Stage, Over, step, preparing}
 use Rattle.sdb_snapshot.specs.Seen.{Seen}
@@ -20,6 +19,7 @@ use Rattle.law_clients.specs.Owner.{CommitOk, plan_of, action_of}
 use Rattle.law_clients.specs.Reads.{OpenOk, SeenOk}
 use Rattle.law_clients.specs.ReadAt.{ReadAt, IsOfData, ReadOk}
 use Rattle.law_clients.specs.Vacuum.{VacuumModel, VacuumModelOk}
+use Rattle.sdb_client.specs.Step.{answer_of_outcome}
 
 ---- clients
 
@@ -168,16 +168,6 @@ abbrev pub begin_labelled : SystemAt → ℕ → List ℕ → Labelled
 begin_labelled sys c text = labelled_with (Begins (next_id sys c).0 c) (event.Take c text (Some answer.Done))
 
 ---- a COMMIT
-
--- the answer that a COMMIT gives at its end
-abbrev pub answer_of_outcome : Outcome → Answer
-answer_of_outcome outcome.Committed = answer.Committed
-answer_of_outcome (outcome.Conflict key found) = answer.Conflict key found
-answer_of_outcome (outcome.Expired id) = answer.Expired id
-answer_of_outcome outcome.Faulted = answer.Faulted
-answer_of_outcome (outcome.Unknown id) = answer.Unknown id
-answer_of_outcome (outcome.BadRecord key) = answer.BadRecord key
-answer_of_outcome outcome.NoMemory = answer.NoMemory
 
 -- the answer of a COMMIT that is over
 abbrev pub answer_at : Stage → Option Answer

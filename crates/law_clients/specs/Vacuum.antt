@@ -14,7 +14,7 @@ use Rattle.sdb_phases.specs.declared.step.RecoverPhase.TheVariants as phase
 use Rattle.sdb_phases.specs.Recover.{recover_next, recover_request_at}
 use Rattle.law_clients.specs.Reader.{RecoverOk, recover_action}
 use Rattle.law_clients.specs.ReadAt.{IsImage, IsLeft, IsOfData}
-use Rattle.sdb_txn.specs.Read.{Kind, Firm, Open, Bad}
+use Rattle.sdb_txn.specs.Read.{Kind, Firm, Open, Bad, kind_of}
 use Rattle.sdb_model.specs.Tables.{is_data}
 
 ---- the model
@@ -45,35 +45,35 @@ vacuum_one (Open meta) r left rest = Resolving r meta phase.Look left
 vacuum_one Bad r left rest = Between
 
 -- rows up to the first that is a tombstone or unresolved need no call
-abbrev pub vacuum_rows : (Record → Kind) → List Record → VacuumModel
-vacuum_rows kind [] = Between
-vacuum_rows kind (r ∷ left) = vacuum_one (kind r) r left (vacuum_rows kind left)
+abbrev pub vacuum_rows : List Record → VacuumModel
+vacuum_rows [] = Between
+vacuum_rows (r ∷ left) = vacuum_one (kind_of r) r left (vacuum_rows left)
 
 -- A record whose transaction may still decide is passed over. Any other end of a recovery but an image ends the VACUUM.
-abbrev pub vacuum_resolved : (Record → Kind) → Record → Meta → List Record → RecoverPhase × RecoverStep → VacuumModel
-vacuum_resolved kind rec meta left (p, steps.More) = Resolving rec meta p left
-vacuum_resolved kind rec meta left (p, steps.Image None) = vacuum_rows kind left
-vacuum_resolved kind rec meta left (p, steps.Image (Some b)) = remove_or b left (vacuum_rows kind left)
-vacuum_resolved kind rec meta left (p, steps.Busy id at) = vacuum_rows kind left
-vacuum_resolved kind rec meta left (p, s) = Between
+abbrev pub vacuum_resolved : Record → Meta → List Record → RecoverPhase × RecoverStep → VacuumModel
+vacuum_resolved rec meta left (p, steps.More) = Resolving rec meta p left
+vacuum_resolved rec meta left (p, steps.Image None) = vacuum_rows left
+vacuum_resolved rec meta left (p, steps.Image (Some b)) = remove_or b left (vacuum_rows left)
+vacuum_resolved rec meta left (p, steps.Busy id at) = vacuum_rows left
+vacuum_resolved rec meta left (p, s) = Between
 
 -- the rows of a scan
-abbrev pub vacuum_scanned : (Record → Kind) → Reply → VacuumModel
-vacuum_scanned kind (reply.Rows rows) = vacuum_rows kind rows
-vacuum_scanned kind r = Between
+abbrev pub vacuum_scanned : Reply → VacuumModel
+vacuum_scanned (reply.Rows rows) = vacuum_rows rows
+vacuum_scanned r = Between
 
 -- after a removal that was applied or not met it continues
-abbrev pub vacuum_removed : (Record → Kind) → List Record → Reply → VacuumModel
-vacuum_removed kind left reply.Applied = vacuum_rows kind left
-vacuum_removed kind left (reply.NotMet found) = vacuum_rows kind left
-vacuum_removed kind left r = Between
+abbrev pub vacuum_removed : List Record → Reply → VacuumModel
+vacuum_removed left reply.Applied = vacuum_rows left
+vacuum_removed left (reply.NotMet found) = vacuum_rows left
+vacuum_removed left r = Between
 
 -- where a reply at a moment leads
-abbrev pub vacuum_model_step : (Record → Kind) → VacuumModel → ℤ → Reply → VacuumModel
-vacuum_model_step kind (Scanning span) now r = vacuum_scanned kind r
-vacuum_model_step kind (Resolving rec meta p left) now r = vacuum_resolved kind rec meta left (recover_next rec meta p now r)
-vacuum_model_step kind (Removing b left) now r = vacuum_removed kind left r
-vacuum_model_step kind Between now r = Between
+abbrev pub vacuum_model_step : VacuumModel → ℤ → Reply → VacuumModel
+vacuum_model_step (Scanning span) now r = vacuum_scanned r
+vacuum_model_step (Resolving rec meta p left) now r = vacuum_resolved rec meta left (recover_next rec meta p now r)
+vacuum_model_step (Removing b left) now r = vacuum_removed left r
+vacuum_model_step Between now r = Between
 
 -- the part of a removal
 abbrev pub removes_action : Record → Option TxId → Action

@@ -9,10 +9,10 @@ ghost use Rattle.sdb_snapshot.specs.Seen.{Seen};
 ghost use Rattle.law_clients.specs.Knowledge.{AreObserved, IsOthers, RecoverReply, RecoversOn, RowsReply, SettlesOn, recovery_action};
 ghost use Rattle.law_clients.specs.Reads.{SeenOk, Sound, Settled, work_of};
 ghost use Rattle.law_clients.specs.Owner.{WorkOk};
-ghost use Rattle.law_clients.specs.ReadAt.{kind_of, AreKinds, ReadOk, settle};
+ghost use Rattle.law_clients.specs.ReadAt.{IsKind, ReadOk, settle};
 ghost use Rattle.law_clients.specs.Worked.{SomeCommit};
 ghost use Rattle.law_clients.specs.System.{ClientAt, ClientOk, SystemAt, SystemOk, SamePlans, call_event, idle, next_id};
-ghost use Rattle.sdb_txn.specs.Read.{Kind};
+ghost use Rattle.sdb_txn.specs.Read.{kind_of};
 
 /// Before the first event no client has done anything, and the invariant holds.
 pub fn nothing_happened()
@@ -34,14 +34,14 @@ pub fn recovers()
 
 /// A record is of the kind that its columns give.
 pub fn kinds_are_exact()
-    ensures { AreKinds kind_of }
+    ensures { (r : Record) → IsKind r (kind_of r) }
 {}
 
 /// Rows that were observed are settled, each unresolved one by a recovery: each image is a committed record of its key to which a
 /// read of it came, and the keys of the images are those of the access, in their order.
 pub fn rows_settle()
-    ensures first { (kind : Record → Kind) (past : List Labelled) (a : Access) (images left : List Record) → AreKinds kind → AreObserved past a images left → ReadOk past a (settle kind images left) }
-    ensures next { (kind : Record → Kind) (past : List Labelled) (a : Access) (r : RowsReply past a) (answered : Option Answer) → AreKinds kind → SettlesOn kind r answered }
+    ensures first { (past : List Labelled) (a : Access) (images left : List Record) → AreObserved past a images left → ReadOk past a (settle images left) }
+    ensures next { (past : List Labelled) (a : Access) (r : RowsReply past a) (answered : Option Answer) → SettlesOn r answered }
 {}
 
 /// What a transaction has read and written is fit for its COMMIT: of itself, by what the events showed, and as the plan that the

@@ -1,14 +1,12 @@
 //! Turns: each event of a client preserves the invariant of all clients.
 ghost use Rattle.std.specs.Prelude.{ℕ, ℤ, List};
-ghost use Rattle.law_clients.specs.Types.{Event, Record};
+ghost use Rattle.sdb_model.specs.declared.event.Event.{Event};
 ghost use Rattle.sdb_model.specs.declared.event.Event.TheVariants as event;
 ghost use Rattle.law_protocol.specs.History.{Other, Stops};
 ghost use Rattle.law_protocol.specs.Lawful.{labelled_with, ends_with};
 ghost use Rattle.law_clients.specs.Knowledge.{AnsweredRead, VacuumReplyAt, CommitReply, Knowledge, MayBegin, OpenClient, StartsCommitWith, TurnsAt, TurnsTo, commit_next, read_after, read_ended, read_labelled, vacuum_after, vacuum_labelled, with_opened};
 ghost use Rattle.law_clients.specs.Reads.{work_of};
-ghost use Rattle.law_clients.specs.ReadAt.{AreKinds};
 ghost use Rattle.law_clients.specs.System.{IsBy, IsCommit, IsQuiet, Resting, Stopped, begin_labelled, commit_left, commit_labelled};
-ghost use Rattle.sdb_txn.specs.Read.{Kind};
 
 /// BEGIN is answered Done to a client without an open transaction, while no client that hasn't stopped runs VACUUM: a transaction is
 /// open, under an id that was never used, and has read and written nothing.
@@ -31,14 +29,14 @@ pub fn commit_turn()
 /// Whatever call of a statement's read is pending, of its own or of a recovery on its way, and whatever its reply, the read goes
 /// on. An answer to the call may end the transaction.
 pub fn read_turn()
-    ensures goes_on { (k : Knowledge) (kind : Record → Kind) (r : AnsweredRead k.sys) → AreKinds kind → TurnsAt k (read_labelled r) r.call.client (read_after kind r) }
+    ensures goes_on { (k : Knowledge) (r : AnsweredRead k.sys) → TurnsAt k (read_labelled r) r.call.client (read_after r) }
     ensures ends { (k : Knowledge) (r : AnsweredRead k.sys) → TurnsAt k (read_ended r) r.call.client Resting }
 {}
 
 /// Whatever call of a VACUUM is pending, a scan, one of a recovery or the removal of a tombstone, and whatever its reply, the
 /// VACUUM goes on.
 pub fn vacuum_turn()
-    ensures { (k : Knowledge) (kind : Record → Kind) (r : VacuumReplyAt k.sys) → AreKinds kind → TurnsAt k (vacuum_labelled r) r.call.client (vacuum_after kind r) }
+    ensures { (k : Knowledge) (r : VacuumReplyAt k.sys) → TurnsAt k (vacuum_labelled r) r.call.client (vacuum_after r) }
 {}
 
 /// A statement that is accepted, answered or not, an idle step, a move of the clock, a get or a scan: all clients are where they

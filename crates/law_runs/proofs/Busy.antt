@@ -1,27 +1,26 @@
 -- No COMMIT and no VACUUM is answered Busy.
-use Rattle.std.proofs.Common.{◌≡◌, ◌≢◌, inl, inr, ℕ, ℤ, Bool, true, false, List, [], ◌∷◌, ◌++◌, Option, Some, None, Result, Ok, Err, sym, ap, subst, ◌∙◌}
-use Rattle.std.specs.Prelude.{is_some, ◌||◌}
-use Rattle.law_runs.specs.Types.{Answer, Event, How, Key, Outcome, Progress, Refusal, Reply, Request, Script, Statement, Table, TxId, VacuumStep}
+use Rattle.std.proofs.Common.{◌≡◌, inl, inr, ℕ, ℤ, false, List, [], ◌∷◌, ◌++◌, Option, Some, None, sym, ap, subst, ◌∙◌}
+use Rattle.std.specs.Prelude.{is_some}
+use Rattle.law_runs.specs.Types.{Answer, Event, How, Key, Outcome, Progress, Reply, Request, Script, Table, TxId, VacuumStep}
 use Rattle.sdb_types.proofs.Public.{by_test}
 use Rattle.sdb_model.specs.declared.answer.Answer.TheVariants as answer
 use Rattle.sdb_model.specs.declared.event.Event.TheVariants as event
-use Rattle.sdb_model.specs.declared.statement.Statement.TheVariants as statement
 use Rattle.sdb_model.specs.Rows.{Name}
-use Rattle.sdb_model.specs.Sql.{Reads, reads_commit, reads_vacuum}
+use Rattle.sdb_model.specs.Sql.{reads_commit, reads_vacuum}
 use Rattle.sdb_model.specs.Transactions.{Executed}
 use Rattle.sdb_phases.specs.declared.step.Outcome.TheVariants as outcome
-use Rattle.sdb_sqltext.proofs.Public.{one_statement, vacuum_read}
 use Rattle.sdb_txn.specs.Phases.{ended_at}
 use Rattle.sdb_phases.specs.Commit.{step as commit_step}
-use Rattle.sdb_txn.specs.Txn.{TxnAt, progress_of}
+use Rattle.sdb_txn.specs.Txn.{progress_of}
 use Rattle.sdb_vacuum.specs.declared.work.VacuumStep.TheVariants as vacuuming
-use Rattle.sdb_client.specs.Client.{ClientAt, CommitStartPost, ParsedPost, Parses, StatementPost, Taking, TextPost, VacuumStartPost, answer_in, answer_of, next_id, next_of, TextStep}
+use Rattle.sdb_client.specs.Client.{ClientAt, Taking, answer_in, answer_of, next_id, next_of}
+use Rattle.sdb_client.specs.Step.{Step, Takes}
 use Rattle.law_clients.specs.History.{executed_of_take}
-use Rattle.law_clients.proofs.Public.{other_no_commit}
 use Rattle.law_answers.specs.Invariant.{IsWaiting, Knows}
 use Rattle.sdb_client.specs.Execution.{IsExecution, IsPlayable}
 use Rattle.law_runs.specs.Laws.{BusyIsOfReads}
 use Rattle.law_runs.specs.World.{states_of}
+use Rattle.law_runs.proofs.Takes.{CommitAtOnce, VacuumAtOnce, commit_taken, vacuum_taken}
 use Rattle.law_runs.proofs.Replies.{CallOf, call_of}
 use Rattle.law_runs.proofs.Statements.{AreKept, SoBy, replied_said, statements_so}
 
@@ -37,44 +36,23 @@ AnyWaits events c s h = Unit {0}
 
 ---- as it is accepted
 
-other_no_vacuum : (text : List ℕ) (st : Statement) → Reads text st → st ≢ statement.Vacuum → reads_vacuum text ≡ false
-other_no_vacuum text st h other = by_test (reads_vacuum text) (λ t. absurd (other (one_statement text st statement.Vacuum h ((vacuum_read text).0 t)))) (λ t. t)
-
 module _ (key : Key) (id : TxId) (at : ℤ) where
-  never_commits : (now : ℤ) (h : ClientAt) (o : Option TxnAt) (d : ClientAt) → CommitStartPost now h o (Some (answer.Busy key id at)) d → ⊥
-  never_commits now h None d t = let e = t.answer in cc
-  never_commits now h (Some x) d t = let e = t.0 in cc
+  no_commit : CommitAtOnce (Some (answer.Busy key id at)) → ⊥
+  no_commit (inl e) = cc
+  no_commit (inr (inl e)) = cc
+  no_commit (inr (inr e)) = cc
 
-  never_sweeps : (b : Bool) (catalog : List Table) (h d : ClientAt) → VacuumStartPost b catalog h (Some (answer.Busy key id at)) d → ⊥
-  never_sweeps true catalog h d t = let e = t.answer in cc
-  never_sweeps false [] h d t = let e = t.answer in cc
-  never_sweeps false (x ∷ xs) h d t = let e = t.0 in cc
+  no_vacuum : (catalog : List Table) → VacuumAtOnce catalog (Some (answer.Busy key id at)) → ⊥
+  no_vacuum catalog (inl e) = cc
+  no_vacuum catalog (inr (inl e)) = cc
+  no_vacuum catalog (inr (inr (inl e))) = cc
+  no_vacuum catalog (inr (inr (inr e))) = let no = e.0 in cc
 
-  neither : (text : List ℕ) (st : Statement) → Reads text st → st ≢ statement.Commit → st ≢ statement.Vacuum → NoneAtEnd text
-  neither text st reads no_commit no_vacuum = (other_no_commit text st reads no_commit, other_no_vacuum text st reads no_vacuum)
-
-  by_statement : (q : Taking) (text : List ℕ) (h d : ClientAt) (st : Statement) → Reads text st → StatementPost q st h (Some (answer.Busy key id at)) d → NoneAtEnd text
-  by_statement q text h d statement.Commit reads t = absurd (never_commits q.now h h.txn d t)
-  by_statement q text h d statement.Vacuum reads t = absurd (never_sweeps (is_some h.txn || q.gate.open_elsewhere) q.catalog h d t)
-  by_statement q text h d statement.Begin reads t = neither text statement.Begin reads (λ e. cc) (λ e. cc)
-  by_statement q text h d statement.Rollback reads t = neither text statement.Rollback reads (λ e. cc) (λ e. cc)
-  by_statement q text h d (statement.Insert i) reads t = neither text (statement.Insert i) reads (λ e. cc) (λ e. cc)
-  by_statement q text h d (statement.Upsert i) reads t = neither text (statement.Upsert i) reads (λ e. cc) (λ e. cc)
-  by_statement q text h d (statement.Update x) reads t = neither text (statement.Update x) reads (λ e. cc) (λ e. cc)
-  by_statement q text h d (statement.Delete x) reads t = neither text (statement.Delete x) reads (λ e. cc) (λ e. cc)
-  by_statement q text h d (statement.Select x) reads t = neither text (statement.Select x) reads (λ e. cc) (λ e. cc)
-
-  by_text : (q : Taking) (text : List ℕ) (h d : ClientAt) (x : Result Statement Refusal) → Parses text x → ParsedPost q x h (Some (answer.Busy key id at)) d → NoneAtEnd text
-  by_text q text h d (Ok st) says t = by_statement q text h d st says t
-  by_text q text h d (Err r) says t = absurd (let e = t.answer in cc)
-
-  taken_busy : (q : Taking) (text : List ℕ) (h d : ClientAt) (a : Option Answer) → TextStep q text h a d → a ≡ Some (answer.Busy key id at) → NoneAtEnd text
-  taken_busy q text h d a t e =
-      let answered : TextPost q text h (Some (answer.Busy key id at)) d = subst (λ (o : Option Answer). TextPost q text h o d) e (t.answered (λ n. no_memory (sym e ∙ n))) in
-      by_text q text h d answered.0 answered.1 answered.2
-    where
-      no_memory : Some (answer.Busy key id at) ≡ Some answer.NoMemory → ⊥
-      no_memory z = cc
+  taken_busy : (q : Taking) (text : List ℕ) (h d : ClientAt) (a : Option Answer) → Step h (Takes q text) a d → a ≡ Some (answer.Busy key id at) → NoneAtEnd text
+  taken_busy q text h d a t e = (
+    by_test (reads_commit text) (λ z. absurd (no_commit (subst CommitAtOnce e (commit_taken q text h a d t z)))) (λ z. z),
+    by_test (reads_vacuum text) (λ z. absurd (no_vacuum q.catalog (subst (VacuumAtOnce q.catalog) e (vacuum_taken q text h a d t z)))) (λ z. z),
+  )
 
   ---- as a reply comes
 

@@ -2,10 +2,10 @@
 use Rattle.std.proofs.Common.{◌≡◌, ◌≢◌, ◌⊎◌, inl, inr, ◌+◌, ◌<◌, ℕ, ℤ, true, false, List, [], ◌∷◌, ◌++◌, length, Option, Some, None, IfSome, Result, Ok, Err, refl, sym, ap, subst, ◌∙◌, arith}
 use Rattle.std.specs.Prelude.{Contains, cond, is_some, nat_lt, slice_get}
 use Rattle.std.specs.List.{AllByRecursion}
-use Rattle.law_runs.specs.Types.{Answer, DecidePhase, DecideStep, Decided, Decision, Event, How, Key, Next, Outcome, PrepareStep, Progress, Record, Refusal, Reply, Request, Script, Statement, Table, VacuumStep, ValidateStep}
+use Rattle.law_runs.specs.Types.{Answer, DecidePhase, DecideStep, Decided, Decision, Event, How, Key, Next, Outcome, PrepareStep, Progress, Record, Reply, Request, Script, Table, VacuumStep, ValidateStep}
 use Rattle.sdb_types.specs.declared.record.Reply.TheVariants as reply
 use Rattle.sdb_types.specs.Contents.{CanAnswer}
-use Rattle.sdb_types.proofs.Public.{clash, length_more, none_some, some_is}
+use Rattle.sdb_types.proofs.Public.{by_test, clash, length_more, none_some, some_is}
 use Rattle.sdb_record.specs.declared.coordinator.Decision.TheVariants as decision
 use Rattle.sdb_record.specs.Coordinator.{coordinator_key_of, decision_in, is_coordinator_table}
 use Rattle.sdb_record.specs.Meta.{is_moment}
@@ -14,7 +14,7 @@ use Rattle.sdb_model.specs.declared.event.Event.TheVariants as event
 use Rattle.sdb_model.specs.declared.statement.Statement.TheVariants as statement
 use Rattle.sdb_model.specs.Calls.{StoreCall, calls_of, clock_at}
 use Rattle.sdb_model.specs.Rows.{Name}
-use Rattle.sdb_model.specs.Sql.{Reads, reads_commit, reads_vacuum}
+use Rattle.sdb_model.specs.Sql.{reads_commit, reads_vacuum}
 use Rattle.sdb_model.specs.Exec.{find_table}
 use Rattle.sdb_model.specs.Tables.{is_data}
 use Rattle.sdb_model.specs.Transactions.{Executed, statements_by}
@@ -28,16 +28,17 @@ use Rattle.sdb_phases.specs.Commit.{Stage, Back, Checking, Deciding, Forward, Ov
 use Rattle.sdb_phases.specs.Steps.{decide_next, followed, prepare_step, step_of_row, touched_after, validate_step}
 use Rattle.sdb_phases.specs.Work.{Work, prepares}
 use Rattle.sdb_txn.specs.Phases.{ended_at}
-use Rattle.sdb_txn.specs.Txn.{TxnAt, progress_of}
+use Rattle.sdb_txn.specs.Txn.{progress_of}
 use Rattle.sdb_txn.specs.declared.read.ReadStep.TheVariants as step
 use Rattle.sdb_txn.specs.Read.{Asking, Ended, ReadStage, Resolving, read_pending_at, read_result, read_step, request_of}
 use Rattle.sdb_vacuum.specs.declared.work.VacuumStep.TheVariants as vacuuming
 use Rattle.sdb_vacuum.specs.Vacuum.{VacuumAt}
 use Rattle.sdb_client.specs.declared.next.Next.TheVariants as next
-use Rattle.sdb_client.specs.Client.{ClientAt, CommitStartPost, ParsedPost, Parses, StagePost, StatementPost, Taking, TextPost, TextStep, answer_in, answer_of, next_id, next_of}
+use Rattle.sdb_client.specs.Client.{ClientAt, StagePost, Taking, answer_in, answer_of, next_id, next_of}
+use Rattle.sdb_client.specs.Step.{Step, Takes}
 use Rattle.sdb_sqltext.proofs.Public.{commit_read, one_statement, vacuum_read}
 use Rattle.law_clients.specs.History.{executed_of_take}
-use Rattle.law_clients.proofs.Public.{coordinators, other_no_commit, refused_no_commit}
+use Rattle.law_clients.proofs.Public.{coordinators}
 use Rattle.law_clients.specs.About.{IsOfTables}
 use Rattle.law_answers.specs.Commits.{EndsBy, ObservesBad, StageByCalls}
 use Rattle.law_answers.specs.Invariant.{IsWaiting, Knows}
@@ -48,6 +49,7 @@ use Rattle.sdb_client.specs.Execution.{IsExecution, IsPlayable}
 use Rattle.law_runs.specs.World.{states_of}
 use Rattle.law_runs.proofs.GivesUp.{each_of}
 use Rattle.law_runs.proofs.ReadLeads.{read_leads}
+use Rattle.law_runs.proofs.Takes.{CommitAtOnce, commit_taken}
 use Rattle.law_runs.proofs.Replies.{CallOf, ReadCall, call_of}
 use Rattle.law_runs.proofs.Statements.{AreKept, IsPast, SoBy, calls_more, replied_said, statements_so}
 
@@ -191,39 +193,19 @@ ended_bad key (Some outcome.NoMemory) e = absurd (cc)
 ---- as a statement is accepted
 
 -- a COMMIT isn't answered so as it is accepted
-module _ (key : Key) where
-  never_begins : (now : ℤ) (h : ClientAt) (o : Option TxnAt) (d : ClientAt) → CommitStartPost now h o (Some (answer.BadRecord key)) d → ⊥
-  never_begins now h None d t = let e = t.answer in cc
-  never_begins now h (Some x) d t = let e = t.0 in cc
-
-  by_statement : (q : Taking) (text : List ℕ) (h d : ClientAt) (st : Statement) → Reads text st → StatementPost q st h (Some (answer.BadRecord key)) d → reads_commit text ≡ false
-  by_statement q text h d statement.Commit reads t = absurd (never_begins q.now h h.txn d t)
-  by_statement q text h d statement.Vacuum reads t = other_no_commit text statement.Vacuum reads (λ e. cc)
-  by_statement q text h d statement.Begin reads t = other_no_commit text statement.Begin reads (λ e. cc)
-  by_statement q text h d statement.Rollback reads t = other_no_commit text statement.Rollback reads (λ e. cc)
-  by_statement q text h d (statement.Insert i) reads t = other_no_commit text (statement.Insert i) reads (λ e. cc)
-  by_statement q text h d (statement.Upsert i) reads t = other_no_commit text (statement.Upsert i) reads (λ e. cc)
-  by_statement q text h d (statement.Update x) reads t = other_no_commit text (statement.Update x) reads (λ e. cc)
-  by_statement q text h d (statement.Delete x) reads t = other_no_commit text (statement.Delete x) reads (λ e. cc)
-  by_statement q text h d (statement.Select x) reads t = other_no_commit text (statement.Select x) reads (λ e. cc)
-
-  by_text : (q : Taking) (text : List ℕ) (h d : ClientAt) (x : Result Statement Refusal) → Parses text x → ParsedPost q x h (Some (answer.BadRecord key)) d → reads_commit text ≡ false
-  by_text q text h d (Ok st) says t = by_statement q text h d st says t
-  by_text q text h d (Err r) says t = refused_no_commit text r says
-
-  taken_bad : (q : Taking) (text : List ℕ) (h d : ClientAt) (a : Option Answer) → TextStep q text h a d → a ≡ Some (answer.BadRecord key) → reads_commit text ≡ false
-  taken_bad q text h d a t e =
-      let answered : TextPost q text h (Some (answer.BadRecord key)) d = subst (λ (o : Option Answer). TextPost q text h o d) e (t.answered (λ n. no_memory (sym e ∙ n))) in
-      by_text q text h d answered.0 answered.1 answered.2
-    where
-      no_memory : Some (answer.BadRecord key) ≡ Some answer.NoMemory → ⊥
-      no_memory z = cc
+taken_bad : (key : Key) (q : Taking) (text : List ℕ) (h d : ClientAt) → Step h (Takes q text) (Some (answer.BadRecord key)) d → reads_commit text ≡ false
+taken_bad key q text h d t = by_test (reads_commit text) (λ e. absurd (never (commit_taken q text h (Some (answer.BadRecord key)) d t e))) (λ e. e)
+  where
+    never : CommitAtOnce (Some (answer.BadRecord key)) → ⊥
+    never (inl e) = cc
+    never (inr (inl e)) = cc
+    never (inr (inr e)) = cc
 
 -- one that is answered at once has made no call
-taken_ends : (q : Taking) (events : List Event) (c : ℕ) (text : List ℕ) (h d : ClientAt) (a : Option Answer) → TextStep q text h a d → SoBy EndsAs AnyWaits (events ++ event.Take c text a ∷ []) c (executed_of_take events text a) d a
+taken_ends : (q : Taking) (events : List Event) (c : ℕ) (text : List ℕ) (h d : ClientAt) (a : Option Answer) → Step h (Takes q text) a d → SoBy EndsAs AnyWaits (events ++ event.Take c text a ∷ []) c (executed_of_take events text a) d a
 taken_ends q events c text h d None t = tt
 taken_ends q events c text h d (Some b) t = record {
-  bad = λ key e commit. clash (sym commit ∙ taken_bad key q text h d (Some b) t e);
+  bad = λ key e commit. clash (sym commit ∙ taken_bad key q text h d (subst (λ (o : Option Answer). Step h (Takes q text) o d) e t));
   moved = λ key found e reads. subst (λ ms. RolledBut (events ++ event.Take c text (Some b) ∷ []) (reads_vacuum text) ms []) (sym (none_yet c events text (Some b))) (none_found (events ++ event.Take c text (Some b) ∷ []) (reads_vacuum text));
   unfit = λ key e reads vacuums. inr (subst (λ ms. RolledBut (events ++ event.Take c text (Some b) ∷ []) (reads_vacuum text) ms []) (sym (none_yet c events text (Some b))) (none_found (events ++ event.Take c text (Some b) ∷ []) (reads_vacuum text)));
 }

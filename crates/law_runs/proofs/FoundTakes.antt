@@ -1,10 +1,10 @@
 -- What a client's transactions ran on what they found, as it takes a statement.
-use Rattle.std.proofs.Common.{◌≡◌, ◌⊎◌, inl, inr, ◌+◌, ℕ, suc, Bool, true, false, List, [], ◌∷◌, ◌++◌, Option, Some, None, IfSome, Result, Ok, Err, refl, sym, ap, subst, ◌∙◌, arith}
-use Rattle.std.specs.Prelude.{◌&&◌, ◌||◌, if◌then◌else◌, filter, is_some}
+use Rattle.std.proofs.Common.{◌≡◌, ◌⊎◌, inl, inr, ◌+◌, ℕ, suc, Bool, true, false, List, [], ◌∷◌, ◌++◌, Option, Some, None, IfSome, refl, sym, ap, subst, ◌∙◌, arith}
+use Rattle.std.specs.Prelude.{◌&&◌, ◌||◌, filter, is_some}
 use Rattle.std.proofs.lemmas.List.{append-nil}
 use Rattle.std.proofs.lemmas.List.Elements.{filter-append}
-use Rattle.law_runs.specs.Types.{Answer, Event, Key, Refusal, Statement, Table}
-use Rattle.sdb_types.proofs.Public.{by_test, clash, or_false}
+use Rattle.law_runs.specs.Types.{Answer, Event, Key, Statement, Table}
+use Rattle.sdb_types.proofs.Public.{clash, or_false}
 use Rattle.sdb_schema.specs.Catalog.{is_catalog}
 use Rattle.sdb_model.specs.declared.answer.Answer.TheVariants as answer
 use Rattle.sdb_model.specs.declared.event.Event.TheVariants as event
@@ -13,16 +13,17 @@ use Rattle.sdb_model.specs.Calls.{StoreCall, calls_of}
 use Rattle.sdb_model.specs.Exec.{find_table, named_table, table_of}
 use Rattle.sdb_model.specs.ReadSet.{has_finished, has_read}
 use Rattle.sdb_model.specs.Tables.{is_data}
-use Rattle.sdb_model.specs.Refused.{refusal_by, refusal_of}
 use Rattle.sdb_model.specs.Sql.{Reads, reads_commit}
 use Rattle.sdb_model.specs.Transactions.{Executed, begins, changes_nothing, ends, id_of, rest_of, statements_by}
 use Rattle.sdb_model.specs.Reads.{access_of}
 use Rattle.sdb_snapshot.specs.Seen.{nothing}
 use Rattle.sdb_sqltext.proofs.Public.{begin_read, rollback_read}
 use Rattle.sdb_txn.specs.declared.txn.Doing.TheVariants as doing
-use Rattle.sdb_txn.specs.Txn.{TxnAt, committing}
-use Rattle.sdb_client.specs.Client.{AskPost, BeginPost, ClientAt, CommitStartPost, GatePost, IsIdle, IsAnsweredAtOnce, RollbackPost, RowsPost, ParsedPost, Parses, StatementPost, TablePost, Taking, VacuumStartPost, given_answer, given_left, gives, holding, is_covered, plan_of, resting, out_of_memory, with_begun, TextStep}
-use Rattle.law_clients.proofs.Public.{access_table, by_memory, found_itself, literals_read, other_no_commit, own_table, take_said}
+use Rattle.sdb_txn.specs.Txn.{TxnAt}
+use Rattle.sdb_client.specs.Client.{ClientAt, IsIdle, Taking, given_answer, given_left, gives, holding, plan_of, resting, with_begun}
+use Rattle.sdb_client.specs.Step.{AnsweredAtOnce, AtOnce, Begins, ByCatalog, CommitStarts, IsOnRows, LosesCommit, NoMemory, NoStatement, NoTable, NoneOpen, OpenAlready, OthersOpen, ReadKnown, ReadStarts, RollsBack, Step, Takes, VacuumRuns, VacuumStarts}
+use Rattle.law_clients.proofs.Public.{access_table, found_itself, literals_read, on_table, other_no_commit, own_table, take_said}
+use Rattle.sdb_client.proofs.Public.{names_table}
 use Rattle.law_clients.specs.History.{executed_of_take}
 use Rattle.law_answers.specs.Invariant.{Knows, begun_in}
 use Rattle.law_answers.proofs.Public.{IsDataTable, none_yet, since_new}
@@ -30,7 +31,7 @@ use Rattle.law_runs.specs.Found.{found_by, is_answered, scans_span, was_scanned,
 use Rattle.law_runs.proofs.FoundGiven.{given_finishes}
 use Rattle.law_runs.proofs.FoundSteps.{ClientRuns, SeesIn, SeesRun, answered_of_is, answered_of}
 use Rattle.law_runs.proofs.FoundSteps as steps
-use Rattle.law_runs.proofs.Running.{HoldsScans, RunsTo, is_running, none_runs, running, running_of, scanned_more, view_after}
+use Rattle.law_runs.proofs.Running.{HoldsScans, RunsTo, none_runs, running, running_of, scanned_more, view_after}
 use Rattle.law_runs.proofs.Views.{IsViewOf}
 use Rattle.law_runs.proofs.WroteCommits.{none_wrote}
 
@@ -46,21 +47,27 @@ module _ (q : Taking) (is : is_catalog q.catalog ≡ true) (apart : (k : Key) �
   Comes None d = IfSome d.txn (SeesRun q.catalog (E None) c (running_of (E None) c d.begun k.answered))
   Comes (Some b) d = steps.Follows q.catalog events c h k runs (event.Take c text (Some b)) (one (Some b)) d
 
-  -- as an answer that leaves the client there
-  as_comes : (a : Option Answer) (d : ClientAt) (b : Option Answer) (y : ClientAt) → a ≡ b → d ≡ y → Comes b y → Comes a d
-  as_comes a d b y e f z = subst (λ (o : Option Answer). Comes o d) (sym e) (subst (Comes b) (sym f) z)
-
   -- it is answered, and the client is as it was
-  answer_comes : (b : Answer) (a : Option Answer) (d : ClientAt) → IsAnsweredAtOnce h b a d → (changes_nothing b ≡ true) ⊎ (h.txn ≡ None) → Comes a d
-  answer_comes b a d t none = as_comes a d (Some b) h t.answer t.same (by none)
-    where
-      by : (changes_nothing b ≡ true) ⊎ (h.txn ≡ None) → Comes (Some b) h
-      by (inl e) = steps.turned_follows q.catalog events c h k runs (event.Take c text (Some b)) (one (Some b)) b refl e (none_yet c events text (Some b)) idle.free idle.still
-      by (inr e) = steps.same_follows q.catalog events c h k runs (event.Take c text (Some b)) (one (Some b)) (inr e)
+  same_comes : (b : Answer) → (changes_nothing b ≡ true) ⊎ (h.txn ≡ None) → Comes (Some b) h
+  same_comes b (inl e) = steps.turned_follows q.catalog events c h k runs (event.Take c text (Some b)) (one (Some b)) b refl e (none_yet c events text (Some b)) idle.free idle.still
+  same_comes b (inr e) = steps.same_follows q.catalog events c h k runs (event.Take c text (Some b)) (one (Some b)) (inr e)
 
-  gate_comes : (b : Bool) (a : Option Answer) (d : ClientAt) → h.txn ≡ None → Reads text statement.Begin → GatePost b q.fresh h a d → Comes a d
-  gate_comes true a d none reads t = answer_comes answer.Vacuuming a d t (inr none)
-  gate_comes false a d none reads t = as_comes a d (Some answer.Done) (with_begun h q.fresh) t.0 t.1 (
+  shut : (o : Option TxnAt) → (is_some o || q.gate.open_elsewhere) ≡ false → o ≡ None
+  shut None f = refl
+  shut (Some x) f = clash f
+
+  once_comes : (b : Answer) → AtOnce h q text b → Comes (Some b) h
+  once_comes b (NoStatement r refuses) = same_comes b (inl refl)
+  once_comes b (OpenAlready t reads e) = same_comes b (inl refl)
+  once_comes b (NoneOpen st reads needs e) = same_comes b (inl refl)
+  once_comes b (VacuumRuns reads e f) = same_comes b (inr e)
+  once_comes b (OthersOpen reads e) = same_comes b (inl refl)
+  once_comes b (NoTable reads e none) = same_comes b (inr (shut h.txn e))
+  once_comes b (ByCatalog st t r reads names e f) = same_comes b (inl refl)
+  once_comes b (NoMemory other) = steps.same_follows q.catalog events c h k runs (event.Take c text (Some answer.NoMemory)) (one (Some answer.NoMemory)) (inl (steps.nothing_stays (E (Some answer.NoMemory)) c (one (Some answer.NoMemory)) answer.NoMemory refl refl refl))
+
+  begins_comes : h.txn ≡ None → Reads text statement.Begin → Comes (Some answer.Done) (with_begun h q.fresh)
+  begins_comes none reads = (
     steps.no_more q.catalog events c h k runs (event.Take c text (Some answer.Done)) (one (Some answer.Done)) (inr none),
     subst (λ xs. RunsTo q.catalog (E (Some answer.Done)) c xs nothing) (sym new) (none_runs q.catalog (E (Some answer.Done)) c),
   )
@@ -76,32 +83,12 @@ module _ (q : Taking) (is : is_catalog q.catalog ≡ true) (apart : (k : Key) �
           ap (λ n. running_of (E (Some answer.Done)) c n (k.answered ++ one (Some answer.Done) ∷ [])) (ap (λ n. n + 1) k.begun ∙ ids (begun_in k.answered))
           ∙ ap (λ ss. running (E (Some answer.Done)) c (rest_of ss)) (since_new k.answered (one (Some answer.Done)) begins_now)
 
-  begin_comes : (o : Option TxnAt) (a : Option Answer) (d : ClientAt) → h.txn ≡ o → Reads text statement.Begin → BeginPost q.gate q.fresh h o a d → Comes a d
-  begin_comes None a d e reads t = gate_comes q.gate.vacuum_runs a d e reads t
-  begin_comes (Some x) a d e reads t = answer_comes _ a d t (inl refl)
-
-  rollback_comes : (o : Option TxnAt) (a : Option Answer) (d : ClientAt) → Reads text statement.Rollback → RollbackPost h o a d → Comes a d
-  rollback_comes None a d reads t = answer_comes _ a d t (inl refl)
-  rollback_comes (Some x) a d reads t = as_comes a d (Some answer.Done) (resting h) t.0 t.1 (steps.ended_follows q.catalog events c h k runs (event.Take c text (Some answer.Done)) (one (Some answer.Done)) (resting h) (inl (steps.ends_stays (E (Some answer.Done)) c (one (Some answer.Done)) over)) refl)
+  rollback_over : Reads text statement.Rollback → ends (one (Some answer.Done)) ≡ true
+  rollback_over reads = ap (λ b. reads_commit text || false || (b && true)) ((rollback_read text).1 reads) ∙ last (reads_commit text)
     where
-      over : ends (one (Some answer.Done)) ≡ true
-      over = ap (λ b. reads_commit text || false || (b && true)) ((rollback_read text).1 reads) ∙ last (reads_commit text)
-        where
-          last : (b : Bool) → (b || false || (true && true)) ≡ true
-          last true = refl
-          last false = refl
-
-  vacuum_comes : (b : Bool) (catalog : List Table) (a : Option Answer) (d : ClientAt) → (is_some h.txn || q.gate.open_elsewhere) ≡ b → VacuumStartPost b catalog h a d → Comes a d
-  vacuum_comes true catalog a d e t = answer_comes _ a d t (inl refl)
-  vacuum_comes false catalog a d e t = by catalog t
-    where
-      shut : (o : Option TxnAt) → (is_some o || q.gate.open_elsewhere) ≡ false → o ≡ None
-      shut None f = refl
-      shut (Some x) f = clash f
-
-      by : (ts : List Table) → VacuumStartPost false ts h a d → Comes a d
-      by [] z = answer_comes _ a d z (inr (shut h.txn e))
-      by (x ∷ xs) z = as_comes a d None _ z.0 z.1 (steps.sees_then q.catalog events c h k runs (event.Take c text None))
+      last : (b : Bool) → (b || false || (true && true)) ≡ true
+      last true = refl
+      last false = refl
 
   ---- a statement that reads
 
@@ -126,68 +113,29 @@ module _ (q : Taking) (is : is_catalog q.catalog ≡ true) (apart : (k : Key) �
         own : IsDataTable (access_table (access_of table st))
         own = subst IsDataTable (sym (own_table table st)) (apart (record { table = table.name; partition = []; clustering = [] }) (ap is_some (found_itself q.catalog (table_of st) table named)))
 
-    rows_comes : (st : Statement) (table : Table) (a : Option Answer) (d : ClientAt) → Reads text st → reads_commit text ≡ false → refusal_of q.catalog st ≡ None → named_table q.catalog st ≡ Some table → RowsPost (plan_of table st) (access_of table st) h t a d → Comes a d
-    rows_comes st table a d reads no_commit accepted named x = by_test (is_covered t.seen (access_of table st)) (λ b. let z = x.known b in as_comes a d (Some (given st table)) (holding h (given_left t (gives (plan_of table st) (access_of table st) t))) z.0 z.1 known) (λ b. let z = x.unknown b in as_comes a d None _ z.0 z.1 (sees None))
-      where
-        known : Comes (Some (given st table)) (holding h (given_left t (gives (plan_of table st) (access_of table st) t)))
-        known =
-            steps.given_follows q.catalog events c h k runs (event.Take c text (Some (given st table))) t some idle.free (one (Some (given st table))) (plan_of table st) (access_of table st) t
-            (record { is = is; named = named; asked = refl; accepted = accepted; literals = literals_read text st reads; access = refl }) reads no_commit refl (finished_here st table named) (still, refl) (sees (Some (given st table)))
-            (subst (λ (ms : List StoreCall). IsViewOf q.catalog (with_found q.catalog (view_after q.catalog (E (Some (given st table))) c (running_of (E (Some (given st table))) c h.begun k.answered) (sees (Some (given st table))).run) (found_by ms)) t.seen) (sym (none_yet c events text (Some (given st table)))) (sees (Some (given st table))).sees)
-            (scans (Some (given st table)))
+    known_comes : (st : Statement) (table : Table) → IsOnRows h q text t table st → Comes (Some (given st table)) (holding h (given_left t (gives (plan_of table st) (access_of table st) t)))
+    known_comes st table on =
+        let other : reads_commit text ≡ false = other_no_commit text st on.reads (on_table st (names_table q.catalog st table on.named)).commit in
+        steps.given_follows q.catalog events c h k runs (event.Take c text (Some (given st table))) t some idle.free (one (Some (given st table))) (plan_of table st) (access_of table st) t
+        (record { is = is; named = on.named; asked = refl; accepted = on.accepted; literals = literals_read text st on.reads; access = refl }) on.reads other refl (finished_here st table on.named) (still, refl) (sees (Some (given st table)))
+        (subst (λ (ms : List StoreCall). IsViewOf q.catalog (with_found q.catalog (view_after q.catalog (E (Some (given st table))) c (running_of (E (Some (given st table))) c h.begun k.answered) (sees (Some (given st table))).run) (found_by ms)) t.seen) (sym (none_yet c events text (Some (given st table)))) (sees (Some (given st table))).sees)
+        (scans (Some (given st table)))
 
-    table_comes : (st : Statement) (a : Option Answer) (d : ClientAt) → Reads text st → reads_commit text ≡ false → TablePost q.catalog st h t a d → Comes a d
-    table_comes st a d reads no_commit x = by_refusal (refusal_of q.catalog st) refl
-      where
-        by_table : (o : Option Table) → refusal_of q.catalog st ≡ None → named_table q.catalog st ≡ o → Comes a d
-        by_table (Some table) accepted named = rows_comes st table a d reads no_commit accepted named (x.reads table accepted named)
-        by_table None accepted named = absurd (let y : Some (record { kind = 6; place = 0 }) ≡ None = sym (ap (λ (o : Option Table). refusal_by o st) named) ∙ accepted in cc)
+  ---- each row
 
-        by_refusal : (o : Option Refusal) → refusal_of q.catalog st ≡ o → Comes a d
-        by_refusal (Some r) f = answer_comes (answer.Refused r) a d (x.refused r f) (inl refl)
-        by_refusal None f = by_table (named_table q.catalog st) f refl
-
-  ask_comes : (st : Statement) (o : Option TxnAt) (a : Option Answer) (d : ClientAt) → h.txn ≡ o → Reads text st → reads_commit text ≡ false → AskPost q.catalog st h o a d → Comes a d
-  ask_comes st None a d e reads no_commit t = answer_comes _ a d t (inl refl)
-  ask_comes st (Some x) a d e reads no_commit t = table_comes x e st a d reads no_commit t
-
-  commit_comes : (o : Option TxnAt) (a : Option Answer) (d : ClientAt) → h.txn ≡ o → CommitStartPost q.now h o a d → Comes a d
-  commit_comes None a d e t = answer_comes _ a d t (inl refl)
-  commit_comes (Some x) a d e t = as_comes a d None (holding h (committing x q.now)) t.0 t.1 (steps.runs_wrote q.catalog (E None) c (running_of (E None) c h.begun k.answered) x.seen (sees x e None))
-
-  ---- each text
-
-  statement_comes : (st : Statement) (a : Option Answer) (d : ClientAt) → Reads text st → StatementPost q st h a d → Comes a d
-  statement_comes statement.Begin a d reads t = begin_comes h.txn a d refl reads t
-  statement_comes statement.Commit a d reads t = commit_comes h.txn a d refl t
-  statement_comes statement.Rollback a d reads t = rollback_comes h.txn a d reads t
-  statement_comes statement.Vacuum a d reads t = vacuum_comes (is_some h.txn || q.gate.open_elsewhere) q.catalog a d refl t
-  statement_comes (statement.Insert x) a d reads t = ask_comes (statement.Insert x) h.txn a d refl reads (other_no_commit text (statement.Insert x) reads (λ e. cc)) t
-  statement_comes (statement.Upsert x) a d reads t = ask_comes (statement.Upsert x) h.txn a d refl reads (other_no_commit text (statement.Upsert x) reads (λ e. cc)) t
-  statement_comes (statement.Update x) a d reads t = ask_comes (statement.Update x) h.txn a d refl reads (other_no_commit text (statement.Update x) reads (λ e. cc)) t
-  statement_comes (statement.Delete x) a d reads t = ask_comes (statement.Delete x) h.txn a d refl reads (other_no_commit text (statement.Delete x) reads (λ e. cc)) t
-  statement_comes (statement.Select x) a d reads t = ask_comes (statement.Select x) h.txn a d refl reads (other_no_commit text (statement.Select x) reads (λ e. cc)) t
-
-  text_comes : (x : Result Statement Refusal) (a : Option Answer) (d : ClientAt) → Parses text x → ParsedPost q x h a d → Comes a d
-  text_comes (Ok st) a d reads t = statement_comes st a d reads t
-  text_comes (Err r) a d reads t = answer_comes (answer.Refused r) a d t (inl refl)
-
-  -- out of memory
-  starved_comes : Comes (Some answer.NoMemory) (out_of_memory text h)
-  starved_comes = by (reads_commit text)
-    where
-      none : is_running (E (Some answer.NoMemory)) c (one (Some answer.NoMemory)) ≡ false
-      none = steps.nothing_stays (E (Some answer.NoMemory)) c (one (Some answer.NoMemory)) answer.NoMemory refl refl refl
-
-      by : (b : Bool) → Comes (Some answer.NoMemory) (if b then resting h else h)
-      by true = steps.ended_follows q.catalog events c h k runs (event.Take c text (Some answer.NoMemory)) (one (Some answer.NoMemory)) (resting h) (inl none) refl
-      by false = steps.same_follows q.catalog events c h k runs (event.Take c text (Some answer.NoMemory)) (one (Some answer.NoMemory)) (inl none)
-
-  takes_comes : (a : Option Answer) (d : ClientAt) → TextStep q text h a d → Comes a d
-  takes_comes a d t = by_memory a (λ e. as_comes a d (Some answer.NoMemory) (out_of_memory text h) e (t.memory e) starved_comes) (λ n. let x = t.answered n in text_comes x.0 a d x.1 x.2)
+  takes_comes : (a : Option Answer) (d : ClientAt) → Step h (Takes q text) a d → Comes a d
+  takes_comes a d (AnsweredAtOnce {a = b} at) = once_comes b at
+  takes_comes a d (Begins reads e f) = begins_comes e reads
+  takes_comes a d (RollsBack t reads e) = steps.ended_follows q.catalog events c h k runs (event.Take c text (Some answer.Done)) (one (Some answer.Done)) (resting h) (inl (steps.ends_stays (E (Some answer.Done)) c (one (Some answer.Done)) (rollback_over reads))) refl
+  takes_comes a d (LosesCommit reads) =
+      steps.ended_follows q.catalog events c h k runs (event.Take c text (Some answer.NoMemory)) (one (Some answer.NoMemory)) (resting h) (inl (steps.nothing_stays (E (Some answer.NoMemory)) c (one (Some answer.NoMemory)) answer.NoMemory refl refl refl)) refl
+  takes_comes a d (CommitStarts t reads e) = steps.runs_wrote q.catalog (E None) c (running_of (E None) c h.begun k.answered) t.seen (sees t e None)
+  takes_comes a d (VacuumStarts t ts reads e f) = steps.sees_then q.catalog events c h k runs (event.Take c text None)
+  takes_comes a d (ReadKnown t table st on known) = known_comes t on.opened st table on
+  takes_comes a d (ReadStarts t table st on unread) = sees t on.opened None
 
   -- So it is after it has accepted a statement.
-  pub takes_runs : (a : Option Answer) (d : ClientAt) → TextStep q text h a d → ClientRuns q.catalog (E a) c d
+  pub takes_runs : (a : Option Answer) (d : ClientAt) → Step h (Takes q text) a d → ClientRuns q.catalog (E a) c d
   takes_runs a d t = by a (takes_comes a d t)
     where
       now : (b : Option Answer) → answered_of c (E b) ≡ k.answered ++ filter is_answered (one b ∷ [])

@@ -11,7 +11,8 @@ use Rattle.sdb_model.specs.Exec.{Tables}
 use Rattle.law_protocol.specs.History.{at}
 use Rattle.law_protocol.specs.Spread.{relocated_event}
 use Rattle.law_protocol.proofs.Public.{moved_more}
-use Rattle.sdb_client.specs.Client.{ClientAt as Client, ReplyPost, Taking, nothing_done, next_id, TextStep}
+use Rattle.sdb_client.specs.Client.{ClientAt as Client, Taking, nothing_done, next_id}
+use Rattle.sdb_client.specs.Step.{Receives, Step, Takes}
 use Rattle.law_clients.specs.System.{ClientAt, Stopped, SystemAt}
 use Rattle.law_clients.specs.Invariant.{ClientInvariant, IsOpenOf, RunInvariant, IsSilent}
 use Rattle.law_clients.proofs.Public.{going_rests, going_starts, going_stops, kept_at, mapped_at, replies_so, takes_so}
@@ -65,7 +66,7 @@ linked_by w i s t e here g =
 pub on_hand : (P : ClientState → Type 0) (client_slots : List ClientSlot) (i : ℕ) (s : ClientSlot) → slice_get client_slots i ≡ Some s → P (record { client = s.client; stopped = s.stopped }) → P (states_of client_slots (suc i))
 on_hand P client_slots i s here p = subst (λ (o : Option ClientSlot). P (state_in o (suc i))) (sym here) p
 
-pub linked_takes : (w : WorldAt) (i : ℕ) (s : ClientSlot) (q : Taking) (text : List ℕ) (a : Option Answer) (d : Client) → IsPlayable w.script → q.catalog ≡ w.script.catalog → slice_get w.client_slots i ≡ Some s → s.stopped ≡ false → IsReady (states_of w.client_slots) (suc i) → IsGated q.gate (states_of w.client_slots) (suc i) → TextStep q text s.client a d → q.fresh ≡ next_id s.client → d.begun < 2 ^ 64 → is_moment q.now ≡ true
+pub linked_takes : (w : WorldAt) (i : ℕ) (s : ClientSlot) (q : Taking) (text : List ℕ) (a : Option Answer) (d : Client) → IsPlayable w.script → q.catalog ≡ w.script.catalog → slice_get w.client_slots i ≡ Some s → s.stopped ≡ false → IsReady (states_of w.client_slots) (suc i) → IsGated q.gate (states_of w.client_slots) (suc i) → Step s.client (Takes q text) a d → q.fresh ≡ next_id s.client → d.begun < 2 ^ 64 → is_moment q.now ≡ true
     → IsLinked w → IsLinked (with_event (with_client w i (client_after s 1 d)) (event.Take (suc i) text a))
 linked_takes w i s q text a d playable same here goes ready gated takes numbered begun moment g =
     linked_by w i s (client_after s 1 d) (event.Take (suc i) text a) here
@@ -73,14 +74,14 @@ linked_takes w i s q text a d playable same here goes ready gated takes numbered
   where
     so : RunInvariant w.script.catalog (tables_are_well_typed w.script.catalog) (on_one w.events ++ event.Take (suc i) text a ∷ []) (system_of (with_state (states_of w.client_slots) (suc i) d)) (doing_of (with_state (states_of w.client_slots) (suc i) d))
     so = takes_so (record { catalog = w.script.catalog; now = q.now; gate = q.gate; fresh = q.fresh }) (on_one w.events) (states_of w.client_slots) g (suc i) ready text playable.catalog playable.apart moment gated (on_hand (λ (h : ClientState). q.fresh ≡ next_id h.client) w.client_slots i s here numbered) a d begun
-        (subst (λ (c : List Table). TextStep (record { catalog = c; now = q.now; gate = q.gate; fresh = q.fresh }) text (states_of w.client_slots (suc i)).client a d) same (on_hand (λ (h : ClientState). TextStep q text h.client a d) w.client_slots i s here takes))
+        (subst (λ (c : List Table). Step (states_of w.client_slots (suc i)).client (Takes (record { catalog = c; now = q.now; gate = q.gate; fresh = q.fresh }) text) a d) same (on_hand (λ (h : ClientState). Step h.client (Takes q text) a d) w.client_slots i s here takes))
 
-pub linked_calls : (w : WorldAt) (i : ℕ) (s : ClientSlot) (store : Name) (how : How) (q : Request) (r : Reply) (a : Option Answer) (d : Client) → IsPlayable w.script → slice_get w.client_slots i ≡ Some s → s.stopped ≡ false → IsWaiting w.script.catalog (states_of w.client_slots) (suc i) q → CanAnswer q r → ReplyPost s.client s.client.vacuum r w.clock a d → is_moment w.clock ≡ true
+pub linked_calls : (w : WorldAt) (i : ℕ) (s : ClientSlot) (store : Name) (how : How) (q : Request) (r : Reply) (a : Option Answer) (d : Client) → IsPlayable w.script → slice_get w.client_slots i ≡ Some s → s.stopped ≡ false → IsWaiting w.script.catalog (states_of w.client_slots) (suc i) q → CanAnswer q r → Step s.client (Receives q r w.clock) a d → is_moment w.clock ≡ true
     → IsLinked w → IsLinked (with_event (with_client w i (client_after s 0 d)) (event.Call (suc i) store q how r a))
 linked_calls w i s store how q r a d playable here goes waiting can answered moment g =
     linked_by w i s (client_after s 0 d) (event.Call (suc i) store q how r a) here
     (subst (λ (b : Bool). RunInvariant w.script.catalog (tables_are_well_typed w.script.catalog) (on_one w.events ++ event.Call (suc i) one_name q how r a ∷ []) (system_of (at (states_of w.client_slots) (suc i) (record { client = d; stopped = b }))) (doing_of (at (states_of w.client_slots) (suc i) (record { client = d; stopped = b })))) (sym goes)
-    (replies_so w.script.catalog (on_one w.events) (states_of w.client_slots) g (record { client = suc i; store = one_name; request = q; how = how; reply = r; now = w.clock }) playable.catalog (record { waiting = waiting; can = can; moment = moment }) playable.apart a d (on_hand (λ (h : ClientState). ReplyPost h.client h.client.vacuum r w.clock a d) w.client_slots i s here answered)))
+    (replies_so w.script.catalog (on_one w.events) (states_of w.client_slots) g (record { client = suc i; store = one_name; request = q; how = how; reply = r; now = w.clock }) playable.catalog (record { waiting = waiting; can = can; moment = moment }) playable.apart a d (on_hand (λ (h : ClientState). Step h.client (Receives q r w.clock) a d) w.client_slots i s here answered)))
 
 ---- a client stops
 

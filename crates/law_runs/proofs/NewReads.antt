@@ -21,7 +21,8 @@ use Rattle.sdb_txn.specs.declared.txn.Doing.TheVariants as doing
 use Rattle.sdb_txn.specs.Txn.{IsCommitting, TxnAt}
 use Rattle.sdb_txn.specs.Phases.{CommitAt}
 use Rattle.sdb_client.specs.declared.next.Next.TheVariants as next
-use Rattle.sdb_client.specs.Client.{ClientAt, IsIdle, Taking, after, is_covered, next_id, next_of, TextStep}
+use Rattle.sdb_client.specs.Client.{ClientAt, IsIdle, Taking, after, is_covered, next_id, next_of}
+use Rattle.sdb_client.specs.Step.{Step, Takes}
 use Rattle.law_clients.specs.History.{executed_with_answer, executed_of_take}
 use Rattle.law_answers.specs.Counts.{ArePaired}
 use Rattle.law_answers.specs.Invariant.{IsAnswered, IsWaiting, Knows, begun_in, open_after}
@@ -144,7 +145,7 @@ idle_new : (o : Option TxnAt) (calls : List StoreCall) → IfSome o (λ t. t.doi
 idle_new None calls h = tt
 idle_new (Some t) calls h = subst (λ (d : Doing). DoingNew t.seen d calls) (sym h) tt
 
-take_new : (q : Taking) (text : List ℕ) (h d : ClientAt) (a : Option Answer) (events : List Event) (c : ℕ) → IsIdle h → TextStep q text h a d → SoBy (NothingMore q.catalog) (WaitNew q.catalog) (events ++ event.Take c text a ∷ []) c (executed_of_take events text a) d a
+take_new : (q : Taking) (text : List ℕ) (h d : ClientAt) (a : Option Answer) (events : List Event) (c : ℕ) → IsIdle h → Step h (Takes q text) a d → SoBy (NothingMore q.catalog) (WaitNew q.catalog) (events ++ event.Take c text a ∷ []) c (executed_of_take events text a) d a
 take_new q text h d (Some b) events c idle t = tt
 take_new q text h d None events c idle t = by (taken_as q text h d t)
   where

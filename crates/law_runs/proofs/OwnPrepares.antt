@@ -21,7 +21,8 @@ use Rattle.sdb_txn.specs.declared.txn.Doing.TheVariants as doing
 use Rattle.sdb_txn.specs.Txn.{IsCommitting as GoesOn, TxnAt, committing, reading, work_of}
 use Rattle.sdb_vacuum.specs.Vacuum.{VacuumAt}
 use Rattle.sdb_client.specs.declared.next.Next.TheVariants as next
-use Rattle.sdb_client.specs.Client.{CallPost, ClientAt, IsIdle, StagePost, Taking, after, answer_in, next_id, next_of, TextStep}
+use Rattle.sdb_client.specs.Client.{CallPost, ClientAt, IsIdle, StagePost, Taking, after, answer_in, next_id, next_of}
+use Rattle.sdb_client.specs.Step.{Step, Takes}
 use Rattle.sdb_exec.specs.Plans.{Planned}
 use Rattle.law_clients.specs.History.{executed_with_answer, executed_of_take, waiting_of}
 use Rattle.sdb_txn.specs.Phases.{CommitAt}
@@ -98,7 +99,7 @@ work_reads None t a = refl
 work_reads (Some v) t a = refl
 
 -- a COMMIT that is accepted goes by the moment at which it is
-taken_now : (q : Taking) (h d : ClientAt) → IsIdle h → (p : Work) → work_in d.vacuum d.txn ≡ Some p → (text : List ℕ) → TextStep q text h None d → p.now ≡ q.now
+taken_now : (q : Taking) (h d : ClientAt) → IsIdle h → (p : Work) → work_in d.vacuum d.txn ≡ Some p → (text : List ℕ) → Step h (Takes q text) None d → p.now ≡ q.now
 taken_now q h d idle p here text takes = by (taken_as q text h d takes)
   where
     none_here : work_in d.vacuum d.txn ≡ None → p.now ≡ q.now

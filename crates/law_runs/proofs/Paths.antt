@@ -60,7 +60,7 @@ record StepClear (e : Event) (u : State) : Type 0 where
 take_clear : (script : Script) (s u : State) (c : ℕ) (text : List ℕ) (a : Option Answer) → HasLines script → TakeStep script s c text a u → SeatsClear s.client_slots → StepClear (event.Take c text a) u
 take_clear script s u c text a lines t h =
     let one : is_one_line text ≡ true = lines c t.client_slot.accepted text t.next in
-    let so = takes_clear _ text t.client_slot.client t.client a one t.idle (get_all SeatClear s.client_slots t.place t.client_slot h t.at) t.takes in
+    let so = takes_clear _ text t.client_slot.client one t.idle (get_all SeatClear s.client_slots t.place t.client_slot h t.at) a t.client t.takes in
     record { event = (one, so.answer); client_slots = state_clear s u t.place (client_after t.client_slot 1 t.client) t.left h so.client }
 
 asked_clear : (s u : State) (c : ℕ) (q : Request) (r : Reply) (a : Option Answer) → CallStep s c q r a u → SeatsClear s.client_slots → RequestClear q
@@ -68,7 +68,7 @@ asked_clear s u c q r a t h = asks_clear t.client_slot.client q (get_all SeatCle
 
 call_clear : (s u : State) (c : ℕ) (store : Name) (q : Request) (how : How) (r : Reply) (a : Option Answer) → CallStep s c q r a u → SeatsClear s.client_slots → ReplyClear r → StepClear (event.Call c store q how r a) u
 call_clear s u c store q how r a t h k =
-    let so = replies_clear t.client_slot.client t.client q r s.clock a t.pending t.can k (get_all SeatClear s.client_slots t.place t.client_slot h t.at) t.takes in
+    let so = replies_clear t.client_slot.client q r s.clock t.can k (get_all SeatClear s.client_slots t.place t.client_slot h t.at) a t.client t.takes in
     record { event = (asked_clear s u c q r a t h, k, so.answer); client_slots = state_clear s u t.place (client_after t.client_slot 0 t.client) t.left h so.client }
 
 ---- a call on the one store

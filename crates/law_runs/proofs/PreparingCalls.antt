@@ -13,7 +13,8 @@ use Rattle.sdb_txn.specs.declared.progress.Progress.TheVariants as progress
 use Rattle.sdb_txn.specs.declared.txn.Doing.TheVariants as doing
 use Rattle.sdb_txn.specs.Txn.{IsCommitting, TxnAt, work_of}
 use Rattle.sdb_client.specs.declared.next.Next.TheVariants as next
-use Rattle.sdb_client.specs.Client.{ClientAt, IsIdle, Taking, after, next_id, next_of, TextStep}
+use Rattle.sdb_client.specs.Client.{ClientAt, IsIdle, Taking, after, next_id, next_of}
+use Rattle.sdb_client.specs.Step.{Step, Takes}
 use Rattle.law_clients.specs.History.{executed_of_take}
 use Rattle.law_answers.specs.Invariant.{IsWaiting}
 use Rattle.law_answers.proofs.Public.{calls_open, end_waiting, later_within, made_at, none_yet}
@@ -43,7 +44,7 @@ idle_prepares : (o : Option TxnAt) (calls : List StoreCall) → IfSome o (λ t. 
 idle_prepares None calls h = tt
 idle_prepares (Some t) calls h = subst (λ (d : Doing). DoingPrepares d calls) (sym h) tt
 
-take_prepares : (q : Taking) (text : List ℕ) (h d : ClientAt) (a : Option Answer) (events : List Event) (c : ℕ) → IsIdle h → TextStep q text h a d → SoBy (NothingMore q.catalog) (WaitPrepares q.catalog) (events ++ event.Take c text a ∷ []) c (executed_of_take events text a) d a
+take_prepares : (q : Taking) (text : List ℕ) (h d : ClientAt) (a : Option Answer) (events : List Event) (c : ℕ) → IsIdle h → Step h (Takes q text) a d → SoBy (NothingMore q.catalog) (WaitPrepares q.catalog) (events ++ event.Take c text a ∷ []) c (executed_of_take events text a) d a
 take_prepares q text h d (Some b) events c idle t = tt
 take_prepares q text h d None events c idle t = by (taken_as q text h d t)
   where

@@ -13,6 +13,8 @@ use Rattle.sdb_txn.specs.declared.txn.Doing.TheVariants as doing
 use Rattle.sdb_txn.specs.Txn.{CommitPost, TxnAt, pending_in}
 use Rattle.sdb_vacuum.specs.Vacuum.{VacuumAt, vacuum_pending}
 use Rattle.sdb_client.specs.Client.{CallPost, ClientAt, IsIdle, NextPost, OpenTxnPost, ReplyPost, VacuumPost, after, answer_in, client_pending, next_of, pending_by, pending_of}
+use Rattle.sdb_client.specs.Step.{Receives, Step}
+use Rattle.sdb_client.proofs.Public.{reply_of_step}
 use Rattle.sdb_record.specs.Rolls.{IsWrite}
 use Rattle.law_clients.specs.States.{IsAskedBy, IsFitted, IsFittedBy, IsUsing, IsUsingTxn}
 use Rattle.law_answers.specs.Counts.{DoingCounted, OpenCounted, WaitCounted, read_items_since}
@@ -99,8 +101,8 @@ pub record CommitCall (events : List Event) (c : ℕ) (told_so : List Executed) 
 abbrev pub CallOf : List Table → List Event → ℕ → List Executed → Executed → ClientAt → Request → Reply → ℤ → Option Answer → ClientAt → Type 0
 CallOf catalog events c answered w h q r now a d = SweepCall events c w h q r now a d ⊎ ReadCall catalog events c w h q r now a d ⊎ CommitCall events c answered w h q r a d
 
-pub call_of : (catalog : List Table) (events : List Event) (c : ℕ) (h : ClientAt) (k : Knows catalog events c h) (w : Executed) → k.waiting ≡ Some w → (q : Request) (r : Reply) (now : ℤ) (a : Option Answer) (d : ClientAt) → client_pending h ≡ Some q → IsFitted catalog h → ReplyPost h h.vacuum r now a d → CallOf catalog events c k.answered w h q r now a d
-call_of catalog events c h k w waits q r now a d pending fitted answered = by_vacuum h.vacuum refl (subst (λ (o : Option Executed). ClientByHistory events c h.begun k.answered o h.plan h.txn h.vacuum) waits k.agrees) pending answered
+pub call_of : (catalog : List Table) (events : List Event) (c : ℕ) (h : ClientAt) (k : Knows catalog events c h) (w : Executed) → k.waiting ≡ Some w → (q : Request) (r : Reply) (now : ℤ) (a : Option Answer) (d : ClientAt) → client_pending h ≡ Some q → IsFitted catalog h → Step h (Receives q r now) a d → CallOf catalog events c k.answered w h q r now a d
+call_of catalog events c h k w waits q r now a d pending fitted answered = by_vacuum h.vacuum refl (subst (λ (o : Option Executed). ClientByHistory events c h.begun k.answered o h.plan h.txn h.vacuum) waits k.agrees) pending (reply_of_step h q r now a d answered).1
   where
     asked_of : (t : TxnAt) (access : Access) (x : ReadAt) (p : Planned) → h.vacuum ≡ None → h.txn ≡ Some t → h.plan ≡ Some p → t.doing ≡ doing.Read access x → IsAskedBy catalog p access x
     asked_of t access x p free opened plan does =

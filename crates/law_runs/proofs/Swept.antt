@@ -1,7 +1,7 @@
 -- Each VACUUM of an execution scans the tables in their order, and deletes the tombstones that it finds.
-use Rattle.std.proofs.Common.{◌≡◌, ◌⊎◌, inl, inr, ◌<◌, ℕ, ℤ, Bool, true, false, List, [], ◌∷◌, ◌++◌, Option, Some, None, Ok, Err, refl, sym, ap, subst, ◌∙◌, arith, ◌≤◌, ◌*◌, ◌+◌, suc, length, IfSome}
+use Rattle.std.proofs.Common.{◌≡◌, ◌⊎◌, inl, inr, ◌<◌, ℕ, ℤ, true, List, [], ◌∷◌, ◌++◌, Option, Some, None, refl, sym, ap, subst, ◌∙◌, arith, ◌≤◌, ◌*◌, ◌+◌, suc, length, IfSome}
 use Rattle.std.proofs.lemmas.List.{length-map}
-use Rattle.std.specs.Prelude.{◌||◌, Contains, is_some}
+use Rattle.std.specs.Prelude.{Contains, is_some}
 use Rattle.std.specs.List.{AllByRecursion, count_by}
 use Rattle.law_runs.specs.Types.{Answer, Event, How, Key, Next, Reply, Request, Script, Span, Statement, Table, VacuumStep}
 use Rattle.sdb_types.proofs.Public.{clash, none_some}
@@ -18,7 +18,8 @@ use Rattle.sdb_vacuum.specs.declared.work.VacuumStep.TheVariants as vacuuming
 use Rattle.sdb_vacuum.specs.Vacuum.{Gives, Scanning, VacuumAt, begun as sweeping, spans_of, vacuum_step, whole}
 use Rattle.sdb_txn.specs.Txn.{TxnAt}
 use Rattle.sdb_client.specs.declared.next.Next.TheVariants as next
-use Rattle.sdb_client.specs.Client.{ClientAt, ParsedPost, Taking, TextPost, VacuumStartPost, after, answer_of, next_id, next_of, vacuum_left, TextStep}
+use Rattle.sdb_client.specs.Client.{ClientAt, Taking, after, answer_of, next_id, next_of, vacuum_left}
+use Rattle.sdb_client.specs.Step.{Step, Takes}
 use Rattle.law_clients.specs.History.{executed_of_take}
 use Rattle.law_clients.specs.About.{IsIn, IsOfTables, IsVacuumStageIn, IsVacuumIn}
 use Rattle.law_answers.proofs.Public.{IsDataTable, made_at, none_yet, of_within}
@@ -32,7 +33,7 @@ use Rattle.law_runs.proofs.Statements.{AreKept, SoBy, calls_more, known, none_in
 use Rattle.law_runs.proofs.Steps.{Holds, execution_caused, execution_holds}
 use Rattle.law_runs.proofs.SweepCalls.{MostLeft, most_enough, most_more, most_so_far}
 use Rattle.law_runs.proofs.Sweeping.{AllDelete, AllDeleted, Going, LedTo, deletes_more, in_order, sweep_led}
-use Rattle.law_runs.proofs.Takes.{TakenAs, taken_as}
+use Rattle.law_runs.proofs.Takes.{TakenAs, taken_as, VacuumAtOnce, vacuum_taken}
 use Rattle.sdb_model.specs.Tables.{is_data}
 
 ---- what is so of a VACUUM
@@ -66,24 +67,15 @@ most_first t ts = by (length (spans_of ts)) (length ts) (length-map ts whole)
 no_deletes : (calls : List StoreCall) → calls ≡ [] → AllDelete calls
 no_deletes calls none m has is = none_in m (subst (λ (ms : List StoreCall). Contains ms m) none has)
 
-module _ (n : ℕ) where
-  by_vacuum : (b : Bool) (catalog : List Table) (h d : ClientAt) → VacuumStartPost b catalog h (Some (answer.Count n)) d → catalog ≡ []
-  by_vacuum true catalog h d t = absurd (let e = t.answer in cc)
-  by_vacuum false [] h d t = refl
-  by_vacuum false (x ∷ xs) h d t = absurd (let e = t.0 in cc)
-
-  by_text : (q : Taking) (text : List ℕ) (h d : ClientAt) → reads_vacuum text ≡ true → TextPost q text h (Some (answer.Count n)) d → q.catalog ≡ []
-  by_text q text h d vacuums (Ok st, says, answered) =
-      let same : statement.Vacuum ≡ st = one_statement text statement.Vacuum st ((vacuum_read text).0 vacuums) says in
-      by_vacuum (is_some h.txn || q.gate.open_elsewhere) q.catalog h d (subst (λ (x : Statement). ParsedPost q (Ok x) h (Some (answer.Count n)) d) (sym same) answered)
-  by_text q text h d vacuums (Err r, says, answered) = absurd (let e = answered.answer in cc)
-
-  -- a VACUUM that is counted as it is accepted has no table to scan
-  taken_count : (q : Taking) (text : List ℕ) (h d : ClientAt) (a : Option Answer) → reads_vacuum text ≡ true → TextStep q text h a d → a ≡ Some (answer.Count n) → q.catalog ≡ []
-  taken_count q text h d a vacuums t e = by_text q text h d vacuums (subst (λ (o : Option Answer). TextPost q text h o d) e (t.answered (λ k. no_memory (sym e ∙ k))))
-    where
-      no_memory : Some (answer.Count n) ≡ Some answer.NoMemory → ⊥
-      no_memory z = cc
+-- a VACUUM that is counted as it is accepted has no table to scan
+taken_count : (n : ℕ) (q : Taking) (text : List ℕ) (h d : ClientAt) (a : Option Answer) → reads_vacuum text ≡ true → Step h (Takes q text) a d → a ≡ Some (answer.Count n) → q.catalog ≡ []
+taken_count n q text h d a vacuums t e = by (subst (VacuumAtOnce q.catalog) e (vacuum_taken q text h a d t vacuums))
+  where
+    by : VacuumAtOnce q.catalog (Some (answer.Count n)) → q.catalog ≡ []
+    by (inl z) = absurd (cc)
+    by (inr (inl z)) = absurd (cc)
+    by (inr (inr (inl z))) = absurd (cc)
+    by (inr (inr (inr z))) = z.1
 
 takes_sweeps : (w : WorldAt) (u : State) (c : ℕ) (text : List ℕ) (a : Option Answer) (t : TakeStep w.script (state_of w) c text a u) → Holds w → SoBy (SweepsSo w.script.catalog) (WaitsSweeping w.script.catalog) (w.events ++ event.Take c text a ∷ []) c (executed_of_take w.events text a) t.client a
 takes_sweeps w u c text (Some b) t h = λ vacuums. subst (HasSwept w.script.catalog (executed_of_take w.events text (Some b))) (sym (none_yet c w.events text (Some b))) (record {

@@ -1,15 +1,21 @@
--- What a client does that takes a statement and gives no answer yet.
-use Rattle.std.proofs.Common.{◌≡◌, ◌⊎◌, inl, inr, ℕ, Bool, true, false, List, [], ◌∷◌, Option, Some, None, Result, Ok, Err, refl, sym, ap, ◌∙◌}
-use Rattle.std.specs.Prelude.{◌||◌, is_some}
-use Rattle.law_runs.specs.Types.{Access, Refusal, Statement, Table}
+-- What a client does that takes a statement: with no answer yet, and at once where it reads as COMMIT or VACUUM.
+use Rattle.std.proofs.Common.{◌≡◌, ◌≢◌, ◌⊎◌, inl, inr, ℕ, true, false, List, [], ◌∷◌, Option, Some, None, refl, sym, ◌∙◌}
+use Rattle.sdb_types.proofs.Public.{clash}
+use Rattle.law_runs.specs.Types.{Access, Answer, Statement, Table}
+use Rattle.sdb_model.specs.declared.answer.Answer.TheVariants as answer
 use Rattle.sdb_model.specs.declared.statement.Statement.TheVariants as statement
-use Rattle.sdb_model.specs.Exec.{named_table}
-use Rattle.sdb_model.specs.Refused.{refusal_by, refusal_of}
+use Rattle.sdb_model.specs.Causes.{refused}
+use Rattle.sdb_model.specs.Sql.{Reads, reads_commit, reads_vacuum}
 use Rattle.sdb_exec.specs.Plans.{Planned}
 use Rattle.sdb_model.specs.Reads.{access_of}
 use Rattle.sdb_txn.specs.Txn.{TxnAt, committing, reading}
 use Rattle.sdb_vacuum.specs.Vacuum.{begun as sweeping}
-use Rattle.sdb_client.specs.Client.{AskPost, BeginPost, ClientAt, CommitStartPost, GatePost, RollbackPost, ParsedPost, StatementPost, TablePost, Taking, VacuumStartPost, holding, is_covered, plan_of, TextStep}
+use Rattle.sdb_client.specs.Client.{ClientAt, Taking, holding, is_covered, plan_of}
+use Rattle.sdb_client.specs.Step.{AnsweredAtOnce, AtOnce, Begins, ByCatalog, CommitStarts, IsOnRows, LosesCommit, NoMemory, NoStatement, NoTable, NoneOpen, OpenAlready, OthersOpen, ReadKnown, ReadStarts, RollsBack, Step, Takes, VacuumRuns, VacuumStarts}
+use Rattle.sdb_client.proofs.Public.{names_table}
+use Rattle.sdb_sqltext.proofs.Public.{not_both, vacuum_read}
+use Rattle.law_clients.proofs.Public.{IsOnTable, on_table, other_no_commit, refused_no_commit}
+use Rattle.law_answers.proofs.Public.{no_sweep}
 
 -- its COMMIT has its first call pending
 pub record TakesCommit (q : Taking) (h d : ClientAt) : Type 0 where
@@ -34,62 +40,69 @@ pub record TakesRead (q : Taking) (h d : ClientAt) : Type 0 where
 abbrev pub TakenAs : Taking → ClientAt → ClientAt → Type 0
 TakenAs q h d = TakesCommit q h d ⊎ TakesSweep q h d ⊎ TakesRead q h d
 
-module _ (q : Taking) (h d : ClientAt) where
-  gate_as : (b : Bool) → GatePost b q.fresh h None d → TakenAs q h d
-  gate_as true t = absurd (let e = t.answer in cc)
-  gate_as false t = absurd (let e = t.0 in cc)
-
-  begin_as : (o : Option TxnAt) → BeginPost q.gate q.fresh h o None d → TakenAs q h d
-  begin_as None t = gate_as q.gate.vacuum_runs t
-  begin_as (Some x) t = absurd (let e = t.answer in cc)
-
-  commit_as : (o : Option TxnAt) → CommitStartPost q.now h o None d → TakenAs q h d
-  commit_as None t = absurd (let e = t.answer in cc)
-  commit_as (Some x) t = inl (record { t = x; left = t.1 })
-
-  rollback_as : (o : Option TxnAt) → RollbackPost h o None d → TakenAs q h d
-  rollback_as None t = absurd (let e = t.answer in cc)
-  rollback_as (Some x) t = absurd (let e = t.0 in cc)
-
-  vacuum_as : (b : Bool) (catalog : List Table) → q.catalog ≡ catalog → VacuumStartPost b catalog h None d → TakenAs q h d
-  vacuum_as true catalog is t = absurd (let e = t.answer in cc)
-  vacuum_as false [] is t = absurd (let e = t.answer in cc)
-  vacuum_as false (x ∷ xs) is t = inr (inl (record { table = x; tables = xs; catalog = is; left = t.1 }))
-
-  table_as : (st : Statement) (x : TxnAt) → TablePost q.catalog st h x None d → TakenAs q h d
-  table_as st x t = by_refusal (refusal_of q.catalog st) refl
-    where
-      by_covered : (table : Table) (b : Bool) → is_covered x.seen (access_of table st) ≡ b → refusal_of q.catalog st ≡ None → named_table q.catalog st ≡ Some table → TakenAs q h d
-      by_covered table true e accepted named = absurd (let k = ((t.reads table accepted named).known e).0 in cc)
-      by_covered table false e accepted named = inr (inr (record { t = x; access = access_of table st; plan = plan_of table st; unread = e; left = ((t.reads table accepted named).unknown e).1 }))
-
-      by_table : (o : Option Table) → refusal_of q.catalog st ≡ None → named_table q.catalog st ≡ o → TakenAs q h d
-      by_table (Some table) accepted named = by_covered table (is_covered x.seen (access_of table st)) refl accepted named
-      by_table None accepted named = absurd (let y : Some (record { kind = 6; place = 0 }) ≡ None = sym (ap (λ (o : Option Table). refusal_by o st) named) ∙ accepted in cc)
-
-      by_refusal : (o : Option Refusal) → refusal_of q.catalog st ≡ o → TakenAs q h d
-      by_refusal (Some r) f = absurd (let e = (t.refused r f).answer in cc)
-      by_refusal None f = by_table (named_table q.catalog st) f refl
-
-  ask_as : (st : Statement) (o : Option TxnAt) → AskPost q.catalog st h o None d → TakenAs q h d
-  ask_as st None t = absurd (let e = t.answer in cc)
-  ask_as st (Some x) t = table_as st x t
-
-  statement_as : (st : Statement) → StatementPost q st h None d → TakenAs q h d
-  statement_as statement.Begin t = begin_as h.txn t
-  statement_as statement.Commit t = commit_as h.txn t
-  statement_as statement.Rollback t = rollback_as h.txn t
-  statement_as statement.Vacuum t = vacuum_as (is_some h.txn || q.gate.open_elsewhere) q.catalog refl t
-  statement_as (statement.Insert x) t = ask_as (statement.Insert x) h.txn t
-  statement_as (statement.Upsert x) t = ask_as (statement.Upsert x) h.txn t
-  statement_as (statement.Update x) t = ask_as (statement.Update x) h.txn t
-  statement_as (statement.Delete x) t = ask_as (statement.Delete x) h.txn t
-  statement_as (statement.Select x) t = ask_as (statement.Select x) h.txn t
-
-  text_as : (x : Result Statement Refusal) → ParsedPost q x h None d → TakenAs q h d
-  text_as (Ok st) t = statement_as st t
-  text_as (Err r) t = absurd (let e = t.answer in cc)
-
 -- It is a COMMIT, a VACUUM over some table, or reads.
-pub taken_as : (q : Taking) (text : List ℕ) (h d : ClientAt) → TextStep q text h None d → TakenAs q h d
-taken_as q text h d takes = let answered = takes.answered (λ e. cc) in text_as q h d answered.0 answered.2
+pub taken_as : (q : Taking) (text : List ℕ) (h d : ClientAt) → Step h (Takes q text) None d → TakenAs q h d
+taken_as q text h d (CommitStarts t reads e) = inl (record { t = t; left = refl })
+taken_as q text h d (VacuumStarts t ts reads none e) = inr (inl (record { table = t; tables = ts; catalog = e; left = refl }))
+taken_as q text h d (ReadStarts t table st on unread) = inr (inr (record { t = t; access = access_of table st; plan = plan_of table st; unread = unread; left = refl }))
+
+---- what is answered at once
+
+-- a COMMIT waits, or is out of memory or refused at once
+abbrev pub CommitAtOnce : Option Answer → Type 0
+CommitAtOnce a = (a ≡ None) ⊎ (a ≡ Some answer.NoMemory) ⊎ (a ≡ Some (refused 5))
+
+-- a VACUUM waits, or is out of memory or turned away at once, or has no table
+abbrev pub VacuumAtOnce : List Table → Option Answer → Type 0
+VacuumAtOnce catalog a = (a ≡ None) ⊎ (a ≡ Some answer.NoMemory) ⊎ (a ≡ Some answer.OpenTransactions) ⊎ ((a ≡ Some (answer.Count 0)) × (catalog ≡ []))
+
+module _ (q : Taking) (text : List ℕ) (h : ClientAt) where
+  -- no other statement reads as a COMMIT
+  no_commit : {X : Type 0} (st : Statement) → Reads text st → st ≢ statement.Commit → reads_commit text ≡ true → X
+  no_commit st reads other e = clash (sym e ∙ other_no_commit text st reads other)
+
+  no_vacuum : {X : Type 0} (st : Statement) → Reads text st → st ≢ statement.Vacuum → reads_vacuum text ≡ true → X
+  no_vacuum st reads other e = clash (sym e ∙ no_sweep text st reads other)
+
+  kind : (t : TxnAt) (table : Table) (st : Statement) → IsOnRows h q text t table st → IsOnTable st
+  kind t table st on = on_table st (names_table q.catalog st table on.named)
+
+  commit_once : (b : Answer) → AtOnce h q text b → reads_commit text ≡ true → CommitAtOnce (Some b)
+  commit_once b (NoStatement r refuses) e = clash (sym e ∙ refused_no_commit text r refuses)
+  commit_once b (OpenAlready t reads k) e = no_commit statement.Begin reads (λ z. cc) e
+  commit_once b (NoneOpen st reads needs k) e = inr (inr refl)
+  commit_once b (VacuumRuns reads k shut) e = no_commit statement.Begin reads (λ z. cc) e
+  commit_once b (OthersOpen reads k) e = no_commit statement.Vacuum reads (λ z. cc) e
+  commit_once b (NoTable reads k none) e = no_commit statement.Vacuum reads (λ z. cc) e
+  commit_once b (ByCatalog st t r reads names k refuses) e = no_commit st reads (on_table st names).commit e
+  commit_once b (NoMemory other) e = clash (sym e ∙ other)
+
+  pub commit_taken : (a : Option Answer) (d : ClientAt) → Step h (Takes q text) a d → reads_commit text ≡ true → CommitAtOnce a
+  commit_taken a d (AnsweredAtOnce {a = b} at) e = commit_once b at e
+  commit_taken a d (Begins reads none shut) e = no_commit statement.Begin reads (λ z. cc) e
+  commit_taken a d (RollsBack t reads k) e = no_commit statement.Rollback reads (λ z. cc) e
+  commit_taken a d (LosesCommit reads) e = inr (inl refl)
+  commit_taken a d (CommitStarts t reads k) e = inl refl
+  commit_taken a d (VacuumStarts t ts reads none k) e = inl refl
+  commit_taken a d (ReadKnown t table st on known) e = no_commit st on.reads (kind t table st on).commit e
+  commit_taken a d (ReadStarts t table st on unread) e = inl refl
+
+  vacuum_once : (b : Answer) → AtOnce h q text b → reads_vacuum text ≡ true → VacuumAtOnce q.catalog (Some b)
+  vacuum_once b (NoStatement r refuses) e = absurd (not_both text statement.Vacuum r ((vacuum_read text).0 e) refuses)
+  vacuum_once b (OpenAlready t reads k) e = no_vacuum statement.Begin reads (λ z. cc) e
+  vacuum_once b (NoneOpen st reads needs k) e = no_vacuum st reads needs.1 e
+  vacuum_once b (VacuumRuns reads k shut) e = no_vacuum statement.Begin reads (λ z. cc) e
+  vacuum_once b (OthersOpen reads k) e = inr (inr (inl refl))
+  vacuum_once b (NoTable reads k none) e = inr (inr (inr (refl, none)))
+  vacuum_once b (ByCatalog st t r reads names k refuses) e = no_vacuum st reads (on_table st names).vacuum e
+  vacuum_once b (NoMemory other) e = inr (inl refl)
+
+  pub vacuum_taken : (a : Option Answer) (d : ClientAt) → Step h (Takes q text) a d → reads_vacuum text ≡ true → VacuumAtOnce q.catalog a
+  vacuum_taken a d (AnsweredAtOnce {a = b} at) e = vacuum_once b at e
+  vacuum_taken a d (Begins reads none shut) e = no_vacuum statement.Begin reads (λ z. cc) e
+  vacuum_taken a d (RollsBack t reads k) e = no_vacuum statement.Rollback reads (λ z. cc) e
+  vacuum_taken a d (LosesCommit reads) e = inr (inl refl)
+  vacuum_taken a d (CommitStarts t reads k) e = inl refl
+  vacuum_taken a d (VacuumStarts t ts reads none k) e = inl refl
+  vacuum_taken a d (ReadKnown t table st on known) e = no_vacuum st on.reads (kind t table st on).vacuum e
+  vacuum_taken a d (ReadStarts t table st on unread) e = inl refl

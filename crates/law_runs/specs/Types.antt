@@ -5,7 +5,6 @@ pub use Rattle.sdb_client.specs.declared.next.Next.{Next}
 pub use Rattle.sdb_client.specs.declared.slot.ClientSlot.{ClientSlot}
 pub use Rattle.sdb_exec.specs.declared.plan.PlanStep.{PlanStep}
 pub use Rattle.sdb_model.specs.declared.answer.Answer.{Answer}
-pub use Rattle.sdb_model.specs.declared.answer.Refusal.{Refusal}
 pub use Rattle.sdb_model.specs.declared.event.Event.{Event}
 pub use Rattle.sdb_model.specs.declared.event.How.{How}
 pub use Rattle.sdb_model.specs.declared.event.Point.{Point}

@@ -6,6 +6,7 @@ mod Taken
 mod Left
 mod Pending
 mod Waits
+mod Steps
 mod Fresh
 mod Paths
 pub mod Public

@@ -3,4 +3,5 @@ pub use Rattle.sdb_client.proofs.Calls.{last_noted, noting_id, noting_idle}
 pub use Rattle.sdb_client.proofs.Left.{given_idle}
 pub use Rattle.sdb_client.proofs.Paths.{paths_on, reached_on}
 pub use Rattle.sdb_client.proofs.SeenRows.{none_below}
+pub use Rattle.sdb_client.proofs.Steps.{names_table, reply_of_step, step_of_reply, step_of_text, text_of_step}
 pub use Rattle.sdb_client.proofs.Writable.{may_write}

@@ -7,7 +7,8 @@ use Rattle.sdb_schema.specs.Catalog.{is_catalog}
 use Rattle.sdb_model.specs.declared.event.Event.TheVariants as event
 use Rattle.sdb_model.specs.Exec.{find_table}
 use Rattle.sdb_model.specs.Follows.{texts_of}
-use Rattle.sdb_client.specs.Client.{ClientAt, IsIdle, ReplyPost, client_pending, next_id, nothing_done, TextStep}
+use Rattle.sdb_client.specs.Client.{ClientAt, IsIdle, client_pending, next_id, nothing_done}
+use Rattle.sdb_client.specs.Step.{Receives, Step, Takes}
 use Rattle.sdb_client.specs.declared.gate.Gate.{Gate}
 use Rattle.sdb_client.specs.declared.slot.ClientSlot.{ClientSlot}
 use Rattle.sdb_model.specs.Tables.{is_data}
@@ -98,7 +99,7 @@ pub record TakeStep (script : Script) (s : State) (c : ℕ) (text : List ℕ) (a
   pub next : slice_get (texts_of script.clients c) client_slot.accepted ≡ Some text
   pub gated : IsGateAt gate s.client_slots place
   pub small : client.begun < 2 ^ 64
-  pub takes : TextStep (record { catalog = script.catalog; now = s.clock; gate = gate; fresh = next_id client_slot.client }) text client_slot.client answer client
+  pub takes : Step client_slot.client (Takes (record { catalog = script.catalog; now = s.clock; gate = gate; fresh = next_id client_slot.client }) text) answer client
   pub left : t ≡ with_client_at s place (client_after client_slot 1 client)
 
 -- A client that hasn't stopped makes the call that it has pending, and takes a reply that this can get.
@@ -112,7 +113,7 @@ pub record CallStep (s : State) (c : ℕ) (q : Request) (r : Reply) (answer : Op
   pub pending : client_pending client_slot.client ≡ Some q
   pub can : CanAnswer q r
   pub stored : is_stored_reply r ≡ true
-  pub takes : ReplyPost client_slot.client client_slot.client.vacuum r s.clock answer client
+  pub takes : Step client_slot.client (Receives q r s.clock) answer client
   pub left : t ≡ with_client_at s place (client_after client_slot 0 client)
 
 -- A client stops.

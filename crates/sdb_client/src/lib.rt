@@ -6,6 +6,7 @@ mod call;
 mod client;
 mod finish;
 mod gate;
+pub mod laws;
 mod next;
 mod plan;
 mod slot;

@@ -11,6 +11,7 @@ use Rattle.sdb_contents.specs.declared.refused.CallRefused.TheVariants as refuse
 use Rattle.sdb_contents.proofs.Public.{fit_for, refused_after}
 use Rattle.sdb_client.specs.Client.{ClientAt, IsIdle, ParsedPost, Parses, Taking, TextPost, out_of_memory}
 use Rattle.law_clients.specs.About.{IsOfTables}
+use Rattle.sdb_client.proofs.Public.{step_of_reply, step_of_text}
 use Rattle.law_clients.proofs.Public.{asks_in, by_memory, called, faults_replied, faults_taken, own_at, replies, replies_in, replies_lead, starves, takes, takes_in, takings_lead, text_is_read}
 use Rattle.law_clients.specs.Database.{Called, database_of}
 use Rattle.law_clients.specs.Between.{Answers, LeadsTo, More, StatementEnds, Waits}
@@ -39,7 +40,7 @@ pub working : (c d : ClientAt) → IsWorking c → ((w : IsWorking c) → IsAtWo
 working c d w later = record { catalog = w.catalog; statement = w.statement; opened = w.opened; stays = w.stays; works = later w }
 
 pub about_still : (now : ℤ) (old new : Attached) (c : ClientAt) (result : Option Answer) (d : ClientAt) → HasCalled now old c result new d → (catalog : List Table) → IsOfTables catalog c → IsOfTables catalog d
-about_still now old new c result d h catalog about = replies_in catalog c d h.request h.reply now result h.pending h.can about h.took
+about_still now old new c result d h catalog about = replies_in catalog c h.request h.reply now h.can about result d (step_of_reply c h.request h.reply now h.pending result d h.took)
 
 -- a call that leads to an answer of a fault, or on after a fault
 called_of_fault : (now : ℤ) (old new : Attached) (c : ClientAt) (result : Option Answer) (d : ClientAt) → HasCalled now old c result new d → IsWorking c → IsOfFault result d → IsAfterFault c ⊎ HaveRisen old.views new.views
@@ -124,7 +125,7 @@ module _ (q : Taking) (vacuums : q.gate.vacuum_runs ≡ false) (opens : q.gate.o
   leads says reads took = takings_lead (record { taking = q; vacuums = vacuums; opens = opens; text = text; says = says; reads = reads; before = c; idle = idle; result = result; after = d; memory = memory; took = took })
 
   about_taken : IsOfTables q.catalog c → IsOfTables q.catalog d
-  about_taken about = takes_in q text c d result idle about (record { memory = memory; answered = answered })
+  about_taken about = takes_in q text c d result idle about (step_of_text q text c result d (record { memory = memory; answered = answered }))
 
   alone_taken : (stores : Attached) (w : IsAlone q.catalog q.fresh q.now stores c) (says : Result Statement Refusal) → Parses text says → ParsedPost q says c result d → LeadsTo q.catalog (database_in stores) q.fresh q.now says (database_in stores) w.opened result d
   alone_taken stores w says reads took =

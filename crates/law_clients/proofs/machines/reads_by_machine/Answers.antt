@@ -1,5 +1,5 @@
-use Rattle.law_clients.proofs.Machine.{machine_asks, machine_kinds, machine_steps}
+use Rattle.law_clients.proofs.Machine.{machine_asks, machine_steps}
 use Rattle.law_clients.proofs.machines.reads_by_machine.Goals as goal
 
 pub returns : goal.returns
-returns c = record { kinds = machine_kinds; pending = machine_asks; steps = machine_steps }
+returns c = record { pending = machine_asks; steps = machine_steps }
