@@ -1,5 +1,5 @@
 -- How many calls a statement that reads and a VACUUM have made, one call after the other.
-use Rattle.std.proofs.Common.{◌≡◌, ◌≤◌, ◌+◌, ◌*◌, ℕ, ℤ, suc, Bool, true, false, cond, List, [], ◌∷◌, ◌++◌, length, Option, Some, None, Result, Ok, Err, refl, sym, ap, subst, ◌∙◌, arith}
+use Rattle.std.proofs.Common.{◌≡◌, ◌≤◌, ◌+◌, ◌*◌, ℕ, ℤ, suc, Bool, true, false, cond, List, [], ◌∷◌, ◌++◌, length, Option, Some, None, refl, sym, ap, subst, ◌∙◌, arith}
 use Rattle.std.specs.Prelude.{if◌then◌else◌, filter, is_some}
 use Rattle.std.specs.List.{flat_map}
 use Rattle.std.specs.Option.{option_map}
@@ -7,28 +7,27 @@ use Rattle.std.proofs.lemmas.List.{append-nil, length-append, length-map}
 use Rattle.std.proofs.lemmas.List.Elements.{filter-append}
 use Rattle.std.proofs.lemmas.List.Sums.{fold-append}
 use Rattle.std.proofs.lemmas.Grind.{flat_map-append}
-use Rattle.law_answers.specs.Types.{Access, Decided, Meta, Record, RecoverPhase, RecoverStep, Reply, Request, Span, Table, TxId}
+use Rattle.law_answers.specs.Types.{Access, Meta, Record, RecoverPhase, RecoverStep, Reply, Request, Span, Table, TxId}
 use Rattle.sdb_types.specs.declared.record.Reply.TheVariants as reply
 use Rattle.sdb_types.specs.declared.record.Request.TheVariants as ask
 use Rattle.sdb_types.specs.declared.record.Condition.TheVariants as condition
 use Rattle.sdb_types.specs.declared.record.State.TheVariants as state
-use Rattle.sdb_types.proofs.Public.{clash, none_some, some_is}
+use Rattle.sdb_types.proofs.Public.{none_some, some_is}
 use Rattle.sdb_record.specs.declared.access.Access.TheVariants as access
-use Rattle.sdb_record.specs.declared.coordinator.Decision.TheVariants as decision
-use Rattle.sdb_record.specs.Coordinator.{decision_in, is_expired}
 use Rattle.sdb_record.specs.Meta.{is_unresolved}
 use Rattle.sdb_record.specs.Rolls.{is_tombstone}
 use Rattle.sdb_model.specs.Calls.{StoreCall, is_removal, records_read}
 use Rattle.sdb_model.specs.Counted.{IsReadCounted, IsVacuumCounted, removals_in, unresolved_in}
 use Rattle.sdb_model.specs.ReadSet.{reads_rows}
-use Rattle.sdb_phases.specs.declared.step.RecoverPhase.TheVariants as phase
 use Rattle.sdb_phases.specs.declared.step.RecoverStep.TheVariants as steps
-use Rattle.sdb_phases.specs.Recover.{recover_next, recover_request_at, roll_to, undecided}
+use Rattle.sdb_phases.specs.Recover.{recover_next, recover_request_at}
+use Rattle.sdb_phases.specs.RecoverCalls.{calls_left}
+use Rattle.sdb_phases.proofs.Public.{IsNearer, one_left, recover_nearer}
 use Rattle.sdb_txn.specs.Read.{Asking, Bad, Ended, Firm, Kind, Open, ReadStage, Resolving, answered, kind_of, read_pending_at, read_step, request_of, resolved, settle, settle_one}
 use Rattle.law_clients.proofs.Public.{access_table}
 use Rattle.sdb_vacuum.specs.Vacuum as vacuum
 use Rattle.sdb_vacuum.specs.Vacuum.{First, Malformed, Nothing, Tombstone, Unresolved, VacuumAt, VacuumStage, first_of, first_one, next_of_row, with_call, next_table, pending_at, removal_answered, spans_of, step_at, tombstone_or, whole}
-use Rattle.law_answers.specs.Counts.{ReadCounted, VacuumIsCounted, opens, rest_at, rest_of_table}
+use Rattle.law_answers.specs.Counts.{ReadCounted, VacuumIsCounted, opens, rest_of_table}
 use Rattle.law_answers.proofs.ReadSteps.{IsDataTable, open_is}
 use Rattle.law_answers.proofs.Settling.{data_read}
 use Rattle.law_answers.proofs.SweepSteps.{SweepsData}
@@ -78,62 +77,9 @@ opens_one r meta left e = ap (λ b. length (if b then r ∷ filter is_unresolved
 
 ---- a recovery
 
--- one that goes on has one call less to make
-abbrev pub IsNearer : ℕ → RecoverPhase × RecoverStep → Type 0
-IsNearer m (p, steps.More) = suc (rest_at p) ≤ m
-IsNearer m (p, s) = 1 ≤ m
-
-roll_nearer : (meta : Meta) (o : Result Decided (List ℕ)) (m : ℕ) → 2 ≤ m → IsNearer m (roll_to meta o)
-roll_nearer meta (Err column) m h = omega arith
-roll_nearer meta (Ok d) m h = elim d.decision as (λ x. IsNearer m (elim x [ decision.Committed ↦ (phase.Forward d.created_at, steps.More) | decision.Aborted ↦ (phase.Back, steps.More) ])) [ decision.Committed ↦ h | decision.Aborted ↦ h ]
-
-undecided_nearer : (meta : Meta) (now : ℤ) → IsNearer 4 (undecided meta now)
-undecided_nearer meta now = elim (is_expired meta.prepared_at now) as (λ b. IsNearer 4 (cond b (phase.Abort now, steps.More) (phase.Ended, steps.Busy meta.id meta.prepared_at))) [ true ↦ omega arith | false ↦ omega arith ]
-
-pub recover_nearer : (rec : Record) (meta : Meta) (p : RecoverPhase) (now : ℤ) (r : Reply) → is_some (recover_request_at rec meta p) ≡ true → IsNearer (rest_at p) (recover_next rec meta p now r)
-recover_nearer rec meta phase.Look now (reply.Found None) e = undecided_nearer meta now
-recover_nearer rec meta phase.Look now (reply.Found (Some row)) e = roll_nearer meta (decision_in row) 4 (omega arith)
-recover_nearer rec meta phase.Look now (reply.Rows rows) e = omega arith
-recover_nearer rec meta phase.Look now reply.Applied e = omega arith
-recover_nearer rec meta phase.Look now (reply.NotMet found) e = omega arith
-recover_nearer rec meta phase.Look now reply.Fault e = omega arith
-recover_nearer rec meta phase.Look now reply.NoMemory e = omega arith
-recover_nearer rec meta (phase.Abort m) now (reply.Found found) e = omega arith
-recover_nearer rec meta (phase.Abort m) now (reply.Rows rows) e = omega arith
-recover_nearer rec meta (phase.Abort m) now reply.Applied e = omega arith
-recover_nearer rec meta (phase.Abort m) now (reply.NotMet None) e = omega arith
-recover_nearer rec meta (phase.Abort m) now (reply.NotMet (Some row)) e = roll_nearer meta (decision_in row) 3 (omega arith)
-recover_nearer rec meta (phase.Abort m) now reply.Fault e = omega arith
-recover_nearer rec meta (phase.Abort m) now reply.NoMemory e = omega arith
-recover_nearer rec meta phase.Again now (reply.Found None) e = omega arith
-recover_nearer rec meta phase.Again now (reply.Found (Some row)) e = roll_nearer meta (decision_in row) 2 (omega arith)
-recover_nearer rec meta phase.Again now (reply.Rows rows) e = omega arith
-recover_nearer rec meta phase.Again now reply.Applied e = omega arith
-recover_nearer rec meta phase.Again now (reply.NotMet found) e = omega arith
-recover_nearer rec meta phase.Again now reply.Fault e = omega arith
-recover_nearer rec meta phase.Again now reply.NoMemory e = omega arith
-recover_nearer rec meta (phase.Forward m) now (reply.Found found) e = omega arith
-recover_nearer rec meta (phase.Forward m) now (reply.Rows rows) e = omega arith
-recover_nearer rec meta (phase.Forward m) now reply.Applied e = omega arith
-recover_nearer rec meta (phase.Forward m) now (reply.NotMet found) e = omega arith
-recover_nearer rec meta (phase.Forward m) now reply.Fault e = omega arith
-recover_nearer rec meta (phase.Forward m) now reply.NoMemory e = omega arith
-recover_nearer rec meta phase.Back now (reply.Found found) e = omega arith
-recover_nearer rec meta phase.Back now (reply.Rows rows) e = omega arith
-recover_nearer rec meta phase.Back now reply.Applied e = omega arith
-recover_nearer rec meta phase.Back now (reply.NotMet found) e = omega arith
-recover_nearer rec meta phase.Back now reply.Fault e = omega arith
-recover_nearer rec meta phase.Back now reply.NoMemory e = omega arith
-recover_nearer rec meta phase.Ended now r e = clash (sym e)
-
 -- a call is pending where there is one more to make
-pends_one : (rec : Record) (meta : Meta) (p : RecoverPhase) (q : Request) → recover_request_at rec meta p ≡ Some q → 1 ≤ rest_at p
-pends_one rec meta phase.Look q e = omega arith
-pends_one rec meta (phase.Abort n) q e = omega arith
-pends_one rec meta phase.Again q e = omega arith
-pends_one rec meta (phase.Forward n) q e = omega arith
-pends_one rec meta phase.Back q e = omega arith
-pends_one rec meta phase.Ended q e = none_some q e
+pends_one : (rec : Record) (meta : Meta) (p : RecoverPhase) (q : Request) → recover_request_at rec meta p ≡ Some q → 1 ≤ calls_left p
+pends_one rec meta p q e = one_left rec meta p (ap is_some e)
 
 ---- a read
 
@@ -205,7 +151,7 @@ module _ (calls : List StoreCall) (m : StoreCall) where
   answered_counted reply.NoMemory few h = few
 
   resolved_counted : (images : List Record) (rec : Record) (meta : Meta) (left : List Record) (n : ℕ) (x : RecoverPhase × RecoverStep) → IsNearer n x → length calls + (n + 4 * opens left) ≤ 1 + 4 * length (unresolved_in calls) → ReadCounted (calls ++ m ∷ []) (resolved images rec meta left x)
-  resolved_counted images rec meta left n (p, steps.More) k h = one_less (rest_at p) n left k h
+  resolved_counted images rec meta left n (p, steps.More) k h = one_less (calls_left p) n left k h
   resolved_counted images rec meta left n (p, steps.Image None) k h = settled_counted images left (one_less 0 n left k h)
   resolved_counted images rec meta left n (p, steps.Image (Some b)) k h = settled_counted (images ++ b ∷ []) left (one_less 0 n left k h)
   resolved_counted images rec meta left n (p, steps.Busy id at) k h = enough 0 left (one_less 0 n left k h)
@@ -216,19 +162,19 @@ module _ (calls : List StoreCall) (m : StoreCall) where
   -- where the reply leads
   pub read_more : (a : Access) (s : ReadStage) (now : ℤ) → IsDataTable (access_table a) → ReadCounted calls s → read_pending_at (request_of a) s ≡ Some m.request → ReadCounted (calls ++ m ∷ []) (read_step s now m.reply)
   read_more a Asking now own h e = answered_counted m.reply (first_counted h) (rows_fit h (data_read a own m (sym (some_is (request_of a) m.request e))))
-  read_more a (Resolving images rec meta p left) now own h e = resolved_counted images rec meta left (rest_at p) (recover_next rec meta p now m.reply) (recover_nearer rec meta p now m.reply (ap is_some e)) h
+  read_more a (Resolving images rec meta p left) now own h e = resolved_counted images rec meta left (calls_left p) (recover_next rec meta p now m.reply) (recover_nearer rec meta p now m.reply (ap is_some e)) h
   read_more a (Ended s) now own h e = none_some m.request e
 
   -- whatever it leads to, the calls are counted
   pub read_enough : (q : Request) (s : ReadStage) → ReadCounted calls s → read_pending_at q s ≡ Some m.request → IsReadCounted (calls ++ m ∷ [])
   read_enough q Asking h e = first_counted h
-  read_enough q (Resolving images rec meta p left) h e = enough 0 left (one_less 0 (rest_at p) left (pends_one rec meta p m.request e) h)
+  read_enough q (Resolving images rec meta p left) h e = enough 0 left (one_less 0 (calls_left p) left (pends_one rec meta p m.request e) h)
   read_enough q (Ended s) h e = none_some m.request e
 
 -- of one that waits they are
 pub read_so_far : (calls : List StoreCall) (s : ReadStage) → ReadCounted calls s → IsReadCounted calls
 read_so_far calls Asking h = subst IsReadCounted (sym h) (omega arith)
-read_so_far calls (Resolving images rec meta p left) h = by (length calls) (rest_at p + 4 * opens left) (length (unresolved_in calls)) h
+read_so_far calls (Resolving images rec meta p left) h = by (length calls) (calls_left p + 4 * opens left) (length (unresolved_in calls)) h
   where
     by : (a n u : ℕ) → a + n ≤ 1 + 4 * u → a ≤ 1 + 4 * u
     by a n u g = omega arith
@@ -356,8 +302,8 @@ module _ (catalog : List Table) (calls : List StoreCall) (m : StoreCall) where
       by : (k x t : ℕ) → k ≤ 5 * x + t → suc k ≤ t + 1 + 5 * x
       by k x t l = omega arith
   step_counted ss n (vacuum.Resolving rec meta p left) now own h e =
-      one_fewer (length ss + (rest_at p + 5 * opens left)) (rest_of (vacuum.resolved ss n rec meta left (recover_next rec meta p now m.reply)).0)
-      (by (suc (rest_of (vacuum.resolved ss n rec meta left (recover_next rec meta p now m.reply)).0)) (rest_at p) (5 * opens left) (length ss) (resolved_light ss n rec meta left (rest_at p) (recover_next rec meta p now m.reply) (recover_nearer rec meta p now m.reply (ap is_some e)))) h
+      one_fewer (length ss + (calls_left p + 5 * opens left)) (rest_of (vacuum.resolved ss n rec meta left (recover_next rec meta p now m.reply)).0)
+      (by (suc (rest_of (vacuum.resolved ss n rec meta left (recover_next rec meta p now m.reply)).0)) (calls_left p) (5 * opens left) (length ss) (resolved_light ss n rec meta left (calls_left p) (recover_next rec meta p now m.reply) (recover_nearer rec meta p now m.reply (ap is_some e)))) h
     where
       by : (k a b t : ℕ) → k ≤ a + b + t → k ≤ t + (a + b)
       by k a b t l = omega arith
@@ -383,7 +329,7 @@ module _ (catalog : List Table) (calls : List StoreCall) (m : StoreCall) where
 
       by : (s : VacuumStage) → Before (length v.spans + rest_of_table s) → pending_at s ≡ Some m.request → After 0
       by (vacuum.Scanning span) k f = one_fewer (length v.spans + 1) 0 (none_left 1 (omega arith) (length v.spans)) k
-      by (vacuum.Resolving rec meta p left) k f = one_fewer (length v.spans + (rest_at p + 5 * opens left)) 0 (some (rest_at p) (5 * opens left) (length v.spans) (pends_one rec meta p m.request f)) k
+      by (vacuum.Resolving rec meta p left) k f = one_fewer (length v.spans + (calls_left p + 5 * opens left)) 0 (some (calls_left p) (5 * opens left) (length v.spans) (pends_one rec meta p m.request f)) k
         where
           some : (a b t : ℕ) → 1 ≤ a → 1 ≤ t + (a + b)
           some a b t l = omega arith

@@ -35,6 +35,7 @@ use Rattle.sdb_phases.specs.declared.step.Outcome.TheVariants as outcome
 use Rattle.sdb_phases.specs.Checks.{check_of_read, check_of_scan, checks, difference_in}
 use Rattle.sdb_phases.specs.Commit.{Stage, Preparing, Checking, Deciding, Forward, Stopping, Back, Over, after_abort, after_check, after_decide, after_prepare, back, checking, decided, forward, pending, preparing, out_of_memory, out_of_memory_answer, step}
 use Rattle.sdb_phases.specs.Steps.{decide_next, decide_request_at, judged, prepare_step, refused, step_of_row, touched_after, validate_step}
+use Rattle.sdb_phases.proofs.Public.{by_rows}
 use Rattle.sdb_phases.specs.Work.{Work, abort_of, back_of, backs, decide_of, forward_of, forwards, look_of, prepare_of}
 use Rattle.sdb_phases.specs.Work as work
 use Rattle.law_clients.proofs.Public.{each_at, each_map}
@@ -427,54 +428,30 @@ module _ (read_set : List ReadItem) (p : Work) (as_read : ReadItemsAre read_set 
       by : (x y w c : ℕ) → y ≡ x + 1 → x ≡ w + c + 0 → y + (1 + w) ≤ 2 * w + c + 4
       by x y w c e f = omega (arith, e, f)
 
-  -- the first call of the decision
-  put_counted : (r : Reply) (all : AllPut p more) (long : length calls ≡ later_by p 0) (first : NoneFaulted calls → ◌≡◌ {A = ℕ} 0 0) → m.reply ≡ r → CommitCounted read_set p more (decided p (decide_next p.id phase.Put r))
-  put_counted reply.Applied all long first e = won 0 (omega arith) all long first
-  put_counted (reply.NotMet (Some row)) all long first e = row_counted 0 (omega arith) all long first (decide.Expired p.id) (decision_in row) (expired 0 (omega arith) all long first)
-  put_counted (reply.NotMet None) all long first e = starved_counted all long
-  put_counted reply.Fault all long first e = further 0 (omega arith) all long first phase.Look refl (λ n. clash (sym (ap is_fault e) ∙ faulted_last calls n))
-  put_counted (reply.Found None) all long first e = starved_counted all long
-  put_counted (reply.Found (Some row)) all long first e = starved_counted all long
-  put_counted (reply.Rows rows) all long first e = starved_counted all long
-  put_counted reply.NoMemory all long first e = starved_counted all long
+  few_decides : (d : DecidePhase) → decides d ≤ 3
+  few_decides phase.Put = omega arith
+  few_decides phase.Look = omega arith
+  few_decides phase.Abort = omega arith
+  few_decides phase.Again = omega arith
+  few_decides phase.Ended = omega arith
 
-  -- a look at the row
-  look_counted : (r : Reply) (all : AllPut p more) (long : length calls ≡ later_by p 1) (first : NoneFaulted calls → ◌≡◌ {A = ℕ} 1 0) → CommitCounted read_set p more (decided p (decide_next p.id phase.Look r))
-  look_counted (reply.Found None) all long first = further 1 (omega arith) all long first phase.Abort refl (λ n. absurd (one_zero (first (faulted_front calls n))))
-  look_counted (reply.Found (Some row)) all long first = row_counted 1 (omega arith) all long first (decide.Expired p.id) (decision_in row) (expired 1 (omega arith) all long first)
-  look_counted reply.Applied all long first = unknown 1 (omega arith) all long first
-  look_counted (reply.NotMet found) all long first = unknown 1 (omega arith) all long first
-  look_counted (reply.Rows rows) all long first = unknown 1 (omega arith) all long first
-  look_counted reply.Fault all long first = unknown 1 (omega arith) all long first
-  look_counted reply.NoMemory all long first = unknown 1 (omega arith) all long first
-
-  -- the put of ABORTED
-  abort_counted : (r : Reply) (all : AllPut p more) (long : length calls ≡ later_by p 2) (first : NoneFaulted calls → ◌≡◌ {A = ℕ} 2 0) → CommitCounted read_set p more (decided p (decide_next p.id phase.Abort r))
-  abort_counted reply.Applied all long first = lost 2 (omega arith) all long first outcome.Faulted (λ e. cc)
-  abort_counted (reply.NotMet (Some row)) all long first = row_counted 2 (omega arith) all long first (decide.Expired p.id) (decision_in row) (expired 2 (omega arith) all long first)
-  abort_counted (reply.NotMet None) all long first = unknown 2 (omega arith) all long first
-  abort_counted reply.Fault all long first = further 2 (omega arith) all long first phase.Again refl (λ n. absurd (two_zero (first (faulted_front calls n))))
-  abort_counted (reply.Found None) all long first = unknown 2 (omega arith) all long first
-  abort_counted (reply.Found (Some row)) all long first = unknown 2 (omega arith) all long first
-  abort_counted (reply.Rows rows) all long first = unknown 2 (omega arith) all long first
-  abort_counted reply.NoMemory all long first = unknown 2 (omega arith) all long first
-
-  -- the second look
-  again_counted : (r : Reply) (all : AllPut p more) (long : length calls ≡ later_by p 3) (first : NoneFaulted calls → ◌≡◌ {A = ℕ} 3 0) → CommitCounted read_set p more (decided p (decide_next p.id phase.Again r))
-  again_counted (reply.Found (Some row)) all long first = row_counted 3 (omega arith) all long first decide.Faulted (decision_in row) (lost 3 (omega arith) all long first outcome.Faulted (λ e. cc))
-  again_counted (reply.Found None) all long first = unknown 3 (omega arith) all long first
-  again_counted reply.Applied all long first = unknown 3 (omega arith) all long first
-  again_counted (reply.NotMet found) all long first = unknown 3 (omega arith) all long first
-  again_counted (reply.Rows rows) all long first = unknown 3 (omega arith) all long first
-  again_counted reply.Fault all long first = unknown 3 (omega arith) all long first
-  again_counted reply.NoMemory all long first = unknown 3 (omega arith) all long first
-
-  decided_counted : (d : DecidePhase) → AllPut p more → length calls ≡ later_by p (decides d) → (NoneFaulted calls → decides d ≡ 0) → decide_request_at p.id p.now d ≡ Some m.request → CommitCounted read_set p more (decided p (decide_next p.id d m.reply))
-  decided_counted phase.Put all long first e = put_counted m.reply all long first refl
-  decided_counted phase.Look all long first e = look_counted m.reply all long first
-  decided_counted phase.Abort all long first e = abort_counted m.reply all long first
-  decided_counted phase.Again all long first e = again_counted m.reply all long first
-  decided_counted phase.Ended all long first e = none_some m.request e
+  -- a call of the decision
+  decided_counted : (d : DecidePhase) → AllPut p more → length calls ≡ later_by p (decides d) → (NoneFaulted calls → decides d ≡ 0) → CommitCounted read_set p more (decided p (decide_next p.id d m.reply))
+  decided_counted d all long first =
+      by_rows p.id (λ d r n. length calls ≡ later_by p (decides d) → (NoneFaulted calls → decides d ≡ 0) → m.reply ≡ r → CommitCounted read_set p more (decided p n))
+      (record {
+        put_applied = λ long first e. won 0 (omega arith) all long first;
+        put_row = λ row long first e. row_counted 0 (omega arith) all long first (decide.Expired p.id) (decision_in row) (expired 0 (omega arith) all long first);
+        put_fault = λ long first e. further 0 (omega arith) all long first phase.Look refl (λ n. clash (sym (ap is_fault e) ∙ faulted_last calls n));
+        no_memory = λ r long first e. starved_counted all long;
+        look_none = λ long first e. further 1 (omega arith) all long first phase.Abort refl (λ n. absurd (one_zero (first (faulted_front calls n))));
+        look_row = λ row long first e. row_counted 1 (omega arith) all long first (decide.Expired p.id) (decision_in row) (expired 1 (omega arith) all long first);
+        abort_applied = λ long first e. lost 2 (omega arith) all long first outcome.Faulted (λ e. cc);
+        abort_row = λ row long first e. row_counted 2 (omega arith) all long first (decide.Expired p.id) (decision_in row) (expired 2 (omega arith) all long first);
+        abort_fault = λ long first e. further 2 (omega arith) all long first phase.Again refl (λ n. absurd (two_zero (first (faulted_front calls n))));
+        again_row = λ row long first e. row_counted 3 (omega arith) all long first decide.Faulted (decision_in row) (lost 3 (omega arith) all long first outcome.Faulted (λ e. cc));
+        unknown = λ d r long first e. unknown (decides d) (few_decides d) all long first;
+      }) d m.reply long first refl
 
   ---- rolls
 
@@ -522,7 +499,7 @@ module _ (read_set : List ReadItem) (p : Work) (as_read : ReadItemsAre read_set 
   pub commit_more : (s : Stage) → CommitCounted read_set p calls s → pending p s ≡ Some m.request → CommitCounted read_set p more (step p s m.reply)
   commit_more (Preparing i) h e = prepared_counted i e h.0 h.1 h.2 (nat_lt (i + 1) (length p.writes)) (touched_after i m.reply) (slice_get (work.prepares p) i) m.reply refl (touched i e h.0 h.1 h.2 m.reply)
   commit_more (Checking i) h e = checked_counted i (all_same h.0 (check_unput i e)) h.1 h.2 (nat_lt (i + 1) (length (checks p))) (slice_get (checks p) i) m.reply refl
-  commit_more (Deciding d) h e = decided_counted d (all_same h.0 (decide_unprepared p.id p.now d m.request e)) h.1 h.2 e
+  commit_more (Deciding d) h e = decided_counted d (all_same h.0 (decide_unprepared p.id p.now d m.request e)) h.1 h.2
   commit_more (Forward i) h e = forward_at (i + 1) (all_same h.0 (forward_unput i e)) (up i (length p.writes) h.1) (most (length calls) (length more) (later_by p 4) (calls_more calls m) h.2) (λ n. just (length calls) (length more) (later_by p 1) (calls_more calls m) (h.3 (faulted_front calls n)))
     where
       up : (i w : ℕ) → i < w → i + 1 ≤ w

@@ -5,7 +5,7 @@ use Rattle.std.specs.List.{AllByRecursion, list_all, list_any}
 use Rattle.std.specs.Ordering.{is_eq}
 use Rattle.std.proofs.lemmas.Bool.{and_parts}
 use Rattle.std.proofs.lemmas.List.Elements.{All-contains_itself, Contains-append_left, Contains-push, recursion_from_All}
-use Rattle.law_answers.specs.Types.{Access, Decided, Event, Key, Meta, Pair, Record, RecoverPhase, RecoverStep, Reply, Request, Span, TableName, TxId}
+use Rattle.law_answers.specs.Types.{Access, Event, Key, Meta, Pair, Record, RecoverPhase, RecoverStep, Reply, Request, Span, TableName, TxId}
 use Rattle.sdb_types.specs.declared.record.Reply.TheVariants as reply
 use Rattle.sdb_types.specs.declared.record.State.TheVariants as state
 use Rattle.sdb_types.specs.Contents.{CanAnswer, are_rows_of, in_span, rise}
@@ -25,7 +25,8 @@ use Rattle.sdb_model.specs.ReadSet.{reads_rows}
 use Rattle.sdb_model.specs.Transactions.{Executed}
 use Rattle.sdb_phases.specs.declared.step.RecoverPhase.TheVariants as phase
 use Rattle.sdb_phases.specs.declared.step.RecoverStep.TheVariants as steps
-use Rattle.sdb_phases.specs.Recover.{recover_next, recover_request_at, roll_to, undecided}
+use Rattle.sdb_phases.specs.Recover.{recover_next, recover_request_at, row_followed, undecided}
+use Rattle.sdb_phases.proofs.Public.{by_expiry, by_row, by_rows_recover_rows as by_rows}
 use Rattle.sdb_phases.specs.Work.{abort_of, look_of}
 use Rattle.sdb_txn.specs.Read.{Asking, Bad, Ended, Firm, Kind, Open, ReadStage, Resolving, answered, kind_of, opened, read_pending_at, read_step, request_of, resolved, settle, settle_one}
 use Rattle.law_clients.proofs.Public.{access_table, meta_of}
@@ -198,18 +199,10 @@ module _ (events : List Event) (calls : List StoreCall) (m : StoreCall) (older :
         }
 
     undecided_is : m.request ≡ look_of meta.id → m.reply ≡ reply.Found None → ComesTo (undecided meta now)
-    undecided_is e f = by (is_expired meta.prepared_at now) refl
-      where
-        by : (b : Bool) → is_expired meta.prepared_at now ≡ b → ComesTo (cond b (phase.Abort now, steps.More) (phase.Ended, steps.Busy meta.id meta.prepared_at))
-        by true h = tt
-        by false h = busy_is e f h
+    undecided_is e f = by_expiry meta now ComesTo (λ is. tt) (λ is. busy_is e f is)
 
-    rolled_is : (row : Record) → row.key ≡ coordinator_key_of meta.id → records_observed m.reply ≡ row ∷ [] → ComesTo (roll_to meta (decision_in row))
-    rolled_is row same observed = by (decision_in row) refl
-      where
-        by : (o : Result Decided (List ℕ)) → decision_in row ≡ o → ComesTo (roll_to meta o)
-        by (Err name) e = shows_bad_row meta.id calls m row name observed same e
-        by (Ok d) e = elim d.decision as (λ x. ComesTo (elim x [ decision.Committed ↦ (phase.Forward d.created_at, steps.More) | decision.Aborted ↦ (phase.Back, steps.More) ])) [ decision.Committed ↦ tt | decision.Aborted ↦ tt ]
+    rolled_is : (row : Record) → row.key ≡ coordinator_key_of meta.id → records_observed m.reply ≡ row ∷ [] → ComesTo (row_followed meta row)
+    rolled_is row same observed = by_row meta row ComesTo (λ d says is. tt) (λ d says is. tt) (λ name says. shows_bad_row meta.id calls m row name observed same says)
 
     can_at : (q : Request) (r : Reply) → m.request ≡ q → m.reply ≡ r → CanAnswer m.request m.reply → CanAnswer q r
     can_at q r e f can = subst (λ (x : Request). CanAnswer x r) e (subst (CanAnswer m.request) f can)
@@ -221,49 +214,23 @@ module _ (events : List Event) (calls : List StoreCall) (m : StoreCall) (older :
     faulted_now f = reply_now is_fault calls m reply.Fault f refl
 
   pub recovered_is : (rec : Record) (meta : Meta) (left : List Record) (p : RecoverPhase) (before : ResolvesBy calls rec meta p left) (r : Reply) → recover_request_at rec meta p ≡ Some m.request → m.reply ≡ r → CanAnswer m.request m.reply → ComesTo rec meta left p before (recover_next rec meta p now r)
-  recovered_is rec meta left phase.Look b (reply.Found None) e f can = undecided_is rec meta left phase.Look b (asked_at rec meta left phase.Look b (look_of meta.id) e) f
-  recovered_is rec meta left phase.Look b (reply.Found (Some row)) e f can = rolled_is rec meta left phase.Look b row (can_at rec meta left phase.Look b (look_of meta.id) (reply.Found (Some row)) (asked_at rec meta left phase.Look b (look_of meta.id) e) f can) (ap records_observed f)
-  recovered_is rec meta left phase.Look b (reply.Rows rows) e f can = tt
-  recovered_is rec meta left phase.Look b reply.Applied e f can = tt
-  recovered_is rec meta left phase.Look b (reply.NotMet None) e f can = tt
-  recovered_is rec meta left phase.Look b (reply.NotMet (Some row)) e f can = tt
-  recovered_is rec meta left phase.Look b reply.Fault e f can = faulted_now rec meta left phase.Look b f
-  recovered_is rec meta left phase.Look b reply.NoMemory e f can = tt
-  recovered_is rec meta left (phase.Abort n) b (reply.Found None) e f can = tt
-  recovered_is rec meta left (phase.Abort n) b (reply.Found (Some row)) e f can = tt
-  recovered_is rec meta left (phase.Abort n) b (reply.Rows rows) e f can = tt
-  recovered_is rec meta left (phase.Abort n) b reply.Applied e f can = tt
-  recovered_is rec meta left (phase.Abort n) b (reply.NotMet None) e f can = tt
-  recovered_is rec meta left (phase.Abort n) b (reply.NotMet (Some row)) e f can =
-      rolled_is rec meta left (phase.Abort n) b row
-      ((can_at rec meta left (phase.Abort n) b (abort_of meta.id n) (reply.NotMet (Some row)) (asked_at rec meta left (phase.Abort n) b (abort_of meta.id n) e) f can).0 ∙ row-key meta.id decision.Aborted n) (ap records_observed f)
-  recovered_is rec meta left (phase.Abort n) b reply.Fault e f can = faulted_now rec meta left (phase.Abort n) b f
-  recovered_is rec meta left (phase.Abort n) b reply.NoMemory e f can = tt
-  recovered_is rec meta left phase.Again b (reply.Found None) e f can = reply_stays is_fault calls m b.phase
-  recovered_is rec meta left phase.Again b (reply.Found (Some row)) e f can = rolled_is rec meta left phase.Again b row (can_at rec meta left phase.Again b (look_of meta.id) (reply.Found (Some row)) (asked_at rec meta left phase.Again b (look_of meta.id) e) f can) (ap records_observed f)
-  recovered_is rec meta left phase.Again b (reply.Rows rows) e f can = tt
-  recovered_is rec meta left phase.Again b reply.Applied e f can = tt
-  recovered_is rec meta left phase.Again b (reply.NotMet None) e f can = tt
-  recovered_is rec meta left phase.Again b (reply.NotMet (Some row)) e f can = tt
-  recovered_is rec meta left phase.Again b reply.Fault e f can = faulted_now rec meta left phase.Again b f
-  recovered_is rec meta left phase.Again b reply.NoMemory e f can = tt
-  recovered_is rec meta left (phase.Forward n) b (reply.Found None) e f can = tt
-  recovered_is rec meta left (phase.Forward n) b (reply.Found (Some row)) e f can = tt
-  recovered_is rec meta left (phase.Forward n) b (reply.Rows rows) e f can = tt
-  recovered_is rec meta left (phase.Forward n) b reply.Applied e f can = tt
-  recovered_is rec meta left (phase.Forward n) b (reply.NotMet None) e f can = tt
-  recovered_is rec meta left (phase.Forward n) b (reply.NotMet (Some row)) e f can = tt
-  recovered_is rec meta left (phase.Forward n) b reply.Fault e f can = faulted_now rec meta left (phase.Forward n) b f
-  recovered_is rec meta left (phase.Forward n) b reply.NoMemory e f can = tt
-  recovered_is rec meta left phase.Back b (reply.Found None) e f can = tt
-  recovered_is rec meta left phase.Back b (reply.Found (Some row)) e f can = tt
-  recovered_is rec meta left phase.Back b (reply.Rows rows) e f can = tt
-  recovered_is rec meta left phase.Back b reply.Applied e f can = tt
-  recovered_is rec meta left phase.Back b (reply.NotMet None) e f can = tt
-  recovered_is rec meta left phase.Back b (reply.NotMet (Some row)) e f can = tt
-  recovered_is rec meta left phase.Back b reply.Fault e f can = faulted_now rec meta left phase.Back b f
-  recovered_is rec meta left phase.Back b reply.NoMemory e f can = tt
-  recovered_is rec meta left phase.Ended b r e f can = absurd (cc)
+  recovered_is rec meta left p before r e f can =
+      by_rows rec meta now (λ p r n. (b : ResolvesBy calls rec meta p left) → recover_request_at rec meta p ≡ Some m.request → m.reply ≡ r → ComesTo rec meta left p b n)
+      (record {
+        look_row = λ row b e f. rolled_is rec meta left phase.Look b row (can_at rec meta left phase.Look b (look_of meta.id) (reply.Found (Some row)) (asked_at rec meta left phase.Look b (look_of meta.id) e) f can) (ap records_observed f);
+        look_none = λ b e f. undecided_is rec meta left phase.Look b (asked_at rec meta left phase.Look b (look_of meta.id) e) f;
+        abort_applied = λ n b e f. tt;
+        abort_row = λ n row b e f.
+            rolled_is rec meta left (phase.Abort n) b row
+            ((can_at rec meta left (phase.Abort n) b (abort_of meta.id n) (reply.NotMet (Some row)) (asked_at rec meta left (phase.Abort n) b (abort_of meta.id n) e) f can).0 ∙ row-key meta.id decision.Aborted n) (ap records_observed f);
+        abort_fault = λ n b e f. faulted_now rec meta left (phase.Abort n) b f;
+        again_row = λ row b e f. rolled_is rec meta left phase.Again b row (can_at rec meta left phase.Again b (look_of meta.id) (reply.Found (Some row)) (asked_at rec meta left phase.Again b (look_of meta.id) e) f can) (ap records_observed f);
+        again_none = λ b e f. reply_stays is_fault calls m b.phase;
+        forward = λ at r is b e f. tt;
+        back = λ r is b e f. tt;
+        fault = λ p b e f. faulted_now rec meta left p b f;
+        no_memory = λ p r b e f. tt;
+      }) p r before e f
 
   resolved_is : (images : List Record) (rec : Record) (meta : Meta) (left : List Record) (p : RecoverPhase) (before : ResolvesBy calls rec meta p left) (n : RecoverPhase × RecoverStep) → AllByRecursion (λ r. IsDataTable r.key.table) left → ComesTo rec meta left p before n → LedBy events more (resolved images rec meta left n)
   resolved_is images rec meta left p before (q, steps.More) k h = record { found = found_more rec meta left p before; is_open = before.is_open; phase = h }

@@ -15,7 +15,7 @@ use Rattle.sdb_phases.specs.declared.step.RecoverPhase.TheVariants as phase
 use Rattle.sdb_phases.specs.Steps.{CanGet}
 use Rattle.sdb_phases.specs.CommitLaws.{is_malformed, holds_malformed}
 use Rattle.sdb_phases.specs.Recover.{Received, AreRecoverReplies, recover_after, recover_answer, recover_next, recover_pending, recover_request_at, row_followed, is_as_found}
-use Rattle.sdb_phases.proofs.Public.{by_row, by_steps, recover_stands, row_malformed}
+use Rattle.sdb_phases.proofs.Public.{by_row, by_steps_recover_rows as by_steps, recover_stands, row_malformed}
 use Rattle.sdb_phases.specs.RecoverLaws.{RecoverInvariant, found_pending, received_fault}
 use Rattle.sdb_types.proofs.Public.{clash}
 use Rattle.law_answers.specs.Ends.{is_served}

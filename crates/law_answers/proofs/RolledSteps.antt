@@ -1,11 +1,11 @@
 -- Each call of a read and of a VACUUM keeps which of the unresolved records that were found are dealt with.
-use Rattle.std.proofs.Common.{◌≡◌, ◌<◌, ◌+◌, ◌⊎◌, inl, inr, ℕ, ℤ, Bool, true, false, cond, List, [], ◌∷◌, ◌++◌, Option, Some, None, Result, Ok, Err, refl, sym, ap, subst, ◌∙◌, arith}
+use Rattle.std.proofs.Common.{◌≡◌, ◌<◌, ◌+◌, ◌⊎◌, inl, inr, ℕ, ℤ, Bool, true, false, List, [], ◌∷◌, ◌++◌, Option, Some, None, Ok, refl, sym, ap, subst, ◌∙◌, arith}
 use Rattle.std.specs.Prelude.{if◌then◌else◌, Contains}
 use Rattle.std.specs.List.{AllByRecursion}
 use Rattle.std.specs.Option.{option_map}
 use Rattle.std.specs.Result.{result_ok}
 use Rattle.std.proofs.lemmas.List.Elements.{Contains-push, Contains-push_cases}
-use Rattle.law_answers.specs.Types.{Decided, Decision, Event, Meta, Record, RecoverPhase, RecoverStep, Reply, Request, Span, TxId, VacuumStep}
+use Rattle.law_answers.specs.Types.{Decided, Event, Meta, Record, RecoverPhase, RecoverStep, Reply, Request, Span, TxId, VacuumStep}
 use Rattle.sdb_types.specs.declared.record.Condition.TheVariants as condition
 use Rattle.sdb_types.specs.declared.record.Reply.TheVariants as reply
 use Rattle.sdb_types.specs.declared.record.Request.TheVariants as ask
@@ -24,7 +24,8 @@ use Rattle.sdb_model.specs.Counted as counted
 use Rattle.sdb_model.specs.ReadSet.{reads_rows}
 use Rattle.sdb_phases.specs.declared.step.RecoverPhase.TheVariants as phase
 use Rattle.sdb_phases.specs.declared.step.RecoverStep.TheVariants as steps
-use Rattle.sdb_phases.specs.Recover.{recover_back, recover_forward, recover_next, recover_request_at, roll_to, is_as_found, undecided}
+use Rattle.sdb_phases.specs.Recover.{recover_back, recover_forward, recover_next, recover_request_at, row_followed, is_as_found, undecided}
+use Rattle.sdb_phases.proofs.Public.{by_expiry, by_row, by_rows_recover_rows as by_rows}
 use Rattle.sdb_phases.specs.Work.{abort_of, look_of}
 use Rattle.sdb_txn.specs.Read.{Asking, Bad, Ended, Firm, Kind, Open, ReadStage, Resolving, answered, kind_of, read_pending_at, read_step, resolved, settle, settle_one}
 use Rattle.law_clients.proofs.Public.{meta_of, state_says}
@@ -172,28 +173,19 @@ module _ (events : List Event) (vacuums : Bool) (calls : List StoreCall) (m : St
     looked_now : (d : Decided) → reads_rows m ≡ false → is_of_row meta.id m.request ≡ true → decision_in_reply m.request m.reply ≡ Some d → HasLooked more meta.id d
     looked_now d f t e = record { look = m; among = Contains-push calls m; observed = shown_is meta.id m (Some d) t e; later = λ read has reads. after_last meta.id calls m older read (old f read has reads) }
 
-    rolled_comes : (row : Record) → reads_rows m ≡ false → is_of_row meta.id m.request ≡ true → decision_in_reply m.request m.reply ≡ result_ok (decision_in row) → ComesTo (roll_to meta (decision_in row))
-    rolled_comes row f t executed = by (decision_in row) refl
-      where
-        by_decision : (d : Decided) (w : Decision) → decision_in row ≡ Ok d → d.decision ≡ w → ComesTo (elim w [ decision.Committed ↦ (phase.Forward d.created_at, steps.More) | decision.Aborted ↦ (phase.Back, steps.More) ])
-        by_decision d decision.Committed e w = (d, looked_now d f t (executed ∙ ap result_ok e), w, refl)
-        by_decision d decision.Aborted e w = (d, looked_now d f t (executed ∙ ap result_ok e), w)
-
-        by : (o : Result Decided (List ℕ)) → decision_in row ≡ o → ComesTo (roll_to meta o)
-        by (Err name) e = tt
-        by (Ok d) e = by_decision d d.decision e refl
+    rolled_comes : (row : Record) → reads_rows m ≡ false → is_of_row meta.id m.request ≡ true → decision_in_reply m.request m.reply ≡ result_ok (decision_in row) → ComesTo (row_followed meta row)
+    rolled_comes row f t executed =
+        by_row meta row ComesTo (λ d e w. (d, looked_now d f t (executed ∙ ap result_ok e), w, refl)) (λ d e w. (d, looked_now d f t (executed ∙ ap result_ok e), w)) (λ name e. tt)
 
     undecided_comes : m.request ≡ look_of meta.id → m.reply ≡ reply.Found None → ComesTo (undecided meta now)
-    undecided_comes e f = by (is_expired meta.prepared_at now) refl
-      where
-        by : (b : Bool) → is_expired meta.prepared_at now ≡ b → ComesTo (cond b (phase.Abort now, steps.More) (phase.Ended, steps.Busy meta.id meta.prepared_at))
-        by true h = moment
-        by false h = λ read has reads. record {
+    undecided_comes e f =
+        by_expiry meta now ComesTo (λ h. moment)
+        (λ h read has reads. record {
           asked = m;
           unresolved = (unresolved, (meta_of rec meta unresolved says).writer, prepared_moment rec meta says);
           asks = (after_last meta.id calls m older read has, e, f);
           early = ap (is_expired meta.prepared_at) clock ∙ h;
-        }
+        })
 
     asked_at : (x : Request) → Some x ≡ Some m.request → m.request ≡ x
     asked_at x e = sym (some_is x m.request e)
@@ -206,40 +198,6 @@ module _ (events : List Event) (vacuums : Bool) (calls : List StoreCall) (m : St
 
     said_by : (x : Request) (r : Reply) → m.request ≡ x → m.reply ≡ r → decision_in_reply m.request m.reply ≡ decision_in_reply x r
     said_by x r e f = ap (λ (y : Request). decision_in_reply y m.reply) e ∙ ap (decision_in_reply x) f
-
-    look_comes : (r : Reply) → m.request ≡ look_of meta.id → m.reply ≡ r → ComesTo (recover_next rec meta phase.Look now r)
-    look_comes (reply.Found None) e f = undecided_comes e f
-    look_comes (reply.Found (Some row)) e f = rolled_comes row (look_rows m meta.id e) (look_row e) (said_by (look_of meta.id) (reply.Found (Some row)) e f)
-    look_comes (reply.Rows rows) e f = tt
-    look_comes reply.Applied e f = tt
-    look_comes (reply.NotMet None) e f = tt
-    look_comes (reply.NotMet (Some row)) e f = tt
-    look_comes reply.Fault e f = tt
-    look_comes reply.NoMemory e f = tt
-
-    again_comes : (r : Reply) → m.request ≡ look_of meta.id → m.reply ≡ r → ComesTo (recover_next rec meta phase.Again now r)
-    again_comes (reply.Found None) e f = tt
-    again_comes (reply.Found (Some row)) e f = rolled_comes row (look_rows m meta.id e) (look_row e) (said_by (look_of meta.id) (reply.Found (Some row)) e f)
-    again_comes (reply.Rows rows) e f = tt
-    again_comes reply.Applied e f = tt
-    again_comes (reply.NotMet None) e f = tt
-    again_comes (reply.NotMet (Some row)) e f = tt
-    again_comes reply.Fault e f = tt
-    again_comes reply.NoMemory e f = tt
-
-    abort_comes : (n : ℤ) (r : Reply) → is_moment n ≡ true → m.request ≡ abort_of meta.id n → m.reply ≡ r → ComesTo (recover_next rec meta (phase.Abort n) now r)
-    abort_comes n (reply.Found None) at e f = tt
-    abort_comes n (reply.Found (Some row)) at e f = tt
-    abort_comes n (reply.Rows rows) at e f = tt
-    abort_comes n reply.Applied at e f = (
-      record { decision = decision.Aborted; created_at = n },
-      looked_now (record { decision = decision.Aborted; created_at = n }) (unread_rows m (ap is_read e)) (abort_row n e) (said_by (abort_of meta.id n) reply.Applied e f ∙ ap result_ok (row-decision meta.id decision.Aborted n (meta_of rec meta unresolved says).fits at)),
-      refl,
-    )
-    abort_comes n (reply.NotMet None) at e f = tt
-    abort_comes n (reply.NotMet (Some row)) at e f = rolled_comes row (unread_rows m (ap is_read e)) (abort_row n e) (said_by (abort_of meta.id n) (reply.NotMet (Some row)) e f)
-    abort_comes n reply.Fault at e f = tt
-    abort_comes n reply.NoMemory at e f = tt
 
     -- the roll is answered
     rolls_it : (d : Decided) → HasLooked calls meta.id d → m.request ≡ roll_by rec (condition.Version meta.id meta.state) d → is_answered m.reply ≡ true → OfReads (λ read. IsRolledBy more read rec)
@@ -255,33 +213,26 @@ module _ (events : List Event) (vacuums : Bool) (calls : List StoreCall) (m : St
       answered = a;
     }
 
-    forward_comes : (n : ℤ) (r : Reply) → m.request ≡ recover_forward rec meta n → m.reply ≡ r → PhaseLooks calls meta.id (phase.Forward n) → ComesTo (recover_next rec meta (phase.Forward n) now r)
-    forward_comes n (reply.Found None) e f p = tt
-    forward_comes n (reply.Found (Some row)) e f p = tt
-    forward_comes n (reply.Rows rows) e f p = tt
-    forward_comes n reply.Applied e f p = rolls_it p.0 p.1 (e ∙ forward_rolls rec meta p.0 n p.2 p.3) (ap is_answered f)
-    forward_comes n (reply.NotMet None) e f p = rolls_it p.0 p.1 (e ∙ forward_rolls rec meta p.0 n p.2 p.3) (ap is_answered f)
-    forward_comes n (reply.NotMet (Some row)) e f p = rolls_it p.0 p.1 (e ∙ forward_rolls rec meta p.0 n p.2 p.3) (ap is_answered f)
-    forward_comes n reply.Fault e f p = tt
-    forward_comes n reply.NoMemory e f p = tt
-
-    back_comes : (r : Reply) → m.request ≡ recover_back rec meta → m.reply ≡ r → PhaseLooks calls meta.id phase.Back → ComesTo (recover_next rec meta phase.Back now r)
-    back_comes (reply.Found None) e f p = tt
-    back_comes (reply.Found (Some row)) e f p = tt
-    back_comes (reply.Rows rows) e f p = tt
-    back_comes reply.Applied e f p = rolls_it p.0 p.1 (e ∙ back_rolls rec meta p.0 p.2) (ap is_answered f)
-    back_comes (reply.NotMet None) e f p = rolls_it p.0 p.1 (e ∙ back_rolls rec meta p.0 p.2) (ap is_answered f)
-    back_comes (reply.NotMet (Some row)) e f p = rolls_it p.0 p.1 (e ∙ back_rolls rec meta p.0 p.2) (ap is_answered f)
-    back_comes reply.Fault e f p = tt
-    back_comes reply.NoMemory e f p = tt
-
     recovered_comes : (p : RecoverPhase) → PhaseLooks calls meta.id p → recover_request_at rec meta p ≡ Some m.request → ComesTo (recover_next rec meta p now m.reply)
-    recovered_comes phase.Look p e = look_comes m.reply (asked_at (look_of meta.id) e) refl
-    recovered_comes (phase.Abort n) p e = abort_comes n m.reply p (asked_at (abort_of meta.id n) e) refl
-    recovered_comes phase.Again p e = again_comes m.reply (asked_at (look_of meta.id) e) refl
-    recovered_comes (phase.Forward n) p e = forward_comes n m.reply (asked_at (recover_forward rec meta n) e) refl p
-    recovered_comes phase.Back p e = back_comes m.reply (asked_at (recover_back rec meta) e) refl p
-    recovered_comes phase.Ended p e = absurd (cc)
+    recovered_comes p k e =
+        by_rows rec meta now (λ p r n. PhaseLooks calls meta.id p → recover_request_at rec meta p ≡ Some m.request → m.reply ≡ r → ComesTo n)
+        (record {
+          look_row = λ row k e f. let q = asked_at (look_of meta.id) e in rolled_comes row (look_rows m meta.id q) (look_row q) (said_by (look_of meta.id) (reply.Found (Some row)) q f);
+          look_none = λ k e f. undecided_comes (asked_at (look_of meta.id) e) f;
+          abort_applied = λ n k e f. let q = asked_at (abort_of meta.id n) e in (
+            record { decision = decision.Aborted; created_at = n },
+            looked_now (record { decision = decision.Aborted; created_at = n }) (unread_rows m (ap is_read q)) (abort_row n q) (said_by (abort_of meta.id n) reply.Applied q f ∙ ap result_ok (row-decision meta.id decision.Aborted n (meta_of rec meta unresolved says).fits k)),
+            refl,
+          );
+          abort_row = λ n row k e f. let q = asked_at (abort_of meta.id n) e in rolled_comes row (unread_rows m (ap is_read q)) (abort_row n q) (said_by (abort_of meta.id n) (reply.NotMet (Some row)) q f);
+          abort_fault = λ n k e f. tt;
+          again_row = λ row k e f. let q = asked_at (look_of meta.id) e in rolled_comes row (look_rows m meta.id q) (look_row q) (said_by (look_of meta.id) (reply.Found (Some row)) q f);
+          again_none = λ k e f. tt;
+          forward = λ n r is k e f. rolls_it k.0 k.1 (asked_at (recover_forward rec meta n) e ∙ forward_rolls rec meta k.0 n k.2 k.3) (ap is_answered f ∙ is);
+          back = λ r is k e f. rolls_it k.0 k.1 (asked_at (recover_back rec meta) e ∙ back_rolls rec meta k.0 k.2) (ap is_answered f ∙ is);
+          fault = λ p k e f. tt;
+          no_memory = λ p r k e f. tt;
+        }) p m.reply k e refl
 
     -- it was rolled
     rec_dealt : (left : List Record) → reads_rows m ≡ false → OfReads (λ read. IsRolledBy more read rec) → RolledBut events vacuums calls (rec ∷ left) → RolledBut events vacuums more left

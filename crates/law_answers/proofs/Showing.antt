@@ -1,5 +1,5 @@
 -- Each call of a read keeps what its calls showed of the records that it found.
-use Rattle.std.proofs.Common.{◌≡◌, ◌⊎◌, inl, inr, ℕ, ℤ, Bool, true, false, cond, not, List, [], ◌∷◌, ◌++◌, map, Option, Some, None, Result, Ok, Err, refl, sym, ap, subst, ◌∙◌}
+use Rattle.std.proofs.Common.{◌≡◌, ◌⊎◌, inl, inr, ℕ, ℤ, Bool, true, false, not, List, [], ◌∷◌, ◌++◌, map, Option, Some, None, Result, Ok, Err, refl, sym, ap, subst, ◌∙◌}
 use Rattle.std.specs.Prelude.{if◌then◌else◌}
 use Rattle.std.specs.List.{AllByRecursion, filter_map}
 use Rattle.std.specs.Result.{result_ok}
@@ -12,7 +12,7 @@ use Rattle.sdb_types.specs.Contents.{CanAnswer, rise, starts_after}
 use Rattle.sdb_types.proofs.Public.{all_each as each_any, and_parts, some_is}
 use Rattle.sdb_record.specs.declared.access.Access.TheVariants as access
 use Rattle.sdb_record.specs.declared.coordinator.Decision.TheVariants as decision
-use Rattle.sdb_record.specs.Coordinator.{coordinator_key_of, coordinator_row_of, decision_in, is_coordinator_table, is_expired}
+use Rattle.sdb_record.specs.Coordinator.{coordinator_key_of, coordinator_row_of, decision_in, is_coordinator_table}
 use Rattle.sdb_record.specs.Meta.{checked, id_in, is_in, is_moment, is_transactional, is_unresolved}
 use Rattle.sdb_record.specs.Parts.{before_record}
 use Rattle.sdb_record.specs.Rolls.{forward_record, image_under, undo}
@@ -22,7 +22,8 @@ use Rattle.sdb_model.specs.Events.{table_asked}
 use Rattle.sdb_model.specs.ReadSet.{condition_asked, reads_rows, rolls}
 use Rattle.sdb_phases.specs.declared.step.RecoverPhase.TheVariants as phase
 use Rattle.sdb_phases.specs.declared.step.RecoverStep.TheVariants as steps
-use Rattle.sdb_phases.specs.Recover.{recover_back, recover_forward, recover_next, recover_request_at, roll_to, is_as_found, undecided}
+use Rattle.sdb_phases.specs.Recover.{recover_back, recover_forward, recover_next, recover_request_at, row_followed, is_as_found, undecided}
+use Rattle.sdb_phases.proofs.Public.{by_expiry, by_row, by_rows_recover_rows as by_rows}
 use Rattle.sdb_phases.specs.Work.{abort_of, look_of}
 use Rattle.sdb_txn.specs.Read.{Asking, Bad, Ended, Firm, Kind, Open, ReadStage, Resolving, answered, kind_of, opened, read_pending_at, read_step, request_of, resolved, settle, settle_one}
 use Rattle.law_clients.proofs.Public.{abort_rolls_none, back_rolls_to, before_key, coordinators, each_more, each_of, find_last, find_more, forward_rolls_to, IsRollTo, look_rolls_none, meta_of, read_unrolled, rolls_none_after, unrolled_more}
@@ -219,23 +220,15 @@ module _ (q : Request) (calls : List StoreCall) (m : StoreCall) (now : ℤ) (mom
     shown_now : (d : Decided) → is_of_row meta.id m.request ≡ true → decision_in_reply m.request m.reply ≡ Some d → HasObserved more meta.id d
     shown_now d t e = record { call = m; among = Contains-push calls m; observed = shown_is meta.id m (Some d) t e }
 
-    rolled_shows : (row : Record) → reads_rows m ≡ false → NoneRolled → is_of_row meta.id m.request ≡ true → decision_in_reply m.request m.reply ≡ result_ok (decision_in row) → ComesTo (roll_to meta (decision_in row))
-    rolled_shows row f none t executed = by (decision_in row) refl
-      where
-        by_decision : (d : Decided) (w : Decision) → decision_in row ≡ Ok d → d.decision ≡ w → ComesTo (elim w [ decision.Committed ↦ (phase.Forward d.created_at, steps.More) | decision.Aborted ↦ (phase.Back, steps.More) ])
-        by_decision d decision.Committed e w = (read_more images (rec ∷ left) h f none, (d, shown_now d t (executed ∙ ap result_ok e), w, refl))
-        by_decision d decision.Aborted e w = (read_more images (rec ∷ left) h f none, (d, shown_now d t (executed ∙ ap result_ok e), w, tt))
-
-        by : (o : Result Decided (List ℕ)) → decision_in row ≡ o → ComesTo (roll_to meta o)
-        by (Err name) e = tt
-        by (Ok d) e = by_decision d d.decision e refl
+    rolled_shows : (row : Record) → reads_rows m ≡ false → NoneRolled → is_of_row meta.id m.request ≡ true → decision_in_reply m.request m.reply ≡ result_ok (decision_in row) → ComesTo (row_followed meta row)
+    rolled_shows row f none t executed =
+        by_row meta row ComesTo
+        (λ d e w. (read_more images (rec ∷ left) h f none, (d, shown_now d t (executed ∙ ap result_ok e), w, refl)))
+        (λ d e w. (read_more images (rec ∷ left) h f none, (d, shown_now d t (executed ∙ ap result_ok e), w, tt)))
+        (λ name e. tt)
 
     undecided_shows : m.request ≡ look_of meta.id → ComesTo (undecided meta now)
-    undecided_shows e = by (is_expired meta.prepared_at now)
-      where
-        by : (b : Bool) → ComesTo (cond b (phase.Abort now, steps.More) (phase.Ended, steps.Busy meta.id meta.prepared_at))
-        by true = (read_more images (rec ∷ left) h (look_rows m meta.id e) (look_rolls e), moment)
-        by false = tt
+    undecided_shows e = by_expiry meta now ComesTo (λ is. (read_more images (rec ∷ left) h (look_rows m meta.id e) (look_rolls e), moment)) (λ is. tt)
 
     asked_at : (x : Request) → Some x ≡ Some m.request → m.request ≡ x
     asked_at x e = sym (some_is x m.request e)
@@ -251,44 +244,6 @@ module _ (q : Request) (calls : List StoreCall) (m : StoreCall) (now : ℤ) (mom
 
     unread : (x : Request) → m.request ≡ x → is_read x ≡ false → reads_rows m ≡ false
     unread x e f = unread_rows m (ap is_read e ∙ f)
-
-    look_shows : (r : Reply) → m.request ≡ look_of meta.id → m.reply ≡ r → ComesTo (recover_next rec meta phase.Look now r)
-    look_shows (reply.Found None) e f = undecided_shows e
-    look_shows (reply.Found (Some row)) e f = rolled_shows row (look_rows m meta.id e) (look_rolls e) (look_row e) (said_by (look_of meta.id) (reply.Found (Some row)) e f)
-    look_shows (reply.Rows rows) e f = tt
-    look_shows reply.Applied e f = tt
-    look_shows (reply.NotMet None) e f = tt
-    look_shows (reply.NotMet (Some row)) e f = tt
-    look_shows reply.Fault e f = tt
-    look_shows reply.NoMemory e f = tt
-
-    again_shows : (r : Reply) → m.request ≡ look_of meta.id → m.reply ≡ r → ComesTo (recover_next rec meta phase.Again now r)
-    again_shows (reply.Found None) e f = tt
-    again_shows (reply.Found (Some row)) e f = rolled_shows row (look_rows m meta.id e) (look_rolls e) (look_row e) (said_by (look_of meta.id) (reply.Found (Some row)) e f)
-    again_shows (reply.Rows rows) e f = tt
-    again_shows reply.Applied e f = tt
-    again_shows (reply.NotMet None) e f = tt
-    again_shows (reply.NotMet (Some row)) e f = tt
-    again_shows reply.Fault e f = tt
-    again_shows reply.NoMemory e f = tt
-
-    abort_shows : (n : ℤ) (r : Reply) → is_moment n ≡ true → m.request ≡ abort_of meta.id n → m.reply ≡ r → ComesTo (recover_next rec meta (phase.Abort n) now r)
-    abort_shows n (reply.Found None) at e f = tt
-    abort_shows n (reply.Found (Some row)) at e f = tt
-    abort_shows n (reply.Rows rows) at e f = tt
-    abort_shows n reply.Applied at e f = (
-      read_more images (rec ∷ left) h (unread (abort_of meta.id n) e refl) (abort_rolls n e),
-      (
-        record { decision = decision.Aborted; created_at = n },
-        shown_now (record { decision = decision.Aborted; created_at = n }) (abort_row n e) (said_by (abort_of meta.id n) reply.Applied e f ∙ ap result_ok (row-decision meta.id decision.Aborted n (meta_of rec meta unresolved says).fits at)),
-        refl,
-        tt,
-      ),
-    )
-    abort_shows n (reply.NotMet None) at e f = tt
-    abort_shows n (reply.NotMet (Some row)) at e f = rolled_shows row (unread (abort_of meta.id n) e refl) (abort_rolls n e) (abort_row n e) (said_by (abort_of meta.id n) (reply.NotMet (Some row)) e f)
-    abort_shows n reply.Fault at e f = (read_more images (rec ∷ left) h (unread (abort_of meta.id n) e refl) (abort_rolls n e), tt)
-    abort_shows n reply.NoMemory at e f = tt
 
     writer : id_in rec.columns ≡ Some meta.id
     writer = (meta_of rec meta unresolved says).writer
@@ -329,33 +284,30 @@ module _ (q : Request) (calls : List StoreCall) (m : StoreCall) (now : ℤ) (mom
           });
         })
 
-    forward_shows : (n : ℤ) (r : Reply) → m.request ≡ recover_forward rec meta n → PhaseObserves calls meta.id (phase.Forward n) → ComesTo (recover_next rec meta (phase.Forward n) now r)
-    forward_shows n (reply.Found None) e p = tt
-    forward_shows n (reply.Found (Some row)) e p = tt
-    forward_shows n (reply.Rows rows) e p = tt
-    forward_shows n reply.Applied e p = forwarded n e p
-    forward_shows n (reply.NotMet None) e p = forwarded n e p
-    forward_shows n (reply.NotMet (Some row)) e p = forwarded n e p
-    forward_shows n reply.Fault e p = tt
-    forward_shows n reply.NoMemory e p = tt
-
-    back_shows : (r : Reply) → m.request ≡ recover_back rec meta → PhaseObserves calls meta.id phase.Back → ComesTo (recover_next rec meta phase.Back now r)
-    back_shows (reply.Found None) e p = tt
-    back_shows (reply.Found (Some row)) e p = tt
-    back_shows (reply.Rows rows) e p = tt
-    back_shows reply.Applied e p = backed e p
-    back_shows (reply.NotMet None) e p = backed e p
-    back_shows (reply.NotMet (Some row)) e p = backed e p
-    back_shows reply.Fault e p = tt
-    back_shows reply.NoMemory e p = tt
-
     recovered_shows : (p : RecoverPhase) → PhaseObserves calls meta.id p → recover_request_at rec meta p ≡ Some m.request → ComesTo (recover_next rec meta p now m.reply)
-    recovered_shows phase.Look p e = look_shows m.reply (asked_at (look_of meta.id) e) refl
-    recovered_shows (phase.Abort n) p e = abort_shows n m.reply p (asked_at (abort_of meta.id n) e) refl
-    recovered_shows phase.Again p e = again_shows m.reply (asked_at (look_of meta.id) e) refl
-    recovered_shows (phase.Forward n) p e = forward_shows n m.reply (asked_at (recover_forward rec meta n) e) p
-    recovered_shows phase.Back p e = back_shows m.reply (asked_at (recover_back rec meta) e) p
-    recovered_shows phase.Ended p e = absurd (cc)
+    recovered_shows p k e =
+        by_rows rec meta now (λ p r n. PhaseObserves calls meta.id p → recover_request_at rec meta p ≡ Some m.request → m.reply ≡ r → ComesTo n)
+        (record {
+          look_row = λ row k e f. let q = asked_at (look_of meta.id) e in rolled_shows row (look_rows m meta.id q) (look_rolls q) (look_row q) (said_by (look_of meta.id) (reply.Found (Some row)) q f);
+          look_none = λ k e f. undecided_shows (asked_at (look_of meta.id) e);
+          abort_applied = λ n k e f. let q = asked_at (abort_of meta.id n) e in (
+            read_more images (rec ∷ left) h (unread (abort_of meta.id n) q refl) (abort_rolls n q),
+            (
+              record { decision = decision.Aborted; created_at = n },
+              shown_now (record { decision = decision.Aborted; created_at = n }) (abort_row n q) (said_by (abort_of meta.id n) reply.Applied q f ∙ ap result_ok (row-decision meta.id decision.Aborted n (meta_of rec meta unresolved says).fits k)),
+              refl,
+              tt,
+            ),
+          );
+          abort_row = λ n row k e f. let q = asked_at (abort_of meta.id n) e in rolled_shows row (unread (abort_of meta.id n) q refl) (abort_rolls n q) (abort_row n q) (said_by (abort_of meta.id n) (reply.NotMet (Some row)) q f);
+          abort_fault = λ n k e f. let q = asked_at (abort_of meta.id n) e in (read_more images (rec ∷ left) h (unread (abort_of meta.id n) q refl) (abort_rolls n q), tt);
+          again_row = λ row k e f. let q = asked_at (look_of meta.id) e in rolled_shows row (look_rows m meta.id q) (look_rolls q) (look_row q) (said_by (look_of meta.id) (reply.Found (Some row)) q f);
+          again_none = λ k e f. tt;
+          forward = λ n r is k e f. forwarded n (asked_at (recover_forward rec meta n) e) k;
+          back = λ r is k e f. backed (asked_at (recover_back rec meta) e) k;
+          fault = λ p k e f. tt;
+          no_memory = λ p r k e f. tt;
+        }) p m.reply k e refl
 
     resolved_shows : (n : RecoverPhase × RecoverStep) → ComesTo n → StageObserves q more (resolved images rec meta left n)
     resolved_shows (x, steps.More) c = c

@@ -1,7 +1,7 @@
 -- How many calls a statement has made: against the unresolved records that its reads found, or against what a COMMIT is to make.
 use Rattle.std.specs.Prelude.{◌≡◌, ◌≢◌, ◌≤◌, ◌<◌, ◌+◌, ◌*◌, ℕ, Bool, true, false, List, [], ◌∷◌, ◌++◌, filter, length, map, take, Option, Some, None, IfSome, Contains}
 use Rattle.std.specs.List.{AllByRecursion, count_by}
-use Rattle.law_answers.specs.Types.{Answer, DecidePhase, Doing, Event, Key, Read, Record, RecoverPhase, Scan, Table, TxId}
+use Rattle.law_answers.specs.Types.{Answer, DecidePhase, Doing, Event, Key, Read, Record, Scan, Table, TxId}
 use Rattle.sdb_record.specs.Meta.{is_unresolved}
 use Rattle.sdb_record.specs.Rolls.{IsWrite}
 use Rattle.sdb_model.specs.declared.answer.Answer.TheVariants as answer
@@ -14,7 +14,7 @@ use Rattle.sdb_model.specs.Transactions.{Executed, begins, client_of, commit_of,
 use Rattle.sdb_phases.specs.declared.step.DecidePhase.TheVariants as decide
 use Rattle.sdb_phases.specs.declared.step.Outcome.TheVariants as outcome
 use Rattle.law_answers.specs.Commits.{PutsOutOfMemory}
-use Rattle.sdb_phases.specs.declared.step.RecoverPhase.TheVariants as phase
+use Rattle.sdb_phases.specs.RecoverCalls.{calls_left}
 use Rattle.sdb_phases.specs.Checks.{checks}
 use Rattle.sdb_phases.specs.Commit.{Back, Checking, Deciding, Forward, Over, Preparing, Stage, Stopping}
 use Rattle.sdb_phases.specs.Work.{Work, prepares}
@@ -34,19 +34,10 @@ use Rattle.sdb_types.specs.Replies.{is_fault}
 abbrev pub opens : List Record → ℕ
 opens rows = length (filter is_unresolved rows)
 
--- How many calls a recovery makes at most from here on: the look, the put of ABORTED, the second look, and the roll.
-abbrev pub rest_at : RecoverPhase → ℕ
-rest_at phase.Look = 4
-rest_at (phase.Abort now) = 3
-rest_at phase.Again = 2
-rest_at (phase.Forward created_at) = 1
-rest_at phase.Back = 1
-rest_at phase.Ended = 0
-
 -- It has made no call before its read, and then leaves four calls for each unresolved record that is left.
 abbrev pub ReadCounted : List StoreCall → ReadStage → Type 0
 ReadCounted calls Asking = calls ≡ []
-ReadCounted calls (Resolving images rec meta p left) = length calls + (rest_at p + 4 * opens left) ≤ 1 + 4 * length (unresolved_in calls)
+ReadCounted calls (Resolving images rec meta p left) = length calls + (calls_left p + 4 * opens left) ≤ 1 + 4 * length (unresolved_in calls)
 ReadCounted calls (Ended s) = IsReadCounted calls
 
 ---- VACUUM
@@ -54,7 +45,7 @@ ReadCounted calls (Ended s) = IsReadCounted calls
 -- How many calls, but deletes of tombstones, it makes at most from here on before it scans the next table.
 abbrev pub rest_of_table : VacuumStage → ℕ
 rest_of_table (vacuum.Scanning span) = 1
-rest_of_table (vacuum.Resolving rec meta p left) = rest_at p + 5 * opens left
+rest_of_table (vacuum.Resolving rec meta p left) = calls_left p + 5 * opens left
 rest_of_table (vacuum.Removing b left) = 5 * opens left
 rest_of_table vacuum.Over = 0
 

@@ -6,7 +6,7 @@ use Rattle.sdb_types.specs.declared.record.Reply.TheVariants as reply
 use Rattle.sdb_types.specs.declared.record.Request.TheVariants as ask
 use Rattle.sdb_types.proofs.Public.{by_test, clash}
 use Rattle.sdb_record.specs.declared.coordinator.Decision.TheVariants as decision
-use Rattle.sdb_record.specs.Coordinator.{decision_in, is_expired}
+use Rattle.sdb_record.specs.Coordinator.{decision_in}
 use Rattle.sdb_record.specs.Rolls.{is_tombstone}
 use Rattle.sdb_model.specs.declared.answer.Answer.TheVariants as answer
 use Rattle.sdb_model.specs.declared.statement.Statement.TheVariants as statement
@@ -28,7 +28,8 @@ use Rattle.sdb_phases.specs.Work.{Work, prepares}
 use Rattle.sdb_phases.specs.Checks.{checks, difference_in}
 use Rattle.sdb_phases.specs.Steps.{judged, prepare_step, step_of_row, touched_after, validate_step}
 use Rattle.sdb_phases.specs.Commit.{Back, Checking, Deciding, Forward, Over, Preparing, Stage, Stopping, after_abort, after_check, after_decide, after_prepare, back, checking, forward, preparing, step as commit_step}
-use Rattle.sdb_phases.specs.Recover.{recover_next, roll_to, undecided}
+use Rattle.sdb_phases.specs.Recover.{recover_next, row_followed, undecided}
+use Rattle.sdb_phases.proofs.Public.{by_expiry, by_row}
 use Rattle.sdb_validate.specs.Inside.{Judges}
 use Rattle.sdb_txn.specs.Phases.{CommitAt, IsNext, ended_at}
 use Rattle.sdb_txn.specs.declared.read.ReadStep.TheVariants as step
@@ -54,27 +55,18 @@ RecoveryOfFault (p, steps.More) = RecoversAfterFault p
 RecoveryOfFault (p, steps.Faulted) = Unit {0}
 RecoveryOfFault (p, s) = ⊥
 
-rolls : (meta : Meta) (d : Result Decided (List ℕ)) → RecoveryOfFault (roll_to meta d) → ⊥
-rolls meta (Err column) h = h
-rolls meta (Ok d) h = by d.decision h
-  where
-    by : (x : Decision) → RecoveryOfFault (elim x [ decision.Committed ↦ (phase.Forward d.created_at, steps.More) | decision.Aborted ↦ (phase.Back, steps.More) ]) → ⊥
-    by decision.Committed h = h
-    by decision.Aborted h = h
+rolls : (meta : Meta) (row : Record) → RecoveryOfFault (row_followed meta row) → ⊥
+rolls meta row = by_row meta row (λ n. RecoveryOfFault n → ⊥) (λ d says is h. h) (λ d says is h. h) (λ column says h. h)
 
 undecides : (meta : Meta) (now : ℤ) → RecoveryOfFault (undecided meta now) → ⊥
-undecides meta now h = by (is_expired meta.prepared_at now) h
-  where
-    by : (b : Bool) → RecoveryOfFault (if◌then◌else◌ {A = RecoverPhase × RecoverStep} b (phase.Abort now, steps.More) (phase.Ended, steps.Busy meta.id meta.prepared_at)) → ⊥
-    by true h = h
-    by false h = h
+undecides meta now = by_expiry meta now (λ n. RecoveryOfFault n → ⊥) (λ is h. h) (λ is h. h)
 
 recovers : (rec : Record) (meta : Meta) (p : RecoverPhase) (now : ℤ) (r : Reply) → RecoveryOfFault (recover_next rec meta p now r) → RecoversAfterFault p ⊎ (r ≡ reply.Fault)
-recovers rec meta phase.Look now (reply.Found (Some row)) h = absurd (rolls meta (decision_in row) h)
+recovers rec meta phase.Look now (reply.Found (Some row)) h = absurd (rolls meta row h)
 recovers rec meta phase.Look now (reply.Found None) h = absurd (undecides meta now h)
 recovers rec meta phase.Look now reply.Fault h = inr refl
 recovers rec meta phase.Look now r h = absurd h
-recovers rec meta (phase.Abort moment) now (reply.NotMet (Some row)) h = absurd (rolls meta (decision_in row) h)
+recovers rec meta (phase.Abort moment) now (reply.NotMet (Some row)) h = absurd (rolls meta row h)
 recovers rec meta (phase.Abort moment) now reply.Fault h = inr refl
 recovers rec meta (phase.Abort moment) now r h = absurd h
 recovers rec meta phase.Again now r h = inl tt

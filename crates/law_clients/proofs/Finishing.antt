@@ -4,13 +4,12 @@ use Rattle.std.specs.Prelude.{◌&&◌, if◌then◌else◌, filter, find, is_ok
 use Rattle.std.specs.List.{AllByRecursion, list_all}
 use Rattle.std.specs.Option.{option_map}
 use Rattle.std.proofs.lemmas.Bool.{and_parts}
-use Rattle.law_clients.specs.Types.{Access, Answer, Decided, Decision, Image, Key, Meta, Record, RecoverPhase, RecoverStep, Reply, Statement, Table}
+use Rattle.law_clients.specs.Types.{Access, Answer, Image, Key, Meta, Record, RecoverPhase, RecoverStep, Reply, Statement, Table}
 use Rattle.sdb_types.specs.declared.record.Reply.TheVariants as reply
 use Rattle.sdb_types.specs.declared.record.State.TheVariants as state
 use Rattle.sdb_record.specs.Parts.{are_stored}
 use Rattle.sdb_types.proofs.Public.{clash, none_some, some_is}
-use Rattle.sdb_record.specs.declared.coordinator.Decision.TheVariants as decision
-use Rattle.sdb_record.specs.Coordinator.{coordinator_key_of, decision_in, is_coordinator_table, is_expired}
+use Rattle.sdb_record.specs.Coordinator.{coordinator_key_of, is_coordinator_table}
 use Rattle.sdb_record.specs.Meta.{checked, is_in, is_transactional}
 use Rattle.sdb_model.specs.declared.answer.Answer.TheVariants as answer
 use Rattle.sdb_model.specs.declared.statement.Statement.TheVariants as statement
@@ -21,9 +20,9 @@ use Rattle.sdb_model.specs.Exec.{all_rows, key_of}
 use Rattle.sdb_model.specs.ReadSet.{finds_transactional, read_finished}
 use Rattle.sdb_model.specs.Transactions.{changes_nothing}
 use Rattle.sdb_exec.specs.Plans.{Planned, answer_on, changes_on, columns_at, finished, first_unfit, is_unfit, step_at, step_of}
-use Rattle.sdb_phases.specs.declared.step.RecoverPhase.TheVariants as phase
 use Rattle.sdb_phases.specs.declared.step.RecoverStep.TheVariants as steps
-use Rattle.sdb_phases.specs.Recover.{recover_next, roll_to, undecided}
+use Rattle.sdb_phases.specs.Recover.{recover_next}
+use Rattle.sdb_phases.proofs.Public.{by_steps_recover_rows as by_steps}
 use Rattle.sdb_txn.specs.declared.read.ReadStep.TheVariants as step
 use Rattle.sdb_txn.specs.Read.{Kind, Firm, Open, Bad, ReadStage, Asking, Resolving, Ended, answered, kind_of, opened, read_step, resolved, settle, settle_one}
 use Rattle.sdb_snapshot.specs.Seen.{Seen, overlay, tables_seen}
@@ -119,63 +118,22 @@ settle_bad images (r ∷ left) key e = by (is_transactional r) refl (λ h. settl
     by false accepted rest = ap (λ b. b && list_all is_transactional left) accepted
     by true accepted rest = ap (λ b. b && list_all is_transactional left) accepted ∙ by_kind accepted (kind_of r) refl rest e
 
--- a row that is followed is bad by itself
-row_bad : (meta : Meta) (d : Result Decided (List ℕ)) (key : Key) → (roll_to meta d).1 ≡ steps.BadRecord key → is_coordinator_table key.table ≡ true
-row_bad meta (Err column) key e =
-    let is : coordinator_key_of meta.id ≡ key = cc in
-    subst (λ (k : Key). is_coordinator_table k.table ≡ true) is (coordinators meta.id)
-row_bad meta (Ok d) key e = on d.decision e
-  where
-    on : (x : Decision) → (elim x as (λ _. RecoverPhase × RecoverStep) [ decision.Committed ↦ (phase.Forward d.created_at, steps.More) | decision.Aborted ↦ (phase.Back, steps.More) ]).1 ≡ steps.BadRecord key → is_coordinator_table key.table ≡ true
-    on decision.Committed h = absurd (cc)
-    on decision.Aborted h = absurd (cc)
-
--- without a row, by whether the record has expired
-abbrev undecided_at : Meta → ℤ → Bool → RecoverPhase × RecoverStep
-undecided_at meta now b = if b then (phase.Abort now, steps.More) else (phase.Ended, steps.Busy meta.id meta.prepared_at)
-
-undecided_bad : (meta : Meta) (now : ℤ) (key : Key) → (undecided meta now).1 ≡ steps.BadRecord key → is_coordinator_table key.table ≡ true
-undecided_bad meta now key e = by (is_expired meta.prepared_at now) e
-  where
-    by : (b : Bool) → (undecided_at meta now b).1 ≡ steps.BadRecord key → is_coordinator_table key.table ≡ true
-    by true h = absurd (cc)
-    by false h = absurd (cc)
-
+-- A recovery ends with a bad record only for its transaction's row.
 recovery_bad : (rec : Record) (meta : Meta) (p : RecoverPhase) (now : ℤ) (r : Reply) (key : Key) → (recover_next rec meta p now r).1 ≡ steps.BadRecord key → is_coordinator_table key.table ≡ true
-recovery_bad rec meta phase.Look now (reply.Found (Some row)) key e = row_bad meta (decision_in row) key e
-recovery_bad rec meta phase.Look now (reply.Found None) key e = undecided_bad meta now key e
-recovery_bad rec meta phase.Look now reply.Fault key e = absurd (cc)
-recovery_bad rec meta phase.Look now reply.NoMemory key e = absurd (cc)
-recovery_bad rec meta phase.Look now reply.Applied key e = absurd (cc)
-recovery_bad rec meta phase.Look now (reply.NotMet found) key e = absurd (cc)
-recovery_bad rec meta phase.Look now (reply.Rows rows) key e = absurd (cc)
-recovery_bad rec meta phase.Again now (reply.Found (Some row)) key e = row_bad meta (decision_in row) key e
-recovery_bad rec meta phase.Again now (reply.Found None) key e = absurd (cc)
-recovery_bad rec meta phase.Again now reply.Fault key e = absurd (cc)
-recovery_bad rec meta phase.Again now reply.NoMemory key e = absurd (cc)
-recovery_bad rec meta phase.Again now reply.Applied key e = absurd (cc)
-recovery_bad rec meta phase.Again now (reply.NotMet found) key e = absurd (cc)
-recovery_bad rec meta phase.Again now (reply.Rows rows) key e = absurd (cc)
-recovery_bad rec meta (phase.Abort n) now reply.Applied key e = absurd (cc)
-recovery_bad rec meta (phase.Abort n) now (reply.NotMet (Some row)) key e = row_bad meta (decision_in row) key e
-recovery_bad rec meta (phase.Abort n) now (reply.NotMet None) key e = absurd (cc)
-recovery_bad rec meta (phase.Abort n) now reply.Fault key e = absurd (cc)
-recovery_bad rec meta (phase.Abort n) now reply.NoMemory key e = absurd (cc)
-recovery_bad rec meta (phase.Abort n) now (reply.Found found) key e = absurd (cc)
-recovery_bad rec meta (phase.Abort n) now (reply.Rows rows) key e = absurd (cc)
-recovery_bad rec meta (phase.Forward at) now reply.Applied key e = absurd (cc)
-recovery_bad rec meta (phase.Forward at) now (reply.NotMet found) key e = absurd (cc)
-recovery_bad rec meta (phase.Forward at) now reply.Fault key e = absurd (cc)
-recovery_bad rec meta (phase.Forward at) now reply.NoMemory key e = absurd (cc)
-recovery_bad rec meta (phase.Forward at) now (reply.Found found) key e = absurd (cc)
-recovery_bad rec meta (phase.Forward at) now (reply.Rows rows) key e = absurd (cc)
-recovery_bad rec meta phase.Back now reply.Applied key e = absurd (cc)
-recovery_bad rec meta phase.Back now (reply.NotMet found) key e = absurd (cc)
-recovery_bad rec meta phase.Back now reply.Fault key e = absurd (cc)
-recovery_bad rec meta phase.Back now reply.NoMemory key e = absurd (cc)
-recovery_bad rec meta phase.Back now (reply.Found found) key e = absurd (cc)
-recovery_bad rec meta phase.Back now (reply.Rows rows) key e = absurd (cc)
-recovery_bad rec meta phase.Ended now r key e = absurd (cc)
+recovery_bad rec meta p now r key =
+    by_steps rec meta (λ n. n.1 ≡ steps.BadRecord key → is_coordinator_table key.table ≡ true)
+    (record {
+      forward = λ at e. absurd (cc);
+      back = λ e. absurd (cc);
+      abort = λ now e. absurd (cc);
+      again = λ e. absurd (cc);
+      forwarded = λ at e. absurd (cc);
+      undone = λ e. absurd (cc);
+      busy = λ e. absurd (cc);
+      fault = λ e. absurd (cc);
+      bad = λ e. let is : coordinator_key_of meta.id ≡ key = cc in subst (λ (k : Key). is_coordinator_table k.table ≡ true) is (coordinators meta.id);
+      no_memory = λ e. absurd (cc);
+    }) p now r
 
 resolved_bad : (images : List Record) (rec : Record) (meta : Meta) (left : List Record) (n : RecoverPhase × RecoverStep) (key : Key) → ((k : Key) → n.1 ≡ steps.BadRecord k → is_coordinator_table k.table ≡ true) → resolved images rec meta left n ≡ Ended (step.BadRecord key) → (is_coordinator_table key.table ≡ true) ⊎ HasUnchecked left
 resolved_bad images rec meta left (p, steps.More) key bad e = absurd (cc)

@@ -1,11 +1,11 @@
 -- What a transaction has read and written, and what a read and a COMMIT do, is of tables of the catalog.
-use Rattle.std.proofs.Common.{◌≡◌, ℕ, ℤ, zero, suc, ◌+◌, Bool, true, false, cond, ◌||◌, List, [], ◌∷◌, ◌++◌, map, filter, slice_get, Option, Some, None, IfSome, Result, Ok, Err, refl, sym, ap, subst, ◌∙◌}
+use Rattle.std.proofs.Common.{◌≡◌, ℕ, ℤ, zero, suc, ◌+◌, Bool, true, false, cond, ◌||◌, List, [], ◌∷◌, ◌++◌, map, filter, slice_get, Option, Some, None, IfSome, refl, sym, ap, subst, ◌∙◌}
 use Rattle.std.specs.Prelude.{is_some, not}
 use Rattle.std.specs.Option.{option_and_then, option_map}
 use Rattle.std.specs.List.{AllByRecursion, list_all}
 use Rattle.std.specs.Ordering.{is_eq}
 use Rattle.std.proofs.lemmas.Bool.{and_parts}
-use Rattle.law_clients.specs.Types.{Access, Check, Condition, Decided, Decision, Image, Key, Keyed, Meta, Pair, PlanStep, Read, Record, RecoverPhase, RecoverStep, Reply, Request, Scan, Span, Statement, Table, TableName, Test, TxId, VacuumStep, Value, Write}
+use Rattle.law_clients.specs.Types.{Access, Check, Condition, Decision, Image, Key, Keyed, Meta, Pair, PlanStep, Read, Record, RecoverPhase, RecoverStep, Reply, Request, Scan, Span, Statement, Table, TableName, Test, TxId, VacuumStep, Value, Write}
 use Rattle.sdb_types.specs.declared.record.Reply.TheVariants as reply
 use Rattle.sdb_types.specs.declared.record.Request.TheVariants as ask
 use Rattle.sdb_types.specs.declared.record.Condition.TheVariants as condition
@@ -17,7 +17,7 @@ use Rattle.sdb_snapshot.specs.Entries.{value_at}
 use Rattle.sdb_record.specs.declared.access.Access.TheVariants as access
 use Rattle.sdb_record.specs.declared.coordinator.Decision.TheVariants as decision
 use Rattle.sdb_record.specs.declared.write.Change.TheVariants as change
-use Rattle.sdb_record.specs.Coordinator.{coordinator_key_of, coordinator_row_of, coordinator_table, decision_in, is_coordinator_table, is_expired}
+use Rattle.sdb_record.specs.Coordinator.{coordinator_key_of, coordinator_row_of, coordinator_table, is_coordinator_table}
 use Rattle.sdb_record.specs.Moved.{version_of}
 use Rattle.sdb_record.specs.Parts.{before_part, before_record, record_with}
 use Rattle.sdb_record.specs.Meta.{id_in}
@@ -37,7 +37,8 @@ use Rattle.sdb_phases.specs.declared.step.RecoverStep.TheVariants as steps
 use Rattle.sdb_phases.specs.declared.step.RecoverPhase.TheVariants as recover
 use Rattle.sdb_phases.specs.Checks.{check_of_read, check_of_scan, checks}
 use Rattle.sdb_phases.specs.Commit.{Stage, Preparing, Checking, Deciding, Forward, Stopping, Back, Over, pending}
-use Rattle.sdb_phases.specs.Recover.{recover_back, recover_forward, recover_next, recover_request_at, roll_to, is_as_found, undecided}
+use Rattle.sdb_phases.specs.Recover.{recover_back, recover_forward, recover_next, recover_request_at, is_as_found}
+use Rattle.sdb_phases.proofs.Public.{by_steps_recover_rows as by_steps}
 use Rattle.sdb_phases.specs.Work.{Work, abort_of, back_of, backs, decide_of, forward_of, forwards, look_of, prepare_of, prepares, is_as_prepared}
 use Rattle.sdb_txn.specs.Read.{Asking, Bad, Ended, Firm, Kind, Open, ReadStage, Resolving, answered, kind_of, read_pending_at, read_step, request_of, resolved, settle, settle_one}
 use Rattle.sdb_snapshot.specs.Reads.{ReadRecord, base_at, is_key_read, reads_of, with_images, with_read_record}
@@ -267,62 +268,21 @@ module _ (catalog : List Table) where
   FoundIn (p, steps.BadRecord key) = Unit {0}
   FoundIn (p, steps.NoMemory) = Unit {0}
 
-  rolled_in : (meta : Meta) (o : Result Decided (List ℕ)) → FoundIn (roll_to meta o)
-  rolled_in meta (Err column) = tt
-  rolled_in meta (Ok d) = elim d.decision as (λ x. FoundIn (elim x [ decision.Committed ↦ (recover.Forward d.created_at, steps.More) | decision.Aborted ↦ (recover.Back, steps.More) ])) [ decision.Committed ↦ tt | decision.Aborted ↦ tt ]
-
-  undecided_in : (meta : Meta) (now : ℤ) → FoundIn (undecided meta now)
-  undecided_in meta now = elim (is_expired meta.prepared_at now) as (λ b. FoundIn (cond b (recover.Abort now, steps.More) (recover.Ended, steps.Busy meta.id meta.prepared_at))) [ true ↦ tt | false ↦ tt ]
-
   recovered_in : (rec : Record) (meta : Meta) (p : RecoverPhase) (now : ℤ) (r : Reply) → IsIn catalog rec.key → FoundIn (recover_next rec meta p now r)
-  recovered_in rec meta recover.Look now (reply.Found None) k = undecided_in meta now
-  recovered_in rec meta recover.Look now (reply.Found (Some row)) k = rolled_in meta (decision_in row)
-  recovered_in rec meta recover.Look now (reply.Rows rows) k = tt
-  recovered_in rec meta recover.Look now reply.Applied k = tt
-  recovered_in rec meta recover.Look now (reply.NotMet None) k = tt
-  recovered_in rec meta recover.Look now (reply.NotMet (Some row)) k = tt
-  recovered_in rec meta recover.Look now reply.Fault k = tt
-  recovered_in rec meta recover.Look now reply.NoMemory k = tt
-  recovered_in rec meta (recover.Abort m) now (reply.Found None) k = tt
-  recovered_in rec meta (recover.Abort m) now (reply.Found (Some row)) k = tt
-  recovered_in rec meta (recover.Abort m) now (reply.Rows rows) k = tt
-  recovered_in rec meta (recover.Abort m) now reply.Applied k = tt
-  recovered_in rec meta (recover.Abort m) now (reply.NotMet None) k = tt
-  recovered_in rec meta (recover.Abort m) now (reply.NotMet (Some row)) k = rolled_in meta (decision_in row)
-  recovered_in rec meta (recover.Abort m) now reply.Fault k = tt
-  recovered_in rec meta (recover.Abort m) now reply.NoMemory k = tt
-  recovered_in rec meta recover.Again now (reply.Found None) k = tt
-  recovered_in rec meta recover.Again now (reply.Found (Some row)) k = rolled_in meta (decision_in row)
-  recovered_in rec meta recover.Again now (reply.Rows rows) k = tt
-  recovered_in rec meta recover.Again now reply.Applied k = tt
-  recovered_in rec meta recover.Again now (reply.NotMet None) k = tt
-  recovered_in rec meta recover.Again now (reply.NotMet (Some row)) k = tt
-  recovered_in rec meta recover.Again now reply.Fault k = tt
-  recovered_in rec meta recover.Again now reply.NoMemory k = tt
-  recovered_in rec meta (recover.Forward m) now (reply.Found None) k = tt
-  recovered_in rec meta (recover.Forward m) now (reply.Found (Some row)) k = tt
-  recovered_in rec meta (recover.Forward m) now (reply.Rows rows) k = tt
-  recovered_in rec meta (recover.Forward m) now reply.Applied k = forward_in rec m k
-  recovered_in rec meta (recover.Forward m) now (reply.NotMet None) k = forward_in rec m k
-  recovered_in rec meta (recover.Forward m) now (reply.NotMet (Some row)) k = forward_in rec m k
-  recovered_in rec meta (recover.Forward m) now reply.Fault k = tt
-  recovered_in rec meta (recover.Forward m) now reply.NoMemory k = tt
-  recovered_in rec meta recover.Back now (reply.Found None) k = tt
-  recovered_in rec meta recover.Back now (reply.Found (Some row)) k = tt
-  recovered_in rec meta recover.Back now (reply.Rows rows) k = tt
-  recovered_in rec meta recover.Back now reply.Applied k = before_in rec k
-  recovered_in rec meta recover.Back now (reply.NotMet None) k = before_in rec k
-  recovered_in rec meta recover.Back now (reply.NotMet (Some row)) k = before_in rec k
-  recovered_in rec meta recover.Back now reply.Fault k = tt
-  recovered_in rec meta recover.Back now reply.NoMemory k = tt
-  recovered_in rec meta recover.Ended now (reply.Found None) k = tt
-  recovered_in rec meta recover.Ended now (reply.Found (Some row)) k = tt
-  recovered_in rec meta recover.Ended now (reply.Rows rows) k = tt
-  recovered_in rec meta recover.Ended now reply.Applied k = tt
-  recovered_in rec meta recover.Ended now (reply.NotMet None) k = tt
-  recovered_in rec meta recover.Ended now (reply.NotMet (Some row)) k = tt
-  recovered_in rec meta recover.Ended now reply.Fault k = tt
-  recovered_in rec meta recover.Ended now reply.NoMemory k = tt
+  recovered_in rec meta p now r k =
+      by_steps rec meta FoundIn
+      (record {
+        forward = λ at. tt;
+        back = tt;
+        abort = λ now. tt;
+        again = tt;
+        forwarded = λ at. forward_in rec at k;
+        undone = before_in rec k;
+        busy = tt;
+        fault = tt;
+        bad = tt;
+        no_memory = tt;
+      }) p now r
 
   resolved_in : (images : List Record) (rec : Record) (meta : Meta) (left : List Record) (n : RecoverPhase × RecoverStep) → AreRecordsIn catalog images → IsIn catalog rec.key → AreRecordsIn catalog left → FoundIn n → IsStageIn catalog (resolved images rec meta left n)
   resolved_in images rec meta left (p, steps.More) h k g i = (h, k, g)

@@ -8,7 +8,7 @@ use Rattle.std.specs.Ordering.{is_eq}
 use Rattle.std.specs.declared.cmp.Ordering.TheVariants.{Less}
 use Rattle.std.proofs.lemmas.Bool.{and_parts}
 use Rattle.std.proofs.lemmas.List.Elements.{Contains-append_left, Contains-append_right, Contains-push}
-use Rattle.law_clients.specs.Types.{Condition, Decided, Decision, Key, Meta, Pair, Record, RecoverPhase, RecoverStep, Reply, Request, State, TxId, Value}
+use Rattle.law_clients.specs.Types.{Condition, Key, Meta, Pair, Record, RecoverPhase, RecoverStep, Reply, Request, State, TxId, Value}
 use Rattle.sdb_types.specs.declared.record.Reply.TheVariants as reply
 use Rattle.sdb_types.specs.declared.record.Request.TheVariants as ask
 use Rattle.sdb_types.specs.declared.record.State.TheVariants as state
@@ -20,8 +20,6 @@ use Rattle.sdb_types.specs.Order.{key_cmp, same_key}
 use Rattle.sdb_types.specs.TxId.{id_text}
 use Rattle.sdb_types.specs.ValueLaws.{value_total}
 use Rattle.sdb_types.proofs.Public.{all_each, and_false, key_exact, key_total, less_of, none_some, some_is}
-use Rattle.sdb_record.specs.declared.coordinator.Decision.TheVariants as decision
-use Rattle.sdb_record.specs.Coordinator.{decision_in, is_expired}
 use Rattle.sdb_record.specs.Meta.{checked, checked_before, checked_part, id_in, id_in_value, is_committed, is_in, is_misnamed, is_unresolved, refuse, state_in, state_in_value, with_before}
 use Rattle.sdb_record.specs.Parts.{before_part, before_record, is_before_pair}
 use Rattle.sdb_record.specs.Rolls.{forward_record, undo}
@@ -31,12 +29,12 @@ use Rattle.sdb_model.specs.ReadSet as as_read
 use Rattle.sdb_model.specs.ReadSet.{condition_asked, meaning_of, rolls}
 use Rattle.sdb_phases.specs.declared.step.RecoverPhase.TheVariants as phase
 use Rattle.sdb_phases.specs.declared.step.RecoverStep.TheVariants as steps
-use Rattle.sdb_phases.specs.Recover.{recover_back, recover_forward, recover_next, recover_request_at, roll_to, is_as_found}
+use Rattle.sdb_phases.specs.Recover.{recover_back, recover_forward, recover_next, recover_request_at, is_as_found}
 use Rattle.sdb_phases.specs.Work.{abort_of, look_of}
+use Rattle.sdb_phases.proofs.Public.{by_rows_recover_rows as by_rows, no_image_of_none, no_image_of_row}
 use Rattle.sdb_snapshot.specs.Reads.{reads_of}
 use Rattle.law_clients.specs.Calls.{HasMeaning, IsUnrolled}
 use Rattle.law_clients.proofs.Meta.{meta_of}
-use Rattle.law_clients.proofs.Reading.{waited}
 
 ---- the version of a record
 
@@ -239,18 +237,6 @@ undo_asks c k (Some b) h = (ap Some h, refl, refl)
 image_is : (x y : Option Record) → ◌≡◌ {A = RecoverStep} (steps.Image x) (steps.Image y) → x ≡ y
 image_is x y e = cc
 
-no_image : (meta : Meta) (d : Result Decided (List ℕ)) (o : Option Record) → (roll_to meta d).1 ≡ steps.Image o → ⊥
-no_image meta (Err column) o e = absurd (cc)
-no_image meta (Ok d) o e = on d.decision e
-  where
-    on : (x : Decision) → (elim x as (λ _. RecoverPhase × RecoverStep) [ decision.Committed ↦ (phase.Forward d.created_at, steps.More) | decision.Aborted ↦ (phase.Back, steps.More) ]).1 ≡ steps.Image o → ⊥
-    on decision.Committed e = absurd (cc)
-    on decision.Aborted e = absurd (cc)
-
-no_undecided : (meta : Meta) (now : ℤ) (o : Option Record) (b : Bool) → (waited meta now b).1 ≡ steps.Image o → ⊥
-no_undecided meta now o true e = absurd (cc)
-no_undecided meta now o false e = absurd (cc)
-
 module _ (rec : Record) (meta : Meta) (open_still : is_unresolved rec ≡ true) (says : checked rec.columns ≡ Ok meta) (m : StoreCall) where
   asked_at : (x : Request) → Some x ≡ Some m.request → m.request ≡ x
   asked_at x e = sym (some_is x m.request e)
@@ -292,49 +278,22 @@ module _ (rec : Record) (meta : Meta) (open_still : is_unresolved rec ≡ true) 
 
   -- The call that ends it with an image rolls the record to this.
   pub ends_rolled : (p : RecoverPhase) (now : ℤ) (r : Reply) (o : Option Record) → recover_request_at rec meta p ≡ Some m.request → (recover_next rec meta p now r).1 ≡ steps.Image o → IsRollTo m rec o
-  ends_rolled (phase.Forward n) now r o e is = by r is
-    where
-      rolled : steps.Image (Some (forward_record rec n)) ≡ steps.Image o → IsRollTo m rec o
-      rolled k = let f = forward_rolls_to n (asked_at (recover_forward rec meta n) e) in record { asks = f.asks; rolls_it = f.rolls_it; puts = f.puts ∙ image_is (Some (forward_record rec n)) o k }
-
-      by : (r : Reply) → (recover_next rec meta (phase.Forward n) now r).1 ≡ steps.Image o → IsRollTo m rec o
-      by reply.Applied k = rolled k
-      by (reply.NotMet found) k = rolled k
-      by (reply.Found found) k = absurd (cc)
-      by (reply.Rows rows) k = absurd (cc)
-      by reply.Fault k = absurd (cc)
-      by reply.NoMemory k = absurd (cc)
-  ends_rolled phase.Back now r o e is = by r is
-    where
-      rolled : steps.Image (before_record rec) ≡ steps.Image o → IsRollTo m rec o
-      rolled k = let f = back_rolls_to (asked_at (recover_back rec meta) e) in record { asks = f.asks; rolls_it = f.rolls_it; puts = f.puts ∙ image_is (before_record rec) o k }
-
-      by : (r : Reply) → (recover_next rec meta phase.Back now r).1 ≡ steps.Image o → IsRollTo m rec o
-      by reply.Applied k = rolled k
-      by (reply.NotMet found) k = rolled k
-      by (reply.Found found) k = absurd (cc)
-      by (reply.Rows rows) k = absurd (cc)
-      by reply.Fault k = absurd (cc)
-      by reply.NoMemory k = absurd (cc)
-  ends_rolled phase.Look now (reply.Found (Some row)) o e is = absurd (no_image meta (decision_in row) o is)
-  ends_rolled phase.Look now (reply.Found None) o e is = absurd (no_undecided meta now o (is_expired meta.prepared_at now) is)
-  ends_rolled phase.Look now (reply.Rows rows) o e is = absurd (cc)
-  ends_rolled phase.Look now reply.Applied o e is = absurd (cc)
-  ends_rolled phase.Look now (reply.NotMet found) o e is = absurd (cc)
-  ends_rolled phase.Look now reply.Fault o e is = absurd (cc)
-  ends_rolled phase.Look now reply.NoMemory o e is = absurd (cc)
-  ends_rolled phase.Again now (reply.Found (Some row)) o e is = absurd (no_image meta (decision_in row) o is)
-  ends_rolled phase.Again now (reply.Found None) o e is = absurd (cc)
-  ends_rolled phase.Again now (reply.Rows rows) o e is = absurd (cc)
-  ends_rolled phase.Again now reply.Applied o e is = absurd (cc)
-  ends_rolled phase.Again now (reply.NotMet found) o e is = absurd (cc)
-  ends_rolled phase.Again now reply.Fault o e is = absurd (cc)
-  ends_rolled phase.Again now reply.NoMemory o e is = absurd (cc)
-  ends_rolled (phase.Abort n) now (reply.NotMet (Some row)) o e is = absurd (no_image meta (decision_in row) o is)
-  ends_rolled (phase.Abort n) now (reply.NotMet None) o e is = absurd (cc)
-  ends_rolled (phase.Abort n) now (reply.Found found) o e is = absurd (cc)
-  ends_rolled (phase.Abort n) now (reply.Rows rows) o e is = absurd (cc)
-  ends_rolled (phase.Abort n) now reply.Applied o e is = absurd (cc)
-  ends_rolled (phase.Abort n) now reply.Fault o e is = absurd (cc)
-  ends_rolled (phase.Abort n) now reply.NoMemory o e is = absurd (cc)
-  ends_rolled phase.Ended now r o e is = none_some m.request e
+  ends_rolled p now r o =
+      by_rows rec meta now (λ p r n. recover_request_at rec meta p ≡ Some m.request → n.1 ≡ steps.Image o → IsRollTo m rec o)
+      (record {
+        look_row = λ row e is. absurd (no_image_of_row meta row o is);
+        look_none = λ e is. absurd (no_image_of_none meta now o is);
+        abort_applied = λ n e is. absurd (cc);
+        abort_row = λ n row e is. absurd (no_image_of_row meta row o is);
+        abort_fault = λ n e is. absurd (cc);
+        again_row = λ row e is. absurd (no_image_of_row meta row o is);
+        again_none = λ e is. absurd (cc);
+        forward = λ n r done e is.
+            let f = forward_rolls_to n (asked_at (recover_forward rec meta n) e) in
+            record { asks = f.asks; rolls_it = f.rolls_it; puts = f.puts ∙ image_is (Some (forward_record rec n)) o is };
+        back = λ r done e is.
+            let f = back_rolls_to (asked_at (recover_back rec meta) e) in
+            record { asks = f.asks; rolls_it = f.rolls_it; puts = f.puts ∙ image_is (before_record rec) o is };
+        fault = λ p e is. absurd (cc);
+        no_memory = λ p r e is. absurd (cc);
+      }) p r

@@ -1,16 +1,16 @@
 -- A recovery of a client that is alone: each reply leads it on, and it ends with the record's image in its place.
-use Rattle.std.proofs.Common.{◌≡◌, ℕ, ℤ, Bool, true, false, List, Option, Some, None, Result, Ok, Err, ◌⊎◌, inl, inr, refl, sym, ap, subst, ◌∙◌}
+use Rattle.std.proofs.Common.{◌≡◌, ℕ, ℤ, true, false, List, Option, Some, None, ◌⊎◌, inl, inr, refl, sym, ap, subst, ◌∙◌}
 use Rattle.std.specs.Prelude.{is_ok, IsSomeAnd, if◌then◌else◌}
 use Rattle.std.specs.Option.{option_and_then}
 use Rattle.std.specs.Result.{result_ok}
-use Rattle.law_clients.specs.Types.{Decided, Decision, Key, Meta, Record, RecoverPhase, RecoverStep, Reply, Request, Table}
+use Rattle.law_clients.specs.Types.{Decided, Key, Meta, Record, RecoverPhase, RecoverStep, Reply, Request, Table}
 use Rattle.sdb_types.specs.declared.record.Condition.TheVariants as condition
 use Rattle.sdb_types.specs.declared.record.Reply.TheVariants as reply
 use Rattle.sdb_types.specs.Contents.{holds}
 use Rattle.sdb_types.specs.Order.{same_key}
-use Rattle.sdb_types.proofs.Public.{false_true, same_key_self, same_key_tells}
+use Rattle.sdb_types.proofs.Public.{clash, false_true, same_key_self, same_key_tells}
 use Rattle.sdb_record.specs.declared.coordinator.Decision.TheVariants as decision
-use Rattle.sdb_record.specs.Coordinator.{coordinator_key_of, coordinator_row_of, decision_in, is_coordinator_table, is_expired}
+use Rattle.sdb_record.specs.Coordinator.{coordinator_key_of, coordinator_row_of, decision_in, is_coordinator_table}
 use Rattle.sdb_record.specs.Meta.{is_moment, is_unresolved}
 use Rattle.sdb_record.specs.Parts.{before_record}
 use Rattle.sdb_record.specs.Rolls.{forward_record, image_under, undo}
@@ -18,7 +18,8 @@ use Rattle.sdb_record.proofs.Public.{checked-version, forward-committed, forward
 use Rattle.sdb_txn.proofs.Public.{decided_at}
 use Rattle.sdb_phases.specs.declared.step.RecoverStep.TheVariants as steps
 use Rattle.sdb_phases.specs.declared.step.RecoverPhase.TheVariants as phase
-use Rattle.sdb_phases.specs.Recover.{recover_next, recover_request_at, roll_to, row_followed, undecided, is_as_found}
+use Rattle.sdb_phases.specs.Recover.{recover_next, recover_request_at, row_followed, undecided, is_as_found}
+use Rattle.sdb_phases.proofs.Public.{by_expiry, by_row}
 use Rattle.law_clients.specs.Reader.{IsMetaOf}
 use Rattle.law_clients.proofs.Meta.{before_firm, meta_of}
 use Rattle.law_clients.specs.Database.{Called, Done, Found, Got, Database, IsWith, NotFound, Same, Undone, Wrote, decided_in, is_committed_or_none, is_listed}
@@ -54,23 +55,16 @@ module _ (catalog : List Table) (apart : IsApart catalog) (rec : Record) (meta :
 
   -- a row of its transaction is followed
   followed : (g : Database) (p : RecoverPhase) (row : Record) → IsSound catalog g → RecoverAlone catalog g rec meta p → g key ≡ Some row → RecoveryLeadsTo catalog g rec meta moment (row_followed meta row)
-  followed g p row sound alone e = by (decision_in row) refl (sound.rows key row (coordinators meta.id) e)
-    where
-      to : (d : Decided) → decision_in row ≡ Ok d → (x : Decision) → d.decision ≡ x → RecoveryLeadsTo catalog g rec meta moment (elim x [ decision.Committed ↦ (phase.Forward d.created_at, steps.More) | decision.Aborted ↦ (phase.Back, steps.More) ])
-      to d says decision.Committed f = with_phase g g p (phase.Forward d.created_at) alone refl (ap row_at e ∙ ap result_ok says ∙ ap (λ y. Some (record { decision = y; created_at = d.created_at })) f, decided_at row d says)
-      to d says decision.Aborted f = with_phase g g p phase.Back alone refl (subst (λ o. IsSomeAnd o (λ x. x.decision ≡ decision.Aborted)) (sym (ap row_at e ∙ ap result_ok says)) f)
-
-      by : (x : Result Decided (List ℕ)) → decision_in row ≡ x → is_ok x ≡ true → RecoveryLeadsTo catalog g rec meta moment (roll_to meta x)
-      by (Ok d) says ok = to d says d.decision refl
-      by (Err name) says ok = absurd (cc)
+  followed g p row sound alone e =
+      by_row meta row (RecoveryLeadsTo catalog g rec meta moment)
+      (λ d says f. with_phase g g p (phase.Forward d.created_at) alone refl (ap row_at e ∙ ap result_ok says ∙ ap (λ y. Some (record { decision = y; created_at = d.created_at })) f, decided_at row d says))
+      (λ d says f. with_phase g g p phase.Back alone refl (subst (λ o. IsSomeAnd o (λ x. x.decision ≡ decision.Aborted)) (sym (ap row_at e ∙ ap result_ok says)) f))
+      (λ name says. let ok : is_ok (decision_in row) ≡ true = sound.rows key row (coordinators meta.id) e in clash (sym ok ∙ ap is_ok says))
 
   -- without one the transaction is undecided
   waits : (g : Database) (p : RecoverPhase) → RecoverAlone catalog g rec meta p → g key ≡ None → RecoveryLeadsTo catalog g rec meta moment (undecided meta moment)
-  waits g p alone e = by (is_expired meta.prepared_at moment) refl
-    where
-      by : (b : Bool) → is_expired meta.prepared_at moment ≡ b → RecoveryLeadsTo catalog g rec meta moment (if b then (phase.Abort moment, steps.More) else (phase.Ended, steps.Busy meta.id meta.prepared_at))
-      by true f = with_phase g g p (phase.Abort moment) alone refl (e, time)
-      by false f = (refl, refl, e, f, alone.present)
+  waits g p alone e =
+      by_expiry meta moment (RecoveryLeadsTo catalog g rec meta moment) (λ f. with_phase g g p (phase.Abort moment) alone refl (e, time)) (λ f. (refl, refl, e, f, alone.present))
 
   look_next : (g : Database) (r : Reply) → IsSound catalog g → RecoverAlone catalog g rec meta phase.Look → Got key r g → RecoveryLeadsTo catalog g rec meta moment (recover_next rec meta phase.Look moment r)
   look_next g r sound alone (Found replied) = subst (λ x. RecoveryLeadsTo catalog g rec meta moment (recover_next rec meta phase.Look moment x)) (sym replied) (by (g key) refl)

@@ -1,5 +1,5 @@
 -- A COMMIT asks for nothing with an LF and answers with none, where nothing that it read, wrote and found has one.
-use Rattle.std.proofs.Common.{◌≡◌, ℕ, ℤ, ◌+◌, Bool, true, false, cond, List, [], ◌∷◌, map, filter, length, slice_get, Option, Some, None, IfSome, Result, Ok, Err, sym, ap, subst, ◌∙◌}
+use Rattle.std.proofs.Common.{◌≡◌, ℕ, ℤ, ◌+◌, Bool, true, false, cond, List, [], ◌∷◌, map, filter, length, slice_get, Option, Some, None, IfSome, sym, ap, subst, ◌∙◌}
 use Rattle.std.specs.Prelude.{not, nat_lt}
 use Rattle.std.specs.List.{AllByRecursion}
 use Rattle.std.specs.Option.{option_map}
@@ -7,13 +7,12 @@ use Rattle.std.specs.Ordering.{is_lt}
 use Rattle.std.specs.FinMap.{empty, entries, get, get-empty, get-insert, insert}
 use Rattle.sdb_types.specs.Contents.{CanAnswer, in_span, record_among}
 use Rattle.sdb_types.specs.Order.{key_cmp, same_key}
-use Rattle.law_runs.specs.Types.{Check, DecidePhase, DecideStep, Decided, Expected, Key, Outcome, PrepareStep, Read, Record, Reply, Request, Scan, Span, Target, TxId, ValidateStep, Wanted, Write}
+use Rattle.law_runs.specs.Types.{Check, DecidePhase, DecideStep, Expected, Key, Outcome, PrepareStep, Read, Record, Reply, Request, Scan, Span, Target, TxId, ValidateStep, Wanted, Write}
 use Rattle.sdb_types.specs.declared.record.Reply.TheVariants as reply
 use Rattle.sdb_types.specs.declared.record.Request.TheVariants as ask
 use Rattle.sdb_types.proofs.Public.{append_all, by_test, key_exact, key_total, none_some, same_key_exact}
 use Rattle.sdb_record.specs.declared.coordinator.Decision.TheVariants as decision
 use Rattle.sdb_record.specs.Among.{is_written}
-use Rattle.sdb_record.specs.Coordinator.{decision_in}
 use Rattle.sdb_record.specs.Moved.{is_unchanged, version_of}
 use Rattle.sdb_record.specs.Rolls.{prepared_record}
 use Rattle.sdb_phases.specs.declared.check.Target.TheVariants as target
@@ -25,7 +24,8 @@ use Rattle.sdb_phases.specs.declared.step.PrepareStep.TheVariants as prepare
 use Rattle.sdb_phases.specs.declared.step.ValidateStep.TheVariants as validate
 use Rattle.sdb_phases.specs.Checks.{Wishes, changed, check_of_read, check_of_scan, checks, difference_at, differs, first_difference, keys_among, least, lesser, wanted, wanted_of, wished_version, wishes, with_reads, with_write, with_writes}
 use Rattle.sdb_phases.specs.Commit.{Back, Checking, Deciding, Forward, Over, Preparing, Stage, Stopping, after_abort, after_check, after_decide, after_prepare, back, checking, forward, pending, preparing, step}
-use Rattle.sdb_phases.specs.Steps.{decide_next, decide_request_at, followed, judged, prepare_step, refused, step_of_row, touched_after, validate_step}
+use Rattle.sdb_phases.specs.Steps.{decide_next, decide_request_at, judged, prepare_step, refused, touched_after, validate_step}
+use Rattle.sdb_phases.proofs.Public.{by_steps}
 use Rattle.sdb_phases.specs.Work.{Work, back_of, backs, forward_of, forwards, prepare_of, prepares, is_as_prepared}
 use Rattle.sdb_txn.specs.Phases.{IsNext}
 use Rattle.sdb_validate.specs.Inside.{Judges}
@@ -278,47 +278,20 @@ DecideClear (decide.Unknown id) = Unit {0}
 DecideClear (decide.BadRecord key) = KeyClear key
 DecideClear decide.NoMemory = Unit {0}
 
-followed_clear : (id : TxId) (aborted : DecideStep) (o : Result Decided (List ℕ)) → DecideClear aborted → DecideClear (step_of_row id aborted o)
-followed_clear id aborted (Err column) h = row_key_clear id
-followed_clear id aborted (Ok d) h = elim d.decision as (λ x. DecideClear (elim x [ decision.Committed ↦ decide.Committed | decision.Aborted ↦ aborted ])) [ decision.Committed ↦ tt | decision.Aborted ↦ h ]
-
-expired_clear : (id : TxId) (row : Record) → DecideClear (followed id (decide.Expired id) row)
-expired_clear id row = followed_clear id (decide.Expired id) (decision_in row) tt
-
 decide_clear : (id : TxId) (d : DecidePhase) (r : Reply) → DecideClear (decide_next id d r).1
-decide_clear id phase.Put (reply.Found None) = tt
-decide_clear id phase.Put (reply.Found (Some row)) = tt
-decide_clear id phase.Put (reply.Rows rows) = tt
-decide_clear id phase.Put reply.Applied = tt
-decide_clear id phase.Put (reply.NotMet None) = tt
-decide_clear id phase.Put (reply.NotMet (Some row)) = expired_clear id row
-decide_clear id phase.Put reply.Fault = tt
-decide_clear id phase.Put reply.NoMemory = tt
-decide_clear id phase.Look (reply.Found None) = tt
-decide_clear id phase.Look (reply.Found (Some row)) = expired_clear id row
-decide_clear id phase.Look (reply.Rows rows) = tt
-decide_clear id phase.Look reply.Applied = tt
-decide_clear id phase.Look (reply.NotMet None) = tt
-decide_clear id phase.Look (reply.NotMet (Some row)) = tt
-decide_clear id phase.Look reply.Fault = tt
-decide_clear id phase.Look reply.NoMemory = tt
-decide_clear id phase.Abort (reply.Found None) = tt
-decide_clear id phase.Abort (reply.Found (Some row)) = tt
-decide_clear id phase.Abort (reply.Rows rows) = tt
-decide_clear id phase.Abort reply.Applied = tt
-decide_clear id phase.Abort (reply.NotMet None) = tt
-decide_clear id phase.Abort (reply.NotMet (Some row)) = expired_clear id row
-decide_clear id phase.Abort reply.Fault = tt
-decide_clear id phase.Abort reply.NoMemory = tt
-decide_clear id phase.Again (reply.Found None) = tt
-decide_clear id phase.Again (reply.Found (Some row)) = followed_clear id decide.Faulted (decision_in row) tt
-decide_clear id phase.Again (reply.Rows rows) = tt
-decide_clear id phase.Again reply.Applied = tt
-decide_clear id phase.Again (reply.NotMet None) = tt
-decide_clear id phase.Again (reply.NotMet (Some row)) = tt
-decide_clear id phase.Again reply.Fault = tt
-decide_clear id phase.Again reply.NoMemory = tt
-decide_clear id phase.Ended r = tt
+decide_clear id =
+    by_steps id (λ n. DecideClear n.1)
+    (record {
+      look = tt;
+      abort = tt;
+      again = tt;
+      committed = tt;
+      expired = tt;
+      faulted = tt;
+      unknown = tt;
+      bad = row_key_clear id;
+      no_memory = tt;
+    })
 
 forward_stage : (p : Work) (i : ℕ) → CommitClear (forward p i)
 forward_stage p i = elim (nat_lt i (length p.writes)) as (λ b. CommitClear (cond b (Forward i) (Over outcome.Committed))) [ true ↦ tt | false ↦ tt ]

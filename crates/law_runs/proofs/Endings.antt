@@ -2,12 +2,11 @@
 use Rattle.std.proofs.Common.{◌≡◌, ◌≢◌, ◌⊎◌, inl, inr, ◌+◌, ◌<◌, ℕ, ℤ, true, false, List, [], ◌∷◌, ◌++◌, length, Option, Some, None, IfSome, Result, Ok, Err, refl, sym, ap, subst, ◌∙◌, arith}
 use Rattle.std.specs.Prelude.{Contains, cond, is_some, nat_lt, slice_get}
 use Rattle.std.specs.List.{AllByRecursion}
-use Rattle.law_runs.specs.Types.{Answer, DecidePhase, DecideStep, Decided, Decision, Event, How, Key, Next, Outcome, PrepareStep, Progress, Record, Reply, Request, Script, Table, VacuumStep, ValidateStep}
+use Rattle.law_runs.specs.Types.{Answer, DecidePhase, DecideStep, Event, How, Key, Next, Outcome, PrepareStep, Progress, Record, Reply, Request, Script, Table, VacuumStep, ValidateStep}
 use Rattle.sdb_types.specs.declared.record.Reply.TheVariants as reply
 use Rattle.sdb_types.specs.Contents.{CanAnswer}
 use Rattle.sdb_types.proofs.Public.{by_test, clash, length_more, none_some, some_is}
-use Rattle.sdb_record.specs.declared.coordinator.Decision.TheVariants as decision
-use Rattle.sdb_record.specs.Coordinator.{coordinator_key_of, decision_in, is_coordinator_table}
+use Rattle.sdb_record.specs.Coordinator.{coordinator_key_of, is_coordinator_table}
 use Rattle.sdb_record.specs.Meta.{is_moment}
 use Rattle.sdb_model.specs.declared.answer.Answer.TheVariants as answer
 use Rattle.sdb_model.specs.declared.event.Event.TheVariants as event
@@ -25,7 +24,8 @@ use Rattle.sdb_phases.specs.declared.step.PrepareStep.TheVariants as prepare
 use Rattle.sdb_phases.specs.declared.step.ValidateStep.TheVariants as validate
 use Rattle.sdb_phases.specs.Checks.{checks}
 use Rattle.sdb_phases.specs.Commit.{Stage, Back, Checking, Deciding, Forward, Over, Preparing, Stopping, after_abort, after_check, after_decide, after_prepare, back, checking, forward, step as commit_step}
-use Rattle.sdb_phases.specs.Steps.{decide_next, followed, prepare_step, step_of_row, touched_after, validate_step}
+use Rattle.sdb_phases.specs.Steps.{decide_next, prepare_step, touched_after, validate_step}
+use Rattle.sdb_phases.proofs.Public.{by_steps}
 use Rattle.sdb_phases.specs.Work.{Work, prepares}
 use Rattle.sdb_txn.specs.Phases.{ended_at}
 use Rattle.sdb_txn.specs.Txn.{progress_of}
@@ -101,47 +101,20 @@ module _ (p : Work) (key : Key) where
   OfRow (decide.BadRecord k) = k ≡ coordinator_key_of p.id
   OfRow s = Unit {0}
 
-  followed_row : (aborted : DecideStep) (row : Record) → OfRow aborted → OfRow (followed p.id aborted row)
-  followed_row aborted row h = by (decision_in row)
-    where
-      by_decision : (d : Decision) → OfRow (elim d [ decision.Committed ↦ decide.Committed | decision.Aborted ↦ aborted ])
-      by_decision decision.Committed = tt
-      by_decision decision.Aborted = h
-
-      by : (v : Result Decided (List ℕ)) → OfRow (step_of_row p.id aborted v)
-      by (Err column) = refl
-      by (Ok d) = by_decision d.decision
-
   decides_row : (d : DecidePhase) (r : Reply) → OfRow (decide_next p.id d r).1
-  decides_row phase.Put reply.Applied = tt
-  decides_row phase.Put (reply.NotMet (Some row)) = followed_row (decide.Expired p.id) row tt
-  decides_row phase.Put (reply.NotMet None) = tt
-  decides_row phase.Put reply.Fault = tt
-  decides_row phase.Put reply.NoMemory = tt
-  decides_row phase.Put (reply.Found found) = tt
-  decides_row phase.Put (reply.Rows rows) = tt
-  decides_row phase.Look (reply.Found None) = tt
-  decides_row phase.Look (reply.Found (Some row)) = followed_row (decide.Expired p.id) row tt
-  decides_row phase.Look reply.Applied = tt
-  decides_row phase.Look (reply.NotMet found) = tt
-  decides_row phase.Look reply.Fault = tt
-  decides_row phase.Look reply.NoMemory = tt
-  decides_row phase.Look (reply.Rows rows) = tt
-  decides_row phase.Abort reply.Applied = tt
-  decides_row phase.Abort (reply.NotMet (Some row)) = followed_row (decide.Expired p.id) row tt
-  decides_row phase.Abort (reply.NotMet None) = tt
-  decides_row phase.Abort reply.Fault = tt
-  decides_row phase.Abort reply.NoMemory = tt
-  decides_row phase.Abort (reply.Found found) = tt
-  decides_row phase.Abort (reply.Rows rows) = tt
-  decides_row phase.Again (reply.Found (Some row)) = followed_row decide.Faulted row tt
-  decides_row phase.Again (reply.Found None) = tt
-  decides_row phase.Again reply.Applied = tt
-  decides_row phase.Again (reply.NotMet found) = tt
-  decides_row phase.Again reply.Fault = tt
-  decides_row phase.Again reply.NoMemory = tt
-  decides_row phase.Again (reply.Rows rows) = tt
-  decides_row phase.Ended r = tt
+  decides_row =
+      by_steps p.id (λ n. OfRow n.1)
+      (record {
+        look = tt;
+        abort = tt;
+        again = tt;
+        committed = tt;
+        expired = tt;
+        faulted = tt;
+        unknown = tt;
+        bad = refl;
+        no_memory = tt;
+      })
 
   decided_row : (d : DecidePhase) (s : DecideStep) → OfRow s → IsRowOf (after_decide p d s)
   decided_row d decide.More h e = none_some (outcome.BadRecord key) e

@@ -1,19 +1,20 @@
 -- Who writes another transaction's row puts it ABORTED, and had found a record of it that has expired, and no row.
-use Rattle.std.proofs.Common.{◌≡◌, ◌⊎◌, inl, inr, ◌<◌, ◌^◌, ◌+◌, ℕ, ℤ, Bool, true, false, List, [], ◌∷◌, ◌++◌, length, Option, Some, None, IfSome, Result, Ok, Err, refl, sym, ap, subst, ◌∙◌, arith}
+use Rattle.std.proofs.Common.{◌≡◌, ◌⊎◌, inl, inr, ◌<◌, ◌^◌, ◌+◌, ℕ, ℤ, Bool, true, false, List, [], ◌∷◌, ◌++◌, length, Option, Some, None, IfSome, refl, sym, ap, subst, ◌∙◌, arith}
 use Rattle.std.specs.Prelude.{Contains, is_some, if◌then◌else◌, nat_lt}
 use Rattle.std.specs.List.{AllByRecursion}
 use Rattle.std.proofs.lemmas.List.Elements.{Contains-append_left, Contains-append_right, Contains-push, Contains-push_cases}
-use Rattle.law_runs.specs.Types.{Access, Answer, Decided, Decision, Doing, Event, How, Key, Meta, Next, Progress, ReadStep, Record, RecoverPhase, RecoverStep, Reply, Request, Script, Span, Table, TxId, VacuumStep}
+use Rattle.law_runs.specs.Types.{Access, Answer, Decision, Doing, Event, How, Key, Meta, Next, Progress, ReadStep, Record, RecoverPhase, RecoverStep, Reply, Request, Script, Span, Table, TxId, VacuumStep}
 use Rattle.sdb_types.specs.declared.record.Reply.TheVariants as reply
 use Rattle.sdb_record.specs.declared.coordinator.Decision.TheVariants as decision
-use Rattle.sdb_record.specs.Coordinator.{decision_in, is_expired}
+use Rattle.sdb_record.specs.Coordinator.{is_expired}
 use Rattle.sdb_record.specs.Rolls.{is_tombstone}
 use Rattle.sdb_model.specs.Calls.{StoreCall, calls_after, calls_of, clock_at, is_read, key_asked}
 use Rattle.law_clients.specs.About.{IsDoingIn, IsIn, IsOfTables, IsStageIn, IsVacuumStageIn, IsVacuumIn, IsWorkIn}
 use Rattle.law_runs.proofs.Unprepared.{base_of}
 use Rattle.sdb_phases.specs.declared.step.RecoverPhase.TheVariants as phase
 use Rattle.sdb_phases.specs.declared.step.RecoverStep.TheVariants as steps
-use Rattle.sdb_phases.specs.Recover.{recover_next, roll_to, recover_request_at}
+use Rattle.sdb_phases.specs.Recover.{recover_next, recover_request_at, row_followed}
+use Rattle.sdb_phases.proofs.Public.{by_expiry, by_row, by_rows_recover_rows as by_rows}
 use Rattle.sdb_txn.specs.Read.{Asking, Bad, Ended, Firm, Kind, Open, ReadStage, Resolving, answered, kind_of, read_step, resolved, settle, settle_one, read_pending_at, read_result, request_of}
 use Rattle.sdb_vacuum.specs.declared.work.VacuumStep.TheVariants as vacuuming
 use Rattle.sdb_vacuum.specs.Vacuum as vacuum
@@ -77,59 +78,26 @@ SweepGives events calls (vacuum.Removing b left) = Unit {0}
 SweepGives events calls vacuum.Over = Unit {0}
 
 module _ (events : List Event) (calls : List StoreCall) where
-  rolls_gives : (id : TxId) (meta : Meta) (x : Result Decided (List ℕ)) → PhaseGives events calls id (roll_to meta x).0
-  rolls_gives id meta (Err column) = tt
-  rolls_gives id meta (Ok d) = by d.decision
-    where
-      by : (x : Decision) → PhaseGives events calls id (elim x as (λ _. RecoverPhase × RecoverStep) [ decision.Committed ↦ (phase.Forward d.created_at, steps.More) | decision.Aborted ↦ (phase.Back, steps.More) ]).0
-      by decision.Committed = tt
-      by decision.Aborted = tt
+  row_gives : (id : TxId) (meta : Meta) (row : Record) → PhaseGives events calls id (row_followed meta row).0
+  row_gives id meta row = by_row meta row (λ n. PhaseGives events calls id n.0) (λ d says is. tt) (λ d says is. tt) (λ column says. tt)
 
   -- where a reply leads a recovery: it gives up only where its look found no row, of an expired record
   next_gives : (rec : Record) (meta : Meta) (p : RecoverPhase) (now : ℤ) (r : Reply) → (p ≡ phase.Look → r ≡ reply.Found None → is_expired meta.prepared_at now ≡ true → Evidence events calls meta.id now) → PhaseGives events calls meta.id (recover_next rec meta p now r).0
-  next_gives rec meta phase.Look now (reply.Found (Some row)) h = rolls_gives meta.id meta (decision_in row)
-  next_gives rec meta phase.Look now (reply.Found None) h = by (is_expired meta.prepared_at now) refl
-    where
-      by : (b : Bool) → is_expired meta.prepared_at now ≡ b → PhaseGives events calls meta.id (if◌then◌else◌ {A = RecoverPhase × RecoverStep} b (phase.Abort now, steps.More) (phase.Ended, steps.Busy meta.id meta.prepared_at)).0
-      by true e = h refl refl e
-      by false e = tt
-  next_gives rec meta phase.Look now (reply.Rows rows) h = tt
-  next_gives rec meta phase.Look now reply.Applied h = tt
-  next_gives rec meta phase.Look now (reply.NotMet found) h = tt
-  next_gives rec meta phase.Look now reply.Fault h = tt
-  next_gives rec meta phase.Look now reply.NoMemory h = tt
-  next_gives rec meta (phase.Abort m) now (reply.Found found) h = tt
-  next_gives rec meta (phase.Abort m) now (reply.Rows rows) h = tt
-  next_gives rec meta (phase.Abort m) now reply.Applied h = tt
-  next_gives rec meta (phase.Abort m) now (reply.NotMet (Some row)) h = rolls_gives meta.id meta (decision_in row)
-  next_gives rec meta (phase.Abort m) now (reply.NotMet None) h = tt
-  next_gives rec meta (phase.Abort m) now reply.Fault h = tt
-  next_gives rec meta (phase.Abort m) now reply.NoMemory h = tt
-  next_gives rec meta phase.Again now (reply.Found (Some row)) h = rolls_gives meta.id meta (decision_in row)
-  next_gives rec meta phase.Again now (reply.Found None) h = tt
-  next_gives rec meta phase.Again now (reply.Rows rows) h = tt
-  next_gives rec meta phase.Again now reply.Applied h = tt
-  next_gives rec meta phase.Again now (reply.NotMet found) h = tt
-  next_gives rec meta phase.Again now reply.Fault h = tt
-  next_gives rec meta phase.Again now reply.NoMemory h = tt
-  next_gives rec meta (phase.Forward at) now (reply.Found found) h = tt
-  next_gives rec meta (phase.Forward at) now (reply.Rows rows) h = tt
-  next_gives rec meta (phase.Forward at) now reply.Applied h = tt
-  next_gives rec meta (phase.Forward at) now (reply.NotMet found) h = tt
-  next_gives rec meta (phase.Forward at) now reply.Fault h = tt
-  next_gives rec meta (phase.Forward at) now reply.NoMemory h = tt
-  next_gives rec meta phase.Back now (reply.Found found) h = tt
-  next_gives rec meta phase.Back now (reply.Rows rows) h = tt
-  next_gives rec meta phase.Back now reply.Applied h = tt
-  next_gives rec meta phase.Back now (reply.NotMet found) h = tt
-  next_gives rec meta phase.Back now reply.Fault h = tt
-  next_gives rec meta phase.Back now reply.NoMemory h = tt
-  next_gives rec meta phase.Ended now (reply.Found found) h = tt
-  next_gives rec meta phase.Ended now (reply.Rows rows) h = tt
-  next_gives rec meta phase.Ended now reply.Applied h = tt
-  next_gives rec meta phase.Ended now (reply.NotMet found) h = tt
-  next_gives rec meta phase.Ended now reply.Fault h = tt
-  next_gives rec meta phase.Ended now reply.NoMemory h = tt
+  next_gives rec meta p now r =
+      by_rows rec meta now (λ p r n. (p ≡ phase.Look → r ≡ reply.Found None → is_expired meta.prepared_at now ≡ true → Evidence events calls meta.id now) → PhaseGives events calls meta.id n.0)
+      (record {
+        look_row = λ row h. row_gives meta.id meta row;
+        look_none = λ h. by_expiry meta now (λ n. PhaseGives events calls meta.id n.0) (λ is. h refl refl is) (λ is. tt);
+        abort_applied = λ m h. tt;
+        abort_row = λ m row h. row_gives meta.id meta row;
+        abort_fault = λ m h. tt;
+        again_row = λ row h. row_gives meta.id meta row;
+        again_none = λ h. tt;
+        forward = λ at r is h. tt;
+        back = λ r is h. tt;
+        fault = λ p h. tt;
+        no_memory = λ p r h. tt;
+      }) p r
 
   ---- a read
 

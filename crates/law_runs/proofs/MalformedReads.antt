@@ -1,21 +1,20 @@
 -- Where a read is by the rows that it found: those that it has passed, and what ended it.
-use Rattle.std.proofs.Common.{◌≡◌, ◌⊎◌, inl, inr, ℕ, ℤ, true, false, not, cond, List, [], ◌∷◌, ◌++◌, Some, None, Result, Ok, Err, refl, sym, ap, subst, ◌∙◌, append_assoc}
+use Rattle.std.proofs.Common.{◌≡◌, ◌⊎◌, inl, inr, ℕ, ℤ, true, false, not, List, [], ◌∷◌, ◌++◌, Some, None, refl, sym, ap, subst, ◌∙◌, append_assoc}
 use Rattle.std.specs.Prelude.{Contains}
 use Rattle.std.specs.List.{AllByRecursion}
 use Rattle.std.proofs.lemmas.Bool.{and_parts}
 use Rattle.std.proofs.lemmas.List.{append-nil}
 use Rattle.std.proofs.lemmas.List.Elements.{Contains-append_left, Contains-append_right, Contains-push}
-use Rattle.law_runs.specs.Types.{Decided, Key, Meta, ReadStep, Record, RecoverPhase, RecoverStep, Reply, TxId}
+use Rattle.law_runs.specs.Types.{Key, Meta, ReadStep, Record, RecoverPhase, RecoverStep, Reply, TxId}
 use Rattle.sdb_types.specs.declared.record.Reply.TheVariants as reply
 use Rattle.sdb_types.specs.declared.record.State.TheVariants as state
 use Rattle.sdb_types.proofs.Public.{append_all, clash}
-use Rattle.sdb_record.specs.declared.coordinator.Decision.TheVariants as decision
-use Rattle.sdb_record.specs.Coordinator.{coordinator_key_of, decision_in, is_expired}
+use Rattle.sdb_record.specs.Coordinator.{coordinator_key_of}
 use Rattle.sdb_record.specs.Meta.{id_in, is_in, is_transactional, is_unresolved}
 use Rattle.sdb_model.specs.Calls.{records_read}
-use Rattle.sdb_phases.specs.declared.step.RecoverPhase.TheVariants as recover
 use Rattle.sdb_phases.specs.declared.step.RecoverStep.TheVariants as steps
-use Rattle.sdb_phases.specs.Recover.{recover_next, roll_to, undecided}
+use Rattle.sdb_phases.specs.Recover.{recover_next}
+use Rattle.sdb_phases.proofs.Public.{by_steps_recover_rows as by_steps}
 use Rattle.sdb_txn.specs.declared.read.ReadStep.TheVariants as step
 use Rattle.sdb_txn.specs.Read.{Asking, Bad, Ended, Firm, Kind, Open, ReadStage, Resolving, answered, kind_of, resolved, settle, settle_one}
 use Rattle.law_clients.proofs.Public.{meta_of}
@@ -144,62 +143,21 @@ ComesTo meta (p, steps.Busy id at) = Unit {0}
 ComesTo meta (p, steps.Faulted) = Unit {0}
 ComesTo meta (p, steps.NoMemory) = Unit {0}
 
-rolled_so : (meta : Meta) (o : Result Decided (List ℕ)) → ComesTo meta (roll_to meta o)
-rolled_so meta (Err column) = refl
-rolled_so meta (Ok d) = elim d.decision as (λ x. ComesTo meta (elim x [ decision.Committed ↦ (recover.Forward d.created_at, steps.More) | decision.Aborted ↦ (recover.Back, steps.More) ])) [ decision.Committed ↦ tt | decision.Aborted ↦ tt ]
-
-undecided_so : (meta : Meta) (now : ℤ) → ComesTo meta (undecided meta now)
-undecided_so meta now = elim (is_expired meta.prepared_at now) as (λ b. ComesTo meta (cond b (recover.Abort now, steps.More) (recover.Ended, steps.Busy meta.id meta.prepared_at))) [ true ↦ tt | false ↦ tt ]
-
 pub recovered_so : (rec : Record) (meta : Meta) (p : RecoverPhase) (now : ℤ) (r : Reply) → ComesTo meta (recover_next rec meta p now r)
-recovered_so rec meta recover.Look now (reply.Found None) = undecided_so meta now
-recovered_so rec meta recover.Look now (reply.Found (Some row)) = rolled_so meta (decision_in row)
-recovered_so rec meta recover.Look now (reply.Rows rows) = tt
-recovered_so rec meta recover.Look now reply.Applied = tt
-recovered_so rec meta recover.Look now (reply.NotMet None) = tt
-recovered_so rec meta recover.Look now (reply.NotMet (Some row)) = tt
-recovered_so rec meta recover.Look now reply.Fault = tt
-recovered_so rec meta recover.Look now reply.NoMemory = tt
-recovered_so rec meta (recover.Abort m) now (reply.Found None) = tt
-recovered_so rec meta (recover.Abort m) now (reply.Found (Some row)) = tt
-recovered_so rec meta (recover.Abort m) now (reply.Rows rows) = tt
-recovered_so rec meta (recover.Abort m) now reply.Applied = tt
-recovered_so rec meta (recover.Abort m) now (reply.NotMet None) = tt
-recovered_so rec meta (recover.Abort m) now (reply.NotMet (Some row)) = rolled_so meta (decision_in row)
-recovered_so rec meta (recover.Abort m) now reply.Fault = tt
-recovered_so rec meta (recover.Abort m) now reply.NoMemory = tt
-recovered_so rec meta recover.Again now (reply.Found None) = tt
-recovered_so rec meta recover.Again now (reply.Found (Some row)) = rolled_so meta (decision_in row)
-recovered_so rec meta recover.Again now (reply.Rows rows) = tt
-recovered_so rec meta recover.Again now reply.Applied = tt
-recovered_so rec meta recover.Again now (reply.NotMet None) = tt
-recovered_so rec meta recover.Again now (reply.NotMet (Some row)) = tt
-recovered_so rec meta recover.Again now reply.Fault = tt
-recovered_so rec meta recover.Again now reply.NoMemory = tt
-recovered_so rec meta (recover.Forward m) now (reply.Found None) = tt
-recovered_so rec meta (recover.Forward m) now (reply.Found (Some row)) = tt
-recovered_so rec meta (recover.Forward m) now (reply.Rows rows) = tt
-recovered_so rec meta (recover.Forward m) now reply.Applied = tt
-recovered_so rec meta (recover.Forward m) now (reply.NotMet None) = tt
-recovered_so rec meta (recover.Forward m) now (reply.NotMet (Some row)) = tt
-recovered_so rec meta (recover.Forward m) now reply.Fault = tt
-recovered_so rec meta (recover.Forward m) now reply.NoMemory = tt
-recovered_so rec meta recover.Back now (reply.Found None) = tt
-recovered_so rec meta recover.Back now (reply.Found (Some row)) = tt
-recovered_so rec meta recover.Back now (reply.Rows rows) = tt
-recovered_so rec meta recover.Back now reply.Applied = tt
-recovered_so rec meta recover.Back now (reply.NotMet None) = tt
-recovered_so rec meta recover.Back now (reply.NotMet (Some row)) = tt
-recovered_so rec meta recover.Back now reply.Fault = tt
-recovered_so rec meta recover.Back now reply.NoMemory = tt
-recovered_so rec meta recover.Ended now (reply.Found None) = tt
-recovered_so rec meta recover.Ended now (reply.Found (Some row)) = tt
-recovered_so rec meta recover.Ended now (reply.Rows rows) = tt
-recovered_so rec meta recover.Ended now reply.Applied = tt
-recovered_so rec meta recover.Ended now (reply.NotMet None) = tt
-recovered_so rec meta recover.Ended now (reply.NotMet (Some row)) = tt
-recovered_so rec meta recover.Ended now reply.Fault = tt
-recovered_so rec meta recover.Ended now reply.NoMemory = tt
+recovered_so rec meta =
+    by_steps rec meta (ComesTo meta)
+    (record {
+      forward = λ at. tt;
+      back = tt;
+      abort = λ now. tt;
+      again = tt;
+      forwarded = λ at. tt;
+      undone = tt;
+      busy = tt;
+      fault = tt;
+      bad = refl;
+      no_memory = tt;
+    })
 
 -- Where the rows that are left begin with the record that is resolved.
 module _ (rows : List Record) (rec : Record) (meta : Meta) (left : List Record) (h : IsPast rows (rec ∷ left)) (is : kind_of rec ≡ Open meta) where

@@ -27,6 +27,7 @@ use Rattle.sdb_phases.specs.declared.step.ValidateStep.TheVariants as validate
 use Rattle.sdb_phases.specs.Checks.{checks}
 use Rattle.sdb_phases.specs.Commit.{Stage, Preparing, Checking, Deciding, Forward, Stopping, Back, Over, after_abort, after_check, after_decide, after_prepare, back, checking, forward, pending, preparing}
 use Rattle.sdb_phases.specs.Steps.{decide_next, decide_request_at, prepare_step, refused, touched_after}
+use Rattle.sdb_phases.proofs.Public.{by_steps}
 use Rattle.sdb_phases.specs.Work.{Work, abort_of, back_of, forward_of, look_of, prepare_of, is_as_prepared}
 use Rattle.sdb_phases.specs.Work as work
 use Rattle.sdb_txn.specs.Phases.{IsNext}
@@ -248,35 +249,19 @@ module _ (p : Work) (writes : AllByRecursion IsWrite p.writes) (calls : List Sto
   IsLater d = Unit {0}
 
   next_later : (d : DecidePhase) (r : Reply) → IsLater (decide_next p.id d r).0
-  next_later phase.Put reply.Applied = tt
-  next_later phase.Put (reply.NotMet (Some row)) = tt
-  next_later phase.Put (reply.NotMet None) = tt
-  next_later phase.Put reply.Fault = tt
-  next_later phase.Put (reply.Found found) = tt
-  next_later phase.Put (reply.Rows rows) = tt
-  next_later phase.Put reply.NoMemory = tt
-  next_later phase.Look (reply.Found None) = tt
-  next_later phase.Look (reply.Found (Some row)) = tt
-  next_later phase.Look reply.Applied = tt
-  next_later phase.Look (reply.NotMet found) = tt
-  next_later phase.Look reply.Fault = tt
-  next_later phase.Look (reply.Rows rows) = tt
-  next_later phase.Look reply.NoMemory = tt
-  next_later phase.Abort reply.Applied = tt
-  next_later phase.Abort (reply.NotMet (Some row)) = tt
-  next_later phase.Abort (reply.NotMet None) = tt
-  next_later phase.Abort reply.Fault = tt
-  next_later phase.Abort (reply.Found found) = tt
-  next_later phase.Abort (reply.Rows rows) = tt
-  next_later phase.Abort reply.NoMemory = tt
-  next_later phase.Again (reply.Found (Some row)) = tt
-  next_later phase.Again (reply.Found None) = tt
-  next_later phase.Again reply.Applied = tt
-  next_later phase.Again (reply.NotMet found) = tt
-  next_later phase.Again reply.Fault = tt
-  next_later phase.Again (reply.Rows rows) = tt
-  next_later phase.Again reply.NoMemory = tt
-  next_later phase.Ended r = tt
+  next_later =
+      by_steps p.id (λ n. IsLater n.0)
+      (record {
+        look = tt;
+        abort = tt;
+        again = tt;
+        committed = tt;
+        expired = tt;
+        faulted = tt;
+        unknown = tt;
+        bad = tt;
+        no_memory = tt;
+      })
 
   open_ready : (d : DecidePhase) → IsLater d → ReadyAt p more (Deciding d)
   open_ready phase.Put l = absurd l

@@ -1,22 +1,22 @@
 -- The recovery of a record, a read and a VACUUM ask for nothing with an LF, where no record that they found has one.
-use Rattle.std.proofs.Common.{ℕ, ℤ, ◌+◌, Bool, true, false, cond, List, [], ◌∷◌, ◌++◌, Option, Some, None, IfSome, Result, Ok, Err}
+use Rattle.std.proofs.Common.{ℕ, ℤ, ◌+◌, Bool, true, false, cond, List, [], ◌∷◌, ◌++◌, Option, Some, None, IfSome}
 use Rattle.std.specs.List.{AllByRecursion}
 use Rattle.std.specs.Option.{option_map}
 use Rattle.sdb_types.specs.declared.record.Condition.TheVariants as condition
-use Rattle.law_runs.specs.Types.{Access, Decided, Meta, ReadStep, Record, RecoverPhase, RecoverStep, Reply, Request, Span, Table, TxId, VacuumStep}
+use Rattle.law_runs.specs.Types.{Access, Meta, ReadStep, Record, RecoverPhase, RecoverStep, Reply, Request, Span, Table, TxId, VacuumStep}
 use Rattle.sdb_types.specs.declared.record.Reply.TheVariants as reply
 use Rattle.sdb_types.specs.declared.record.Request.TheVariants as ask
 use Rattle.sdb_types.specs.declared.record.State.TheVariants as state
 use Rattle.sdb_types.proofs.Public.{append_all}
 use Rattle.sdb_record.specs.declared.access.Access.TheVariants as access
 use Rattle.sdb_record.specs.declared.coordinator.Decision.TheVariants as decision
-use Rattle.sdb_record.specs.Coordinator.{decision_in, is_expired}
 use Rattle.sdb_record.specs.Meta.{id_in}
 use Rattle.sdb_record.specs.Parts.{before_record}
 use Rattle.sdb_record.specs.Rolls.{is_tombstone}
 use Rattle.sdb_phases.specs.declared.step.RecoverPhase.TheVariants as recover
 use Rattle.sdb_phases.specs.declared.step.RecoverStep.TheVariants as steps
-use Rattle.sdb_phases.specs.Recover.{recover_next, recover_request_at, roll_to, is_as_found, undecided}
+use Rattle.sdb_phases.specs.Recover.{recover_next, recover_request_at, is_as_found}
+use Rattle.sdb_phases.proofs.Public.{by_steps_recover_rows as by_steps}
 use Rattle.sdb_txn.specs.declared.read.ReadStep.TheVariants as step
 use Rattle.sdb_txn.specs.Read.{Asking, Bad, Ended, Firm, Kind, Open, ReadStage, Resolving, answered, kind_of, read_pending_at, read_step, request_of, resolved, settle, settle_one}
 use Rattle.sdb_vacuum.specs.declared.work.VacuumStep.TheVariants as vacuuming
@@ -34,62 +34,21 @@ RecoveryClear (p, steps.Faulted) = Unit {0}
 RecoveryClear (p, steps.BadRecord key) = KeyClear key
 RecoveryClear (p, steps.NoMemory) = Unit {0}
 
-rolled_clear : (meta : Meta) (o : Result Decided (List ℕ)) → RecoveryClear (roll_to meta o)
-rolled_clear meta (Err column) = row_key_clear meta.id
-rolled_clear meta (Ok d) = elim d.decision as (λ x. RecoveryClear (elim x [ decision.Committed ↦ (recover.Forward d.created_at, steps.More) | decision.Aborted ↦ (recover.Back, steps.More) ])) [ decision.Committed ↦ tt | decision.Aborted ↦ tt ]
-
-undecided_clear : (meta : Meta) (now : ℤ) → RecoveryClear (undecided meta now)
-undecided_clear meta now = elim (is_expired meta.prepared_at now) as (λ b. RecoveryClear (cond b (recover.Abort now, steps.More) (recover.Ended, steps.Busy meta.id meta.prepared_at))) [ true ↦ tt | false ↦ tt ]
-
 recovered_clear : (rec : Record) (meta : Meta) (p : RecoverPhase) (now : ℤ) (r : Reply) → RecordClear rec → RecoveryClear (recover_next rec meta p now r)
-recovered_clear rec meta recover.Look now (reply.Found None) k = undecided_clear meta now
-recovered_clear rec meta recover.Look now (reply.Found (Some row)) k = rolled_clear meta (decision_in row)
-recovered_clear rec meta recover.Look now (reply.Rows rows) k = tt
-recovered_clear rec meta recover.Look now reply.Applied k = tt
-recovered_clear rec meta recover.Look now (reply.NotMet None) k = tt
-recovered_clear rec meta recover.Look now (reply.NotMet (Some row)) k = tt
-recovered_clear rec meta recover.Look now reply.Fault k = tt
-recovered_clear rec meta recover.Look now reply.NoMemory k = tt
-recovered_clear rec meta (recover.Abort m) now (reply.Found None) k = tt
-recovered_clear rec meta (recover.Abort m) now (reply.Found (Some row)) k = tt
-recovered_clear rec meta (recover.Abort m) now (reply.Rows rows) k = tt
-recovered_clear rec meta (recover.Abort m) now reply.Applied k = tt
-recovered_clear rec meta (recover.Abort m) now (reply.NotMet None) k = tt
-recovered_clear rec meta (recover.Abort m) now (reply.NotMet (Some row)) k = rolled_clear meta (decision_in row)
-recovered_clear rec meta (recover.Abort m) now reply.Fault k = tt
-recovered_clear rec meta (recover.Abort m) now reply.NoMemory k = tt
-recovered_clear rec meta recover.Again now (reply.Found None) k = tt
-recovered_clear rec meta recover.Again now (reply.Found (Some row)) k = rolled_clear meta (decision_in row)
-recovered_clear rec meta recover.Again now (reply.Rows rows) k = tt
-recovered_clear rec meta recover.Again now reply.Applied k = tt
-recovered_clear rec meta recover.Again now (reply.NotMet None) k = tt
-recovered_clear rec meta recover.Again now (reply.NotMet (Some row)) k = tt
-recovered_clear rec meta recover.Again now reply.Fault k = tt
-recovered_clear rec meta recover.Again now reply.NoMemory k = tt
-recovered_clear rec meta (recover.Forward m) now (reply.Found None) k = tt
-recovered_clear rec meta (recover.Forward m) now (reply.Found (Some row)) k = tt
-recovered_clear rec meta (recover.Forward m) now (reply.Rows rows) k = tt
-recovered_clear rec meta (recover.Forward m) now reply.Applied k = forward_clear rec m k
-recovered_clear rec meta (recover.Forward m) now (reply.NotMet None) k = forward_clear rec m k
-recovered_clear rec meta (recover.Forward m) now (reply.NotMet (Some row)) k = forward_clear rec m k
-recovered_clear rec meta (recover.Forward m) now reply.Fault k = tt
-recovered_clear rec meta (recover.Forward m) now reply.NoMemory k = tt
-recovered_clear rec meta recover.Back now (reply.Found None) k = tt
-recovered_clear rec meta recover.Back now (reply.Found (Some row)) k = tt
-recovered_clear rec meta recover.Back now (reply.Rows rows) k = tt
-recovered_clear rec meta recover.Back now reply.Applied k = before_clear rec k
-recovered_clear rec meta recover.Back now (reply.NotMet None) k = before_clear rec k
-recovered_clear rec meta recover.Back now (reply.NotMet (Some row)) k = before_clear rec k
-recovered_clear rec meta recover.Back now reply.Fault k = tt
-recovered_clear rec meta recover.Back now reply.NoMemory k = tt
-recovered_clear rec meta recover.Ended now (reply.Found None) k = tt
-recovered_clear rec meta recover.Ended now (reply.Found (Some row)) k = tt
-recovered_clear rec meta recover.Ended now (reply.Rows rows) k = tt
-recovered_clear rec meta recover.Ended now reply.Applied k = tt
-recovered_clear rec meta recover.Ended now (reply.NotMet None) k = tt
-recovered_clear rec meta recover.Ended now (reply.NotMet (Some row)) k = tt
-recovered_clear rec meta recover.Ended now reply.Fault k = tt
-recovered_clear rec meta recover.Ended now reply.NoMemory k = tt
+recovered_clear rec meta p now r k =
+    by_steps rec meta RecoveryClear
+    (record {
+      forward = λ at. tt;
+      back = tt;
+      abort = λ now. tt;
+      again = tt;
+      forwarded = λ at. forward_clear rec at k;
+      undone = before_clear rec k;
+      busy = tt;
+      fault = tt;
+      bad = row_key_clear meta.id;
+      no_memory = tt;
+    }) p now r
 
 recovery_asks : (rec : Record) (meta : Meta) (p : RecoverPhase) → RecordClear rec → IfSome (recover_request_at rec meta p) RequestClear
 recovery_asks rec meta recover.Look k = row_key_clear meta.id

@@ -16,8 +16,10 @@ use Rattle.sdb_phases.specs.declared.step.RecoverStep.TheVariants as steps
 use Rattle.sdb_phases.specs.Recover.{recover_next}
 use Rattle.sdb_txn.specs.Read.{Bad, Firm, Kind, Open, kind_of}
 use Rattle.sdb_vacuum.specs.Vacuum.{First, Malformed, Nothing, Over, Removing, Resolving, Scanning, Tombstone, Unresolved, VacuumAt, VacuumStage, answered, first_of, first_one, next_of_row, with_call, next_table, pending_at, removal_answered, resolved, step_at, tombstone_or}
-use Rattle.law_answers.specs.Counts.{opens, rest_at}
-use Rattle.law_answers.proofs.Public.{calls_more, data_read, IsDataTable, IsNearer, opens_first, opens_more, opens_one, recover_nearer}
+use Rattle.law_answers.specs.Counts.{opens}
+use Rattle.sdb_phases.specs.RecoverCalls.{calls_left}
+use Rattle.law_answers.proofs.Public.{calls_more, data_read, IsDataTable, opens_first, opens_more, opens_one}
+use Rattle.sdb_phases.proofs.Public.{IsNearer, recover_nearer}
 use Rattle.law_runs.specs.Vacuums.{IsVacuumMost, is_committed_tombstone, span_asked, tombstones_found, tombstones_in}
 use Rattle.law_runs.proofs.Sweeping.{firm_dead}
 
@@ -32,7 +34,7 @@ left_calls rows = dead rows + 5 * opens rows
 -- and before it scans the next table
 abbrev pub rest_of_stage : VacuumStage → ℕ
 rest_of_stage (Scanning span) = 1
-rest_of_stage (Resolving rec meta p left) = rest_at p + (1 + left_calls left)
+rest_of_stage (Resolving rec meta p left) = calls_left p + (1 + left_calls left)
 rest_of_stage (Removing b left) = 1 + left_calls left
 rest_of_stage Over = 0
 
@@ -174,8 +176,8 @@ module _ (catalog : List Table) (calls : List StoreCall) (m : StoreCall) where
           less : (k x t : ℕ) → k ≤ x + t → suc k ≤ t + 1 + x
           less k x t l = omega arith
       by (Resolving rec meta p left) of_data e h =
-          one_fewer (length v.spans + (rest_at p + (1 + left_calls left))) (rest_of (resolved v.spans v.removed rec meta left (recover_next rec meta p now m.reply)).0)
-          (less (suc (rest_of (resolved v.spans v.removed rec meta left (recover_next rec meta p now m.reply)).0)) (rest_at p) (1 + left_calls left) (length v.spans) (resolved_light v.spans v.removed rec meta left (rest_at p) (recover_next rec meta p now m.reply) (recover_nearer rec meta p now m.reply (ap is_some e)))) h
+          one_fewer (length v.spans + (calls_left p + (1 + left_calls left))) (rest_of (resolved v.spans v.removed rec meta left (recover_next rec meta p now m.reply)).0)
+          (less (suc (rest_of (resolved v.spans v.removed rec meta left (recover_next rec meta p now m.reply)).0)) (calls_left p) (1 + left_calls left) (length v.spans) (resolved_light v.spans v.removed rec meta left (calls_left p) (recover_next rec meta p now m.reply) (recover_nearer rec meta p now m.reply (ap is_some e)))) h
         where
           less : (k a b t : ℕ) → k ≤ a + b + t → k ≤ t + (a + b)
           less k a b t l = omega arith
@@ -203,7 +205,7 @@ module _ (catalog : List Table) (calls : List StoreCall) (m : StoreCall) where
 
       by : (s : VacuumStage) → pending_at s ≡ Some m.request → Before (length v.spans + rest_of_stage s) → After 0
       by (Scanning span) f k = one_fewer (length v.spans + 1) 0 (some 1 (length v.spans) (omega arith)) k
-      by (Resolving rec meta p left) f k = one_fewer (length v.spans + (rest_at p + (1 + left_calls left))) 0 (some (rest_at p + (1 + left_calls left)) (length v.spans) (some_first (rest_at p) (left_calls left))) k
+      by (Resolving rec meta p left) f k = one_fewer (length v.spans + (calls_left p + (1 + left_calls left))) 0 (some (calls_left p + (1 + left_calls left)) (length v.spans) (some_first (calls_left p) (left_calls left))) k
       by (Removing b left) f k = one_fewer (length v.spans + (1 + left_calls left)) 0 (some (1 + left_calls left) (length v.spans) (one_plus (left_calls left))) k
       by Over f k = none_some m.request f
 

@@ -1,25 +1,24 @@
 -- What a VACUUM has scanned and deleted after each of its calls.
-use Rattle.std.proofs.Common.{◌≡◌, ◌⊎◌, inl, inr, ◌<◌, ◌+◌, ℕ, ℤ, Bool, true, false, List, [], ◌∷◌, ◌++◌, Option, Some, None, Ok, Err, Result, refl, sym, ap, subst, ◌∙◌, append_assoc}
+use Rattle.std.proofs.Common.{◌≡◌, ◌⊎◌, inl, inr, ◌<◌, ◌+◌, ℕ, ℤ, Bool, true, false, List, [], ◌∷◌, ◌++◌, Option, Some, None, refl, sym, ap, subst, ◌∙◌, append_assoc}
 use Rattle.std.specs.Prelude.{◌&&◌, Contains, is_some, if◌then◌else◌}
 use Rattle.std.specs.List.{AllByRecursion, cons_option}
 use Rattle.std.specs.Option.{option_map}
 use Rattle.std.proofs.lemmas.List.{append-nil}
 use Rattle.std.proofs.lemmas.List.Elements.{Contains-append_cases, Contains-append_left, Contains-append_right, Contains-push, Contains-push_cases, filter_map-append}
 use Rattle.sdb_types.specs.declared.record.Condition.TheVariants as condition
-use Rattle.law_runs.specs.Types.{Decided, Meta, Record, RecoverPhase, RecoverStep, Reply, Request, Span, State, Table, TxId, VacuumStep}
+use Rattle.law_runs.specs.Types.{Meta, Record, RecoverPhase, RecoverStep, Reply, Request, Span, State, Table, TxId, VacuumStep}
 use Rattle.sdb_types.specs.declared.record.Reply.TheVariants as reply
 use Rattle.sdb_types.specs.declared.record.Request.TheVariants as ask
 use Rattle.sdb_types.specs.declared.record.State.TheVariants as state
 use Rattle.sdb_types.proofs.Public.{and_parts, clash, none_some, some_is}
-use Rattle.sdb_record.specs.declared.coordinator.Decision.TheVariants as decision
-use Rattle.sdb_record.specs.Coordinator.{decision_in, is_expired}
 use Rattle.sdb_record.specs.Meta.{checked, id_in, is_committed, is_in, is_transactional}
 use Rattle.sdb_record.specs.Parts.{before_record}
 use Rattle.sdb_record.specs.Rolls.{is_tombstone, remove_request, undo}
 use Rattle.sdb_model.specs.Calls.{StoreCall, is_removal, put_by, records_read}
 use Rattle.sdb_phases.specs.declared.step.RecoverPhase.TheVariants as phase
 use Rattle.sdb_phases.specs.declared.step.RecoverStep.TheVariants as steps
-use Rattle.sdb_phases.specs.Recover.{recover_next, recover_request_at, roll_to, is_as_found}
+use Rattle.sdb_phases.specs.Recover.{recover_back, recover_forward, recover_next, recover_request_at, row_followed, is_as_found}
+use Rattle.sdb_phases.proofs.Public.{by_expiry, by_row, by_rows_recover_rows as by_rows}
 use Rattle.sdb_txn.specs.Read.{Bad, Firm, Kind, Open, kind_of, opened}
 use Rattle.sdb_vacuum.specs.declared.work.VacuumStep.TheVariants as step
 use Rattle.sdb_vacuum.specs.Vacuum.{First, Malformed, Nothing, Over, Removing, Resolving, Scanning, Tombstone, Unresolved, VacuumAt, VacuumStage, answered, first_of, first_one, next_of_row, with_call, next_table, pending_at, removal_answered, resolved, step_at, tombstone_or}
@@ -137,53 +136,29 @@ HasPut q (p, steps.Faulted) = Unit {0}
 HasPut q (p, steps.BadRecord key) = Unit {0}
 HasPut q (p, steps.NoMemory) = Unit {0}
 
-roll_put : (q : Request) (meta : Meta) (x : Result Decided (List ℕ)) → HasPut q (roll_to meta x)
-roll_put q meta (Err column) = tt
-roll_put q meta (Ok d) = elim d.decision as (λ x. HasPut q (elim x [ decision.Committed ↦ (phase.Forward d.created_at, steps.More) | decision.Aborted ↦ (phase.Back, steps.More) ])) [ decision.Committed ↦ tt | decision.Aborted ↦ tt ]
+row_put : (q : Request) (meta : Meta) (row : Record) → HasPut q (row_followed meta row)
+row_put q meta row = by_row meta row (HasPut q) (λ d says is. tt) (λ d says is. tt) (λ column says. tt)
 
 back_put : (rec : Record) (meta : Meta) (q : Request) (o : Option Record) → undo (is_as_found meta) rec.key o ≡ q → HasPut q (phase.Ended, steps.Image o)
 back_put rec meta q None e = tt
 back_put rec meta q (Some b) e = ap put_by (sym e)
 
 recover_put : (rec : Record) (meta : Meta) (p : RecoverPhase) (now : ℤ) (q : Request) (r : Reply) → recover_request_at rec meta p ≡ Some q → HasPut q (recover_next rec meta p now r)
-recover_put rec meta phase.Look now q (reply.Found (Some row)) e = roll_put q meta (decision_in row)
-recover_put rec meta phase.Look now q (reply.Found None) e = by (is_expired meta.prepared_at now)
-  where
-    by : (b : Bool) → HasPut q (if b then (phase.Abort now, steps.More) else (phase.Ended, steps.Busy meta.id meta.prepared_at))
-    by true = tt
-    by false = tt
-recover_put rec meta phase.Look now q (reply.Rows rows) e = tt
-recover_put rec meta phase.Look now q reply.Applied e = tt
-recover_put rec meta phase.Look now q (reply.NotMet found) e = tt
-recover_put rec meta phase.Look now q reply.Fault e = tt
-recover_put rec meta phase.Look now q reply.NoMemory e = tt
-recover_put rec meta (phase.Abort m) now q (reply.Found found) e = tt
-recover_put rec meta (phase.Abort m) now q (reply.Rows rows) e = tt
-recover_put rec meta (phase.Abort m) now q reply.Applied e = tt
-recover_put rec meta (phase.Abort m) now q (reply.NotMet (Some row)) e = roll_put q meta (decision_in row)
-recover_put rec meta (phase.Abort m) now q (reply.NotMet None) e = tt
-recover_put rec meta (phase.Abort m) now q reply.Fault e = tt
-recover_put rec meta (phase.Abort m) now q reply.NoMemory e = tt
-recover_put rec meta phase.Again now q (reply.Found (Some row)) e = roll_put q meta (decision_in row)
-recover_put rec meta phase.Again now q (reply.Found None) e = tt
-recover_put rec meta phase.Again now q (reply.Rows rows) e = tt
-recover_put rec meta phase.Again now q reply.Applied e = tt
-recover_put rec meta phase.Again now q (reply.NotMet found) e = tt
-recover_put rec meta phase.Again now q reply.Fault e = tt
-recover_put rec meta phase.Again now q reply.NoMemory e = tt
-recover_put rec meta (phase.Forward at) now q (reply.Found found) e = tt
-recover_put rec meta (phase.Forward at) now q (reply.Rows rows) e = tt
-recover_put rec meta (phase.Forward at) now q reply.Applied e = ap put_by (sym (some_is _ q e))
-recover_put rec meta (phase.Forward at) now q (reply.NotMet found) e = ap put_by (sym (some_is _ q e))
-recover_put rec meta (phase.Forward at) now q reply.Fault e = tt
-recover_put rec meta (phase.Forward at) now q reply.NoMemory e = tt
-recover_put rec meta phase.Back now q (reply.Found found) e = tt
-recover_put rec meta phase.Back now q (reply.Rows rows) e = tt
-recover_put rec meta phase.Back now q reply.Applied e = back_put rec meta q (before_record rec) (some_is _ q e)
-recover_put rec meta phase.Back now q (reply.NotMet found) e = back_put rec meta q (before_record rec) (some_is _ q e)
-recover_put rec meta phase.Back now q reply.Fault e = tt
-recover_put rec meta phase.Back now q reply.NoMemory e = tt
-recover_put rec meta phase.Ended now q r e = none_some q e
+recover_put rec meta p now q r =
+    by_rows rec meta now (λ p r n. recover_request_at rec meta p ≡ Some q → HasPut q n)
+    (record {
+      look_row = λ row e. row_put q meta row;
+      look_none = λ e. by_expiry meta now (HasPut q) (λ is. tt) (λ is. tt);
+      abort_applied = λ m e. tt;
+      abort_row = λ m row e. row_put q meta row;
+      abort_fault = λ m e. tt;
+      again_row = λ row e. row_put q meta row;
+      again_none = λ e. tt;
+      forward = λ at r is e. ap put_by (sym (some_is (recover_forward rec meta at) q e));
+      back = λ r is e. back_put rec meta q (before_record rec) (some_is (recover_back rec meta) q e);
+      fault = λ p e. tt;
+      no_memory = λ p r e. tt;
+    }) p r
 
 -- a recovery deletes no committed record, and scans nothing
 undo_no : (meta : Meta) (rec : Record) (o : Option Record) → is_committed meta.state ≡ false → is_removal (undo (is_as_found meta) rec.key o) ≡ false

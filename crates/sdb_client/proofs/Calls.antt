@@ -41,22 +41,12 @@ no_images : (t u : TxnAt) (a : Access) (images : List Record) (g : Progress) →
 no_images t u (access.Get key) images g plain h = subst IsPlain h.rows plain
 no_images t u (access.Scan span) images (progress.Rows rows) plain h = plain
 no_images t u (access.Scan span) images (progress.Conflict key found) plain h = plain
-no_images t u (access.Scan span) images progress.More plain h = h
-no_images t u (access.Scan span) images (progress.Busy key id at) plain h = h
-no_images t u (access.Scan span) images progress.Faulted plain h = h
-no_images t u (access.Scan span) images (progress.BadRecord key) plain h = h
-no_images t u (access.Scan span) images progress.NoMemory plain h = h
-no_images t u (access.Scan span) images progress.Committed plain h = h
-no_images t u (access.Scan span) images (progress.Expired id) plain h = h
-no_images t u (access.Scan span) images (progress.Unknown id) plain h = h
+no_images t u (access.Scan span) images g plain h = h
 
 plain_stage : (t u : TxnAt) (p : Planned) (a : Access) (x : ReadAt) (after : ReadStage) (s : ReadStep) (g : Progress) → IsPlain g → StepPost t a x after s g u → StagePost t p a x after s (plain_next g) u
-plain_stage t u p a x after step.More g plain h = (ap plain_next h.0, h.1)
 plain_stage t u p a x after (step.Images images) g plain h = absurd (no_images t u a images g plain h)
-plain_stage t u p a x after (step.Busy key id at) g plain h = (ap plain_next h.0, h.1)
-plain_stage t u p a x after step.Faulted g plain h = (ap plain_next h.0, h.1)
-plain_stage t u p a x after (step.BadRecord key) g plain h = (ap plain_next h.0, h.1)
 plain_stage t u p a x after step.NoMemory g plain h = absurd h
+plain_stage t u p a x after s g plain h = (ap plain_next h.0, h.1)
 
 -- only out of memory is answered as such
 memory_alone : (t u : TxnAt) (a : Access) (x : ReadAt) (after : ReadStage) (s : ReadStep) (g : Progress) → IsPlain g → StepPost t a x after s g u → plain_next g ≢ next.Answer answer.NoMemory
@@ -92,12 +82,9 @@ moved_images t u (access.Get k) images key found h = absurd (let e = h.rows in c
 moved_images t u (access.Scan span) images key found h = h.0
 
 moved_stage : (t u : TxnAt) (p : Planned) (a : Access) (x : ReadAt) (after : ReadStage) (s : ReadStep) (key : Key) (found : Option Record) → StepPost t a x after s (progress.Conflict key found) u → StagePost t p a x after s (next.End (answer.Conflict key found)) u
-moved_stage t u p a x after step.More key found h = absurd (let e = h.0 in cc)
 moved_stage t u p a x after (step.Images images) key found h = moved_images t u a images key found h
-moved_stage t u p a x after (step.Busy k id at) key found h = absurd (let e = h.0 in cc)
-moved_stage t u p a x after step.Faulted key found h = absurd (let e = h.0 in cc)
-moved_stage t u p a x after (step.BadRecord k) key found h = absurd (let e = h.0 in cc)
 moved_stage t u p a x after step.NoMemory key found h = absurd h
+moved_stage t u p a x after s key found h = absurd (let e = h.0 in cc)
 
 pub moved_call : (t u : TxnAt) (p : Planned) (a : Access) (x : ReadAt) (r : Reply) (now : ℤ) (key : Key) (found : Option Record) → ReadPost t a x r now (progress.Conflict key found) u → CallPost t p a x r now (next.End (answer.Conflict key found)) u
 moved_call t u p a x r now key found h = record {
@@ -124,12 +111,9 @@ noted_images t u (access.Get key) images rows h = record { images = images; ende
 noted_images t u (access.Scan span) images rows h = record { images = images; ended = refl; with_read = h.1; rows = h.2; as_read = h.0 }
 
 noted_stage : (t u : TxnAt) (a : Access) (x : ReadAt) (after : ReadStage) (s : ReadStep) (rows : List Image) → StepPost t a x after s (progress.Rows rows) u → IsNoted t u a s rows
-noted_stage t u a x after step.More rows h = absurd (let e = h.0 in cc)
 noted_stage t u a x after (step.Images images) rows h = noted_images t u a images rows h
-noted_stage t u a x after (step.Busy k id at) rows h = absurd (let e = h.0 in cc)
-noted_stage t u a x after step.Faulted rows h = absurd (let e = h.0 in cc)
-noted_stage t u a x after (step.BadRecord k) rows h = absurd (let e = h.0 in cc)
 noted_stage t u a x after step.NoMemory rows h = absurd h
+noted_stage t u a x after s rows h = absurd (let e = h.0 in cc)
 
 pub rows_noted : (t u : TxnAt) (a : Access) (x : ReadAt) (r : Reply) (now : ℤ) (rows : List Image) → ReadPost t a x r now (progress.Rows rows) u → IsNoted t u a (read_result (read_step x.stage now r)) rows
 rows_noted t u a x r now rows h = noted_stage t u a x (read_step x.stage now r) (read_result (read_step x.stage now r)) rows (h.answered (λ e. cc))
@@ -218,22 +202,16 @@ rows_read_at t u p a s rows e h = record {
 
 pub rows_read : (d : Doing) (t u : TxnAt) (p : Planned) (r : Reply) (now : ℤ) (rows : List Image) → IsReadOf d p → IfReading d (λ a x. ReadPost t a x r now (progress.Rows rows) u) → AreRead t u p rows
 rows_read (doing.Read a x) t u p r now rows at h = rows_read_at t u p a (read_result (read_step x.stage now r)) rows at.1 (rows_noted t u a x r now rows h)
-rows_read doing.Idle t u p r now rows at h = absurd at
-rows_read (doing.Commit k) t u p r now rows at h = absurd at
-rows_read doing.Over t u p r now rows at h = absurd at
+rows_read d t u p r now rows at h = absurd at
 
 pub rows_told : (d : Doing) (t u v : TxnAt) (p : Planned) (r : Reply) (now : ℤ) (rows : List Image) (m : Mark) (z : Answer) → m ≡ mark_of t.seen → IfReading d (λ a x. ReadPost t a x r now (progress.Rows rows) u)
     → (z ≢ answer.NoMemory → z ≡ given_answer u (step_of p rows)) → (z ≢ answer.NoMemory → v ≡ given_left u (step_of p rows)) → (z ≡ answer.NoMemory → v ≡ cut m u) → IfReading d (λ a x. CallPost t p a x r now (next.Answer z) v)
 rows_told (doing.Read a x) t u v p r now rows m z e h answered left memory = rows_call t u v p a x r now rows m z e (rows_noted t u a x r now rows h) answered left memory
-rows_told doing.Idle t u v p r now rows m z e h answered left memory = tt
-rows_told (doing.Commit k) t u v p r now rows m z e h answered left memory = tt
-rows_told doing.Over t u v p r now rows m z e h answered left memory = tt
+rows_told d t u v p r now rows m z e h answered left memory = tt
 
 pub plain_told : (d : Doing) (t u : TxnAt) (p : Planned) (r : Reply) (now : ℤ) (g : Progress) → IsPlain g → IfReading d (λ a x. ReadPost t a x r now g u) → IfReading d (λ a x. CallPost t p a x r now (plain_next g) u)
 plain_told (doing.Read a x) t u p r now g plain h = plain_call t u p a x r now g plain h
-plain_told doing.Idle t u p r now g plain h = tt
-plain_told (doing.Commit k) t u p r now g plain h = tt
-plain_told doing.Over t u p r now g plain h = tt
+plain_told d t u p r now g plain h = tt
 
 -- what out of memory, and what no read is answered, are answered as
 pub other_told : (d : Doing) (t u : TxnAt) (p : Planned) (r : Reply) (now : ℤ) (g : Progress) → (g ≡ progress.NoMemory) ⊎ ((g ≡ progress.Committed) ⊎ (((id : TxId) × (g ≡ progress.Expired id)) ⊎ ((id : TxId) × (g ≡ progress.Unknown id)))) → IfReading d (λ a x. ReadPost t a x r now g u) → IfReading d (λ a x. CallPost t p a x r now (next.Answer answer.NoMemory) u)

@@ -36,18 +36,14 @@ given_idle t (Wants a) h = h
 call_stage : (t u : TxnAt) (p : Planned) (a : Access) (x : ReadAt) (f : ReadStage) (s : ReadStep) → read_result f ≡ s → IsReadOf (doing.Read a x) p → (read_result f ≡ step.More → IsSome (read_pending_at x.request f)) → StagePost t p a x f s next.Call u → IsUnder u.doing (Some p)
 call_stage t u p a x f step.More is at goes h = subst (λ (d : Doing). IsUnder d (Some p)) (sym (ap (λ (v : TxnAt). v.doing) h.1)) (at.0, at.1, goes is)
 call_stage t u p a x f (step.Images images) is at goes h = absurd h
-call_stage t u p a x f (step.Busy key id m) is at goes h = absurd (let e = h.0 in cc)
-call_stage t u p a x f step.Faulted is at goes h = absurd (let e = h.0 in cc)
-call_stage t u p a x f (step.BadRecord key) is at goes h = absurd (let e = h.0 in cc)
 call_stage t u p a x f step.NoMemory is at goes h = absurd h
+call_stage t u p a x f s is at goes h = absurd (let e = h.0 in cc)
 
 answer_stage : (t u : TxnAt) (p : Planned) (a : Access) (x : ReadAt) (next_stage : ReadStage) (s : ReadStep) (z : Answer) → StagePost t p a x next_stage s (next.Answer z) u → u.doing ≡ doing.Idle
 answer_stage t u p a x f step.More z h = absurd (let e = h.0 in cc)
 answer_stage t u p a x f (step.Images images) z h = ap (λ (v : TxnAt). v.doing) h.2 ∙ given_idle (with_rows_read t a images) (gives p a (with_rows_read t a images)) (noting_idle t a images)
-answer_stage t u p a x f (step.Busy key id m) z h = ap (λ (v : TxnAt). v.doing) h.1
-answer_stage t u p a x f step.Faulted z h = ap (λ (v : TxnAt). v.doing) h.1
-answer_stage t u p a x f (step.BadRecord key) z h = ap (λ (v : TxnAt). v.doing) h.1
 answer_stage t u p a x f step.NoMemory z h = absurd h
+answer_stage t u p a x f s z h = ap (λ (v : TxnAt). v.doing) h.1
 
 answer_apart : (z : Answer) → z ≢ answer.NoMemory → next.Answer z ≢ next.Answer answer.NoMemory
 answer_apart z n e = n (ap Rattle.sdb_client.proofs.Calls.answer_or e)
@@ -90,21 +86,11 @@ none_ended (Some outcome.NoMemory) e = absurd (cc)
 
 goes_on : (d : Doing) (k : CommitAt) (r : Reply) → IsCommitPending k.work k.stage → ended_at (commit_step k.work k.stage r) ≡ None → IsCommitting d (λ m. (m.work ≡ k.work) × IsNext k.work k.stage r m.stage) → IsUnder d None
 goes_on (doing.Commit m) k r running e h = subst (λ (p : Work). IsCommitPending p m.stage) (sym h.0) (commit_goes k.work k.stage r m.stage running h.1 e)
-goes_on doing.Idle k r running e h = absurd h
-goes_on (doing.Read a x) k r running e h = absurd h
-goes_on doing.Over k r running e h = absurd h
+goes_on d k r running e h = absurd h
 
 told_left : (t u : TxnAt) (k : CommitAt) (r : Reply) (g : Progress) → IsCommitPending k.work k.stage → CommitPost t k r g u → IsLeft (next_of g) u None
 told_left t u k r progress.More running h = goes_on u.doing k r running (none_ended (ended_at (commit_step k.work k.stage r)) h.answer) (h.next refl)
-told_left t u k r (progress.Rows rows) running h = tt
-told_left t u k r (progress.Busy key id m) running h = tt
-told_left t u k r progress.Faulted running h = tt
-told_left t u k r (progress.BadRecord key) running h = tt
-told_left t u k r progress.NoMemory running h = tt
-told_left t u k r (progress.Conflict key found) running h = tt
-told_left t u k r progress.Committed running h = tt
-told_left t u k r (progress.Expired id) running h = tt
-told_left t u k r (progress.Unknown id) running h = tt
+told_left t u k r g running h = tt
 
 pub commit_left : (d : Doing) (t u : TxnAt) (o : Option Planned) (r : Reply) (g : Progress) (n : Next) → IsSome (pending_in d) → o ≡ None → n ≡ next_of g → IsUnder d o → IfCommitting d (λ k. CommitPost t k r g u) → IsLeft n u None
 commit_left d t u o r g n asks is same under h = subst (λ (m : Next). IsLeft m u None) (sym same) (by d asks (subst (IsUnder d) is under) h)

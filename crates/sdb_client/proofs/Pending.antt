@@ -1,17 +1,14 @@
 -- A call is pending wherever a read or a COMMIT goes on.
-use Rattle.std.proofs.Common.{◌≡◌, ℕ, ℤ, zero, suc, ◌+◌, ◌<◌, ◌≤◌, Bool, true, false, cond, List, [], ◌∷◌, ◌++◌, map, length, slice_get, Option, Some, None, Result, Ok, Err, refl, sym, subst, arith}
+use Rattle.std.proofs.Common.{◌≡◌, ℕ, ℤ, zero, suc, ◌+◌, ◌<◌, ◌≤◌, Bool, true, false, cond, List, [], ◌∷◌, ◌++◌, map, length, slice_get, Option, Some, None, refl, sym, subst, arith}
 use Rattle.std.specs.Prelude.{IsSome, nat_lt}
 use Rattle.std.specs.Option.{option_map}
 use Rattle.std.proofs.lemmas.Bool.Decides.{nat_tests}
 use Rattle.std.proofs.lemmas.List.{length-map}
-use Rattle.sdb_client.specs.Types.{Check, DecidePhase, DecideStep, Decided, Key, Meta, Outcome, PrepareStep, Record, RecoverPhase, RecoverStep, Reply, Request, ValidateStep}
+use Rattle.sdb_client.specs.Types.{Check, DecidePhase, DecideStep, Key, Meta, Outcome, PrepareStep, Record, RecoverPhase, RecoverStep, Reply, Request, ValidateStep}
 use Rattle.sdb_types.specs.declared.record.Reply.TheVariants as reply
 use Rattle.sdb_types.specs.declared.record.Request.TheVariants as ask
-use Rattle.sdb_record.specs.declared.coordinator.Decision.TheVariants as decision
-use Rattle.sdb_record.specs.Coordinator.{decision_in, is_expired}
 use Rattle.sdb_phases.specs.declared.step.RecoverStep.TheVariants as steps
-use Rattle.sdb_phases.specs.declared.step.RecoverPhase.TheVariants as recover
-use Rattle.sdb_phases.specs.Recover.{recover_next, recover_request_at, roll_to, undecided}
+use Rattle.sdb_phases.specs.Recover.{recover_next}
 use Rattle.sdb_phases.specs.declared.step.DecidePhase.TheVariants as phase
 use Rattle.sdb_phases.specs.declared.step.DecideStep.TheVariants as decide
 use Rattle.sdb_phases.specs.declared.step.Outcome.TheVariants as outcome
@@ -19,8 +16,9 @@ use Rattle.sdb_phases.specs.declared.step.PrepareStep.TheVariants as prepare
 use Rattle.sdb_phases.specs.declared.step.ValidateStep.TheVariants as validate
 use Rattle.sdb_phases.specs.Work.{Work, prepares}
 use Rattle.sdb_phases.specs.Checks.{checks, difference_in}
-use Rattle.sdb_phases.specs.Steps.{decide_next, decide_request_at, judged, prepare_step, refused, step_of_row, touched_after, validate_step}
+use Rattle.sdb_phases.specs.Steps.{decide_next, decide_request_at, judged, prepare_step, refused, touched_after, validate_step}
 use Rattle.sdb_phases.specs.Commit.{Stage, Preparing, Checking, Deciding, Forward, Stopping, Back, Over, after_abort, after_check, after_decide, after_prepare, back, checking, forward, pending, preparing, step as commit_step}
+use Rattle.sdb_phases.proofs.Public.{by_steps, GoesOn, recover_goes}
 use Rattle.sdb_txn.specs.Phases.{IsNext, ended_at}
 use Rattle.sdb_validate.specs.Inside.{Judges}
 use Rattle.sdb_client.specs.Inside.{IsCommitPending}
@@ -42,83 +40,10 @@ answered_asks : (q : Request) (r : Reply) → read_result (answered r) ≡ step.
 answered_asks q (reply.Found None) e = absurd (cc)
 answered_asks q (reply.Found (Some r)) e = settle_asks q [] (r ∷ []) e
 answered_asks q (reply.Rows rows) e = settle_asks q [] rows e
-answered_asks q reply.Applied e = absurd (cc)
-answered_asks q (reply.NotMet found) e = absurd (cc)
-answered_asks q reply.Fault e = absurd (cc)
-answered_asks q reply.NoMemory e = absurd (cc)
-
--- a recovery that goes on has a call pending
-GoesOn : Record → Meta → RecoverPhase × RecoverStep → Type 0
-GoesOn rec meta (p, steps.More) = IsSome (recover_request_at rec meta p)
-GoesOn rec meta (p, steps.Image image) = Unit {0}
-GoesOn rec meta (p, steps.Busy id at) = Unit {0}
-GoesOn rec meta (p, steps.Faulted) = Unit {0}
-GoesOn rec meta (p, steps.BadRecord key) = Unit {0}
-GoesOn rec meta (p, steps.NoMemory) = Unit {0}
-
-roll_goes : (rec : Record) (meta : Meta) (o : Result Decided (List ℕ)) → GoesOn rec meta (roll_to meta o)
-unfolding GoesOn
-roll_goes rec meta (Err column) = tt
-roll_goes rec meta (Ok d) = elim d.decision as (λ x. GoesOn rec meta (elim x [ decision.Committed ↦ (recover.Forward d.created_at, steps.More) | decision.Aborted ↦ (recover.Back, steps.More) ])) [ decision.Committed ↦ refl | decision.Aborted ↦ refl ]
-
-undecided_goes : (rec : Record) (meta : Meta) (now : ℤ) → GoesOn rec meta (undecided meta now)
-unfolding GoesOn
-undecided_goes rec meta now = elim (is_expired meta.prepared_at now) as (λ b. GoesOn rec meta (cond b (recover.Abort now, steps.More) (recover.Ended, steps.Busy meta.id meta.prepared_at))) [ true ↦ refl | false ↦ tt ]
-
-recover_goes : (rec : Record) (meta : Meta) (p : RecoverPhase) (now : ℤ) (r : Reply) → GoesOn rec meta (recover_next rec meta p now r)
-unfolding GoesOn
-recover_goes rec meta recover.Look now (reply.Found None) = undecided_goes rec meta now
-recover_goes rec meta recover.Look now (reply.Found (Some row)) = roll_goes rec meta (decision_in row)
-recover_goes rec meta recover.Look now (reply.Rows rows) = tt
-recover_goes rec meta recover.Look now reply.Applied = tt
-recover_goes rec meta recover.Look now (reply.NotMet None) = tt
-recover_goes rec meta recover.Look now (reply.NotMet (Some row)) = tt
-recover_goes rec meta recover.Look now reply.Fault = tt
-recover_goes rec meta recover.Look now reply.NoMemory = tt
-recover_goes rec meta (recover.Abort m) now (reply.Found None) = tt
-recover_goes rec meta (recover.Abort m) now (reply.Found (Some row)) = tt
-recover_goes rec meta (recover.Abort m) now (reply.Rows rows) = tt
-recover_goes rec meta (recover.Abort m) now reply.Applied = refl
-recover_goes rec meta (recover.Abort m) now (reply.NotMet None) = tt
-recover_goes rec meta (recover.Abort m) now (reply.NotMet (Some row)) = roll_goes rec meta (decision_in row)
-recover_goes rec meta (recover.Abort m) now reply.Fault = refl
-recover_goes rec meta (recover.Abort m) now reply.NoMemory = tt
-recover_goes rec meta recover.Again now (reply.Found None) = tt
-recover_goes rec meta recover.Again now (reply.Found (Some row)) = roll_goes rec meta (decision_in row)
-recover_goes rec meta recover.Again now (reply.Rows rows) = tt
-recover_goes rec meta recover.Again now reply.Applied = tt
-recover_goes rec meta recover.Again now (reply.NotMet None) = tt
-recover_goes rec meta recover.Again now (reply.NotMet (Some row)) = tt
-recover_goes rec meta recover.Again now reply.Fault = tt
-recover_goes rec meta recover.Again now reply.NoMemory = tt
-recover_goes rec meta (recover.Forward m) now (reply.Found None) = tt
-recover_goes rec meta (recover.Forward m) now (reply.Found (Some row)) = tt
-recover_goes rec meta (recover.Forward m) now (reply.Rows rows) = tt
-recover_goes rec meta (recover.Forward m) now reply.Applied = tt
-recover_goes rec meta (recover.Forward m) now (reply.NotMet None) = tt
-recover_goes rec meta (recover.Forward m) now (reply.NotMet (Some row)) = tt
-recover_goes rec meta (recover.Forward m) now reply.Fault = tt
-recover_goes rec meta (recover.Forward m) now reply.NoMemory = tt
-recover_goes rec meta recover.Back now (reply.Found None) = tt
-recover_goes rec meta recover.Back now (reply.Found (Some row)) = tt
-recover_goes rec meta recover.Back now (reply.Rows rows) = tt
-recover_goes rec meta recover.Back now reply.Applied = tt
-recover_goes rec meta recover.Back now (reply.NotMet None) = tt
-recover_goes rec meta recover.Back now (reply.NotMet (Some row)) = tt
-recover_goes rec meta recover.Back now reply.Fault = tt
-recover_goes rec meta recover.Back now reply.NoMemory = tt
-recover_goes rec meta recover.Ended now (reply.Found None) = tt
-recover_goes rec meta recover.Ended now (reply.Found (Some row)) = tt
-recover_goes rec meta recover.Ended now (reply.Rows rows) = tt
-recover_goes rec meta recover.Ended now reply.Applied = tt
-recover_goes rec meta recover.Ended now (reply.NotMet None) = tt
-recover_goes rec meta recover.Ended now (reply.NotMet (Some row)) = tt
-recover_goes rec meta recover.Ended now reply.Fault = tt
-recover_goes rec meta recover.Ended now reply.NoMemory = tt
+answered_asks q r e = absurd (cc)
 
 resolved_asks : (q : Request) (images : List Record) (rec : Record) (meta : Meta) (left : List Record) (n : RecoverPhase × RecoverStep) → GoesOn rec meta n → read_result (resolved images rec meta left n) ≡ step.More → IsSome (read_pending_at q (resolved images rec meta left n))
-unfolding GoesOn
-resolved_asks q images rec meta left (p, steps.More) h e = h
+resolved_asks q images rec meta left (p, steps.More) h e = h refl
 resolved_asks q images rec meta left (p, steps.Image None) h e = settle_asks q images left e
 resolved_asks q images rec meta left (p, steps.Image (Some b)) h e = settle_asks q (images ++ b ∷ []) left e
 resolved_asks q images rec meta left (p, steps.Busy id at) h e = absurd (cc)
@@ -195,12 +120,8 @@ refused_ends (Some (ask.DeleteIf key condition)) found e = cc
 
 prepare_more : (more : Bool) (q : Option Request) (r : Reply) → prepare_step more q r ≡ prepare.More → more ≡ true
 prepare_more true q r e = refl
-prepare_more false q reply.Applied e = absurd (cc)
 prepare_more false q (reply.NotMet found) e = absurd (refused_ends q found e)
-prepare_more false q reply.Fault e = absurd (cc)
-prepare_more false q (reply.Found found) e = absurd (cc)
-prepare_more false q (reply.Rows rows) e = absurd (cc)
-prepare_more false q reply.NoMemory e = absurd (cc)
+prepare_more false q r e = absurd (cc)
 
 touched_within : (i m : ℕ) (r : Reply) → i < m → touched_after i r ≤ m
 touched_within i m reply.Applied h = omega arith
@@ -213,16 +134,12 @@ touched_within i m reply.NoMemory h = omega arith
 going_prepare : (p : Work) (i n : ℕ) (s : PrepareStep) → n ≤ length p.writes → (s ≡ prepare.More → i + 1 < length p.writes) → IsCommitPending p (after_prepare p i n s)
 going_prepare p i n prepare.More most h = h refl
 going_prepare p i n prepare.Done most h = going_checking p 0
-going_prepare p i n (prepare.Conflict key found) most h = most
-going_prepare p i n prepare.Faulted most h = most
-going_prepare p i n prepare.NoMemory most h = most
+going_prepare p i n s most h = most
 
 going_check : (p : Work) (i : ℕ) (v : ValidateStep) → (v ≡ validate.More → i + 1 < length (checks p)) → IsCommitPending p (after_check p i v)
 going_check p i validate.More h = h refl
 going_check p i validate.Valid h = refl
-going_check p i (validate.Conflict key found) h = omega arith
-going_check p i validate.Faulted h = omega arith
-going_check p i validate.NoMemory h = omega arith
+going_check p i v h = omega arith
 
 judged_more : (more : Bool) (o : Option (Key × Option Record)) → judged more o ≡ validate.More → more ≡ true
 judged_more true o e = refl
@@ -232,81 +149,36 @@ judged_more false (Some d) e = absurd (cc)
 validate_more : (more : Bool) (c : Option Check) (r : Reply) → validate_step more c r ≡ validate.More → more ≡ true
 validate_more more c reply.Fault e = absurd (cc)
 validate_more more c reply.NoMemory e = absurd (cc)
-validate_more more None reply.Applied e = absurd (cc)
-validate_more more None (reply.NotMet found) e = absurd (cc)
-validate_more more None (reply.Found found) e = absurd (cc)
-validate_more more None (reply.Rows rows) e = absurd (cc)
 validate_more more (Some c) reply.Applied e = judged_more more (difference_in c reply.Applied) e
 validate_more more (Some c) (reply.NotMet found) e = judged_more more (difference_in c (reply.NotMet found)) e
 validate_more more (Some c) (reply.Found found) e = judged_more more (difference_in c (reply.Found found)) e
 validate_more more (Some c) (reply.Rows rows) e = judged_more more (difference_in c (reply.Rows rows)) e
+validate_more more None r e = absurd (cc)
 
 judges_more : (want v : ValidateStep) → Judges want v → v ≡ validate.More → want ≡ validate.More
 judges_more want validate.More h e = sym h
-judges_more want validate.Valid h e = absurd (cc)
-judges_more want (validate.Conflict key found) h e = absurd (cc)
-judges_more want validate.Faulted h e = absurd (cc)
-judges_more want validate.NoMemory h e = absurd (cc)
+judges_more want v h e = absurd (cc)
 
-DecideGoes : Work → DecidePhase × DecideStep → Type 0
+abbrev DecideGoes : Work → DecidePhase × DecideStep → Type 0
 DecideGoes p (d, decide.More) = IsSome (decide_request_at p.id p.now d)
-DecideGoes p (d, decide.Committed) = Unit {0}
-DecideGoes p (d, decide.Expired id) = Unit {0}
-DecideGoes p (d, decide.Faulted) = Unit {0}
-DecideGoes p (d, decide.Unknown id) = Unit {0}
-DecideGoes p (d, decide.BadRecord key) = Unit {0}
-DecideGoes p (d, decide.NoMemory) = Unit {0}
-
-told_goes : (p : Work) (d : DecidePhase) (a : DecideStep) (o : Result Decided (List ℕ)) → DecideGoes p (d, a) → DecideGoes p (d, step_of_row p.id a o)
-unfolding DecideGoes
-told_goes p d a (Err column) h = tt
-told_goes p d a (Ok x) h = elim x.decision as (λ y. DecideGoes p (d, elim y [ decision.Committed ↦ decide.Committed | decision.Aborted ↦ a ])) [ decision.Committed ↦ tt | decision.Aborted ↦ h ]
+DecideGoes p (d, a) = Unit {0}
 
 decide_goes : (p : Work) (d : DecidePhase) (r : Reply) → DecideGoes p (decide_next p.id d r)
-unfolding DecideGoes
-decide_goes p phase.Put (reply.Found None) = tt
-decide_goes p phase.Put (reply.Found (Some row)) = tt
-decide_goes p phase.Put (reply.Rows rows) = tt
-decide_goes p phase.Put reply.Applied = tt
-decide_goes p phase.Put (reply.NotMet None) = tt
-decide_goes p phase.Put (reply.NotMet (Some row)) = told_goes p phase.Ended (decide.Expired p.id) (decision_in row) tt
-decide_goes p phase.Put reply.Fault = refl
-decide_goes p phase.Put reply.NoMemory = tt
-decide_goes p phase.Look (reply.Found None) = refl
-decide_goes p phase.Look (reply.Found (Some row)) = told_goes p phase.Ended (decide.Expired p.id) (decision_in row) tt
-decide_goes p phase.Look (reply.Rows rows) = tt
-decide_goes p phase.Look reply.Applied = tt
-decide_goes p phase.Look (reply.NotMet None) = tt
-decide_goes p phase.Look (reply.NotMet (Some row)) = tt
-decide_goes p phase.Look reply.Fault = tt
-decide_goes p phase.Look reply.NoMemory = tt
-decide_goes p phase.Abort (reply.Found None) = tt
-decide_goes p phase.Abort (reply.Found (Some row)) = tt
-decide_goes p phase.Abort (reply.Rows rows) = tt
-decide_goes p phase.Abort reply.Applied = tt
-decide_goes p phase.Abort (reply.NotMet None) = tt
-decide_goes p phase.Abort (reply.NotMet (Some row)) = told_goes p phase.Ended (decide.Expired p.id) (decision_in row) tt
-decide_goes p phase.Abort reply.Fault = refl
-decide_goes p phase.Abort reply.NoMemory = tt
-decide_goes p phase.Again (reply.Found None) = tt
-decide_goes p phase.Again (reply.Found (Some row)) = told_goes p phase.Ended decide.Faulted (decision_in row) tt
-decide_goes p phase.Again (reply.Rows rows) = tt
-decide_goes p phase.Again reply.Applied = tt
-decide_goes p phase.Again (reply.NotMet None) = tt
-decide_goes p phase.Again (reply.NotMet (Some row)) = tt
-decide_goes p phase.Again reply.Fault = tt
-decide_goes p phase.Again reply.NoMemory = tt
-decide_goes p phase.Ended (reply.Found None) = tt
-decide_goes p phase.Ended (reply.Found (Some row)) = tt
-decide_goes p phase.Ended (reply.Rows rows) = tt
-decide_goes p phase.Ended reply.Applied = tt
-decide_goes p phase.Ended (reply.NotMet None) = tt
-decide_goes p phase.Ended (reply.NotMet (Some row)) = tt
-decide_goes p phase.Ended reply.Fault = tt
-decide_goes p phase.Ended reply.NoMemory = tt
+decide_goes p =
+    by_steps p.id (DecideGoes p)
+    (record {
+      look = refl;
+      abort = refl;
+      again = refl;
+      committed = tt;
+      expired = tt;
+      faulted = tt;
+      unknown = tt;
+      bad = tt;
+      no_memory = tt;
+    })
 
 going_decide : (p : Work) (n : DecidePhase × DecideStep) → DecideGoes p n → ended_at (after_decide p n.0 n.1) ≡ None → IsCommitPending p (after_decide p n.0 n.1)
-unfolding DecideGoes
 going_decide p (d, decide.More) h e = h
 going_decide p (d, decide.Committed) h e = going_forward p 0 e
 going_decide p (d, decide.Expired id) h e = going_back p (outcome.Expired id) (length p.writes) 0 (omega arith) e
@@ -318,10 +190,7 @@ going_decide p (d, decide.NoMemory) h e = omega arith
 going_abort : (p : Work) (a : Outcome) (n : ℕ) (r : Reply) → n ≤ length p.writes → ended_at (after_abort a n r) ≡ None → IsCommitPending p (after_abort a n r)
 going_abort p a n reply.Applied h e = going_back p a n 0 h e
 going_abort p a n (reply.NotMet found) h e = going_back p a n 0 h e
-going_abort p a n reply.Fault h e = absurd (cc)
-going_abort p a n reply.NoMemory h e = absurd (cc)
-going_abort p a n (reply.Found found) h e = absurd (cc)
-going_abort p a n (reply.Rows rows) h e = absurd (cc)
+going_abort p a n r h e = absurd (cc)
 
 -- a COMMIT that goes on has a call pending
 pub commit_goes : (p : Work) (s : Stage) (r : Reply) (after : Stage) → IsCommitPending p s → IsNext p s r after → ended_at (commit_step p s r) ≡ None → IsCommitPending p after

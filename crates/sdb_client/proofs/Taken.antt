@@ -15,38 +15,12 @@ use Rattle.sdb_client.specs.Inside.{IsValidPlan, IsPlanOf}
 
 pub memory_or : (z : Answer) → (z ≡ answer.NoMemory) ⊎ (z ≢ answer.NoMemory)
 memory_or answer.NoMemory = inl refl
-memory_or (answer.Rows rows) = inr (λ e. cc)
-memory_or (answer.Count n) = inr (λ e. cc)
-memory_or answer.Done = inr (λ e. cc)
-memory_or answer.Committed = inr (λ e. cc)
-memory_or (answer.Duplicate key) = inr (λ e. cc)
-memory_or (answer.Busy key id at) = inr (λ e. cc)
-memory_or (answer.Conflict key found) = inr (λ e. cc)
-memory_or (answer.Expired id) = inr (λ e. cc)
-memory_or answer.Faulted = inr (λ e. cc)
-memory_or (answer.Unknown id) = inr (λ e. cc)
-memory_or (answer.BadRecord key) = inr (λ e. cc)
-memory_or (answer.Refused r) = inr (λ e. cc)
-memory_or answer.Vacuuming = inr (λ e. cc)
-memory_or answer.OpenTransactions = inr (λ e. cc)
+memory_or z = inr (λ e. cc)
 
 -- the answer that says so is out of memory
 pub out_of_memory_is : (z : Answer) → is_out_of_memory z ≡ true → z ≡ answer.NoMemory
 out_of_memory_is answer.NoMemory h = refl
-out_of_memory_is (answer.Rows rows) h = absurd (cc)
-out_of_memory_is (answer.Count n) h = absurd (cc)
-out_of_memory_is answer.Done h = absurd (cc)
-out_of_memory_is answer.Committed h = absurd (cc)
-out_of_memory_is (answer.Duplicate key) h = absurd (cc)
-out_of_memory_is (answer.Busy key id at) h = absurd (cc)
-out_of_memory_is (answer.Conflict key found) h = absurd (cc)
-out_of_memory_is (answer.Expired id) h = absurd (cc)
-out_of_memory_is answer.Faulted h = absurd (cc)
-out_of_memory_is (answer.Unknown id) h = absurd (cc)
-out_of_memory_is (answer.BadRecord key) h = absurd (cc)
-out_of_memory_is (answer.Refused r) h = absurd (cc)
-out_of_memory_is answer.Vacuuming h = absurd (cc)
-out_of_memory_is answer.OpenTransactions h = absurd (cc)
+out_of_memory_is z h = absurd (cc)
 
 ---- plans
 

@@ -58,11 +58,7 @@ changes_seen read_set t (statement.Insert s) rows h key =
 changes_seen read_set t (statement.Upsert s) rows h key = ((key, named_ordered t s.columns s.values _ (found_ordered (key_of t s) read_set rows h)), tt)
 changes_seen read_set t (statement.Update s) rows h key = updates_seen read_set t s.sets (passes t s.tests) rows h
 changes_seen read_set t (statement.Delete s) rows h key = deletes_seen read_set (passes t s.tests) rows h
-changes_seen read_set t (statement.Select s) rows h key = tt
-changes_seen read_set t statement.Begin rows h key = tt
-changes_seen read_set t statement.Commit rows h key = tt
-changes_seen read_set t statement.Rollback rows h key = tt
-changes_seen read_set t statement.Vacuum rows h key = tt
+changes_seen read_set t st rows h key = tt
 
 change_fine : (t : Table) → is_table t ≡ true → (k : Keyed) → is_ordered k.change ≡ true → change_is_well_typed t k ≡ true → is_change k.change ≡ true
 change_fine t table k o f = of_change k.change o f

@@ -15,7 +15,6 @@ pub use Rattle.sdb_phases.specs.declared.step.RecoverStep.{RecoverStep}
 pub use Rattle.sdb_phases.specs.declared.step.ValidateStep.{ValidateStep}
 pub use Rattle.sdb_record.specs.declared.access.Access.{Access}
 pub use Rattle.sdb_record.specs.declared.access.Image.{Image}
-pub use Rattle.sdb_record.specs.declared.coordinator.Decided.{Decided}
 pub use Rattle.sdb_record.specs.declared.meta.Meta.{Meta}
 pub use Rattle.sdb_record.specs.declared.write.Change.{Change}
 pub use Rattle.sdb_record.specs.declared.write.Keyed.{Keyed}

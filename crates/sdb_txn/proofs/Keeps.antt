@@ -13,7 +13,7 @@ use Rattle.sdb_phases.specs.declared.step.RecoverStep.TheVariants as steps
 use Rattle.sdb_phases.specs.declared.step.RecoverPhase.TheVariants as phase
 use Rattle.sdb_phases.specs.Recover.{recover_next, row_followed}
 use Rattle.sdb_phases.specs.Steps.{CanGet}
-use Rattle.sdb_phases.proofs.Public.{by_expiry, by_row, by_rows}
+use Rattle.sdb_phases.proofs.Public.{by_expiry, by_row, by_rows_recover_rows as by_rows}
 use Rattle.sdb_txn.specs.Read.{Kind, Firm, Open, Bad, ReadStage, Asking, Resolving, Ended, answered, kind_of, opened, read_pending_at, read_step, resolved, settle, settle_one}
 use Rattle.sdb_txn.specs.Rows.{sort_of}
 use Rattle.sdb_txn.specs.Valid.{AreWithin, IsValid, IsPhase}

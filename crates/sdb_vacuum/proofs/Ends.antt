@@ -20,7 +20,7 @@ use Rattle.sdb_phases.specs.declared.step.RecoverStep.TheVariants as steps
 use Rattle.sdb_phases.specs.declared.step.RecoverPhase.TheVariants as recover
 use Rattle.sdb_phases.specs.CommitLaws.{holds_malformed, is_malformed}
 use Rattle.sdb_phases.specs.Recover.{Received, recover_next, recover_request_at, row_followed}
-use Rattle.sdb_phases.proofs.Public.{by_expiry, by_row, by_rows, row_malformed}
+use Rattle.sdb_phases.proofs.Public.{by_expiry, by_row, by_rows_recover_rows as by_rows, row_malformed}
 use Rattle.sdb_phases.specs.RecoverLaws.{received_fault}
 use Rattle.sdb_phases.specs.Steps.{CanGet}
 use Rattle.sdb_txn.specs.Read.{Kind, Firm, Open, Bad, kind_of, opened}
