@@ -1,5 +1,5 @@
 -- What a COMMIT knows stays so while other clients' events come.
-use Rattle.std.proofs.Common.{◌≡◌, ◌≢◌, ℕ, ℤ, true, false, List, ◌∷◌, length, Option, Some, None, refl, sym, ap, subst, ◌∙◌, arith, ◌⊎◌, inl, inr}
+use Rattle.std.proofs.Common.{◌≡◌, ◌≢◌, ℕ, ℤ, true, false, List, [], ◌∷◌, length, Option, Some, None, refl, sym, ap, subst, ◌∙◌, arith, ◌⊎◌, inl, inr}
 use Rattle.std.proofs.lemmas.Bool.Decides.{nat_tests}
 use Rattle.law_clients.specs.Types.{Event, Key, Outcome, Reply, Request}
 use Rattle.sdb_types.proofs.Public.{tests}
@@ -245,7 +245,9 @@ pub foreign : (plan : ℕ → Plan) (past : List Labelled) (c d t : ℕ) (e : Ev
 foreign plan past c d t e Other own begun apart by m = tt
 foreign plan past c d t e (Begins u n) own begun apart by m = λ same. begun (ap (protocol_state past).begun (sym same) ∙ m.fresh)
 foreign plan past c d t e (Takes u) own begun apart by m = λ same. apart (sym (subst (IsBy d) m.take by) ∙ sym m.owner ∙ ap (protocol_state past).owner same ∙ own)
-foreign plan past c d t e (Prepares u k word) own begun apart by m = λ same. apart (sym (caller d m.client e _ m.r by m.call) ∙ sym m.within.owner ∙ ap (protocol_state past).owner same ∙ own)
+foreign plan past c d t e (Prepares u [] word) own begun apart by m = absurd m
+foreign plan past c d t e (Prepares u (k ∷ l ∷ ks) word) own begun apart by m = absurd m
+foreign plan past c d t e (Prepares u (k ∷ []) word) own begun apart by m = λ same. apart (sym (caller d m.client e _ m.r by m.call) ∙ sym m.within.owner ∙ ap (protocol_state past).owner same ∙ own)
 foreign plan past c d t e (Checks u i) own begun apart by m = λ same. apart (sym (caller d m.client e m.q m.r by m.call) ∙ sym m.within.owner ∙ ap (protocol_state past).owner same ∙ own)
 foreign plan past c d t e (Decides u word) own begun apart by m = λ same. apart (sym (caller d m.client e _ m.r by m.call) ∙ sym m.within.owner ∙ ap (protocol_state past).owner same ∙ own)
 foreign plan past c d t e (Aborts u n word) own begun apart by m = tt

@@ -1,5 +1,5 @@
 -- A call of a COMMIT leaves it knowing what its next stage needs.
-use Rattle.std.proofs.Common.{◌≡◌, ◌≢◌, ◌≤◌, ◌<◌, ◌+◌, ℕ, ℤ, Bool, true, false, List, ◌∷◌, length, Option, Some, None, refl, sym, ap, subst, ◌∙◌, arith, ◌⊎◌, inl, inr, Ok, Err, Result, cond}
+use Rattle.std.proofs.Common.{◌≡◌, ◌≢◌, ◌≤◌, ◌<◌, ◌+◌, ℕ, ℤ, Bool, true, false, List, [], ◌∷◌, length, Option, Some, None, refl, sym, ap, subst, ◌∙◌, arith, ◌⊎◌, inl, inr, Ok, Err, Result, cond}
 use Rattle.std.specs.Prelude.{slice_get, nat_lt, if◌then◌else◌}
 use Rattle.std.specs.Result.{result_ok}
 use Rattle.std.proofs.lemmas.Bool.Decides.{nat_tests}
@@ -42,37 +42,37 @@ lost_over plan past p outcome.NoMemory l k = k
 
 ---- what one part changes
 
-told_yes : (h : ProtocolState) (t : ℕ) (k q : Key) → (h.answered t q ≡ true) ⊎ (q ≡ k) → (state_after_event h (Prepares t k Yes)).answered t q ≡ true
+told_yes : (h : ProtocolState) (t : ℕ) (k q : Key) → (h.answered t q ≡ true) ⊎ (q ≡ k) → (state_after_event h (Prepares t (k ∷ []) Yes)).answered t q ≡ true
 told_yes h t k q a = grind (arith, tests)
 
-asked_any : (h : ProtocolState) (t : ℕ) (k q : Key) (word : Ack) → (h.asked t q ≡ true) ⊎ (q ≡ k) → (state_after_event h (Prepares t k word)).asked t q ≡ true
+asked_any : (h : ProtocolState) (t : ℕ) (k q : Key) (word : Ack) → (h.asked t q ≡ true) ⊎ (q ≡ k) → (state_after_event h (Prepares t (k ∷ []) word)).asked t q ≡ true
 asked_any h t k q word a = grind (arith, tests)
 
-asked_other : (h : ProtocolState) (t : ℕ) (k q : Key) (word : Ack) → q ≢ k → (state_after_event h (Prepares t k word)).asked t q ≡ h.asked t q
+asked_other : (h : ProtocolState) (t : ℕ) (k q : Key) (word : Ack) → q ≢ k → (state_after_event h (Prepares t (k ∷ []) word)).asked t q ≡ h.asked t q
 asked_other h t k q word n = grind (arith, tests)
 
 -- i is the last, or before
 earlier : (i j : ℕ) → j < i + 1 → (j < i) ⊎ (j ≡ i)
 earlier i j l = grind (arith, nat_tests)
 
-told_more : (h : ProtocolState) (p : Work) (i : ℕ) (w : Write) → slice_get p.writes i ≡ Some w → AreAcknowledged h p i → AreAcknowledged (state_after_event h (Prepares p.id.0 w.key Yes)) p (i + 1)
+told_more : (h : ProtocolState) (p : Work) (i : ℕ) (w : Write) → slice_get p.writes i ≡ Some w → AreAcknowledged h p i → AreAcknowledged (state_after_event h (Prepares p.id.0 (w.key ∷ []) Yes)) p (i + 1)
 told_more h p i w here step_of_row j v l at = by (earlier i j l)
   where
-    by : (j < i) ⊎ (j ≡ i) → (state_after_event h (Prepares p.id.0 w.key Yes)).answered p.id.0 v.key ≡ true
+    by : (j < i) ⊎ (j ≡ i) → (state_after_event h (Prepares p.id.0 (w.key ∷ []) Yes)).answered p.id.0 v.key ≡ true
     by (inl b) = told_yes h p.id.0 w.key v.key (inl (step_of_row j v b at))
     by (inr e) = told_yes h p.id.0 w.key v.key (inr (ap (λ (x : Write). x.key) (some_is v w (sym at ∙ ap (slice_get p.writes) e ∙ here))))
 
-asked_more : (h : ProtocolState) (p : Work) (i : ℕ) (w : Write) (word : Ack) → slice_get p.writes i ≡ Some w → AskedTo h p i → AskedTo (state_after_event h (Prepares p.id.0 w.key word)) p (i + 1)
+asked_more : (h : ProtocolState) (p : Work) (i : ℕ) (w : Write) (word : Ack) → slice_get p.writes i ≡ Some w → AskedTo h p i → AskedTo (state_after_event h (Prepares p.id.0 (w.key ∷ []) word)) p (i + 1)
 asked_more h p i w word here asked j v l at = by (earlier i j l)
   where
-    by : (j < i) ⊎ (j ≡ i) → (state_after_event h (Prepares p.id.0 w.key word)).asked p.id.0 v.key ≡ true
+    by : (j < i) ⊎ (j ≡ i) → (state_after_event h (Prepares p.id.0 (w.key ∷ []) word)).asked p.id.0 v.key ≡ true
     by (inl b) = asked_any h p.id.0 w.key v.key word (inl (asked j v b at))
     by (inr e) = asked_any h p.id.0 w.key v.key word (inr (ap (λ (x : Write). x.key) (some_is v w (sym at ∙ ap (slice_get p.writes) e ∙ here))))
 
 asked_less : (h : ProtocolState) (p : Work) (m n : ℕ) → m ≤ n → AskedTo h p n → AskedTo h p m
 asked_less h p m n l asked j v b at = asked j v (omega arith) at
 
-unasked_more : (h : ProtocolState) (p : Work) (i : ℕ) (w : Write) (word : Ack) → WorkOk p → slice_get p.writes i ≡ Some w → UnaskedFrom h p i → UnaskedFrom (state_after_event h (Prepares p.id.0 w.key word)) p (i + 1)
+unasked_more : (h : ProtocolState) (p : Work) (i : ℕ) (w : Write) (word : Ack) → WorkOk p → slice_get p.writes i ≡ Some w → UnaskedFrom h p i → UnaskedFrom (state_after_event h (Prepares p.id.0 (w.key ∷ []) word)) p (i + 1)
 unasked_more h p i w word work here un j v l at = asked_other h p.id.0 w.key v.key word (work.apart i j w v (omega arith) here at) ∙ un j v (omega arith) at
 
 whole : {A : Type 0} (step_of_row : ℕ → A → Type 0) (xs : List A) (i : ℕ) → nat_lt (i + 1) (length xs) ≡ false → ((j : ℕ) (w : A) → j < i + 1 → slice_get xs j ≡ Some w → step_of_row j w) → (j : ℕ) (w : A) → j < length xs → slice_get xs j ≡ Some w → step_of_row j w
@@ -102,11 +102,11 @@ pub not_deciding : (s : laws.Stage) → s ≡ laws.Preparing → s ≢ laws.Deci
 not_deciding s e d = absurd (cc)
 
 pub prepare_kept : (plan : ℕ → Plan) (past : List Labelled) (c i : ℕ) (p : Work) (w : Write) (e : Event) (r : Reply) → CommitOk plan past c p (Preparing i) → slice_get p.writes i ≡ Some w
-    → StageOk plan (labelled_with (Prepares p.id.0 w.key (ack_of r)) e ∷ past) p (step p (Preparing i) r)
+    → StageOk plan (labelled_with (Prepares p.id.0 (w.key ∷ []) (ack_of r)) e ∷ past) p (step p (Preparing i) r)
 prepare_kept plan past c i p w e reply.Applied ok here = by_more (nat_lt (i + 1) (length p.writes)) refl
   where
     h : ProtocolState
-    h = state_after_event (protocol_state past) (Prepares p.id.0 w.key Yes)
+    h = state_after_event (protocol_state past) (Prepares p.id.0 (w.key ∷ []) Yes)
 
     step_of_row : AreAcknowledged h p (i + 1)
     step_of_row = told_more (protocol_state past) p i w here ok.stage.1
@@ -114,30 +114,30 @@ prepare_kept plan past c i p w e reply.Applied ok here = by_more (nat_lt (i + 1)
     asked : AskedTo h p (i + 1)
     asked = asked_more (protocol_state past) p i w Yes here ok.stage.2
 
-    by_more : (more : Bool) → nat_lt (i + 1) (length p.writes) ≡ more → StageOk plan (labelled_with (Prepares p.id.0 w.key Yes) e ∷ past) p (after_prepare p i (i + 1) (if more then Rattle.sdb_phases.specs.declared.step.PrepareStep.TheVariants.More else Rattle.sdb_phases.specs.declared.step.PrepareStep.TheVariants.Done))
+    by_more : (more : Bool) → nat_lt (i + 1) (length p.writes) ≡ more → StageOk plan (labelled_with (Prepares p.id.0 (w.key ∷ []) Yes) e ∷ past) p (after_prepare p i (i + 1) (if more then Rattle.sdb_phases.specs.declared.step.PrepareStep.TheVariants.More else Rattle.sdb_phases.specs.declared.step.PrepareStep.TheVariants.Done))
     by_more true t = (ok.stage.0, step_of_row, asked, unasked_more (protocol_state past) p i w Yes ok.work here ok.stage.3, ok.stage.4)
-    by_more false f = checks_begin plan (labelled_with (Prepares p.id.0 w.key Yes) e ∷ past) p (not_deciding ((protocol_state past).stage p.id.0) ok.stage.0)
+    by_more false f = checks_begin plan (labelled_with (Prepares p.id.0 (w.key ∷ []) Yes) e ∷ past) p (not_deciding ((protocol_state past).stage p.id.0) ok.stage.0)
         (whole (λ j w. h.answered p.id.0 w.key ≡ true) p.writes i f step_of_row)
         (whole (λ j w. h.asked p.id.0 w.key ≡ true) p.writes i f asked)
         ok.stage.4
 prepare_kept plan past c i p w e (reply.NotMet found) ok here = by (slice_get (prepares p) i)
   where
     h : ProtocolState
-    h = state_after_event (protocol_state past) (Prepares p.id.0 w.key No)
+    h = state_after_event (protocol_state past) (Prepares p.id.0 (w.key ∷ []) No)
 
-    at : (a : Outcome) → IsLost a → StageOk plan (labelled_with (Prepares p.id.0 w.key No) e ∷ past) p (Stopping a i)
-    at a lost = stops plan (labelled_with (Prepares p.id.0 w.key No) e ∷ past) p i (i + 1) a (omega arith) lost (asked_more (protocol_state past) p i w No here ok.stage.2) ok.stage.4
+    at : (a : Outcome) → IsLost a → StageOk plan (labelled_with (Prepares p.id.0 (w.key ∷ []) No) e ∷ past) p (Stopping a i)
+    at a lost = stops plan (labelled_with (Prepares p.id.0 (w.key ∷ []) No) e ∷ past) p i (i + 1) a (omega arith) lost (asked_more (protocol_state past) p i w No here ok.stage.2) ok.stage.4
 
-    by : (o : Option Request) → StageOk plan (labelled_with (Prepares p.id.0 w.key No) e ∷ past) p (after_prepare p i i (refused o found))
+    by : (o : Option Request) → StageOk plan (labelled_with (Prepares p.id.0 (w.key ∷ []) No) e ∷ past) p (after_prepare p i i (refused o found))
     by None = at outcome.NoMemory tt
     by (Some (ask.Get key)) = at outcome.NoMemory tt
     by (Some (ask.Scan span)) = at outcome.NoMemory tt
     by (Some (ask.PutIf rec condition)) = at (outcome.Conflict rec.key found) tt
     by (Some (ask.DeleteIf key condition)) = at outcome.NoMemory tt
-prepare_kept plan past c i p w e reply.Fault ok here = stops plan (labelled_with (Prepares p.id.0 w.key NoAck) e ∷ past) p (i + 1) (i + 1) outcome.Faulted (omega arith) tt (asked_more (protocol_state past) p i w NoAck here ok.stage.2) ok.stage.4
-prepare_kept plan past c i p w e reply.NoMemory ok here = stops plan (labelled_with (Prepares p.id.0 w.key OutOfMemory) e ∷ past) p i (i + 1) outcome.NoMemory (omega arith) tt (asked_more (protocol_state past) p i w OutOfMemory here ok.stage.2) ok.stage.4
-prepare_kept plan past c i p w e (reply.Found found) ok here = stops plan (labelled_with (Prepares p.id.0 w.key NoAck) e ∷ past) p i (i + 1) outcome.NoMemory (omega arith) tt (asked_more (protocol_state past) p i w NoAck here ok.stage.2) ok.stage.4
-prepare_kept plan past c i p w e (reply.Rows rows) ok here = stops plan (labelled_with (Prepares p.id.0 w.key NoAck) e ∷ past) p i (i + 1) outcome.NoMemory (omega arith) tt (asked_more (protocol_state past) p i w NoAck here ok.stage.2) ok.stage.4
+prepare_kept plan past c i p w e reply.Fault ok here = stops plan (labelled_with (Prepares p.id.0 (w.key ∷ []) NoAck) e ∷ past) p (i + 1) (i + 1) outcome.Faulted (omega arith) tt (asked_more (protocol_state past) p i w NoAck here ok.stage.2) ok.stage.4
+prepare_kept plan past c i p w e reply.NoMemory ok here = stops plan (labelled_with (Prepares p.id.0 (w.key ∷ []) OutOfMemory) e ∷ past) p i (i + 1) outcome.NoMemory (omega arith) tt (asked_more (protocol_state past) p i w OutOfMemory here ok.stage.2) ok.stage.4
+prepare_kept plan past c i p w e (reply.Found found) ok here = stops plan (labelled_with (Prepares p.id.0 (w.key ∷ []) NoAck) e ∷ past) p i (i + 1) outcome.NoMemory (omega arith) tt (asked_more (protocol_state past) p i w NoAck here ok.stage.2) ok.stage.4
+prepare_kept plan past c i p w e (reply.Rows rows) ok here = stops plan (labelled_with (Prepares p.id.0 (w.key ∷ []) NoAck) e ∷ past) p i (i + 1) outcome.NoMemory (omega arith) tt (asked_more (protocol_state past) p i w NoAck here ok.stage.2) ok.stage.4
 
 ---- decisions
 
@@ -235,19 +235,19 @@ stop_kept plan past c n b p e (reply.Rows rows) ok = lost_over plan (labelled_wi
 pub row_later : (q : Labelled) (past : List Labelled) (t : ℕ) (d : Decision) (m : ℤ) → IsRowObserved past t d m → IsRowObserved (q ∷ past) t d m
 row_later q past t d m x = record { row = x.row; observed = inr x.observed; key = x.key; says = x.says }
 
-pub forward_kept : (plan : ℕ → Plan) (past : List Labelled) (c i : ℕ) (p : Work) (k : Key) (e : Event) (r : Reply) → CommitOk plan past c p (Forward i) → StageOk plan (labelled_with (Rolls p.id.0 k decision.Committed) e ∷ past) p (step p (Forward i) r)
-forward_kept plan past c i p k e r ok = by_test plan (labelled_with (Rolls p.id.0 k decision.Committed) e ∷ past) p (nat_lt (i + 1) (length p.writes)) (Forward (i + 1)) (Over outcome.Committed) (λ t. (ok.stage.0, known ok.stage.1)) (λ f. known ok.stage.1)
+pub forward_kept : (plan : ℕ → Plan) (past : List Labelled) (c i : ℕ) (p : Work) (k : Key) (e : Event) (r : Reply) → CommitOk plan past c p (Forward i) → StageOk plan (labelled_with (Rolls p.id.0 (k ∷ []) decision.Committed) e ∷ past) p (step p (Forward i) r)
+forward_kept plan past c i p k e r ok = by_test plan (labelled_with (Rolls p.id.0 (k ∷ []) decision.Committed) e ∷ past) p (nat_lt (i + 1) (length p.writes)) (Forward (i + 1)) (Over outcome.Committed) (λ t. (ok.stage.0, known ok.stage.1)) (λ f. known ok.stage.1)
   where
-    known : IsKnownCommitted plan past p.id.0 p.now → IsKnownCommitted plan (labelled_with (Rolls p.id.0 k decision.Committed) e ∷ past) p.id.0 p.now
-    known (inl x) = inl (row_later (labelled_with (Rolls p.id.0 k decision.Committed) e) past p.id.0 decision.Committed p.now x)
+    known : IsKnownCommitted plan past p.id.0 p.now → IsKnownCommitted plan (labelled_with (Rolls p.id.0 (k ∷ []) decision.Committed) e ∷ past) p.id.0 p.now
+    known (inl x) = inl (row_later (labelled_with (Rolls p.id.0 (k ∷ []) decision.Committed) e) past p.id.0 decision.Committed p.now x)
     known (inr (inl x)) = inr (inl x)
-    known (inr (inr x)) = inr (inr (x.0, (x.1.0, row_later (labelled_with (Rolls p.id.0 k decision.Committed) e) past p.id.0 decision.Committed x.1.0 x.1.1), x.2))
+    known (inr (inr x)) = inr (inr (x.0, (x.1.0, row_later (labelled_with (Rolls p.id.0 (k ∷ []) decision.Committed) e) past p.id.0 decision.Committed x.1.0 x.1.1), x.2))
 
-pub back_kept : (plan : ℕ → Plan) (past : List Labelled) (c i n : ℕ) (b : Outcome) (p : Work) (k : Key) (e : Event) (r : Reply) → CommitOk plan past c p (Back b n i) → StageOk plan (labelled_with (Rolls p.id.0 k decision.Aborted) e ∷ past) p (step p (Back b n i) r)
-back_kept plan past c i n b p k e r ok = by_test plan (labelled_with (Rolls p.id.0 k decision.Aborted) e ∷ past) p (nat_lt (i + 1) n) (Back b n (i + 1)) (Over b) (λ t. (ok.stage.0, known ok.stage.1, ok.stage.2, less (i + 1) n t)) (λ f. lost_over plan (labelled_with (Rolls p.id.0 k decision.Aborted) e ∷ past) p b ok.stage.2 (inl (known ok.stage.1)))
+pub back_kept : (plan : ℕ → Plan) (past : List Labelled) (c i n : ℕ) (b : Outcome) (p : Work) (k : Key) (e : Event) (r : Reply) → CommitOk plan past c p (Back b n i) → StageOk plan (labelled_with (Rolls p.id.0 (k ∷ []) decision.Aborted) e ∷ past) p (step p (Back b n i) r)
+back_kept plan past c i n b p k e r ok = by_test plan (labelled_with (Rolls p.id.0 (k ∷ []) decision.Aborted) e ∷ past) p (nat_lt (i + 1) n) (Back b n (i + 1)) (Over b) (λ t. (ok.stage.0, known ok.stage.1, ok.stage.2, less (i + 1) n t)) (λ f. lost_over plan (labelled_with (Rolls p.id.0 (k ∷ []) decision.Aborted) e ∷ past) p b ok.stage.2 (inl (known ok.stage.1)))
   where
-    known : IsKnownAborted past p.id.0 → IsKnownAborted (labelled_with (Rolls p.id.0 k decision.Aborted) e ∷ past) p.id.0
-    known (inl x) = inl (x.0, row_later (labelled_with (Rolls p.id.0 k decision.Aborted) e) past p.id.0 decision.Aborted x.0 x.1)
+    known : IsKnownAborted past p.id.0 → IsKnownAborted (labelled_with (Rolls p.id.0 (k ∷ []) decision.Aborted) e ∷ past) p.id.0
+    known (inl x) = inl (x.0, row_later (labelled_with (Rolls p.id.0 (k ∷ []) decision.Aborted) e) past p.id.0 decision.Aborted x.0 x.1)
     known (inr x) = inr x
 
 ---- checks

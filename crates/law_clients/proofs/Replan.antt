@@ -34,7 +34,9 @@ after_played : (plan : ℕ → Plan) (past : List Labelled) (e : Event) (r : Act
 after_played plan past e Other m = tt
 after_played plan past e (Begins t c) m = tt
 after_played plan past e (Takes t) m = tt
-after_played plan past e (Prepares t k word) m = m.within.accepted
+after_played plan past e (Prepares t [] word) m = absurd m
+after_played plan past e (Prepares t (k ∷ []) word) m = m.within.accepted
+after_played plan past e (Prepares t (k ∷ l ∷ ks) word) m = absurd m
 after_played plan past e (Checks t i) m = tt
 after_played plan past e (Decides t word) m = m.within.accepted
 after_played plan past e (Aborts t n word) m = tt
@@ -143,12 +145,16 @@ play_other : (plan other : ℕ → Plan) (past : List Labelled) (e : Event) (r :
 play_other plan other past e Other l same m = m
 play_other plan other past e (Begins t c) l same m = m
 play_other plan other past e (Takes t) l same m = take_other plan other past e t (same t (taken_now (protocol_state past) t)) m
-play_other plan other past e (Prepares t k word) l same m = prepare_other plan other past e t k word (same t m.within.accepted) m
+play_other plan other past e (Prepares t [] word) l same m = m
+play_other plan other past e (Prepares t (k ∷ q ∷ ks) word) l same m = m
+play_other plan other past e (Prepares t (k ∷ []) word) l same m = prepare_other plan other past e t k word (same t m.within.accepted) m
 play_other plan other past e (Checks t i) l same m = check_other plan other past e t i (same t m.within.accepted) m
 play_other plan other past e (Decides t word) l same m = decide_other plan other past e t word (same t m.within.accepted) m
 play_other plan other past e (Aborts t n word) l same m = m
-play_other plan other past e (Rolls t k decision.Committed) l same m = record { roll = roll_other plan other past e t k l same m.roll; moment = m.moment; known = known_other plan other past t m.moment l same m.known; call = m.call }
-play_other plan other past e (Rolls t k decision.Aborted) l same m = record { roll = roll_other plan other past e t k l same m.roll; known = m.known; call = m.call }
+play_other plan other past e (Rolls t [] d) l same m = m
+play_other plan other past e (Rolls t (k ∷ q ∷ ks) d) l same m = m
+play_other plan other past e (Rolls t (k ∷ []) decision.Committed) l same m = record { roll = roll_other plan other past e t k l same m.roll; moment = m.moment; known = known_other plan other past t m.moment l same m.known; call = m.call }
+play_other plan other past e (Rolls t (k ∷ []) decision.Aborted) l same m = record { roll = roll_other plan other past e t k l same m.roll; known = m.known; call = m.call }
 play_other plan other past e (Removes k t) l same m = m
 play_other plan other past e (Ends t) l same m = m
 play_other plan other past e (Stops c) l same m = m

@@ -1,5 +1,5 @@
 -- The actions of a COMMIT in the law of the protocol, and what is known at each of its stages.
-use Rattle.std.specs.Prelude.{◌≡◌, ◌≢◌, ◌⊎◌, ◌≤◌, ◌<◌, ◌^◌, ℕ, true, false, not, if◌then◌else◌, List, ◌++◌, map, filter, length, Option, Some, None, slice_get}
+use Rattle.std.specs.Prelude.{◌≡◌, ◌≢◌, ◌⊎◌, ◌≤◌, ◌<◌, ◌^◌, ℕ, true, false, not, if◌then◌else◌, List, [], ◌∷◌, ◌++◌, map, filter, length, Option, Some, None, slice_get}
 use Rattle.law_clients.specs.Types.{Check, Decision, Key, Outcome, Reply, Request, Write}
 use Rattle.sdb_types.specs.declared.record.Request.TheVariants as ask
 use Rattle.sdb_types.specs.Contents.{CanAnswer}
@@ -43,12 +43,12 @@ plan_of p = record { writes = p.writes; read_set = items_of_work p; now = p.now 
 -- the part of the prepare of a write
 abbrev pub prepare_action : ℕ → Option Write → Reply → Action
 prepare_action t None r = Other
-prepare_action t (Some w) r = Prepares t w.key (ack_of r)
+prepare_action t (Some w) r = Prepares t (w.key ∷ []) (ack_of r)
 
 -- the part of the roll of a write, by a decision
 abbrev pub roll_action : ℕ → Decision → Option Write → Action
 roll_action t d None = Other
-roll_action t d (Some w) = Rolls t w.key d
+roll_action t d (Some w) = Rolls t (w.key ∷ []) d
 
 -- The action of the call at a stage, with its reply. A check has one where it passes, and a look none.
 abbrev pub action_of : Work → Stage → Reply → Action

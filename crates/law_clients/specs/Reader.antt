@@ -1,5 +1,5 @@
 -- The actions of a recovery in the law of the protocol, and what its client knows at each call.
-use Rattle.std.specs.Prelude.{◌≡◌, ◌⊎◌, ◌<◌, ◌^◌, ℕ, ℤ, true, false, List, Some}
+use Rattle.std.specs.Prelude.{◌≡◌, ◌⊎◌, ◌<◌, ◌^◌, ℕ, ℤ, true, false, List, [], ◌∷◌, Some}
 use Rattle.law_clients.specs.Types.{Meta, Record, RecoverPhase, Reply}
 use Rattle.sdb_types.specs.declared.record.State.TheVariants as state
 use Rattle.sdb_record.specs.declared.coordinator.Decision.TheVariants as decision
@@ -12,8 +12,8 @@ use Rattle.sdb_model.specs.Tables.{is_data}
 -- The part of a recovery's call: a put of the row ABORTED of the record's transaction, or the roll of the record.
 abbrev pub recover_action : Record → Meta → RecoverPhase → Reply → Action
 recover_action rec meta (phase.Abort moment) r = Aborts meta.id.0 moment (ack_of r)
-recover_action rec meta (phase.Forward at) r = Rolls meta.id.0 rec.key decision.Committed
-recover_action rec meta phase.Back r = Rolls meta.id.0 rec.key decision.Aborted
+recover_action rec meta (phase.Forward at) r = Rolls meta.id.0 (rec.key ∷ []) decision.Committed
+recover_action rec meta phase.Back r = Rolls meta.id.0 (rec.key ∷ []) decision.Aborted
 recover_action rec meta p r = Other
 
 -- A row ABORTED was observed, or a put of it was seen and applied: whatever comes later, this stays so.

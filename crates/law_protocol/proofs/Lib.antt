@@ -1,4 +1,5 @@
 mod Texts
+mod OneKey
 mod Allowed
 mod Small
 mod Shadow
@@ -10,11 +11,13 @@ mod Canon
 mod Known
 mod Settled
 mod Shown
+mod Changes
 mod Links
 mod Moves
 mod Rolling
 mod Reading
 mod Whole
+mod Selfless
 mod Derived
 mod Times
 mod Examples

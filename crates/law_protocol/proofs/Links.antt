@@ -1,21 +1,20 @@
 -- The stores hold what the history says: kept by each kind of write.
-use Rattle.std.proofs.Common.{◌≡◌, ◌≢◌, ℕ, ℤ, ◌<◌, ◌^◌, Bool, true, false, List, Option, Some, None, ◌⊎◌, inl, inr, refl, sym, ap, subst, ◌∙◌, arith}
-use Rattle.std.specs.Prelude.{◌&&◌, ◌==◌, not, if◌then◌else◌}
+use Rattle.std.proofs.Common.{◌≡◌, ◌≢◌, ℕ, ℤ, ◌<◌, ◌^◌, Bool, true, false, List, [], ◌∷◌, Option, Some, inl, inr, refl, sym, ap, subst, ◌∙◌, arith}
+use Rattle.std.specs.Prelude.{◌&&◌, ◌==◌, if◌then◌else◌}
 use Rattle.std.specs.Option.{option_map}
-use Rattle.law_protocol.specs.Types.{Condition, Decision, Event, Key, Place, Record, Reply, TxId}
-use Rattle.sdb_types.specs.declared.record.Request.TheVariants as ask
+use Rattle.std.specs.List.{AllByRecursion}
+use Rattle.law_protocol.specs.Types.{Condition, Decision, Key, Place, Record, TxId}
 use Rattle.sdb_record.specs.Coordinator.{coordinator_key_of, coordinator_row_of, id_of_key}
-use Rattle.sdb_types.specs.Contents.{holds}
 use Rattle.sdb_types.specs.Order.{same_key}
-use Rattle.sdb_types.proofs.Public.{same_key_tells, tests}
+use Rattle.sdb_types.proofs.Public.{clash, same_key_of, same_key_self, same_key_tells, tests}
 use Rattle.sdb_record.proofs.Public.{key-of-id}
-use Rattle.sdb_model.specs.Events.{StoreContents, Effect, stored_at, IsCall}
+use Rattle.sdb_model.specs.Events.{StoreContents, stored_at}
 use Rattle.law_protocol.specs.Plan.{Plan}
-use Rattle.law_protocol.specs.History.{History, Standing}
-use Rattle.law_protocol.specs.Lawful.{id, IsCallOf}
+use Rattle.law_protocol.specs.History.{History, Standing, has_key}
+use Rattle.law_protocol.specs.Lawful.{id}
 use Rattle.law_protocol.specs.Records.{record_for, row_for, ContainsHistory}
-use Rattle.law_protocol.specs.Trace.{takes_effect_at, has_effect}
-use Rattle.law_protocol.proofs.Writes.{IsWritten, put_written, delete_written}
+use Rattle.law_protocol.specs.Changed.{Change, Changed, keys_of}
+use Rattle.law_protocol.proofs.Changes.{at_change, both}
 use Rattle.sdb_model.specs.Tables.{is_data}
 
 ---- keys of rows
@@ -26,21 +25,15 @@ row_is_no_data t = refl
 
 pub row_apart : (k : Key) (t : ℕ) → is_data k ≡ true → same_key (coordinator_key_of (id t)) k ≡ false
 row_apart k t h = elim (same_key_tells (coordinator_key_of (id t)) k) [
-  | inl e ↦ absurd (clash (sym h ∙ ap is_data (sym e.1) ∙ row_is_no_data t))
+  | inl e ↦ clash (sym h ∙ ap is_data (sym e.1) ∙ row_is_no_data t)
   | inr n ↦ n.0
 ]
-  where
-    clash : true ≡ false → ⊥
-    clash e = cc
 
 pub data_apart : (k : Key) (t : ℕ) → is_data k ≡ true → same_key k (coordinator_key_of (id t)) ≡ false
 data_apart k t h = elim (same_key_tells k (coordinator_key_of (id t))) [
-  | inl e ↦ absurd (clash (sym h ∙ ap is_data e.1 ∙ row_is_no_data t))
+  | inl e ↦ clash (sym h ∙ ap is_data e.1 ∙ row_is_no_data t)
   | inr n ↦ n.0
 ]
-  where
-    clash : true ≡ false → ⊥
-    clash e = cc
 
 -- rows of two transactions are at two keys
 pub rows_apart : (t u : ℕ) → t < 2 ^ 128 → u < 2 ^ 128 → same_key (coordinator_key_of (id t)) (coordinator_key_of (id u)) ≡ (t == u)
@@ -58,48 +51,68 @@ rows_apart t u a b = elim (same_key_tells (coordinator_key_of (id t)) (coordinat
     other : (t u : ℕ) → t ≢ u → (t == u) ≡ false
     other t u e = grind (arith, tests)
 
----- the history after a write
+---- the history after an event
+
+-- what a change leaves is what the history has there
+pub record IsLeft (plan : ℕ → Plan) (v : History) (c : Change) : Type 0 where
+  pub record_is : is_data c.key ≡ true → c.left ≡ option_map (record_for plan c.key) (v.rows c.key)
+  pub row_is : (t : ℕ) → t < 2 ^ 128 → c.key ≡ coordinator_key_of (id t) → c.left ≡ row_for v t
+
+-- changes of keys of any tables
+pub link_changes : (plan : ℕ → Plan) (places : List Place) (w v : History) (before now : List StoreContents) (cs : List Change) (done : Bool)
+    → ContainsHistory plan places w before → Changed places cs before now done
+    → (done ≡ true → AllByRecursion (IsLeft plan v) cs)
+    → ((q : Key) → done && has_key (keys_of cs) q ≡ false → v.rows q ≡ w.rows q)
+    → ((t : ℕ) → t < 2 ^ 128 → done && has_key (keys_of cs) (coordinator_key_of (id t)) ≡ false → row_for v t ≡ row_for w t)
+    → ContainsHistory plan places v now
+link_changes plan places w v before now cs done held changed left rows same = record {
+  records = λ q there. by_record q there done refl (has_key (keys_of cs) q) refl;
+  rows = λ t fits. by_row t fits done refl (has_key (keys_of cs) (coordinator_key_of (id t))) refl;
+}
+  where
+    here : (k : Key) → done ≡ true → has_key (keys_of cs) k ≡ true → (c : Change) × (c.key ≡ k) × ((stored_at places now c.key ≡ c.left) × IsLeft plan v c)
+    here k d h = at_change _ cs k (both _ _ cs (changed.left d) (left d)) h
+
+    put : (k : Key) → is_data k ≡ true → (c : Change) × (c.key ≡ k) × ((stored_at places now c.key ≡ c.left) × IsLeft plan v c) → stored_at places now k ≡ option_map (record_for plan k) (v.rows k)
+    put k there x = subst (λ y. stored_at places now y ≡ option_map (record_for plan y) (v.rows y)) x.1 (x.2.0 ∙ x.2.1.record_is (ap is_data x.1 ∙ there))
+
+    put_row : (t : ℕ) → t < 2 ^ 128 → (c : Change) × (c.key ≡ coordinator_key_of (id t)) × ((stored_at places now c.key ≡ c.left) × IsLeft plan v c) → stored_at places now (coordinator_key_of (id t)) ≡ row_for v t
+    put_row t fits x = ap (stored_at places now) (sym x.1) ∙ x.2.0 ∙ x.2.1.row_is t fits x.1
+
+    by_record : (q : Key) → is_data q ≡ true → (b : Bool) → done ≡ b → (h : Bool) → has_key (keys_of cs) q ≡ h → stored_at places now q ≡ option_map (record_for plan q) (v.rows q)
+    by_record q there false d h e = changed.kept d q ∙ held.records q there ∙ ap (option_map (record_for plan q)) (sym (rows q (rw d refl)))
+    by_record q there true d false e = changed.others q e ∙ held.records q there ∙ ap (option_map (record_for plan q)) (sym (rows q (rw d e)))
+    by_record q there true d true e = put q there (here q d e)
+
+    by_row : (t : ℕ) → t < 2 ^ 128 → (b : Bool) → done ≡ b → (h : Bool) → has_key (keys_of cs) (coordinator_key_of (id t)) ≡ h → stored_at places now (coordinator_key_of (id t)) ≡ row_for v t
+    by_row t fits false d h e = changed.kept d (coordinator_key_of (id t)) ∙ held.rows t fits ∙ sym (same t fits (rw d refl))
+    by_row t fits true d false e = changed.others (coordinator_key_of (id t)) e ∙ held.rows t fits ∙ sym (same t fits (rw d e))
+    by_row t fits true d true e = put_row t fits (here (coordinator_key_of (id t)) d e)
 
 -- a write at a key of a table of records
-pub link_write : (plan : ℕ → Plan) (places : List Place) (w v : History) (before now : List StoreContents) (k : Key) (c : Condition) (new : Option Record) (r : Reply) (x : Option Standing) (done : Bool)
-    → ContainsHistory plan places w before → IsWritten places k c new r before now → takes_effect_at places k c before now ≡ done → is_data k ≡ true
+pub link_write : (plan : ℕ → Plan) (places : List Place) (w v : History) (before now : List StoreContents) (k : Key) (c : Condition) (new : Option Record) (x : Option Standing) (done : Bool)
+    → ContainsHistory plan places w before → Changed places (record { key = k; left = new; condition = c } ∷ []) before now done → is_data k ≡ true
     → (done ≡ true → new ≡ option_map (record_for plan k) x)
     → ((q : Key) → v.rows q ≡ (if done && same_key q k then x else w.rows q))
     → ((t : ℕ) → row_for v t ≡ row_for w t)
     → ContainsHistory plan places v now
-link_write plan places w v before now k c new r x done held written took_effect outside put rows same = record {
-  records = λ q there. written.at q ∙ by q there done took_effect put (same_key_tells q k) ∙ ap (option_map (record_for plan q)) (sym (rows q));
-  rows = λ t fits. written.at (coordinator_key_of (id t)) ∙ rw (row_apart k t outside) (none (takes_effect_at places k c before now) (stored_at places before (coordinator_key_of (id t)))) ∙ held.rows t fits ∙ sym (same t);
-}
-  where
-    none : (b : Bool) (y : Option Record) → (if b && false then new else y) ≡ y
-    none true y = refl
-    none false y = refl
-
-    by : (q : Key) → is_data q ≡ true → (b : Bool) → takes_effect_at places k c before now ≡ b → (b ≡ true → new ≡ option_map (record_for plan k) x) → ((same_key q k ≡ true) × (q ≡ k)) ⊎ ((same_key q k ≡ false) × (q ≢ k))
-        → (if takes_effect_at places k c before now && same_key q k then new else stored_at places before q) ≡ option_map (record_for plan q) (if b && same_key q k then x else w.rows q)
-    by q there true e f (inl s) = rw e (rw s.0 (f refl ∙ ap (λ z. option_map (record_for plan z) x) (sym s.1)))
-    by q there true e f (inr s) = rw e (rw s.0 (held.records q there))
-    by q there false e f s = rw e (held.records q there)
+link_write plan places w v before now k c new x done held changed outside put rows same =
+    link_changes plan places w v before now (record { key = k; left = new; condition = c } ∷ []) done held changed
+    (λ d. (record { record_is = λ there. put d ∙ ap (option_map (record_for plan k)) (sym (rows k ∙ rw d (rw (same_key_self k) refl))); row_is = λ t fits e. clash (sym outside ∙ ap is_data e ∙ row_is_no_data t) }, tt))
+    (λ q h. rows q ∙ rw h refl)
+    (λ t fits h. same t)
 
 -- a put of a row
-pub link_row : (plan : ℕ → Plan) (places : List Place) (w v : History) (before now : List StoreContents) (t : ℕ) (d : Decision) (m : ℤ) (c : Condition) (r : Reply) (done : Bool)
-    → ContainsHistory plan places w before → IsWritten places (coordinator_key_of (id t)) c (Some (coordinator_row_of (id t) d m)) r before now → takes_effect_at places (coordinator_key_of (id t)) c before now ≡ done → t < 2 ^ 128
+pub link_row : (plan : ℕ → Plan) (places : List Place) (w v : History) (before now : List StoreContents) (t : ℕ) (d : Decision) (m : ℤ) (c : Condition) (done : Bool)
+    → ContainsHistory plan places w before → Changed places (record { key = coordinator_key_of (id t); left = Some (coordinator_row_of (id t) d m); condition = c } ∷ []) before now done → t < 2 ^ 128
     → ((q : Key) → v.rows q ≡ w.rows q)
     → ((u : ℕ) → row_for v u ≡ (if done && u == t then Some (coordinator_row_of (id t) d m) else row_for w u))
     → ContainsHistory plan places v now
-link_row plan places w v before now t d m c r done held written took_effect fit rows same = record {
-  records = λ q there. written.at q ∙ rw (data_apart q t there) (none (takes_effect_at places (coordinator_key_of (id t)) c before now) (stored_at places before q)) ∙ held.records q there ∙ ap (option_map (record_for plan q)) (sym (rows q));
-  rows = λ u fits. written.at (coordinator_key_of (id u)) ∙ by u fits done took_effect ∙ sym (same u);
-}
-  where
-    none : (b : Bool) (y : Option Record) → (if b && false then Some (coordinator_row_of (id t) d m) else y) ≡ y
-    none true y = refl
-    none false y = refl
-
-    by : (u : ℕ) → u < 2 ^ 128 → (b : Bool) → takes_effect_at places (coordinator_key_of (id t)) c before now ≡ b
-        → (if takes_effect_at places (coordinator_key_of (id t)) c before now && same_key (coordinator_key_of (id u)) (coordinator_key_of (id t)) then Some (coordinator_row_of (id t) d m) else stored_at places before (coordinator_key_of (id u))) ≡ (if b && u == t then Some (coordinator_row_of (id t) d m) else row_for w u)
-    by u fits b e = rw e (rw (rows_apart u t fits fit) (rw (held.rows u fits) refl))
+link_row plan places w v before now t d m c done held changed fit rows same =
+    link_changes plan places w v before now (record { key = coordinator_key_of (id t); left = Some (coordinator_row_of (id t) d m); condition = c } ∷ []) done held changed
+    (λ y. (record { record_is = λ there. clash (sym there ∙ row_is_no_data t); row_is = λ u fits e. sym (same u ∙ rw y (rw (sym (rows_apart u t fits fit) ∙ same_key_of (coordinator_key_of (id u)) (coordinator_key_of (id t)) (sym e)) refl)) }, tt))
+    (λ q h. rows q)
+    (λ u fits h. same u ∙ rw (ap (λ b. done && b) (sym (rows_apart u t fits fit)) ∙ h) refl)
 
 -- what leaves everything as it was
 pub link_same : (plan : ℕ → Plan) (places : List Place) (w v : History) (before now : List StoreContents) → ContainsHistory plan places w before → ((k : Key) → stored_at places now k ≡ stored_at places before k) → ((q : Key) → v.rows q ≡ w.rows q) → ((t : ℕ) → row_for v t ≡ row_for w t) → ContainsHistory plan places v now
@@ -107,29 +120,3 @@ link_same plan places w v before now held still rows same = record {
   records = λ q there. still q ∙ held.records q there ∙ ap (option_map (record_for plan q)) (sym (rows q));
   rows = λ t fits. still (coordinator_key_of (id t)) ∙ held.rows t fits ∙ sym (same t);
 }
-
----- calls that write
-
--- what a put does, and that its event took effect where it did
-pub put_call : (places : List Place) (e : Event) (client : ℕ) (rec new : Record) (c : Condition) (r : Reply) (before now : List StoreContents) (k : Key) → IsCallOf e client (ask.PutIf rec c) r → Effect places e before now → rec ≡ new → new.key ≡ k → holds c (Some new) ≡ false
-    → IsWritten places k c (Some new) r before now × (has_effect places e before now ≡ takes_effect_at places k c before now)
-put_call places e client rec new c r before now k call effect same key fresh =
-    let is : IsCall places call.store (ask.PutIf rec c) call.how r before now = subst (λ x. Effect places x before now) call.call effect in
-    let written : IsWritten places new.key c (Some new) r before now = put_written places call.store new c call.how r before now (subst (λ x. IsCall places call.store (ask.PutIf x c) call.how r before now) same is) fresh in (
-      subst (λ x. IsWritten places x c (Some new) r before now) key written,
-      ap (λ x. has_effect places x before now) call.call ∙ ap (λ (x : Record). takes_effect_at places x.key c before now) same ∙ ap (λ x. takes_effect_at places x c before now) key,
-    )
-
-pub delete_call : (places : List Place) (e : Event) (client : ℕ) (key : Key) (c : Condition) (r : Reply) (before now : List StoreContents) → IsCallOf e client (ask.DeleteIf key c) r → Effect places e before now → holds c None ≡ false
-    → IsWritten places key c None r before now × (has_effect places e before now ≡ takes_effect_at places key c before now)
-delete_call places e client key c r before now call effect fresh =
-    let is : IsCall places call.store (ask.DeleteIf key c) call.how r before now = subst (λ x. Effect places x before now) call.call effect in
-    (delete_written places call.store key c call.how r before now is fresh, ap (λ x. has_effect places x before now) call.call)
-
--- where a write took effect its condition held
-pub took_held : (places : List Place) (k : Key) (c : Condition) (before now : List StoreContents) → takes_effect_at places k c before now ≡ true → holds c (stored_at places before k) ≡ true
-took_held places k c before now h = by (holds c (stored_at places before k)) (not (holds c (stored_at places now k))) h
-  where
-    by : (a b : Bool) → a && b ≡ true → a ≡ true
-    by true b h = refl
-    by false b h = h

@@ -22,7 +22,8 @@ use Rattle.sdb_model.specs.Transactions.{is_prepared_record}
 use Rattle.sdb_model.specs.Explained.{IsTableKey, CommittedRecorded, AbortedRemoved, IsAborted, RowsFinal, UnresolvedPrepared, PreparedPersists, IsPrepareOf, IsPreparedAfter}
 use Rattle.sdb_model.proofs.Public.{in_only}
 use Rattle.law_protocol.specs.Plan.{Plan}
-use Rattle.law_protocol.specs.History.{Action, Other, Begins, Takes, Prepares, Checks, Decides, Aborts, Rolls, Removes, Ends, Stops, Ack, History, Held, happens}
+use Rattle.law_protocol.specs.History.{Action, Other, Begins, Takes, Prepares, Checks, Decides, Aborts, Rolls, Removes, Ends, Stops, Ack, History, Held, has_key, happens}
+use Rattle.law_protocol.proofs.OneKey.{the_one}
 use Rattle.law_protocol.specs.Lawful.{Labelled, IsEnabled, MayPrepare, id}
 use Rattle.law_protocol.specs.Trace.{closing, history, has_effect, after_end, IsTraced}
 use Rattle.law_protocol.specs.Records.{record_prepared_by, record_for, row_for}
@@ -35,8 +36,7 @@ use Rattle.law_protocol.proofs.Derived.{decision_is, committed_is_canon, aborted
 use Rattle.law_protocol.proofs.Times.{whole_of, front_run, lasts, stood_before, rows_final}
 use Rattle.law_protocol.proofs.Points.{held_prepares, firm_no}
 use Rattle.sdb_types.specs.Contents.{is_version}
-use Rattle.sdb_types.proofs.Public.{clash, same_key_self, same_key_tells, tests}
-use Rattle.sdb_types.specs.Order.{same_key}
+use Rattle.sdb_types.proofs.Public.{clash, tests}
 use Rattle.sdb_model.specs.Tables.{is_data}
 
 -- the keys of a catalog's tables are keys of records
@@ -124,13 +124,17 @@ early_run plan places opening front back ms more e r =
 
 ---- the event of a prepare
 
-took_now : (plan : ℕ → Plan) (w : History) (r : Action) (done : Bool) (t : ℕ) (k : Key) → (happens plan w r done).took_effect t k ≡ true → (w.took_effect t k ≡ true) ⊎ ((word : Ack) × (r ≡ Prepares t k word) × (done ≡ true))
-took_now plan w (Prepares u q word) done t k h = by (t == u) refl (same_key_tells k q)
+took_now : (plan : ℕ → Plan) (w : History) (r : Action) (done : Bool) (t : ℕ) (k : Key) → (happens plan w r done).took_effect t k ≡ true → (w.took_effect t k ≡ true) ⊎ ((ks : List Key) × (word : Ack) × (r ≡ Prepares t ks word) × (has_key ks k ≡ true) × (done ≡ true))
+took_now plan w (Prepares u ks word) done t k h = by (t == u) refl (has_key ks k) refl
   where
-    here : t ≡ u → k ≡ q → done ≡ true
-    here e f = grind (arith, tests)
+    here : t ≡ u → has_key ks k ≡ true → (w.took_effect t k ≡ true) ⊎ (done ≡ true)
+    here e f = by done h
+      where
+        by : (b : Bool) → (happens plan w (Prepares u ks word) b).took_effect t k ≡ true → (w.took_effect t k ≡ true) ⊎ (b ≡ true)
+        by true h = inr refl
+        by false h = inl h
 
-    apart : (t ≢ u) ⊎ (k ≢ q) → w.took_effect t k ≡ true
+    apart : (t ≢ u) ⊎ (has_key ks k ≡ false) → w.took_effect t k ≡ true
     apart n = grind (arith, tests)
 
     same : (t == u) ≡ true → t ≡ u
@@ -139,10 +143,13 @@ took_now plan w (Prepares u q word) done t k h = by (t == u) refl (same_key_tell
     other : (t == u) ≡ false → t ≢ u
     other e = grind (arith, tests)
 
-    by : (b : Bool) → (t == u) ≡ b → ((same_key k q ≡ true) × (k ≡ q)) ⊎ ((same_key k q ≡ false) × (k ≢ q)) → (w.took_effect t k ≡ true) ⊎ ((x : Ack) × (Prepares u q word ≡ Prepares t k x) × (done ≡ true))
-    by false e s = inl (apart (inl (other e)))
-    by true e (inr n) = inl (apart (inr n.1))
-    by true e (inl s) = inr (word, ap (λ x. Prepares x q word) (sym (same e)) ∙ ap (λ y. Prepares t y word) (sym s.1), here (same e) s.1)
+    by : (b : Bool) → (t == u) ≡ b → (c : Bool) → has_key ks k ≡ c → (w.took_effect t k ≡ true) ⊎ ((qs : List Key) × (x : Ack) × (Prepares u ks word ≡ Prepares t qs x) × (has_key qs k ≡ true) × (done ≡ true))
+    by false e c f = inl (apart (inl (other e)))
+    by true e false f = inl (apart (inr f))
+    by true e true f = elim (here (same e) f) [
+      | inl old ↦ inl old
+      | inr now ↦ inr (ks, word, ap (λ x. Prepares x ks word) (sym (same e)), f, now)
+    ]
 took_now plan w Other done t k h = inl h
 took_now plan w (Begins u c) done t k h = inl h
 took_now plan w (Takes u) done t k h = inl h
@@ -162,11 +169,13 @@ record IsPutBy (plan : ℕ → Plan) (places : List Place) (opening : List Store
   more : List (List StoreContents)
   s : List StoreContents
   es : List (List StoreContents)
+  ks : List Key
   word : Ack
   past_is : past ≡ later ++ p ∷ early
   ss_is : ss ≡ more ++ s ∷ es
   same : length later ≡ length more
-  action : p.action ≡ Prepares t k word
+  action : p.action ≡ Prepares t ks word
+  among : has_key ks k ≡ true
   done : has_effect places p.event (closing opening es) s ≡ true
 
 put_by : (plan : ℕ → Plan) (places : List Place) (opening : List StoreContents) (past : List Labelled) (ss : List (List StoreContents)) (t : ℕ) (k : Key) → (history plan places opening past ss).took_effect t k ≡ true → IsPutBy plan places opening past ss t k
@@ -175,7 +184,7 @@ put_by plan places opening (p ∷ past) [] t k h = absurd (cc)
 put_by plan places opening (p ∷ past) (s ∷ ss) t k h =
     elim (took_now plan (history plan places opening past ss) p.action (has_effect places p.event (closing opening ss) s) t k (unended p.ends h)) [
       | inl before ↦ longer (put_by plan places opening past ss t k before)
-      | inr now ↦ record { later = []; p = p; early = past; more = []; s = s; es = ss; word = now.0; past_is = refl; ss_is = refl; same = refl; action = now.1; done = now.2 }
+      | inr now ↦ record { later = []; p = p; early = past; more = []; s = s; es = ss; ks = now.0; word = now.1; past_is = refl; ss_is = refl; same = refl; action = now.2; among = now.3; done = now.4 }
     ]
   where
     unended : (ends : Option ℕ) → (after_end plan (happens plan (history plan places opening past ss) p.action (has_effect places p.event (closing opening ss) s)) ends).took_effect t k ≡ true → (happens plan (history plan places opening past ss) p.action (has_effect places p.event (closing opening ss) s)).took_effect t k ≡ true
@@ -183,7 +192,7 @@ put_by plan places opening (p ∷ past) (s ∷ ss) t k h =
     unended (Some u) h = h
 
     longer : IsPutBy plan places opening past ss t k → IsPutBy plan places opening (p ∷ past) (s ∷ ss) t k
-    longer b = record { later = p ∷ b.later; p = b.p; early = b.early; more = s ∷ b.more; s = b.s; es = b.es; word = b.word; past_is = ap (λ x. p ∷ x) b.past_is; ss_is = ap (λ x. s ∷ x) b.ss_is; same = ap suc b.same; action = b.action; done = b.done }
+    longer b = record { later = p ∷ b.later; p = b.p; early = b.early; more = s ∷ b.more; s = b.s; es = b.es; ks = b.ks; word = b.word; past_is = ap (λ x. p ∷ x) b.past_is; ss_is = ap (λ x. s ∷ x) b.ss_is; same = ap suc b.same; action = b.action; among = b.among; done = b.done }
 
 ---- a prepare that took effect, in the words of the model
 
@@ -191,15 +200,15 @@ split_is : {X : Type 0} → (xs later early : List X) (x : X) → newest_first x
 split_is xs later early x e =
     sym (turned_twice xs) ∙ ap newest_first e ∙ turned_append later (x ∷ early) ∙ ap (λ zs. zs ++ newest_first later) (turned_more x early) ∙ append_assoc (newest_first early) (x ∷ []) (newest_first later)
 
-put_here : (plan : ℕ → Plan) (w : History) (t : ℕ) (k : Key) (word : Ack) → ((happens plan w (Prepares t k word) true).rows k ≡ Some (Held t)) × ((happens plan w (Prepares t k word) true).took_effect t k ≡ true)
-put_here plan w t k word = (rw (same_key_self k) refl, here refl refl)
+put_here : (plan : ℕ → Plan) (w : History) (t : ℕ) (ks : List Key) (k : Key) (word : Ack) → has_key ks k ≡ true → ((happens plan w (Prepares t ks word) true).rows k ≡ Some (Held t)) × ((happens plan w (Prepares t ks word) true).took_effect t k ≡ true)
+put_here plan w t ks k word among = (rw among refl, here refl among)
   where
-    here : t ≡ t → k ≡ k → (happens plan w (Prepares t k word) true).took_effect t k ≡ true
+    here : t ≡ t → has_key ks k ≡ true → (happens plan w (Prepares t ks word) true).took_effect t k ≡ true
     here e f = grind (arith, tests)
 
-rows_put : (plan : ℕ → Plan) (w : History) (t : ℕ) (k : Key) (word : Ack) (ends : Option ℕ) → ((after_end plan (happens plan w (Prepares t k word) true) ends).rows k ≡ Some (Held t)) × ((after_end plan (happens plan w (Prepares t k word) true) ends).took_effect t k ≡ true)
-rows_put plan w t k word None = put_here plan w t k word
-rows_put plan w t k word (Some u) = put_here plan w t k word
+rows_put : (plan : ℕ → Plan) (w : History) (t : ℕ) (ks : List Key) (k : Key) (word : Ack) (ends : Option ℕ) → has_key ks k ≡ true → ((after_end plan (happens plan w (Prepares t ks word) true) ends).rows k ≡ Some (Held t)) × ((after_end plan (happens plan w (Prepares t ks word) true) ends).took_effect t k ≡ true)
+rows_put plan w t ks k word None among = put_here plan w t ks k word among
+rows_put plan w t ks k word (Some u) among = put_here plan w t ks k word among
 
 -- what an event that is a prepare of a key, and took effect, put there, and over what
 record IsPut (plan : ℕ → Plan) (places : List Place) (t : ℕ) (k : Key) (e : Event) (old new : List StoreContents) : Type 0 where
@@ -207,20 +216,20 @@ record IsPut (plan : ℕ → Plan) (places : List Place) (t : ℕ) (k : Key) (e 
   before : stored_at places old (record_prepared_by plan t k).key ≡ before_record (record_prepared_by plan t k)
   after : stored_at places new (record_prepared_by plan t k).key ≡ Some (record_prepared_by plan t k)
 
-put_is : (plan : ℕ → Plan) (places : List Place) (opening : List StoreContents) (early : List Labelled) (p : Labelled) (es : List (List StoreContents)) (s : List StoreContents) (t : ℕ) (k : Key) (word : Ack) → IsRunOf plan places opening (p ∷ early) (s ∷ es) → p.action ≡ Prepares t k word → has_effect places p.event (closing opening es) s ≡ true → IsPut plan places t k p.event (closing opening es) s
-put_is plan places opening early p es s t k word r action done = record {
+put_is : (plan : ℕ → Plan) (places : List Place) (opening : List StoreContents) (early : List Labelled) (p : Labelled) (es : List (List StoreContents)) (s : List StoreContents) (t : ℕ) (ks : List Key) (k : Key) (word : Ack) → IsRunOf plan places opening (p ∷ early) (s ∷ es) → p.action ≡ Prepares t ks word → has_key ks k ≡ true → has_effect places p.event (closing opening es) s ≡ true → IsPut plan places t k p.event (closing opening es) s
+put_is plan places opening early p es s t ks k word r action among done = record {
   put = record {
     contact = record { store = m.call.store; request = ask.PutIf (prepared_record m.write (id t) (plan t).now) (condition_of (version_of m.write.base)); how = m.call.how; reply = m.r };
     asks = ap contact_of m.call.call;
     puts = in_only (prepared_record m.write (id t) (plan t).now) (record_prepared_by plan t k) (held_is plan t k m.write m.at);
     prepare = held_prepares plan t t k (condition_of (version_of m.write.base)) fits fits ∙ itself t;
   };
-  before = ap (stored_at places (closing opening es)) key ∙ stood_before plan places opening early p es s t k word r action done;
+  before = ap (stored_at places (closing opening es)) key ∙ stood_before plan places opening early p es s t ks k word r action among done;
   after = ap (stored_at places s) key ∙ i.held.records k (took_data plan w (p ∷ early) t k i.knows put.1) ∙ ap (option_map (record_for plan k)) put.0;
 }
   where
     m : MayPrepare plan early p.event t k word
-    m = subst (λ x. IsEnabled plan early p.event x) action r.lawful.1
+    m = the_one (λ q. MayPrepare plan early p.event t q word) ks k (subst (λ x. IsEnabled plan early p.event x) action r.lawful.1) among
 
     w : History
     w = history plan places opening (p ∷ early) (s ∷ es)
@@ -231,7 +240,7 @@ put_is plan places opening early p es s t k word r action done = record {
     put : ((history plan places opening (p ∷ early) (s ∷ es)).rows k ≡ Some (Held t)) × ((history plan places opening (p ∷ early) (s ∷ es)).took_effect t k ≡ true)
     put = subst (λ b. ((after_end plan (happens plan (history plan places opening early es) p.action b) p.ends).rows k ≡ Some (Held t)) × ((after_end plan (happens plan (history plan places opening early es) p.action b) p.ends).took_effect t k ≡ true)) (sym done)
         (subst (λ x. ((after_end plan (happens plan (history plan places opening early es) x true) p.ends).rows k ≡ Some (Held t)) × ((after_end plan (happens plan (history plan places opening early es) x true) p.ends).took_effect t k ≡ true)) (sym action)
-        (rows_put plan (history plan places opening early es) t k word p.ends))
+        (rows_put plan (history plan places opening early es) t ks k word p.ends among))
 
     fits : t < 2 ^ 128
     fits = taken_fits w t i.all.one.begun i.knows.fits (took_is_taken w t k i.all.one.accepted put.1)
@@ -259,7 +268,7 @@ put_after plan places opening front back ms more t key same r took_effect = (eve
     then = front_run plan places opening b.later (b.p ∷ b.early) b.more (b.s ∷ b.es) b.same (subst (λ y. IsRunOf plan places opening y (b.more ++ b.s ∷ b.es)) b.past_is (subst (λ y. IsRunOf plan places opening (newest_first front) y) b.ss_is run))
 
     put : IsPut plan places t key b.p.event (closing opening b.es) b.s
-    put = put_is plan places opening b.early b.p b.es b.s t key b.word then b.action b.done
+    put = put_is plan places opening b.early b.p b.es b.s t b.ks key b.word then b.action b.among b.done
 
     events_is : events_of (front ++ back) ≡ events_of (newest_first b.early) ++ b.p.event ∷ (events_of (newest_first b.later) ++ events_of back)
     events_is =

@@ -1,5 +1,5 @@
 -- Each part that may be played is allowed by what was done, and leaves the stores as the history says.
-use Rattle.std.proofs.Common.{◌≡◌, ◌≢◌, ℕ, ℤ, ◌<◌, ◌^◌, Bool, true, false, List, Option, Some, None, ◌⊎◌, inl, inr, refl, sym, ap, subst, ◌∙◌, arith}
+use Rattle.std.proofs.Common.{◌≡◌, ◌≢◌, ℕ, ℤ, ◌<◌, ◌^◌, Bool, true, false, List, [], ◌∷◌, Option, Some, None, ◌⊎◌, inl, inr, refl, sym, ap, subst, ◌∙◌, arith}
 use Rattle.std.specs.Prelude.{◌&&◌, ◌==◌, if◌then◌else◌}
 use Rattle.std.specs.Option.{option_map}
 use Rattle.law_protocol.specs.Types.{Condition, Decision, Event, Key, Place, Record, Reply, State, TxId, Write}
@@ -19,13 +19,14 @@ use Rattle.law_protocol.specs.Plan.{Plan, write_at, written}
 use Rattle.law_protocol.specs.History.{Action, Prepares, Decides, Aborts, Ack, is_yes, is_met, is_out_of_memory_ack, ProtocolState, History, Standing, Final, Held, base_of, has_version, happens, with_row, IsLive, IsWriter, IsPrepared}
 use Rattle.law_protocol.specs.Lawful.{Labelled, protocol_state, id, ack_of, InCommit, IsCallOf, MayPrepare, MayDecide, MayAbort}
 use Rattle.law_protocol.specs.Records.{record_prepared_by, record_left_by, record_for, row_for, ContainsHistory}
-use Rattle.law_protocol.specs.Trace.{takes_effect_at, has_effect}
+use Rattle.law_protocol.specs.Trace.{has_effect}
 use Rattle.law_protocol.proofs.Allowed.{Allowed}
+use Rattle.law_protocol.proofs.OneKey.{one_of}
 use Rattle.law_protocol.proofs.Canon.{held_writer, held_open, firm_writer, firm_committed, same_writer, not_open_version, not_firm_version}
-use Rattle.law_protocol.proofs.Writes.{IsWritten}
+use Rattle.law_protocol.proofs.Changes.{Asks, HasChanged, called, put_call}
 use Rattle.law_protocol.proofs.Known.{written_some, write_is, held_key, taken_fits, writer_taken, took_is_taken}
 use Rattle.law_protocol.proofs.Settled.{Knows}
-use Rattle.law_protocol.proofs.Links.{link_write, link_row, put_call, took_held}
+use Rattle.law_protocol.proofs.Links.{link_write, link_row}
 use Rattle.sdb_types.proofs.Public.{clash, tests}
 use Rattle.sdb_types.specs.Order.{same_key}
 
@@ -86,7 +87,7 @@ pub held_is : (plan : ℕ → Plan) (t : ℕ) (k : Key) (w : Write) → write_at
 unfolding record_prepared_by
 held_is plan t k w e = ap (λ x. prepared_record x (id t) (plan t).now) (sym (write_is (plan t) k w e))
 
-fresh_held : (v : Option TxId) (r : Record) → is_in state.Committed r.columns ≡ false → holds (condition_of v) (Some r) ≡ false
+pub fresh_held : (v : Option TxId) (r : Record) → is_in state.Committed r.columns ≡ false → holds (condition_of v) (Some r) ≡ false
 fresh_held None r h = refl
 fresh_held (Some i) r h = not_firm_version i r h
 
@@ -120,7 +121,7 @@ base_version plan k None f = refl
 base_version plan k (Some u) f = firm_writer plan u k (f u refl)
 
 pub prepare_moves : (plan : ℕ → Plan) (places : List Place) (w : History) (past : List Labelled) (e : Event) (before now : List StoreContents) (t : ℕ) (k : Key) (word : Ack) (done : Bool)
-    → Knows plan w past → ContainsHistory plan places w before → Effect places e before now → has_effect places e before now ≡ done → MayPrepare plan past e t k word → Moves plan places w (Prepares t k word) done now
+    → Knows plan w past → ContainsHistory plan places w before → Effect places e before now → has_effect places e before now ≡ done → MayPrepare plan past e t k word → Moves plan places w (Prepares t (k ∷ []) word) done now
 prepare_moves plan places w past e before now t k word done knows held effect is m =
     let alive = live w past m.client t knows.talks m.within in
     let planned = knows.planned t alive.0 in
@@ -130,22 +131,22 @@ prepare_moves plan places w past e before now t k word done knows held effect is
     let fits : (u : ℕ) → base_of (written (plan t) k) ≡ Some u → u < 2 ^ 128 = λ u h. writer_fits plan w past k u knows (knows.inv.base t k u alive.0 h) in
     let c = condition_of (version_of m.write.base) in
     let same : condition_of (version_of m.write.base) ≡ condition_of (option_map id (base_of (written (plan t) k))) = ap (λ (x : Option Record). condition_of (version_of x)) (planned.base k m.write m.at) ∙ ap condition_of (base_version plan k v fits) in
-    let pc = put_call places e m.client (prepared_record m.write (id t) (plan t).now) (record_prepared_by plan t k) c m.r before now k m.call effect (held_is plan t k m.write m.at) (held_key plan t k writes) (fresh_held (version_of m.write.base) (record_prepared_by plan t k) (held_open plan t k)) in
-    let took_effect : takes_effect_at places k (condition_of (version_of m.write.base)) before now ≡ done = sym pc.1 ∙ is in
+    let asks = subst (λ x. Asks e (ask.PutIf x (condition_of (version_of m.write.base))) m.r) (held_is plan t k m.write m.at) (called e m.client _ m.r m.call) in
+    let pc = put_call places e (record_prepared_by plan t k) c m.r before now done k asks effect is (held_key plan t k writes) (fresh_held (version_of m.write.base) (record_prepared_by plan t k) (held_open plan t k)) in
     record {
       allowed = (
         alive.0,
         alive.1,
         subst (λ (x : ProtocolState). x.stage t ≡ Rattle.law_protocol.specs.History.Preparing) knows.talks m.stage,
-        subst (λ (x : ProtocolState). x.asked t k ≡ false) knows.talks m.once,
-        writes,
-        λ d. version_stands plan w past k v knows fits (subst (λ (x : Condition). holds x (option_map (record_for plan k) (w.rows k)) ≡ true) same (subst (λ x. holds c x ≡ true) (held.records k outside) (took_held places k c before now (took_effect ∙ d)))),
-        λ y. sym took_effect ∙ pc.0.applied (yes_is word m.r m.word_is y),
+        one_of (λ q. w.protocol.asked t q ≡ false) k (subst (λ (x : ProtocolState). x.asked t k ≡ false) knows.talks m.once),
+        one_of (λ q. written (plan t) q ≢ None) k writes,
+        λ d. one_of (λ q. has_version (w.rows q) (base_of (written (plan t) q)) ≡ true) k (version_stands plan w past k v knows fits (subst (λ (x : Condition). holds x (option_map (record_for plan k) (w.rows k)) ≡ true) same (subst (λ x. holds c x ≡ true) (held.records k outside) (pc.changed.held d).0))),
+        λ y. pc.applied (yes_is word m.r m.word_is y),
       );
-      held = link_write plan places w (happens plan w (Prepares t k word) done) before now k c (Some (record_prepared_by plan t k)) m.r (Some (Held t)) done held pc.0 took_effect outside (λ d. refl) (λ q. rows_are done q) (λ u. refl);
+      held = link_write plan places w (happens plan w (Prepares t (k ∷ []) word) done) before now k c (Some (record_prepared_by plan t k)) (Some (Held t)) done held pc.changed outside (λ d. refl) (λ q. rows_are done q) (λ u. refl);
     }
   where
-    rows_are : (b : Bool) (q : Key) → (happens plan w (Prepares t k word) b).rows q ≡ (if b && same_key q k then Some (Held t) else w.rows q)
+    rows_are : (b : Bool) (q : Key) → (happens plan w (Prepares t (k ∷ []) word) b).rows q ≡ (if b && same_key q k then Some (Held t) else w.rows q)
     rows_are true q = refl
     rows_are false q = refl
 
@@ -165,12 +166,16 @@ present_row w t h = by (w.row t) refl h
     by None e h = clash h
     by (Some d) e h = λ n. grind arith
 
-met_is : (places : List Place) (t : ℕ) (word : Ack) (r : Reply) (new : Option Record) (before now : List StoreContents) → word ≡ ack_of r → IsWritten places (coordinator_key_of (id t)) condition.Absent new r before now → is_met word ≡ true → takes_effect_at places (coordinator_key_of (id t)) condition.Absent before now ≡ false → holds condition.Absent (stored_at places before (coordinator_key_of (id t))) ≡ false
-met_is places t word r new before now e written met took_effect = by r refl (ap is_met (sym e) ∙ met)
+met_is : (places : List Place) (t : ℕ) (word : Ack) (r : Reply) (new : Option Record) (before now : List StoreContents) (done : Bool) → word ≡ ack_of r → HasChanged places (record { key = coordinator_key_of (id t); left = new; condition = condition.Absent } ∷ []) r before now done → is_met word ≡ true → done ≡ false → holds condition.Absent (stored_at places before (coordinator_key_of (id t))) ≡ false
+met_is places t word r new before now done e written met n = by r refl (ap is_met (sym e) ∙ met)
   where
+    failed : (holds condition.Absent (stored_at places before (coordinator_key_of (id t))) ≡ false) ⊎ ⊥ → holds condition.Absent (stored_at places before (coordinator_key_of (id t))) ≡ false
+    failed (inl h) = h
+    failed (inr h) = absurd h
+
     by : (x : Reply) → r ≡ x → is_met (ack_of x) ≡ true → holds condition.Absent (stored_at places before (coordinator_key_of (id t))) ≡ false
-    by reply.Applied f h = clash (sym (written.applied f) ∙ took_effect)
-    by (reply.NotMet found) f h = written.unmet found f
+    by reply.Applied f h = clash (sym (written.applied f) ∙ n)
+    by (reply.NotMet found) f h = failed (written.unmet found f)
     by reply.NoMemory f h = clash (sym h)
     by (reply.Found found) f h = clash (sym h)
     by (reply.Rows rows) f h = clash (sym h)
@@ -200,14 +205,13 @@ puts_row : (plan : ℕ → Plan) (places : List Place) (w : History) (e : Event)
 puts_row plan places w e client before now t d m r word done fits held effect is call word_is =
     let key = coordinator_key_of (id t) in
     let row = coordinator_row_of (id t) d m in
-    let pc = put_call places e client row row condition.Absent r before now key call effect refl (row-key (id t) d m) refl in
-    let took_effect : takes_effect_at places (coordinator_key_of (id t)) condition.Absent before now ≡ done = sym pc.1 ∙ is in
+    let pc = put_call places e row condition.Absent r before now done key (called e client _ r call) effect is (row-key (id t) d m) refl in
     record {
-      none = λ h. absent_row w t (subst (λ x. holds condition.Absent x ≡ true) (held.rows t fits) (took_held places key condition.Absent before now (took_effect ∙ h)));
-      yes = λ y. sym took_effect ∙ pc.0.applied (yes_is word r word_is y);
-      wanting = λ y. sym took_effect ∙ pc.0.wanting (wanting_is word r word_is y);
-      met = λ y n. present_row w t (subst (λ x. holds condition.Absent x ≡ false) (held.rows t fits) (met_is places t word r (Some row) before now word_is pc.0 y (took_effect ∙ n)));
-      held = λ h. link_row plan places w (with_row w h t d m done) before now t d m condition.Absent r done held pc.0 took_effect fits (λ q. refl) (row_put w h t d m done);
+      none = λ h. absent_row w t (subst (λ x. holds condition.Absent x ≡ true) (held.rows t fits) (pc.changed.held h).0);
+      yes = λ y. pc.applied (yes_is word r word_is y);
+      wanting = λ y. pc.wanting (wanting_is word r word_is y);
+      met = λ y n. present_row w t (subst (λ x. holds condition.Absent x ≡ false) (held.rows t fits) (met_is places t word r (Some row) before now done word_is pc y n));
+      held = λ h. link_row plan places w (with_row w h t d m done) before now t d m condition.Absent done held pc.changed fits (λ q. refl) (row_put w h t d m done);
     }
 
 pub decide_moves : (plan : ℕ → Plan) (places : List Place) (w : History) (past : List Labelled) (e : Event) (before now : List StoreContents) (t : ℕ) (word : Ack) (done : Bool)

@@ -151,7 +151,7 @@ told_prepare places t client store q how r a before now b h c = by (is_applied r
 
 -- the part of a answered prepare of t
 abbrev tells_prepare : ℕ → Action → Bool
-tells_prepare t (Prepares u k word) = (t == u) && is_yes word
+tells_prepare t (Prepares u ks word) = (t == u) && is_yes word
 tells_prepare t _ = false
 
 quiet_no : (t : TxId) (e : Event) → is_quiet e ≡ true → is_prepared_by t e ≡ false
@@ -173,20 +173,24 @@ back_no plan t k u s None = refl
 back_no plan t k u s (Some x) = firm_no t (record_left_by plan x k) (condition.Version (id u) s) (firm_committed plan x k)
 
 prepared_by : (plan : ℕ → Plan) (places : List Place) (w : History) (past : List Labelled) (e : Event) (before now : List StoreContents) (r : Action) (t : ℕ) → Knows plan w past → Effect places e before now → IsEnabled plan past e r → t < 2 ^ 128 → is_prepared_by (id t) e ≡ tells_prepare t r
-prepared_by plan places w past e before now (Prepares u k word) t knows effect m fits =
+prepared_by plan places w past e before now (Prepares u (k ∷ []) word) t knows effect m fits =
     let accepted : w.protocol.accepted u ≡ true = subst (λ (x : ProtocolState). x.accepted u ≡ true) knows.talks m.within.accepted in
     let c = condition_of (version_of m.write.base) in
     ap (is_prepared_by (id t)) m.call.call
     ∙ told_prepare places (id t) m.client m.call.store (ask.PutIf (prepared_record m.write (id u) (plan u).now) c) m.call.how m.r m.call.answer before now (t == u) (ap (λ x. prepares (id t) (ask.PutIf x c)) (held_is plan u k m.write m.at) ∙ held_prepares plan t u k c fits (taken_fits w u knows.inv.begun knows.fits accepted)) (subst (λ x. Effect places x before now) m.call.call effect)
     ∙ ap (λ x. (t == u) && is_yes x) (sym m.word_is)
+prepared_by plan places w past e before now (Prepares u [] word) t knows effect m fits = absurd m
+prepared_by plan places w past e before now (Prepares u (k ∷ l ∷ ks) word) t knows effect m fits = absurd m
 prepared_by plan places w past e before now Other t knows effect m fits = quiet_no (id t) e m
 prepared_by plan places w past e before now (Begins u c) t knows effect m fits = ap (is_prepared_by (id t)) m.take
 prepared_by plan places w past e before now (Takes u) t knows effect m fits = ap (is_prepared_by (id t)) m.take
 prepared_by plan places w past e before now (Checks u i) t knows effect m fits = no_call (id t) e m.client m.q m.r m.call (note_no (plan u) (id t) m.item m.q m.r m.unchanged)
 prepared_by plan places w past e before now (Decides u word) t knows effect m fits = no_call (id t) e m.client _ m.r m.call (row_no (id t) u Committed (plan u).now condition.Absent)
 prepared_by plan places w past e before now (Aborts u moment word) t knows effect m fits = no_call (id t) e m.client _ m.r m.call (row_no (id t) u Aborted moment condition.Absent)
-prepared_by plan places w past e before now (Rolls u k Committed) t knows effect m fits = no_call (id t) e m.roll.client _ m.roll.r m.call (firm_no (id t) (forward_record m.roll.rolled m.moment) (condition.Version (id u) m.roll.s) (forward-committed m.roll.rolled m.moment))
-prepared_by plan places w past e before now (Rolls u k Aborted) t knows effect m fits = back m (prepared_there plan w past u k m.roll.rolled knows m.roll.outside m.roll.prepared)
+prepared_by plan places w past e before now (Rolls u [] d) t knows effect m fits = absurd m
+prepared_by plan places w past e before now (Rolls u (k ∷ l ∷ ks) d) t knows effect m fits = absurd m
+prepared_by plan places w past e before now (Rolls u (k ∷ []) Committed) t knows effect m fits = no_call (id t) e m.roll.client _ m.roll.r m.call (firm_no (id t) (forward_record m.roll.rolled m.moment) (condition.Version (id u) m.roll.s) (forward-committed m.roll.rolled m.moment))
+prepared_by plan places w past e before now (Rolls u (k ∷ []) Aborted) t knows effect m fits = back m (prepared_there plan w past u k m.roll.rolled knows m.roll.outside m.roll.prepared)
   where
     back : (m : MayRollBack plan past e u k) → IsOwn plan w u k m.roll.rolled → is_prepared_by (id t) e ≡ false
     back m own = no_call (id t) e m.roll.client _ m.roll.r m.call (ap (λ o. prepares (id t) (undo (condition.Version (id u) m.roll.s) k o)) (ap before_record own.same ∙ held_before plan u k (knows.planned u own.accepted) own.writes) ∙ back_no plan (id t) k u m.roll.s (base_of (written (plan u) k)))
@@ -242,7 +246,9 @@ count h (Stops c) t last next a e none point = grind (arith, tests)
 
 asks : (plan : ℕ → Plan) (past : List Labelled) (e : Event) (r : Action) → IsEnabled plan past e r → Asks (protocol_state past) r
 asks plan past e (Takes u) m = m.fresh
-asks plan past e (Prepares u k word) m = m.within.accepted
+asks plan past e (Prepares u [] word) m = absurd m
+asks plan past e (Prepares u (k ∷ []) word) m = m.within.accepted
+asks plan past e (Prepares u (k ∷ l ∷ ks) word) m = absurd m
 asks plan past e (Ends u) m = m
 asks plan past e Other m = tt
 asks plan past e (Begins u c) m = tt

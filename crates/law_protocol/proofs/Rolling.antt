@@ -1,10 +1,11 @@
 -- Rolls and removals, as the moves before.
-use Rattle.std.proofs.Common.{◌≡◌, ◌≢◌, ℕ, ◌<◌, ◌^◌, Bool, true, false, List, Option, Some, None, refl, sym, ap, subst, ◌∙◌}
+use Rattle.std.proofs.Common.{◌≡◌, ◌≢◌, ℕ, ◌<◌, ◌^◌, Bool, true, false, List, [], ◌∷◌, Option, Some, None, inl, inr, refl, sym, ap, subst, ◌∙◌}
 use Rattle.std.specs.Prelude.{◌&&◌, if◌then◌else◌}
 use Rattle.std.specs.Option.{option_map, option_map_or}
 use Rattle.law_protocol.specs.Types.{Change, Decision, Event, Key, Place, Record, Reply, State}
 use Rattle.sdb_types.specs.declared.record.State.TheVariants as state
 use Rattle.sdb_types.specs.declared.record.Condition.TheVariants as condition
+use Rattle.sdb_types.specs.declared.record.Request.TheVariants as ask
 use Rattle.sdb_types.specs.Contents.{holds}
 use Rattle.sdb_record.specs.declared.coordinator.Decision.TheVariants.{Committed, Aborted}
 use Rattle.sdb_record.specs.declared.write.Change.TheVariants as change
@@ -14,58 +15,55 @@ use Rattle.sdb_record.specs.Rolls.{IsWrite, forward_record, is_tombstone, row_of
 use Rattle.sdb_record.proofs.Public.{forward-prepared-row}
 use Rattle.sdb_model.specs.Events.{StoreContents, Effect}
 use Rattle.law_protocol.specs.Plan.{Plan, written, deletes, is_delete}
-use Rattle.law_protocol.specs.History.{Rolls, Removes, ProtocolState, History, Final, base_of, final_of, rolled, happens, IsWriter}
+use Rattle.law_protocol.specs.History.{Rolls, Removes, ProtocolState, History, Final, Held, base_of, final_of, rolled, happens, IsWriter}
 use Rattle.law_protocol.specs.Lawful.{Labelled, id, IsCallOf, MayRollForward, MayRollBack, MayRemove}
 use Rattle.law_protocol.specs.Records.{write_there, record_prepared_by, record_left_by, record_for, ContainsHistory}
-use Rattle.law_protocol.specs.Trace.{takes_effect_at, has_effect}
+use Rattle.law_protocol.specs.Trace.{has_effect}
 use Rattle.law_protocol.proofs.Canon.{firm_writer, firm_committed, same_writer, not_open_version}
-use Rattle.law_protocol.proofs.Writes.{IsWritten}
+use Rattle.law_protocol.proofs.Changes.{Asks, HasChanged, called, put_call, delete_call}
 use Rattle.law_protocol.proofs.Known.{IsPlanned, writes_it, held_before, firm_key, writer_taken}
 use Rattle.law_protocol.proofs.Settled.{Knows, firm_of as settled_of, forward_at, prepared_there, committed_of, aborted_of}
-use Rattle.law_protocol.proofs.Links.{link_write, put_call, delete_call, took_held}
+use Rattle.law_protocol.proofs.Links.{link_write}
 use Rattle.law_protocol.proofs.Moves.{Moves, open_stands, firm_stands, writer_fits}
-use Rattle.sdb_types.proofs.Public.{clash}
+use Rattle.sdb_types.proofs.Public.{clash, same_key_tells}
 use Rattle.sdb_types.specs.Order.{same_key}
+use Rattle.law_protocol.proofs.OneKey.{one_of}
 
-rolled_rows : (plan : ℕ → Plan) (w : History) (t : ℕ) (k : Key) (d : Decision) (b : Bool) (q : Key) → (happens plan w (Rolls t k d) b).rows q ≡ (if b && same_key q k then rolled (plan t) t k d else w.rows q)
-rolled_rows plan w t k d true q = refl
+rolled_rows : (plan : ℕ → Plan) (w : History) (t : ℕ) (k : Key) (d : Decision) (b : Bool) (q : Key) → (happens plan w (Rolls t (k ∷ []) d) b).rows q ≡ (if b && same_key q k then rolled (plan t) t k d else w.rows q)
+rolled_rows plan w t k d true q = elim (same_key_tells q k) [
+  | inl e ↦ rw e.0 (ap (λ y. rolled (plan t) t y d) e.1)
+  | inr n ↦ rw n.0 refl
+]
 rolled_rows plan w t k d false q = refl
 
 pub forward_moves : (plan : ℕ → Plan) (places : List Place) (w : History) (past : List Labelled) (e : Event) (before now : List StoreContents) (t : ℕ) (k : Key) (done : Bool)
-    → Knows plan w past → ContainsHistory plan places w before → Effect places e before now → has_effect places e before now ≡ done → MayRollForward plan past e t k → Moves plan places w (Rolls t k Committed) done now
+    → Knows plan w past → ContainsHistory plan places w before → Effect places e before now → has_effect places e before now ≡ done → MayRollForward plan past e t k → Moves plan places w (Rolls t (k ∷ []) Committed) done now
 forward_moves plan places w past e before now t k done knows held effect is m =
     let roll = m.roll in
     let own = prepared_there plan w past t k roll.rolled knows roll.outside roll.prepared in
     let known = committed_of plan w past t m.moment knows own.fits m.known in
     let c = condition.Version (id t) roll.s in
-    let pc = put_call places e roll.client (forward_record roll.rolled m.moment) (record_left_by plan t k) c roll.r before now k m.call effect (ap (λ y. forward_record y m.moment) own.same ∙ forward_at plan t k m.moment known.1) (firm_key plan t k own.writes) (not_open_version (id t) roll.s (record_left_by plan t k) roll.is_open (firm_committed plan t k)) in
-    let took_effect : takes_effect_at places k (condition.Version (id t) m.roll.s) before now ≡ done = sym pc.1 ∙ is in
+    let asks = subst (λ x. Asks e (ask.PutIf x (condition.Version (id t) m.roll.s)) m.roll.r) (ap (λ y. forward_record y m.moment) own.same ∙ forward_at plan t k m.moment known.1) (called e roll.client _ roll.r m.call) in
+    let pc = put_call places e (record_left_by plan t k) c roll.r before now done k asks effect is (firm_key plan t k own.writes) (not_open_version (id t) roll.s (record_left_by plan t k) roll.is_open (firm_committed plan t k)) in
     record {
-      allowed = λ h. (open_stands plan w past k t roll.s knows own.fits roll.is_open (subst (λ x. holds c x ≡ true) (held.records k roll.outside) (took_held places k c before now (took_effect ∙ h))), known.0);
-      held = link_write plan places w (happens plan w (Rolls t k Committed) done) before now k c (Some (record_left_by plan t k)) roll.r (Some (Final t)) done held pc.0 took_effect roll.outside (λ h. refl) (rolled_rows plan w t k Committed done) (λ u. refl);
+      allowed = λ h. (one_of (λ q. w.rows q ≡ Some (Held t)) k (open_stands plan w past k t roll.s knows own.fits roll.is_open (subst (λ x. holds c x ≡ true) (held.records k roll.outside) (pc.changed.held h).0)), known.0);
+      held = link_write plan places w (happens plan w (Rolls t (k ∷ []) Committed) done) before now k c (Some (record_left_by plan t k)) (Some (Final t)) done held pc.changed roll.outside (λ h. refl) (rolled_rows plan w t k Committed done) (λ u. refl);
     }
 
 ---- back
 
-record Backs (plan : ℕ → Plan) (places : List Place) (e : Event) (t : ℕ) (k : Key) (s : State) (v : Option ℕ) (r : Reply) (before now : List StoreContents) : Type 0 where
-  written : IsWritten places k (condition.Version (id t) s) (option_map (λ u. record_left_by plan u k) v) r before now
-  took_effect : has_effect places e before now ≡ takes_effect_at places k (condition.Version (id t) s) before now
-
-backs : (plan : ℕ → Plan) (places : List Place) (e : Event) (client t : ℕ) (k : Key) (s : State) (v : Option ℕ) (r : Reply) (before now : List StoreContents) → is_committed s ≡ false → ((u : ℕ) → v ≡ Some u → written (plan u) k ≢ None)
-    → IsCallOf e client (undo (condition.Version (id t) s) k (option_map (λ u. record_left_by plan u k) v)) r → Effect places e before now → Backs plan places e t k s v r before now
-backs plan places e client t k s None r before now is writer call effect =
-    let dc = delete_call places e client k (condition.Version (id t) s) r before now call effect refl in
-    record { written = dc.0; took_effect = dc.1 }
-backs plan places e client t k s (Some u) r before now is writer call effect =
-    let pc = put_call places e client (record_left_by plan u k) (record_left_by plan u k) (condition.Version (id t) s) r before now k call effect refl (firm_key plan u k (writer u refl)) (not_open_version (id t) s (record_left_by plan u k) is (firm_committed plan u k)) in
-    record { written = pc.0; took_effect = pc.1 }
+backs : (plan : ℕ → Plan) (places : List Place) (e : Event) (client t : ℕ) (k : Key) (s : State) (v : Option ℕ) (r : Reply) (before now : List StoreContents) (done : Bool) → is_committed s ≡ false → ((u : ℕ) → v ≡ Some u → written (plan u) k ≢ None)
+    → IsCallOf e client (undo (condition.Version (id t) s) k (option_map (λ u. record_left_by plan u k) v)) r → Effect places e before now → has_effect places e before now ≡ done → HasChanged places (record { key = k; left = option_map (λ u. record_left_by plan u k) v; condition = condition.Version (id t) s } ∷ []) r before now done
+backs plan places e client t k s None r before now done is writer call effect took = delete_call places e k (condition.Version (id t) s) r before now done (called e client _ r call) effect took refl
+backs plan places e client t k s (Some u) r before now done is writer call effect took =
+    put_call places e (record_left_by plan u k) (condition.Version (id t) s) r before now done k (called e client _ r call) effect took (firm_key plan u k (writer u refl)) (not_open_version (id t) s (record_left_by plan u k) is (firm_committed plan u k))
 
 firm_for : (plan : ℕ → Plan) (k : Key) (v : Option ℕ) → option_map (λ u. record_left_by plan u k) v ≡ option_map (record_for plan k) (final_of v)
 firm_for plan k None = refl
 firm_for plan k (Some u) = refl
 
 pub back_moves : (plan : ℕ → Plan) (places : List Place) (w : History) (past : List Labelled) (e : Event) (before now : List StoreContents) (t : ℕ) (k : Key) (done : Bool)
-    → Knows plan w past → ContainsHistory plan places w before → Effect places e before now → has_effect places e before now ≡ done → MayRollBack plan past e t k → Moves plan places w (Rolls t k Aborted) done now
+    → Knows plan w past → ContainsHistory plan places w before → Effect places e before now → has_effect places e before now ≡ done → MayRollBack plan past e t k → Moves plan places w (Rolls t (k ∷ []) Aborted) done now
 back_moves plan places w past e before now t k done knows held effect is m =
     let roll = m.roll in
     let own = prepared_there plan w past t k roll.rolled knows roll.outside roll.prepared in
@@ -73,11 +71,10 @@ back_moves plan places w past e before now t k done knows held effect is m =
     let v = base_of (written (plan t) k) in
     let c = condition.Version (id t) roll.s in
     let to : before_record roll.rolled ≡ option_map (λ u. record_left_by plan u k) (base_of (written (plan t) k)) = ap before_record own.same ∙ held_before plan t k (knows.planned t own.accepted) own.writes in
-    let b = backs plan places e roll.client t k roll.s v roll.r before now roll.is_open (λ u h. (knows.inv.base t k u own.accepted h).1) (subst (λ x. IsCallOf e roll.client (undo (condition.Version (id t) roll.s) k x) roll.r) to m.call) effect in
-    let took_effect : takes_effect_at places k (condition.Version (id t) m.roll.s) before now ≡ done = sym b.took_effect ∙ is in
+    let b = backs plan places e roll.client t k roll.s v roll.r before now done roll.is_open (λ u h. (knows.inv.base t k u own.accepted h).1) (subst (λ x. IsCallOf e roll.client (undo (condition.Version (id t) roll.s) k x) roll.r) to m.call) effect is in
     record {
-      allowed = λ h. (open_stands plan w past k t roll.s knows own.fits roll.is_open (subst (λ x. holds c x ≡ true) (held.records k roll.outside) (took_held places k c before now (took_effect ∙ h))), known);
-      held = link_write plan places w (happens plan w (Rolls t k Aborted) done) before now k c (option_map (λ u. record_left_by plan u k) v) roll.r (final_of v) done held b.written took_effect roll.outside (λ h. firm_for plan k v) (rolled_rows plan w t k Aborted done) (λ u. refl);
+      allowed = λ h. (one_of (λ q. w.rows q ≡ Some (Held t)) k (open_stands plan w past k t roll.s knows own.fits roll.is_open (subst (λ x. holds c x ≡ true) (held.records k roll.outside) (b.changed.held h).0)), known);
+      held = link_write plan places w (happens plan w (Rolls t (k ∷ []) Aborted) done) before now k c (option_map (λ u. record_left_by plan u k) v) (final_of v) done held b.changed roll.outside (λ h. firm_for plan k v) (rolled_rows plan w t k Aborted done) (λ u. refl);
     }
 
 ---- removals
@@ -118,16 +115,15 @@ remove_moves plan places w past e before now t k done knows held effect is m =
     let fits : t < 2 ^ 128 = writer_fits plan w past k t knows writer in
     let tomb : is_tombstone (record_left_by plan t k) ≡ true = subst (λ u. is_tombstone (record_left_by plan u k) ≡ true) (sym same) (ap is_tombstone (sym f.same) ∙ m.gone) in
     let c = condition.Version (id t) state.Committed in
-    let dc = delete_call places e m.client k c m.r before now m.call effect refl in
-    let took_effect : takes_effect_at places k (condition.Version (id t) state.Committed) before now ≡ done = sym dc.1 ∙ is in
+    let dc = delete_call places e k c m.r before now done (called e m.client _ m.r m.call) effect is refl in
     record {
       allowed = (
         writer,
         tombstone_deletes plan t k (knows.planned t (writer_taken plan w k t knows.inv.accepted writer)) writer.1 tomb,
-        λ h. firm_stands plan w past k t knows fits (subst (λ x. holds c x ≡ true) (held.records k m.outside) (took_held places k c before now (took_effect ∙ h))),
+        λ h. firm_stands plan w past k t knows fits (subst (λ x. holds c x ≡ true) (held.records k m.outside) (dc.changed.held h).0),
         λ u l. clash (sym (stopped u l.0) ∙ l.1),
       );
-      held = link_write plan places w (happens plan w (Removes k t) done) before now k c None m.r None done held dc.0 took_effect m.outside (λ h. refl) (removed_rows plan w t k done) (λ u. refl);
+      held = link_write plan places w (happens plan w (Removes k t) done) before now k c None None done held dc.changed m.outside (λ h. refl) (removed_rows plan w t k done) (λ u. refl);
     }
   where
     stopped : (u : ℕ) → w.protocol.is_open u ≡ true → w.protocol.stopped (w.protocol.owner u) ≡ true

@@ -1,6 +1,6 @@
 -- What a check or a prepare saw at a key: whoever had prepared it had a row, and what was shown was of the last recorded
 -- writer.
-use Rattle.std.proofs.Common.{◌≡◌, ◌≢◌, ℕ, ◌+◌, ◌<◌, ◌≤◌, Bool, true, false, Option, Some, None, ◌⊎◌, inl, inr, refl, sym, subst, ◌∙◌, arith}
+use Rattle.std.proofs.Common.{◌≡◌, ◌≢◌, ℕ, ◌+◌, ◌<◌, ◌≤◌, Bool, true, false, List, Option, Some, None, ◌⊎◌, inl, inr, refl, sym, subst, ◌∙◌, arith}
 use Rattle.std.specs.Prelude.{◌==◌, if◌then◌else◌}
 use Rattle.law_protocol.specs.Types.{Decision, Key}
 use Rattle.sdb_record.specs.declared.coordinator.Decision.TheVariants.{Committed}
@@ -122,9 +122,9 @@ writes_old plan w r done t k j ok a h = seen_kept plan w r done t k (base_of (wr
     over : w.prepared_at t k ≤ w.protocol.now → w.prepared_at t k ≤ w.protocol.now + 1
     over l = omega arith
 
-writes_prepare : (plan : ℕ → Plan) (w : History) (t0 : ℕ) (k0 : Key) (word : Ack) (done : Bool) → Inv plan w → WritesOk plan w → Allowed plan w (Prepares t0 k0 word) done → WritesOk plan (happens plan w (Prepares t0 k0 word) done)
+writes_prepare : (plan : ℕ → Plan) (w : History) (t0 : ℕ) (k0 : List Key) (word : Ack) (done : Bool) → Inv plan w → WritesOk plan w → Allowed plan w (Prepares t0 k0 word) done → WritesOk plan (happens plan w (Prepares t0 k0 word) done)
 writes_prepare plan w t0 k0 word done j ok a t k h = elim (at_prepare plan w t0 k0 word done t k h) [
-  | inl x ↦ rw x.4 (rw x.3 (rw x.0 (rw x.1 (seen_kept plan w (Prepares t0 k0 word) done t0 k0 (base_of (written (plan t0) k0)) (w.protocol.now + 1) (shadow plan w k0) j a a.0 (omega arith) (seen_now plan w t0 k0 (base_of (written (plan t0) k0)) j a.1 (a.5 x.2))))))
+  | inl x ↦ rw x.4 (rw x.3 (rw x.0 (seen_kept plan w (Prepares t0 k0 word) done t0 k (base_of (written (plan t0) k)) (w.protocol.now + 1) (shadow plan w k) j a a.0 (omega arith) (seen_now plan w t0 k (base_of (written (plan t0) k)) j a.1 (a.5 x.2 k x.1)))))
   | inr x ↦ rw x.2 (rw x.1 (writes_old plan w (Prepares t0 k0 word) done t k j ok a x.0))
 ]
 

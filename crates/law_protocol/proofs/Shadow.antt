@@ -1,11 +1,11 @@
 -- Only a deciding put changes a shadow.
-use Rattle.std.proofs.Common.{◌≡◌, ◌≢◌, ℕ, ℤ, ◌+◌, ◌<◌, ◌≤◌, Bool, true, Option, Some, None, ◌⊎◌, inl, inr, refl, ◌∙◌, arith}
+use Rattle.std.proofs.Common.{◌≡◌, ◌≢◌, ℕ, ℤ, ◌+◌, ◌<◌, ◌≤◌, Bool, true, List, Option, Some, None, ◌⊎◌, inl, inr, refl, ◌∙◌, arith}
 use Rattle.law_protocol.specs.Types.{Decision, Key}
 use Rattle.sdb_types.proofs.Public.{tests}
 use Rattle.sdb_record.specs.declared.coordinator.Decision.TheVariants.{Committed}
 use Rattle.law_protocol.specs.Plan.{Plan, written}
-use Rattle.law_protocol.specs.History.{Action, Other, Begins, Takes, Prepares, Checks, Decides, Aborts, Rolls, Removes, Ends, Stops, Ack, Deciding, History, Final, Held, base_of, has_version, happens, Standing, image_in, or_else, shadow, IsLive, IsWriter}
-use Rattle.law_protocol.proofs.Allowed.{Allowed}
+use Rattle.law_protocol.specs.History.{Action, Other, Begins, Takes, Prepares, Checks, Decides, Aborts, Rolls, Removes, Ends, Stops, Ack, Deciding, History, Final, Held, base_of, has_key, has_version, happens, Standing, image_in, or_else, shadow, IsLive, IsWriter}
+use Rattle.law_protocol.proofs.Allowed.{Allowed, at_one}
 use Rattle.law_protocol.proofs.Small.{writer_kept, decided_kept, TakenOk, AskedOk, TookOk, BegunOk, HeardOk, FirmOk, HeldOk, BaseOk, GoneOk, StandsOk}
 use Rattle.law_protocol.specs.Explained.{IsAsFound as Saw, RemovedBeforeBegin}
 
@@ -20,11 +20,11 @@ shadow_writer plan w k u firm held base gone took_effect accepted asked h = over
     over (Some (Final t)) e h = grind (arith, firm k t)
     over (Some (Held t)) e h = grind (arith, held_taken plan w k t held took_effect accepted asked, base t k u)
 
-pub shadow_prepare : (plan : ℕ → Plan) (w : History) (t : ℕ) (k key : Key) (word : Ack) (done : Bool) → FirmOk plan w → TakenOk w → BaseOk plan w → Allowed plan w (Prepares t k word) done → (w.row t ≡ Some Committed → w.protocol.stage t ≡ Deciding) → shadow plan (happens plan w (Prepares t k word) done) key ≡ shadow plan w key
-shadow_prepare plan w t k key word done firm accepted base a stage = grind (arith, tests, firm k, base t k)
+pub shadow_prepare : (plan : ℕ → Plan) (w : History) (t : ℕ) (ks : List Key) (key : Key) (word : Ack) (done : Bool) → FirmOk plan w → TakenOk w → BaseOk plan w → Allowed plan w (Prepares t ks word) done → (w.row t ≡ Some Committed → w.protocol.stage t ≡ Deciding) → shadow plan (happens plan w (Prepares t ks word) done) key ≡ shadow plan w key
+shadow_prepare plan w t ks key word done firm accepted base a stage = grind (arith, tests, firm key, base t key, at_one plan w (Prepares t ks word) done key a)
 
-pub shadow_roll : (plan : ℕ → Plan) (w : History) (t : ℕ) (k key : Key) (d : Decision) (done : Bool) → Allowed plan w (Rolls t k d) done → shadow plan (happens plan w (Rolls t k d) done) key ≡ shadow plan w key
-shadow_roll plan w t k key d done a = grind (arith, tests)
+pub shadow_roll : (plan : ℕ → Plan) (w : History) (t : ℕ) (ks : List Key) (key : Key) (d : Decision) (done : Bool) → Allowed plan w (Rolls t ks d) done → shadow plan (happens plan w (Rolls t ks d) done) key ≡ shadow plan w key
+shadow_roll plan w t ks key d done a = grind (arith, tests, at_one plan w (Rolls t ks d) done key a)
 
 pub shadow_remove : (plan : ℕ → Plan) (w : History) (k key : Key) (t : ℕ) (done : Bool) → Allowed plan w (Removes k t) done → shadow plan (happens plan w (Removes k t) done) key ≡ shadow plan w key
 shadow_remove plan w k key t done a = grind (arith, tests)
@@ -36,11 +36,11 @@ shadow_abort plan w t key m word done a = grind (arith, tests)
 abbrev pub UnderOk : (ℕ → Plan) → History → Type 0
 UnderOk plan w = (t : ℕ) (k : Key) → w.took_effect t k ≡ true → w.row t ≡ None → shadow plan w k ≡ w.under t k
 
-under_prepare : (plan : ℕ → Plan) (w : History) (t0 : ℕ) (k0 : Key) (word : Ack) (done : Bool) → UnderOk plan w → FirmOk plan w → TakenOk w → BaseOk plan w → (w.row t0 ≡ Some Committed → w.protocol.stage t0 ≡ Deciding) → Allowed plan w (Prepares t0 k0 word) done → UnderOk plan (happens plan w (Prepares t0 k0 word) done)
+under_prepare : (plan : ℕ → Plan) (w : History) (t0 : ℕ) (k0 : List Key) (word : Ack) (done : Bool) → UnderOk plan w → FirmOk plan w → TakenOk w → BaseOk plan w → (w.row t0 ≡ Some Committed → w.protocol.stage t0 ≡ Deciding) → Allowed plan w (Prepares t0 k0 word) done → UnderOk plan (happens plan w (Prepares t0 k0 word) done)
 under_prepare plan w t0 k0 word done ok firm accepted base stage a t k h n =
     shadow_prepare plan w t0 k0 k word done firm accepted base a stage ∙ now w t0 k0 word done t k h (λ h'. ok t k h' n)
   where
-    now : (w : History) (t0 : ℕ) (k0 : Key) (word : Ack) (done : Bool) (t : ℕ) (k : Key) → (happens plan w (Prepares t0 k0 word) done).took_effect t k ≡ true → (w.took_effect t k ≡ true → shadow plan w k ≡ w.under t k) → shadow plan w k ≡ (happens plan w (Prepares t0 k0 word) done).under t k
+    now : (w : History) (t0 : ℕ) (k0 : List Key) (word : Ack) (done : Bool) (t : ℕ) (k : Key) → (happens plan w (Prepares t0 k0 word) done).took_effect t k ≡ true → (w.took_effect t k ≡ true → shadow plan w k ≡ w.under t k) → shadow plan w k ≡ (happens plan w (Prepares t0 k0 word) done).under t k
     now w t0 k0 word done t k h ok = grind (arith, tests)
 
 under_decide : (plan : ℕ → Plan) (w : History) (t0 : ℕ) (word : Ack) (done : Bool) → UnderOk plan w → StandsOk w → UnderOk plan (happens plan w (Decides t0 word) done)
@@ -72,31 +72,31 @@ OverOk plan w = (t : ℕ) (k : Key) (u : ℕ) → w.took_effect t k ≡ true →
 abbrev pub SawOk : (ℕ → Plan) → History → Type 0
 SawOk plan w = (t : ℕ) (k : Key) → w.took_effect t k ≡ true → Saw plan w t k (base_of (written (plan t) k)) (w.under t k)
 
-pub at_prepare : (plan : ℕ → Plan) (w : History) (t0 : ℕ) (k0 : Key) (word : Ack) (done : Bool) (t : ℕ) (k : Key) → (happens plan w (Prepares t0 k0 word) done).took_effect t k ≡ true
-    → ((t ≡ t0) × (k ≡ k0) × (done ≡ true) × ((happens plan w (Prepares t0 k0 word) done).under t k ≡ shadow plan w k0) × ((happens plan w (Prepares t0 k0 word) done).prepared_at t k ≡ w.protocol.now + 1))
+pub at_prepare : (plan : ℕ → Plan) (w : History) (t0 : ℕ) (k0 : List Key) (word : Ack) (done : Bool) (t : ℕ) (k : Key) → (happens plan w (Prepares t0 k0 word) done).took_effect t k ≡ true
+    → ((t ≡ t0) × (has_key k0 k ≡ true) × (done ≡ true) × ((happens plan w (Prepares t0 k0 word) done).under t k ≡ shadow plan w k) × ((happens plan w (Prepares t0 k0 word) done).prepared_at t k ≡ w.protocol.now + 1))
     ⊎ ((w.took_effect t k ≡ true) × ((happens plan w (Prepares t0 k0 word) done).under t k ≡ w.under t k) × ((happens plan w (Prepares t0 k0 word) done).prepared_at t k ≡ w.prepared_at t k))
 at_prepare plan w t0 k0 word done t k h = grind (arith, tests)
 
-over_join : (plan : ℕ → Plan) (w v : History) (t0 : ℕ) (k0 : Key) (t : ℕ) (k : Key) (u : ℕ)
-    → ((t ≡ t0) × (k ≡ k0) × (v.under t k ≡ shadow plan w k0) × (v.prepared_at t k ≡ w.protocol.now + 1)) ⊎ ((w.took_effect t k ≡ true) × (v.under t k ≡ w.under t k) × (v.prepared_at t k ≡ w.prepared_at t k))
+over_join : (plan : ℕ → Plan) (w v : History) (t0 : ℕ) (t : ℕ) (k : Key) (u : ℕ)
+    → ((t ≡ t0) × (v.under t k ≡ shadow plan w k) × (v.prepared_at t k ≡ w.protocol.now + 1)) ⊎ ((w.took_effect t k ≡ true) × (v.under t k ≡ w.under t k) × (v.prepared_at t k ≡ w.prepared_at t k))
     → v.under t k ≡ Some u
-    → (shadow plan w k0 ≡ Some u → IsWriter plan w k0 u × (w.decided_at u ≤ w.protocol.now))
+    → (shadow plan w k ≡ Some u → IsWriter plan w k u × (w.decided_at u ≤ w.protocol.now))
     → (w.took_effect t k ≡ true → w.under t k ≡ Some u → IsWriter plan w k u × (w.decided_at u < w.prepared_at t k))
     → v.row u ≡ w.row u → v.decided_at u ≡ w.decided_at u
     → IsWriter plan v k u × (v.decided_at u < v.prepared_at t k)
-over_join plan w v t0 k0 t k u c e now ok sr sd = grind arith
+over_join plan w v t0 t k u c e now ok sr sd = grind arith
 
-over_prepare : (plan : ℕ → Plan) (w : History) (t0 : ℕ) (k0 : Key) (word : Ack) (done : Bool) → OverOk plan w → ((k : Key) (u : ℕ) → shadow plan w k ≡ Some u → IsWriter plan w k u) → HeardOk w → OverOk plan (happens plan w (Prepares t0 k0 word) done)
+over_prepare : (plan : ℕ → Plan) (w : History) (t0 : ℕ) (k0 : List Key) (word : Ack) (done : Bool) → OverOk plan w → ((k : Key) (u : ℕ) → shadow plan w k ≡ Some u → IsWriter plan w k u) → HeardOk w → OverOk plan (happens plan w (Prepares t0 k0 word) done)
 over_prepare plan w t0 k0 word done ok writer heard t k u h e =
-    over_join plan w (happens plan w (Prepares t0 k0 word) done) t0 k0 t k u (less (at_prepare plan w t0 k0 word done t k h)) e (λ s. (writer k0 u s, below u (writer k0 u s))) (ok t k u) refl refl
+    over_join plan w (happens plan w (Prepares t0 k0 word) done) t0 t k u (less (at_prepare plan w t0 k0 word done t k h)) e (λ s. (writer k u s, below u (writer k u s))) (ok t k u) refl refl
   where
-    less : ((t ≡ t0) × (k ≡ k0) × (done ≡ true) × ((happens plan w (Prepares t0 k0 word) done).under t k ≡ shadow plan w k0) × ((happens plan w (Prepares t0 k0 word) done).prepared_at t k ≡ w.protocol.now + 1))
+    less : ((t ≡ t0) × (has_key k0 k ≡ true) × (done ≡ true) × ((happens plan w (Prepares t0 k0 word) done).under t k ≡ shadow plan w k) × ((happens plan w (Prepares t0 k0 word) done).prepared_at t k ≡ w.protocol.now + 1))
         ⊎ ((w.took_effect t k ≡ true) × ((happens plan w (Prepares t0 k0 word) done).under t k ≡ w.under t k) × ((happens plan w (Prepares t0 k0 word) done).prepared_at t k ≡ w.prepared_at t k))
-        → ((t ≡ t0) × (k ≡ k0) × ((happens plan w (Prepares t0 k0 word) done).under t k ≡ shadow plan w k0) × ((happens plan w (Prepares t0 k0 word) done).prepared_at t k ≡ w.protocol.now + 1)) ⊎ ((w.took_effect t k ≡ true) × ((happens plan w (Prepares t0 k0 word) done).under t k ≡ w.under t k) × ((happens plan w (Prepares t0 k0 word) done).prepared_at t k ≡ w.prepared_at t k))
-    less (inl x) = inl (x.0, x.1, x.3, x.4)
+        → ((t ≡ t0) × ((happens plan w (Prepares t0 k0 word) done).under t k ≡ shadow plan w k) × ((happens plan w (Prepares t0 k0 word) done).prepared_at t k ≡ w.protocol.now + 1)) ⊎ ((w.took_effect t k ≡ true) × ((happens plan w (Prepares t0 k0 word) done).under t k ≡ w.under t k) × ((happens plan w (Prepares t0 k0 word) done).prepared_at t k ≡ w.prepared_at t k))
+    less (inl x) = inl (x.0, x.3, x.4)
     less (inr x) = inr x
 
-    below : (v : ℕ) → IsWriter plan w k0 v → w.decided_at v ≤ w.protocol.now
+    below : (v : ℕ) → IsWriter plan w k v → w.decided_at v ≤ w.protocol.now
     below v x = grind (arith, heard v, x)
 
 -- a part that prepares nothing
@@ -133,18 +133,18 @@ saw_stays plan w r done t k ok over accepted begun a h =
     stays : (u : ℕ) → IsWriter plan w k u → (happens plan w r done).decided_at u ≡ w.decided_at u
     stays u x = grind (arith, decided_kept plan w r done u a, x)
 
-saw_prepare : (plan : ℕ → Plan) (w : History) (t0 : ℕ) (k0 : Key) (word : Ack) (done : Bool) → SawOk plan w → GoneOk plan w → RemovedBeforeBegin w → Allowed plan w (Prepares t0 k0 word) done → SawOk plan (happens plan w (Prepares t0 k0 word) done)
+saw_prepare : (plan : ℕ → Plan) (w : History) (t0 : ℕ) (k0 : List Key) (word : Ack) (done : Bool) → SawOk plan w → GoneOk plan w → RemovedBeforeBegin w → Allowed plan w (Prepares t0 k0 word) done → SawOk plan (happens plan w (Prepares t0 k0 word) done)
 saw_prepare plan w t0 k0 word done ok gone removed a t k h =
-    saw_join plan w (happens plan w (Prepares t0 k0 word) done) t0 k0 done t k (at_prepare plan w t0 k0 word done t k h) (λ d. saw_now plan w t0 k0 (base_of (written (plan t0) k0)) gone removed a.1 (a.5 d)) (ok t k) (λ u. refl) (λ u. refl)
+    saw_join plan w (happens plan w (Prepares t0 k0 word) done) t0 k0 done t k (at_prepare plan w t0 k0 word done t k h) (λ d q. saw_now plan w t0 k (base_of (written (plan t0) k)) gone removed a.1 (a.5 d k q)) (ok t k) (λ u. refl) (λ u. refl)
   where
-    saw_join : (plan : ℕ → Plan) (w v : History) (t0 : ℕ) (k0 : Key) (done : Bool) (t : ℕ) (k : Key)
-        → ((t ≡ t0) × (k ≡ k0) × (done ≡ true) × (v.under t k ≡ shadow plan w k0) × (v.prepared_at t k ≡ w.protocol.now + 1)) ⊎ ((w.took_effect t k ≡ true) × (v.under t k ≡ w.under t k) × (v.prepared_at t k ≡ w.prepared_at t k))
-        → (done ≡ true → Saw plan w t0 k0 (base_of (written (plan t0) k0)) (shadow plan w k0))
+    saw_join : (plan : ℕ → Plan) (w v : History) (t0 : ℕ) (k0 : List Key) (done : Bool) (t : ℕ) (k : Key)
+        → ((t ≡ t0) × (has_key k0 k ≡ true) × (done ≡ true) × (v.under t k ≡ shadow plan w k) × (v.prepared_at t k ≡ w.protocol.now + 1)) ⊎ ((w.took_effect t k ≡ true) × (v.under t k ≡ w.under t k) × (v.prepared_at t k ≡ w.prepared_at t k))
+        → (done ≡ true → has_key k0 k ≡ true → Saw plan w t0 k (base_of (written (plan t0) k)) (shadow plan w k))
         → (w.took_effect t k ≡ true → Saw plan w t k (base_of (written (plan t) k)) (w.under t k))
         → ((u : ℕ) → v.decided_at u ≡ w.decided_at u) → ((u : ℕ) → v.protocol.begun u ≡ w.protocol.begun u)
         → Saw plan v t k (base_of (written (plan t) k)) (v.under t k)
     saw_join plan w v t0 k0 done t k c now ok sd sb = elim c [
-      | inl x ↦ rw x.3 (rw x.0 (rw x.1 (saw_same plan w v t0 k0 (base_of (written (plan t0) k0)) (shadow plan w k0) (sb t0) (λ u e. sd u) (now x.2))))
+      | inl x ↦ rw x.3 (rw x.0 (saw_same plan w v t0 k (base_of (written (plan t0) k)) (shadow plan w k) (sb t0) (λ u e. sd u) (now x.2 x.1)))
       | inr x ↦ rw x.1 (saw_same plan w v t k (base_of (written (plan t) k)) (w.under t k) (sb t) (λ u e. sd u) (ok x.0))
     ]
 

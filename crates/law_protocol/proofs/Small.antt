@@ -1,11 +1,11 @@
 -- Each small invariant is kept by each part.
-use Rattle.std.proofs.Common.{◌≡◌, ◌≢◌, ℕ, ◌+◌, ◌<◌, ◌≤◌, Bool, true, false, [], Option, Some, None, ◌⊎◌, inl, inr, refl, arith}
+use Rattle.std.proofs.Common.{◌≡◌, ◌≢◌, ℕ, ◌+◌, ◌<◌, ◌≤◌, Bool, true, false, List, [], Option, Some, None, ◌⊎◌, inl, inr, refl, arith}
 use Rattle.law_protocol.specs.Types.{Decision, Key}
 use Rattle.sdb_types.proofs.Public.{tests}
 use Rattle.sdb_record.specs.declared.coordinator.Decision.TheVariants.{Committed, Aborted}
 use Rattle.law_protocol.specs.Plan.{Plan, written, deletes, version_read_at}
 use Rattle.law_protocol.specs.History.{Action, Other, Begins, Takes, Prepares, Checks, Decides, Aborts, Rolls, Removes, Ends, Stops, Ack, Deciding, History, Final, Held, base_of, happens, IsWriter}
-use Rattle.law_protocol.proofs.Allowed.{Allowed}
+use Rattle.law_protocol.proofs.Allowed.{Allowed, at_one}
 use Rattle.law_protocol.specs.Explained.{EarlierPrepareHadRow, RemovedBeforeBegin}
 
 -- a row never changes
@@ -34,20 +34,20 @@ abbrev pub TakenOk : History → Type 0
 TakenOk w = (t : ℕ) (k : Key) (i : ℕ) → w.protocol.accepted t ≡ false → (w.protocol.asked t k ≡ false) × (w.protocol.answered t k ≡ false) × (w.took_effect t k ≡ false) × (w.protocol.checked t i ≡ false) × (w.row t ≢ Some Committed) × (w.protocol.risked t ≡ false)
 
 pub taken_kept : (plan : ℕ → Plan) (w : History) (r : Action) (done : Bool) → TakenOk w → Allowed plan w r done → TakenOk (happens plan w r done)
-taken_kept plan w r done ok a t k i h = grind (arith, tests, ok t k i)
+taken_kept plan w r done ok a t k i h = grind (arith, tests, ok t k i, at_one plan w r done k a)
 
 abbrev pub AskedOk : (ℕ → Plan) → History → Type 0
 AskedOk plan w = (t : ℕ) (k : Key) → w.protocol.asked t k ≡ true → written (plan t) k ≢ None
 
 pub asked_kept : (plan : ℕ → Plan) (w : History) (r : Action) (done : Bool) → AskedOk plan w → Allowed plan w r done → AskedOk plan (happens plan w r done)
-asked_kept plan w r done ok a t k h = grind (arith, tests, ok t k)
+asked_kept plan w r done ok a t k h = grind (arith, tests, ok t k, at_one plan w r done k a)
 
 -- a prepare takes effect after it is asked, and before it is answered
 abbrev pub TookOk : History → Type 0
 TookOk w = (t : ℕ) (k : Key) → (w.took_effect t k ≡ true → (w.protocol.asked t k ≡ true) × (w.prepared_at t k ≤ w.protocol.now)) × (w.protocol.answered t k ≡ true → (w.took_effect t k ≡ true) × (w.prepared_at t k ≤ w.protocol.point t))
 
 pub took_kept : (plan : ℕ → Plan) (w : History) (r : Action) (done : Bool) → TookOk w → PointOk w → TakenOk w → Allowed plan w r done → TookOk (happens plan w r done)
-took_kept plan w r done ok point accepted a t k = grind (arith, tests, ok t k, point t, accepted t k 0)
+took_kept plan w r done ok point accepted a t k = grind (arith, tests, ok t k, point t, accepted t k 0, at_one plan w r done k a)
 
 -- a transaction begins before its COMMIT is accepted
 abbrev pub BegunOk : History → Type 0
@@ -82,7 +82,7 @@ decided_same : (plan : ℕ → Plan) (w : History) (r : Action) (done : Bool) (t
 decided_same plan w r done t h accepted stage risked a = grind (arith, tests)
 
 decided_told : (plan : ℕ → Plan) (w : History) (r : Action) (done : Bool) (t : ℕ) (k : Key) → w.protocol.stage t ≡ Deciding → Allowed plan w r done → w.protocol.answered t k ≡ true → (happens plan w r done).protocol.answered t k ≡ true
-decided_told plan w r done t k stage a h = grind (arith, tests)
+decided_told plan w r done t k stage a h = grind (arith, tests, at_one plan w r done k a)
 
 pub checked_stays : (plan : ℕ → Plan) (w : History) (r : Action) (done : Bool) (t i : ℕ) → w.protocol.checked t i ≡ true → (happens plan w r done).protocol.checked t i ≡ true
 checked_stays plan w r done t i h = grind (arith, tests)
@@ -207,7 +207,7 @@ abbrev pub StandsOk : History → Type 0
 StandsOk w = (t : ℕ) (k : Key) → w.took_effect t k ≡ true → w.row t ≡ None → w.rows k ≡ Some (Held t)
 
 pub held_kept : (plan : ℕ → Plan) (w : History) (r : Action) (done : Bool) → HeldOk w → TakenOk w → TookOk w → Allowed plan w r done → HeldOk (happens plan w r done)
-held_kept plan w r done ok accepted took_effect a k t h = grind (arith, tests, ok k t, took_effect t k)
+held_kept plan w r done ok accepted took_effect a k t h = grind (arith, tests, ok k t, took_effect t k, at_one plan w r done k a)
 
 pub base_kept : (plan : ℕ → Plan) (w : History) (r : Action) (done : Bool) → BaseOk plan w → Allowed plan w r done → BaseOk plan (happens plan w r done)
 base_kept plan w r done ok a t k u c h = grind (arith, tests, ok t k u, writer_kept plan w r done k u a, a)
@@ -216,13 +216,13 @@ pub gone_kept : (plan : ℕ → Plan) (w : History) (r : Action) (done : Bool) �
 gone_kept plan w r done ok a k u h = grind (arith, tests, ok k u, writer_kept plan w r done k u a, a)
 
 pub stands_kept : (plan : ℕ → Plan) (w : History) (r : Action) (done : Bool) → StandsOk w → TookOk w → Allowed plan w r done → StandsOk (happens plan w r done)
-stands_kept plan w r done ok took_effect a t k h n = grind (arith, tests, ok t k, took_effect t k)
+stands_kept plan w r done ok took_effect a t k h n = grind (arith, tests, ok t k, took_effect t k, at_one plan w r done k a)
 
-firm_prepare : (plan : ℕ → Plan) (w : History) (t0 : ℕ) (k0 : Key) (word : Ack) (done : Bool) → FirmOk plan w → FirmOk plan (happens plan w (Prepares t0 k0 word) done)
+firm_prepare : (plan : ℕ → Plan) (w : History) (t0 : ℕ) (k0 : List Key) (word : Ack) (done : Bool) → FirmOk plan w → FirmOk plan (happens plan w (Prepares t0 k0 word) done)
 firm_prepare plan w t0 k0 word done ok k t h = grind (arith, tests, ok k t)
 
-firm_roll : (plan : ℕ → Plan) (w : History) (t0 : ℕ) (k0 : Key) (d : Decision) (done : Bool) → FirmOk plan w → HeldOk w → BaseOk plan w → TakenOk w → TookOk w → AskedOk plan w → Allowed plan w (Rolls t0 k0 d) done → FirmOk plan (happens plan w (Rolls t0 k0 d) done)
-firm_roll plan w t0 k0 d done ok held base accepted took_effect asked a k t h = grind (arith, tests, ok k t, held k t0, base t0 k t, accepted t0 k 0, took_effect t0 k, asked t0 k)
+firm_roll : (plan : ℕ → Plan) (w : History) (t0 : ℕ) (k0 : List Key) (d : Decision) (done : Bool) → FirmOk plan w → HeldOk w → BaseOk plan w → TakenOk w → TookOk w → AskedOk plan w → Allowed plan w (Rolls t0 k0 d) done → FirmOk plan (happens plan w (Rolls t0 k0 d) done)
+firm_roll plan w t0 k0 d done ok held base accepted took_effect asked a k t h = grind (arith, tests, ok k t, held k t0, base t0 k t, accepted t0 k 0, took_effect t0 k, asked t0 k, at_one plan w (Rolls t0 k0 d) done k a)
 
 firm_remove : (plan : ℕ → Plan) (w : History) (k0 : Key) (t0 : ℕ) (done : Bool) → FirmOk plan w → FirmOk plan (happens plan w (Removes k0 t0) done)
 firm_remove plan w k0 t0 done ok k t h = grind (arith, tests, ok k t)
@@ -240,8 +240,8 @@ firm_kept plan w (Checks t i) done ok held base accepted took_effect asked a = o
 firm_kept plan w (Ends t) done ok held base accepted took_effect asked a = ok
 firm_kept plan w (Stops c) done ok held base accepted took_effect asked a = ok
 
-earlier_prepare : (plan : ℕ → Plan) (w : History) (t0 : ℕ) (k0 : Key) (word : Ack) (done : Bool) → EarlierPrepareHadRow w → StandsOk w → TookOk w → HeardOk w → Allowed plan w (Prepares t0 k0 word) done → EarlierPrepareHadRow (happens plan w (Prepares t0 k0 word) done)
-earlier_prepare plan w t0 k0 word done ok agrees took_effect heard a t u k ne ht hu lt = grind (arith, tests, ok t u k, agrees t k, took_effect t k, took_effect u k, heard t)
+earlier_prepare : (plan : ℕ → Plan) (w : History) (t0 : ℕ) (k0 : List Key) (word : Ack) (done : Bool) → EarlierPrepareHadRow w → StandsOk w → TookOk w → HeardOk w → Allowed plan w (Prepares t0 k0 word) done → EarlierPrepareHadRow (happens plan w (Prepares t0 k0 word) done)
+earlier_prepare plan w t0 k0 word done ok agrees took_effect heard a t u k ne ht hu lt = grind (arith, tests, ok t u k, agrees t k, took_effect t k, took_effect u k, heard t, at_one plan w (Prepares t0 k0 word) done k a)
 
 earlier_row : (w v : History) → EarlierPrepareHadRow w → ((t : ℕ) (k : Key) → v.took_effect t k ≡ w.took_effect t k) → ((t : ℕ) (k : Key) → v.prepared_at t k ≡ w.prepared_at t k) → ((t : ℕ) → w.row t ≢ None → (v.row t ≢ None) × (v.decided_at t ≡ w.decided_at t)) → EarlierPrepareHadRow v
 earlier_row w v ok st sp kept t u k ne ht hu lt = grind (arith, ok t u k, st t k, st u k, sp t k, sp u k, kept t)

@@ -11,7 +11,7 @@ use Rattle.sdb_record.specs.declared.coordinator.Decision.TheVariants.{Committed
 use Rattle.sdb_model.specs.Events.{StoreContents, IsTrace}
 use Rattle.sdb_model.specs.Tables.{is_data}
 use Rattle.law_protocol.specs.Plan.{Plan, written}
-use Rattle.law_protocol.specs.History.{Action, Begins, Prepares, Ack, ProtocolState, History, Standing, Final, Held, base_of, final_of, has_version, happens}
+use Rattle.law_protocol.specs.History.{Action, Begins, Prepares, Ack, ProtocolState, History, Standing, Final, Held, base_of, final_of, has_key, has_version, happens}
 use Rattle.law_protocol.specs.Lawful.{Labelled, protocol_state, id, answer_of, is_denial, IsBadRow, IsKnownAborted, MayAnswer}
 use Rattle.law_protocol.specs.Trace.{closing, IsTraced, has_effect, after_end, history}
 use Rattle.law_protocol.specs.Records.{record_left_by, record_for, row_for}
@@ -137,13 +137,13 @@ real_time plan places opening later past p more ss s t u c e r answered begins r
 
 ---- under a prepare
 
-pub stood_before : (plan : ℕ → Plan) (places : List Place) (opening : List StoreContents) (past : List Labelled) (p : Labelled) (ss : List (List StoreContents)) (s : List StoreContents) (t : ℕ) (k : Key) (word : Ack) → IsRunOf plan places opening (p ∷ past) (s ∷ ss) → p.action ≡ Prepares t k word → has_effect places p.event (closing opening ss) s ≡ true → StoodBefore plan places (closing opening ss) t k
-stood_before plan places opening past p ss s t k word r action done =
+pub stood_before : (plan : ℕ → Plan) (places : List Place) (opening : List StoreContents) (past : List Labelled) (p : Labelled) (ss : List (List StoreContents)) (s : List StoreContents) (t : ℕ) (ks : List Key) (k : Key) (word : Ack) → IsRunOf plan places opening (p ∷ past) (s ∷ ss) → p.action ≡ Prepares t ks word → has_key ks k ≡ true → has_effect places p.event (closing opening ss) s ≡ true → StoodBefore plan places (closing opening ss) t k
+stood_before plan places opening past p ss s t ks k word r action among done =
     let i = whole plan places opening past ss r.empty r.lawful.0 r.traced.0 in
     let w = history plan places opening past ss in
     let m = moves plan places w past p.event (closing opening ss) s p.action true i.knows i.held r.traced.1 done r.lawful.1 in
-    let a : Allowed plan (history plan places opening past ss) (Prepares t k word) true = subst (λ x. Allowed plan (history plan places opening past ss) x true) action m.allowed in
-    i.held.records k (outside i.knows a.0 a.4) ∙ ap (option_map (record_for plan k)) (is_firm (w.rows k) (base_of (written (plan t) k)) (a.5 refl)) ∙ firm_for (base_of (written (plan t) k)) ∙ sym (held_before plan t k (i.knows.planned t a.0) a.4)
+    let a : Allowed plan (history plan places opening past ss) (Prepares t ks word) true = subst (λ x. Allowed plan (history plan places opening past ss) x true) action m.allowed in
+    i.held.records k (outside i.knows a.0 (a.4 k among)) ∙ ap (option_map (record_for plan k)) (is_firm (w.rows k) (base_of (written (plan t) k)) (a.5 refl k among)) ∙ firm_for (base_of (written (plan t) k)) ∙ sym (held_before plan t k (i.knows.planned t a.0) (a.4 k among))
   where
     outside : Knows plan (history plan places opening past ss) past → (history plan places opening past ss).protocol.accepted t ≡ true → written (plan t) k ≢ None → is_data k ≡ true
     outside knows accepted writes = ((knows.planned t accepted).write k (Rattle.law_protocol.specs.Records.write_there (plan t) k) (Rattle.law_protocol.proofs.Known.writes_it (plan t) k writes)).1

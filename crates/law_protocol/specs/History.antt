@@ -1,5 +1,5 @@
 -- The actions of events in the protocol, and the state that a list of them leads to: what was answered, and what took effect.
-use Rattle.std.specs.Prelude.{◌≡◌, ◌≢◌, ◌⊎◌, ℕ, ℤ, pos, ◌+◌, ◌<◌, Bool, true, false, ◌&&◌, ◌==◌, if◌then◌else◌, Option, Some, None}
+use Rattle.std.specs.Prelude.{◌≡◌, ◌≢◌, ◌⊎◌, ℕ, ℤ, pos, ◌+◌, ◌<◌, Bool, true, false, ◌&&◌, ◌||◌, ◌==◌, if◌then◌else◌, List, [], ◌∷◌, Option, Some, None}
 use Rattle.law_protocol.specs.Types.{Decision, Key}
 use Rattle.sdb_types.specs.Order.{same_key}
 use Rattle.sdb_record.specs.declared.coordinator.Decision.TheVariants.{Committed, Aborted}
@@ -22,16 +22,16 @@ pub data Action : Type 0 where
   Begins : (t c : ℕ) → Action
   -- its COMMIT is accepted
   Takes : (t : ℕ) → Action
-  -- its prepare of a key
-  Prepares : (t : ℕ) (k : Key) (word : Ack) → Action
+  -- its prepare of keys, by one request
+  Prepares : (t : ℕ) (ks : List Key) (word : Ack) → Action
   -- its check of a read of the read set, which found all as read
   Checks : (t i : ℕ) → Action
   -- the put of its row COMMITTED
   Decides : (t : ℕ) (word : Ack) → Action
   -- a put of its row ABORTED, with this moment, by anybody
   Aborts : (t : ℕ) (moment : ℤ) (word : Ack) → Action
-  -- a roll of what it prepared at a key, by a decision, by anybody
-  Rolls : (t : ℕ) (k : Key) (decision : Decision) → Action
+  -- a roll of what it prepared at keys, by a decision, by anybody, by one request
+  Rolls : (t : ℕ) (ks : List Key) (decision : Decision) → Action
   -- the removal of the tombstone that it left at a key
   Removes : (k : Key) (t : ℕ) → Action
   -- an answer ends it
@@ -100,8 +100,17 @@ at f t x u = if u == t then x else f u
 abbrev pub at_key : {X : Type 0} → (Key → X) → Key → X → Key → X
 at_key f k x q = if same_key q k then x else f q
 
-abbrev pub at2 : {X : Type 0} → (ℕ → Key → X) → ℕ → Key → X → ℕ → Key → X
-at2 f t k x u q = if u == t && same_key q k then x else f u q
+-- a key is among keys
+abbrev pub has_key : List Key → Key → Bool
+has_key [] q = false
+has_key (k ∷ ks) q = has_key ks q || same_key q k
+
+abbrev pub at_keys : {X : Type 0} → (Key → X) → List Key → (Key → X) → Key → X
+at_keys f ks x q = if has_key ks q then x q else f q
+
+-- the same, of one transaction
+abbrev pub at_keys_of : {X : Type 0} → (ℕ → Key → X) → ℕ → List Key → (Key → X) → ℕ → Key → X
+at_keys_of f t ks x u q = if u == t && has_key ks q then x q else f u q
 
 abbrev pub at_item : {X : Type 0} → (ℕ → ℕ → X) → ℕ → ℕ → X → ℕ → ℕ → X
 at_item f t i x u j = if u == t && j == i then x else f u j
@@ -135,9 +144,9 @@ abbrev pub state_after : ProtocolState → Action → ProtocolState
 state_after h Other = h
 state_after h (Begins t c) = record h { begun = at h.begun t h.now; owner = at h.owner t c; is_open = at h.is_open t true }
 state_after h (Takes t) = record h { accepted = at h.accepted t true; taken_at = at h.taken_at t h.now; point = at h.point t h.now }
-state_after h (Prepares t k word) = record h {
-  asked = at2 h.asked t k true;
-  answered = at2 h.answered t k (is_yes word);
+state_after h (Prepares t ks word) = record h {
+  asked = at_keys_of h.asked t ks (λ q. true);
+  answered = at_keys_of h.answered t ks (λ q. is_yes word);
   point = if is_yes word then at h.point t h.now else h.point;
 }
 state_after h (Checks t i) = record h { stage = at h.stage t Checking; checked = at_item h.checked t i true }
@@ -151,7 +160,7 @@ state_after h (Aborts t moment word) = record h {
   dead = if is_yes word then at h.dead t true else h.dead;
   met = if is_met word then at h.met t true else h.met;
 }
-state_after h (Rolls t k decision) = h
+state_after h (Rolls t ks decision) = h
 state_after h (Removes k t) = h
 state_after h (Ends t) = record h { is_open = at h.is_open t false }
 state_after h (Stops c) = record h { stopped = at h.stopped c true }
@@ -248,12 +257,12 @@ with_row w h t decision moment done = record w {
 
 -- what was done, after one more part, where the event took effect or not
 abbrev pub happens : (ℕ → Plan) → History → Action → Bool → History
-happens plan w (Prepares t k word) done = record w {
-  protocol = state_after_event w.protocol (Prepares t k word);
-  rows = if done then at_key w.rows k (Some (Held t)) else w.rows;
-  took_effect = at2 w.took_effect t k done;
-  prepared_at = at2 w.prepared_at t k (w.protocol.now + 1);
-  under = at2 w.under t k (shadow plan w k);
+happens plan w (Prepares t ks word) done = record w {
+  protocol = state_after_event w.protocol (Prepares t ks word);
+  rows = if done then at_keys w.rows ks (λ q. Some (Held t)) else w.rows;
+  took_effect = if done then at_keys_of w.took_effect t ks (λ q. true) else w.took_effect;
+  prepared_at = if done then at_keys_of w.prepared_at t ks (λ q. w.protocol.now + 1) else w.prepared_at;
+  under = if done then at_keys_of w.under t ks (shadow plan w) else w.under;
 }
 happens plan w (Checks t i) done = record w {
   protocol = state_after_event w.protocol (Checks t i);
@@ -262,9 +271,9 @@ happens plan w (Checks t i) done = record w {
 }
 happens plan w (Decides t word) done = with_row w (state_after_event w.protocol (Decides t word)) t Committed (plan t).now done
 happens plan w (Aborts t moment word) done = with_row w (state_after_event w.protocol (Aborts t moment word)) t Aborted moment done
-happens plan w (Rolls t k decision) done = record w {
-  protocol = state_after_event w.protocol (Rolls t k decision);
-  rows = if done then at_key w.rows k (rolled (plan t) t k decision) else w.rows;
+happens plan w (Rolls t ks decision) done = record w {
+  protocol = state_after_event w.protocol (Rolls t ks decision);
+  rows = if done then at_keys w.rows ks (λ q. rolled (plan t) t q decision) else w.rows;
 }
 happens plan w (Removes k t) done = record w {
   protocol = state_after_event w.protocol (Removes k t);

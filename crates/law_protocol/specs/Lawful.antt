@@ -277,16 +277,22 @@ is_quiet (event.Stop client) = false
 is_quiet (event.Clock moment) = true
 is_quiet (event.Idle client) = true
 
--- an event may play this part after the events so far
+-- of a list of one key
+abbrev pub OfOneKey : List Key → (Key → Type 0) → Type 0
+OfOneKey [] P = ⊥
+OfOneKey (k ∷ []) P = P k
+OfOneKey (k ∷ l ∷ ks) P = ⊥
+
+-- An event may play this part after the events so far. A request prepares one key, and rolls one key.
 abbrev pub IsEnabled : (ℕ → Plan) → List Labelled → Event → Action → Type 0
 IsEnabled plan past e Other = is_quiet e ≡ true
 IsEnabled plan past e (Begins t c) = MayBegin past e t c
 IsEnabled plan past e (Takes t) = MayTake plan past e t
-IsEnabled plan past e (Prepares t k word) = MayPrepare plan past e t k word
+IsEnabled plan past e (Prepares t ks word) = OfOneKey ks (λ k. MayPrepare plan past e t k word)
 IsEnabled plan past e (Checks t i) = MayCheck plan past e t i
 IsEnabled plan past e (Decides t word) = MayDecide plan past e t word
 IsEnabled plan past e (Aborts t moment word) = MayAbort past e t moment word
-IsEnabled plan past e (Rolls t k d) = MayRollBy plan past e t k d
+IsEnabled plan past e (Rolls t ks d) = OfOneKey ks (λ k. MayRollBy plan past e t k d)
 IsEnabled plan past e (Removes k t) = MayRemove past e k t
 IsEnabled plan past e (Ends t) = ⊥
 IsEnabled plan past e (Stops c) = e ≡ event.Stop c

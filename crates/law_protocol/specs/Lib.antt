@@ -3,6 +3,7 @@ pub mod Plan
 pub mod History
 pub mod Lawful
 pub mod Trace
+pub mod Changed
 pub mod Records
 pub mod Explained
 pub mod Worked

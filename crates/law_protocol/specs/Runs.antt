@@ -8,7 +8,7 @@ use Rattle.sdb_model.specs.Exec.{find_table}
 use Rattle.sdb_model.specs.Transactions.{IsOrder}
 use Rattle.law_protocol.specs.Explained.{IsRunOf, IsAnsweredCommitted, events_of, newest_first}
 use Rattle.law_protocol.specs.Faithful.{AreReadSets, IsFaithful}
-use Rattle.law_protocol.specs.History.{Begins, History, Prepares, ProtocolState, Ack}
+use Rattle.law_protocol.specs.History.{Begins, History, Prepares, ProtocolState, Ack, has_key}
 use Rattle.law_protocol.specs.Lawful.{Labelled, protocol_state}
 use Rattle.law_protocol.specs.Plan.{Plan}
 use Rattle.law_protocol.specs.Trace.{closing, has_effect, history}
@@ -144,8 +144,10 @@ contents_before e = closing e.opening e.moments
 
 -- The event is a transaction's prepare of a key, and took effect.
 pub record PreparesKey (e : EventInRun) (t : ℕ) (k : Key) : Type 0 where
+  pub ks : List Key
+  pub among : has_key ks k ≡ true
   pub word : Ack
-  pub prepares : e.event.action ≡ Prepares t k word
+  pub prepares : e.event.action ≡ Prepares t ks word
   pub done : has_effect e.places e.event.event (closing e.opening e.moments) e.after ≡ true
 
 -- The event begins a transaction that is recorded after the run. Another was answered Committed before it.

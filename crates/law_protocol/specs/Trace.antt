@@ -1,11 +1,10 @@
 -- A trace beside the events, newest first, and what was done.
 use Rattle.std.specs.Prelude.{◌≡◌, ℕ, Bool, false, not, ◌&&◌, List, [], ◌∷◌, Option, Some, None}
-use Rattle.std.specs.Option.{option_map_or}
-use Rattle.law_protocol.specs.Types.{Condition, Event, Key, Place, Request}
-use Rattle.sdb_types.specs.declared.record.Request.TheVariants as ask
+use Rattle.law_protocol.specs.Types.{Condition, Event, Key, Place}
 use Rattle.sdb_types.specs.Contents.{holds}
-use Rattle.sdb_model.specs.Events.{StoreContents, Effect, contact_of, stored_at}
+use Rattle.sdb_model.specs.Events.{StoreContents, Effect, stored_at}
 use Rattle.law_protocol.specs.Plan.{Plan}
+use Rattle.law_protocol.specs.Changed.{Change, changes_in}
 use Rattle.law_protocol.specs.History.{Ends, History, start, happens, state_after}
 use Rattle.law_protocol.specs.Lawful.{Labelled}
 
@@ -30,14 +29,13 @@ StartsEmpty places opening = (k : Key) → stored_at places opening k ≡ None
 abbrev pub takes_effect_at : List Place → Key → Condition → List StoreContents → List StoreContents → Bool
 takes_effect_at places k c before now = holds c (stored_at places before k) && not (holds c (stored_at places now k))
 
-abbrev pub takes_effect : List Place → Request → List StoreContents → List StoreContents → Bool
-takes_effect places (ask.Get key) before now = false
-takes_effect places (ask.Scan span) before now = false
-takes_effect places (ask.PutIf r c) before now = takes_effect_at places r.key c before now
-takes_effect places (ask.DeleteIf key c) before now = takes_effect_at places key c before now
+-- All of the changes that a request asks for take effect, or none: the first tells.
+abbrev pub take_effect : List Place → List Change → List StoreContents → List StoreContents → Bool
+take_effect places [] before now = false
+take_effect places (c ∷ cs) before now = takes_effect_at places c.key c.condition before now
 
 abbrev pub has_effect : List Place → Event → List StoreContents → List StoreContents → Bool
-has_effect places e before now = option_map_or (λ c. takes_effect places c.request before now) (contact_of e) false
+has_effect places e before now = take_effect places (changes_in e) before now
 
 abbrev pub after_end : (ℕ → Plan) → History → Option ℕ → History
 after_end plan w None = w

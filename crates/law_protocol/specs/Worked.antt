@@ -94,9 +94,9 @@ count_one = Some (answer.Count 1)
 -- client 1 inserts the account
 abbrev pub first_run : List Labelled
 first_run =
-    ending one (Rolls one account Committed) (call 1 (ask.PutIf (forward inserts one) (condition.Version (id one) state.Prepared)) reply.Applied (Some answer.Committed))
+    ending one (Rolls one (account ∷ []) Committed) (call 1 (ask.PutIf (forward inserts one) (condition.Version (id one) state.Prepared)) reply.Applied (Some answer.Committed))
     ∷ labelled_with (Decides one Yes) (call 1 (put_row one) reply.Applied None)
-    ∷ labelled_with (Prepares one account Yes) (call 1 (ask.PutIf (prepared inserts one) condition.Absent) reply.Applied None)
+    ∷ labelled_with (Prepares one (account ∷ []) Yes) (call 1 (ask.PutIf (prepared inserts one) condition.Absent) reply.Applied None)
     ∷ labelled_with (Takes one) (take_of 1 (codes "COMMIT") None)
     ∷ labelled_with Other (call 1 (ask.Get account) (reply.Found None) count_one)
     ∷ labelled_with Other (take_of 1 (codes "INSERT INTO bank.account (id, balance) VALUES (1, 100)") None)
@@ -106,7 +106,7 @@ first_run =
 -- client 2 reads it and prepares a write of it
 abbrev pub second_run : Write → List ℕ → List Labelled
 second_run w text =
-    labelled_with (Prepares two account Yes) (call 2 (ask.PutIf (prepared w two) (condition.Version (id one) state.Committed)) reply.Applied None)
+    labelled_with (Prepares two (account ∷ []) Yes) (call 2 (ask.PutIf (prepared w two) (condition.Version (id one) state.Committed)) reply.Applied None)
     ∷ labelled_with (Takes two) (take_of 2 (codes "COMMIT") None)
     ∷ labelled_with Other (call 2 (ask.Get account) (reply.Found (Some (forward inserts one))) count_one)
     ∷ labelled_with Other (take_of 2 text None)
@@ -122,7 +122,7 @@ delete_text = codes "DELETE FROM bank.account WHERE id = 1"
 -- The reply to its put of COMMITTED is lost; it looks, finds its row, and rolls forward.
 abbrev pub lost_decision : List Labelled
 lost_decision =
-    ending two (Rolls two account Committed) (call 2 (ask.PutIf (forward updates two) (condition.Version (id two) state.Prepared)) reply.Applied (Some answer.Committed))
+    ending two (Rolls two (account ∷ []) Committed) (call 2 (ask.PutIf (forward updates two) (condition.Version (id two) state.Prepared)) reply.Applied (Some answer.Committed))
     ∷ labelled_with Other (call 2 (ask.Get (coordinator_key_of (id two))) (reply.Found (Some (row two))) None)
     ∷ labelled_with (Decides two NoAck) (event.Call 2 (codes "ordered") (put_row two) Lost reply.Fault None)
     ∷ second_run updates update_text
@@ -134,7 +134,7 @@ recovery =
     ending three (Decides three Yes) (call 3 (put_row three) reply.Applied (Some answer.Committed))
     ∷ labelled_with (Checks three 0) (call 3 (ask.Get account) (reply.Found (Some (forward updates two))) None)
     ∷ labelled_with (Takes three) (take_of 3 (codes "COMMIT") None)
-    ∷ labelled_with (Rolls two account Committed) (call 3 (ask.PutIf (forward updates two) (condition.Version (id two) state.Prepared)) reply.Applied (Some (answer.Rows ((value.Int (pos 7) ∷ []) ∷ []))))
+    ∷ labelled_with (Rolls two (account ∷ []) Committed) (call 3 (ask.PutIf (forward updates two) (condition.Version (id two) state.Prepared)) reply.Applied (Some (answer.Rows ((value.Int (pos 7) ∷ []) ∷ []))))
     ∷ labelled_with Other (call 3 (ask.Get (coordinator_key_of (id two))) (reply.Found (Some (row two))) None)
     ∷ labelled_with Other (call 3 (ask.Get account) (reply.Found (Some (prepared updates two))) None)
     ∷ labelled_with Other (take_of 3 (codes "SELECT balance FROM bank.account WHERE id = 1") None)
@@ -149,7 +149,7 @@ vacuumed =
     labelled_with (Removes account two) (call 4 (ask.DeleteIf account (condition.Version (id two) state.Committed)) reply.Applied (Some (answer.Count 1)))
     ∷ labelled_with Other (call 4 (ask.Scan (record { table = account.table; partition = None })) (reply.Rows (forward deletes_it two ∷ [])) None)
     ∷ labelled_with Other (take_of 4 (codes "VACUUM") None)
-    ∷ ending two (Rolls two account Committed) (call 2 (ask.PutIf (forward deletes_it two) (condition.Version (id two) state.Deleted)) reply.Applied (Some answer.Committed))
+    ∷ ending two (Rolls two (account ∷ []) Committed) (call 2 (ask.PutIf (forward deletes_it two) (condition.Version (id two) state.Deleted)) reply.Applied (Some answer.Committed))
     ∷ labelled_with (Decides two Yes) (call 2 (put_row two) reply.Applied None)
     ∷ second_run deletes_it delete_text
 
@@ -168,13 +168,13 @@ decided_early =
 -- a second prepare of the same key
 abbrev pub prepared_twice : List Labelled
 prepared_twice =
-    labelled_with (Prepares two account Yes) (call 2 (ask.PutIf (prepared updates two) (condition.Version (id one) state.Committed)) reply.Applied None)
+    labelled_with (Prepares two (account ∷ []) Yes) (call 2 (ask.PutIf (prepared updates two) (condition.Version (id one) state.Committed)) reply.Applied None)
     ∷ second_run updates update_text
 
 -- a roll forward after the lost decision, without a look
 abbrev pub rolled_blindly : List Labelled
 rolled_blindly =
-    ending two (Rolls two account Committed) (call 2 (ask.PutIf (forward updates two) (condition.Version (id two) state.Prepared)) reply.Applied (Some answer.Committed))
+    ending two (Rolls two (account ∷ []) Committed) (call 2 (ask.PutIf (forward updates two) (condition.Version (id two) state.Prepared)) reply.Applied (Some answer.Committed))
     ∷ labelled_with (Decides two NoAck) (event.Call 2 (codes "ordered") (put_row two) Lost reply.Fault None)
     ∷ second_run updates update_text
 
@@ -189,7 +189,7 @@ removed_while_open =
     ∷ labelled_with Other (call 4 (ask.Scan (record { table = account.table; partition = None })) (reply.Rows (forward deletes_it two ∷ [])) None)
     ∷ labelled_with Other (take_of 4 (codes "VACUUM") None)
     ∷ labelled_with (Begins three 3) (take_of 3 (codes "BEGIN") (Some answer.Done))
-    ∷ ending two (Rolls two account Committed) (call 2 (ask.PutIf (forward deletes_it two) (condition.Version (id two) state.Deleted)) reply.Applied (Some answer.Committed))
+    ∷ ending two (Rolls two (account ∷ []) Committed) (call 2 (ask.PutIf (forward deletes_it two) (condition.Version (id two) state.Deleted)) reply.Applied (Some answer.Committed))
     ∷ labelled_with (Decides two Yes) (call 2 (put_row two) reply.Applied None)
     ∷ second_run deletes_it delete_text
 

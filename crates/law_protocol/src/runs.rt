@@ -3,14 +3,20 @@ ghost use Rattle.std.specs.Prelude.{◌≡◌, ◌≢◌, ◌<◌, Some, unwrap_
 ghost use Rattle.sdb_types.specs.declared.key.Key.{Key};
 ghost use Rattle.sdb_record.specs.declared.coordinator.Decision.TheVariants.{Committed};
 ghost use Rattle.sdb_model.specs.Transactions.{last_prepare};
+ghost use Rattle.law_protocol.specs.Changed.{Changed, changes_in};
 ghost use Rattle.law_protocol.specs.Explained.{IsDenied, IsAnsweredCommitted, StoodBefore, newest_first};
 ghost use Rattle.law_protocol.specs.Lawful.{id, protocol_state};
 ghost use Rattle.law_protocol.specs.Runs.{BeginsAfterAnswered, EventInRun, IsCommitStarted, LawfulRun, PreparesKey, RunInOrder, TraceInOrder, events_in, history_of, run_with, contents_before, protocol_state_in};
-ghost use Rattle.law_protocol.specs.Trace.{IsTraced, closing};
+ghost use Rattle.law_protocol.specs.Trace.{IsTraced, closing, has_effect};
 
 /// The protocol's state depends on the events alone: the history has the same state whatever the trace.
 pub fn protocol_state_is_decidable()
     ensures { (r : LawfulRun) → protocol_state r.past ≡ (history_of r).protocol }
+{}
+
+/// An event changed each key that its request asks to change, where each condition held, or none of them; and no other key.
+pub fn events_change_all_or_none()
+    ensures { (e : EventInRun) → Changed e.places (changes_in e.event.event) (contents_before e) e.after (has_effect e.places e.event.event (contents_before e) e.after) }
 {}
 
 /// Before a prepare that took effect there was what it is rolled back to.

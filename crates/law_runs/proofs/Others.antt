@@ -122,7 +122,9 @@ puts_row : (plan : ℕ → Plan) (w : History) (past : List Labelled) (e : Event
 puts_row plan w past e Other q knows m row put = absurd (quiet_puts_none e q m put)
 puts_row plan w past e (Begins t c) q knows m row put = absurd (subst (λ x. PutsAt x q) m.take put)
 puts_row plan w past e (Takes t) q knows m row put = absurd (subst (λ x. PutsAt x q) m.take put)
-puts_row plan w past e (Prepares t k word) q knows m row put =
+puts_row plan w past e (Prepares t [] word) q knows m row put = absurd m
+puts_row plan w past e (Prepares t (k ∷ l ∷ ks) word) q knows m row put = absurd m
+puts_row plan w past e (Prepares t (k ∷ []) word) q knows m row put =
     let accepted = subst (λ (x : ProtocolState). x.accepted t ≡ true) knows.talks m.within.accepted in
     data_apart k q ((knows.planned t accepted).write k m.write m.at).1 row (sym (prepared-key m.write (id t) (plan t).now ∙ write_key (plan t) k m.write m.at) ∙ called e m.client _ m.r q m.call put)
 puts_row plan w past e (Checks t i) q knows m row put = absurd (check_puts_none (plan t) m.item m.q m.r q m.unchanged (called e m.client m.q m.r q m.call put))
@@ -136,9 +138,11 @@ puts_row plan w past e (Aborts t moment word) q knows m row put = record {
   fits = m.fits;
   same = sym (called e m.client _ m.r q m.call put) ∙ row-key (id t) Aborted moment;
 }
-puts_row plan w past e (Rolls t k Committed) q knows m row put =
+puts_row plan w past e (Rolls t [] d) q knows m row put = absurd m
+puts_row plan w past e (Rolls t (k ∷ l ∷ ks) d) q knows m row put = absurd m
+puts_row plan w past e (Rolls t (k ∷ []) Committed) q knows m row put =
     data_apart k q m.roll.outside row (sym (forward-key m.roll.rolled m.moment ∙ rolled_key plan w past e t k knows m.roll) ∙ called e m.roll.client _ m.roll.r q m.call put)
-puts_row plan w past e (Rolls t k Aborted) q knows m row put =
+puts_row plan w past e (Rolls t (k ∷ []) Aborted) q knows m row put =
     data_apart k q m.roll.outside row (back_puts k (id t) m.roll.s (before_record m.roll.rolled) q (λ b h. key_before m.roll.rolled b h ∙ rolled_key plan w past e t k knows m.roll) (called e m.roll.client _ m.roll.r q m.call put))
 puts_row plan w past e (Removes k t) q knows m row put = absurd (called e m.client _ m.r q m.call put)
 puts_row plan w past e (Ends t) q knows m row put = absurd m
