@@ -13,7 +13,7 @@ use Rattle.sdb_model.specs.declared.event.How.TheVariants.{Seen}
 use Rattle.sdb_model.specs.Rows.{Name}
 use Rattle.sdb_model.specs.Events.{StoreContents, store_of, table_asked, IsCall}
 use Rattle.law_protocol.proofs.Effects.{after_put, after_delete, stands_in_store, stands_anywhere}
-use Rattle.law_protocol.specs.Spread.{HoldAs}
+use Rattle.law_protocol.specs.Spread.{CallOnMany, HoldAs}
 use Rattle.sdb_model.specs.Tables.{is_table_of_run}
 
 ---- contents that agree on a table
@@ -85,16 +85,14 @@ held_as catalog places store q how r before now held left c h here there = recor
   ];
 }
 
-pub called : (catalog : List Table) (places : List Place) (store : Name) (q : Request) (r : Reply) (before now : List StoreContents) (held : Contents)
-    → IsCall places store q Seen r before now → r ≢ reply.NoMemory → is_table_of_run catalog (table_asked q) ≡ true → HoldAs catalog places before held
-    → (r ≡ reply_to q held) × HoldAs catalog places now (after q held)
-called catalog places store q r before now held c memory about h = elim c.performed [
+pub called : (c : CallOnMany) → (c.reply ≡ reply_to c.request c.held) × HoldAs c.catalog c.places c.now (after c.request c.held)
+called c = elim c.call.performed [
   | inl p ↦ (
-    sym (ap (λ (x : Reply × Contents). x.0) p) ∙ same_reply q c.held held s,
-    held_as catalog places store q Seen r before now held (after q held) c h (λ k same. ap (λ (x : Reply × Contents). record_at x.1 k) (sym p) ∙ same_after q c.held held s k same) (left_apart q held),
+    sym (ap (λ (x : Reply × Contents). x.0) p) ∙ same_reply c.request c.call.held c.held s,
+    held_as c.catalog c.places c.store c.request Seen c.reply c.before c.now c.held (after c.request c.held) c.call c.same (λ k same. ap (λ (x : Reply × Contents). record_at x.1 k) (sym p) ∙ same_after c.request c.call.held c.held s k same) (left_apart c.request c.held),
   )
-  | inr w ↦ absurd (memory w.0)
+  | inr w ↦ absurd (c.memory w.0)
 ]
   where
-    s : SameOf c.held held (table_asked q)
-    s k e = sym (stands_in_store places store q Seen r before now c k (c.placed ∙ ap (λ (t : TableName). store_of places before t.ns) (sym e))).0 ∙ h.at k (about_key catalog (table_asked q) k e about)
+    s : SameOf c.call.held c.held (table_asked c.request)
+    s k e = sym (stands_in_store c.places c.store c.request Seen c.reply c.before c.now c.call k (c.call.placed ∙ ap (λ (t : TableName). store_of c.places c.before t.ns) (sym e))).0 ∙ c.same.at k (about_key c.catalog (table_asked c.request) k e c.of_table)

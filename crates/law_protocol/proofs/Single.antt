@@ -7,7 +7,7 @@ use Rattle.sdb_model.specs.declared.event.How.TheVariants.{Seen, Lost, Discarded
 use Rattle.sdb_model.specs.Rows.{Name}
 use Rattle.sdb_model.specs.Events.{StoreContents, Effect, IsTrace, IsCall, IsPerformed, contents_under, with_contents, store_of, table_asked}
 use Rattle.law_protocol.proofs.Effects.{stands_in_store}
-use Rattle.law_protocol.specs.Spread.{HoldAs, AreAbout, relocated_event, relocated_events, one_store}
+use Rattle.law_protocol.specs.Spread.{HoldAs, AreAbout, HasTraceOnOne, TraceOnMany, relocated_event, relocated_events, one_store}
 use Rattle.law_protocol.proofs.Calls.{SameOf, same_reply, same_after, left_apart, held_as, about_key as played_key}
 use Rattle.sdb_record.proofs.Public.{same_name-itself}
 use Rattle.sdb_model.specs.Tables.{is_table_of_run}
@@ -69,3 +69,8 @@ single catalog name places (event.Call client store q how r answer ∷ es) befor
     one_more catalog name places (event.Call client store q how r answer) es m o.left closing
     (record { held = m; left = o.left; placed = refl; found = one_held name m; performed = o.performed; others = sym (one_left name m o.left) })
     (single catalog name places es s ss closing o.left t.1 about.1 o.same)
+
+pub single_of : (t : TraceOnMany) (name : Name) → HasTraceOnOne t name
+single_of t name =
+    let s = single t.catalog name t.places t.events t.opening t.moments t.closing t.held t.trace t.about t.same in
+    record { singles = s.singles; last = s.last; traced = s.traced; same = s.same }

@@ -18,7 +18,7 @@ use Rattle.sdb_model.specs.Images.{decision_at, decision_on, row_at}
 use Rattle.sdb_model.specs.Transactions.{Executed, IsOrder}
 use Rattle.sdb_model.specs.Serial.{AreBodies, AreRead, answers_given, commit_answer, IsSerial, RespectsRealTime, IsRun}
 use Rattle.sdb_model.specs.Form.{script_with_places}
-use Rattle.law_protocol.specs.Spread.{one_store, relocated_events, relocated_outcome, HoldAs}
+use Rattle.law_protocol.specs.Spread.{one_store, relocated_events, relocated_outcome, HoldAs, RelocatedRun}
 use Rattle.law_protocol.proofs.Moved.{begun_moved, body_moved, commit_moved, point_moved, said_moved}
 use Rattle.law_protocol.proofs.Followed.{follows_moved}
 use Rattle.sdb_types.proofs.Public.{or_true}
@@ -134,3 +134,6 @@ run_moved script name m0 m1 o places at opening closing moments none run trace h
       answered = told_moved at script.catalog places closing name m1 o.events o.order o.tables a (subst (λ (ps : List Place). IsSerial script.catalog ps o.events (one_store name m1) o.order o.tables) none run.answered);
       real_time = time_moved at script.catalog places closing name m1 o.events o.order a (subst (λ (ps : List Place). RespectsRealTime ps o.events (one_store name m1) o.order) none run.real_time);
     }
+
+pub run_relocated : (r : RelocatedRun) → IsRun (script_with_places r.script r.places) r.opening r.closing (relocated_outcome r.at r.outcome)
+run_relocated r = run_moved r.script r.name r.held_before r.held_after r.outcome r.places r.at r.opening r.closing r.moments r.no_places r.run r.trace r.same

@@ -11,7 +11,7 @@ use Rattle.sdb_model.specs.declared.event.How.TheVariants.{Seen, Lost, Discarded
 use Rattle.sdb_model.specs.Rows.{Name, same_name}
 use Rattle.sdb_model.specs.Events.{StoreContents, contents_under, with_contents, store_of, stored_at, table_asked, IsPerformed, IsCall, Effect, IsTrace}
 use Rattle.law_protocol.proofs.Effects.{store_same, held_there, held_elsewhere}
-use Rattle.law_protocol.specs.Spread.{one_store, relocated_event, relocated_events, AreAbout, HoldAs, AreShelved}
+use Rattle.law_protocol.specs.Spread.{one_store, relocated_event, relocated_events, AreAbout, HoldAs, AreShelved, HasTraceOnMany, TraceOnOne}
 use Rattle.law_protocol.proofs.Calls.{SameOf, same_reply, same_after, left_apart, held_as}
 use Rattle.sdb_types.proofs.Public.{some_is as some_same}
 use Rattle.law_protocol.proofs.Single.{one_held, one_left}
@@ -177,9 +177,7 @@ many_traced catalog name places at (event.Call c store q how r given ∷ es) (s 
     let rest = many_traced catalog name places at es ss many.now one.left m1 (subst (λ (x : List StoreContents). IsTrace [] es x ss (one_store name m1)) one.same t.1) about.1 many.ats many.shelved many.holds in
     record { moments = many.now ∷ rest.moments; closing = rest.closing; trace = (many.called, rest.trace); holds = rest.holds }
 
-pub traced : (catalog : List Table) (name : Name) (m0 m1 : Contents) (events : List Event) (singles : List (List StoreContents)) (places : List Place) (opening : List StoreContents)
-    → IsTrace [] events (one_store name m0) singles (one_store name m1) → AreAbout catalog events → AreShelved places opening → HoldAs catalog places opening m0
-    → (moments : List (List StoreContents)) × (closing : List StoreContents) × IsTrace places (relocated_events (store_of places opening) events) opening moments closing × HoldAs catalog places closing m1
-traced catalog name m0 m1 events singles places opening t about shelved holds =
-    let many = many_traced catalog name places (store_of places opening) events singles opening m0 m1 t about (λ ns. refl) shelved holds in
-    (many.moments, many.closing, many.trace, many.holds)
+pub traced : (t : TraceOnOne) → HasTraceOnMany t
+traced t =
+    let many = many_traced t.catalog t.name t.places (store_of t.places t.opening) t.events t.singles t.opening t.held_before t.held_after t.trace t.about (λ ns. refl) t.shelved t.same in
+    record { moments = many.moments; closing = many.closing; trace = many.trace; same = many.holds }

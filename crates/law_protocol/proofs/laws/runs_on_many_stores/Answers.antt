@@ -1,5 +1,5 @@
-use Rattle.law_protocol.proofs.Told.{run_moved}
+use Rattle.law_protocol.proofs.Told.{run_relocated}
 use Rattle.law_protocol.proofs.laws.runs_on_many_stores.Goals as goal
 
 pub returns : goal.returns
-returns c = record { run = run_moved }
+returns c = record { run = run_relocated }
