@@ -394,7 +394,7 @@ module _ (past : List Labelled) (plans : List Plan) (t : ℕ) where
 pub decide_is : (past : List Labelled) (plans : List Plan) (e : Event) (t : ℕ) (w : Ack) → decides_well past plans e t w ≡ true → MayDecide (plan_in plans) (all_labelled past) e t (ack_of w)
 decide_is past plans (event.Call client store q how r answered) t w h =
     let put = ask.PutIf (coordinator_row_of (id t) decision.Committed (moment_in plans t)) condition.Absent in
-    let answered = list_all (λ (x : Write). acknowledged_in past t x.key) (writes_in plans t) in
+    let acked = list_all (λ (x : Write). acknowledged_in past t x.key) (writes_in plans t) in
     let agree = list_all (agrees (writes_in plans t)) (items_in plans t) in
     let checked = list_all (λ (x : ℕ × ReadItem). is_item_checked past t (writes_in plans t) x.0 x.1) (enumerate_from 0 (items_in plans t)) in
     let one = right (in_commit past client t) (matches_reply w r && (same_request q put && (acked && (agree && checked)))) h in
@@ -419,7 +419,7 @@ decide_is past plans (event.Idle client) t w h = clash (sym h)
 pub is_decide : (past : List Labelled) (plans : List Plan) (e : Event) (t : ℕ) (w : Ack) → MayDecide (plan_in plans) (all_labelled past) e t (ack_of w) → decides_well past plans e t w ≡ true
 is_decide past plans e t w m =
     let put = ask.PutIf (coordinator_row_of (id t) decision.Committed (moment_in plans t)) condition.Absent in
-    let answered = list_all (λ (x : Write). acknowledged_in past t x.key) (writes_in plans t) in
+    let acked = list_all (λ (x : Write). acknowledged_in past t x.key) (writes_in plans t) in
     let agree = list_all (agrees (writes_in plans t)) (items_in plans t) in
     let checked = list_all (λ (x : ℕ × ReadItem). is_item_checked past t (writes_in plans t) x.0 x.1) (enumerate_from 0 (items_in plans t)) in
     ap (λ x. decides_well past plans x t w) m.call.call

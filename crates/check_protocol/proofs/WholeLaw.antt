@@ -151,7 +151,7 @@ pub lawful_is : (plans : List Plan) (past : List Labelled) → obeys_rules plans
 lawful_is plans [] h = tt
 lawful_is plans (p ∷ past) h =
     let plays = acts_well (observed past) past plans p.event p.action in
-    let is_known = not (is_committed_answer (answer_of p.event)) || may_answer (observed (p ∷ past)) (p ∷ past) past p.ends in
+    let knows = not (is_committed_answer (answer_of p.event)) || may_answer (observed (p ∷ past)) (p ∷ past) past p.ends in
     let denies_it = not (denies (answer_of p.event)) || may_deny (observed (p ∷ past)) (p ∷ past) past p.ends in
     let one = right (obeys_rules plans past) (plays && (knows && denies_it)) h in
     let two = right plays (knows && denies_it) one in
@@ -161,7 +161,7 @@ pub is_lawful : (plans : List Plan) (past : List Labelled) → IsLawful (plan_in
 is_lawful plans [] l = refl
 is_lawful plans (p ∷ past) l =
     let plays = acts_well (observed past) past plans p.event p.action in
-    let is_known = not (is_committed_answer (answer_of p.event)) || may_answer (observed (p ∷ past)) (p ∷ past) past p.ends in
+    let knows = not (is_committed_answer (answer_of p.event)) || may_answer (observed (p ∷ past)) (p ∷ past) past p.ends in
     let denies_it = not (denies (answer_of p.event)) || may_deny (observed (p ∷ past)) (p ∷ past) past p.ends in
     both (obeys_rules plans past) (plays && (knows && denies_it)) (is_lawful plans past l.0)
     (both plays (knows && denies_it) (is_play past plans p.event p.action l.0 l.1) (both knows denies_it (is_tell plans past p l.2) (is_deny past p l.3)))

@@ -143,31 +143,31 @@ module _ (catalog : List Table) (c : ℕ) (events : List Event) (e : Event) wher
 
 module _ (catalog : List Table) (events : List Event) (c : ℕ) (h : ClientAt) (k : Knows catalog events c h) where
   module _ (s : Executed) where
-    last_counted : (o : Option Executed) → IfSome o (IsWaiting catalog events c (is_some h.vacuum)) → IfSome o (λ w. WaitCounted catalog w.text (id_of c h.begun) (read_items_since events c h.begun k.answered) (calls_of events c w) h.vacuum h.txn) → Contains (waiting_of o) s → IsCountedBy catalog s.text (calls_of events c s)
+    last_counted : (o : Option Executed) → IfSome o (IsWaiting catalog events c (is_some h.vacuum)) → IfSome o (λ w. WaitCounted catalog w.text (id_of c h.begun) (read_items_since events c h.begun k.entries) (calls_of events c w) h.vacuum h.txn) → Contains (waiting_of o) s → IsCountedBy catalog s.text (calls_of events c s)
     last_counted None w n x = absurd (omega (arith, x.1))
     last_counted (Some w) waits n x = only (Contains-push_cases [] w s x)
       where
         only : Contains [] s ⊎ (w ≡ s) → IsCountedBy catalog s.text (calls_of events c s)
         only (inl y) = absurd (omega (arith, y.1))
-        only (inr e) = subst (λ (z : Executed). IsCountedBy catalog z.text (calls_of events c z)) e (so_far catalog w.text (calls_of events c w) h.vacuum h.txn (id_of c h.begun) (read_items_since events c h.begun k.answered) waits.vacuum n)
+        only (inr e) = subst (λ (z : Executed). IsCountedBy catalog z.text (calls_of events c z)) e (so_far catalog w.text (calls_of events c w) h.vacuum h.txn (id_of c h.begun) (read_items_since events c h.begun k.entries) waits.vacuum n)
 
     said_counted : Contains (statements_by c events) s → IsCountedBy catalog s.text (calls_of events c s)
-    said_counted has = either (Contains-append_cases k.answered (waiting_of k.waiting) s (subst (λ ss. Contains ss s) k.same has))
+    said_counted has = either (Contains-append_cases k.entries (waiting_of k.waiting) s (subst (λ ss. Contains ss s) k.same has))
       where
-        either : Contains k.answered s ⊎ Contains (waiting_of k.waiting) s → IsCountedBy catalog s.text (calls_of events c s)
-        either (inl x) = each_in (λ (z : Executed). IsCountedBy catalog z.text (calls_of events c z)) k.answered s k.counted.answered x
+        either : Contains k.entries s ⊎ Contains (waiting_of k.waiting) s → IsCountedBy catalog s.text (calls_of events c s)
+        either (inl x) = each_in (λ (z : Executed). IsCountedBy catalog z.text (calls_of events c z)) k.entries s k.counted.answered x
         either (inr x) = last_counted k.waiting k.waits k.counted.waits x
 
   -- the COMMIT that waits, too
   all_fit : CommitsAreCounted events c (statements_by c events)
   all_fit = subst (CommitsAreCounted events c) (sym k.same) (by k.waiting k.waits k.counted.waits)
     where
-      by : (o : Option Executed) → IfSome o (IsWaiting catalog events c (is_some h.vacuum)) → IfSome o (λ w. WaitCounted catalog w.text (id_of c h.begun) (read_items_since events c h.begun k.answered) (calls_of events c w) h.vacuum h.txn) → CommitsAreCounted events c (k.answered ++ waiting_of o)
-      by None waits n = subst (CommitsAreCounted events c) (sym (append-nil k.answered)) k.counted.commits
-      by (Some w) waits n = commits_more events c k.answered w k.counted.paired k.counted.commits (λ reads opened.
-          subst (λ (a : Option Answer). CommitIsCounted (read_items_since events c (begun_in k.answered) k.answered) (id_of c (begun_in k.answered)) a (calls_of events c w)) (sym waits.unanswered)
-          (subst (λ i. CommitIsCounted (read_items_since events c i k.answered) (id_of c i) None (calls_of events c w)) k.begun
-          (fits_so_far catalog w.text (calls_of events c w) h.vacuum h.txn (id_of c h.begun) (read_items_since events c h.begun k.answered) reads waits.vacuum k.counted.as_read n)))
+      by : (o : Option Executed) → IfSome o (IsWaiting catalog events c (is_some h.vacuum)) → IfSome o (λ w. WaitCounted catalog w.text (id_of c h.begun) (read_items_since events c h.begun k.entries) (calls_of events c w) h.vacuum h.txn) → CommitsAreCounted events c (k.entries ++ waiting_of o)
+      by None waits n = subst (CommitsAreCounted events c) (sym (append-nil k.entries)) k.counted.commits
+      by (Some w) waits n = commits_more events c k.entries w k.counted.paired k.counted.commits (λ reads opened.
+          subst (λ (a : Option Answer). CommitIsCounted (read_items_since events c (begun_in k.entries) k.entries) (id_of c (begun_in k.entries)) a (calls_of events c w)) (sym waits.unanswered)
+          (subst (λ i. CommitIsCounted (read_items_since events c i k.entries) (id_of c i) None (calls_of events c w)) k.begun
+          (fits_so_far catalog w.text (calls_of events c w) h.vacuum h.txn (id_of c h.begun) (read_items_since events c h.begun k.entries) reads waits.vacuum k.counted.as_read n)))
 
 ordinal_small : (id : TxId) → ordinal_of id < 2 ^ 64
 ordinal_small id = small id.0

@@ -75,19 +75,19 @@ after_begin was s b = ap (λ x. if x then true else if ends s && is_some s.answe
 pub open_now : (catalog : List Table) (events : List Event) (c : ℕ) (h : ClientAt) → Knows catalog events c h → is_open events c ≡ is_some h.txn
 open_now catalog events c h k = ap open_after k.same ∙ all_told k.waiting k.waits ∙ either h.vacuum k.agrees
   where
-    all_told : (o : Option Executed) → IfSome o (IsWaiting catalog events c (is_some h.vacuum)) → open_after (k.answered ++ waiting_of o) ≡ open_after k.answered
-    all_told None w = ap open_after (append-nil k.answered)
-    all_told (Some w) waits = after_more k.answered w ∙ waits_open (open_after k.answered) w waits.unanswered
+    all_told : (o : Option Executed) → IfSome o (IsWaiting catalog events c (is_some h.vacuum)) → open_after (k.entries ++ waiting_of o) ≡ open_after k.entries
+    all_told None w = ap open_after (append-nil k.entries)
+    all_told (Some w) waits = after_more k.entries w ∙ waits_open (open_after k.entries) w waits.unanswered
 
-    by : (o : Option TxnAt) → DoingByHistory events c h.begun k.answered k.waiting h.plan o → open_after k.answered ≡ is_some o
+    by : (o : Option TxnAt) → DoingByHistory events c h.begun k.entries k.waiting h.plan o → open_after k.entries ≡ is_some o
     by None s = s.1
     by (Some t) s = s.0
 
-    vacuums : (w : Option Executed) (v : VacuumAt) → IsInVacuum events c k.answered w h.txn v → open_after k.answered ≡ is_some h.txn
+    vacuums : (w : Option Executed) (v : VacuumAt) → IsInVacuum events c k.entries w h.txn v → open_after k.entries ≡ is_some h.txn
     vacuums None v s = absurd s
     vacuums (Some w) v s = s.1 ∙ sym (ap is_some s.0)
 
-    either : (v : Option VacuumAt) → ClientByHistory events c h.begun k.answered k.waiting h.plan h.txn v → open_after k.answered ≡ is_some h.txn
+    either : (v : Option VacuumAt) → ClientByHistory events c h.begun k.entries k.waiting h.plan h.txn v → open_after k.entries ≡ is_some h.txn
     either None s = by h.txn s
     either (Some v) s = vacuums k.waiting v s
 
@@ -96,7 +96,7 @@ sweeping was s = reads_vacuum s.text && is_none s.answer
 
 -- it runs VACUUM where its events say so
 pub sweeps_now : (catalog : List Table) (events : List Event) (c : ℕ) (h : ClientAt) → Knows catalog events c h → runs_vacuum events c ≡ is_some h.vacuum
-sweeps_now catalog events c h k = ap (fold sweeping false) k.same ∙ fold-append sweeping false k.answered (waiting_of k.waiting) ∙ ap (λ b. fold sweeping b (waiting_of k.waiting)) (none k.answered false refl k.answered) ∙ last k.waiting k.waits (only h.vacuum k.waiting k.agrees)
+sweeps_now catalog events c h k = ap (fold sweeping false) k.same ∙ fold-append sweeping false k.entries (waiting_of k.waiting) ∙ ap (λ b. fold sweeping b (waiting_of k.waiting)) (none k.entries false refl k.answered) ∙ last k.waiting k.waits (only h.vacuum k.waiting k.agrees)
   where
     not_none : (b : Bool) → (b && false) ≡ false
     not_none true = refl
@@ -110,7 +110,7 @@ sweeps_now catalog events c h k = ap (fold sweeping false) k.same ∙ fold-appen
     none (s ∷ ss) b e all = none ss (sweeping b s) (answered s all.0.given all.0.is) all.1
 
     -- one that runs VACUUM waits for a statement
-    only : (v : Option VacuumAt) (o : Option Executed) → ClientByHistory events c h.begun k.answered o h.plan h.txn v → o ≡ None → is_some v ≡ false
+    only : (v : Option VacuumAt) (o : Option Executed) → ClientByHistory events c h.begun k.entries o h.plan h.txn v → o ≡ None → is_some v ≡ false
     only None o s e = refl
     only (Some v) None s e = absurd s
     only (Some v) (Some w) s e = none_some w (sym e)
@@ -162,22 +162,22 @@ stays_on catalog c events e n acked (Some w) p o (Some v) all same s = (s.0, s.1
 -- An event that isn't of a client, with which it says and calls nothing, leaves what is known of it.
 pub knows_still : (catalog : List Table) (c : ℕ) (events : List Event) (e : Event) (h : ClientAt) → statements_by c (events ++ e ∷ []) ≡ statements_by c events → made_by c (1 + length events, e) ≡ None → Knows catalog events c h → Knows catalog (events ++ e ∷ []) c h
 knows_still catalog c events e h nothing none k = record {
-  answered = k.answered;
+  entries = k.entries;
   waiting = k.waiting;
   same = nothing ∙ k.same;
-  answered = answered_stay catalog c events e k.answered (inl nothing) k.answered;
+  answered = answered_stay catalog c events e k.entries (inl nothing) k.answered;
   waits = waits k.waiting k.waits;
-  moved = moved_still catalog events e c k.answered k.answered k.answered k.moved;
+  moved = moved_still catalog events e c k.entries k.entries k.answered k.moved;
   number = k.number;
   begun = k.begun;
   small = k.small;
-  agrees = stays_on catalog c events e h.begun k.answered k.waiting h.plan h.txn h.vacuum k.answered (λ x is. calls_wait catalog c events e x none (unanswered k.waiting k.waits x is)) k.agrees;
-  counted = counts_stay catalog c events e k.answered k.waiting h k.answered k.counted (λ x is. calls_wait catalog c events e x none (unanswered k.waiting k.waits x is));
-  filled = filled_stays catalog events e c (rest_of (from_begin h.begun k.answered)) h.txn (rest_all (IsAnswered catalog events c) h.begun k.answered k.answered) k.filled;
-  fits = fits_stay catalog events e c h.begun k.answered h.txn k.answered k.fits;
+  agrees = stays_on catalog c events e h.begun k.entries k.waiting h.plan h.txn h.vacuum k.answered (λ x is. calls_wait catalog c events e x none (unanswered k.waiting k.waits x is)) k.agrees;
+  counted = counts_stay catalog c events e k.entries k.waiting h k.answered k.counted (λ x is. calls_wait catalog c events e x none (unanswered k.waiting k.waits x is));
+  filled = filled_stays catalog events e c (rest_of (from_begin h.begun k.entries)) h.txn (rest_all (IsAnswered catalog events c) h.begun k.entries k.answered) k.filled;
+  fits = fits_stay catalog events e c h.begun k.entries h.txn k.answered k.fits;
   stored = subst AreStoredReplies (sym (none_made c events e none)) k.stored;
-  rolled = rolls_stay catalog c events e k.answered k.waiting h k.answered k.rolled (λ x is. calls_wait catalog c events e x none (unanswered k.waiting k.waits x is));
-  shows = shows_stay catalog c events e k.answered k.answered h k.shows;
+  rolled = rolls_stay catalog c events e k.entries k.waiting h k.answered k.rolled (λ x is. calls_wait catalog c events e x none (unanswered k.waiting k.waits x is));
+  shows = shows_stay catalog c events e k.entries k.answered h k.shows;
 }
   where
     waits : (o : Option Executed) → IfSome o (IsWaiting catalog events c (is_some h.vacuum)) → IfSome o (IsWaiting catalog (events ++ e ∷ []) c (is_some h.vacuum))

@@ -118,7 +118,7 @@ module _ (catalog : List Table) (events : List Event) (states : ℕ → ClientSt
   so_id = id_of c h.begun
 
   abbrev so_noted : List ReadItem
-  so_noted = read_items_since events c h.begun k.answered
+  so_noted = read_items_since events c h.begun k.entries
 
   data_table : (t : TableName) → is_some (find_table catalog t) ≡ true → IsDataTable t
   data_table t listed = apart (record { table = t; partition = []; clustering = [] }) listed
@@ -136,8 +136,8 @@ module _ (catalog : List Table) (events : List Event) (states : ℕ → ClientSt
     waits : IsWaiting catalog events c (is_some h.vacuum) w
     waits = subst (λ (o : Option Executed). IfSome o (IsWaiting catalog events c (is_some h.vacuum))) waiting k.waits
 
-    said_told : statements_by c events ≡ k.answered ++ w ∷ []
-    said_told = k.same ∙ ap (λ o. k.answered ++ waiting_of o) waiting
+    said_told : statements_by c events ≡ k.entries ++ w ∷ []
+    said_told = k.same ∙ ap (λ o. k.entries ++ waiting_of o) waiting
 
     calls_before_it : ms ≡ later_calls events c w.accepted
     calls_before_it = calls_open c events w (end_waiting events w waits.unanswered)
@@ -157,14 +157,14 @@ module _ (catalog : List Table) (events : List Event) (states : ℕ → ClientSt
     calls_done : (b : Answer) → calls_of (E (Some b)) c (done b) ≡ ms ++ made ∷ []
     calls_done b = calls_open c (E (Some b)) (done b) (end_answered (E (Some b)) (done b) b refl ∙ sym (long (Some b))) ∙ later_one (Some b)
 
-    said_done : (b : Answer) → statements_by c (E (Some b)) ≡ k.answered ++ done b ∷ []
-    said_done b = call_said c events y.store y.request y.how y.reply b k.answered w said_told
+    said_done : (b : Answer) → statements_by c (E (Some b)) ≡ k.entries ++ done b ∷ []
+    said_done b = call_said c events y.store y.request y.how y.reply b k.entries w said_told
 
     begins_none : (b : Answer) → begins (done b) ≡ false
     begins_none b = ap (λ x. x && is_done (Some b)) waits.begin
 
-    begun_done : (b : Answer) → h.begun ≡ begun_in (k.answered ++ done b ∷ [])
-    begun_done b = k.begun ∙ sym (begun_same k.answered (done b) (begins_none b))
+    begun_done : (b : Answer) → h.begun ≡ begun_in (k.entries ++ done b ∷ [])
+    begun_done b = k.begun ∙ sym (begun_same k.entries (done b) (begins_none b))
 
     -- its calls are counted, and with this one
     counted_now : WaitCounted catalog w.text so_id so_noted ms h.vacuum h.txn
@@ -182,15 +182,15 @@ module _ (catalog : List Table) (events : List Event) (states : ℕ → ClientSt
 
     -- what its calls come to where it is answered, and what its transaction has then noted
     abbrev CountsThen : Answer → Client → Type 0
-    CountsThen b d = (reads_commit w.text ≡ true → CommitIsCounted so_noted so_id (Some b) (ms ++ made ∷ [])) × ReadByTxn (read_items_since (E (Some b)) c d.begun (k.answered ++ done b ∷ [])) d.txn
+    CountsThen b d = (reads_commit w.text ≡ true → CommitIsCounted so_noted so_id (Some b) (ms ++ made ∷ [])) × ReadByTxn (read_items_since (E (Some b)) c d.begun (k.entries ++ done b ∷ [])) d.txn
 
     -- it is answered
-    answers : (b : Answer) (d : Client) → (is_conflict (Some b) ≡ false → IsCaused catalog (E (Some b)) c (done b) b) → ((key : Key) (found : Option Record) → Some b ≡ Some (answer.Conflict key found) → IsChangedIn (E (Some b)) c (k.answered ++ done b ∷ []) (done b) key found) → d.number ≡ h.number → d.begun ≡ h.begun → ClientByHistory (E (Some b)) c d.begun (k.answered ++ done b ∷ []) None d.plan d.txn d.vacuum → CountsThen b d → IfSome d.txn (IsFilled (E (Some b)) c (rest_of (from_begin d.begun (k.answered ++ done b ∷ [])))) → IfSome d.txn (IsFitOrReadTxn catalog (E (Some b)) c (rest_of (from_begin d.begun (k.answered ++ done b ∷ [])))) → RollsThen b → ShowsNext catalog (E (Some b)) c k.answered (done b) b d → So (Some b) d
+    answers : (b : Answer) (d : Client) → (is_conflict (Some b) ≡ false → IsCaused catalog (E (Some b)) c (done b) b) → ((key : Key) (found : Option Record) → Some b ≡ Some (answer.Conflict key found) → IsChangedIn (E (Some b)) c (k.entries ++ done b ∷ []) (done b) key found) → d.number ≡ h.number → d.begun ≡ h.begun → ClientByHistory (E (Some b)) c d.begun (k.entries ++ done b ∷ []) None d.plan d.txn d.vacuum → CountsThen b d → IfSome d.txn (IsFilled (E (Some b)) c (rest_of (from_begin d.begun (k.entries ++ done b ∷ [])))) → IfSome d.txn (IsFitOrReadTxn catalog (E (Some b)) c (rest_of (from_begin d.begun (k.entries ++ done b ∷ [])))) → RollsThen b → ShowsNext catalog (E (Some b)) c k.entries (done b) b d → So (Some b) d
     answers b d caused moves number begun agrees counts filled fits rolls shows = record {
-      answered = k.answered ++ done b ∷ [];
+      entries = k.entries ++ done b ∷ [];
       waiting = None;
-      same = said_done b ∙ sym (append-nil (k.answered ++ done b ∷ []));
-      answered = each_more (IsAnswered catalog (E (Some b)) c) k.answered (done b) (answered_stay catalog c events (call_event y (Some b)) k.answered (inr (inr (k.answered, w, done b, said_told, waits.unanswered, said_done b))) k.answered) (record {
+      same = said_done b ∙ sym (append-nil (k.entries ++ done b ∷ []));
+      answered = each_more (IsAnswered catalog (E (Some b)) c) k.entries (done b) (answered_stay catalog c events (call_event y (Some b)) k.entries (inr (inr (k.entries, w, done b, said_told, waits.unanswered, said_done b))) k.answered) (record {
         given = b;
         is = refl;
         accepted = within_more w.accepted events (call_event y (Some b)) waits.accepted;
@@ -199,41 +199,41 @@ module _ (catalog : List Table) (events : List Event) (states : ℕ → ClientSt
         rejected = λ a t. absurd (waits.stays a (subst (λ es. IsRejected catalog es c w.text a) (before_same w events (call_event y (Some b)) waits.accepted) t));
       });
       waits = tt;
-      moved = moved_all catalog events (call_event y (Some b)) c k.answered (done b) k.answered k.moved moves;
+      moved = moved_all catalog events (call_event y (Some b)) c k.entries (done b) k.answered k.moved moves;
       number = number ∙ k.number;
       begun = begun ∙ begun_done b;
       small = subst (λ n. n < 2 ^ 64) (sym begun) k.small;
       agrees = agrees;
-      counted = counts_end catalog c events (call_event y (Some b)) k.answered k.waiting h k.answered k.counted (done b) d (ms ++ made ∷ []) k.begun (calls_done b) counted_then (λ t. clash (sym t ∙ begins_none b)) (λ t opened. counts.0 t) counts.1;
+      counted = counts_end catalog c events (call_event y (Some b)) k.entries k.waiting h k.answered k.counted (done b) d (ms ++ made ∷ []) k.begun (calls_done b) counted_then (λ t. clash (sym t ∙ begins_none b)) (λ t opened. counts.0 t) counts.1;
       filled = filled;
       fits = fits;
       stored = all_stored (Some b);
-      rolled = rolls_end catalog c events (call_event y (Some b)) k.answered k.waiting h k.answered k.rolled (done b) d (ms ++ made ∷ []) (calls_done b) (λ read. rolls read);
-      shows = shows_end catalog c events (call_event y (Some b)) k.answered k.answered h k.shows k.counted.paired (done b) b d refl shows;
+      rolled = rolls_end catalog c events (call_event y (Some b)) k.entries k.waiting h k.answered k.rolled (done b) d (ms ++ made ∷ []) (calls_done b) (λ read. rolls read);
+      shows = shows_end catalog c events (call_event y (Some b)) k.entries k.answered h k.shows k.counted.paired (done b) b d refl shows;
     }
       where
         last : length (E (Some b)) ≡ 1 + length events → 1 + length events ≤ length (E (Some b))
         last e = omega arith
 
     -- it goes on
-    goes_on : (d : Client) → d.number ≡ h.number → d.begun ≡ h.begun → is_some d.vacuum ≡ is_some h.vacuum → ClientByHistory (E None) c d.begun k.answered (Some w) d.plan d.txn d.vacuum → ReadByTxn so_noted d.txn × WaitCounted catalog w.text so_id so_noted (ms ++ made ∷ []) d.vacuum d.txn → IfSome d.txn (IsFilled (E None) c (rest_of (from_begin d.begun k.answered))) → IfSome d.txn (IsFitOrReadTxn catalog (E None) c (rest_of (from_begin d.begun k.answered))) → WaitRolls (E None) (reads_vacuum w.text) (ms ++ made ∷ []) d.vacuum d.txn → (ViewBy catalog events c k.answered h → IfSome d.txn (IsViewOf catalog (E None) c (rest_of (from_begin d.begun k.answered)))) → So None d
+    goes_on : (d : Client) → d.number ≡ h.number → d.begun ≡ h.begun → is_some d.vacuum ≡ is_some h.vacuum → ClientByHistory (E None) c d.begun k.entries (Some w) d.plan d.txn d.vacuum → ReadByTxn so_noted d.txn × WaitCounted catalog w.text so_id so_noted (ms ++ made ∷ []) d.vacuum d.txn → IfSome d.txn (IsFilled (E None) c (rest_of (from_begin d.begun k.entries))) → IfSome d.txn (IsFitOrReadTxn catalog (E None) c (rest_of (from_begin d.begun k.entries))) → WaitRolls (E None) (reads_vacuum w.text) (ms ++ made ∷ []) d.vacuum d.txn → (ViewBy catalog events c k.entries h → IfSome d.txn (IsViewOf catalog (E None) c (rest_of (from_begin d.begun k.entries)))) → So None d
     goes_on d number begun vacuums agrees counts filled fits rolls sees = record {
-      answered = k.answered;
+      entries = k.entries;
       waiting = Some w;
       same = silent_said c events y.store y.request y.how y.reply ∙ said_told;
-      answered = answered_stay catalog c events (call_event y None) k.answered (inl (silent_said c events y.store y.request y.how y.reply)) k.answered;
+      answered = answered_stay catalog c events (call_event y None) k.entries (inl (silent_said c events y.store y.request y.how y.reply)) k.answered;
       waits = subst (λ b. IsWaiting catalog (E None) c b w) (sym vacuums) (waiting_stays catalog c events (call_event y None) (is_some h.vacuum) w waits);
-      moved = moved_still catalog events (call_event y None) c k.answered k.answered k.answered k.moved;
+      moved = moved_still catalog events (call_event y None) c k.entries k.entries k.answered k.moved;
       number = number ∙ k.number;
       begun = begun ∙ k.begun;
       small = subst (λ n. n < 2 ^ 64) (sym begun) k.small;
       agrees = agrees;
-      counted = counts_on catalog c events (call_event y None) k.answered k.waiting h k.answered k.counted w d (ms ++ made ∷ []) begun calls_on counts.0 counts.1;
+      counted = counts_on catalog c events (call_event y None) k.entries k.waiting h k.answered k.counted w d (ms ++ made ∷ []) begun calls_on counts.0 counts.1;
       filled = filled;
       fits = fits;
       stored = all_stored None;
-      rolled = rolls_on catalog c events (call_event y None) k.answered k.waiting h k.answered k.rolled w d (ms ++ made ∷ []) calls_on rolls;
-      shows = shows_further catalog c events (call_event y None) k.answered k.answered h k.shows d sees;
+      rolled = rolls_on catalog c events (call_event y None) k.entries k.waiting h k.answered k.rolled w d (ms ++ made ∷ []) calls_on rolls;
+      shows = shows_further catalog c events (call_event y None) k.entries k.answered h k.shows d sees;
     }
 
     calls_stored : (b : Answer) → AreStoredReplies (calls_of (E (Some b)) c (done b))
@@ -248,8 +248,8 @@ module _ (catalog : List Table) (events : List Event) (states : ℕ → ClientSt
     ---- where it is then
 
     module _ (t : TxnAt) (some : h.txn ≡ Some t) (free : h.vacuum ≡ None) where
-      stands_open : DoingByHistory events c h.begun k.answered k.waiting h.plan (Some t)
-      stands_open = subst (DoingByHistory events c h.begun k.answered k.waiting h.plan) some (subst (ClientByHistory events c h.begun k.answered k.waiting h.plan h.txn) free k.agrees)
+      stands_open : DoingByHistory events c h.begun k.entries k.waiting h.plan (Some t)
+      stands_open = subst (DoingByHistory events c h.begun k.entries k.waiting h.plan) some (subst (ClientByHistory events c h.begun k.entries k.waiting h.plan h.txn) free k.agrees)
 
       -- it runs no VACUUM
       stands_free : (result : Option Answer) (n : ℕ) (answered : List Executed) (v : Option Executed) (p : Option Planned) (o : Option TxnAt) → DoingByHistory (E result) c n answered v p o → ClientByHistory (E result) c n answered v p o h.vacuum
@@ -268,29 +268,29 @@ module _ (catalog : List Table) (events : List Event) (states : ℕ → ClientSt
       open_noted = subst (ReadByTxn so_noted) some k.counted.as_read
 
       -- one that notes nothing
-      notes_as_before : (b : Answer) → read_finished (ms ++ made ∷ []) b ≡ false → read_items_since (E (Some b)) c h.begun (k.answered ++ done b ∷ []) ≡ so_noted
-      notes_as_before b unfinished = since_same (E (Some b)) c h.begun k.answered (done b) (none_noted (E (Some b)) c (done b) (ap (λ cs. read_finished cs b) (calls_done b) ∙ unfinished)) ∙ since_stay catalog events (call_event y (Some b)) c h.begun k.answered k.answered
+      notes_as_before : (b : Answer) → read_finished (ms ++ made ∷ []) b ≡ false → read_items_since (E (Some b)) c h.begun (k.entries ++ done b ∷ []) ≡ so_noted
+      notes_as_before b unfinished = since_same (E (Some b)) c h.begun k.entries (done b) (none_noted (E (Some b)) c (done b) (ap (λ cs. read_finished cs b) (calls_done b) ∙ unfinished)) ∙ since_stay catalog events (call_event y (Some b)) c h.begun k.entries k.answered
 
       -- an answer that is no Conflict
-      stays : (b : Answer) → is_conflict (Some b) ≡ false → (key : Key) (found : Option Record) → Some b ≡ Some (answer.Conflict key found) → IsChangedIn (E (Some b)) c (k.answered ++ done b ∷ []) (done b) key found
-      stays b f = unmoved (E (Some b)) c (k.answered ++ done b ∷ []) (done b) b refl f
+      stays : (b : Answer) → is_conflict (Some b) ≡ false → (key : Key) (found : Option Record) → Some b ≡ Some (answer.Conflict key found) → IsChangedIn (E (Some b)) c (k.entries ++ done b ∷ []) (done b) key found
+      stays b f = unmoved (E (Some b)) c (k.entries ++ done b ∷ []) (done b) b refl f
 
       -- the transaction stays open, and does nothing
-      held : (b : Answer) (u : TxnAt) → IsMiddle b → reads_commit w.text ≡ false → u.id ≡ t.id → u.doing ≡ doing.Idle → SeenBy (read_items_of_body (E (Some b)) c (stands_open.1.body ++ done b ∷ [])) u.seen → ClientByHistory (E (Some b)) c h.begun (k.answered ++ done b ∷ []) None None (Some u) h.vacuum
-      held b u m no_commit same idles as_read = stands_free (Some b) h.begun (k.answered ++ done b ∷ []) None None (Some u) (
-        after_more k.answered (done b) ∙ ap (λ x. is_open_after x (done b)) stands_open.0 ∙ after_plain true (done b) (begins_none b) (λ e. middle_ends (done b) b refl m no_commit),
-        open_more c h.begun k.answered t u (done b) same (middle_ends (done b) b refl m no_commit) stands_open.1,
+      held : (b : Answer) (u : TxnAt) → IsMiddle b → reads_commit w.text ≡ false → u.id ≡ t.id → u.doing ≡ doing.Idle → SeenBy (read_items_of_body (E (Some b)) c (stands_open.1.body ++ done b ∷ [])) u.seen → ClientByHistory (E (Some b)) c h.begun (k.entries ++ done b ∷ []) None None (Some u) h.vacuum
+      held b u m no_commit same idles as_read = stands_free (Some b) h.begun (k.entries ++ done b ∷ []) None None (Some u) (
+        after_more k.entries (done b) ∙ ap (λ x. is_open_after x (done b)) stands_open.0 ∙ after_plain true (done b) (begins_none b) (λ e. middle_ends (done b) b refl m no_commit),
+        open_more c h.begun k.entries t u (done b) same (middle_ends (done b) b refl m no_commit) stands_open.1,
         subst (IsDoing (E (Some b)) c u None None) (sym idles) refl,
-        subst (λ d. IsReadSetOf (E (Some b)) c (k.answered ++ done b ∷ []) (stands_open.1.body ++ done b ∷ []) u d None) (sym idles) as_read,
+        subst (λ d. IsReadSetOf (E (Some b)) c (k.entries ++ done b ∷ []) (stands_open.1.body ++ done b ∷ []) u d None) (sym idles) as_read,
       )
 
       -- it ends
-      ended : (b : Answer) → ends (done b) ≡ true → ClientByHistory (E (Some b)) c h.begun (k.answered ++ done b ∷ []) None None None h.vacuum
-      ended b over = stands_free (Some b) h.begun (k.answered ++ done b ∷ []) None None None (refl, after_more k.answered (done b) ∙ after_end (open_after k.answered) (done b) b (begins_none b) over refl)
+      ended : (b : Answer) → ends (done b) ≡ true → ClientByHistory (E (Some b)) c h.begun (k.entries ++ done b ∷ []) None None None h.vacuum
+      ended b over = stands_free (Some b) h.begun (k.entries ++ done b ∷ []) None None None (refl, after_more k.entries (done b) ∙ after_end (open_after k.entries) (done b) b (begins_none b) over refl)
 
       -- it goes on, with the statement
-      further : (u : TxnAt) (p : Option Planned) → u.id ≡ t.id → IsDoing (E None) c u p (Some w) u.doing → IsReadSetOf (E None) c k.answered stands_open.1.body u u.doing (Some w) → ClientByHistory (E None) c h.begun k.answered (Some w) p (Some u) h.vacuum
-      further u p same does as_read = stands_free None h.begun k.answered (Some w) p (Some u) (stands_open.0, record { begin = stands_open.1.begin; body = stands_open.1.body; since = stands_open.1.since; goes_on = stands_open.1.goes_on; id = same ∙ stands_open.1.id; client = stands_open.1.client }, does, as_read)
+      further : (u : TxnAt) (p : Option Planned) → u.id ≡ t.id → IsDoing (E None) c u p (Some w) u.doing → IsReadSetOf (E None) c k.entries stands_open.1.body u u.doing (Some w) → ClientByHistory (E None) c h.begun k.entries (Some w) p (Some u) h.vacuum
+      further u p same does as_read = stands_free None h.begun k.entries (Some w) p (Some u) (stands_open.0, record { begin = stands_open.1.begin; body = stands_open.1.body; since = stands_open.1.since; goes_on = stands_open.1.goes_on; id = same ∙ stands_open.1.id; client = stands_open.1.client }, does, as_read)
 
       pends_txn : pending_of h.txn ≡ Some y.request
       pends_txn = subst (λ (v : Option VacuumAt). pending_by v h.txn ≡ Some y.request) free called.waiting.pending
@@ -321,32 +321,32 @@ module _ (catalog : List Table) (events : List Event) (states : ℕ → ClientSt
             subst (λ (q : Request). read_pending_at q x.stage ≡ Some y.request) asked.request read
 
         noting_now : SeenBy (read_items_of_body events c stands_open.1.body) t.seen
-        noting_now = subst (λ d. IsReadSetOf events c k.answered stands_open.1.body t d k.waiting) reads stands_open.3
+        noting_now = subst (λ d. IsReadSetOf events c k.entries stands_open.1.body t d k.waiting) reads stands_open.3
 
-        filled_reading : IsFilledBy (rows_counted_by (rest_of (from_begin h.begun k.answered))) (records_found_by events c (rest_of (from_begin h.begun k.answered))) t.seen
-        filled_reading = subst (IsFilledIn events c (rest_of (from_begin h.begun k.answered)) t.seen) reads (subst (λ (o : Option TxnAt). IfSome o (IsFilled events c (rest_of (from_begin h.begun k.answered)))) some k.filled)
+        filled_reading : IsFilledBy (rows_counted_by (rest_of (from_begin h.begun k.entries))) (records_found_by events c (rest_of (from_begin h.begun k.entries))) t.seen
+        filled_reading = subst (IsFilledIn events c (rest_of (from_begin h.begun k.entries)) t.seen) reads (subst (λ (o : Option TxnAt). IfSome o (IsFilled events c (rest_of (from_begin h.begun k.entries)))) some k.filled)
 
         filled_now : IsFilledBy (rows_counted_by stands_open.1.body) (records_found_by events c stands_open.1.body) t.seen
         filled_now = subst (λ r. IsFilledBy (rows_counted_by (rest_of r)) (records_found_by events c (rest_of r)) t.seen) stands_open.1.since filled_reading
 
         body_answered : AllByRecursion (IsAnswered catalog events c) stands_open.1.body
-        body_answered = since_all (IsAnswered catalog events c) h.begun k.answered stands_open.1.begin stands_open.1.body k.answered stands_open.1.since
+        body_answered = since_all (IsAnswered catalog events c) h.begun k.entries stands_open.1.begin stands_open.1.body k.answered stands_open.1.since
 
         -- what it sees fits, or a statement before read it
-        fit_reading : (result : Option Answer) → SeesFitOrRead catalog (E result) c (rest_of (from_begin h.begun k.answered)) t.seen
+        fit_reading : (result : Option Answer) → SeesFitOrRead catalog (E result) c (rest_of (from_begin h.begun k.entries)) t.seen
         fit_reading result =
-            subst (SeesFitOrReadIn catalog (E result) c (rest_of (from_begin h.begun k.answered)) t.seen) reads
-            (subst (λ (o : Option TxnAt). IfSome o (IsFitOrReadTxn catalog (E result) c (rest_of (from_begin h.begun k.answered)))) some (fits_stay catalog events (call_event y result) c h.begun k.answered h.txn k.answered k.fits))
+            subst (SeesFitOrReadIn catalog (E result) c (rest_of (from_begin h.begun k.entries)) t.seen) reads
+            (subst (λ (o : Option TxnAt). IfSome o (IsFitOrReadTxn catalog (E result) c (rest_of (from_begin h.begun k.entries)))) some (fits_stay catalog events (call_event y result) c h.begun k.entries h.txn k.answered k.fits))
 
         fit_now : (result : Option Answer) → SeesFitOrRead catalog (E result) c stands_open.1.body t.seen
         fit_now result = subst (λ r. SeesFitOrRead catalog (E result) c (rest_of r) t.seen) stands_open.1.since (fit_reading result)
 
         -- what it sees it has
-        sees_reading : (result : Option Answer) → ViewBy catalog events c k.answered h → SeesOwn catalog (E result) c (rest_of (from_begin h.begun k.answered)) t.seen
-        sees_reading result z = subst (SeesOwnIn catalog (E result) c (rest_of (from_begin h.begun k.answered)) t.seen) reads (showing_stays catalog events (call_event y result) c h.begun k.answered (Some t) k.answered (subst (λ (o : Option TxnAt). IfSome o (IsViewOf catalog events c (rest_of (from_begin h.begun k.answered)))) some z.sees_own))
+        sees_reading : (result : Option Answer) → ViewBy catalog events c k.entries h → SeesOwn catalog (E result) c (rest_of (from_begin h.begun k.entries)) t.seen
+        sees_reading result z = subst (SeesOwnIn catalog (E result) c (rest_of (from_begin h.begun k.entries)) t.seen) reads (showing_stays catalog events (call_event y result) c h.begun k.entries (Some t) k.answered (subst (λ (o : Option TxnAt). IfSome o (IsViewOf catalog events c (rest_of (from_begin h.begun k.entries)))) some z.sees_own))
 
         sees_now : SeesOwn catalog events c stands_open.1.body t.seen
-        sees_now = subst (λ r. SeesOwn catalog events c (rest_of r) t.seen) stands_open.1.since (subst (SeesOwnIn catalog events c (rest_of (from_begin h.begun k.answered)) t.seen) reads (subst (λ (o : Option TxnAt). IfSome o (IsViewOf catalog events c (rest_of (from_begin h.begun k.answered)))) some k.shows.sees_own))
+        sees_now = subst (λ r. SeesOwn catalog events c (rest_of r) t.seen) stands_open.1.since (subst (SeesOwnIn catalog events c (rest_of (from_begin h.begun k.entries)) t.seen) reads (subst (λ (o : Option TxnAt). IfSome o (IsViewOf catalog events c (rest_of (from_begin h.begun k.entries)))) some k.shows.sees_own))
 
         listed : find_table catalog p.table.name ≡ Some p.table
         listed = found_itself catalog (table_of p.statement) p.table asked.named
@@ -384,11 +384,11 @@ module _ (catalog : List Table) (events : List Event) (states : ℕ → ClientSt
         fails : (b : Answer) → changes_nothing b ≡ true → read_finished (ms ++ made ∷ []) b ≡ false → IsMiddle b → (is_conflict (Some b) ≡ false → IsCaused catalog (E (Some b)) c (done b) b) → So (Some b) (holding h (idle t))
         fails b nothing unfinished m caused =
             answers b (holding h (idle t)) caused (stays b m.agrees) refl refl
-            (held b (idle t) m is.inner.commit refl refl (noted_more catalog events (call_event y (Some b)) c h.begun k.answered t stands_open.1 k.answered (done b) t.seen t.seen refl refl noting_now))
+            (held b (idle t) m is.inner.commit refl refl (noted_more catalog events (call_event y (Some b)) c h.begun k.entries t stands_open.1 k.answered (done b) t.seen t.seen refl refl noting_now))
             (no_fit b, subst (λ ns. ReadItemsAre ns t.seen.reads t.seen.scans) (sym (notes_as_before b unfinished)) read_so)
-            (filled_idle (E (Some b)) c h.begun k.answered (done b) stands_open.1.begin stands_open.1.body (idle t) stands_open.1.since refl (filled_more catalog events (call_event y (Some b)) c stands_open.1.body (done b) t.seen body_answered filled_now))
-            (fits_idle catalog (E (Some b)) c h.begun k.answered (done b) stands_open.1.begin stands_open.1.body (idle t) stands_open.1.since refl (fits_more catalog (E (Some b)) c stands_open.1.body (done b) t.seen (fit_now (Some b)))) (λ z. clash (sym z ∙ unfinished))
-            (next_same catalog c events (call_event y (Some b)) k.answered k.answered h.begun stands_open.1.begin stands_open.1.body stands_open.1.since t.seen sees_now (done b) b (idle t) refl nothing refl refl)
+            (filled_idle (E (Some b)) c h.begun k.entries (done b) stands_open.1.begin stands_open.1.body (idle t) stands_open.1.since refl (filled_more catalog events (call_event y (Some b)) c stands_open.1.body (done b) t.seen body_answered filled_now))
+            (fits_idle catalog (E (Some b)) c h.begun k.entries (done b) stands_open.1.begin stands_open.1.body (idle t) stands_open.1.since refl (fits_more catalog (E (Some b)) c stands_open.1.body (done b) t.seen (fit_now (Some b)))) (λ z. clash (sym z ∙ unfinished))
+            (next_same catalog c events (call_event y (Some b)) k.entries k.answered h.begun stands_open.1.begin stands_open.1.body stands_open.1.since t.seen sees_now (done b) b (idle t) refl nothing refl refl)
 
         reads_further : (s : ReadStage) → ReadsBy (ms ++ made ∷ []) s → StageObserves x.request (ms ++ made ∷ []) s → ReadCounted (ms ++ made ∷ []) s → ReadRolls (E None) (reads_vacuum w.text) (ms ++ made ∷ []) s → So None (record h { txn = Some (record t { doing = doing.Read a (record x { stage = s }) }) })
         reads_further s i j n r =
@@ -396,9 +396,9 @@ module _ (catalog : List Table) (events : List Event) (states : ℕ → ClientSt
             (further (record t { doing = doing.Read a (record x { stage = s }) }) h.plan refl
             (subst (λ (o : Option Planned). IsDoing (E None) c (record t { doing = doing.Read a (record x { stage = s }) }) o (Some w) (doing.Read a (record x { stage = s }))) (sym plan)
             (record { text = is.text; inner = is.inner; stage = subst (λ cs. ReadsBy cs s) (sym calls_on) i; shows = subst (λ cs. StageObserves x.request cs s) (sym calls_on) j }))
-            (noted_still catalog events (call_event y None) c h.begun k.answered t stands_open.1 k.answered t.seen noting_now))
+            (noted_still catalog events (call_event y None) c h.begun k.entries t stands_open.1 k.answered t.seen noting_now))
             (read_so, waits_open (ms ++ made ∷ []) (Some (record t { doing = doing.Read a (record x { stage = s }) })) (is.inner.commit, n))
-            (filled_stays catalog events (call_event y None) c (rest_of (from_begin h.begun k.answered)) (Some (record t { doing = doing.Read a (record x { stage = s }) })) (rest_all (IsAnswered catalog events c) h.begun k.answered k.answered) filled_reading)
+            (filled_stays catalog events (call_event y None) c (rest_of (from_begin h.begun k.entries)) (Some (record t { doing = doing.Read a (record x { stage = s }) })) (rest_all (IsAnswered catalog events c) h.begun k.entries k.answered) filled_reading)
             (fit_reading None) (rolls_open (Some (record t { doing = doing.Read a (record x { stage = s }) })) r) (sees_reading None)
 
         -- the read, where it is done
@@ -431,20 +431,20 @@ module _ (catalog : List Table) (events : List Event) (states : ℕ → ClientSt
         noted_then images e =
             let z : Answer = given_then images in
             let same = left_reads (seen_then images) (gives p a (seen_then images)) in
-            let front : SeenBy (read_items_of_body (E (Some z)) c stands_open.1.body) t.seen = noted_still catalog events (call_event y (Some z)) c h.begun k.answered t stands_open.1 k.answered t.seen noting_now in
+            let front : SeenBy (read_items_of_body (E (Some z)) c stands_open.1.body) t.seen = noted_still catalog events (call_event y (Some z)) c h.begun k.entries t stands_open.1 k.answered t.seen noting_now in
             let now_seen : SeenBy (read_items_of_body (E (Some z)) c stands_open.1.body ++ read_items (ms ++ made ∷ [])) (seen_then images).seen = read_noted a (ms ++ made ∷ []) images (read_items_of_body (E (Some z)) c stands_open.1.body) t (was_read images e) own front in
             let whole : read_items_of_body (E (Some z)) c (stands_open.1.body ++ done z ∷ []) ≡ read_items_of_body (E (Some z)) c stands_open.1.body ++ read_items (ms ++ made ∷ []) = notes_more (E (Some z)) c stands_open.1.body (done z) ∙ ap (λ ns. read_items_of_body (E (Some z)) c stands_open.1.body ++ ns) (items_last images e) in
             subst (λ ns. SeenBy ns (left_then images).seen) (sym whole) (seen_same (read_items_of_body (E (Some z)) c stands_open.1.body ++ read_items (ms ++ made ∷ [])) (seen_then images).seen (left_then images).seen same.0 same.1 now_seen)
 
         -- and as what that is counted
-        told_noted : (images : List Record) → read_step x.stage y.now y.reply ≡ Ended (step.Images images) → ReadByDoing (read_items_since (E (Some (given_then images))) c h.begun (k.answered ++ done (given_then images) ∷ [])) (left_then images).seen (left_then images).doing
+        told_noted : (images : List Record) → read_step x.stage y.now y.reply ≡ Ended (step.Images images) → ReadByDoing (read_items_since (E (Some (given_then images))) c h.begun (k.entries ++ done (given_then images) ∷ [])) (left_then images).seen (left_then images).doing
         told_noted images e =
             let z : Answer = given_then images in
             let u : TxnAt = left_then images in
             let same = left_reads (seen_then images) (gives p a (seen_then images)) in
             let now_so : ReadItemsAre (so_noted ++ read_items (ms ++ made ∷ [])) (seen_then images).seen.reads (seen_then images).seen.scans = noted_read a (ms ++ made ∷ []) images so_noted t (was_read images e) own read_so in
-            let whole : read_items_since (E (Some z)) c h.begun (k.answered ++ done z ∷ []) ≡ so_noted ++ read_items (ms ++ made ∷ []) =
-            since_open (E (Some z)) c h.begun k.answered (done z) stands_open.1.begin stands_open.1.body stands_open.1.since ∙ ap (λ ns. ns ++ read_items_of_body (E (Some z)) c (done z ∷ [])) (since_stay catalog events (call_event y (Some z)) c h.begun k.answered k.answered) ∙ ap (λ ns. so_noted ++ ns) (items_last images e) in
+            let whole : read_items_since (E (Some z)) c h.begun (k.entries ++ done z ∷ []) ≡ so_noted ++ read_items (ms ++ made ∷ []) =
+            since_open (E (Some z)) c h.begun k.entries (done z) stands_open.1.begin stands_open.1.body stands_open.1.since ∙ ap (λ ns. ns ++ read_items_of_body (E (Some z)) c (done z ∷ [])) (since_stay catalog events (call_event y (Some z)) c h.begun k.entries k.answered) ∙ ap (λ ns. so_noted ++ ns) (items_last images e) in
             subst (λ ns. ReadByDoing ns u.seen u.doing) (sym whole) (notes_idle (so_noted ++ read_items (ms ++ made ∷ [])) u.seen u.doing (left_rests images) (subst (λ rs. ReadItemsAre (so_noted ++ read_items (ms ++ made ∷ [])) rs u.seen.scans) (sym same.0) (subst (ReadItemsAre (so_noted ++ read_items (ms ++ made ∷ [])) (seen_then images).seen.reads) (sym same.1) now_so)))
 
         -- with the images no more is noted than found
@@ -457,7 +457,7 @@ module _ (catalog : List Table) (events : List Event) (states : ℕ → ClientSt
         -- the changes may be too many
         passes_then : (images : List Record) → read_step x.stage y.now y.reply ≡ Ended (step.Images images) → (b : Answer) → too_many (with_rows_read t a images) (changes_on p.table p.statement (overlay a (with_rows_read t a images).seen)) ≡ true → MayPassMost (E (Some b)) c (done b)
         passes_then images e b many =
-            pass_now c h.begun (E (Some b)) k.answered stands_open.1.begin (done b) stands_open.1.body p.statement k.small (said_done b) stands_open.1.since stands_open.1.goes_on is.text
+            pass_now c h.begun (E (Some b)) k.entries stands_open.1.begin (done b) stands_open.1.body p.statement k.small (said_done b) stands_open.1.since stands_open.1.goes_on is.text
             (passes_given (rows_counted_by stands_open.1.body) (records_found_by (E (Some b)) c stands_open.1.body + records_found (calls_of (E (Some b)) c (done b))) (with_rows_read t a images) a p.table p.statement
             (filled_found catalog events (call_event y (Some b)) c stands_open.1.body (records_found (ms ++ made ∷ [])) (records_found (calls_of (E (Some b)) c (done b))) (with_rows_read t a images).seen body_answered (found_done b) (filled_with images e)) many)
 
@@ -471,13 +471,13 @@ module _ (catalog : List Table) (events : List Event) (states : ℕ → ClientSt
         misfit_caused : (images : List Record) → read_step x.stage y.now y.reply ≡ Ended (step.Images images) → (key : Key) → first_unfit p.table (overlay a (seen_then images).seen) ≡ Some key → IsBadRecord catalog (E (Some (given_then images))) c (done (given_then images)) key
         misfit_caused images e key f =
             let m = was_misfit catalog p a listed of_table (E (Some (given_then images))) c (stands_open.1.body ++ done (given_then images) ∷ []) (seen_then images).seen key (fit_then images e) f in
-            inr (meets_now catalog c h.begun (E (Some (given_then images))) k.answered stands_open.1.begin (done (given_then images)) stands_open.1.body p.statement p.table key k.small (said_done (given_then images)) stands_open.1.since stands_open.1.goes_on is.text asked.named
+            inr (meets_now catalog c h.begun (E (Some (given_then images))) k.entries stands_open.1.begin (done (given_then images)) stands_open.1.body p.statement p.table key k.small (said_done (given_then images)) stands_open.1.since stands_open.1.goes_on is.text asked.named
             (subst (λ (z : Access). in_access z key ≡ true) asked.access m.0) m.1)
 
         -- what it shows, and what its transaction then sees
-        shows_then : (images : List Record) → read_step x.stage y.now y.reply ≡ Ended (step.Images images) → ShowsNext catalog (E (Some (given_then images))) c k.answered (done (given_then images)) (given_then images) (holding h (left_then images))
+        shows_then : (images : List Record) → read_step x.stage y.now y.reply ≡ Ended (step.Images images) → ShowsNext catalog (E (Some (given_then images))) c k.entries (done (given_then images)) (given_then images) (holding h (left_then images))
         shows_then images e =
-            read_next catalog c events (call_event y (Some (given_then images))) k.answered k.answered h.begun stands_open.1.begin stands_open.1.body stands_open.1.since k.begun t sees_now (sound free t a x some reads).1 (done (given_then images)) p a (ms ++ made ∷ []) images (calls_done (given_then images)) (was_read images e) is_fine is.text (waits.vacuum ∙ ap is_some free) asked.named asked.asked asked.access refl
+            read_next catalog c events (call_event y (Some (given_then images))) k.entries k.answered h.begun stands_open.1.begin stands_open.1.body stands_open.1.since k.begun t sees_now (sound free t a x some reads).1 (done (given_then images)) p a (ms ++ made ∷ []) images (calls_done (given_then images)) (was_read images e) is_fine is.text (waits.vacuum ∙ ap is_some free) asked.named asked.asked asked.access refl
             (finished images e)
 
         is_known : (images : List Record) → read_step x.stage y.now y.reply ≡ Ended (step.Images images) → So (Some (given_then images)) (holding h (left_then images))
@@ -488,16 +488,16 @@ module _ (catalog : List Table) (events : List Event) (states : ℕ → ClientSt
             answers b (holding h (left_then images)) (given_caused catalog (E (Some b)) c (done b) p (overlay a v.seen) v is.text asked.named asked.asked (open_before b) (misfit_caused images e) (passes_then images e b)) (stays b m.agrees) refl refl
             (held b (left_then images) m is.inner.commit (left_id v (gives p a v) ∙ noting_id t a images) (left_rests images) (noted_then images e))
             (no_fit b, told_noted images e)
-            (filled_idle (E (Some b)) c h.begun k.answered (done b) stands_open.1.begin stands_open.1.body (left_then images) stands_open.1.since (left_rests images)
+            (filled_idle (E (Some b)) c h.begun k.entries (done b) stands_open.1.begin stands_open.1.body (left_then images) stands_open.1.since (left_rests images)
             (filled_given catalog events (call_event y (Some b)) c stands_open.1.body (done b) p (overlay a v.seen) v (records_found (ms ++ made ∷ [])) body_answered refl (finished images e) (found_done b) (filled_with images e)))
-            (fits_idle catalog (E (Some b)) c h.begun k.answered (done b) stands_open.1.begin stands_open.1.body (left_then images) stands_open.1.since (left_rests images)
+            (fits_idle catalog (E (Some b)) c h.begun k.entries (done b) stands_open.1.begin stands_open.1.body (left_then images) stands_open.1.since (left_rests images)
             (given_fits catalog p a listed of_table is_fine asked.named asked.asked asked.accepted asked.literals asked.access (E (Some b)) c (stands_open.1.body ++ done b ∷ []) v (fit_then images e)))
             (λ z. subst (ReadRolls (E (Some b)) (reads_vacuum w.text) (ms ++ made ∷ [])) e (rolled_read (Some b))) (shows_then images e)
 
         -- a key that was read differs
         moved_now : (images : List Record) (key : Key) (found : Option Record) → read_step x.stage y.now y.reply ≡ Ended (step.Images images) → IsChangedAt t a images key found → ends (done (answer.Conflict key found)) ≡ true
             → (other : Key) (others : Option Record) → Some (answer.Conflict key found) ≡ Some (answer.Conflict other others)
-            → IsChangedIn (E (Some (answer.Conflict key found))) c (k.answered ++ done (answer.Conflict key found) ∷ []) (done (answer.Conflict key found)) other others
+            → IsChangedIn (E (Some (answer.Conflict key found))) c (k.entries ++ done (answer.Conflict key found) ∷ []) (done (answer.Conflict key found)) other others
         moved_now images key found e moved over other others same =
             let b : Answer = answer.Conflict key found in
             let here : ChangesAtScan (ms ++ made ∷ []) (read_items_of_body events c stands_open.1.body) key found = changed_scan (ms ++ made ∷ []) (read_items_of_body events c stands_open.1.body) t a images key found (was_read images e) (sound free t a x some reads).0 noting_now moved in
@@ -508,11 +508,11 @@ module _ (catalog : List Table) (events : List Event) (states : ℕ → ClientSt
               begin = stands_open.1.begin;
               body = stands_open.1.body;
               tail = [];
-              since = since_more h.begun k.answered (done b) stands_open.1.begin stands_open.1.body stands_open.1.since;
+              since = since_more h.begun k.entries (done b) stands_open.1.begin stands_open.1.body stands_open.1.since;
               goes_on = stands_open.1.goes_on;
               over = over;
               small = k.small;
-              why = subst (λ v. ChangesBy v (id_of c h.begun) (calls_of (E (Some b)) c (done b)) (read_items_of_body (E (Some b)) c stands_open.1.body) other others) (sym is.inner.commit) (subst (λ ns. ChangesAtScan (calls_of (E (Some b)) c (done b)) ns other others) (sym (notes_stay catalog events (call_event y (Some b)) c stands_open.1.body (since_all (IsAnswered catalog events c) h.begun k.answered stands_open.1.begin stands_open.1.body k.answered stands_open.1.since)))
+              why = subst (λ v. ChangesBy v (id_of c h.begun) (calls_of (E (Some b)) c (done b)) (read_items_of_body (E (Some b)) c stands_open.1.body) other others) (sym is.inner.commit) (subst (λ ns. ChangesAtScan (calls_of (E (Some b)) c (done b)) ns other others) (sym (notes_stay catalog events (call_event y (Some b)) c stands_open.1.body (since_all (IsAnswered catalog events c) h.begun k.entries stands_open.1.begin stands_open.1.body k.answered stands_open.1.since)))
                   (subst (λ cs. ChangesAtScan cs (read_items_of_body events c stands_open.1.body) other others) (sym (calls_done b))
                   (subst (λ (z : Key). ChangesAtScan (ms ++ made ∷ []) (read_items_of_body events c stands_open.1.body) z others) keys (subst (λ (z : Option Record). ChangesAtScan (ms ++ made ∷ []) (read_items_of_body events c stands_open.1.body) key z) founds here))));
             }
@@ -584,7 +584,7 @@ module _ (catalog : List Table) (events : List Event) (states : ℕ → ClientSt
         over_done b = ap (λ z. z || is_conflict (Some b) || (reads_rollback w.text && is_done (Some b))) is.text
 
         commit_done : (b : Answer) → IsCommitOf (E (Some b)) c (done b) j.work.id
-        commit_done b = subst (IsCommitOf (E (Some b)) c (done b)) (sym is.same) (commit_is (E (Some b)) c h.begun k.answered (done b) t k.small (said_done b) is.text (over_done b) stands_open.1)
+        commit_done b = subst (IsCommitOf (E (Some b)) c (done b)) (sym is.same) (commit_is (E (Some b)) c h.begun k.entries (done b) t k.small (said_done b) is.text (over_done b) stands_open.1)
 
         -- why it ends so
         end_caused : (a : Outcome) → EndsBy j.work.id (ms ++ made ∷ []) a → is_conflict (Some (answer_of_outcome a)) ≡ false → IsCaused catalog (E (Some (answer_of_outcome a))) c (done (answer_of_outcome a)) (answer_of_outcome a)
@@ -592,16 +592,16 @@ module _ (catalog : List Table) (events : List Event) (states : ℕ → ClientSt
 
         -- an end of the transaction, of which a COMMIT's cause is answered elsewhere
         checks_now : WorkBy (read_items_of_body events c stands_open.1.body) j.work × ChecksBy (read_items_of_body events c stands_open.1.body) j.work ms j.stage
-        checks_now = subst (λ d. IsReadSetOf events c k.answered stands_open.1.body t d (Some w)) commits (subst (λ v. IsReadSetOf events c k.answered stands_open.1.body t t.doing v) waiting stands_open.3)
+        checks_now = subst (λ d. IsReadSetOf events c k.entries stands_open.1.body t d (Some w)) commits (subst (λ v. IsReadSetOf events c k.entries stands_open.1.body t t.doing v) waiting stands_open.3)
 
         checks_then : WorkBy (read_items_of_body events c stands_open.1.body) j.work × ChecksBy (read_items_of_body events c stands_open.1.body) j.work (ms ++ made ∷ []) then_at
         checks_then = let z = checks_now in (z.0, checks_on j.work (read_items_of_body events c stands_open.1.body) z.0 ms made j.stage z.1 pends_commit called.can)
 
         body_notes : (result : Option Answer) → read_items_of_body events c stands_open.1.body ≡ read_items_of_body (E result) c stands_open.1.body
-        body_notes result = sym (notes_stay catalog events (call_event y result) c stands_open.1.body (since_all (IsAnswered catalog events c) h.begun k.answered stands_open.1.begin stands_open.1.body k.answered stands_open.1.since))
+        body_notes result = sym (notes_stay catalog events (call_event y result) c stands_open.1.body (since_all (IsAnswered catalog events c) h.begun k.entries stands_open.1.begin stands_open.1.body k.answered stands_open.1.since))
 
         ends_moved : (a : Outcome) → then_at ≡ Over a → (key : Key) (found : Option Record) → Some (answer_of_outcome a) ≡ Some (answer.Conflict key found)
-            → IsChangedIn (E (Some (answer_of_outcome a))) c (k.answered ++ done (answer_of_outcome a) ∷ []) (done (answer_of_outcome a)) key found
+            → IsChangedIn (E (Some (answer_of_outcome a))) c (k.entries ++ done (answer_of_outcome a) ∷ []) (done (answer_of_outcome a)) key found
         ends_moved a at_end key found e =
             let b : Answer = answer_of_outcome a in
             let ended_by : ConflictBy (read_items_of_body events c stands_open.1.body) j.work (ms ++ made ∷ []) a = subst (ChecksBy (read_items_of_body events c stands_open.1.body) j.work (ms ++ made ∷ [])) at_end checks_then.1 in
@@ -611,7 +611,7 @@ module _ (catalog : List Table) (events : List Event) (states : ℕ → ClientSt
               begin = stands_open.1.begin;
               body = stands_open.1.body;
               tail = [];
-              since = since_more h.begun k.answered (done b) stands_open.1.begin stands_open.1.body stands_open.1.since;
+              since = since_more h.begun k.entries (done b) stands_open.1.begin stands_open.1.body stands_open.1.since;
               goes_on = stands_open.1.goes_on;
               over = over_done b;
               small = k.small;
@@ -625,7 +625,7 @@ module _ (catalog : List Table) (events : List Event) (states : ℕ → ClientSt
         is_over a e =
             answers (answer_of_outcome a) (resting h) (end_caused a (subst (StageByCalls j.work (ms ++ made ∷ [])) e then_stands)) (ends_moved a e) refl refl (ended (answer_of_outcome a) (over_done (answer_of_outcome a)))
             (λ z. subst (λ (i : TxId). CommitIsCounted so_noted i (Some (answer_of_outcome a)) (ms ++ made ∷ [])) commit_so.1 (commit_over so_noted j.work (ms ++ made ∷ []) a (subst (CommitCounted so_noted j.work (ms ++ made ∷ [])) e counted_commit) (subst (StageByCalls j.work (ms ++ made ∷ [])) e then_stands)), tt) tt tt (λ z. clash (sym z ∙ outcome_rows j.work.id (ms ++ made ∷ []) a (subst (StageByCalls j.work (ms ++ made ∷ [])) e then_stands)))
-            ((λ was. outcome_tells catalog (E (Some (answer_of_outcome a))) c (rest_of (from_begin (begun_in k.answered) k.answered)) (done (answer_of_outcome a)) a), tt)
+            ((λ was. outcome_tells catalog (E (Some (answer_of_outcome a))) c (rest_of (from_begin (begun_in k.entries) k.entries)) (done (answer_of_outcome a)) a), tt)
 
         commits_on : (u : TxnAt) (m : CommitAt) → u.id ≡ t.id → u.doing ≡ doing.Commit m → m.work ≡ j.work → StageByCalls j.work (ms ++ made ∷ []) m.stage → ((ns : List ReadItem) → ChecksBy ns j.work (ms ++ made ∷ []) then_at → ChecksBy ns j.work (ms ++ made ∷ []) m.stage) → CommitCounted so_noted j.work (ms ++ made ∷ []) m.stage → So None (record h { txn = Some u })
         commits_on u m same does work agrees checked counts =
@@ -637,7 +637,7 @@ module _ (catalog : List Table) (events : List Event) (states : ℕ → ClientSt
               moment = subst (λ (z : Work). is_moment z.now ≡ true) (sym work) is.moment;
               stage = subst (λ (z : Work). StageByCalls z (calls_of (E None) c w) m.stage) (sym work) (subst (λ cs. StageByCalls j.work cs m.stage) (sym calls_on) agrees);
             }))
-            (subst (λ d. IsReadSetOf (E None) c k.answered stands_open.1.body u d (Some w)) (sym does) (
+            (subst (λ d. IsReadSetOf (E None) c k.entries stands_open.1.body u d (Some w)) (sym does) (
             let z = checks_then in (
               subst (λ (v : Work). WorkBy (read_items_of_body (E None) c stands_open.1.body) v) (sym work) (subst (λ ns. WorkBy ns j.work) (body_notes None) z.0),
               subst (λ (v : Work). ChecksBy (read_items_of_body (E None) c stands_open.1.body) v (calls_of (E None) c w) m.stage) (sym work)
@@ -648,7 +648,7 @@ module _ (catalog : List Table) (events : List Event) (states : ℕ → ClientSt
               waits_open (ms ++ made ∷ []) (Some u) (subst (DoingCounted w.text so_id so_noted (ms ++ made ∷ [])) (sym does)
                   (is.text, ap (λ (z : Work). z.id) work ∙ commit_so.1, subst (λ (z : Work). AllByRecursion IsWrite z.writes) (sym work) commit_so.2, subst (λ (z : Work). CommitCounted so_noted z (ms ++ made ∷ []) m.stage) (sym work) counts)),
             )
-            (subst (IsFilledIn (E None) c (rest_of (from_begin h.begun k.answered)) u.seen) (sym does) tt) (subst (SeesFitOrReadIn catalog (E None) c (rest_of (from_begin h.begun k.answered)) u.seen) (sym does) tt) (rolls_open (Some u) (subst (DoingRolls (E None) (reads_vacuum w.text) (ms ++ made ∷ [])) (sym does) tt)) (λ z. subst (SeesOwnIn catalog (E None) c (rest_of (from_begin h.begun k.answered)) u.seen) (sym does) tt)
+            (subst (IsFilledIn (E None) c (rest_of (from_begin h.begun k.entries)) u.seen) (sym does) tt) (subst (SeesFitOrReadIn catalog (E None) c (rest_of (from_begin h.begun k.entries)) u.seen) (sym does) tt) (rolls_open (Some u) (subst (DoingRolls (E None) (reads_vacuum w.text) (ms ++ made ∷ [])) (sym does) tt)) (λ z. subst (SeesOwnIn catalog (E None) c (rest_of (from_begin h.begun k.entries)) u.seen) (sym does) tt)
 
         by_stage : (m : Stage) → IsNext j.work j.stage y.reply m → StageByCalls j.work (ms ++ made ∷ []) m
         by_stage m z = next_by (StageByCalls j.work (ms ++ made ∷ [])) j.work j.stage y.reply m z then_stands (starved_stands j.work (ms ++ made ∷ []) then_at then_stands)
@@ -664,7 +664,7 @@ module _ (catalog : List Table) (events : List Event) (states : ℕ → ClientSt
 
     ---- a VACUUM
 
-    module _ (v : VacuumAt) (runs : h.vacuum ≡ Some v) (is : IsInVacuum events c k.answered (Some w) h.txn v) where
+    module _ (v : VacuumAt) (runs : h.vacuum ≡ Some v) (is : IsInVacuum events c k.entries (Some w) h.txn v) where
       reads_it : Reads w.text statement.Vacuum
       reads_it = (vacuum_read w.text).0 (waits.vacuum ∙ ap is_some runs)
 
@@ -688,15 +688,15 @@ module _ (catalog : List Table) (events : List Event) (states : ℕ → ClientSt
 
       -- another call is pending
       sweeps_on : (left : VacuumAt) → VacuumBy (ms ++ made ∷ []) left → VacuumIsCounted catalog (ms ++ made ∷ []) left → VacuumRolls (E None) (reads_vacuum w.text) (ms ++ made ∷ []) left.stage → So None (record h { vacuum = Some left })
-      sweeps_on left by counts rolls = goes_on (record h { vacuum = Some left }) refl refl (sym (ap is_some runs)) (is.0, is.1, subst (λ cs. VacuumBy cs left) (sym calls_on) by) (k.counted.as_read, counts) (subst (λ (o : Option TxnAt). IfSome o (IsFilled (E None) c (rest_of (from_begin h.begun k.answered)))) (sym is.0) tt) (subst (λ (o : Option TxnAt). IfSome o (IsFitOrReadTxn catalog (E None) c (rest_of (from_begin h.begun k.answered)))) (sym is.0) tt) rolls (λ z. subst (λ (o : Option TxnAt). IfSome o (IsViewOf catalog (E None) c (rest_of (from_begin h.begun k.answered)))) (sym is.0) tt)
+      sweeps_on left by counts rolls = goes_on (record h { vacuum = Some left }) refl refl (sym (ap is_some runs)) (is.0, is.1, subst (λ cs. VacuumBy cs left) (sym calls_on) by) (k.counted.as_read, counts) (subst (λ (o : Option TxnAt). IfSome o (IsFilled (E None) c (rest_of (from_begin h.begun k.entries)))) (sym is.0) tt) (subst (λ (o : Option TxnAt). IfSome o (IsFitOrReadTxn catalog (E None) c (rest_of (from_begin h.begun k.entries)))) (sym is.0) tt) rolls (λ z. subst (λ (o : Option TxnAt). IfSome o (IsViewOf catalog (E None) c (rest_of (from_begin h.begun k.entries)))) (sym is.0) tt)
 
       -- it is answered
       sweep_ends : (b : Answer) → IsMiddle b → (is_conflict (Some b) ≡ false → IsCaused catalog (E (Some b)) c (done b) b) → RollsThen b → So (Some b) (record h { vacuum = None })
       sweep_ends b m caused rolls =
-          answers b (record h { vacuum = None }) caused (unmoved (E (Some b)) c (k.answered ++ done b ∷ []) (done b) b refl m.agrees) refl refl
-          (subst (DoingByHistory (E (Some b)) c h.begun (k.answered ++ done b ∷ []) None h.plan) (sym is.0) (refl, after_more k.answered (done b) ∙ ap (λ x. is_open_after x (done b)) is.1 ∙ after_plain false (done b) (begins_none b) (λ e. clash (sym e))))
-          (λ e. clash (sym e ∙ no_commit), subst (ReadByTxn (read_items_since (E (Some b)) c h.begun (k.answered ++ done b ∷ []))) (sym is.0) tt)
-          (subst (λ (o : Option TxnAt). IfSome o (IsFilled (E (Some b)) c (rest_of (from_begin h.begun (k.answered ++ done b ∷ []))))) (sym is.0) tt) (subst (λ (o : Option TxnAt). IfSome o (IsFitOrReadTxn catalog (E (Some b)) c (rest_of (from_begin h.begun (k.answered ++ done b ∷ []))))) (sym is.0) tt) rolls ((λ was. clash (sym was ∙ is.1)), subst (λ (o : Option TxnAt). IfSome o (IsViewOf catalog (E (Some b)) c (rest_of (from_begin h.begun (k.answered ++ done b ∷ []))))) (sym is.0) tt)
+          answers b (record h { vacuum = None }) caused (unmoved (E (Some b)) c (k.entries ++ done b ∷ []) (done b) b refl m.agrees) refl refl
+          (subst (DoingByHistory (E (Some b)) c h.begun (k.entries ++ done b ∷ []) None h.plan) (sym is.0) (refl, after_more k.entries (done b) ∙ ap (λ x. is_open_after x (done b)) is.1 ∙ after_plain false (done b) (begins_none b) (λ e. clash (sym e))))
+          (λ e. clash (sym e ∙ no_commit), subst (ReadByTxn (read_items_since (E (Some b)) c h.begun (k.entries ++ done b ∷ []))) (sym is.0) tt)
+          (subst (λ (o : Option TxnAt). IfSome o (IsFilled (E (Some b)) c (rest_of (from_begin h.begun (k.entries ++ done b ∷ []))))) (sym is.0) tt) (subst (λ (o : Option TxnAt). IfSome o (IsFitOrReadTxn catalog (E (Some b)) c (rest_of (from_begin h.begun (k.entries ++ done b ∷ []))))) (sym is.0) tt) rolls ((λ was. clash (sym was ∙ is.1)), subst (λ (o : Option TxnAt). IfSome o (IsViewOf catalog (E (Some b)) c (rest_of (from_begin h.begun (k.entries ++ done b ∷ []))))) (sym is.0) tt)
 
       sweep_goes_on : (left : VacuumAt) → Gives (vacuum_step v y.now y.reply) left vacuuming.More → So None (record h { vacuum = Some left })
       sweep_goes_on left g =
@@ -720,7 +720,7 @@ module _ (catalog : List Table) (events : List Event) (states : ℕ → ClientSt
   ---- whatever it does
 
   does : (t : TxnAt) → h.vacuum ≡ None → h.txn ≡ Some t → IsDoing events c t h.plan k.waiting t.doing
-  does t free some = (subst (DoingByHistory events c h.begun k.answered k.waiting h.plan) some (subst (ClientByHistory events c h.begun k.answered k.waiting h.plan h.txn) free k.agrees)).2
+  does t free some = (subst (DoingByHistory events c h.begun k.entries k.waiting h.plan) some (subst (ClientByHistory events c h.begun k.entries k.waiting h.plan h.txn) free k.agrees)).2
 
   reads_for : (t : TxnAt) (p : Planned) (a : Access) (x : ReadAt) → IsReadAt h y.request t p a x → (w : Executed) × (k.waiting ≡ Some w) × IsReading events c w p x
   reads_for t p a x at = by k.waiting refl (subst (λ (o : Option Planned). IsDoing events c t o k.waiting (doing.Read a x)) at.plan (subst (IsDoing events c t h.plan k.waiting) at.doing (does t at.free at.opened)))
@@ -736,10 +736,10 @@ module _ (catalog : List Table) (events : List Event) (states : ℕ → ClientSt
       by None e is = absurd is
       by (Some w) e is = (w, e, is)
 
-  sweeps_for : (v : VacuumAt) → IsVacuumAt h y.request v → (w : Executed) × (k.waiting ≡ Some w) × IsInVacuum events c k.answered (Some w) h.txn v
-  sweeps_for v at = by k.waiting refl (subst (ClientByHistory events c h.begun k.answered k.waiting h.plan h.txn) at.runs k.agrees)
+  sweeps_for : (v : VacuumAt) → IsVacuumAt h y.request v → (w : Executed) × (k.waiting ≡ Some w) × IsInVacuum events c k.entries (Some w) h.txn v
+  sweeps_for v at = by k.waiting refl (subst (ClientByHistory events c h.begun k.entries k.waiting h.plan h.txn) at.runs k.agrees)
     where
-      by : (o : Option Executed) → k.waiting ≡ o → IsInVacuum events c k.answered o h.txn v → (w : Executed) × (k.waiting ≡ Some w) × IsInVacuum events c k.answered (Some w) h.txn v
+      by : (o : Option Executed) → k.waiting ≡ o → IsInVacuum events c k.entries o h.txn v → (w : Executed) × (k.waiting ≡ Some w) × IsInVacuum events c k.entries (Some w) h.txn v
       by None e is = absurd is
       by (Some w) e is = (w, e, is)
 

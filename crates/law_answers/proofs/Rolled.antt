@@ -132,7 +132,7 @@ outcome_rows id calls outcome.NoMemory ends = refl
 
 module _ (catalog : List Table) (events : List Event) (c : ℕ) (h : ClientAt) (k : Knows catalog events c h) (s : Executed) where
   said_rolled : Contains (statements_by c events) s → IsRolledIn events c s
-  said_rolled has = either (Contains-append_cases k.answered (waiting_of k.waiting) s (subst (λ ss. Contains ss s) k.same has))
+  said_rolled has = either (Contains-append_cases k.entries (waiting_of k.waiting) s (subst (λ ss. Contains ss s) k.same has))
     where
       last : (o : Option Executed) → IfSome o (IsWaiting catalog events c (is_some h.vacuum)) → Contains (waiting_of o) s → IsRolledIn events c s
       last None w x = absurd (omega (arith, x.1))
@@ -142,8 +142,8 @@ module _ (catalog : List Table) (events : List Event) (c : ℕ) (h : ClientAt) (
           only (inl y) = absurd (omega (arith, y.1))
           only (inr same) = λ read. clash (sym read ∙ ap (λ (o : Option Answer). option_map_or (read_finished (calls_of events c s)) o false) (sym (ap (λ (z : Executed). z.answer) same) ∙ waits.unanswered))
 
-      either : Contains k.answered s ⊎ Contains (waiting_of k.waiting) s → IsRolledIn events c s
-      either (inl x) = each_in (IsRolledIn events c) k.answered s k.rolled.answered x
+      either : Contains k.entries s ⊎ Contains (waiting_of k.waiting) s → IsRolledIn events c s
+      either (inl x) = each_in (IsRolledIn events c) k.entries s k.rolled.answered x
       either (inr x) = last k.waiting k.waits x
 
 pub records_rolled : (catalog : List Table) (events : List Event) (now : ℤ) (states : ℕ → ClientState) → CauseInvariant catalog events now states → RecordsAreRolled events

@@ -93,9 +93,9 @@ module _ (catalog : List Table) (events : List Event) (now : ℤ) (states : ℕ 
   all_own : AllGiveOwn catalog events c (statements_by c events)
   all_own = subst (AllGiveOwn catalog events c) (sym k.same) (by k.waiting k.waits)
     where
-      by : (o : Option Executed) → IfSome o (IsWaiting catalog events c (is_some (states c).client.vacuum)) → AllGiveOwn catalog events c (k.answered ++ waiting_of o)
-      by None w = subst (AllGiveOwn catalog events c) (sym (append-nil k.answered)) k.shows.told_own
-      by (Some w) waits = own_waits catalog events c k.answered w waits.unanswered k.counted.paired k.shows.told_own
+      by : (o : Option Executed) → IfSome o (IsWaiting catalog events c (is_some (states c).client.vacuum)) → AllGiveOwn catalog events c (k.entries ++ waiting_of o)
+      by None w = subst (AllGiveOwn catalog events c) (sym (append-nil k.entries)) k.shows.told_own
+      by (Some w) waits = own_waits catalog events c k.entries w waits.unanswered k.counted.paired k.shows.told_own
 
   all_said : AllByRecursion (Contains (statements_by c events)) (statements_by c events)
   all_said = recursion_from_All (Contains (statements_by c events)) (statements_by c events) (All-contains_itself (statements_by c events))

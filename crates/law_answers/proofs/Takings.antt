@@ -165,8 +165,8 @@ module _ (q : Taking) (events : List Event) (states : ℕ → ClientState) (ex :
   abbrev pub Turned : Option Answer → Type 0
   Turned result = (b : Answer) → IsRejected q.catalog events c text b → (result ≡ Some b) ⊎ (result ≡ Some answer.NoMemory)
 
-  stands_free : DoingByHistory events c h.begun k.answered k.waiting h.plan h.txn
-  stands_free = subst (ClientByHistory events c h.begun k.answered k.waiting h.plan h.txn) ready.idle.free k.agrees
+  stands_free : DoingByHistory events c h.begun k.entries k.waiting h.plan h.txn
+  stands_free = subst (ClientByHistory events c h.begun k.entries k.waiting h.plan h.txn) ready.idle.free k.agrees
 
   waits_none : k.waiting ≡ None
   waits_none = by h.txn stands_free ready.idle.still
@@ -174,12 +174,12 @@ module _ (q : Taking) (events : List Event) (states : ℕ → ClientState) (ex :
       by_doing : (t : TxnAt) (d : Doing) → d ≡ doing.Idle → IsDoing events c t h.plan k.waiting d → k.waiting ≡ None
       by_doing t d e s = subst (IsDoing events c t h.plan k.waiting) e s
 
-      by : (o : Option TxnAt) → DoingByHistory events c h.begun k.answered k.waiting h.plan o → IfSome o (λ t. t.doing ≡ doing.Idle) → k.waiting ≡ None
+      by : (o : Option TxnAt) → DoingByHistory events c h.begun k.entries k.waiting h.plan o → IfSome o (λ t. t.doing ≡ doing.Idle) → k.waiting ≡ None
       by None s i = s.0
       by (Some t) s i = by_doing t t.doing i s.2
 
-  said_told : statements_by c events ≡ k.answered
-  said_told = k.same ∙ ap (λ o. k.answered ++ waiting_of o) waits_none ∙ append-nil k.answered
+  said_told : statements_by c events ≡ k.entries
+  said_told = k.same ∙ ap (λ o. k.entries ++ waiting_of o) waits_none ∙ append-nil k.entries
 
   opened : (d : ℕ) → is_open events d ≡ is_some (states d).client.txn
   opened d = open_now q.catalog events d (states d).client (ex.each d)
@@ -316,8 +316,8 @@ module _ (q : Taking) (events : List Event) (states : ℕ → ClientState) (ex :
   by_turning b = subst (λ es. IsRejected q.catalog es c text b) (sym (before_taken events (event.Take c text (Some b)) text (Some b)))
 
   -- a BEGIN is answered Done where no transaction is open
-  pairs_once : (b : Answer) → Turned (Some b) → begins (one (Some b)) ≡ true → open_after k.answered ≡ false
-  pairs_once b turned begins_it = by_test (open_after k.answered) (λ t. absurd (undone (turned (refused 4) (inr (inl ((begin_read text).0 both.0, ap open_after said_told ∙ t, refl)))))) (λ f. f)
+  pairs_once : (b : Answer) → Turned (Some b) → begins (one (Some b)) ≡ true → open_after k.entries ≡ false
+  pairs_once b turned begins_it = by_test (open_after k.entries) (λ t. absurd (undone (turned (refused 4) (inr (inl ((begin_read text).0 both.0, ap open_after said_told ∙ t, refl)))))) (λ f. f)
     where
       both : (reads_begin text ≡ true) × (is_done (Some b) ≡ true)
       both = and_parts (reads_begin text) (is_done (Some b)) begins_it
@@ -327,8 +327,8 @@ module _ (q : Taking) (events : List Event) (states : ℕ → ClientState) (ex :
       undone (inr e) = clash (sym both.1 ∙ ap is_done e)
 
   -- one that makes no call isn't answered Committed
-  fits_once : (b : Answer) → Caused b → reads_commit text ≡ true → open_after k.answered ≡ true → CommitIsCounted (read_items_since events c h.begun k.answered) (id_of c h.begun) (Some b) []
-  fits_once b caused reads opened = commit_none (read_items_since events c h.begun k.answered) (id_of c h.begun) (Some b) (λ e. absurd (uncommitted (some_is b answer.Committed e)))
+  fits_once : (b : Answer) → Caused b → reads_commit text ≡ true → open_after k.entries ≡ true → CommitIsCounted (read_items_since events c h.begun k.entries) (id_of c h.begun) (Some b) []
+  fits_once b caused reads opened = commit_none (read_items_since events c h.begun k.entries) (id_of c h.begun) (Some b) (λ e. absurd (uncommitted (some_is b answer.Committed e)))
     where
       undecided : (calls : List StoreCall) (id : TxId) → calls ≡ [] → IsDecided decision.Committed (decision_learned calls id) → ⊥
       undecided calls id none h = subst (λ ms. IsDecided decision.Committed (decision_learned ms id)) none h
@@ -340,16 +340,16 @@ module _ (q : Taking) (events : List Event) (states : ℕ → ClientState) (ex :
 
   -- what its transaction has then noted
   abbrev NotedThen : Option Answer → Client → Type 0
-  NotedThen result d = ReadByTxn (read_items_since (E result) c d.begun (k.answered ++ one result ∷ [])) d.txn
+  NotedThen result d = ReadByTxn (read_items_since (E result) c d.begun (k.entries ++ one result ∷ [])) d.txn
 
   -- it is answered at once
-  at_once : (b : Answer) (d : Client) → is_conflict (Some b) ≡ false → Caused b → Turned (Some b) → d.number ≡ h.number → d.begun ≡ begun_in (k.answered ++ one (Some b) ∷ []) → d.begun < 2 ^ 64
-      → ClientByHistory (E (Some b)) c d.begun (k.answered ++ one (Some b) ∷ []) None d.plan d.txn d.vacuum → NotedThen (Some b) d → IfSome d.txn (IsFilled (E (Some b)) c (rest_of (from_begin d.begun (k.answered ++ one (Some b) ∷ [])))) → IfSome d.txn (IsFitOrReadTxn q.catalog (E (Some b)) c (rest_of (from_begin d.begun (k.answered ++ one (Some b) ∷ [])))) → ShowsNext q.catalog (E (Some b)) c k.answered (one (Some b)) b d → So (Some b) d
+  at_once : (b : Answer) (d : Client) → is_conflict (Some b) ≡ false → Caused b → Turned (Some b) → d.number ≡ h.number → d.begun ≡ begun_in (k.entries ++ one (Some b) ∷ []) → d.begun < 2 ^ 64
+      → ClientByHistory (E (Some b)) c d.begun (k.entries ++ one (Some b) ∷ []) None d.plan d.txn d.vacuum → NotedThen (Some b) d → IfSome d.txn (IsFilled (E (Some b)) c (rest_of (from_begin d.begun (k.entries ++ one (Some b) ∷ [])))) → IfSome d.txn (IsFitOrReadTxn q.catalog (E (Some b)) c (rest_of (from_begin d.begun (k.entries ++ one (Some b) ∷ [])))) → ShowsNext q.catalog (E (Some b)) c k.entries (one (Some b)) b d → So (Some b) d
   at_once b d agrees caused turned number begun small agreed as_read filled fits shows = record {
-    answered = k.answered ++ one (Some b) ∷ [];
+    entries = k.entries ++ one (Some b) ∷ [];
     waiting = None;
-    same = said_more ∙ sym (append-nil (k.answered ++ one (Some b) ∷ []));
-    answered = each_more (IsAnswered q.catalog (E (Some b)) c) k.answered (one (Some b)) (answered_stay q.catalog c events (event.Take c text (Some b)) k.answered (inr (inl (one (Some b), said_now))) k.answered) (record {
+    same = said_more ∙ sym (append-nil (k.entries ++ one (Some b) ∷ []));
+    answered = each_more (IsAnswered q.catalog (E (Some b)) c) k.entries (one (Some b)) (answered_stay q.catalog c events (event.Take c text (Some b)) k.entries (inr (inl (one (Some b), said_now))) k.answered) (record {
       given = b;
       is = refl;
       accepted = within_now (Some b);
@@ -358,23 +358,23 @@ module _ (q : Taking) (events : List Event) (states : ℕ → ClientState) (ex :
       rejected = λ a t. (refl, turned a (away (Some b) a t));
     });
     waits = tt;
-    moved = moved_all q.catalog events (event.Take c text (Some b)) c k.answered (one (Some b)) k.answered k.moved (unmoved (E (Some b)) c (k.answered ++ one (Some b) ∷ []) (one (Some b)) b refl agrees);
+    moved = moved_all q.catalog events (event.Take c text (Some b)) c k.entries (one (Some b)) k.answered k.moved (unmoved (E (Some b)) c (k.entries ++ one (Some b) ∷ []) (one (Some b)) b refl agrees);
     number = number ∙ k.number;
     begun = begun;
     small = small;
     agrees = agreed;
-    counted = counts_end q.catalog c events (event.Take c text (Some b)) k.answered k.waiting h k.answered k.counted (one (Some b)) d [] k.begun (none_yet c events text (Some b)) (none_counted q.catalog text [] refl) (pairs_once b turned) (fits_once b caused) as_read;
+    counted = counts_end q.catalog c events (event.Take c text (Some b)) k.entries k.waiting h k.answered k.counted (one (Some b)) d [] k.begun (none_yet c events text (Some b)) (none_counted q.catalog text [] refl) (pairs_once b turned) (fits_once b caused) as_read;
     filled = filled;
     fits = fits;
     stored = still_stored (Some b);
-    rolled = rolls_end q.catalog c events (event.Take c text (Some b)) k.answered k.waiting h k.answered k.rolled (one (Some b)) d [] (none_yet c events text (Some b)) (λ read. none_found (E (Some b)) (reads_vacuum text));
-    shows = shows_end q.catalog c events (event.Take c text (Some b)) k.answered k.answered h k.shows k.counted.paired (one (Some b)) b d refl shows;
+    rolled = rolls_end q.catalog c events (event.Take c text (Some b)) k.entries k.waiting h k.answered k.rolled (one (Some b)) d [] (none_yet c events text (Some b)) (λ read. none_found (E (Some b)) (reads_vacuum text));
+    shows = shows_end q.catalog c events (event.Take c text (Some b)) k.entries k.answered h k.shows k.counted.paired (one (Some b)) b d refl shows;
   }
     where
       said_now : statements_by c (E (Some b)) ≡ statements_by c events ++ one (Some b) ∷ []
       said_now = take_said c events text (Some b)
 
-      said_more : statements_by c (E (Some b)) ≡ k.answered ++ one (Some b) ∷ []
+      said_more : statements_by c (E (Some b)) ≡ k.entries ++ one (Some b) ∷ []
       said_more = said_now ∙ ap (λ ss. ss ++ one (Some b) ∷ []) said_told
 
   -- what its transaction has noted so far
@@ -382,20 +382,20 @@ module _ (q : Taking) (events : List Event) (states : ℕ → ClientState) (ex :
   so_id = id_of c h.begun
 
   abbrev so_noted : List ReadItem
-  so_noted = read_items_since events c h.begun k.answered
+  so_noted = read_items_since events c h.begun k.entries
 
   -- what it then sees
   abbrev SeesThen : Client → Type 0
-  SeesThen d = ViewBy q.catalog events c k.answered h → IfSome d.txn (IsViewOf q.catalog (E None) c (rest_of (from_begin d.begun k.answered)))
+  SeesThen d = ViewBy q.catalog events c k.entries h → IfSome d.txn (IsViewOf q.catalog (E None) c (rest_of (from_begin d.begun k.entries)))
 
   -- it waits
   waits : (d : Client) → Turned None → reads_begin text ≡ false → reads_vacuum text ≡ is_some d.vacuum → is_some h.txn ≡ not (is_some d.vacuum) → d.number ≡ h.number → d.begun ≡ h.begun
-      → ClientByHistory (E None) c d.begun k.answered (Some (one None)) d.plan d.txn d.vacuum → ReadByTxn so_noted d.txn × WaitCounted q.catalog text so_id so_noted [] d.vacuum d.txn → IfSome d.txn (IsFilled (E None) c (rest_of (from_begin d.begun k.answered))) → IfSome d.txn (IsFitOrReadTxn q.catalog (E None) c (rest_of (from_begin d.begun k.answered))) → WaitRolls (E None) (reads_vacuum text) [] d.vacuum d.txn → SeesThen d → So None d
+      → ClientByHistory (E None) c d.begun k.entries (Some (one None)) d.plan d.txn d.vacuum → ReadByTxn so_noted d.txn × WaitCounted q.catalog text so_id so_noted [] d.vacuum d.txn → IfSome d.txn (IsFilled (E None) c (rest_of (from_begin d.begun k.entries))) → IfSome d.txn (IsFitOrReadTxn q.catalog (E None) c (rest_of (from_begin d.begun k.entries))) → WaitRolls (E None) (reads_vacuum text) [] d.vacuum d.txn → SeesThen d → So None d
   waits d turned no_begin vacuums open_txn number begun agreed begins_counted filled fits rolls sees = record {
-    answered = k.answered;
+    entries = k.entries;
     waiting = Some (one None);
     same = take_said c events text None ∙ ap (λ ss. ss ++ one None ∷ []) said_told;
-    answered = answered_stay q.catalog c events (event.Take c text None) k.answered (inr (inl (one None, take_said c events text None))) k.answered;
+    answered = answered_stay q.catalog c events (event.Take c text None) k.entries (inr (inl (one None, take_said c events text None))) k.answered;
     waits = record {
       unanswered = refl;
       accepted = within_now None;
@@ -404,17 +404,17 @@ module _ (q : Taking) (events : List Event) (states : ℕ → ClientState) (ex :
       opened = ap (λ es. is_open es c) (before_taken events (event.Take c text None) text None) ∙ opened c ∙ open_txn;
       stays = λ a t. none (turned a (away None a t));
     };
-    moved = moved_still q.catalog events (event.Take c text None) c k.answered k.answered k.answered k.moved;
+    moved = moved_still q.catalog events (event.Take c text None) c k.entries k.entries k.answered k.moved;
     number = number ∙ k.number;
     begun = begun ∙ k.begun;
     small = subst (λ n. n < 2 ^ 64) (sym begun) k.small;
     agrees = agreed;
-    counted = counts_on q.catalog c events (event.Take c text None) k.answered k.waiting h k.answered k.counted (one None) d [] begun (none_yet c events text None) begins_counted.0 begins_counted.1;
+    counted = counts_on q.catalog c events (event.Take c text None) k.entries k.waiting h k.answered k.counted (one None) d [] begun (none_yet c events text None) begins_counted.0 begins_counted.1;
     filled = filled;
     fits = fits;
     stored = still_stored None;
-    rolled = rolls_on q.catalog c events (event.Take c text None) k.answered k.waiting h k.answered k.rolled (one None) d [] (none_yet c events text None) rolls;
-    shows = shows_further q.catalog c events (event.Take c text None) k.answered k.answered h k.shows d sees;
+    rolled = rolls_on q.catalog c events (event.Take c text None) k.entries k.waiting h k.answered k.rolled (one None) d [] (none_yet c events text None) rolls;
+    shows = shows_further q.catalog c events (event.Take c text None) k.entries k.answered h k.shows d sees;
   }
     where
       none : {b : Answer} → (◌≡◌ {A = Option Answer} None (Some b)) ⊎ (◌≡◌ {A = Option Answer} None (Some answer.NoMemory)) → ⊥
@@ -423,10 +423,10 @@ module _ (q : Taking) (events : List Event) (states : ℕ → ClientState) (ex :
 
   -- and its transaction is open
   waits_open : (d : Client) → Turned None → reads_begin text ≡ false → reads_vacuum text ≡ false → is_some h.txn ≡ true → d.number ≡ h.number → d.begun ≡ h.begun → d.vacuum ≡ h.vacuum
-      → DoingByHistory (E None) c d.begun k.answered (Some (one None)) d.plan d.txn → ReadByTxn so_noted d.txn × OpenCounted text so_id so_noted [] d.txn → IfSome d.txn (IsFilled (E None) c (rest_of (from_begin d.begun k.answered))) → IfSome d.txn (IsFitOrReadTxn q.catalog (E None) c (rest_of (from_begin d.begun k.answered))) → WaitRolls (E None) (reads_vacuum text) [] None d.txn → SeesThen d → So None d
+      → DoingByHistory (E None) c d.begun k.entries (Some (one None)) d.plan d.txn → ReadByTxn so_noted d.txn × OpenCounted text so_id so_noted [] d.txn → IfSome d.txn (IsFilled (E None) c (rest_of (from_begin d.begun k.entries))) → IfSome d.txn (IsFitOrReadTxn q.catalog (E None) c (rest_of (from_begin d.begun k.entries))) → WaitRolls (E None) (reads_vacuum text) [] None d.txn → SeesThen d → So None d
   waits_open d turned no_begin no_vacuum open_txn number begun same agreed begins_counted filled fits rolls sees =
       let free : d.vacuum ≡ None = same ∙ ready.idle.free in
-      waits d turned no_begin (no_vacuum ∙ sym (ap is_some free)) (open_txn ∙ sym (ap (λ o. not (is_some o)) free)) number begun (subst (ClientByHistory (E None) c d.begun k.answered (Some (one None)) d.plan d.txn) (sym free) agreed) (begins_counted.0, subst (λ v. WaitCounted q.catalog text so_id so_noted [] v d.txn) (sym free) begins_counted.1) filled fits (subst (λ v. WaitRolls (E None) (reads_vacuum text) [] v d.txn) (sym free) rolls) sees
+      waits d turned no_begin (no_vacuum ∙ sym (ap is_some free)) (open_txn ∙ sym (ap (λ o. not (is_some o)) free)) number begun (subst (ClientByHistory (E None) c d.begun k.entries (Some (one None)) d.plan d.txn) (sym free) agreed) (begins_counted.0, subst (λ v. WaitCounted q.catalog text so_id so_noted [] v d.txn) (sym free) begins_counted.1) filled fits (subst (λ v. WaitRolls (E None) (reads_vacuum text) [] v d.txn) (sym free) rolls) sees
 
   ---- where it is then
 
@@ -434,99 +434,99 @@ module _ (q : Taking) (events : List Event) (states : ℕ → ClientState) (ex :
   on_free : (result : Option Answer) (n : ℕ) (answered : List Executed) (w : Option Executed) (p : Option Planned) (o : Option TxnAt) → DoingByHistory (E result) c n answered w p o → ClientByHistory (E result) c n answered w p o h.vacuum
   on_free result n answered w p o = subst (ClientByHistory (E result) c n answered w p o) (sym ready.idle.free)
 
-  begun_plain : (b : Answer) → is_done (Some b) ≡ false → h.begun ≡ begun_in (k.answered ++ one (Some b) ∷ [])
-  begun_plain b d = k.begun ∙ sym (begun_same k.answered (one (Some b)) (undone_begins (one (Some b)) b refl d))
+  begun_plain : (b : Answer) → is_done (Some b) ≡ false → h.begun ≡ begun_in (k.entries ++ one (Some b) ∷ [])
+  begun_plain b d = k.begun ∙ sym (begun_same k.entries (one (Some b)) (undone_begins (one (Some b)) b refl d))
 
-  stands_none : (b : Answer) (p : Option Planned) → is_done (Some b) ≡ false → open_after k.answered ≡ false → DoingByHistory (E (Some b)) c h.begun (k.answered ++ one (Some b) ∷ []) None p None
-  stands_none b p d f = (refl, after_more k.answered (one (Some b)) ∙ ap (λ w. is_open_after w (one (Some b))) f ∙ after_plain false (one (Some b)) (undone_begins (one (Some b)) b refl d) (λ e. clash (sym e)))
+  stands_none : (b : Answer) (p : Option Planned) → is_done (Some b) ≡ false → open_after k.entries ≡ false → DoingByHistory (E (Some b)) c h.begun (k.entries ++ one (Some b) ∷ []) None p None
+  stands_none b p d f = (refl, after_more k.entries (one (Some b)) ∙ ap (λ w. is_open_after w (one (Some b))) f ∙ after_plain false (one (Some b)) (undone_begins (one (Some b)) b refl d) (λ e. clash (sym e)))
 
   -- the open transaction, which does nothing, goes on
-  stands_held : (b : Answer) (p : Option Planned) (t u : TxnAt) → IsMiddle b → reads_commit text ≡ false → u.id ≡ t.id → u.doing ≡ doing.Idle → open_after k.answered ≡ true → (o : IsOpenAs c h.begun k.answered t) → SeenBy (read_items_of_body events c o.body) t.seen → u.seen.reads ≡ t.seen.reads → u.seen.scans ≡ t.seen.scans → DoingByHistory (E (Some b)) c h.begun (k.answered ++ one (Some b) ∷ []) None p (Some u)
+  stands_held : (b : Answer) (p : Option Planned) (t u : TxnAt) → IsMiddle b → reads_commit text ≡ false → u.id ≡ t.id → u.doing ≡ doing.Idle → open_after k.entries ≡ true → (o : IsOpenAs c h.begun k.entries t) → SeenBy (read_items_of_body events c o.body) t.seen → u.seen.reads ≡ t.seen.reads → u.seen.scans ≡ t.seen.scans → DoingByHistory (E (Some b)) c h.begun (k.entries ++ one (Some b) ∷ []) None p (Some u)
   stands_held b p t u m no_commit same idle is o noting r x = (
-    after_more k.answered (one (Some b)) ∙ ap (λ w. is_open_after w (one (Some b))) is ∙ after_plain true (one (Some b)) (undone_begins (one (Some b)) b refl m.undone) (λ e. middle_ends (one (Some b)) b refl m no_commit),
-    open_more c h.begun k.answered t u (one (Some b)) same (middle_ends (one (Some b)) b refl m no_commit) o,
+    after_more k.entries (one (Some b)) ∙ ap (λ w. is_open_after w (one (Some b))) is ∙ after_plain true (one (Some b)) (undone_begins (one (Some b)) b refl m.undone) (λ e. middle_ends (one (Some b)) b refl m no_commit),
+    open_more c h.begun k.entries t u (one (Some b)) same (middle_ends (one (Some b)) b refl m no_commit) o,
     subst (IsDoing (E (Some b)) c u p None) (sym idle) refl,
-    subst (λ d. IsReadSetOf (E (Some b)) c (k.answered ++ one (Some b) ∷ []) (o.body ++ one (Some b) ∷ []) u d None) (sym idle) (noted_more q.catalog events (event.Take c text (Some b)) c h.begun k.answered t o k.answered (one (Some b)) t.seen u.seen r x noting),
+    subst (λ d. IsReadSetOf (E (Some b)) c (k.entries ++ one (Some b) ∷ []) (o.body ++ one (Some b) ∷ []) u d None) (sym idle) (noted_more q.catalog events (event.Take c text (Some b)) c h.begun k.entries t o k.answered (one (Some b)) t.seen u.seen r x noting),
   )
 
   idle_of : (t : TxnAt) → h.txn ≡ Some t → t.doing ≡ doing.Idle
   idle_of t e = subst (λ (o : Option TxnAt). IfSome o (λ u. u.doing ≡ doing.Idle)) e ready.idle.still
 
-  stands_open : (t : TxnAt) → h.txn ≡ Some t → (open_after k.answered ≡ true) × (o : IsOpenAs c h.begun k.answered t) × SeenBy (read_items_of_body events c o.body) t.seen
-  stands_open t e = let s = subst (DoingByHistory events c h.begun k.answered k.waiting h.plan) e stands_free in (s.0, s.1, subst (λ d. IsReadSetOf events c k.answered s.1.body t d k.waiting) (idle_of t e) s.3)
+  stands_open : (t : TxnAt) → h.txn ≡ Some t → (open_after k.entries ≡ true) × (o : IsOpenAs c h.begun k.entries t) × SeenBy (read_items_of_body events c o.body) t.seen
+  stands_open t e = let s = subst (DoingByHistory events c h.begun k.entries k.waiting h.plan) e stands_free in (s.0, s.1, subst (λ d. IsReadSetOf events c k.entries s.1.body t d k.waiting) (idle_of t e) s.3)
 
   noted_open : (t : TxnAt) → h.txn ≡ Some t → ReadItemsAre so_noted t.seen.reads t.seen.scans
   noted_open t e = idle_noted so_noted t.seen t.doing (idle_of t e) (subst (ReadByTxn so_noted) e k.counted.as_read)
 
   -- it makes no call, and notes nothing
-  noted_at_once : (result : Option Answer) → read_items_since (E result) c h.begun (k.answered ++ one result ∷ []) ≡ so_noted
-  noted_at_once result = since_same (E result) c h.begun k.answered (one result) (none_called (E result) c (one result) (none_yet c events text result)) ∙ since_stay q.catalog events (event.Take c text result) c h.begun k.answered k.answered
+  noted_at_once : (result : Option Answer) → read_items_since (E result) c h.begun (k.entries ++ one result ∷ []) ≡ so_noted
+  noted_at_once result = since_same (E result) c h.begun k.entries (one result) (none_called (E result) c (one result) (none_yet c events text result)) ∙ since_stay q.catalog events (event.Take c text result) c h.begun k.entries k.answered
 
   -- no more keys are written than rows counted
   filled_open : (t : TxnAt) (e : h.txn ≡ Some t) → IsFilledBy (rows_counted_by (stands_open t e).1.body) (records_found_by events c (stands_open t e).1.body) t.seen
   filled_open t e =
-      let s : IsFilledIn events c (rest_of (from_begin h.begun k.answered)) t.seen t.doing = subst (λ (o : Option TxnAt). IfSome o (IsFilled events c (rest_of (from_begin h.begun k.answered)))) e k.filled in
-      subst (λ r. IsFilledIn events c (rest_of r) t.seen doing.Idle) (stands_open t e).1.since (subst (IsFilledIn events c (rest_of (from_begin h.begun k.answered)) t.seen) (idle_of t e) s)
+      let s : IsFilledIn events c (rest_of (from_begin h.begun k.entries)) t.seen t.doing = subst (λ (o : Option TxnAt). IfSome o (IsFilled events c (rest_of (from_begin h.begun k.entries)))) e k.filled in
+      subst (λ r. IsFilledIn events c (rest_of r) t.seen doing.Idle) (stands_open t e).1.since (subst (IsFilledIn events c (rest_of (from_begin h.begun k.entries)) t.seen) (idle_of t e) s)
 
-  filled_reading : (t : TxnAt) → h.txn ≡ Some t → IsFilledBy (rows_counted_by (rest_of (from_begin h.begun k.answered))) (records_found_by (E None) c (rest_of (from_begin h.begun k.answered))) t.seen
-  filled_reading t e = subst (IsFilledIn (E None) c (rest_of (from_begin h.begun k.answered)) t.seen) (idle_of t e) (filled_stays q.catalog events (event.Take c text None) c (rest_of (from_begin h.begun k.answered)) (Some t) (rest_all (IsAnswered q.catalog events c) h.begun k.answered k.answered) (subst (λ (o : Option TxnAt). IfSome o (IsFilled events c (rest_of (from_begin h.begun k.answered)))) e k.filled))
+  filled_reading : (t : TxnAt) → h.txn ≡ Some t → IsFilledBy (rows_counted_by (rest_of (from_begin h.begun k.entries))) (records_found_by (E None) c (rest_of (from_begin h.begun k.entries))) t.seen
+  filled_reading t e = subst (IsFilledIn (E None) c (rest_of (from_begin h.begun k.entries)) t.seen) (idle_of t e) (filled_stays q.catalog events (event.Take c text None) c (rest_of (from_begin h.begun k.entries)) (Some t) (rest_all (IsAnswered q.catalog events c) h.begun k.entries k.answered) (subst (λ (o : Option TxnAt). IfSome o (IsFilled events c (rest_of (from_begin h.begun k.entries)))) e k.filled))
 
   -- its statements were answered
   body_open : (t : TxnAt) (e : h.txn ≡ Some t) → AllByRecursion (IsAnswered q.catalog events c) (stands_open t e).1.body
-  body_open t e = let o = (stands_open t e).1 in since_all (IsAnswered q.catalog events c) h.begun k.answered o.begin o.body k.answered o.since
+  body_open t e = let o = (stands_open t e).1 in since_all (IsAnswered q.catalog events c) h.begun k.entries o.begin o.body k.answered o.since
 
   -- what it sees fits, or one of them read it
-  fit_stays : (result : Option Answer) → IfSome h.txn (IsFitOrReadTxn q.catalog (E result) c (rest_of (from_begin h.begun k.answered)))
-  fit_stays result = fits_stay q.catalog events (event.Take c text result) c h.begun k.answered h.txn k.answered k.fits
+  fit_stays : (result : Option Answer) → IfSome h.txn (IsFitOrReadTxn q.catalog (E result) c (rest_of (from_begin h.begun k.entries)))
+  fit_stays result = fits_stay q.catalog events (event.Take c text result) c h.begun k.entries h.txn k.answered k.fits
 
-  fit_reading : (t : TxnAt) → h.txn ≡ Some t → SeesFitOrRead q.catalog (E None) c (rest_of (from_begin h.begun k.answered)) t.seen
-  fit_reading t e = subst (SeesFitOrReadIn q.catalog (E None) c (rest_of (from_begin h.begun k.answered)) t.seen) (idle_of t e) (subst (λ (o : Option TxnAt). IfSome o (IsFitOrReadTxn q.catalog (E None) c (rest_of (from_begin h.begun k.answered)))) e (fit_stays None))
+  fit_reading : (t : TxnAt) → h.txn ≡ Some t → SeesFitOrRead q.catalog (E None) c (rest_of (from_begin h.begun k.entries)) t.seen
+  fit_reading t e = subst (SeesFitOrReadIn q.catalog (E None) c (rest_of (from_begin h.begun k.entries)) t.seen) (idle_of t e) (subst (λ (o : Option TxnAt). IfSome o (IsFitOrReadTxn q.catalog (E None) c (rest_of (from_begin h.begun k.entries)))) e (fit_stays None))
 
   fit_more : (b : Answer) (t : TxnAt) (e : h.txn ≡ Some t) → SeesFitOrRead q.catalog (E (Some b)) c ((stands_open t e).1.body ++ one (Some b) ∷ []) t.seen
   fit_more b t e =
-      let s : SeesFitOrReadIn q.catalog (E (Some b)) c (rest_of (from_begin h.begun k.answered)) t.seen t.doing = subst (λ (o : Option TxnAt). IfSome o (IsFitOrReadTxn q.catalog (E (Some b)) c (rest_of (from_begin h.begun k.answered)))) e (fit_stays (Some b)) in
+      let s : SeesFitOrReadIn q.catalog (E (Some b)) c (rest_of (from_begin h.begun k.entries)) t.seen t.doing = subst (λ (o : Option TxnAt). IfSome o (IsFitOrReadTxn q.catalog (E (Some b)) c (rest_of (from_begin h.begun k.entries)))) e (fit_stays (Some b)) in
       fits_more q.catalog (E (Some b)) c (stands_open t e).1.body (one (Some b)) t.seen
-      (subst (λ r. SeesFitOrReadIn q.catalog (E (Some b)) c (rest_of r) t.seen doing.Idle) (stands_open t e).1.since (subst (SeesFitOrReadIn q.catalog (E (Some b)) c (rest_of (from_begin h.begun k.answered)) t.seen) (idle_of t e) s))
+      (subst (λ r. SeesFitOrReadIn q.catalog (E (Some b)) c (rest_of r) t.seen doing.Idle) (stands_open t e).1.since (subst (SeesFitOrReadIn q.catalog (E (Some b)) c (rest_of (from_begin h.begun k.entries)) t.seen) (idle_of t e) s))
 
   -- what it sees it has
   sees_open : (t : TxnAt) (e : h.txn ≡ Some t) → SeesOwn q.catalog events c (stands_open t e).1.body t.seen
   sees_open t e =
-      let s : SeesOwnIn q.catalog events c (rest_of (from_begin h.begun k.answered)) t.seen t.doing = subst (λ (o : Option TxnAt). IfSome o (IsViewOf q.catalog events c (rest_of (from_begin h.begun k.answered)))) e k.shows.sees_own in
-      subst (λ r. SeesOwnIn q.catalog events c (rest_of r) t.seen doing.Idle) (stands_open t e).1.since (subst (SeesOwnIn q.catalog events c (rest_of (from_begin h.begun k.answered)) t.seen) (idle_of t e) s)
+      let s : SeesOwnIn q.catalog events c (rest_of (from_begin h.begun k.entries)) t.seen t.doing = subst (λ (o : Option TxnAt). IfSome o (IsViewOf q.catalog events c (rest_of (from_begin h.begun k.entries)))) e k.shows.sees_own in
+      subst (λ r. SeesOwnIn q.catalog events c (rest_of r) t.seen doing.Idle) (stands_open t e).1.since (subst (SeesOwnIn q.catalog events c (rest_of (from_begin h.begun k.entries)) t.seen) (idle_of t e) s)
 
-  sees_reading : (t : TxnAt) → h.txn ≡ Some t → ViewBy q.catalog events c k.answered h → SeesOwn q.catalog (E None) c (rest_of (from_begin h.begun k.answered)) t.seen
-  sees_reading t e x = subst (SeesOwnIn q.catalog (E None) c (rest_of (from_begin h.begun k.answered)) t.seen) (idle_of t e) (showing_stays q.catalog events (event.Take c text None) c h.begun k.answered (Some t) k.answered (subst (λ (o : Option TxnAt). IfSome o (IsViewOf q.catalog events c (rest_of (from_begin h.begun k.answered)))) e x.sees_own))
+  sees_reading : (t : TxnAt) → h.txn ≡ Some t → ViewBy q.catalog events c k.entries h → SeesOwn q.catalog (E None) c (rest_of (from_begin h.begun k.entries)) t.seen
+  sees_reading t e x = subst (SeesOwnIn q.catalog (E None) c (rest_of (from_begin h.begun k.entries)) t.seen) (idle_of t e) (showing_stays q.catalog events (event.Take c text None) c h.begun k.entries (Some t) k.answered (subst (λ (o : Option TxnAt). IfSome o (IsViewOf q.catalog events c (rest_of (from_begin h.begun k.entries)))) e x.sees_own))
 
   -- what it said then
-  said_then : (b : Answer) → statements_by c (E (Some b)) ≡ k.answered ++ one (Some b) ∷ []
+  said_then : (b : Answer) → statements_by c (E (Some b)) ≡ k.entries ++ one (Some b) ∷ []
   said_then b = take_said c events text (Some b) ∙ ap (λ ss. ss ++ one (Some b) ∷ []) said_told
 
-  stands_closed : h.txn ≡ None → open_after k.answered ≡ false
-  stands_closed e = (subst (DoingByHistory events c h.begun k.answered k.waiting h.plan) e stands_free).1
+  stands_closed : h.txn ≡ None → open_after k.entries ≡ false
+  stands_closed e = (subst (DoingByHistory events c h.begun k.entries k.waiting h.plan) e stands_free).1
 
   -- as it was
   same : (b : Answer) → IsMiddle b → (is_some h.txn ≡ true → reads_commit text ≡ false) → (is_some h.txn ≡ true → changes_nothing b ≡ true) → Caused b → Turned (Some b) → So (Some b) h
-  same b m no_commit idles caused turned = at_once b h m.agrees caused turned refl (begun_plain b m.undone) k.small (on_free (Some b) h.begun (k.answered ++ one (Some b) ∷ []) None h.plan h.txn (by h.txn refl)) (subst (λ ns. ReadByTxn ns h.txn) (sym (noted_at_once (Some b))) k.counted.as_read) (filled_by h.txn refl) (fits_by h.txn refl) (shows_by h.txn refl)
+  same b m no_commit idles caused turned = at_once b h m.agrees caused turned refl (begun_plain b m.undone) k.small (on_free (Some b) h.begun (k.entries ++ one (Some b) ∷ []) None h.plan h.txn (by h.txn refl)) (subst (λ ns. ReadByTxn ns h.txn) (sym (noted_at_once (Some b))) k.counted.as_read) (filled_by h.txn refl) (fits_by h.txn refl) (shows_by h.txn refl)
     where
-      by : (o : Option TxnAt) → h.txn ≡ o → DoingByHistory (E (Some b)) c h.begun (k.answered ++ one (Some b) ∷ []) None h.plan o
+      by : (o : Option TxnAt) → h.txn ≡ o → DoingByHistory (E (Some b)) c h.begun (k.entries ++ one (Some b) ∷ []) None h.plan o
       by None e = stands_none b h.plan m.undone (stands_closed e)
       by (Some t) e = let s = stands_open t e in stands_held b h.plan t t m (no_commit (ap is_some e)) refl (idle_of t e) s.0 s.1 s.2 refl refl
 
-      filled_by : (o : Option TxnAt) → h.txn ≡ o → IfSome o (IsFilled (E (Some b)) c (rest_of (from_begin h.begun (k.answered ++ one (Some b) ∷ []))))
+      filled_by : (o : Option TxnAt) → h.txn ≡ o → IfSome o (IsFilled (E (Some b)) c (rest_of (from_begin h.begun (k.entries ++ one (Some b) ∷ []))))
       filled_by None e = tt
       filled_by (Some t) e =
           let o = (stands_open t e).1 in
-          filled_idle (E (Some b)) c h.begun k.answered (one (Some b)) o.begin o.body t o.since (idle_of t e) (filled_more q.catalog events (event.Take c text (Some b)) c o.body (one (Some b)) t.seen (body_open t e) (filled_open t e))
+          filled_idle (E (Some b)) c h.begun k.entries (one (Some b)) o.begin o.body t o.since (idle_of t e) (filled_more q.catalog events (event.Take c text (Some b)) c o.body (one (Some b)) t.seen (body_open t e) (filled_open t e))
 
-      fits_by : (o : Option TxnAt) → h.txn ≡ o → IfSome o (IsFitOrReadTxn q.catalog (E (Some b)) c (rest_of (from_begin h.begun (k.answered ++ one (Some b) ∷ []))))
+      fits_by : (o : Option TxnAt) → h.txn ≡ o → IfSome o (IsFitOrReadTxn q.catalog (E (Some b)) c (rest_of (from_begin h.begun (k.entries ++ one (Some b) ∷ []))))
       fits_by None e = tt
-      fits_by (Some t) e = let o = (stands_open t e).1 in fits_idle q.catalog (E (Some b)) c h.begun k.answered (one (Some b)) o.begin o.body t o.since (idle_of t e) (fit_more b t e)
+      fits_by (Some t) e = let o = (stands_open t e).1 in fits_idle q.catalog (E (Some b)) c h.begun k.entries (one (Some b)) o.begin o.body t o.since (idle_of t e) (fit_more b t e)
 
-      shows_by : (o : Option TxnAt) → h.txn ≡ o → (open_after k.answered ≡ true → GivesOwn q.catalog (E (Some b)) c (rest_of (from_begin (begun_in k.answered) k.answered)) (one (Some b)) b) × IfSome o (IsViewOf q.catalog (E (Some b)) c (rest_of (from_begin h.begun (k.answered ++ one (Some b) ∷ []))))
+      shows_by : (o : Option TxnAt) → h.txn ≡ o → (open_after k.entries ≡ true → GivesOwn q.catalog (E (Some b)) c (rest_of (from_begin (begun_in k.entries) k.entries)) (one (Some b)) b) × IfSome o (IsViewOf q.catalog (E (Some b)) c (rest_of (from_begin h.begun (k.entries ++ one (Some b) ∷ []))))
       shows_by None e = ((λ opens. clash (sym opens ∙ stands_closed e)), tt)
       shows_by (Some t) e =
           let o = (stands_open t e).1 in
-          next_same q.catalog c events (event.Take c text (Some b)) k.answered k.answered h.begun o.begin o.body o.since t.seen (sees_open t e) (one (Some b)) b t refl (idles (ap is_some e)) (idle_of t e) refl
+          next_same q.catalog c events (event.Take c text (Some b)) k.entries k.answered h.begun o.begin o.body o.since t.seen (sees_open t e) (one (Some b)) b t refl (idles (ap is_some e)) (idle_of t e) refl
 
   refused_middle : (r : Refusal) → IsMiddle (answer.Refused r)
   refused_middle r = record { undone = refl; agrees = refl }
@@ -543,14 +543,14 @@ module _ (q : Taking) (events : List Event) (states : ℕ → ClientState) (ex :
   -- ended with its transaction
   at_end : (b : Answer) → is_conflict (Some b) ≡ false → Caused b → Turned (Some b) → begins (one (Some b)) ≡ false → ends (one (Some b)) ≡ true → ((body : List Executed) → GivesOwn q.catalog (E (Some b)) c body (one (Some b)) b) → So (Some b) (resting h)
   at_end b agrees caused turned no_begin over is_known =
-      at_once b (resting h) agrees caused turned refl (k.begun ∙ sym (begun_same k.answered (one (Some b)) no_begin)) k.small (on_free (Some b) h.begun (k.answered ++ one (Some b) ∷ []) None None None (refl, after_more k.answered (one (Some b)) ∙ after_end (open_after k.answered) (one (Some b)) b no_begin over refl)) tt tt tt ((λ opens. is_known (rest_of (from_begin (begun_in k.answered) k.answered))), tt)
+      at_once b (resting h) agrees caused turned refl (k.begun ∙ sym (begun_same k.entries (one (Some b)) no_begin)) k.small (on_free (Some b) h.begun (k.entries ++ one (Some b) ∷ []) None None None (refl, after_more k.entries (one (Some b)) ∙ after_end (open_after k.entries) (one (Some b)) b no_begin over refl)) tt tt tt ((λ opens. is_known (rest_of (from_begin (begun_in k.entries) k.entries))), tt)
 
   -- a transaction begins
   begins_now : h.txn ≡ None → Reads text statement.Begin → h.begun + 1 < 2 ^ 64 → Turned (Some answer.Done) → So (Some answer.Done) (with_begun h (next_id h))
   begins_now e reads few turned =
-      at_once answer.Done (with_begun h (next_id h)) refl (λ z. inl reads) turned refl (ap (λ n. n + 1) k.begun ∙ sym (begun_more k.answered (one (Some answer.Done)) begun_now)) few
-      (after_more k.answered (one (Some answer.Done)) ∙ after_begin (open_after k.answered) (one (Some answer.Done)) begun_now, opens, refl, record { reads = tt; scans = tt }) (subst (λ ss. ReadItemsAre (read_items_of_body (E (Some answer.Done)) c (rest_of ss)) [] []) (sym opens.since) (record { reads = refl; scans = refl }))
-      (filled_nothing (rows_counted_by (rest_of (from_begin (h.begun + 1) (k.answered ++ one (Some answer.Done) ∷ [])))) (records_found_by (E (Some answer.Done)) c (rest_of (from_begin (h.begun + 1) (k.answered ++ one (Some answer.Done) ∷ []))))) (fit_nothing q.catalog (E (Some answer.Done)) c (rest_of (from_begin (h.begun + 1) (k.answered ++ one (Some answer.Done) ∷ [])))) ((λ was. tt), (λ key as_read fits. clash (sym as_read)))
+      at_once answer.Done (with_begun h (next_id h)) refl (λ z. inl reads) turned refl (ap (λ n. n + 1) k.begun ∙ sym (begun_more k.entries (one (Some answer.Done)) begun_now)) few
+      (after_more k.entries (one (Some answer.Done)) ∙ after_begin (open_after k.entries) (one (Some answer.Done)) begun_now, opens, refl, record { reads = tt; scans = tt }) (subst (λ ss. ReadItemsAre (read_items_of_body (E (Some answer.Done)) c (rest_of ss)) [] []) (sym opens.since) (record { reads = refl; scans = refl }))
+      (filled_nothing (rows_counted_by (rest_of (from_begin (h.begun + 1) (k.entries ++ one (Some answer.Done) ∷ [])))) (records_found_by (E (Some answer.Done)) c (rest_of (from_begin (h.begun + 1) (k.entries ++ one (Some answer.Done) ∷ []))))) (fit_nothing q.catalog (E (Some answer.Done)) c (rest_of (from_begin (h.begun + 1) (k.entries ++ one (Some answer.Done) ∷ [])))) ((λ was. tt), (λ key as_read fits. clash (sym as_read)))
     where
       begun_now : begins (one (Some answer.Done)) ≡ true
       begun_now = ap (λ b. b && true) ((begin_read text).1 reads)
@@ -558,11 +558,11 @@ module _ (q : Taking) (events : List Event) (states : ℕ → ClientState) (ex :
       ids : (n : ℕ) → n + 1 ≡ suc n
       ids n = omega arith
 
-      opens : IsOpenAs c (h.begun + 1) (k.answered ++ one (Some answer.Done) ∷ []) (begun (next_id h))
+      opens : IsOpenAs c (h.begun + 1) (k.entries ++ one (Some answer.Done) ∷ []) (begun (next_id h))
       opens = record {
         begin = one (Some answer.Done);
         body = [];
-        since = ap (λ n. from_begin n (k.answered ++ one (Some answer.Done) ∷ [])) (ap (λ n. n + 1) k.begun ∙ ids (begun_in k.answered)) ∙ since_new k.answered (one (Some answer.Done)) begun_now;
+        since = ap (λ n. from_begin n (k.entries ++ one (Some answer.Done) ∷ [])) (ap (λ n. n + 1) k.begun ∙ ids (begun_in k.entries)) ∙ since_new k.entries (one (Some answer.Done)) begun_now;
         goes_on = tt;
         id = ap (λ n. id_of n (h.begun + 1)) k.number;
         client = ready.small;
@@ -576,7 +576,7 @@ module _ (q : Taking) (events : List Event) (states : ℕ → ClientState) (ex :
         s.0,
         record { begin = s.1.begin; body = s.1.body; since = s.1.since; goes_on = s.1.goes_on; id = s.1.id; client = s.1.client },
         record { text = (commit_read text).1 reads; same = refl; moment = moment; stage = subst (λ ms. StageByCalls (work_of t q.now) ms (preparing (work_of t q.now) 0)) (sym (none_yet c events text None)) (begins_standing (work_of t q.now)) },
-        let seen : SeenBy (read_items_of_body (E None) c s.1.body) t.seen = noted_still q.catalog events (event.Take c text None) c h.begun k.answered t s.1 k.answered t.seen s.2 in
+        let seen : SeenBy (read_items_of_body (E None) c s.1.body) t.seen = noted_still q.catalog events (event.Take c text None) c h.begun k.entries t s.1 k.answered t.seen s.2 in
             (work_by (read_items_of_body (E None) c s.1.body) t q.now seen (sound t e), subst (λ ms. ChecksBy (read_items_of_body (E None) c s.1.body) (work_of t q.now) ms (preparing (work_of t q.now) 0)) (sym (none_yet c events text None)) (begins_checked (read_items_of_body (E None) c s.1.body) (work_of t q.now))),
       ) (noted_open t e, ((commit_read text).1 reads, s.1.id, (sound t e).kept.valid, commit_begins so_noted (work_of t q.now))) tt tt tt (λ z. tt)
 
@@ -605,7 +605,7 @@ module _ (q : Taking) (events : List Event) (states : ℕ → ClientState) (ex :
         shut,
         stands_closed shut,
         (sym (ap (count_by removes) (none_yet c events text None)), tt),
-      ) (k.counted.as_read, subst (λ (catalog : List Table). VacuumIsCounted catalog [] (begins_sweep (t ∷ ts))) (sym is_catalog) (sweep_begins t ts)) (subst (λ (o : Option TxnAt). IfSome o (IsFilled (E None) c (rest_of (from_begin h.begun k.answered)))) (sym shut) tt) (subst (λ (o : Option TxnAt). IfSome o (IsFitOrReadTxn q.catalog (E None) c (rest_of (from_begin h.begun k.answered)))) (sym shut) tt) (none_found (E None) (reads_vacuum text)) (λ z. subst (λ (o : Option TxnAt). IfSome o (IsViewOf q.catalog (E None) c (rest_of (from_begin h.begun k.answered)))) (sym shut) tt)
+      ) (k.counted.as_read, subst (λ (catalog : List Table). VacuumIsCounted catalog [] (begins_sweep (t ∷ ts))) (sym is_catalog) (sweep_begins t ts)) (subst (λ (o : Option TxnAt). IfSome o (IsFilled (E None) c (rest_of (from_begin h.begun k.entries)))) (sym shut) tt) (subst (λ (o : Option TxnAt). IfSome o (IsFitOrReadTxn q.catalog (E None) c (rest_of (from_begin h.begun k.entries)))) (sym shut) tt) (none_found (E None) (reads_vacuum text)) (λ z. subst (λ (o : Option TxnAt). IfSome o (IsViewOf q.catalog (E None) c (rest_of (from_begin h.begun k.entries)))) (sym shut) tt)
 
   abbrev given_now : Table → Statement → TxnAt → Answer
   given_now table st t = given_answer t (gives (plan_of table st) (access_of table st) t)
@@ -620,7 +620,7 @@ module _ (q : Taking) (events : List Event) (states : ℕ → ClientState) (ex :
     inner : IsInner text
     inner = inner_read text st on.reads on_a_table
 
-    abbrev s : (open_after k.answered ≡ true) × (o : IsOpenAs c h.begun k.answered t) × SeenBy (read_items_of_body events c o.body) t.seen
+    abbrev s : (open_after k.entries ≡ true) × (o : IsOpenAs c h.begun k.entries t) × SeenBy (read_items_of_body events c o.body) t.seen
     s = stands_open t e
 
     idle : t.doing ≡ doing.Idle
@@ -652,36 +652,36 @@ module _ (q : Taking) (events : List Event) (states : ℕ → ClientState) (ex :
     -- the changes may be too many
     passes : too_many t (changes_on table st (overlay (access_of table st) t.seen)) ≡ true → MayPassMost (E (Some (given_now table st t))) c (one (Some (given_now table st t)))
     passes many =
-        pass_now c h.begun (E (Some (given_now table st t))) k.answered s.1.begin (one (Some (given_now table st t))) s.1.body st k.small (said_then (given_now table st t)) s.1.since s.1.goes_on on.reads
+        pass_now c h.begun (E (Some (given_now table st t))) k.entries s.1.begin (one (Some (given_now table st t))) s.1.body st k.small (said_then (given_now table st t)) s.1.since s.1.goes_on on.reads
         (passes_given (rows_counted_by s.1.body) (records_found_by (E (Some (given_now table st t))) c s.1.body + records_found (calls_of (E (Some (given_now table st t))) c (one (Some (given_now table st t))))) t (access_of table st) table st (filled_found q.catalog events (event.Take c text (Some (given_now table st t))) c s.1.body 0 (records_found (calls_of (E (Some (given_now table st t))) c (one (Some (given_now table st t))))) t.seen (body_open t e) (zero_least (records_found (calls_of (E (Some (given_now table st t))) c (one (Some (given_now table st t)))))) filled_now) many)
 
-    left_filled : IsFilled (E (Some (given_now table st t))) c (rest_of (from_begin h.begun (k.answered ++ one (Some (given_now table st t)) ∷ []))) (given_left t (gives (plan_of table st) (access_of table st) t))
+    left_filled : IsFilled (E (Some (given_now table st t))) c (rest_of (from_begin h.begun (k.entries ++ one (Some (given_now table st t)) ∷ []))) (given_left t (gives (plan_of table st) (access_of table st) t))
     left_filled =
-        filled_idle (E (Some (given_now table st t))) c h.begun k.answered (one (Some (given_now table st t))) s.1.begin s.1.body (given_left t (gives (plan_of table st) (access_of table st) t)) s.1.since (left_idle t (gives (plan_of table st) (access_of table st) t) idle)
+        filled_idle (E (Some (given_now table st t))) c h.begun k.entries (one (Some (given_now table st t))) s.1.begin s.1.body (given_left t (gives (plan_of table st) (access_of table st) t)) s.1.since (left_idle t (gives (plan_of table st) (access_of table st) t) idle)
         (filled_given q.catalog events (event.Take c text (Some (given_now table st t))) c s.1.body (one (Some (given_now table st t))) (plan_of table st) (overlay (access_of table st) t.seen) t 0 (body_open t e) refl finished (zero_least (records_found (calls_of (E (Some (given_now table st t))) c (one (Some (given_now table st t)))))) filled_now)
 
-    left_fits : IsFitOrReadTxn q.catalog (E (Some (given_now table st t))) c (rest_of (from_begin h.begun (k.answered ++ one (Some (given_now table st t)) ∷ []))) (given_left t (gives (plan_of table st) (access_of table st) t))
+    left_fits : IsFitOrReadTxn q.catalog (E (Some (given_now table st t))) c (rest_of (from_begin h.begun (k.entries ++ one (Some (given_now table st t)) ∷ []))) (given_left t (gives (plan_of table st) (access_of table st) t))
     left_fits =
-        fits_idle q.catalog (E (Some (given_now table st t))) c h.begun k.answered (one (Some (given_now table st t))) s.1.begin s.1.body (given_left t (gives (plan_of table st) (access_of table st) t)) s.1.since (left_idle t (gives (plan_of table st) (access_of table st) t) idle)
+        fits_idle q.catalog (E (Some (given_now table st t))) c h.begun k.entries (one (Some (given_now table st t))) s.1.begin s.1.body (given_left t (gives (plan_of table st) (access_of table st) t)) s.1.since (left_idle t (gives (plan_of table st) (access_of table st) t) idle)
         (given_fits q.catalog (plan_of table st) (access_of table st) listed (own_table table st) is on.named refl on.accepted (literals_read text st on.reads) refl (E (Some (given_now table st t))) c (s.1.body ++ one (Some (given_now table st t)) ∷ []) t (fit_more (given_now table st t) t e))
 
     -- a row that doesn't fit was read by a statement before
     misfit_caused : (key : Key) → first_unfit table (overlay (access_of table st) t.seen) ≡ Some key → IsBadRecord q.catalog (E (Some (given_now table st t))) c (one (Some (given_now table st t))) key
     misfit_caused key f =
         let m = was_misfit q.catalog (plan_of table st) (access_of table st) listed (own_table table st) (E (Some (given_now table st t))) c (s.1.body ++ one (Some (given_now table st t)) ∷ []) t.seen key (fit_more (given_now table st t) t e) f in
-        inr (meets_now q.catalog c h.begun (E (Some (given_now table st t))) k.answered s.1.begin (one (Some (given_now table st t))) s.1.body st table key k.small (said_then (given_now table st t)) s.1.since s.1.goes_on on.reads on.named m.0 m.1)
+        inr (meets_now q.catalog c h.begun (E (Some (given_now table st t))) k.entries s.1.begin (one (Some (given_now table st t))) s.1.body st table key k.small (said_then (given_now table st t)) s.1.since s.1.goes_on on.reads on.named m.0 m.1)
 
-    shows_known : ShowsNext q.catalog (E (Some (given_now table st t))) c k.answered (one (Some (given_now table st t))) (given_now table st t) (holding h (given_left t (gives (plan_of table st) (access_of table st) t)))
+    shows_known : ShowsNext q.catalog (E (Some (given_now table st t))) c k.entries (one (Some (given_now table st t))) (given_now table st t) (holding h (given_left t (gives (plan_of table st) (access_of table st) t)))
     shows_known =
-        let before : SeesOwn q.catalog (E (Some (given_now table st t))) c s.1.body t.seen = sees_then q.catalog c events (event.Take c text (Some (given_now table st t))) k.answered k.answered h.begun s.1.begin s.1.body s.1.since t.seen (sees_open t e) (one (Some (given_now table st t))) in
-        next_given q.catalog (E (Some (given_now table st t))) c h.begun k.answered (one (Some (given_now table st t))) s.1.begin s.1.body (plan_of table st) (access_of table st) t s.1.since k.begun is on.reads on.named refl refl refl (left_idle t (gives (plan_of table st) (access_of table st) t) idle) (sound t e).kept.read
+        let before : SeesOwn q.catalog (E (Some (given_now table st t))) c s.1.body t.seen = sees_then q.catalog c events (event.Take c text (Some (given_now table st t))) k.entries k.answered h.begun s.1.begin s.1.body s.1.since t.seen (sees_open t e) (one (Some (given_now table st t))) in
+        next_given q.catalog (E (Some (given_now table st t))) c h.begun k.entries (one (Some (given_now table st t))) s.1.begin s.1.body (plan_of table st) (access_of table st) t s.1.since k.begun is on.reads on.named refl refl refl (left_idle t (gives (plan_of table st) (access_of table st) t) idle) (sound t e).kept.read
         (λ key as_read fits. has_before q.catalog (E (Some (given_now table st t))) c s.1.body (one (Some (given_now table st t))) key (row_seen t.seen.read_set t.seen.writes key) (before key as_read fits))
 
     known : Turned (Some (given_answer t (gives (plan_of table st) (access_of table st) t))) → So (Some (given_answer t (gives (plan_of table st) (access_of table st) t))) (holding h (given_left t (gives (plan_of table st) (access_of table st) t)))
     known turned =
         let m = given_middle (plan_of table st) (overlay (access_of table st) t.seen) t in
         at_once (given_answer t (gives (plan_of table st) (access_of table st) t)) (holding h (given_left t (gives (plan_of table st) (access_of table st) t))) m.agrees (given_caused q.catalog (E (Some (given_answer t (gives (plan_of table st) (access_of table st) t)))) c (one (Some (given_answer t (gives (plan_of table st) (access_of table st) t)))) (plan_of table st) (overlay (access_of table st) t.seen) t on.reads on.named refl open_before misfit_caused passes) turned refl (begun_plain (given_answer t (gives (plan_of table st) (access_of table st) t)) m.undone) k.small
-        (on_free (Some (given_answer t (gives (plan_of table st) (access_of table st) t))) h.begun (k.answered ++ one (Some (given_answer t (gives (plan_of table st) (access_of table st) t))) ∷ []) None None (Some (given_left t (gives (plan_of table st) (access_of table st) t))) (stands_held (given_answer t (gives (plan_of table st) (access_of table st) t)) None t (given_left t (gives (plan_of table st) (access_of table st) t)) m inner.commit (left_id t (gives (plan_of table st) (access_of table st) t)) (left_idle t (gives (plan_of table st) (access_of table st) t) idle) s.0 s.1 s.2 (left_reads t (gives (plan_of table st) (access_of table st) t)).0 (left_reads t (gives (plan_of table st) (access_of table st) t)).1))
+        (on_free (Some (given_answer t (gives (plan_of table st) (access_of table st) t))) h.begun (k.entries ++ one (Some (given_answer t (gives (plan_of table st) (access_of table st) t))) ∷ []) None None (Some (given_left t (gives (plan_of table st) (access_of table st) t))) (stands_held (given_answer t (gives (plan_of table st) (access_of table st) t)) None t (given_left t (gives (plan_of table st) (access_of table st) t)) m inner.commit (left_id t (gives (plan_of table st) (access_of table st) t)) (left_idle t (gives (plan_of table st) (access_of table st) t) idle) s.0 s.1 s.2 (left_reads t (gives (plan_of table st) (access_of table st) t)).0 (left_reads t (gives (plan_of table st) (access_of table st) t)).1))
         (known_noted (given_left t (gives (plan_of table st) (access_of table st) t)) (left_reads t (gives (plan_of table st) (access_of table st) t)) (left_idle t (gives (plan_of table st) (access_of table st) t) idle)) left_filled left_fits shows_known
 
     unknown : Turned None → So None (record h { txn = Some (reading t (access_of table st)); plan = Some (plan_of table st) })
@@ -690,7 +690,7 @@ module _ (q : Taking) (events : List Event) (states : ℕ → ClientState) (ex :
           s.0,
           record { begin = s.1.begin; body = s.1.body; since = s.1.since; goes_on = s.1.goes_on; id = s.1.id; client = s.1.client },
           record { text = on.reads; inner = inner; stage = tt; shows = none_yet c events text None },
-          noted_still q.catalog events (event.Take c text None) c h.begun k.answered t s.1 k.answered t.seen s.2,
+          noted_still q.catalog events (event.Take c text None) c h.begun k.entries t s.1 k.answered t.seen s.2,
         ) (noted_open t e, (inner.commit, refl)) (filled_reading t e) (fit_reading t e) (none_found (E None) (reads_vacuum text)) (sees_reading t e)
 
   memory_middle : IsMiddle answer.NoMemory

@@ -206,12 +206,12 @@ starts_all catalog states fresh = record {
     none_told c n begin body s tail a since goes is = absurd (let e : [] ≡ begin ∷ (body ++ s ∷ tail) = sym (none_begins n) ∙ since in cc)
 
     nothing : (c : ℕ) → Knows catalog [] c (nothing_done c)
-    nothing c = record { answered = []; waiting = None; same = refl; answered = tt; waits = tt; moved = tt; number = refl; begun = refl; small = positive; agrees = (refl, refl); counted = record { answered = tt; commits = no_commits c; paired = tt; as_read = tt; waits = tt }; filled = tt; fits = tt; stored = tt; rolled = record { answered = tt; waits = tt }; shows = record { told_own = none_told c; sees_own = tt } }
+    nothing c = record { entries = []; waiting = None; same = refl; answered = tt; waits = tt; moved = tt; number = refl; begun = refl; small = positive; agrees = (refl, refl); counted = record { answered = tt; commits = no_commits c; paired = tt; as_read = tt; waits = tt }; filled = tt; fits = tt; stored = tt; rolled = record { answered = tt; waits = tt }; shows = record { told_own = none_told c; sees_own = tt } }
 
 ---- what follows
 
 answered_said : (catalog : List Table) (events : List Event) (c : ℕ) (h : Client) (k : Knows catalog events c h) (s : Executed) → Contains (statements_by c events) s → IsAnswered catalog events c s ⊎ IsWaiting catalog events c (is_some h.vacuum) s
-answered_said catalog events c h k s has = either (Contains-append_cases k.answered (waiting_of k.waiting) s (subst (λ ss. Contains ss s) k.same has))
+answered_said catalog events c h k s has = either (Contains-append_cases k.entries (waiting_of k.waiting) s (subst (λ ss. Contains ss s) k.same has))
   where
     last : (o : Option Executed) → IfSome o (IsWaiting catalog events c (is_some h.vacuum)) → Contains (waiting_of o) s → IsWaiting catalog events c (is_some h.vacuum) s
     last None w x = absurd (none x)
@@ -227,8 +227,8 @@ answered_said catalog events c h k s has = either (Contains-append_cases k.answe
         only (inl y) = absurd (none y)
         only (inr e) = subst (IsWaiting catalog events c (is_some h.vacuum)) e waits
 
-    either : Contains k.answered s ⊎ Contains (waiting_of k.waiting) s → IsAnswered catalog events c s ⊎ IsWaiting catalog events c (is_some h.vacuum) s
-    either (inl x) = inl (each_in (IsAnswered catalog events c) k.answered s k.answered x)
+    either : Contains k.entries s ⊎ Contains (waiting_of k.waiting) s → IsAnswered catalog events c s ⊎ IsWaiting catalog events c (is_some h.vacuum) s
+    either (inl x) = inl (each_in (IsAnswered catalog events c) k.entries s k.answered x)
     either (inr x) = inr (last k.waiting k.waits x)
 
 ---- scans that were answered Conflict
@@ -241,14 +241,14 @@ through_last : (body : List Executed) (s : Executed) (tail : List Executed) → 
 through_last [] s tail all over = ap (λ b. if b then s ∷ [] else s ∷ through_end tail) over
 through_last (x ∷ xs) s tail all over = ap (λ b. if b then x ∷ [] else x ∷ through_end (xs ++ s ∷ tail)) all.0 ∙ ap (λ r. x ∷ r) (through_last xs s tail all.1 over)
 
-module _ (catalog : List Table) (events : List Event) (c : ℕ) (h : Client) (k : Knows catalog events c h) (s : Executed) (key : Key) (found : Option Record) (m : IsChangedIn events c k.answered s key found) where
+module _ (catalog : List Table) (events : List Event) (c : ℕ) (h : Client) (k : Knows catalog events c h) (s : Executed) (key : Key) (found : Option Record) (m : IsChangedIn events c k.entries s key found) where
   -- since its BEGIN, with the statement that waits
   since_all_said : (tail : List Executed) × (from_begin m.n (statements_by c events) ≡ m.begin ∷ (m.body ++ s ∷ tail))
   since_all_said = by k.waiting (ap (from_begin m.n) k.same)
     where
-      by : (o : Option Executed) → from_begin m.n (statements_by c events) ≡ from_begin m.n (k.answered ++ waiting_of o) → (tail : List Executed) × (from_begin m.n (statements_by c events) ≡ m.begin ∷ (m.body ++ s ∷ tail))
-      by None e = (m.tail, e ∙ ap (from_begin m.n) (append-nil k.answered) ∙ m.since)
-      by (Some w) e = (m.tail ++ w ∷ [], e ∙ since_more m.n k.answered w m.begin (m.body ++ s ∷ m.tail) m.since ∙ ap (λ r. m.begin ∷ r) (append_assoc m.body (s ∷ m.tail) (w ∷ [])))
+      by : (o : Option Executed) → from_begin m.n (statements_by c events) ≡ from_begin m.n (k.entries ++ waiting_of o) → (tail : List Executed) × (from_begin m.n (statements_by c events) ≡ m.begin ∷ (m.body ++ s ∷ tail))
+      by None e = (m.tail, e ∙ ap (from_begin m.n) (append-nil k.entries) ∙ m.since)
+      by (Some w) e = (m.tail ++ w ∷ [], e ∙ since_more m.n k.entries w m.begin (m.body ++ s ∷ m.tail) m.since ∙ ap (λ r. m.begin ∷ r) (append_assoc m.body (s ∷ m.tail) (w ∷ [])))
 
   noted_is : read_set_of events (id_of c m.n) ≡ read_items_of_body events c m.body
   noted_is =
@@ -281,7 +281,7 @@ module _ (catalog : List Table) (events : List Event) (c : ℕ) (h : Client) (k 
   moved_is = moved_by (reads_commit s.text) refl m.why
 
 scans_moved : (catalog : List Table) (events : List Event) (now : ℤ) (states : ℕ → ClientState) → CauseInvariant catalog events now states → (c : ℕ) (s : Executed) (key : Key) (found : Option Record) → Contains (statements_by c events) s → s.answer ≡ Some (answer.Conflict key found) → IsConflict events c s key found
-scans_moved catalog events now states ex c s key found has is = by (answered_or (Contains-append_cases k.answered (waiting_of k.waiting) s (subst (λ ss. Contains ss s) k.same has)))
+scans_moved catalog events now states ex c s key found has is = by (answered_or (Contains-append_cases k.entries (waiting_of k.waiting) s (subst (λ ss. Contains ss s) k.same has)))
   where
     k : Knows catalog events c (states c).client
     k = ex.each c
@@ -294,12 +294,12 @@ scans_moved catalog events now states ex c s key found has is = by (answered_or 
         only (inl y) = absurd (omega (arith, y.1))
         only (inr e) = none_some (answer.Conflict key found) (sym waits.unanswered ∙ ap (λ (y : Executed). y.answer) e ∙ is)
 
-    answered_or : Contains k.answered s ⊎ Contains (waiting_of k.waiting) s → Contains k.answered s
+    answered_or : Contains k.entries s ⊎ Contains (waiting_of k.waiting) s → Contains k.entries s
     answered_or (inl x) = x
     answered_or (inr x) = absurd (unanswered k.waiting k.waits x)
 
-    by : Contains k.answered s → IsConflict events c s key found
-    by x = moved_is catalog events c (states c).client k s key found (each_in (λ y. (z : Key) (f : Option Record) → y.answer ≡ Some (answer.Conflict z f) → IsChangedIn events c k.answered y z f) k.answered s k.moved x key found is)
+    by : Contains k.entries s → IsConflict events c s key found
+    by x = moved_is catalog events c (states c).client k s key found (each_in (λ y. (z : Key) (f : Option Record) → y.answer ≡ Some (answer.Conflict z f) → IsChangedIn events c k.entries y z f) k.entries s k.moved x key found is)
 
 ---- all answers
 

@@ -155,12 +155,12 @@ abbrev pub CommitsAreCounted : List Event → ℕ → List Executed → Type 0
 CommitsAreCounted events c answered = (n : ℕ) (begin : Executed) (body : List Executed) (s : Executed) (tail : List Executed) → from_begin n answered ≡ begin ∷ (body ++ s ∷ tail) → AllByRecursion (λ x. ends x ≡ false) body → reads_commit s.text ≡ true → CommitIsCounted (read_items_of_body events c body) (id_of c n) s.answer (calls_of events c s)
 
 -- The calls of the statements that were answered, and of the one that waits.
-pub record CountsBy (catalog : List Table) (events : List Event) (c : ℕ) (answered : List Executed) (waiting : Option Executed) (h : ClientAt) : Type 0 where
-  pub answered : AllByRecursion (λ s. IsCountedBy catalog s.text (calls_of events c s)) answered
-  pub commits : CommitsAreCounted events c answered
-  pub paired : ArePaired false answered
-  pub as_read : ReadByTxn (read_items_since events c h.begun answered) h.txn
-  pub waits : IfSome waiting (λ w. WaitCounted catalog w.text (id_of c h.begun) (read_items_since events c h.begun answered) (calls_of events c w) h.vacuum h.txn)
+pub record CountsBy (catalog : List Table) (events : List Event) (c : ℕ) (entries : List Executed) (waiting : Option Executed) (h : ClientAt) : Type 0 where
+  pub answered : AllByRecursion (λ s. IsCountedBy catalog s.text (calls_of events c s)) entries
+  pub commits : CommitsAreCounted events c entries
+  pub paired : ArePaired false entries
+  pub as_read : ReadByTxn (read_items_since events c h.begun entries) h.txn
+  pub waits : IfSome waiting (λ w. WaitCounted catalog w.text (id_of c h.begun) (read_items_since events c h.begun entries) (calls_of events c w) h.vacuum h.txn)
 
 -- The calls of all statements are counted, those of a COMMIT by what its transaction has read.
 pub record CallsAreCounted (catalog : List Table) (events : List Event) : Type 0 where

@@ -117,22 +117,22 @@ ClientByHistory events c n answered w p o (Some v) = IsInVacuum events c answere
 
 -- What holds of a client: its statements with their answers, and its state.
 pub record Knows (catalog : List Table) (events : List Event) (c : ℕ) (h : ClientAt) : Type 0 where
-  pub answered : List Executed
+  pub entries : List Executed
   pub waiting : Option Executed
-  pub same : statements_by c events ≡ answered ++ waiting_of waiting
-  pub answered : AllByRecursion (IsAnswered catalog events c) answered
+  pub same : statements_by c events ≡ entries ++ waiting_of waiting
+  pub answered : AllByRecursion (IsAnswered catalog events c) entries
   pub waits : IfSome waiting (IsWaiting catalog events c (is_some h.vacuum))
-  pub moved : AreChanged events c answered answered
+  pub moved : AreChanged events c entries entries
   pub number : h.number ≡ c
-  pub begun : h.begun ≡ begun_in answered
+  pub begun : h.begun ≡ begun_in entries
   pub small : h.begun < 2 ^ 64
-  pub agrees : ClientByHistory events c h.begun answered waiting h.plan h.txn h.vacuum
-  pub counted : CountsBy catalog events c answered waiting h
-  pub filled : IfSome h.txn (IsFilled events c (rest_of (from_begin h.begun answered)))
-  pub fits : IfSome h.txn (IsFitOrReadTxn catalog events c (rest_of (from_begin h.begun answered)))
+  pub agrees : ClientByHistory events c h.begun entries waiting h.plan h.txn h.vacuum
+  pub counted : CountsBy catalog events c entries waiting h
+  pub filled : IfSome h.txn (IsFilled events c (rest_of (from_begin h.begun entries)))
+  pub fits : IfSome h.txn (IsFitOrReadTxn catalog events c (rest_of (from_begin h.begun entries)))
   pub stored : AreStoredReplies (calls_by events c)
-  pub rolled : RollsBy events c answered waiting h
-  pub shows : ViewBy catalog events c answered h
+  pub rolled : RollsBy events c entries waiting h
+  pub shows : ViewBy catalog events c entries h
 
 ---- all clients
 

@@ -102,6 +102,6 @@ abbrev pub IsRolledIn : List Event → ℕ → Executed → Type 0
 IsRolledIn events c s = has_read events c s ≡ true → RolledBut events (reads_vacuum s.text) (calls_of events c s) []
 
 -- The records that the statements of a client found, those that were answered and the one that waits.
-pub record RollsBy (events : List Event) (c : ℕ) (answered : List Executed) (waiting : Option Executed) (h : ClientAt) : Type 0 where
-  pub answered : AllByRecursion (IsRolledIn events c) answered
+pub record RollsBy (events : List Event) (c : ℕ) (entries : List Executed) (waiting : Option Executed) (h : ClientAt) : Type 0 where
+  pub answered : AllByRecursion (IsRolledIn events c) entries
   pub waits : IfSome waiting (λ w. WaitRolls events (reads_vacuum w.text) (calls_of events c w) h.vacuum h.txn)

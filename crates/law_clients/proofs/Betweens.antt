@@ -13,8 +13,8 @@ use Rattle.law_clients.specs.Between.{Answered, Begun, Between, Ended, IsStill, 
 use Rattle.law_clients.specs.Chain.{Answers, Exchanged, OutOfMemory, open_after, open_of, transaction_of}
 use Rattle.law_clients.specs.Clients.{Added, AnsweredAlone, IsAskedFor, Kept, OpenAlone}
 use Rattle.law_clients.specs.Session.{Exchange, Part, Parts, begins, body_in, ends, is_begin, is_commit, is_rollback, no_parts, part_after, parts_after, parts_of, statements_in, rejected}
-use Rattle.law_clients.proofs.Sessions.{away_none, away_open, idle_meek, mild_meek, no_word, none_open, one_open, rows_meek, stays_by}
-use Rattle.law_clients.proofs.Statements.{rows_change}
+use Rattle.law_clients.proofs.SessionLaws.{away_none, away_open, idle_meek, mild_meek, no_word, none_open, one_open, rows_meek, stays_by}
+use Rattle.law_clients.proofs.SessionStatements.{rows_change}
 
 -- the transaction with one statement more
 abbrev with_one : Part → Exchange → Part

@@ -29,7 +29,7 @@ pub use Rattle.law_clients.proofs.Starves.{starves}
 pub use Rattle.law_clients.proofs.Taken.{kept_at, mapped_at, other_no_begin, other_no_commit, refused_no_commit}
 pub use Rattle.law_clients.proofs.Takings.{takes}
 pub use Rattle.law_clients.proofs.Tellings.{numbers_more, others_silent, said_more}
-pub use Rattle.law_clients.proofs.Texts.{text_is_read}
+pub use Rattle.law_clients.proofs.SessionTexts.{text_is_read}
 pub use Rattle.law_clients.proofs.Whole.{IsOnTable, by_memory, inner_read, literals_read, on_table, takes_so}
 pub use Rattle.law_clients.proofs.Wholes.{order_runs}
 pub use Rattle.law_clients.proofs.Work.{no_base}

@@ -45,7 +45,7 @@ use Rattle.law_clients.proofs.SessionEnds.{done_later, given_up_later}
 use Rattle.law_clients.proofs.Leaves.{done_images, done_written, given_up_images, given_up_same}
 use Rattle.law_clients.proofs.SessionReading.{reads}
 use Rattle.law_clients.proofs.Resolves.{row_stays, settles_trans, sound_stays}
-use Rattle.law_clients.proofs.Statements.{agrees_all, read_answered}
+use Rattle.law_clients.proofs.SessionStatements.{agrees_all, read_answered}
 use Rattle.law_clients.proofs.SessionSweeps.{quiet_trans, vacuums}
 
 ---- a COMMIT's next stage

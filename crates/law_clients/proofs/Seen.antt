@@ -241,7 +241,7 @@ scan_noted past s span rs ok tables unmoved all place = record {
 
 -- A read that is done is noted.
 pub read_noted : (past : List Labelled) (s : Seen) (a : Access) (images : List Record) → SeenOk past s → IsOfData a → MayRecord s a images → AllByRecursion (IsImage past) images → AreInOrder a (keys_of images) → SeenOk past (with_read s a images)
-read_noted past s (access.Get k) images ok tables free all place = get_noted past s k (first_image images) ok (tables k (ap is_eq (Rattle.std.specs.Cmp.tied_itself Rattle.sdb_types.proofs.KeyOrder.key_total k))) free (first_base past k images all place)
+read_noted past s (access.Get k) images ok tables free all place = get_noted past s k (first_image images) ok (tables k (ap is_eq (Rattle.std.specs.Cmp.tied_itself Rattle.sdb_types.proofs.Public.key_total k))) free (first_base past k images all place)
 read_noted past s (access.Scan span) images ok tables free all place = scan_noted past s span images ok tables free all place
 
 -- Changes of keys that were read may be written.

@@ -13,7 +13,7 @@ use Rattle.sdb_model.specs.Exec.{Tables}
 use Rattle.law_clients.specs.Database.{Database}
 use Rattle.law_clients.specs.OnlyResolves.{IsApart, IsSound}
 use Rattle.law_clients.specs.Session.{AreNewIds, Exchange, Part, Parts, begins, begun_ids, ends, no_parts, part_after, parts_after}
-use Rattle.law_clients.proofs.Sessions.{AreFresh, IsOutside, begins_serial, session_at}
+use Rattle.law_clients.proofs.SessionLaws.{AreFresh, IsOutside, begins_serial, session_at}
 
 -- ids that differ from each other
 abbrev AreDistinct : List TxId → Type 0

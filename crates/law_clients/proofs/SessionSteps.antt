@@ -25,7 +25,7 @@ use Rattle.law_clients.specs.Chain.{Answers, Chain, Exchanged, OutOfMemory, open
 use Rattle.law_clients.proofs.Recovers.{row_at}
 use Rattle.law_clients.proofs.Resolves.{image_stays}
 use Rattle.law_clients.proofs.Stays.{aborted_not, is_committed_by, serial_answered}
-use Rattle.law_clients.proofs.Sessions.{AreFresh, So, all_serial, away_none, away_open, begins_serial, no_word, session_at, step}
+use Rattle.law_clients.proofs.SessionLaws.{AreFresh, So, all_serial, away_none, away_open, begins_serial, no_word, session_at, step}
 
 -- the keys of writes
 among_written : (ws : List Write) (k : Key) → is_among (map (λ w. w.key) ws) k ≡ is_written ws k

@@ -60,7 +60,7 @@ use Rattle.law_clients.specs.Clients.{Added, AnsweredAlone, IdleAlone, IsAskedFo
 use Rattle.law_clients.specs.Session.{rejected}
 use Rattle.law_clients.specs.Between.{Answered, Begun, Between, LeadsTo, Commits, More, Reads, RolledBack, OpenTransaction, InVacuum, Vacuumed, Answers, Turned, IsTxnOf}
 use Rattle.law_clients.proofs.Resolves.{settles_refl}
-use Rattle.law_clients.proofs.Statements.{agrees_all, answered_at, rows_change}
+use Rattle.law_clients.proofs.SessionStatements.{agrees_all, answered_at, rows_change}
 use Rattle.law_clients.proofs.SessionSeen.{seen_written}
 use Rattle.law_clients.proofs.SessionSweeps.{has_vacuumed, quiet_refl, removed_none}
 use Rattle.law_clients.proofs.Works.{work_alone}

@@ -29,23 +29,15 @@ use Rattle.law_clients.proofs.Steps.{agrees, next}
 ---- what is noted was left
 
 pub notes_left : (plan : ℕ → Plan) (places : List Place) (opening : List StoreContents) (past : List Labelled) (ss : List (List StoreContents)) (s : Seen) → IsRunOf plan places opening past ss → SeenOk past s → AreLeft plan s
-notes_left plan places opening past ss s run ok k b e = (
-  firm.t,
-  ap (λ (x : Record). id_in x.columns) firm.same ∙ firm_writer plan firm.t k firm.fits,
-  ap row_of_image firm.same ∙ firm_row plan firm.t k ((all.knows.planned firm.t accepted).write k (write_there (plan firm.t) k) (writes_it (plan firm.t) k firm.writer.1)).0,
-)
-  where
-    w : History
-    w = history plan places opening past ss
-
-    all : Rattle.law_protocol.proofs.Whole.Whole plan places w past (closing opening ss)
-    all = whole_of plan places opening past ss run
-
-    firm : Rattle.law_protocol.proofs.Known.IsFirmOf plan w k b
-    firm = firm_of plan w past k b all.knows (base_table past s.read_set k b ok.read_set e) (base_settled past s.read_set k b ok.read_set e)
-
-    accepted : w.protocol.accepted firm.t ≡ true
-    accepted = writer_taken plan w k firm.t all.knows.inv.accepted firm.writer
+notes_left plan places opening past ss s run ok k b e =
+    let w = history plan places opening past ss in
+    let all = whole_of plan places opening past ss run in
+    let firm = firm_of plan w past k b all.knows (base_table past s.read_set k b ok.read_set e) (base_settled past s.read_set k b ok.read_set e) in
+    let accepted : w.protocol.accepted firm.t ≡ true = writer_taken plan w k firm.t all.knows.inv.accepted firm.writer in (
+      firm.t,
+      ap (λ (x : Record). id_in x.columns) firm.same ∙ firm_writer plan firm.t k firm.fits,
+      ap row_of_image firm.same ∙ firm_row plan firm.t k ((all.knows.planned firm.t accepted).write k (write_there (plan firm.t) k) (writes_it (plan firm.t) k firm.writer.1)).0,
+    )
 
 ---- one after the other
 

@@ -18,7 +18,7 @@ pub record Account : Type 0 where
   pub sys : SystemAt
   pub client : ℕ
   pub answered : ClientHistory
-  pub story : HistoryInvariant events past sys client acked
+  pub story : HistoryInvariant events past sys client answered
 
 -- After one more event this is its story.
 abbrev pub IsExtendedBy : Account → Labelled → SystemAt → ClientHistory → Type 0
@@ -89,5 +89,5 @@ pub record StoryTurn : Type 0 where
   pub ok : SystemOk plan (turn ∷ past) next
   pub by : IsBy client turn.event
   pub others : OthersUnchanged client sys next
-  pub stories : AllStories events past sys acked
+  pub stories : AllStories events past sys answered
   pub own : HistoryStep events past turn next client more

@@ -37,8 +37,8 @@ decided_by plan t n w r done i a h = (row_kept plan w r done t Committed a h.0, 
     below f e l = omega arith
 
 pub told_decided : (plan : ℕ → Plan) (places : List Place) (opening : List StoreContents) (past : List Labelled) (ss : List (List StoreContents)) (t n : ℕ) → IsRunOf plan places opening past ss → IsAnsweredCommittedAt past t n → ((history plan places opening past ss).row t ≡ Some Committed) × ((history plan places opening past ss).decided_at t ≤ n)
-told_decided plan places opening [] ss t n r answered = absurd acked
-told_decided plan places opening (p ∷ past) [] t n r answered = absurd r.traced
+told_decided plan places opening [] ss t n r acked = absurd acked
+told_decided plan places opening (p ∷ past) [] t n r acked = absurd r.traced
 told_decided plan places opening (p ∷ past) (s ∷ ss) t n r (inl h) =
     let now = whole_of plan places opening (p ∷ past) (s ∷ ss) r in
     let row = told_recorded plan places opening (p ∷ past) (s ∷ ss) t r (inl (h.0, h.1)) in

@@ -41,33 +41,33 @@ module _ (catalog : List Table) (events : List Event) (c : ℕ) (h : ClientAt) (
   waits : IsWaiting catalog events c (is_some h.vacuum) x
   waits = waits_of catalog events c h k x waiting
 
-  answered : statements_by c events ≡ k.answered ++ x ∷ []
-  answered = k.same ∙ ap (λ (o : Option Executed). k.answered ++ waiting_of o) waiting
+  answered : statements_by c events ≡ k.entries ++ x ∷ []
+  answered = k.same ∙ ap (λ (o : Option Executed). k.entries ++ waiting_of o) waiting
 
   -- with the call, what it has said
-  says : (b : Option Answer) → statements_by c (events ++ event.Call c store q how r b ∷ []) ≡ k.answered ++ replied_said events x b ∷ []
+  says : (b : Option Answer) → statements_by c (events ++ event.Call c store q how r b ∷ []) ≡ k.entries ++ replied_said events x b ∷ []
   says None = silent_said c events store q how r ∙ answered
-  says (Some b) = call_said c events store q how r b k.answered x answered
+  says (Some b) = call_said c events store q how r b k.entries x answered
 
   of_waiting : (m : StoreCall) → Contains (calls_of events c x ++ made_at events store q how r ∷ []) m → IsOfStatement E c m
   of_waiting m has = record {
     statement = replied_said events x a;
-    among = subst (λ (ss : List Executed). Contains ss (replied_said events x a)) (sym (says a)) (Contains-push k.answered (replied_said events x a));
+    among = subst (λ (ss : List Executed). Contains ss (replied_said events x a)) (sym (says a)) (Contains-push k.entries (replied_said events x a));
     call = subst (λ (ms : List StoreCall). Contains ms m) (sym (calls_more events c store q how r x waits.unanswered waits.accepted a)) has;
   }
 
   old : (m : StoreCall) → IsOfStatement events c m → IsOfStatement E c m
-  old m y = by (Contains-push_cases k.answered x y.statement (subst (λ (ss : List Executed). Contains ss y.statement) answered y.among)) (known catalog events c h k y.statement y.among)
+  old m y = by (Contains-push_cases k.entries x y.statement (subst (λ (ss : List Executed). Contains ss y.statement) answered y.among)) (known catalog events c h k y.statement y.among)
     where
       the_one : x ≡ y.statement → IsOfStatement E c m
       the_one same = of_waiting m (Contains-append_left (calls_of events c x) (made_at events store q how r ∷ []) m (subst (λ (s : Executed). Contains (calls_of events c s) m) (sym same) y.call))
 
-      by : Contains k.answered y.statement ⊎ (x ≡ y.statement) → IsAnswered catalog events c y.statement ⊎ (k.waiting ≡ Some y.statement) → IsOfStatement E c m
+      by : Contains k.entries y.statement ⊎ (x ≡ y.statement) → IsAnswered catalog events c y.statement ⊎ (k.waiting ≡ Some y.statement) → IsOfStatement E c m
       by (inr same) z = the_one same
       by (inl t) (inr e) = the_one (some_is x y.statement (sym waiting ∙ e))
       by (inl t) (inl z) = record {
         statement = y.statement;
-        among = subst (λ (ss : List Executed). Contains ss y.statement) (sym (says a)) (Contains-append_left k.answered (replied_said events x a ∷ []) y.statement t);
+        among = subst (λ (ss : List Executed). Contains ss y.statement) (sym (says a)) (Contains-append_left k.entries (replied_said events x a ∷ []) y.statement t);
         call = subst (λ (ms : List StoreCall). Contains ms m) (sym (calls_stay c events (event.Call c store q how r a) y.statement z.given z.is z.answered)) y.call;
       }
 

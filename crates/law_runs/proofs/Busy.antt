@@ -90,7 +90,7 @@ busy_kept = record {
     replied None events c store q how r x d h = tt
     replied (Some b) events c store q how r x d h = h
 
-    called : (key : Key) (id : TxId) (at : ℤ) (events : List Event) (c : ℕ) (h : ClientAt) {catalog : List Table} (k : Knows catalog events c h) (x : Executed) → IsWaiting catalog events c (is_some h.vacuum) x → (q : Request) (r : Reply) (now : ℤ) (a : Option Answer) (d : ClientAt) → a ≡ Some (answer.Busy key id at) → CallOf catalog events c k.answered x h q r now a d → NoneAtEnd x.text
+    called : (key : Key) (id : TxId) (at : ℤ) (events : List Event) (c : ℕ) (h : ClientAt) {catalog : List Table} (k : Knows catalog events c h) (x : Executed) → IsWaiting catalog events c (is_some h.vacuum) x → (q : Request) (r : Reply) (now : ℤ) (a : Option Answer) (d : ClientAt) → a ≡ Some (answer.Busy key id at) → CallOf catalog events c k.entries x h q r now a d → NoneAtEnd x.text
     called key id at events c h k x waits q r now a d e (inl z) = absurd (swept_busy key id at z.answered.step (sym e ∙ z.answered.answer))
     called key id at events c h k x waits q r now a d e (inr (inl z)) = (z.is.inner.commit, waits.vacuum ∙ ap is_some z.free)
     called key id at events c h k x waits q r now a d e (inr (inr z)) = absurd (ended_busy key id at (ended_at (commit_step z.k.work z.k.stage r)) (sym e ∙ z.answer ∙ ap (λ (p : Progress). answer_in (next_of p)) z.answered.answer))

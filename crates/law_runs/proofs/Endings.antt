@@ -271,7 +271,7 @@ module _ (catalog : List Table) (events : List Event) (c : ℕ) (h d : ClientAt)
             inl (subst (ObservesBad (ms ++ made ∷ [])) same l)
         by (Ended step.NoMemory) l g y = absurd y
 
-    call_unfit : (key : Key) → reads_commit x.text ≡ false → reads_vacuum x.text ≡ false → CallOf catalog events c k.answered x h q r now (Some (answer.BadRecord key)) d
+    call_unfit : (key : Key) → reads_commit x.text ≡ false → reads_vacuum x.text ≡ false → CallOf catalog events c k.entries x h q r now (Some (answer.BadRecord key)) d
         → ObservesBad (ms ++ made ∷ []) key ⊎ RolledBut (E (Some (answer.BadRecord key))) (reads_vacuum x.text) (ms ++ made ∷ []) []
     call_unfit key reads vacuums (inl z) = clash (sym (waits.vacuum ∙ ap is_some z.runs) ∙ vacuums)
     call_unfit key reads vacuums (inr (inl z)) = reads_unfit key z
@@ -285,26 +285,26 @@ module _ (catalog : List Table) (events : List Event) (c : ℕ) (h d : ClientAt)
     swept_moved key found (vacuuming.BadRecord other) e = cc
     swept_moved key found vacuuming.NoMemory e = cc
 
-    call_moved : (key : Key) (found : Option Record) → reads_commit x.text ≡ false → CallOf catalog events c k.answered x h q r now (Some (answer.Conflict key found)) d → RolledBut (E (Some (answer.Conflict key found))) (reads_vacuum x.text) (ms ++ made ∷ []) []
+    call_moved : (key : Key) (found : Option Record) → reads_commit x.text ≡ false → CallOf catalog events c k.entries x h q r now (Some (answer.Conflict key found)) d → RolledBut (E (Some (answer.Conflict key found))) (reads_vacuum x.text) (ms ++ made ∷ []) []
     call_moved key found reads (inl z) = absurd (swept_moved key found z.answered.step z.answered.answer)
     call_moved key found reads (inr (inl z)) = reads_moved key found z
     call_moved key found reads (inr (inr z)) = clash (sym z.is.text ∙ reads)
 
-    call_bad : (key : Key) → reads_commit x.text ≡ true → CallOf catalog events c k.answered x h q r now (Some (answer.BadRecord key)) d → is_coordinator_table key.table ≡ true
+    call_bad : (key : Key) → reads_commit x.text ≡ true → CallOf catalog events c k.entries x h q r now (Some (answer.BadRecord key)) d → is_coordinator_table key.table ≡ true
     call_bad key commit (inl z) = absurd (let e = one_statement x.text statement.Commit statement.Vacuum ((commit_read x.text).0 commit) ((vacuum_read x.text).0 (waits.vacuum ∙ ap is_some z.runs)) in cc)
     call_bad key commit (inr (inl z)) = clash (sym commit ∙ z.is.inner.commit)
     call_bad key commit (inr (inr z)) =
         let row : key ≡ coordinator_key_of z.k.work.id = step_row z.k.work key ms z.k.stage r z.is.stage (ended_bad key (ended_at (commit_step z.k.work z.k.stage r)) (z.answer ∙ ap (λ (y : Progress). answer_in (next_of y)) z.answered.answer)) in
         ap (λ (y : Key). is_coordinator_table y.table) row ∙ coordinators z.k.work.id
 
-    call_ends : (a : Option Answer) → CallOf catalog events c k.answered x h q r now a d → SoBy EndsAs AnyWaits (E a) c (replied_said events x a) d a
+    call_ends : (a : Option Answer) → CallOf catalog events c k.entries x h q r now a d → SoBy EndsAs AnyWaits (E a) c (replied_said events x a) d a
     call_ends None z = tt
     call_ends (Some b) z = record {
-      bad = λ key e commit. call_bad key commit (subst (λ (o : Option Answer). CallOf catalog events c k.answered x h q r now o d) e z);
+      bad = λ key e commit. call_bad key commit (subst (λ (o : Option Answer). CallOf catalog events c k.entries x h q r now o d) e z);
       moved = λ key found e reads. subst (λ cs. RolledBut (E (Some b)) (reads_vacuum x.text) cs []) (sym (more (Some b)))
-          (subst (λ (o : Option Answer). RolledBut (E o) (reads_vacuum x.text) (ms ++ made ∷ []) []) (sym e) (call_moved key found reads (subst (λ (o : Option Answer). CallOf catalog events c k.answered x h q r now o d) e z)));
+          (subst (λ (o : Option Answer). RolledBut (E o) (reads_vacuum x.text) (ms ++ made ∷ []) []) (sym e) (call_moved key found reads (subst (λ (o : Option Answer). CallOf catalog events c k.entries x h q r now o d) e z)));
       unfit = λ key e reads vacuums. subst (λ cs. ObservesBad cs key ⊎ RolledBut (E (Some b)) (reads_vacuum x.text) cs []) (sym (more (Some b)))
-          (subst (λ (o : Option Answer). ObservesBad (ms ++ made ∷ []) key ⊎ RolledBut (E o) (reads_vacuum x.text) (ms ++ made ∷ []) []) (sym e) (call_unfit key reads vacuums (subst (λ (o : Option Answer). CallOf catalog events c k.answered x h q r now o d) e z)));
+          (subst (λ (o : Option Answer). ObservesBad (ms ++ made ∷ []) key ⊎ RolledBut (E o) (reads_vacuum x.text) (ms ++ made ∷ []) []) (sym e) (call_unfit key reads vacuums (subst (λ (o : Option Answer). CallOf catalog events c k.entries x h q r now o d) e z)));
     }
 
 ---- every statement

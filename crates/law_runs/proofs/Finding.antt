@@ -232,13 +232,13 @@ module _ (catalog : List Table) (places : List Place) (events : List Event) (ope
 
       -- and where there is a row, it is that of the stores
       decided_at : (at : ℕ) (y : Record) → at ≤ length moments → row_of at ≡ Some y → decision_at places (now at) d.id ≡ Some d.decided
-      decided_at at y l agrees =
+      decided_at at y l agreed =
           ap (option_and_then (λ (z : Record). result_ok (decision_in z))) agreed
           ∙ ap (λ (z : Record). result_ok (decision_in z)) (same_row places opening moments x.rows_final d.id at (suc q.n) y observed.row fits l q.within agreed observed.agrees)
           ∙ observed.decided
 
       image_there : (at : ℕ) (y : Record) → at ≤ length moments → row_of at ≡ Some y → image_of r (decision_on places (now at) r) ≡ meaning_of calls r
-      image_there at y l agrees = image_told (decision_at places (now at)) r d.id d.decided d.writer (decided_at at y l agreed) ∙ sym means
+      image_there at y l agreed = image_told (decision_at places (now at)) r d.id d.decided d.writer (decided_at at y l agreed) ∙ sym means
 
       here : stored_at places (now n) key ≡ Some r
       here = stood ∙ is
@@ -293,7 +293,7 @@ module _ (catalog : List Table) (places : List Place) (events : List Event) (ope
       open_committed = by (row_of n) refl
         where
           by : (o : Option Record) → row_of n ≡ o → WasCommitted places events opening moments client s key row
-          by (Some y) agrees = committed_at n accepted before_end (Some r) is here (image_there n y low agreed)
+          by (Some y) agreed = committed_at n accepted before_end (Some r) is here (image_there n y low agreed)
           by None none = later (cases_lt n (suc q.n))
             where
               below : (a b : ℕ) → a < b → a ≤ b

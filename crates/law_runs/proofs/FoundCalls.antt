@@ -109,7 +109,7 @@ module _ (catalog : List Table) (is : is_catalog catalog ≡ true) (apart : (k :
   calls_done b = calls_more events c store q how r x waits.unanswered waits.accepted (Some b)
 
   abbrev Comes : Option Answer → ClientAt → Type 0
-  Comes None y = IfSome y.txn (SeesRun catalog (E None) c (running_of (E None) c y.begun k.answered))
+  Comes None y = IfSome y.txn (SeesRun catalog (E None) c (running_of (E None) c y.begun k.entries))
   Comes (Some b) y = follows.Follows catalog events c h k runs (ev (Some b)) (done b) y
 
   as_comes : (a b : Option Answer) (y : ClientAt) → a ≡ b → d ≡ y → Comes b y → Comes a d
@@ -118,17 +118,17 @@ module _ (catalog : List Table) (is : is_catalog catalog ≡ true) (apart : (k :
   ---- a VACUUM and a COMMIT
 
   sweep_comes : (a : Option Answer) → SweepCall events c x h q r now a d → Comes a d
-  sweep_comes None z = subst (λ (o : Option TxnAt). IfSome o (SeesRun catalog (E None) c (running_of (E None) c d.begun k.answered))) (sym (ap (λ (y : ClientAt). y.txn) z.left ∙ z.rests)) tt
+  sweep_comes None z = subst (λ (o : Option TxnAt). IfSome o (SeesRun catalog (E None) c (running_of (E None) c d.begun k.entries))) (sym (ap (λ (y : ClientAt). y.txn) z.left ∙ z.rests)) tt
   sweep_comes (Some b) z = follows.ended_follows catalog events c h k runs (ev (Some b)) (done b) d (inr z.rests) (ap (λ (y : ClientAt). y.txn) z.left ∙ z.rests)
 
   -- it writes what its statements wrote
-  commit_wrote : (a : Option Answer) (z : CommitCall events c k.answered x h q r a d) → WroteAs catalog (E a) c (running_of (E a) c h.begun k.answered) z.k.work.writes
-  commit_wrote a z = subst (SeesIn catalog (E a) c (running_of (E a) c h.begun k.answered) z.t.seen) z.commits (follows.sees_open catalog events c h k runs (ev a) z.t z.opened z.free)
+  commit_wrote : (a : Option Answer) (z : CommitCall events c k.entries x h q r a d) → WroteAs catalog (E a) c (running_of (E a) c h.begun k.entries) z.k.work.writes
+  commit_wrote a z = subst (SeesIn catalog (E a) c (running_of (E a) c h.begun k.entries) z.t.seen) z.commits (follows.sees_open catalog events c h k runs (ev a) z.t z.opened z.free)
 
-  commit_comes : (a : Option Answer) → CommitCall events c k.answered x h q r a d → Comes a d
+  commit_comes : (a : Option Answer) → CommitCall events c k.entries x h q r a d → Comes a d
   commit_comes None z =
       let further : z.progress ≡ progress.More = goes_further z.progress z.answer in
-      as_comes None None _ refl (z.left ∙ ap (λ p. after h (next_of p) z.u) further) (commits_see catalog (E None) c (running_of (E None) c h.begun k.answered) z.u z.k.work.writes _ (λ y n. ap (λ (w : Work). w.writes) n.0) (commit_wrote None z) (z.answered.next further))
+      as_comes None None _ refl (z.left ∙ ap (λ p. after h (next_of p) z.u) further) (commits_see catalog (E None) c (running_of (E None) c h.begun k.entries) z.u z.k.work.writes _ (λ y n. ap (λ (w : Work). w.writes) n.0) (commit_wrote None z) (z.answered.next further))
   commit_comes (Some b) z =
       as_comes (Some b) (Some b) (resting h) refl (z.left ∙ ap (λ (n : Next). after h n z.u) (ends_only z.progress b z.answer))
       (follows.ended_follows catalog events c h k runs (ev (Some b)) (done b) (resting h) (inl (follows.ends_stays (E (Some b)) c (done b) (ends_commit (done b) z.is.text))) refl)
@@ -145,8 +145,8 @@ module _ (catalog : List Table) (is : is_catalog catalog ≡ true) (apart : (k :
     own : IsDataTable (access_table z.access)
     own = reads_data catalog apart events c h d x waits store q how r now ticks about can a z
 
-    sees : (b : Option Answer) → RunsTo catalog (E b) c (running_of (E b) c h.begun k.answered) t.seen
-    sees b = subst (SeesIn catalog (E b) c (running_of (E b) c h.begun k.answered) t.seen) z.reads (follows.sees_open catalog events c h k runs (ev b) t z.opened z.free)
+    sees : (b : Option Answer) → RunsTo catalog (E b) c (running_of (E b) c h.begun k.entries) t.seen
+    sees b = subst (SeesIn catalog (E b) c (running_of (E b) c h.begun k.entries) t.seen) z.reads (follows.sees_open catalog events c h k runs (ev b) t z.opened z.free)
 
     -- where the reply leads
     leads : LedBy (E None) (ms ++ made ∷ []) (read_step z.x.stage now r)
@@ -179,12 +179,12 @@ module _ (catalog : List Table) (is : is_catalog catalog ≡ true) (apart : (k :
     further s = sees None
 
     -- its scan is among the scans
-    scans_then : (b : Answer) (images : List Record) → read_step z.x.stage now r ≡ Ended (step.Images images) → HoldsScans (E (Some b)) c (running_of (E (Some b)) c h.begun k.answered ++ done b ∷ []) (with_rows_read t z.access images).seen
+    scans_then : (b : Answer) (images : List Record) → read_step z.x.stage now r ≡ Ended (step.Images images) → HoldsScans (E (Some b)) c (running_of (E (Some b)) c h.begun k.entries ++ done b ∷ []) (with_rows_read t z.access images).seen
     scans_then b images e span is =
         noted_scans t z.access images span (has_read images e).first (has_read images e).request
-        (by (either (was_scanned (E (Some b)) c (running_of (E (Some b)) c h.begun k.answered) span) (scans_span span (calls_of (E (Some b)) c (done b))) (sym (scanned_more (E (Some b)) c (running_of (E (Some b)) c h.begun k.answered) (done b) span) ∙ is)))
+        (by (either (was_scanned (E (Some b)) c (running_of (E (Some b)) c h.begun k.entries) span) (scans_span span (calls_of (E (Some b)) c (done b))) (sym (scanned_more (E (Some b)) c (running_of (E (Some b)) c h.begun k.entries) (done b) span) ∙ is)))
       where
-        by : (was_scanned (E (Some b)) c (running_of (E (Some b)) c h.begun k.answered) span ≡ true) ⊎ (scans_span span (calls_of (E (Some b)) c (done b)) ≡ true) → (is_scanned t.seen.scans span ≡ true) ⊎ (is_scan_of span (has_read images e).first.request ≡ true)
+        by : (was_scanned (E (Some b)) c (running_of (E (Some b)) c h.begun k.entries) span ≡ true) ⊎ (scans_span span (calls_of (E (Some b)) c (done b)) ≡ true) → (is_scanned t.seen.scans span ≡ true) ⊎ (is_scan_of span (has_read images e).first.request ≡ true)
         by (inl f) = inl ((sees (Some b)).scans span f)
         by (inr f) = inr (sym (ap (scans_span span) (calls_done b) ∙ ap (λ cs. list_any (λ (m : StoreCall). is_scan_of span m.request) cs) (read_only (ms ++ made ∷ []) z.access images (has_read images e) own) ∙ or_false (is_scan_of span (has_read images e).first.request)) ∙ f)
 
@@ -196,7 +196,7 @@ module _ (catalog : List Table) (is : is_catalog catalog ≡ true) (apart : (k :
         (record { is = is; named = z.asked.named; asked = z.asked.asked; accepted = z.asked.accepted; literals = z.asked.literals; access = z.asked.access }) z.is.text z.is.inner.commit refl
         (ap (λ cs. has_finished cs (done b)) (calls_done b) ∙ given_finishes p z.access v (ms ++ made ∷ []) z.asked.asked (read_checks z.access (ms ++ made ∷ []) images (has_read images e) own) own)
         (noting_idle t z.access images, same_writes t z.access images) (sees (Some b))
-        (view_found catalog (view_after catalog (E (Some b)) c (running_of (E (Some b)) c h.begun k.answered) (sees (Some b)).run) t z.access images (found_by (calls_of (E (Some b)) c (done b))) (sees (Some b)).sees (kept t z.free z.opened z.access z.x z.reads)
+        (view_found catalog (view_after catalog (E (Some b)) c (running_of (E (Some b)) c h.begun k.entries) (sees (Some b)).run) t z.access images (found_by (calls_of (E (Some b)) c (done b))) (sees (Some b)).sees (kept t z.free z.opened z.access z.x z.reads)
         (λ key. ap (λ cs. value_at (found_by cs) key) (calls_done b) ∙ found_now (ms ++ made ∷ []) z.access images (has_read images e) own key))
         (scans_then b images e)
 
@@ -228,25 +228,25 @@ module _ (catalog : List Table) (is : is_catalog catalog ≡ true) (apart : (k :
     read_comes : Comes a d
     read_comes = as_comes a (answer_in z.next) (after h z.next z.u) z.answer z.left read_left
 
-  call_comes : (a : Option Answer) → CallOf catalog events c k.answered x h q r now a d → Comes a d
+  call_comes : (a : Option Answer) → CallOf catalog events c k.entries x h q r now a d → Comes a d
   call_comes a (inl z) = sweep_comes a z
   call_comes a (inr (inl z)) = read_comes a z
   call_comes a (inr (inr z)) = commit_comes a z
 
   -- the COMMIT that is answered prepared what was written
-  last_wrote : (b : Answer) → CallOf catalog events c k.answered x h q r now (Some b) d → LastWrote catalog (E (Some b)) c k.answered (done b)
+  last_wrote : (b : Answer) → CallOf catalog events c k.entries x h q r now (Some b) d → LastWrote catalog (E (Some b)) c k.entries (done b)
   last_wrote b (inl z) reads opened = clash (sym opened ∙ follows.closed catalog events c h k runs (ev (Some b)) z.rests)
   last_wrote b (inr (inl z)) reads opened = clash (sym reads ∙ z.is.inner.commit)
   last_wrote b (inr (inr z)) reads opened =
-      subst (λ n. CommitWrote catalog (E (Some b)) c (running_of (E (Some b)) c n k.answered) (id_of c n) (calls_of (E (Some b)) c (done b))) k.begun
+      subst (λ n. CommitWrote catalog (E (Some b)) c (running_of (E (Some b)) c n k.entries) (id_of c n) (calls_of (E (Some b)) c (done b))) k.begun
       (λ statements read.
       subst (λ ks. PreparesAll ks (id_of c h.begun) (calls_of (E (Some b)) c (done b))) (commit_wrote (Some b) z statements read)
       (subst (λ i. PreparesAll (write_keys z.k.work.writes) i (calls_of (E (Some b)) c (done b))) (z.is.same ∙ z.since.id)
-      (subst (PreparesAll (write_keys z.k.work.writes) z.k.work.id) (sym (calls_done b)) (call_prepares catalog events c h d store q how r now k.answered x prepares waits (Some b) z))))
+      (subst (PreparesAll (write_keys z.k.work.writes) z.k.work.id) (sym (calls_done b)) (call_prepares catalog events c h d store q how r now k.entries x prepares waits (Some b) z))))
 
   -- So it is after the reply to its call.
-  pub calls_runs : (a : Option Answer) → CallOf catalog events c k.answered x h q r now a d → ClientRuns catalog (E a) c d
+  pub calls_runs : (a : Option Answer) → CallOf catalog events c k.entries x h q r now a d → ClientRuns catalog (E a) c d
   calls_runs None z = follows.still_runs catalog events c h k runs (ev None) d (ap (filter is_answered) (silent_said c events store q how r) ∙ answered_of_is catalog events c h k) (call_comes None z)
   calls_runs (Some b) z =
       follows.next_runs catalog events c h k runs (ev (Some b)) (done b) d
-      (ap (filter is_answered) (call_said c events store q how r b k.answered x (k.same ∙ ap (λ (o : Option Executed). k.answered ++ waiting_of o) waiting)) ∙ filter-append is_answered k.answered (done b ∷ []) ∙ ap (λ ss. ss ++ done b ∷ []) (all_answered catalog events c k.answered k.answered)) (call_comes (Some b) z) (last_wrote b z)
+      (ap (filter is_answered) (call_said c events store q how r b k.entries x (k.same ∙ ap (λ (o : Option Executed). k.entries ++ waiting_of o) waiting)) ∙ filter-append is_answered k.entries (done b ∷ []) ∙ ap (λ ss. ss ++ done b ∷ []) (all_answered catalog events c k.entries k.answered)) (call_comes (Some b) z) (last_wrote b z)

@@ -71,7 +71,7 @@ moves_all w e u i c s y number here left h all says own n = subst (λ (x : State
 -- what is so of a statement that waits
 pub wait_so : (w : WorldAt) (W : List Table → List Event → ℕ → Executed → ClientAt → Type 0) → AllSo NothingMore W w → (c : ℕ) (d : ClientAt) → (states_of w.client_slots c).client ≡ d → (k : Knows w.script.catalog w.events c d) (x : Executed) → k.waiting ≡ Some x → IsWaiting w.script.catalog w.events c (is_some d.vacuum) x → W w.script.catalog w.events c x d
 wait_so w W so c d here k x waiting waits =
-    let among : Contains (statements_by c w.events) x = subst (λ (ss : List Executed). Contains ss x) (sym (k.same ∙ ap (λ (o : Option Executed). k.answered ++ waiting_of o) waiting)) (Contains-push k.answered x) in
+    let among : Contains (statements_by c w.events) x = subst (λ (ss : List Executed). Contains ss x) (sym (k.same ∙ ap (λ (o : Option Executed). k.entries ++ waiting_of o) waiting)) (Contains-push k.entries x) in
     subst (W w.script.catalog w.events c x) here
     (subst (λ (o : Option Answer). SoOver NothingMore W w.script.catalog w.events c x (states_of w.client_slots c).client o) waits.unanswered (so c x among))
 
@@ -162,9 +162,9 @@ module _ (script : Script) (events : List Event) (playable : IsPlayable script) 
       k : Knows script.catalog events (client_of id) (states_of x.last.client_slots (client_of id)).client
       k = (execution_holds script events playable x).caused.each (client_of id)
 
-      by : (o : Option Executed) → IfSome o (IsWaiting script.catalog events (client_of id) (is_some (states_of x.last.client_slots (client_of id)).client.vacuum)) → running_of events (client_of id) (ordinal_of id) k.answered ≡ running_of events (client_of id) (ordinal_of id) (k.answered ++ waiting_of o)
-      by None h = ap (running_of events (client_of id) (ordinal_of id)) (sym (append-nil k.answered))
-      by (Some y) h = sym (running_waits events (client_of id) (ordinal_of id) k.answered y h.unanswered)
+      by : (o : Option Executed) → IfSome o (IsWaiting script.catalog events (client_of id) (is_some (states_of x.last.client_slots (client_of id)).client.vacuum)) → running_of events (client_of id) (ordinal_of id) k.entries ≡ running_of events (client_of id) (ordinal_of id) (k.entries ++ waiting_of o)
+      by None h = ap (running_of events (client_of id) (ordinal_of id)) (sym (append-nil k.entries))
+      by (Some y) h = sym (running_waits events (client_of id) (ordinal_of id) k.entries y h.unanswered)
 
       same : running_of events (client_of id) (ordinal_of id) (answered_of (client_of id) events) ≡ answered_inside events id
       same = ap (running_of events (client_of id) (ordinal_of id)) (answered_of_is script.catalog events (client_of id) (states_of x.last.client_slots (client_of id)).client k) ∙ by k.waiting k.waits ∙ ap (running_of events (client_of id) (ordinal_of id)) (sym k.same)

@@ -64,12 +64,12 @@ pub all_answered : (catalog : List Table) (events : List Event) (c : ℕ) (past 
 all_answered catalog events c [] all = refl
 all_answered catalog events c (s ∷ ss) all = ap (λ (o : Option Answer). if is_some o then s ∷ filter is_answered ss else filter is_answered ss) all.0.is ∙ ap (λ xs. s ∷ xs) (all_answered catalog events c ss all.1)
 
-pub answered_of_is : (catalog : List Table) (events : List Event) (c : ℕ) (h : ClientAt) (k : Knows catalog events c h) → answered_of c events ≡ k.answered
-answered_of_is catalog events c h k = ap (filter is_answered) k.same ∙ filter-append is_answered k.answered (waiting_of k.waiting) ∙ ap (λ xs. xs ++ filter is_answered (waiting_of k.waiting)) (all_answered catalog events c k.answered k.answered) ∙ by k.waiting k.waits ∙ append-nil k.answered
+pub answered_of_is : (catalog : List Table) (events : List Event) (c : ℕ) (h : ClientAt) (k : Knows catalog events c h) → answered_of c events ≡ k.entries
+answered_of_is catalog events c h k = ap (filter is_answered) k.same ∙ filter-append is_answered k.entries (waiting_of k.waiting) ∙ ap (λ xs. xs ++ filter is_answered (waiting_of k.waiting)) (all_answered catalog events c k.entries k.answered) ∙ by k.waiting k.waits ∙ append-nil k.entries
   where
-    by : (o : Option Executed) → IfSome o (IsWaiting catalog events c (is_some h.vacuum)) → k.answered ++ filter is_answered (waiting_of o) ≡ k.answered ++ []
+    by : (o : Option Executed) → IfSome o (IsWaiting catalog events c (is_some h.vacuum)) → k.entries ++ filter is_answered (waiting_of o) ≡ k.entries ++ []
     by None h = refl
-    by (Some w) x = ap (λ (o : Option Answer). k.answered ++ (if is_some o then w ∷ [] else [])) x.unanswered
+    by (Some w) x = ap (λ (o : Option Answer). k.entries ++ (if is_some o then w ∷ [] else [])) x.unanswered
 
 -- the transaction that a statement leaves does nothing
 left_idle : (v : TxnAt) (x : PlanStep) → v.doing ≡ doing.Idle → (given_left v x).doing ≡ doing.Idle
@@ -115,32 +115,32 @@ module _ (catalog : List Table) (events : List Event) (c : ℕ) (h : ClientAt) (
   abbrev E : List Event
   E = events ++ e ∷ []
 
-  abbrev answered_same : answered_of c events ≡ k.answered
+  abbrev answered_same : answered_of c events ≡ k.entries
   answered_same = answered_of_is catalog events c h k
 
-  ran_then : (n : ℕ) → IsRunOnFound catalog E c (running_of E c n k.answered)
+  ran_then : (n : ℕ) → IsRunOnFound catalog E c (running_of E c n k.entries)
   ran_then n =
-      subst (IsRunOnFound catalog E c) (sym (running_of_stays catalog events e c n k.answered k.answered))
-      (run_stays catalog events e c (running_of events c n k.answered) (each_running (IsAnswered catalog events c) events c n k.answered k.answered) (subst (λ ts. IsRunOnFound catalog events c (running_of events c n ts)) answered_same (runs.ran n)))
+      subst (IsRunOnFound catalog E c) (sym (running_of_stays catalog events e c n k.entries k.answered))
+      (run_stays catalog events e c (running_of events c n k.entries) (each_running (IsAnswered catalog events c) events c n k.entries k.answered) (subst (λ ts. IsRunOnFound catalog events c (running_of events c n ts)) answered_same (runs.ran n)))
 
-  pub sees_then : IfSome h.txn (SeesRun catalog E c (running_of E c h.begun k.answered))
+  pub sees_then : IfSome h.txn (SeesRun catalog E c (running_of E c h.begun k.entries))
   sees_then = by h.txn (subst (λ ts. IfSome h.txn (SeesRun catalog events c (running_of events c h.begun ts))) answered_same runs.sees)
     where
-      by : (o : Option TxnAt) → IfSome o (SeesRun catalog events c (running_of events c h.begun k.answered)) → IfSome o (SeesRun catalog E c (running_of E c h.begun k.answered))
+      by : (o : Option TxnAt) → IfSome o (SeesRun catalog events c (running_of events c h.begun k.entries)) → IfSome o (SeesRun catalog E c (running_of E c h.begun k.entries))
       by None x = tt
       by (Some t) x =
-          subst (λ ss. SeesIn catalog E c ss t.seen t.doing) (sym (running_of_stays catalog events e c h.begun k.answered k.answered))
-          (sees_stay catalog events e c (running_of events c h.begun k.answered) t.seen t.doing (each_running (IsAnswered catalog events c) events c h.begun k.answered k.answered) x)
+          subst (λ ss. SeesIn catalog E c ss t.seen t.doing) (sym (running_of_stays catalog events e c h.begun k.entries k.answered))
+          (sees_stay catalog events e c (running_of events c h.begun k.entries) t.seen t.doing (each_running (IsAnswered catalog events c) events c h.begun k.entries k.answered) x)
 
   -- where no statement is answered
   abbrev Stays : ClientAt → Type 0
-  Stays d = IfSome d.txn (SeesRun catalog E c (running_of E c d.begun k.answered))
+  Stays d = IfSome d.txn (SeesRun catalog E c (running_of E c d.begun k.entries))
 
   -- the COMMITs that were answered
-  wrote_then : CommitsWrote catalog E c k.answered
-  wrote_then = commits_still catalog events e c k.answered k.answered (subst (CommitsWrote catalog events c) answered_same runs.commits)
+  wrote_then : CommitsWrote catalog E c k.entries
+  wrote_then = commits_still catalog events e c k.entries k.answered (subst (CommitsWrote catalog events c) answered_same runs.commits)
 
-  pub still_runs : (d : ClientAt) → answered_of c E ≡ k.answered → Stays d → ClientRuns catalog E c d
+  pub still_runs : (d : ClientAt) → answered_of c E ≡ k.entries → Stays d → ClientRuns catalog E c d
   still_runs d same sees = record {
     ran = λ n. subst (λ ts. IsRunOnFound catalog E c (running_of E c n ts)) (sym same) (ran_then n);
     sees = subst (λ ts. IfSome d.txn (SeesRun catalog E c (running_of E c d.begun ts))) (sym same) sees;
@@ -149,38 +149,38 @@ module _ (catalog : List Table) (events : List Event) (c : ℕ) (h : ClientAt) (
 
   -- where one is
   abbrev pub Follows : Executed → ClientAt → Type 0
-  Follows z d = (open_after k.answered ≡ true → is_running E c z ≡ true → IsRunOnFound catalog E c (running_of E c (begun_in k.answered) k.answered ++ z ∷ [])) × IfSome d.txn (SeesRun catalog E c (running_of E c d.begun (k.answered ++ z ∷ [])))
+  Follows z d = (open_after k.entries ≡ true → is_running E c z ≡ true → IsRunOnFound catalog E c (running_of E c (begun_in k.entries) k.entries ++ z ∷ [])) × IfSome d.txn (SeesRun catalog E c (running_of E c d.begun (k.entries ++ z ∷ [])))
 
-  pub next_runs : (z : Executed) (d : ClientAt) → answered_of c E ≡ k.answered ++ z ∷ [] → Follows z d → LastWrote catalog E c k.answered z → ClientRuns catalog E c d
+  pub next_runs : (z : Executed) (d : ClientAt) → answered_of c E ≡ k.entries ++ z ∷ [] → Follows z d → LastWrote catalog E c k.entries z → ClientRuns catalog E c d
   next_runs z d same f last = record {
-    ran = λ n. subst (λ ts. IsRunOnFound catalog E c (running_of E c n ts)) (sym same) (each_more (IsRunOnFound catalog E c) E c k.answered z k.counted.paired (none_run catalog E c) ran_then f.0 n);
+    ran = λ n. subst (λ ts. IsRunOnFound catalog E c (running_of E c n ts)) (sym same) (each_more (IsRunOnFound catalog E c) E c k.entries z k.counted.paired (none_run catalog E c) ran_then f.0 n);
     sees = subst (λ ts. IfSome d.txn (SeesRun catalog E c (running_of E c d.begun ts))) (sym same) f.1;
-    commits = subst (CommitsWrote catalog E c) (sym same) (commits_more catalog E c k.answered z k.counted.paired wrote_then last);
+    commits = subst (CommitsWrote catalog E c) (sym same) (commits_more catalog E c k.entries z k.counted.paired wrote_then last);
   }
 
   ---- where its transaction is
 
   abbrev At : Executed → TxnAt → Type 0
-  At z u = SeesRun catalog E c (running_of E c h.begun (k.answered ++ z ∷ [])) u
+  At z u = SeesRun catalog E c (running_of E c h.begun (k.entries ++ z ∷ [])) u
 
-  sees_same : (z : Executed) (s : Seen) (u : TxnAt) → is_running E c z ≡ false → u.doing ≡ doing.Idle → u.seen ≡ s → RunsTo catalog E c (running_of E c h.begun k.answered) s → At z u
-  sees_same z s u none idle same r = subst (λ xs. SeesIn catalog E c xs u.seen u.doing) (sym (running_of_same E c h.begun k.answered z none)) (subst (SeesIn catalog E c (running_of E c h.begun k.answered) u.seen) (sym idle) (subst (RunsTo catalog E c (running_of E c h.begun k.answered)) (sym same) r))
+  sees_same : (z : Executed) (s : Seen) (u : TxnAt) → is_running E c z ≡ false → u.doing ≡ doing.Idle → u.seen ≡ s → RunsTo catalog E c (running_of E c h.begun k.entries) s → At z u
+  sees_same z s u none idle same r = subst (λ xs. SeesIn catalog E c xs u.seen u.doing) (sym (running_of_same E c h.begun k.entries z none)) (subst (SeesIn catalog E c (running_of E c h.begun k.entries) u.seen) (sym idle) (subst (RunsTo catalog E c (running_of E c h.begun k.entries)) (sym same) r))
 
   -- no transaction is open
-  pub closed : h.txn ≡ None → open_after k.answered ≡ false
+  pub closed : h.txn ≡ None → open_after k.entries ≡ false
   closed none = by_vacuum h.vacuum k.waiting k.agrees
     where
-      by_txn : (o : Option TxnAt) (w : Option Executed) → o ≡ None → DoingByHistory events c h.begun k.answered w h.plan o → open_after k.answered ≡ false
+      by_txn : (o : Option TxnAt) (w : Option Executed) → o ≡ None → DoingByHistory events c h.begun k.entries w h.plan o → open_after k.entries ≡ false
       by_txn None w e s = s.1
       by_txn (Some t) w e s = none_some t (sym e)
 
-      by_vacuum : (v : Option VacuumAt) (w : Option Executed) → ClientByHistory events c h.begun k.answered w h.plan h.txn v → open_after k.answered ≡ false
+      by_vacuum : (v : Option VacuumAt) (w : Option Executed) → ClientByHistory events c h.begun k.entries w h.plan h.txn v → open_after k.entries ≡ false
       by_vacuum None w s = by_txn h.txn w none s
       by_vacuum (Some v) None s = absurd s
       by_vacuum (Some v) (Some x) s = s.1
 
   -- it changes nothing, or no transaction is open
-  pub no_more : (z : Executed) → (is_running E c z ≡ false) ⊎ (h.txn ≡ None) → open_after k.answered ≡ true → is_running E c z ≡ true → IsRunOnFound catalog E c (running_of E c (begun_in k.answered) k.answered ++ z ∷ [])
+  pub no_more : (z : Executed) → (is_running E c z ≡ false) ⊎ (h.txn ≡ None) → open_after k.entries ≡ true → is_running E c z ≡ true → IsRunOnFound catalog E c (running_of E c (begun_in k.entries) k.entries ++ z ∷ [])
   no_more z (inl f) opened t = clash (sym t ∙ f)
   no_more z (inr f) opened t = clash (sym opened ∙ closed f)
 
@@ -188,9 +188,9 @@ module _ (catalog : List Table) (events : List Event) (c : ℕ) (h : ClientAt) (
   pub same_follows : (z : Executed) → (is_running E c z ≡ false) ⊎ (h.txn ≡ None) → Follows z h
   same_follows z none = (no_more z none, by none)
     where
-      by_txn : (o : Option TxnAt) → is_running E c z ≡ false → IfSome o (SeesRun catalog E c (running_of E c h.begun k.answered)) → IfSome o (At z)
+      by_txn : (o : Option TxnAt) → is_running E c z ≡ false → IfSome o (SeesRun catalog E c (running_of E c h.begun k.entries)) → IfSome o (At z)
       by_txn None f x = tt
-      by_txn (Some t) f x = subst (λ xs. SeesIn catalog E c xs t.seen t.doing) (sym (running_of_same E c h.begun k.answered z f)) x
+      by_txn (Some t) f x = subst (λ xs. SeesIn catalog E c xs t.seen t.doing) (sym (running_of_same E c h.begun k.entries z f)) x
 
       by : (is_running E c z ≡ false) ⊎ (h.txn ≡ None) → IfSome h.txn (At z)
       by (inl f) = by_txn h.txn f sees_then
@@ -198,58 +198,58 @@ module _ (catalog : List Table) (events : List Event) (c : ℕ) (h : ClientAt) (
 
   -- or has none open
   pub ended_follows : (z : Executed) (d : ClientAt) → (is_running E c z ≡ false) ⊎ (h.txn ≡ None) → d.txn ≡ None → Follows z d
-  ended_follows z d none f = (no_more z none, subst (λ (o : Option TxnAt). IfSome o (SeesRun catalog E c (running_of E c d.begun (k.answered ++ z ∷ [])))) (sym f) tt)
+  ended_follows z d none f = (no_more z none, subst (λ (o : Option TxnAt). IfSome o (SeesRun catalog E c (running_of E c d.begun (k.entries ++ z ∷ [])))) (sym f) tt)
 
   module _ (t : TxnAt) (some : h.txn ≡ Some t) (free : h.vacuum ≡ None) where
-    opened : IsOpenAs c h.begun k.answered t
-    opened = (subst (DoingByHistory events c h.begun k.answered k.waiting h.plan) some (subst (ClientByHistory events c h.begun k.answered k.waiting h.plan h.txn) free k.agrees)).1
+    opened : IsOpenAs c h.begun k.entries t
+    opened = (subst (DoingByHistory events c h.begun k.entries k.waiting h.plan) some (subst (ClientByHistory events c h.begun k.entries k.waiting h.plan h.txn) free k.agrees)).1
 
-    pub sees_open : SeesRun catalog E c (running_of E c h.begun k.answered) t
-    sees_open = subst (λ (o : Option TxnAt). IfSome o (SeesRun catalog E c (running_of E c h.begun k.answered))) some sees_then
+    pub sees_open : SeesRun catalog E c (running_of E c h.begun k.entries) t
+    sees_open = subst (λ (o : Option TxnAt). IfSome o (SeesRun catalog E c (running_of E c h.begun k.entries))) some sees_then
 
     -- it is answered that nothing was changed
-    pub held_follows : (z : Executed) (u : TxnAt) → is_running E c z ≡ false → u.doing ≡ doing.Idle → u.seen ≡ t.seen → RunsTo catalog E c (running_of E c h.begun k.answered) t.seen → Follows z (holding h u)
+    pub held_follows : (z : Executed) (u : TxnAt) → is_running E c z ≡ false → u.doing ≡ doing.Idle → u.seen ≡ t.seen → RunsTo catalog E c (running_of E c h.begun k.entries) t.seen → Follows z (holding h u)
     held_follows z u none idle same r = (no_more z (inl none), sees_same z t.seen u none idle same r)
 
     -- it is answered that nothing was changed, and what it found stays
-    pub kept_follows : (z : Executed) (u : TxnAt) → is_running E c z ≡ true → is_effective z ≡ false → u.doing ≡ doing.Idle → (r : RunsTo catalog E c (running_of E c h.begun k.answered) t.seen)
-        → IsViewOf catalog (with_found catalog (view_after catalog E c (running_of E c h.begun k.answered) r.run) (found_by (calls_of E c z))) u.seen → HoldsScans E c (running_of E c h.begun k.answered ++ z ∷ []) u.seen → write_keys u.seen.writes ≡ write_keys t.seen.writes → Follows z (holding h u)
+    pub kept_follows : (z : Executed) (u : TxnAt) → is_running E c z ≡ true → is_effective z ≡ false → u.doing ≡ doing.Idle → (r : RunsTo catalog E c (running_of E c h.begun k.entries) t.seen)
+        → IsViewOf catalog (with_found catalog (view_after catalog E c (running_of E c h.begun k.entries) r.run) (found_by (calls_of E c z))) u.seen → HoldsScans E c (running_of E c h.begun k.entries ++ z ∷ []) u.seen → write_keys u.seen.writes ≡ write_keys t.seen.writes → Follows z (holding h u)
     kept_follows z u takes idle rests r now scans same =
-        let more : RunsTo catalog E c (running_of E c h.begun k.answered ++ z ∷ []) u.seen = runs_kept catalog E c (running_of E c h.begun k.answered) z r.run u.seen idle now scans (same ∙ r.writes) in (
-          λ opened_now runs_now. subst (λ n. IsRunOnFound catalog E c (running_of E c n k.answered ++ z ∷ [])) k.begun more.run,
-          subst (SeesIn catalog E c (running_of E c h.begun (k.answered ++ z ∷ [])) u.seen) (sym rests) (subst (λ xs. RunsTo catalog E c xs u.seen) (sym (running_of_more E c h.begun k.answered z opened.begin opened.body opened.since opened.goes_on takes)) more),
+        let more : RunsTo catalog E c (running_of E c h.begun k.entries ++ z ∷ []) u.seen = runs_kept catalog E c (running_of E c h.begun k.entries) z r.run u.seen idle now scans (same ∙ r.writes) in (
+          λ opened_now runs_now. subst (λ n. IsRunOnFound catalog E c (running_of E c n k.entries ++ z ∷ [])) k.begun more.run,
+          subst (SeesIn catalog E c (running_of E c h.begun (k.entries ++ z ∷ [])) u.seen) (sym rests) (subst (λ xs. RunsTo catalog E c xs u.seen) (sym (running_of_more E c h.begun k.entries z opened.begin opened.body opened.since opened.goes_on takes)) more),
         )
 
     -- it is answered so without a call, and the transaction is as it was
     pub turned_open : (z : Executed) (b : Answer) → z.answer ≡ Some b → changes_nothing b ≡ true → calls_of E c z ≡ [] → t.doing ≡ doing.Idle → Follows z h
     turned_open z b is nothing none idle = by (is_running E c z) refl
       where
-        r : RunsTo catalog E c (running_of E c h.begun k.answered) t.seen
-        r = subst (SeesIn catalog E c (running_of E c h.begun k.answered) t.seen) idle sees_open
+        r : RunsTo catalog E c (running_of E c h.begun k.entries) t.seen
+        r = subst (SeesIn catalog E c (running_of E c h.begun k.entries) t.seen) idle sees_open
 
-        scans : HoldsScans E c (running_of E c h.begun k.answered ++ z ∷ []) t.seen
-        scans span e = r.scans span (sym (scanned_more E c (running_of E c h.begun k.answered) z span ∙ ap (λ ms. was_scanned E c (running_of E c h.begun k.answered) span || scans_span span ms) none ∙ or_false (was_scanned E c (running_of E c h.begun k.answered) span)) ∙ e)
+        scans : HoldsScans E c (running_of E c h.begun k.entries ++ z ∷ []) t.seen
+        scans span e = r.scans span (sym (scanned_more E c (running_of E c h.begun k.entries) z span ∙ ap (λ ms. was_scanned E c (running_of E c h.begun k.entries) span || scans_span span ms) none ∙ or_false (was_scanned E c (running_of E c h.begun k.entries) span)) ∙ e)
 
         by : (x : Bool) → is_running E c z ≡ x → Follows z h
         by false e = same_follows z (inl e)
         by true e =
-            let f = kept_follows z t e (effective_by z b true is nothing) idle r (subst (λ (ms : List StoreCall). IsViewOf catalog (with_found catalog (view_after catalog E c (running_of E c h.begun k.answered) r.run) (found_by ms)) t.seen) (sym none) r.sees) scans refl in
+            let f = kept_follows z t e (effective_by z b true is nothing) idle r (subst (λ (ms : List StoreCall). IsViewOf catalog (with_found catalog (view_after catalog E c (running_of E c h.begun k.entries) r.run) (found_by ms)) t.seen) (sym none) r.sees) scans refl in
             (f.0, subst (λ (o : Option TxnAt). IfSome o (At z)) (sym some) f.1)
 
     -- it is answered from the rows that are seen
     pub given_follows : (z : Executed) (p : Planned) (a : Access) (v : TxnAt) → IsPlannedOn catalog p a → Reads z.text p.statement → reads_commit z.text ≡ false → z.answer ≡ Some (given_answer v (gives p a v)) → has_read E c z ≡ true → (v.doing ≡ doing.Idle) × (v.seen.writes ≡ t.seen.writes)
-        → (r : RunsTo catalog E c (running_of E c h.begun k.answered) t.seen) → IsViewOf catalog (with_found catalog (view_after catalog E c (running_of E c h.begun k.answered) r.run) (found_by (calls_of E c z))) v.seen → HoldsScans E c (running_of E c h.begun k.answered ++ z ∷ []) v.seen → Follows z (holding h (given_left v (gives p a v)))
+        → (r : RunsTo catalog E c (running_of E c h.begun k.entries) t.seen) → IsViewOf catalog (with_found catalog (view_after catalog E c (running_of E c h.begun k.entries) r.run) (found_by (calls_of E c z))) v.seen → HoldsScans E c (running_of E c h.begun k.entries ++ z ∷ []) v.seen → Follows z (holding h (given_left v (gives p a v)))
     given_follows z p a v on reads no_commit answered finished unwritten r now scans = (
-      λ opened_now runs_now. subst (λ n. IsRunOnFound catalog E c (running_of E c n k.answered ++ z ∷ [])) k.begun more.run,
-      subst (SeesIn catalog E c (running_of E c h.begun (k.answered ++ z ∷ [])) (given_left v (gives p a v)).seen) (sym (left_idle v (gives p a v) unwritten.0))
-          (subst (λ xs. RunsTo catalog E c xs (given_left v (gives p a v)).seen) (sym (running_of_more E c h.begun k.answered z opened.begin opened.body opened.since opened.goes_on takes)) more),
+      λ opened_now runs_now. subst (λ n. IsRunOnFound catalog E c (running_of E c n k.entries ++ z ∷ [])) k.begun more.run,
+      subst (SeesIn catalog E c (running_of E c h.begun (k.entries ++ z ∷ [])) (given_left v (gives p a v)).seen) (sym (left_idle v (gives p a v) unwritten.0))
+          (subst (λ xs. RunsTo catalog E c xs (given_left v (gives p a v)).seen) (sym (running_of_more E c h.begun k.entries z opened.begin opened.body opened.since opened.goes_on takes)) more),
     )
       where
         takes : is_running E c z ≡ true
-        takes = given_takes catalog E c (running_of E c h.begun k.answered) z p a on v reads answered r.run now scans (ap write_keys unwritten.1 ∙ r.writes) no_commit finished
+        takes = given_takes catalog E c (running_of E c h.begun k.entries) z p a on v reads answered r.run now scans (ap write_keys unwritten.1 ∙ r.writes) no_commit finished
 
-        more : RunsTo catalog E c (running_of E c h.begun k.answered ++ z ∷ []) (given_left v (gives p a v)).seen
-        more = given_runs catalog E c (running_of E c h.begun k.answered) z p a on v reads answered r.run now scans (ap write_keys unwritten.1 ∙ r.writes)
+        more : RunsTo catalog E c (running_of E c h.begun k.entries ++ z ∷ []) (given_left v (gives p a v)).seen
+        more = given_runs catalog E c (running_of E c h.begun k.entries) z p a on v reads answered r.run now scans (ap write_keys unwritten.1 ∙ r.writes)
 
   -- it is answered that nothing was changed without a call, and the client is as it was
   pub turned_follows : (z : Executed) (b : Answer) → z.answer ≡ Some b → changes_nothing b ≡ true → calls_of E c z ≡ [] → h.vacuum ≡ None → IfSome h.txn (λ t. t.doing ≡ doing.Idle) → Follows z h

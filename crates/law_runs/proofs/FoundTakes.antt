@@ -44,7 +44,7 @@ module _ (q : Taking) (is : is_catalog q.catalog ≡ true) (apart : (k : Key) �
 
   -- what it is to come to
   abbrev Comes : Option Answer → ClientAt → Type 0
-  Comes None d = IfSome d.txn (SeesRun q.catalog (E None) c (running_of (E None) c d.begun k.answered))
+  Comes None d = IfSome d.txn (SeesRun q.catalog (E None) c (running_of (E None) c d.begun k.entries))
   Comes (Some b) d = steps.Follows q.catalog events c h k runs (event.Take c text (Some b)) (one (Some b)) d
 
   -- it is answered, and the client is as it was
@@ -78,10 +78,10 @@ module _ (q : Taking) (is : is_catalog q.catalog ≡ true) (apart : (k : Key) �
       ids : (n : ℕ) → n + 1 ≡ suc n
       ids n = omega arith
 
-      new : running_of (E (Some answer.Done)) c (h.begun + 1) (k.answered ++ one (Some answer.Done) ∷ []) ≡ []
+      new : running_of (E (Some answer.Done)) c (h.begun + 1) (k.entries ++ one (Some answer.Done) ∷ []) ≡ []
       new =
-          ap (λ n. running_of (E (Some answer.Done)) c n (k.answered ++ one (Some answer.Done) ∷ [])) (ap (λ n. n + 1) k.begun ∙ ids (begun_in k.answered))
-          ∙ ap (λ ss. running (E (Some answer.Done)) c (rest_of ss)) (since_new k.answered (one (Some answer.Done)) begins_now)
+          ap (λ n. running_of (E (Some answer.Done)) c n (k.entries ++ one (Some answer.Done) ∷ [])) (ap (λ n. n + 1) k.begun ∙ ids (begun_in k.entries))
+          ∙ ap (λ ss. running (E (Some answer.Done)) c (rest_of ss)) (since_new k.entries (one (Some answer.Done)) begins_now)
 
   rollback_over : Reads text statement.Rollback → ends (one (Some answer.Done)) ≡ true
   rollback_over reads = ap (λ b. reads_commit text || false || (b && true)) ((rollback_read text).1 reads) ∙ last (reads_commit text)
@@ -96,12 +96,12 @@ module _ (q : Taking) (is : is_catalog q.catalog ≡ true) (apart : (k : Key) �
     still : t.doing ≡ doing.Idle
     still = subst (λ (o : Option TxnAt). IfSome o (λ u. u.doing ≡ doing.Idle)) some idle.still
 
-    sees : (a : Option Answer) → RunsTo q.catalog (E a) c (running_of (E a) c h.begun k.answered) t.seen
-    sees a = subst (SeesIn q.catalog (E a) c (running_of (E a) c h.begun k.answered) t.seen) still (steps.sees_open q.catalog events c h k runs (event.Take c text a) t some idle.free)
+    sees : (a : Option Answer) → RunsTo q.catalog (E a) c (running_of (E a) c h.begun k.entries) t.seen
+    sees a = subst (SeesIn q.catalog (E a) c (running_of (E a) c h.begun k.entries) t.seen) still (steps.sees_open q.catalog events c h k runs (event.Take c text a) t some idle.free)
 
     -- it scans nothing
-    scans : (a : Option Answer) → HoldsScans (E a) c (running_of (E a) c h.begun k.answered ++ one a ∷ []) t.seen
-    scans a span e = (sees a).scans span (sym (scanned_more (E a) c (running_of (E a) c h.begun k.answered) (one a) span ∙ ap (λ ms. was_scanned (E a) c (running_of (E a) c h.begun k.answered) span || scans_span span ms) (none_yet c events text a) ∙ or_false (was_scanned (E a) c (running_of (E a) c h.begun k.answered) span)) ∙ e)
+    scans : (a : Option Answer) → HoldsScans (E a) c (running_of (E a) c h.begun k.entries ++ one a ∷ []) t.seen
+    scans a span e = (sees a).scans span (sym (scanned_more (E a) c (running_of (E a) c h.begun k.entries) (one a) span ∙ ap (λ ms. was_scanned (E a) c (running_of (E a) c h.begun k.entries) span || scans_span span ms) (none_yet c events text a) ∙ or_false (was_scanned (E a) c (running_of (E a) c h.begun k.entries) span)) ∙ e)
 
     abbrev given : Statement → Table → Answer
     given st table = given_answer t (gives (plan_of table st) (access_of table st) t)
@@ -118,7 +118,7 @@ module _ (q : Taking) (is : is_catalog q.catalog ≡ true) (apart : (k : Key) �
         let other : reads_commit text ≡ false = other_no_commit text st on.reads (on_table st (names_table q.catalog st table on.named)).commit in
         steps.given_follows q.catalog events c h k runs (event.Take c text (Some (given st table))) t some idle.free (one (Some (given st table))) (plan_of table st) (access_of table st) t
         (record { is = is; named = on.named; asked = refl; accepted = on.accepted; literals = literals_read text st on.reads; access = refl }) on.reads other refl (finished_here st table on.named) (still, refl) (sees (Some (given st table)))
-        (subst (λ (ms : List StoreCall). IsViewOf q.catalog (with_found q.catalog (view_after q.catalog (E (Some (given st table))) c (running_of (E (Some (given st table))) c h.begun k.answered) (sees (Some (given st table))).run) (found_by ms)) t.seen) (sym (none_yet c events text (Some (given st table)))) (sees (Some (given st table))).sees)
+        (subst (λ (ms : List StoreCall). IsViewOf q.catalog (with_found q.catalog (view_after q.catalog (E (Some (given st table))) c (running_of (E (Some (given st table))) c h.begun k.entries) (sees (Some (given st table))).run) (found_by ms)) t.seen) (sym (none_yet c events text (Some (given st table)))) (sees (Some (given st table))).sees)
         (scans (Some (given st table)))
 
   ---- each row
@@ -129,7 +129,7 @@ module _ (q : Taking) (is : is_catalog q.catalog ≡ true) (apart : (k : Key) �
   takes_comes a d (RollsBack t reads e) = steps.ended_follows q.catalog events c h k runs (event.Take c text (Some answer.Done)) (one (Some answer.Done)) (resting h) (inl (steps.ends_stays (E (Some answer.Done)) c (one (Some answer.Done)) (rollback_over reads))) refl
   takes_comes a d (LosesCommit reads) =
       steps.ended_follows q.catalog events c h k runs (event.Take c text (Some answer.NoMemory)) (one (Some answer.NoMemory)) (resting h) (inl (steps.nothing_stays (E (Some answer.NoMemory)) c (one (Some answer.NoMemory)) answer.NoMemory refl refl refl)) refl
-  takes_comes a d (CommitStarts t reads e) = steps.runs_wrote q.catalog (E None) c (running_of (E None) c h.begun k.answered) t.seen (sees t e None)
+  takes_comes a d (CommitStarts t reads e) = steps.runs_wrote q.catalog (E None) c (running_of (E None) c h.begun k.entries) t.seen (sees t e None)
   takes_comes a d (VacuumStarts t ts reads e f) = steps.sees_then q.catalog events c h k runs (event.Take c text None)
   takes_comes a d (ReadKnown t table st on known) = known_comes t on.opened st table on
   takes_comes a d (ReadStarts t table st on unread) = sees t on.opened None
@@ -138,11 +138,11 @@ module _ (q : Taking) (is : is_catalog q.catalog ≡ true) (apart : (k : Key) �
   pub takes_runs : (a : Option Answer) (d : ClientAt) → Step h (Takes q text) a d → ClientRuns q.catalog (E a) c d
   takes_runs a d t = by a (takes_comes a d t)
     where
-      now : (b : Option Answer) → answered_of c (E b) ≡ k.answered ++ filter is_answered (one b ∷ [])
+      now : (b : Option Answer) → answered_of c (E b) ≡ k.entries ++ filter is_answered (one b ∷ [])
       now b = ap (filter is_answered) (take_said c events text b) ∙ filter-append is_answered (statements_by c events) (one b ∷ []) ∙ ap (λ ss. ss ++ filter is_answered (one b ∷ [])) (answered_of_is q.catalog events c h k)
 
       by : (b : Option Answer) → Comes b d → ClientRuns q.catalog (E b) c d
-      by None z = steps.still_runs q.catalog events c h k runs (event.Take c text None) d (now None ∙ append-nil k.answered) z
+      by None z = steps.still_runs q.catalog events c h k runs (event.Take c text None) d (now None ∙ append-nil k.entries) z
       by (Some b) z =
           steps.next_runs q.catalog events c h k runs (event.Take c text (Some b)) (one (Some b)) d (now (Some b)) z
-          (λ reads opened. none_wrote q.catalog (E (Some b)) c (running_of (E (Some b)) c (begun_in k.answered) k.answered) (id_of c (begun_in k.answered)) (calls_of (E (Some b)) c (one (Some b))) (none_yet c events text (Some b)))
+          (λ reads opened. none_wrote q.catalog (E (Some b)) c (running_of (E (Some b)) c (begun_in k.entries) k.entries) (id_of c (begun_in k.entries)) (calls_of (E (Some b)) c (one (Some b))) (none_yet c events text (Some b)))

@@ -533,7 +533,7 @@ module _ (catalog : List Table) (events : List Event) (c : ℕ) (h d : ClientAt)
           by (step.BadRecord key) n = absurd (let y = n.0 in cc)
           by step.NoMemory n = absurd n
 
-  commits : (a : Option Answer) → CommitCall events c k.answered x h q r a d → SoBy AreDue WaitDue (E a) c (replied_said events x a) d a
+  commits : (a : Option Answer) → CommitCall events c k.entries x h q r a d → SoBy AreDue WaitDue (E a) c (replied_said events x a) d a
   commits a z = by a refl
     where
       was : (z.k.work.now ≡ clock_at events x.accepted) × OwnWrites z.k.work ms
@@ -572,15 +572,15 @@ module _ (catalog : List Table) (events : List Event) (c : ℕ) (h d : ClientAt)
           (subst (λ (v : Option VacuumAt). HandGives (E None) (ms ++ made ∷ []) (clock_at (E None) x.accepted) v (Some z.u)) (sym z.free) (doing_own z.u.doing _ (λ i g. g.0) (z.answered.next further))))
       by (Some b) e = λ m id has fits puts.
           let own = all m id (subst (λ (cs : List StoreCall). Contains cs m) (more (Some b)) has) fits puts in
-          let acked : statements_by c events ≡ k.answered ++ x ∷ [] = k.same ∙ ap (λ (o : Option Executed). k.answered ++ waiting_of o) waiting in
+          let acked : statements_by c events ≡ k.entries ++ x ∷ [] = k.same ∙ ap (λ (o : Option Executed). k.entries ++ waiting_of o) waiting in
           inl (record {
             commit = subst (IsCommitOf (E (Some b)) c (executed_with_answer events x b)) (sym (own.0 ∙ z.is.same))
-                (commit_is (E (Some b)) c h.begun k.answered (executed_with_answer events x b) z.t k.small (call_said c events store q how r b k.answered x acked) z.is.text (ends_commit (executed_with_answer events x b) z.is.text) z.since);
+                (commit_is (E (Some b)) c h.begun k.entries (executed_with_answer events x b) z.t k.small (call_said c events store q how r b k.entries x acked) z.is.text (ends_commit (executed_with_answer events x b) z.is.text) z.since);
             decision = own.1;
             asks = own.2 ∙ ap (λ (i : TxId). row_put i own.1 z.k.work.now) (sym own.0) ∙ ap (row_put id own.1) (shows (Some b));
           })
 
-  call_due : (a : Option Answer) → CallOf catalog events c k.answered x h q r now a d → SoBy AreDue WaitDue (E a) c (replied_said events x a) d a
+  call_due : (a : Option Answer) → CallOf catalog events c k.entries x h q r now a d → SoBy AreDue WaitDue (E a) c (replied_said events x a) d a
   call_due a (inl z) = vacuums a z
   call_due a (inr (inl z)) = reads a z
   call_due a (inr (inr z)) = commits a z

@@ -46,14 +46,14 @@ rests_new : (catalog : List Table) (events : List Event) (e : Event) (c : ℕ) (
 rests_new catalog events e c h k says new = subst (AllNew (events ++ e ∷ []) c) (sym (ap (filter is_answered) says)) (all_stay catalog events e c (answered_of c events) (answered_each catalog events c h k) new)
 
 -- where a statement is answered
-ends_new : (catalog : List Table) (events : List Event) (e : Event) (c : ℕ) (h : ClientAt) (k : Knows catalog events c h) (z : Executed) → answered_of c (events ++ e ∷ []) ≡ k.answered ++ z ∷ [] → AllNew events c (answered_of c events) → (open_after k.answered ≡ true → StatementNew (events ++ e ∷ []) c (running_of (events ++ e ∷ []) c (begun_in k.answered) k.answered) z)
+ends_new : (catalog : List Table) (events : List Event) (e : Event) (c : ℕ) (h : ClientAt) (k : Knows catalog events c h) (z : Executed) → answered_of c (events ++ e ∷ []) ≡ k.entries ++ z ∷ [] → AllNew events c (answered_of c events) → (open_after k.entries ≡ true → StatementNew (events ++ e ∷ []) c (running_of (events ++ e ∷ []) c (begun_in k.entries) k.entries) z)
     → AllNew (events ++ e ∷ []) c (answered_of c (events ++ e ∷ []))
-ends_new catalog events e c h k z same new last = subst (AllNew (events ++ e ∷ []) c) (sym same) (all_more (events ++ e ∷ []) c k.answered z k.counted.paired (all_stay catalog events e c k.answered k.answered (subst (AllNew events c) (answered_of_is catalog events c h k) new)) last)
+ends_new catalog events e c h k z same new last = subst (AllNew (events ++ e ∷ []) c) (sym same) (all_more (events ++ e ∷ []) c k.entries z k.counted.paired (all_stay catalog events e c k.entries k.answered (subst (AllNew events c) (answered_of_is catalog events c h k) new)) last)
 
 -- what a statement that waits reads
 wait_new : (w : WorldAt) → AllSo NothingMore WaitNew w → (c : ℕ) (d : ClientAt) → (states_of w.client_slots c).client ≡ d → (k : Knows w.script.catalog w.events c d) (x : Executed) → k.waiting ≡ Some x → IsWaiting w.script.catalog w.events c (is_some d.vacuum) x → WaitNew w.script.catalog w.events c x d
 wait_new w so c d here k x waiting waits =
-    let among : Contains (statements_by c w.events) x = subst (λ (ss : List Executed). Contains ss x) (sym (k.same ∙ ap (λ (o : Option Executed). k.answered ++ waiting_of o) waiting)) (Contains-push k.answered x) in
+    let among : Contains (statements_by c w.events) x = subst (λ (ss : List Executed). Contains ss x) (sym (k.same ∙ ap (λ (o : Option Executed). k.entries ++ waiting_of o) waiting)) (Contains-push k.entries x) in
     subst (WaitNew w.script.catalog w.events c x) here
     (subst (λ (o : Option Answer). SoOver NothingMore WaitNew w.script.catalog w.events c x (states_of w.client_slots c).client o) waits.unanswered (so c x among))
 
@@ -79,7 +79,7 @@ module _ (w : WorldAt) (h : Holds w) (all : AllRun w) (so : AllSo NothingMore Wa
       by None e = subst (AllNew (w.events ++ event.Take c text None ∷ []) c) (sym (now None ∙ append-nil (answered_of c w.events))) (all_stay catalog w.events (event.Take c text None) c (answered_of c w.events) (answered_each catalog w.events c (states_of w.client_slots c).client k) (new c))
       by (Some b) e =
           ends_new catalog w.events (event.Take c text (Some b)) c (states_of w.client_slots c).client k (executed_of_take w.events text (Some b)) (now (Some b) ∙ ap (λ ss. ss ++ executed_of_take w.events text (Some b) ∷ []) (answered_of_is catalog w.events c (states_of w.client_slots c).client k)) (new c)
-          (λ opened. taken_new w.events c text (Some b) (running_of (w.events ++ event.Take c text (Some b) ∷ []) c (begun_in k.answered) k.answered))
+          (λ opened. taken_new w.events c text (Some b) (running_of (w.events ++ event.Take c text (Some b) ∷ []) c (begun_in k.entries) k.entries))
 
   step_new : (e : Event) (u : State) → IsStepFrom w.script (state_of w) e u → AllReadNew (led w e u)
   step_new (event.Take c text a) u t n = by_nat c n (λ same. subst (λ (x : ℕ). AllNew (w.events ++ event.Take c text a ∷ []) x (answered_of x (w.events ++ event.Take c text a ∷ []))) same (take_step c text a)) (λ apart. others_new (event.Take c text a) n (others_silent w.events n c (event.Take c text a) apart refl))
@@ -104,9 +104,9 @@ module _ (w : WorldAt) (h : Holds w) (all : AllRun w) (so : AllSo NothingMore Wa
       by None e = rests_new catalog w.events (event.Call c store q how r None) c t.client_slot.client k (silent_said c w.events store q how r) (new c)
       by (Some b) e =
           ends_new catalog w.events (event.Call c store q how r (Some b)) c t.client_slot.client k (executed_with_answer w.events x.0 b)
-          (ap (filter is_answered) (call_said c w.events store q how r b k.answered x.0 (k.same ∙ ap (λ (o : Option Executed). k.answered ++ waiting_of o) x.1)) ∙ filter-append is_answered k.answered (executed_with_answer w.events x.0 b ∷ []) ∙ ap (λ ss. ss ++ executed_with_answer w.events x.0 b ∷ []) (all_answered catalog w.events c k.answered k.answered)) (new c)
+          (ap (filter is_answered) (call_said c w.events store q how r b k.entries x.0 (k.same ∙ ap (λ (o : Option Executed). k.entries ++ waiting_of o) x.1)) ∙ filter-append is_answered k.entries (executed_with_answer w.events x.0 b ∷ []) ∙ ap (λ ss. ss ++ executed_with_answer w.events x.0 b ∷ []) (all_answered catalog w.events c k.entries k.answered)) (new c)
           (answered_new catalog w.events c t.client_slot.client t.client k (subst (λ (y : ClientState). ClientRuns catalog w.events c y.client) next_state (all c)) store q how r w.clock x.0 b waits (wait_new w so c t.client_slot.client (ap (λ (y : ClientState). y.client) next_state) k x.0 x.1 waits)
-          (subst (λ (o : Option Answer). CallOf catalog w.events c k.answered x.0 t.client_slot.client q r w.clock o t.client) e (call_of catalog w.events c t.client_slot.client k x.0 x.1 q r w.clock a t.client t.pending (h.world.each t.place t.client_slot t.at).fitted t.takes)))
+          (subst (λ (o : Option Answer). CallOf catalog w.events c k.entries x.0 t.client_slot.client q r w.clock o t.client) e (call_of catalog w.events c t.client_slot.client k x.0 x.1 q r w.clock a t.client t.pending (h.world.each t.place t.client_slot t.at).fitted t.takes)))
 
 ---- a whole execution
 
@@ -172,30 +172,30 @@ module _ (script : Script) (events : List Event) (playable : IsPlayable script) 
     k = (execution_holds script events playable x).caused.each c
 
     -- the statement that waits reads new
-    waiting_new : (w : Executed) → k.waiting ≡ Some w → IsWaiting script.catalog events c (is_some h.vacuum) w → open_after k.answered ≡ true → StatementNew events c (running_of events c (begun_in k.answered) k.answered) w
-    waiting_new w waiting waits opened = by_vacuum h.vacuum (subst (λ (o : Option Executed). ClientByHistory events c h.begun k.answered o h.plan h.txn h.vacuum) waiting k.agrees)
+    waiting_new : (w : Executed) → k.waiting ≡ Some w → IsWaiting script.catalog events c (is_some h.vacuum) w → open_after k.entries ≡ true → StatementNew events c (running_of events c (begun_in k.entries) k.entries) w
+    waiting_new w waiting waits opened = by_vacuum h.vacuum (subst (λ (o : Option Executed). ClientByHistory events c h.begun k.entries o h.plan h.txn h.vacuum) waiting k.agrees)
       where
         so : TxnNew h.txn (calls_of events c w)
         so = wait_new (record { script = script; client_slots = x.last.client_slots; events = events; clock = x.last.clock }) (statements_so NothingMore WaitNew new_kept script events playable x) c h refl k w waiting waits
 
-        sees : IfSome h.txn (SeesRun script.catalog events c (running_of events c h.begun k.answered))
+        sees : IfSome h.txn (SeesRun script.catalog events c (running_of events c h.begun k.entries))
         sees = subst (λ ss. IfSome h.txn (SeesRun script.catalog events c (running_of events c h.begun ss))) (answered_of_is script.catalog events c h k) (all_run script events playable x c).sees
 
-        by_doing : (t : TxnAt) (p : Option Planned) (d : Doing) → IsDoing events c t p (Some w) d → DoingNew t.seen d (calls_of events c w) → SeesIn script.catalog events c (running_of events c h.begun k.answered) t.seen d → StatementNew events c (running_of events c (begun_in k.answered) k.answered) w
+        by_doing : (t : TxnAt) (p : Option Planned) (d : Doing) → IsDoing events c t p (Some w) d → DoingNew t.seen d (calls_of events c w) → SeesIn script.catalog events c (running_of events c h.begun k.entries) t.seen d → StatementNew events c (running_of events c (begun_in k.entries) k.entries) w
         by_doing t p doing.Idle i n s = absurd (none_is (sym i))
           where
             none_is : ◌≡◌ {A = Option Executed} None (Some w) → ⊥
             none_is e = cc
         by_doing t None (doing.Read a y) i n s = absurd i
-        by_doing t (Some p) (doing.Read a y) i n s = subst (λ m. StatementNew events c (running_of events c m k.answered) w) k.begun (access_new script.catalog events c (running_of events c h.begun k.answered) t.seen a w s n.0 n.1)
+        by_doing t (Some p) (doing.Read a y) i n s = subst (λ m. StatementNew events c (running_of events c m k.entries) w) k.begun (access_new script.catalog events c (running_of events c h.begun k.entries) t.seen a w s n.0 n.1)
         by_doing t p (doing.Commit y) i n s = λ no_commit. clash (sym i.text ∙ no_commit)
         by_doing t p doing.Over i n s = absurd i
 
-        by_txn : (o : Option TxnAt) → DoingByHistory events c h.begun k.answered (Some w) h.plan o → TxnNew o (calls_of events c w) → IfSome o (SeesRun script.catalog events c (running_of events c h.begun k.answered)) → StatementNew events c (running_of events c (begun_in k.answered) k.answered) w
+        by_txn : (o : Option TxnAt) → DoingByHistory events c h.begun k.entries (Some w) h.plan o → TxnNew o (calls_of events c w) → IfSome o (SeesRun script.catalog events c (running_of events c h.begun k.entries)) → StatementNew events c (running_of events c (begun_in k.entries) k.entries) w
         by_txn None s n v = clash (sym opened ∙ s.1)
         by_txn (Some t) s n v = by_doing t h.plan t.doing s.2 n v
 
-        by_vacuum : (v : Option VacuumAt) → ClientByHistory events c h.begun k.answered (Some w) h.plan h.txn v → StatementNew events c (running_of events c (begun_in k.answered) k.answered) w
+        by_vacuum : (v : Option VacuumAt) → ClientByHistory events c h.begun k.entries (Some w) h.plan h.txn v → StatementNew events c (running_of events c (begun_in k.entries) k.entries) w
         by_vacuum None s = by_txn h.txn s so sees
         by_vacuum (Some v) s = clash (sym opened ∙ s.1)
 
@@ -203,12 +203,12 @@ module _ (script : Script) (events : List Event) (playable : IsPlayable script) 
     each_new : AllNew events c (statements_by c events)
     each_new = subst (AllNew events c) (sym k.same) (by k.waiting refl k.waits)
       where
-        before : AllNew events c k.answered
+        before : AllNew events c k.entries
         before = subst (AllNew events c) (answered_of_is script.catalog events c h k) (all_new c)
 
-        by : (o : Option Executed) → k.waiting ≡ o → IfSome o (IsWaiting script.catalog events c (is_some h.vacuum)) → AllNew events c (k.answered ++ waiting_of o)
-        by None e w = subst (AllNew events c) (sym (append-nil k.answered)) before
-        by (Some y) e w = all_more events c k.answered y k.counted.paired before (waiting_new y e w)
+        by : (o : Option Executed) → k.waiting ≡ o → IfSome o (IsWaiting script.catalog events c (is_some h.vacuum)) → AllNew events c (k.entries ++ waiting_of o)
+        by None e w = subst (AllNew events c) (sym (append-nil k.entries)) before
+        by (Some y) e w = all_more events c k.entries y k.counted.paired before (waiting_new y e w)
 
   -- The reads of each transaction are new.
   pub execution_new : ReadsAreNew events

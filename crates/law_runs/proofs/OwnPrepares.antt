@@ -211,7 +211,7 @@ module _ (catalog : List Table) (events : List Event) (c : ℕ) (h d : ClientAt)
       let left : d ≡ record h { txn = Some z.u } = z.left ∙ ap (λ (n : Next). after h n z.u) again in
       ap (λ (y : ClientAt). work_in y.vacuum y.txn) left ∙ ap (λ (v : Option VacuumAt). work_in v (Some z.u)) z.free ∙ read_left z.t z.p z.access z.x r now z.next z.u z.answered again)
 
-  commits : (a : Option Answer) → CommitCall events c k.answered x h q r a d → SoBy AreOwn WaitsOwn (E a) c (replied_said events x a) d a
+  commits : (a : Option Answer) → CommitCall events c k.entries x h q r a d → SoBy AreOwn WaitsOwn (E a) c (replied_said events x a) d a
   commits a z = by a refl
     where
       p : Work
@@ -238,14 +238,14 @@ module _ (catalog : List Table) (events : List Event) (c : ℕ) (h d : ClientAt)
           (was.0 ∙ sym (clock_same events (event.Call c store q how r None) x.accepted waits.accepted), subst (PreparesFor p) (sym (more None)) all)
       by (Some b) e = λ m id y has puts.
           let found = all m id y (subst (λ (ms : List StoreCall). Contains ms m) (more (Some b)) has) puts in
-          let answered : statements_by c events ≡ k.answered ++ x ∷ [] = k.same ∙ ap (λ (o : Option Executed). k.answered ++ waiting_of o) waiting in
+          let answered : statements_by c events ≡ k.entries ++ x ∷ [] = k.same ∙ ap (λ (o : Option Executed). k.entries ++ waiting_of o) waiting in
           record {
             commit = subst (IsCommitOf (E (Some b)) c (executed_with_answer events x b)) (sym (found.0 ∙ z.is.same))
-                (commit_is (E (Some b)) c h.begun k.answered (executed_with_answer events x b) z.t k.small (call_said c events store q how r b k.answered x answered) z.is.text (ends_commit (executed_with_answer events x b) z.is.text) z.since);
+                (commit_is (E (Some b)) c h.begun k.entries (executed_with_answer events x b) z.t k.small (call_said c events store q how r b k.entries x answered) z.is.text (ends_commit (executed_with_answer events x b) z.is.text) z.since);
             moment = found.1 ∙ ap Some (was.0 ∙ sym (clock_same events (event.Call c store q how r (Some b)) x.accepted waits.accepted));
           }
 
-  call_own : (a : Option Answer) → CallOf catalog events c k.answered x h q r now a d → SoBy AreOwn WaitsOwn (E a) c (replied_said events x a) d a
+  call_own : (a : Option Answer) → CallOf catalog events c k.entries x h q r now a d → SoBy AreOwn WaitsOwn (E a) c (replied_said events x a) d a
   call_own a (inl z) = vacuums a z
   call_own a (inr (inl z)) = reads a z
   call_own a (inr (inr z)) = commits a z
@@ -272,24 +272,24 @@ own_kept = record {
 
 -- the COMMIT that waits is one of its transaction
 pub commit_waits : (catalog : List Table) (events : List Event) (c : ℕ) (h : ClientAt) (k : Knows catalog events c h) (s : Executed) → k.waiting ≡ Some s → (p : Work) → work_in h.vacuum h.txn ≡ Some p → IsCommitOf events c s p.id
-commit_waits catalog events c h k s waiting p here = by_vacuum h.vacuum (subst (λ (o : Option Executed). ClientByHistory events c h.begun k.answered o h.plan h.txn h.vacuum) waiting k.agrees) here
+commit_waits catalog events c h k s waiting p here = by_vacuum h.vacuum (subst (λ (o : Option Executed). ClientByHistory events c h.begun k.entries o h.plan h.txn h.vacuum) waiting k.agrees) here
   where
-    answered : statements_by c events ≡ k.answered ++ s ∷ []
-    answered = k.same ∙ ap (λ (o : Option Executed). k.answered ++ waiting_of o) waiting
+    answered : statements_by c events ≡ k.entries ++ s ∷ []
+    answered = k.same ∙ ap (λ (o : Option Executed). k.entries ++ waiting_of o) waiting
 
-    by_doing : (t : TxnAt) (x : Doing) → IsOpenAs c h.begun k.answered t → IsDoing events c t h.plan (Some s) x → work_doing x ≡ Some p → IsCommitOf events c s p.id
+    by_doing : (t : TxnAt) (x : Doing) → IsOpenAs c h.begun k.entries t → IsDoing events c t h.plan (Some s) x → work_doing x ≡ Some p → IsCommitOf events c s p.id
     by_doing t (doing.Commit y) since is e =
         let same : t.id ≡ p.id = sym is.same ∙ ap (λ (w : Work). w.id) (some_is y.work p e) in
-        subst (IsCommitOf events c s) same (commit_is events c h.begun k.answered s t k.small answered is.text (ends_commit s is.text) since)
+        subst (IsCommitOf events c s) same (commit_is events c h.begun k.entries s t k.small answered is.text (ends_commit s is.text) since)
     by_doing t doing.Idle since is e = none_some p e
     by_doing t (doing.Read a x) since is e = none_some p e
     by_doing t doing.Over since is e = none_some p e
 
-    by_txn : (o : Option TxnAt) → DoingByHistory events c h.begun k.answered (Some s) h.plan o → work_txn o ≡ Some p → IsCommitOf events c s p.id
+    by_txn : (o : Option TxnAt) → DoingByHistory events c h.begun k.entries (Some s) h.plan o → work_txn o ≡ Some p → IsCommitOf events c s p.id
     by_txn None z e = none_some p e
     by_txn (Some t) z e = by_doing t t.doing z.1 z.2 e
 
-    by_vacuum : (v : Option VacuumAt) → ClientByHistory events c h.begun k.answered (Some s) h.plan h.txn v → work_in v h.txn ≡ Some p → IsCommitOf events c s p.id
+    by_vacuum : (v : Option VacuumAt) → ClientByHistory events c h.begun k.entries (Some s) h.plan h.txn v → work_in v h.txn ≡ Some p → IsCommitOf events c s p.id
     by_vacuum None z e = by_txn h.txn z e
     by_vacuum (Some v) z e = none_some p e
 

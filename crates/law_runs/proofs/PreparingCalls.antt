@@ -102,6 +102,6 @@ prepares_kept = record {
   answered = λ catalog events e c s past so. tt;
   waiting = λ catalog events e c s h still so. subst (TxnPrepares h.txn) (sym still.calls) so;
   takes = λ w u c text a t h. take_prepares (record { catalog = w.script.catalog; now = w.clock; gate = t.gate; fresh = next_id t.client_slot.client }) text t.client_slot.client t.client a w.events c t.idle t.takes;
-  calls = λ w u c store q how r a t h k x waiting waits so. call_waits w.script.catalog w.events c t.client_slot.client t.client store q how r w.clock k.answered x so waits a
+  calls = λ w u c store q how r a t h k x waiting waits so. call_waits w.script.catalog w.events c t.client_slot.client t.client store q how r w.clock k.entries x so waits a
       (call_of w.script.catalog w.events c t.client_slot.client k x waiting q r w.clock a t.client t.pending (h.world.each t.place t.client_slot t.at).fitted t.takes);
 }

@@ -23,9 +23,9 @@ use Rattle.law_answers.specs.Invariant.{IsCommitting, IsDoing, IsOpenAs, IsReadi
 
 -- A client that waits for a statement has none without an answer.
 pub idle_rests : (catalog : List Table) (events : List Event) (c : ℕ) (h : ClientAt) (k : Knows catalog events c h) → IsIdle h → k.waiting ≡ None
-idle_rests catalog events c h k idle = by h.txn idle.still (subst (ClientByHistory events c h.begun k.answered k.waiting h.plan h.txn) idle.free k.agrees)
+idle_rests catalog events c h k idle = by h.txn idle.still (subst (ClientByHistory events c h.begun k.entries k.waiting h.plan h.txn) idle.free k.agrees)
   where
-    by : (o : Option TxnAt) → IfSome o (λ t. t.doing ≡ doing.Idle) → DoingByHistory events c h.begun k.answered k.waiting h.plan o → k.waiting ≡ None
+    by : (o : Option TxnAt) → IfSome o (λ t. t.doing ≡ doing.Idle) → DoingByHistory events c h.begun k.entries k.waiting h.plan o → k.waiting ≡ None
     by None still s = s.0
     by (Some t) still s = subst (IsDoing events c t h.plan k.waiting) still s.2
 
@@ -41,11 +41,11 @@ pends_waits catalog events c h q k pending = by_vacuum h.vacuum k.waiting k.agre
     by_doing t p None (doing.Commit x) i e = absurd i
     by_doing t p None doing.Over i e = absurd i
 
-    by_txn : (o : Option TxnAt) (w : Option Executed) → DoingByHistory events c h.begun k.answered w h.plan o → pending_of o ≡ Some q → (x : Executed) × (w ≡ Some x)
+    by_txn : (o : Option TxnAt) (w : Option Executed) → DoingByHistory events c h.begun k.entries w h.plan o → pending_of o ≡ Some q → (x : Executed) × (w ≡ Some x)
     by_txn None w s e = none_some q e
     by_txn (Some t) w s e = by_doing t h.plan w t.doing s.2 e
 
-    by_vacuum : (v : Option VacuumAt) (w : Option Executed) → ClientByHistory events c h.begun k.answered w h.plan h.txn v → pending_by v h.txn ≡ Some q → (x : Executed) × (w ≡ Some x)
+    by_vacuum : (v : Option VacuumAt) (w : Option Executed) → ClientByHistory events c h.begun k.entries w h.plan h.txn v → pending_by v h.txn ≡ Some q → (x : Executed) × (w ≡ Some x)
     by_vacuum None w s e = by_txn h.txn w s e
     by_vacuum (Some v) None s e = absurd s
     by_vacuum (Some v) (Some x) s e = (x, refl)
@@ -101,8 +101,8 @@ pub record CommitCall (events : List Event) (c : ℕ) (told_so : List Executed) 
 abbrev pub CallOf : List Table → List Event → ℕ → List Executed → Executed → ClientAt → Request → Reply → ℤ → Option Answer → ClientAt → Type 0
 CallOf catalog events c answered w h q r now a d = SweepCall events c w h q r now a d ⊎ ReadCall catalog events c w h q r now a d ⊎ CommitCall events c answered w h q r a d
 
-pub call_of : (catalog : List Table) (events : List Event) (c : ℕ) (h : ClientAt) (k : Knows catalog events c h) (w : Executed) → k.waiting ≡ Some w → (q : Request) (r : Reply) (now : ℤ) (a : Option Answer) (d : ClientAt) → client_pending h ≡ Some q → IsFitted catalog h → Step h (Receives q r now) a d → CallOf catalog events c k.answered w h q r now a d
-call_of catalog events c h k w waits q r now a d pending fitted answered = by_vacuum h.vacuum refl (subst (λ (o : Option Executed). ClientByHistory events c h.begun k.answered o h.plan h.txn h.vacuum) waits k.agrees) pending (reply_of_step h q r now a d answered).1
+pub call_of : (catalog : List Table) (events : List Event) (c : ℕ) (h : ClientAt) (k : Knows catalog events c h) (w : Executed) → k.waiting ≡ Some w → (q : Request) (r : Reply) (now : ℤ) (a : Option Answer) (d : ClientAt) → client_pending h ≡ Some q → IsFitted catalog h → Step h (Receives q r now) a d → CallOf catalog events c k.entries w h q r now a d
+call_of catalog events c h k w waits q r now a d pending fitted answered = by_vacuum h.vacuum refl (subst (λ (o : Option Executed). ClientByHistory events c h.begun k.entries o h.plan h.txn h.vacuum) waits k.agrees) pending (reply_of_step h q r now a d answered).1
   where
     asked_of : (t : TxnAt) (access : Access) (x : ReadAt) (p : Planned) → h.vacuum ≡ None → h.txn ≡ Some t → h.plan ≡ Some p → t.doing ≡ doing.Read access x → IsAskedBy catalog p access x
     asked_of t access x p free opened plan does =
@@ -112,13 +112,13 @@ call_of catalog events c h k w waits q r now a d pending fitted answered = by_va
 
     writes_of : (t : TxnAt) (x : CommitAt) → h.vacuum ≡ None → h.txn ≡ Some t → t.doing ≡ doing.Commit x → AllByRecursion IsWrite x.work.writes
     writes_of t x free opened does =
-        let counted = subst (λ (o : Option Executed). IfSome o (λ y. WaitCounted catalog y.text (id_of c h.begun) (read_items_since events c h.begun k.answered) (calls_of events c y) h.vacuum h.txn)) waits k.counted.waits in
-        let txn = subst (λ (v : Option VacuumAt). WaitCounted catalog w.text (id_of c h.begun) (read_items_since events c h.begun k.answered) (calls_of events c w) v h.txn) free counted in
-        let one = subst (OpenCounted w.text (id_of c h.begun) (read_items_since events c h.begun k.answered) (calls_of events c w)) opened txn in
-        (subst (DoingCounted w.text (id_of c h.begun) (read_items_since events c h.begun k.answered) (calls_of events c w)) does one).2
+        let counted = subst (λ (o : Option Executed). IfSome o (λ y. WaitCounted catalog y.text (id_of c h.begun) (read_items_since events c h.begun k.entries) (calls_of events c y) h.vacuum h.txn)) waits k.counted.waits in
+        let txn = subst (λ (v : Option VacuumAt). WaitCounted catalog w.text (id_of c h.begun) (read_items_since events c h.begun k.entries) (calls_of events c w) v h.txn) free counted in
+        let one = subst (OpenCounted w.text (id_of c h.begun) (read_items_since events c h.begun k.entries) (calls_of events c w)) opened txn in
+        (subst (DoingCounted w.text (id_of c h.begun) (read_items_since events c h.begun k.entries) (calls_of events c w)) does one).2
 
-    by_doing : (t : TxnAt) (x : Doing) (p : Option Planned) (n : Next) (u : TxnAt) → h.vacuum ≡ None → h.txn ≡ Some t → t.doing ≡ x → h.plan ≡ p → IsOpenAs c h.begun k.answered t → IsDoing events c t p (Some w) x → pending_in x ≡ Some q → NextPost t x p r now n u → a ≡ answer_in n → d ≡ after h n u
-        → ReadCall catalog events c w h q r now a d ⊎ CommitCall events c k.answered w h q r a d
+    by_doing : (t : TxnAt) (x : Doing) (p : Option Planned) (n : Next) (u : TxnAt) → h.vacuum ≡ None → h.txn ≡ Some t → t.doing ≡ x → h.plan ≡ p → IsOpenAs c h.begun k.entries t → IsDoing events c t p (Some w) x → pending_in x ≡ Some q → NextPost t x p r now n u → a ≡ answer_in n → d ≡ after h n u
+        → ReadCall catalog events c w h q r now a d ⊎ CommitCall events c k.entries w h q r a d
     by_doing t doing.Idle p n u free opened does plan since i e z is left = none_some q e
     by_doing t (doing.Read access x) None n u free opened does plan since i e z is left = absurd z
     by_doing t (doing.Read access x) (Some p) n u free opened does plan since i e z is left = inl (record {
@@ -158,10 +158,10 @@ call_of catalog events c h k w waits q r now a d pending fitted answered = by_va
     })
     by_doing t doing.Over p n u free opened does plan since i e z is left = none_some q e
 
-    by_txn : (o : Option TxnAt) → h.vacuum ≡ None → h.txn ≡ o → DoingByHistory events c h.begun k.answered (Some w) h.plan o → pending_of o ≡ Some q → OpenTxnPost h o r now a d → ReadCall catalog events c w h q r now a d ⊎ CommitCall events c k.answered w h q r a d
+    by_txn : (o : Option TxnAt) → h.vacuum ≡ None → h.txn ≡ o → DoingByHistory events c h.begun k.entries (Some w) h.plan o → pending_of o ≡ Some q → OpenTxnPost h o r now a d → ReadCall catalog events c w h q r now a d ⊎ CommitCall events c k.entries w h q r a d
     by_txn None free opened s e z = none_some q e
     by_txn (Some t) free opened s e z = by_doing t t.doing h.plan z.next z.left free opened refl refl s.1 s.2 e z.answered z.answer z.client
 
-    by_vacuum : (v : Option VacuumAt) → h.vacuum ≡ v → ClientByHistory events c h.begun k.answered (Some w) h.plan h.txn v → pending_by v h.txn ≡ Some q → ReplyPost h v r now a d → CallOf catalog events c k.answered w h q r now a d
+    by_vacuum : (v : Option VacuumAt) → h.vacuum ≡ v → ClientByHistory events c h.begun k.entries (Some w) h.plan h.txn v → pending_by v h.txn ≡ Some q → ReplyPost h v r now a d → CallOf catalog events c k.entries w h q r now a d
     by_vacuum None free s e z = inr (by_txn h.txn free refl s e z)
     by_vacuum (Some v) runs s e z = inl (record { v = v; runs = runs; rests = s.0; is = s.2; pends = e; answered = z.0; left = z.1 })

@@ -81,10 +81,10 @@ in_waiting (Some w) s h = by (Contains-push_cases [] w s h)
 
 -- each was answered, or is the one that waits
 pub known : (catalog : List Table) (events : List Event) (c : ℕ) (h : ClientAt) (k : Knows catalog events c h) (s : Executed) → Contains (statements_by c events) s → IsAnswered catalog events c s ⊎ (k.waiting ≡ Some s)
-known catalog events c h k s has = by (Contains-append_cases k.answered (waiting_of k.waiting) s (subst (λ (ss : List Executed). Contains ss s) k.same has))
+known catalog events c h k s has = by (Contains-append_cases k.entries (waiting_of k.waiting) s (subst (λ (ss : List Executed). Contains ss s) k.same has))
   where
-    by : Contains k.answered s ⊎ Contains (waiting_of k.waiting) s → IsAnswered catalog events c s ⊎ (k.waiting ≡ Some s)
-    by (inl t) = inl (each_in (IsAnswered catalog events c) k.answered s k.answered t)
+    by : Contains k.entries s ⊎ Contains (waiting_of k.waiting) s → IsAnswered catalog events c s ⊎ (k.waiting ≡ Some s)
+    by (inl t) = inl (each_in (IsAnswered catalog events c) k.entries s k.answered t)
     by (inr t) = inr (in_waiting k.waiting s t)
 
 pub waits_of : (catalog : List Table) (events : List Event) (c : ℕ) (h : ClientAt) (k : Knows catalog events c h) (s : Executed) → k.waiting ≡ Some s → IsWaiting catalog events c (is_some h.vacuum) s
@@ -179,18 +179,18 @@ module _ (A : List Table → List Event → ℕ → Executed → Type 0) (W : Li
           let same : x ≡ s = some_is x s (sym waiting ∙ e) in
           subst (λ (y : Executed). SoOver A W catalog (events ++ event.Call c store q how r None ∷ []) c y d y.answer) same
           (subst (λ (o : Option Answer). SoOver A W catalog (events ++ event.Call c store q how r None ∷ []) c x d o) (sym waits.unanswered) now)
-  own_call catalog events c h d store q how r (Some b) k x waiting waits so now s has = by (Contains-push_cases k.answered (executed_with_answer events x b) s (subst (λ (ss : List Executed). Contains ss s) says has))
+  own_call catalog events c h d store q how r (Some b) k x waiting waits so now s has = by (Contains-push_cases k.entries (executed_with_answer events x b) s (subst (λ (ss : List Executed). Contains ss s) says has))
     where
-      answered : statements_by c events ≡ k.answered ++ x ∷ []
-      answered = k.same ∙ ap (λ (o : Option Executed). k.answered ++ waiting_of o) waiting
+      answered : statements_by c events ≡ k.entries ++ x ∷ []
+      answered = k.same ∙ ap (λ (o : Option Executed). k.entries ++ waiting_of o) waiting
 
-      says : statements_by c (events ++ event.Call c store q how r (Some b) ∷ []) ≡ k.answered ++ executed_with_answer events x b ∷ []
-      says = call_said c events store q how r b k.answered x answered
+      says : statements_by c (events ++ event.Call c store q how r (Some b) ∷ []) ≡ k.entries ++ executed_with_answer events x b ∷ []
+      says = call_said c events store q how r b k.entries x answered
 
-      by : Contains k.answered s ⊎ (executed_with_answer events x b ≡ s) → SoOver A W catalog (events ++ event.Call c store q how r (Some b) ∷ []) c s d s.answer
+      by : Contains k.entries s ⊎ (executed_with_answer events x b ≡ s) → SoOver A W catalog (events ++ event.Call c store q how r (Some b) ∷ []) c s d s.answer
       by (inl t) =
-          old_one catalog events (event.Call c store q how r (Some b)) c h d s (inr (inr (k.answered, x, executed_with_answer events x b, answered, waits.unanswered, says))) (each_in (IsAnswered catalog events c) k.answered s k.answered t)
-          (so s (subst (λ (ss : List Executed). Contains ss s) (sym answered) (Contains-append_left k.answered (x ∷ []) s t)))
+          old_one catalog events (event.Call c store q how r (Some b)) c h d s (inr (inr (k.entries, x, executed_with_answer events x b, answered, waits.unanswered, says))) (each_in (IsAnswered catalog events c) k.entries s k.answered t)
+          (so s (subst (λ (ss : List Executed). Contains ss s) (sym answered) (Contains-append_left k.entries (x ∷ []) s t)))
       by (inr same) = subst (λ (y : Executed). SoOver A W catalog (events ++ event.Call c store q how r (Some b) ∷ []) c y d y.answer) same now
 
 ---- the clients by their numbers
@@ -253,7 +253,7 @@ module _ (A : List Table → List Event → ℕ → Executed → Type 0) (W : Li
       waiting_so : (i : ℕ) (k : Knows w.script.catalog w.events (suc i) t.client_slot.client) (x : Executed) → k.waiting ≡ Some x → IsWaiting w.script.catalog w.events (suc i) (is_some t.client_slot.client.vacuum) x → ((y : Executed) → Contains (statements_by (suc i) w.events) y → SoOver A W w.script.catalog w.events (suc i) y t.client_slot.client y.answer) → W w.script.catalog w.events (suc i) x t.client_slot.client
       waiting_so i k x waiting waits here =
           subst (λ (o : Option Answer). SoOver A W w.script.catalog w.events (suc i) x t.client_slot.client o) waits.unanswered
-          (here x (subst (λ (ss : List Executed). Contains ss x) (sym (k.same ∙ ap (λ (o : Option Executed). k.answered ++ waiting_of o) waiting)) (Contains-push k.answered x)))
+          (here x (subst (λ (ss : List Executed). Contains ss x) (sym (k.same ∙ ap (λ (o : Option Executed). k.entries ++ waiting_of o) waiting)) (Contains-push k.entries x)))
 
       at_number : (w : WorldAt) (u : State) (c : ℕ) (store : Name) (q : Request) (how : How) (r : Reply) (a : Option Answer) (t : CallStep (state_of w) c q r a u) → Holds w → (i : ℕ) → c ≡ suc i → (k : Knows w.script.catalog w.events (suc i) t.client_slot.client) (x : Executed) → k.waiting ≡ Some x → IsWaiting w.script.catalog w.events (suc i) (is_some t.client_slot.client.vacuum) x → W w.script.catalog w.events (suc i) x t.client_slot.client
           → SoOver A W w.script.catalog (w.events ++ event.Call (suc i) store q how r a ∷ []) (suc i) (replied_said w.events x a) t.client a

@@ -187,7 +187,7 @@ sweeps_kept = record {
   answered = λ catalog events e c s past so vacuums. subst (HasSwept catalog s) (sym past.calls) (so vacuums);
   waiting = λ catalog events e c s h still so. subst (λ (ms : List StoreCall). GoesOver catalog ms h.vacuum) (sym still.calls) so;
   takes = takes_sweeps;
-  calls = λ w u c store q how r a t h k x waiting waits so. call_sweeps w.script.catalog w.events c t.client_slot.client t.client store q how r w.clock k.answered x waits (h.world.each t.place t.client_slot t.at).about h.world.playable.apart so a
+  calls = λ w u c store q how r a t h k x waiting waits so. call_sweeps w.script.catalog w.events c t.client_slot.client t.client store q how r w.clock k.entries x waits (h.world.each t.place t.client_slot t.at).about h.world.playable.apart so a
       (call_of w.script.catalog w.events c t.client_slot.client k x waiting q r w.clock a t.client t.pending (h.world.each t.place t.client_slot t.at).fitted t.takes);
 }
 

@@ -86,19 +86,19 @@ module _ (script : Script) (events : List Event) (playable : IsPlayable script) 
     k = (execution_holds script events playable x).caused.each c
 
     abbrev Wrote : Executed → ℕ → Type 0
-    Wrote y n = CommitWrote catalog events c (running_of events c n k.answered) (id_of c n) (calls_of events c y)
+    Wrote y n = CommitWrote catalog events c (running_of events c n k.entries) (id_of c n) (calls_of events c y)
 
     -- the COMMIT that waits has prepared what was written
-    waiting_wrote : (y : Executed) → k.waiting ≡ Some y → IsWaiting catalog events c (is_some h.vacuum) y → LastWrote catalog events c k.answered y
-    waiting_wrote y waiting waits reads opened = by_vacuum h.vacuum (subst (λ (o : Option Executed). ClientByHistory events c h.begun k.answered o h.plan h.txn h.vacuum) waiting k.agrees)
+    waiting_wrote : (y : Executed) → k.waiting ≡ Some y → IsWaiting catalog events c (is_some h.vacuum) y → LastWrote catalog events c k.entries y
+    waiting_wrote y waiting waits reads opened = by_vacuum h.vacuum (subst (λ (o : Option Executed). ClientByHistory events c h.begun k.entries o h.plan h.txn h.vacuum) waiting k.agrees)
       where
         so : TxnPrepares h.txn (calls_of events c y)
         so = wait_so w WaitPrepares prepared c h refl k y waiting waits
 
-        sees : IfSome h.txn (SeesRun catalog events c (running_of events c h.begun k.answered))
+        sees : IfSome h.txn (SeesRun catalog events c (running_of events c h.begun k.entries))
         sees = subst (λ ss. IfSome h.txn (SeesRun catalog events c (running_of events c h.begun ss))) (answered_of_is catalog events c h k) (all_run script events playable x c).sees
 
-        by_doing : (t : TxnAt) (p : Option Planned) (d : Doing) → IsOpenAs c h.begun k.answered t → IsDoing events c t p (Some y) d → DoingPrepares d (calls_of events c y) → SeesIn catalog events c (running_of events c h.begun k.answered) t.seen d → Wrote y (begun_in k.answered)
+        by_doing : (t : TxnAt) (p : Option Planned) (d : Doing) → IsOpenAs c h.begun k.entries t → IsDoing events c t p (Some y) d → DoingPrepares d (calls_of events c y) → SeesIn catalog events c (running_of events c h.begun k.entries) t.seen d → Wrote y (begun_in k.entries)
         by_doing t p doing.Idle o i n s = absurd (none_is (sym i))
           where
             none_is : ◌≡◌ {A = Option Executed} None (Some y) → ⊥
@@ -110,11 +110,11 @@ module _ (script : Script) (events : List Event) (playable : IsPlayable script) 
             (λ statements read. subst (λ ks. PreparesAll ks (id_of c h.begun) (calls_of events c y)) (s statements read) (subst (λ (id : TxId). PreparesAll (write_keys z.work.writes) id (calls_of events c y)) (i.same ∙ o.id) n.sofar))
         by_doing t p doing.Over o i n s = absurd i
 
-        by_txn : (o : Option TxnAt) → DoingByHistory events c h.begun k.answered (Some y) h.plan o → TxnPrepares o (calls_of events c y) → IfSome o (SeesRun catalog events c (running_of events c h.begun k.answered)) → Wrote y (begun_in k.answered)
+        by_txn : (o : Option TxnAt) → DoingByHistory events c h.begun k.entries (Some y) h.plan o → TxnPrepares o (calls_of events c y) → IfSome o (SeesRun catalog events c (running_of events c h.begun k.entries)) → Wrote y (begun_in k.entries)
         by_txn None s n v = clash (sym opened ∙ s.1)
         by_txn (Some t) s n v = by_doing t h.plan t.doing s.1 s.2 n v
 
-        by_vacuum : (v : Option VacuumAt) → ClientByHistory events c h.begun k.answered (Some y) h.plan h.txn v → Wrote y (begun_in k.answered)
+        by_vacuum : (v : Option VacuumAt) → ClientByHistory events c h.begun k.entries (Some y) h.plan h.txn v → Wrote y (begun_in k.entries)
         by_vacuum None s = by_txn h.txn s so sees
         by_vacuum (Some v) s = clash (sym opened ∙ s.1)
 
@@ -122,12 +122,12 @@ module _ (script : Script) (events : List Event) (playable : IsPlayable script) 
     all_wrote : CommitsWrote catalog events c (statements_by c events)
     all_wrote = subst (CommitsWrote catalog events c) (sym k.same) (by k.waiting refl k.waits)
       where
-        before : CommitsWrote catalog events c k.answered
+        before : CommitsWrote catalog events c k.entries
         before = subst (CommitsWrote catalog events c) (answered_of_is catalog events c h k) (all_run script events playable x c).commits
 
-        by : (o : Option Executed) → k.waiting ≡ o → IfSome o (IsWaiting catalog events c (is_some h.vacuum)) → CommitsWrote catalog events c (k.answered ++ waiting_of o)
-        by None e v = subst (CommitsWrote catalog events c) (sym (append-nil k.answered)) before
-        by (Some y) e v = commits_more catalog events c k.answered y k.counted.paired before (waiting_wrote y e v)
+        by : (o : Option Executed) → k.waiting ≡ o → IfSome o (IsWaiting catalog events c (is_some h.vacuum)) → CommitsWrote catalog events c (k.entries ++ waiting_of o)
+        by None e v = subst (CommitsWrote catalog events c) (sym (append-nil k.entries)) before
+        by (Some y) e v = commits_more catalog events c k.entries y k.counted.paired before (waiting_wrote y e v)
 
   -- it is one of its client's statements
   commit_said : (id : TxId) (s : Executed) → commit_of events id ≡ Some s → Contains (statements_by (client_of id) events) s

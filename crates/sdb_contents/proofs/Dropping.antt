@@ -16,7 +16,7 @@ use Rattle.sdb_contents.specs.Joined.{AreStillAttached}
 use Rattle.sdb_contents.specs.Dropped.{HoldsStill, IsRetired, MayRetire}
 use Rattle.sdb_contents.specs.Retired.{AreAllMoved, IsUnmoved, IsUnmovedKnown, OthersArePreserved, Sides}
 use Rattle.sdb_contents.specs.Writes.{GoOn, contents_at}
-use Rattle.sdb_contents.proofs.Calls.{same_index, still_there}
+use Rattle.sdb_contents.proofs.RetireCalls.{same_index, still_there}
 use Rattle.sdb_contents.proofs.Passing.{all_met}
 
 ---- names

@@ -14,7 +14,7 @@ use Rattle.sdb_contents.specs.Moving.{renewals}
 use Rattle.sdb_contents.specs.Retired.{IsSurvey, OthersArePreserved, Sides, TablesCopied, writes_of}
 use Rattle.sdb_contents.specs.Writes.{Hold, HoldFirst, Write, after_write, after_writes, contents_at, write_at, writes_at}
 use Rattle.sdb_contents.proofs.Apart.{elsewhere, moving_apart}
-use Rattle.sdb_contents.proofs.Calls.{after_more, same_itself}
+use Rattle.sdb_contents.proofs.RetireCalls.{after_more, same_itself}
 use Rattle.sdb_contents.proofs.Joins.{joined}
 
 pub own_writes : (i : ℕ) (qs : List Request) (m : Contents) → after_writes i (writes_at i qs) m ≡ after_all qs m

@@ -17,7 +17,7 @@ mod Saying
 mod Ended
 mod Prepared
 mod Rising
-mod Calls
+mod RetireCalls
 mod Scans
 mod Moved
 mod Steps

@@ -7,7 +7,7 @@ use Rattle.sdb_stores.specs.Views.{Attached, StoreView, IsCallAt, index_at}
 use Rattle.sdb_catalog.specs.Calls.{with_states}
 use Rattle.sdb_contents.specs.Copying.{AreMade, IsDone, IsMade}
 use Rattle.sdb_contents.specs.Writes.{GoOn, Write, write_at, writes_at}
-use Rattle.sdb_contents.proofs.Calls.{same_index}
+use Rattle.sdb_contents.proofs.RetireCalls.{same_index}
 use Rattle.sdb_contents.proofs.Steps.{writes_more}
 
 -- a call that is done with

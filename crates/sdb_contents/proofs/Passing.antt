@@ -30,7 +30,7 @@ use Rattle.sdb_contents.specs.Moving.{FollowMoving, is_moving, renewal, renewals
 use Rattle.sdb_contents.specs.Retired.{AreKnown, IsSurvey, Sides, writes_of}
 use Rattle.sdb_contents.specs.Writes.{Write, after_write, after_writes, contents_at, contents_of, span_of, write_at, writes_at}
 use Rattle.sdb_contents.proofs.Apart.{row_table, some_names}
-use Rattle.sdb_contents.proofs.Calls.{same_itself}
+use Rattle.sdb_contents.proofs.RetireCalls.{same_itself}
 use Rattle.sdb_contents.proofs.Joins.{Agree, IsFilled, after_each, agreed, apart_key, cleared_filled, put_fills, table_apart, table_of_key, tables_apart, within}
 use Rattle.sdb_contents.proofs.Known.{apart_of_survey, at_other, nothing_here, own_writes, whole_all}
 

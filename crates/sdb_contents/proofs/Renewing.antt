@@ -20,7 +20,7 @@ use Rattle.sdb_contents.specs.Joined.{after_all, settle}
 use Rattle.sdb_contents.specs.Moving.{renewal, renewals, renewed}
 use Rattle.sdb_contents.specs.Retired.{AreKnown, IsSurvey, Sides, writes_of}
 use Rattle.sdb_contents.specs.Writes.{Hold, after_writes, contents_at, span_of, writes_at}
-use Rattle.sdb_contents.proofs.Calls.{after_more}
+use Rattle.sdb_contents.proofs.RetireCalls.{after_more}
 use Rattle.sdb_contents.proofs.Joins.{after_each, among_all, apart_key, rows_inside, table_of_key}
 use Rattle.sdb_contents.proofs.Known.{own_writes}
 use Rattle.sdb_contents.proofs.Passing.{AreThere, KeysApart, first_rise, first_rows, first_there, keys_apart, renewed_key, renewed_other, rows_kept, rows_stay, version_there}

@@ -31,7 +31,7 @@ use Rattle.sdb_contents.specs.Dropped.{AllKnown, ImagesArePreserved, IsRetired, 
 use Rattle.sdb_contents.specs.Retired.{AreKnown, Sides}
 use Rattle.sdb_contents.specs.Writes.{after_writes, contents_at, contents_of, span_of, writes_at}
 use Rattle.sdb_contents.proofs.Apart.{elsewhere}
-use Rattle.sdb_contents.proofs.Calls.{after_more}
+use Rattle.sdb_contents.proofs.RetireCalls.{after_more}
 use Rattle.sdb_contents.proofs.Dropping.{attached_of, first_at, first_stays, found_at, later_of, left_there, named_at, names_left, not_same, place_is, still_attached}
 use Rattle.sdb_contents.proofs.Joins.{table_of_key}
 use Rattle.sdb_contents.proofs.Known.{at_other, nothing_here}

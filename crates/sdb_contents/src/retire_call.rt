@@ -9,7 +9,7 @@ use sdb_stores::Registry;
 use sdb_types::{Duplicate, Name, Records, Reply, Request, Span, TableName};
 
 /// Makes a call on the store of that name.
-#[tactic(auto, using(crate::proofs::Calls::goes_call, crate::proofs::Calls::may_hold))]
+#[tactic(auto, using(crate::proofs::RetireCalls::goes_call, crate::proofs::RetireCalls::may_hold))]
 pub fn call<R: Registry>(
     stores: &mut R,
     store: &Name,

@@ -20,7 +20,7 @@ fn next_given_at(alloc: Global, bytes: &[u8]) -> Result<(Option<Answer>, &[u8]),
     given_at(alloc, rest)
 }
 
-#[tactic(auto, unfolding(sdb_report::specs::Lines::take_of))]
+#[tactic(auto, unfolding(crate::specs::Lines::take_of))]
 fn take_of(alloc: Global, line: &[u8]) -> Result<Event, Unread>
     ensures { Gives (λ e. e) result (form.take_of line.now) }
 {
@@ -53,7 +53,7 @@ fn next_reply_at(alloc: Global, bytes: &[u8]) -> Result<(Reply, &[u8]), Unread>
 }
 
 // Who asked which store for what: the first half of a call's line.
-#[tactic(auto, unfolding(sdb_report::specs::Lines::asked_at))]
+#[tactic(auto, unfolding(crate::specs::Lines::asked_at))]
 fn asked_at(alloc: Global, bytes: &[u8]) -> Result<((u32, Name, Request), &[u8]), Unread>
     ensures { Gives (λ x. (x.0, x.1.now)) result (form.asked_at bytes.now) }
 {
@@ -64,7 +64,7 @@ fn asked_at(alloc: Global, bytes: &[u8]) -> Result<((u32, Name, Request), &[u8])
 }
 
 // What became of a call: the second half.
-#[tactic(auto, unfolding(sdb_report::specs::Lines::came_at))]
+#[tactic(auto, unfolding(crate::specs::Lines::came_at))]
 fn came_at(alloc: Global, bytes: &[u8]) -> Result<((How, Reply, Option<Answer>), &[u8]), Unread>
     ensures { Gives (λ x. (x.0, x.1.now)) result (form.came_at bytes.now) }
 {
@@ -85,7 +85,7 @@ fn whole_came_of(alloc: Global, bytes: &[u8]) -> Result<(How, Reply, Option<Answ
     }
 }
 
-#[tactic(auto, unfolding(sdb_report::specs::Lines::call_of))]
+#[tactic(auto, unfolding(crate::specs::Lines::call_of))]
 fn call_of(alloc: Global, line: &[u8]) -> Result<Event, Unread>
     ensures { Gives (λ e. e) result (form.call_of line.now) }
 {
@@ -116,7 +116,7 @@ fn moment_of(bytes: &[u8]) -> Result<i64, Unread>
     }
 }
 
-#[tactic(auto, unfolding(sdb_report::specs::Lines::event_of))]
+#[tactic(auto, unfolding(crate::specs::Lines::event_of))]
 fn event_of(alloc: Global, line: &[u8]) -> Result<Event, Unread>
     ensures { Gives (λ e. e) result (form.event_of line.now) }
 {
@@ -139,7 +139,7 @@ fn event_of(alloc: Global, line: &[u8]) -> Result<Event, Unread>
 }
 
 /// The event of a line that begins with this number.
-#[tactic(auto, unfolding(sdb_report::specs::Lines::numbered_event_of))]
+#[tactic(auto, unfolding(crate::specs::Lines::numbered_event_of))]
 pub fn numbered_event_of(alloc: Global, n: u64, line: &[u8]) -> Result<Event, Unread>
     ensures { Gives (λ e. e) result (form.numbered_event_of n line.now) }
 {

@@ -13,7 +13,7 @@ use sdb_types::{Columns, Key, Name, Pair, Record, SharedSeq, Span, TableName, Va
 use std::alloc::Global;
 
 /// The table's name at the start.
-#[tactic(auto, unfolding(crate::specs::Reading::table_at))]
+#[tactic(auto, unfolding(crate::specs::FieldReading::table_at))]
 pub fn table_at(alloc: Global, bytes: &[u8]) -> Result<(TableName, &[u8]), Unread>
     ensures { Gives (λ x. (x.0, x.1.now)) result (spec.table_at bytes.now) }
 {
@@ -23,7 +23,7 @@ pub fn table_at(alloc: Global, bytes: &[u8]) -> Result<(TableName, &[u8]), Unrea
     Ok((TableName { ns, table }, rest))
 }
 
-#[tactic(auto, unfolding(crate::specs::Reading::clustering_at))]
+#[tactic(auto, unfolding(crate::specs::FieldReading::clustering_at))]
 fn clustering_at(alloc: Global, bytes: &[u8]) -> Result<(Values, &[u8]), Unread>
     ensures { Gives (λ x. (x.0, x.1.now)) result (spec.clustering_at bytes.now) }
 {
@@ -34,7 +34,7 @@ fn clustering_at(alloc: Global, bytes: &[u8]) -> Result<(Values, &[u8]), Unread>
 }
 
 /// The key at the start.
-#[tactic(auto, unfolding(crate::specs::Reading::key_at))]
+#[tactic(auto, unfolding(crate::specs::FieldReading::key_at))]
 pub fn key_at(alloc: Global, bytes: &[u8]) -> Result<(Key, &[u8]), Unread>
     ensures { Gives (λ x. (x.0, x.1.now)) result (spec.key_at bytes.now) }
 {
@@ -51,7 +51,7 @@ pub fn key_at(alloc: Global, bytes: &[u8]) -> Result<(Key, &[u8]), Unread>
     Ok((key, rest))
 }
 
-#[tactic(auto, unfolding(crate::specs::Reading::partition_at))]
+#[tactic(auto, unfolding(crate::specs::FieldReading::partition_at))]
 fn partition_at(alloc: Global, bytes: &[u8]) -> Result<(Option<Values>, &[u8]), Unread>
     ensures { Gives (λ x. (x.0, x.1.now)) result (spec.partition_at bytes.now) }
 {
@@ -63,7 +63,7 @@ fn partition_at(alloc: Global, bytes: &[u8]) -> Result<(Option<Values>, &[u8]), 
 }
 
 /// The span at the start.
-#[tactic(auto, unfolding(crate::specs::Reading::span_at))]
+#[tactic(auto, unfolding(crate::specs::FieldReading::span_at))]
 pub fn span_at(alloc: Global, bytes: &[u8]) -> Result<(Span, &[u8]), Unread>
     ensures { Gives (λ x. (x.0, x.1.now)) result (spec.span_at bytes.now) }
 {
@@ -101,7 +101,7 @@ fn column_of(before: Option<&Pair>, pair: Pair) -> Result<Pair, Unread>
     }
 }
 
-#[tactic(auto, unfolding(crate::specs::Reading::pair_at))]
+#[tactic(auto, unfolding(crate::specs::FieldReading::pair_at))]
 fn pair_at<'a>(
     alloc: Global,
     before: &SharedSeq<Pair>,
@@ -147,7 +147,7 @@ fn pairs_on(alloc: Global, first: Pair, bytes: &[u8]) -> Result<(SharedSeq<Pair>
     Ok((pairs, rest))
 }
 
-#[tactic(auto, unfolding(crate::specs::Reading::some_pairs_at))]
+#[tactic(auto, unfolding(crate::specs::FieldReading::some_pairs_at))]
 fn some_pairs_at(alloc: Global, bytes: &[u8]) -> Result<(SharedSeq<Pair>, &[u8]), Unread>
     ensures { Gives (λ x. (x.0, x.1.now)) result (spec.some_pairs_at bytes.now) }
 {
@@ -156,7 +156,7 @@ fn some_pairs_at(alloc: Global, bytes: &[u8]) -> Result<(SharedSeq<Pair>, &[u8])
     pairs_on(alloc, first, rest)
 }
 
-#[tactic(auto, unfolding(crate::specs::Reading::pairs_at))]
+#[tactic(auto, unfolding(crate::specs::FieldReading::pairs_at))]
 fn pairs_at(alloc: Global, bytes: &[u8]) -> Result<(SharedSeq<Pair>, &[u8]), Unread>
     ensures { Gives (λ x. (x.0, x.1.now)) result (spec.pairs_at bytes.now) }
 {
@@ -168,7 +168,7 @@ fn pairs_at(alloc: Global, bytes: &[u8]) -> Result<(SharedSeq<Pair>, &[u8]), Unr
 }
 
 /// The columns at the start.
-#[tactic(auto, unfolding(crate::specs::Reading::columns_at))]
+#[tactic(auto, unfolding(crate::specs::FieldReading::columns_at))]
 pub fn columns_at(alloc: Global, bytes: &[u8]) -> Result<(Columns, &[u8]), Unread>
     ensures { Gives (λ x. (x.0, x.1.now)) result (spec.columns_at bytes.now) }
 {
@@ -179,7 +179,7 @@ pub fn columns_at(alloc: Global, bytes: &[u8]) -> Result<(Columns, &[u8]), Unrea
 }
 
 /// The record at the start.
-#[tactic(auto, unfolding(crate::specs::Reading::record_at))]
+#[tactic(auto, unfolding(crate::specs::FieldReading::record_at))]
 pub fn record_at(alloc: Global, bytes: &[u8]) -> Result<(Record, &[u8]), Unread>
     ensures { Gives (λ x. (x.0, x.1.now)) result (spec.record_at bytes.now) }
 {

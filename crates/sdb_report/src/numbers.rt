@@ -27,7 +27,7 @@ fn number_in(bytes: &[u8]) -> u64
 }
 
 /// The number at the start, in its shortest decimal.
-#[tactic(auto, unfolding(crate::specs::Reading::natural_at))]
+#[tactic(auto, unfolding(crate::specs::FieldReading::natural_at))]
 pub fn natural_at(bytes: &[u8]) -> Result<(u64, &[u8]), Unread>
     ensures { Gives (λ x. (x.0, x.1.now)) result (spec.natural_at bytes.now) }
 {
@@ -86,7 +86,7 @@ fn said_at(bytes: &[u8]) -> i64
 }
 
 /// The number with its sign at the start, in its shortest decimal.
-#[tactic(auto, unfolding(crate::specs::Reading::integer_at))]
+#[tactic(auto, unfolding(crate::specs::FieldReading::integer_at))]
 pub fn integer_at(bytes: &[u8]) -> Result<(i64, &[u8]), Unread>
     ensures { Gives (λ x. (x.0, x.1.now)) result (spec.integer_at bytes.now) }
 {
@@ -103,7 +103,7 @@ fn id_of(text: &Txt) -> Option<TxId>
 }
 
 /// The id at the start.
-#[tactic(auto, unfolding(crate::specs::Reading::id_at))]
+#[tactic(auto, unfolding(crate::specs::FieldReading::id_at))]
 pub fn id_at(alloc: Global, bytes: &[u8]) -> Result<(TxId, &[u8]), Unread>
     ensures { Gives (λ x. (x.0, x.1.now)) result (spec.id_at bytes.now) }
 {

@@ -37,7 +37,7 @@ fn quoted_at(alloc: Global, bytes: &[u8]) -> Result<(Vec<u8>, &[u8]), Unread>
     }
 }
 
-#[tactic(auto, unfolding(crate::specs::Reading::text_at))]
+#[tactic(auto, unfolding(crate::specs::FieldReading::text_at))]
 fn text_at(alloc: Global, bytes: &[u8]) -> Result<(Value, &[u8]), Unread>
     ensures { Gives (λ x. (x.0, x.1.now)) result (spec.text_at bytes.now) }
 {
@@ -63,7 +63,7 @@ fn hex_of(alloc: Global, digits: &[u8]) -> Result<Octets, Unread>
     }
 }
 
-#[tactic(auto, unfolding(crate::specs::Reading::blob_at))]
+#[tactic(auto, unfolding(crate::specs::FieldReading::blob_at))]
 fn blob_at(alloc: Global, bytes: &[u8]) -> Result<(Value, &[u8]), Unread>
     ensures { Gives (λ x. (x.0, x.1.now)) result (spec.blob_at bytes.now) }
 {
@@ -89,7 +89,7 @@ fn begins_number(bytes: &[u8]) -> bool
     }
 }
 
-#[tactic(auto, unfolding(crate::specs::Reading::numeral_at))]
+#[tactic(auto, unfolding(crate::specs::FieldReading::numeral_at))]
 fn numeral_at(bytes: &[u8]) -> Result<(Value, &[u8]), Unread>
     ensures { Gives (λ x. (x.0, x.1.now)) result (spec.numeral_at bytes.now) }
 {
@@ -101,7 +101,7 @@ fn numeral_at(bytes: &[u8]) -> Result<(Value, &[u8]), Unread>
 }
 
 /// The value at the start.
-#[tactic(auto, unfolding(crate::specs::Reading::value_at))]
+#[tactic(auto, unfolding(crate::specs::FieldReading::value_at))]
 pub fn value_at(alloc: Global, bytes: &[u8]) -> Result<(Value, &[u8]), Unread>
     ensures { Gives (λ x. (x.0, x.1.now)) result (spec.value_at bytes.now) }
 {
@@ -154,7 +154,7 @@ fn values_on(alloc: Global, first: Value, bytes: &[u8]) -> Result<(Values, &[u8]
 }
 
 /// Values with commas between them, one or more.
-#[tactic(auto, unfolding(crate::specs::Reading::some_values_at))]
+#[tactic(auto, unfolding(crate::specs::FieldReading::some_values_at))]
 pub fn some_values_at(alloc: Global, bytes: &[u8]) -> Result<(Values, &[u8]), Unread>
     ensures { Gives (λ x. (x.0, x.1.now)) result (spec.some_values_at bytes.now) }
 {
@@ -163,7 +163,7 @@ pub fn some_values_at(alloc: Global, bytes: &[u8]) -> Result<(Values, &[u8]), Un
 }
 
 /// The same, or none.
-#[tactic(auto, unfolding(crate::specs::Reading::values_at))]
+#[tactic(auto, unfolding(crate::specs::FieldReading::values_at))]
 pub fn values_at(alloc: Global, bytes: &[u8]) -> Result<(Values, &[u8]), Unread>
     ensures { Gives (λ x. (x.0, x.1.now)) result (spec.values_at bytes.now) }
 {
@@ -175,7 +175,7 @@ pub fn values_at(alloc: Global, bytes: &[u8]) -> Result<(Values, &[u8]), Unread>
 }
 
 /// The row at the start.
-#[tactic(auto, unfolding(crate::specs::Reading::row_at))]
+#[tactic(auto, unfolding(crate::specs::FieldReading::row_at))]
 pub fn row_at(alloc: Global, bytes: &[u8]) -> Result<(Values, &[u8]), Unread>
     ensures { Gives (λ x. (x.0, x.1.now)) result (spec.row_at bytes.now) }
 {

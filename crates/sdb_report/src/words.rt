@@ -71,7 +71,7 @@ fn name_of(alloc: Global, word: &[u8]) -> Result<Name, Unread>
 }
 
 /// The name at the start.
-#[tactic(auto, unfolding(crate::specs::Reading::name_at))]
+#[tactic(auto, unfolding(crate::specs::FieldReading::name_at))]
 pub fn name_at(alloc: Global, bytes: &[u8]) -> Result<(Name, &[u8]), Unread>
     ensures { Gives (λ x. (x.0, x.1.now)) result (spec.name_at bytes.now) }
 {

@@ -4,7 +4,7 @@ mod Refusing
 mod SoFar
 mod Making
 mod Moments
-mod Sessions
+mod AnswerSessions
 mod Chains
 mod Pairs
 mod Names

@@ -4,4 +4,4 @@ use Rattle.check_protocol.specs.Observed.{has_trace}
 use Rattle.check_protocol.proofs.records.any.Given as goal
 
 abbrev pub invariant-loop-rec : goal.invariant-loop-rec
-invariant-loop-rec l = list_any (has_trace l.trace) (drop l.rec-index l.observed) ≡ list_any (has_trace l.trace) l.observed
+invariant-loop-rec l = list_any (has_trace l.trace) (drop l.rec-index l.found_in) ≡ list_any (has_trace l.trace) l.found_in

@@ -1,4 +1,4 @@
-use Rattle.law_clients.proofs.Texts.{text_is_read}
+use Rattle.law_clients.proofs.SessionTexts.{text_is_read}
 use Rattle.law_clients.proofs.sessions.texts_are_read.Goals as goal
 
 pub returns : goal.returns

@@ -1,5 +1,5 @@
 use Rattle.sdb_stores.specs.Views.{index_at}
-use Rattle.sdb_contents.proofs.Calls.{goes_call, hold_call, may_hold}
+use Rattle.sdb_contents.proofs.RetireCalls.{goes_call, hold_call, may_hold}
 use Rattle.sdb_contents.proofs.retire_call.call.Goals as goal
 
 pub returns-in_default : goal.returns-in_default

@@ -1,6 +1,6 @@
 use Rattle.std.proofs.Common.{[], inl}
 use Rattle.sdb_catalog.proofs.Public.{passed_on}
-use Rattle.sdb_contents.proofs.Calls.{goes_more, goes_none, hold_none, still_there}
+use Rattle.sdb_contents.proofs.RetireCalls.{goes_more, goes_none, hold_none, still_there}
 use Rattle.sdb_contents.proofs.RetireEnded.{halted_err, left_err, moved_ok, others_either}
 use Rattle.sdb_contents.proofs.Known.{others_none}
 use Rattle.sdb_contents.proofs.Moved.{each_rises}

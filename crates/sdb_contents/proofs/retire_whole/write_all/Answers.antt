@@ -5,7 +5,7 @@ use Rattle.sdb_catalog.specs.declared.entry.Entry.{Entry}
 use Rattle.sdb_catalog.proofs.Public.{passed_on}
 use Rattle.sdb_contents.specs.Copying.{requests_of}
 use Rattle.sdb_contents.specs.Moving.{renewals}
-use Rattle.sdb_contents.proofs.Calls.{goes_more, still_there}
+use Rattle.sdb_contents.proofs.RetireCalls.{goes_more, still_there}
 use Rattle.sdb_contents.proofs.Surveys.{both_made, halted_second, left_at, left_first, left_second, written_all}
 use Rattle.sdb_contents.proofs.retire_whole.write_all.Goals as goal
 

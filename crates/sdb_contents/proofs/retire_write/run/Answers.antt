@@ -1,6 +1,6 @@
 use Rattle.sdb_stores.specs.Views.{index_at}
 use Rattle.sdb_catalog.proofs.Public.{passed_on}
-use Rattle.sdb_contents.proofs.Calls.{goes_more, still_there}
+use Rattle.sdb_contents.proofs.RetireCalls.{goes_more, still_there}
 use Rattle.sdb_contents.proofs.Making.{made_step}
 use Rattle.sdb_contents.proofs.Steps.{first_step, first_taken, hold_step, unwritten_more}
 use Rattle.sdb_contents.proofs.retire_write.run.Goals as goal

@@ -1,5 +1,5 @@
 use Rattle.sdb_catalog.proofs.Public.{passed_on}
-use Rattle.sdb_contents.proofs.Calls.{still_there}
+use Rattle.sdb_contents.proofs.RetireCalls.{still_there}
 use Rattle.sdb_contents.proofs.Dropping.{attached_of, holds_still, retired, some_store, unmoved_known}
 use Rattle.sdb_contents.proofs.Staying.{opens_same}
 use Rattle.sdb_contents.proofs.Surveys.{left_at}

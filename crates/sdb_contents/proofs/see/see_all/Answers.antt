@@ -1,5 +1,5 @@
 use Rattle.std.proofs.Common.{[]}
-use Rattle.sdb_contents.proofs.Calls.{goes_more, hold_same, still_there}
+use Rattle.sdb_contents.proofs.RetireCalls.{goes_more, hold_same, still_there}
 use Rattle.sdb_catalog.proofs.Public.{passed_on}
 use Rattle.sdb_contents.proofs.Steps.{seen_more, unseen_more}
 use Rattle.sdb_contents.proofs.see.see_all.Goals as goal

@@ -2,7 +2,7 @@ use Rattle.std.proofs.Common.{◌∙◌, [], ap}
 use Rattle.sdb_stores.specs.Views.{index_at}
 use Rattle.sdb_catalog.proofs.Public.{passed_on}
 use Rattle.sdb_contents.specs.Moving.{moving_tables}
-use Rattle.sdb_contents.proofs.Calls.{goes_more, hold_same, still_there}
+use Rattle.sdb_contents.proofs.RetireCalls.{goes_more, hold_same, still_there}
 use Rattle.sdb_contents.proofs.Surveys.{surveyed, unsurveyed_unread, unsurveyed_unseen}
 use Rattle.sdb_contents.proofs.survey.survey_of.Goals as goal
 

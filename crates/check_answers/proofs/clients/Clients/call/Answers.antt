@@ -16,7 +16,7 @@ returns c = λ so.
     let client = c.advance-answered.new.self in
     let read : client_slot ≡ get_or s.client_slots at client_slot = c.index_mut-client_slot.ensures.value ∙ ap (λ (w : State). get_or w.client_slots at client_slot) c.self.view_is in
     let now : to_z w64 (of_z w64 c.self.inside.clock) ≡ c.self.inside.clock = search rules in
-    let answered = subst (λ (z : ℤ). ReplyPost client_slot.client client_slot.client.vacuum reply z answered client) now c.advance-answered.ensures in
+    let acked = subst (λ (z : ℤ). ReplyPost client_slot.client client_slot.client.vacuum reply z answered client) now c.advance-answered.ensures in
     let takes = subst (λ (w : State). ReplyPost client_slot.client client_slot.client.vacuum reply w.clock answered client) c.self.view_is acked in
     let left = ap (λ (w : State). with_client_at w at (record { client = client; accepted = client_slot.accepted; stopped = client_slot.stopped })) c.self.view_is in
     let then : State = with_client_at (record { client_slots = c.self.inside.client_slots.items; clock = c.self.inside.clock }) at (record { client = client; accepted = client_slot.accepted; stopped = client_slot.stopped }) in

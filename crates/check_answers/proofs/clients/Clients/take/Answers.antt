@@ -20,7 +20,7 @@ returns c = λ so.
     let read : client_slot ≡ get_or s.client_slots at client_slot = c.index_mut-client_slot.ensures.value ∙ ap (λ (w : State). get_or w.client_slots at client_slot) c.self.view_is in
     let gated = subst (λ (ss : List ClientSlot). IsGateAt gate ss at) (c.deref.ensures.value ∙ ap (λ (w : State). w.client_slots) c.self.view_is) c.gate_at-gate.ensures in
     let now : to_z w64 (of_z w64 c.self.inside.clock) ≡ c.self.inside.clock = search rules in
-    let answered = subst (λ (z : ℤ). answered ≢ Some answer.NoMemory → TextPost (record { catalog = script.catalog; now = z; gate = gate; fresh = c.next_id-fresh.result }) text client_slot.client answered client) now c.take-answered.ensures.answered in
+    let acked = subst (λ (z : ℤ). answered ≢ Some answer.NoMemory → TextPost (record { catalog = script.catalog; now = z; gate = gate; fresh = c.next_id-fresh.result }) text client_slot.client answered client) now c.take-answered.ensures.answered in
     let taking = subst (λ (i : TxId). TextStep (record { catalog = script.catalog; now = c.self.inside.clock; gate = gate; fresh = i }) text client_slot.client answered client) c.next_id-fresh.ensures (record { memory = c.take-answered.ensures.memory; answered = acked }) in
     let takes = subst (λ (w : State). TextStep (record { catalog = script.catalog; now = w.clock; gate = gate; fresh = next_id client_slot.client }) text client_slot.client answered client) c.self.view_is taking in
     let small = subst (λ n. n < 2 ^ 64) c.begun-begun.ensures c.begun-begun.type_inv in

@@ -3,7 +3,7 @@ use Rattle.std.proofs.Common.{rules, ◌≡◌, ℤ, ◌∙◌, ap, subst, w64}
 use Rattle.std.specs.Prelude.{◌&&◌, not, is_some}
 use Rattle.sdb_shell.specs.Answering.{IsAnswered}
 use Rattle.sdb_shell.proofs.Moments.{moment_is}
-use Rattle.sdb_shell.proofs.Sessions.{has_answered}
+use Rattle.sdb_shell.proofs.AnswerSessions.{has_answered}
 use Rattle.sdb_shell.proofs.account.Session.answer.Goals as goal
 
 pub returns-clause-answered : goal.returns-clause-answered

@@ -45,7 +45,7 @@ use Rattle.law_clients.specs.Later.{IsOwn, Later, Own}
 use Rattle.law_clients.specs.Between.{Answered, Begun, Between, CommitEnds, Ended, Lost, RolledBack, OpenTransaction, Vacuumed, VacuumedBy, Turned, IsTxnOf, Won}
 use Rattle.law_clients.specs.Session.{AreSerialParts, Exchange, IfBusy, IfUnknown, IsBusyAlone, IsOfOpening, IsOfSession, IsSerialPart, IsImpossible, Part, Parts, all_parts, answers_in, begins, body_in, ends, in_body, is_begin, is_commit, is_recorded_in, is_recorded, is_recorded_by, is_rollback, is_vacuum, leaves_records, no_parts, part_after, parts_after, statements_in, tables_after, rejected, AreLimited, IsLimited}
 use Rattle.law_clients.specs.Chain.{Chain, Exchanged, OutOfMemory, Answers, transaction_of, open_of}
-use Rattle.law_clients.proofs.Statements.{agrees_all, rows_change}
+use Rattle.law_clients.proofs.SessionStatements.{agrees_all, rows_change}
 use Rattle.law_clients.proofs.Recovers.{row_at}
 use Rattle.law_clients.proofs.Stays.{rows_same, IsOther, aborted_not, is_committed_by, later_of, parts_append, parts_same, tables_append, tables_same, unused_stays}
 use Rattle.law_clients.proofs.SessionSweeps.{quiet_of, quiet_refl}
