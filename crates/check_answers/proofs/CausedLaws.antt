@@ -9,7 +9,8 @@ use Rattle.sdb_model.specs.Causes.{AreCaused, IsRejected, before}
 use Rattle.sdb_model.specs.Transactions.{Executed, statements_by}
 use Rattle.check_protocol.proofs.Public.{In, is_number, none_some, number_is, right}
 use Rattle.check_tables.specs.Values.{taker}
-use Rattle.check_answers.specs.Tests.{IsAnsweredWith, IsTurned, IsTurnedIfDue, answered_with, is_no_memory, same_answer, AreTakersWell, IsWellAnswered}
+use Rattle.check_answers.specs.Tests.{IsAnsweredWith, IsTurned, IsTurnedIfDue, answered_with, same_answer, AreTakersWell, IsWellAnswered}
+use Rattle.sdb_client.specs.Client.{is_out_of_memory}
 use Rattle.check_answers.proofs.Finds.{in_contains, contains_in}
 use Rattle.check_answers.proofs.SameLaws.{answer_is, is_answer}
 use Rattle.check_answers.proofs.TurnedLaws.{taken_by}
@@ -49,7 +50,7 @@ module _ (catalog : List Table) (events : List Event) where
   pub of_caused : AreCaused catalog events → AreTakersWell catalog events events
   of_caused c = said_each events (IsWellAnswered catalog events) (λ client s k. (λ a e. c.caused client s a k e, λ a t. c.rejected client s a k t))
 
-no_memory_is : (a : Answer) → is_no_memory a ≡ true → a ≡ answer.NoMemory
+no_memory_is : (a : Answer) → is_out_of_memory a ≡ true → a ≡ answer.NoMemory
 no_memory_is (answer.Rows rows) h = clash (sym h)
 no_memory_is (answer.Count n) h = clash (sym h)
 no_memory_is answer.Done h = clash (sym h)
@@ -70,18 +71,18 @@ answered_is : (s : Executed) (a : Answer) → answered_with s a ≡ true → IsA
 answered_is s a h = (number_is s.reached s.accepted (left (s.reached == s.accepted) rest h), by s.answer refl (right (s.reached == s.accepted) rest h))
   where
     rest : Bool
-    rest = option_map_or (λ x. is_no_memory x || same_answer x a) s.answer false
+    rest = option_map_or (λ x. is_out_of_memory x || same_answer x a) s.answer false
 
-    by : (o : Option Answer) → s.answer ≡ o → option_map_or (λ x. is_no_memory x || same_answer x a) o false ≡ true → (s.answer ≡ Some a) ⊎ (s.answer ≡ Some answer.NoMemory)
+    by : (o : Option Answer) → s.answer ≡ o → option_map_or (λ x. is_out_of_memory x || same_answer x a) o false ≡ true → (s.answer ≡ Some a) ⊎ (s.answer ≡ Some answer.NoMemory)
     by None e h = clash (sym h)
-    by (Some x) e h = elim (either (is_no_memory x) (same_answer x a) h) [ inl n ↦ inr (e ∙ ap Some (no_memory_is x n)) | inr k ↦ inl (e ∙ ap Some (answer_is x a k)) ]
+    by (Some x) e h = elim (either (is_out_of_memory x) (same_answer x a) h) [ inl n ↦ inr (e ∙ ap Some (no_memory_is x n)) | inr k ↦ inl (e ∙ ap Some (answer_is x a k)) ]
 
 is_answered_of : (s : Executed) (a : Answer) → IsAnsweredWith s a → answered_with s a ≡ true
-is_answered_of s a (t, w) = both (s.reached == s.accepted) (option_map_or (λ x. is_no_memory x || same_answer x a) s.answer false) (is_number s.reached s.accepted t) (by w)
+is_answered_of s a (t, w) = both (s.reached == s.accepted) (option_map_or (λ x. is_out_of_memory x || same_answer x a) s.answer false) (is_number s.reached s.accepted t) (by w)
   where
-    by : (s.answer ≡ Some a) ⊎ (s.answer ≡ Some answer.NoMemory) → option_map_or (λ x. is_no_memory x || same_answer x a) s.answer false ≡ true
-    by (inl e) = ap (λ o. option_map_or (λ x. is_no_memory x || same_answer x a) o false) e ∙ or_right (is_no_memory a) (same_answer a a) (is_answer a a refl)
-    by (inr e) = ap (λ o. option_map_or (λ x. is_no_memory x || same_answer x a) o false) e
+    by : (s.answer ≡ Some a) ⊎ (s.answer ≡ Some answer.NoMemory) → option_map_or (λ x. is_out_of_memory x || same_answer x a) s.answer false ≡ true
+    by (inl e) = ap (λ o. option_map_or (λ x. is_out_of_memory x || same_answer x a) o false) e ∙ or_right (is_out_of_memory a) (same_answer a a) (is_answer a a refl)
+    by (inr e) = ap (λ o. option_map_or (λ x. is_out_of_memory x || same_answer x a) o false) e
 
 module _ (catalog : List Table) (events : List Event) (client : ℕ) (s : Executed) (o : Option Answer) (turned : IsTurned catalog (before s events) client s.text o) where
   pub due : (b : Bool) (t : Answer) → o ≡ Some t → b ≡ answered_with s t → IsTrue b ↔ IsTurnedIfDue catalog events client s

@@ -35,6 +35,7 @@ use Rattle.check_tables.specs.declared.open.Work.TheVariants as work
 use Rattle.check_tables.specs.Values.{all_made, asks_row, decision_found_at, inside_among, made_of, someone_does, taker}
 use Rattle.sdb_types.specs.Replies.{is_fault}
 use Rattle.sdb_types.specs.Order.{same_key}
+use Rattle.sdb_client.specs.Client.{is_out_of_memory}
 
 ---- equality
 
@@ -375,12 +376,8 @@ IsAnswerCaused catalog events client s = (a : Answer) → s.answer ≡ Some a �
 abbrev pub IsAnsweredWith : Executed → Answer → Type 0
 IsAnsweredWith s a = (s.reached ≡ s.accepted) × ((s.answer ≡ Some a) ⊎ (s.answer ≡ Some answer.NoMemory))
 
-abbrev pub is_no_memory : Answer → Bool
-is_no_memory answer.NoMemory = true
-is_no_memory a = false
-
 abbrev pub answered_with : Executed → Answer → Bool
-answered_with s a = (s.reached == s.accepted) && option_map_or (λ x. is_no_memory x || same_answer x a) s.answer false
+answered_with s a = (s.reached == s.accepted) && option_map_or (λ x. is_out_of_memory x || same_answer x a) s.answer false
 
 abbrev pub IsTurnedIfDue : List Table → List Event → ℕ → Executed → Type 0
 IsTurnedIfDue catalog events client s = (a : Answer) → IsRejected catalog (before s events) client s.text a → IsAnsweredWith s a

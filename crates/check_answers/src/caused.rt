@@ -5,7 +5,8 @@ ghost use Rattle.sdb_model.specs.declared.answer.Answer.TheVariants as answer;
 ghost use Rattle.sdb_model.specs.Causes.{AreCaused, IsCaused, IsRejected, MayPassMost, before as before_lem};
 ghost use Rattle.sdb_contents.specs.Commits.{all_executed, executed_of};
 ghost use Rattle.check_tables.specs.Values.{taker as taker_lem};
-ghost use Rattle.check_answers.specs.Tests.{answered_with, is_no_memory, same_answer, AreTakersWell, IsAnswerCaused, IsClientWell, IsTurnedIfDue, IsWellAnswered};
+ghost use Rattle.check_answers.specs.Tests.{answered_with, same_answer, AreTakersWell, IsAnswerCaused, IsClientWell, IsTurnedIfDue, IsWellAnswered};
+ghost use Rattle.sdb_client.specs.Client.{is_out_of_memory};
 
 use crate::bad::is_bad_record;
 use crate::busy::is_busy;
@@ -128,7 +129,7 @@ fn is_answer_caused(
 }
 
 fn is_answer(answer: &Answer, turned: &Answer) -> bool
-    ensures { result ≡ (is_no_memory answer.now || same_answer answer.now turned.now) }
+    ensures { result ≡ (is_out_of_memory answer.now || same_answer answer.now turned.now) }
 {
     match answer {
         Answer::NoMemory => true,

@@ -215,18 +215,18 @@ first_light (r ∷ left) = by (kind_of r) refl (fewer_rest (opens left) (opens (
 abbrev rest_of : VacuumAt → ℕ
 rest_of v = length v.spans + rest_of_table v.stage
 
-next_light : (ss : List Span) (n : ℕ) → rest_of (next_table ss n).0 ≤ length ss
+pub next_light : (ss : List Span) (n : ℕ) → rest_of (next_table ss n).0 ≤ length ss
 next_light [] n = omega arith
 next_light (s ∷ ss) n = omega arith
 
-going_light : (ss : List Span) (n : ℕ) (f : First) → rest_of (next_of_row ss n f).0 ≤ first_rest f + length ss
-going_light ss n Nothing = let h = next_light ss n in omega arith
-going_light ss n (Tombstone b left) = omega arith
-going_light ss n (Unresolved r meta left) = omega arith
-going_light ss n (Malformed key) = omega arith
+pub row_light : (ss : List Span) (n : ℕ) (f : First) → rest_of (next_of_row ss n f).0 ≤ first_rest f + length ss
+row_light ss n Nothing = let h = next_light ss n in omega arith
+row_light ss n (Tombstone b left) = omega arith
+row_light ss n (Unresolved r meta left) = omega arith
+row_light ss n (Malformed key) = omega arith
 
 on_light : (ss : List Span) (n : ℕ) (left : List Record) → rest_of (next_of_row ss n (first_of left)).0 ≤ 5 * opens left + length ss
-on_light ss n left = let h = going_light ss n (first_of left) in let k = first_light left in omega arith
+on_light ss n left = let h = row_light ss n (first_of left) in let k = first_light left in omega arith
 
 answered_light : (ss : List Span) (n : ℕ) (r : Reply) → rest_of (vacuum.answered ss n r).0 ≤ 5 * opens (records_read r) + length ss
 answered_light ss n (reply.Rows rows) = on_light ss n rows

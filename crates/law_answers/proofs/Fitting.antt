@@ -27,7 +27,8 @@ use Rattle.law_clients.specs.Fitting.{row_is_well_typed, tables_are_well_typed}
 use Rattle.law_clients.proofs.Public.{all_in_fit, answers_on, fits_there, found_itself, own_table}
 use Rattle.law_answers.specs.Unfit.{fits_catalog, fitting_part}
 use Rattle.law_answers.proofs.Filled.{found_all}
-use Rattle.law_answers.proofs.Given.{asked_gives, inside_access, passes_all}
+use Rattle.law_answers.proofs.Given.{asked_gives, inside_access}
+use Rattle.law_clients.proofs.Public.{passes_all}
 use Rattle.law_answers.proofs.Lists.{each_kept}
 
 ---- rows by their keys

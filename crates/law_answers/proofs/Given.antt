@@ -13,7 +13,7 @@ use Rattle.law_answers.specs.Types.{Access, Answer, Event, Image, Key, Keyed, Pl
 use Rattle.sdb_record.specs.declared.access.Access.TheVariants as access
 use Rattle.sdb_model.specs.Access.{in_access}
 use Rattle.sdb_snapshot.specs.Seen.{Seen, overlay, tables_seen}
-use Rattle.law_clients.proofs.Public.{access_table}
+use Rattle.law_clients.proofs.Public.{access_table, found_so, passes_all}
 use Rattle.sdb_model.specs.declared.answer.Answer.TheVariants as answer
 use Rattle.sdb_model.specs.declared.statement.Statement.TheVariants as statement
 use Rattle.sdb_model.specs.Causes.{IsBadRecord, IsCaused, MayPassMost, before, is_open, refused}
@@ -105,22 +105,6 @@ given_middle p rows t = by_asked p.asked
 pub inside_access : (a : Access) (q : Key) → in_access a q ≡ true → q.table ≡ access_table a
 inside_access (access.Get key) q h = ap (λ (k : Key). k.table) (sym (key_exact key q (equal_of _ h)))
 inside_access (access.Scan span) q h = sym (table_exact span.table q.table (equal_of _ (and_parts (is_eq (table_cmp span.table q.table)) _ h).0))
-
-pub passes_all : (p : Image → Bool) (xs : List Image) → AllByRecursion (λ x. p x ≡ true) (filter p xs)
-passes_all p [] = tt
-passes_all p (x ∷ xs) = by (p x) refl (passes_all p xs)
-  where
-    by : (b : Bool) → p x ≡ b → AllByRecursion (λ y. p y ≡ true) (filter p xs) → AllByRecursion (λ y. p y ≡ true) (if b then x ∷ filter p xs else filter p xs)
-    by true e ih = (e, ih)
-    by false e ih = ih
-
-pub found_so : (P : Image → Type 0) (p : Image → Bool) (xs : List Image) (x : Image) → AllByRecursion P xs → find p xs ≡ Some x → P x
-found_so P p [] x all e = none_some x e
-found_so P p (y ∷ xs) x all e = by (p y) (λ h. found_so P p xs x all.1 h) e
-  where
-    by : (b : Bool) → (find p xs ≡ Some x → P x) → (if b then Some y else find p xs) ≡ Some x → P x
-    by true ih h = subst P (some_is y x h) all.0
-    by false ih h = ih h
 
 -- a row that doesn't fit is of the access's table
 pub unfit_data : (a : Access) (s : Seen) (t : Table) (key : Key) → not (is_coordinator_table (access_table a)) ≡ true → first_unfit t (overlay a s) ≡ Some key → is_coordinator_table key.table ≡ false

@@ -26,7 +26,8 @@ use Rattle.sdb_snapshot.specs.Written.{with_writes}
 use Rattle.sdb_snapshot.proofs.Public.{get_seen}
 use Rattle.law_answers.specs.Unfit.{fits_if_any, fitting_part}
 use Rattle.law_answers.proofs.Fitting.{RowFits, access_fits, exec_at, fitting_same, left_outside, rows_there}
-use Rattle.law_answers.proofs.Given.{found_so, passes_all}
+use Rattle.law_clients.proofs.Public.{found_so}
+use Rattle.law_clients.proofs.Public.{passes_all}
 use Rattle.law_answers.proofs.Lists.{each_kept}
 use Rattle.law_answers.proofs.Unfit.{find_true, row_written}
 

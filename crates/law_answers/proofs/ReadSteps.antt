@@ -29,7 +29,7 @@ use Rattle.sdb_phases.specs.Recover.{recover_next, recover_request_at, row_follo
 use Rattle.sdb_phases.proofs.Public.{by_expiry, by_row, by_rows_recover_rows as by_rows}
 use Rattle.sdb_phases.specs.Work.{abort_of, look_of}
 use Rattle.sdb_txn.specs.Read.{Asking, Bad, Ended, Firm, Kind, Open, ReadStage, Resolving, answered, kind_of, opened, read_pending_at, read_step, request_of, resolved, settle, settle_one}
-use Rattle.law_clients.proofs.Public.{access_table, meta_of}
+use Rattle.law_clients.proofs.Public.{access_table, final_moment, meta_of}
 use Rattle.law_answers.specs.Commits.{IsBadRow, ObservesBad}
 use Rattle.law_answers.specs.Reads.{IsBusyBy, IsFoundBy, IsPhaseBy, LedBy, ReadsBy, ResolvesBy}
 use Rattle.law_answers.proofs.Rows.{after_last, reply_now, reply_stays, shows_bad_row}
@@ -65,17 +65,6 @@ open_is r meta e = by (is_transactional r) (is_in state.Committed r.columns) (ch
     by true true o a b c h = absurd (cc)
     by true false (Err name) a b c h = absurd (cc)
     by true false (Ok m) a b c h = (ap (λ x. x && not (is_in state.Committed r.columns)) a ∙ ap not b, c ∙ ap Ok (let same : m ≡ meta = cc in same))
-
-before_moment : (m : Meta) (o : Result Meta (List ℕ)) (y : Meta) → with_before m o ≡ Ok y → m.prepared_at ≡ y.prepared_at
-before_moment m (Ok b) y h = let e : record m { has_before = true } ≡ y = cc in ap (λ (x : Meta). x.prepared_at) e
-before_moment m (Err name) y h = absurd (cc)
-
-final_moment : (ps : List Pair) (m y : Meta) → checked_before ps m ≡ Ok y → m.prepared_at ≡ y.prepared_at
-final_moment ps m y h = by (list_any is_before_pair ps) h
-  where
-    by : (b : Bool) → cond b (refuse (find is_misnamed ps) (with_before m (checked_part is_committed (before_part ps)))) (Ok m) ≡ Ok y → m.prepared_at ≡ y.prepared_at
-    by true k = before_moment m (checked_part is_committed (before_part ps)) y (refuse-ok (find is_misnamed ps) (with_before m (checked_part is_committed (before_part ps))) y k).1
-    by false k = let e : m ≡ y = cc in ap (λ (x : Meta). x.prepared_at) e
 
 pub prepared_moment : (r : Record) (m : Meta) → checked r.columns ≡ Ok m → moment_in r.columns (codes "tx_prepared_at") ≡ Some m.prepared_at
 prepared_moment r m says = let t = accepted r.columns m says in t.1.says.prepared_at ∙ ap Some (final_moment r.columns t.0 m t.2)

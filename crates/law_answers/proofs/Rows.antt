@@ -23,7 +23,7 @@ use Rattle.sdb_model.specs.ReadSet.{finds_transactional, read_finished, reads_ro
 use Rattle.sdb_model.specs.Causes.{HasReply, IsBad, IsDecided, PutsRow}
 use Rattle.law_answers.specs.Commits.{IsBadRow, IsGivenUp, NoneOfRow, ObservesBad}
 use Rattle.law_answers.proofs.Lists.{each_in, each_kept}
-use Rattle.law_clients.proofs.Public.{coordinators}
+use Rattle.law_clients.proofs.Public.{coordinators, finds_sound}
 use Rattle.sdb_model.specs.Tables.{is_data}
 
 ---- keys
@@ -177,9 +177,6 @@ each_checked : (rs : List Record) → list_all is_transactional rs ≡ true → 
 each_checked [] h = tt
 each_checked (r ∷ rs) h = let parts = and_parts (is_transactional r) (list_all is_transactional rs) h in (parts.0, each_checked rs parts.1)
 
-abbrev finds_checked : StoreCall → Bool
-finds_checked m = list_all is_transactional (records_read m.reply)
-
 -- a read whose calls showed such a record of the key has not finished by the answer that says so
 pub bad_unfinished : (calls : List StoreCall) (key : Key) → ObservesBad calls key → read_finished calls (answer.BadRecord key) ≡ false
 bad_unfinished calls key b = by (is_coordinator_table key.table) refl b.place
@@ -194,7 +191,7 @@ bad_unfinished calls key b = by (is_coordinator_table key.table) refl b.place
     checked_all : finds_transactional calls ≡ true → reads_rows b.call ≡ true → Contains (records_read b.call.reply) b.found → is_transactional b.found ≡ true
     checked_all all reads has =
         each_in (λ (r : Record). is_transactional r ≡ true) (records_read b.call.reply) b.found
-        (each_checked (records_read b.call.reply) (each_in (λ (m : StoreCall). reads_rows m ≡ true → finds_checked m ≡ true) calls b.call (each_filtered reads_rows finds_checked calls all) b.among reads)) has
+        (each_checked (records_read b.call.reply) (each_in (λ (m : StoreCall). reads_rows m ≡ true → finds_sound m ≡ true) calls b.call (each_filtered reads_rows finds_sound calls all) b.among reads)) has
 
     by : (t : Bool) → is_coordinator_table key.table ≡ t → (is_coordinator_table b.found.key.table ≡ true) ⊎ ((reads_rows b.call ≡ true) × Contains (records_read b.call.reply) b.found) → (not (is_coordinator_table key.table) && finds_transactional calls) ≡ false
     by true e p = ap (λ x. not x && finds_transactional calls) e

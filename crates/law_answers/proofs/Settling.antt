@@ -20,7 +20,7 @@ use Rattle.sdb_model.specs.Calls.{StoreCall, is_read, records_read}
 use Rattle.sdb_model.specs.Events.{table_asked}
 use Rattle.sdb_model.specs.ReadSet.{KeyRead, ReadItem, SpanRead, finds_transactional, meaning_of, read_item_of, read_items, read_of, reads_of, reads_rows}
 use Rattle.sdb_model.specs.DirtyReads.{IsMeantBy}
-use Rattle.law_clients.proofs.Public.{access_table, each_more, meaning_rolled, meaning_settled}
+use Rattle.law_clients.proofs.Public.{access_table, each_more, finds_sound, meaning_rolled, meaning_settled}
 use Rattle.sdb_txn.specs.Read.{request_of}
 use Rattle.sdb_snapshot.specs.Reads as snapshot
 use Rattle.sdb_client.specs.Client.{with_rows_read}
@@ -77,15 +77,12 @@ data_read (access.Scan span) is m e = ap (λ (q : Request). if is_coordinator_ta
     pick true n = absurd (clash (sym n))
     pick false n = refl
 
-abbrev pass : StoreCall → Bool
-pass m = list_all is_transactional (records_read m.reply)
-
 -- each record that a read found passes the checks
 pub read_checks : (a : Access) (calls : List StoreCall) (images : List Record) (h : HasRead (request_of a) calls images []) → IsDataTable (access_table a) → finds_transactional calls ≡ true
 read_checks a calls images h is =
-    ap (λ ms. list_all pass (filter reads_rows ms)) h.calls_are
-    ∙ ap (λ b. list_all pass (if b then h.first ∷ filter reads_rows h.rest else filter reads_rows h.rest)) (data_read a is h.first h.request)
-    ∙ ap (λ ms. list_all pass (h.first ∷ ms)) (none_of calls h.rest h.others)
+    ap (λ ms. list_all finds_sound (filter reads_rows ms)) h.calls_are
+    ∙ ap (λ b. list_all finds_sound (if b then h.first ∷ filter reads_rows h.rest else filter reads_rows h.rest)) (data_read a is h.first h.request)
+    ∙ ap (λ ms. list_all finds_sound (h.first ∷ ms)) (none_of calls h.rest h.others)
     ∙ ap (λ rs. list_all is_transactional rs && true) (h.rows ∙ append-nil (map (λ (e : Record × Option Record). e.0) h.steps))
     ∙ ap (λ b. b && true) (each h.steps h.transactional)
   where

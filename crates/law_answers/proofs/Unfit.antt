@@ -50,7 +50,9 @@ use Rattle.law_answers.specs.Changes.{HasRead, IsRows, IsSettledAs}
 use Rattle.law_answers.specs.Unfit.{SeesFitOrRead, WasMisfit, AreStoredReplies}
 use Rattle.law_answers.proofs.Ends.{first_in}
 use Rattle.law_answers.proofs.Fitting.{found_fits, left_at_key, rows_there}
-use Rattle.law_answers.proofs.Given.{asked_gives, found_so, inside_access, passes_all}
+use Rattle.law_answers.proofs.Given.{asked_gives, inside_access}
+use Rattle.law_clients.proofs.Public.{found_so}
+use Rattle.law_clients.proofs.Public.{passes_all}
 use Rattle.law_answers.proofs.Lists.{each_in, each_kept}
 use Rattle.law_answers.proofs.Misfits.{fits_more}
 use Rattle.law_answers.proofs.ReadSteps.{IsDataTable}

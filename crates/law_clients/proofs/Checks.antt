@@ -16,14 +16,11 @@ use Rattle.sdb_txn.specs.Read.{request_of}
 use Rattle.law_clients.specs.ReadAt.{ReadAt, Asking, Resolving, Done, Failed, read_pending}
 use Rattle.law_clients.specs.Calls.{AsksRows, HasUnchecked, IsMade, ReadMade, RowsMade, rows_left, rows_of}
 use Rattle.law_clients.proofs.Noting.{none_kept, reads_it}
+use Rattle.sdb_types.proofs.Public.{and_false}
 
 -- each record that a call found passes
-abbrev is_sound : StoreCall → Bool
-is_sound m = list_all is_transactional (records_read m.reply)
-
-either_false : (b : Bool) → (b && false) ≡ false
-either_false true = refl
-either_false false = refl
+abbrev pub finds_sound : StoreCall → Bool
+finds_sound m = list_all is_transactional (records_read m.reply)
 
 all_check : (rs : List Record) → AllByRecursion (λ r. is_transactional r ≡ true) rs → list_all is_transactional rs ≡ true
 all_check [] all = refl
@@ -46,10 +43,10 @@ first_reads m a tables asked = ap (λ q. if is_coordinator_table (table_asked q)
 -- of the calls of a read the first one found records
 found_first : (ms : List StoreCall) (a : Access) (images left : List Record) (made : RowsMade ms a images left) → AsksRows a → finds_transactional ms ≡ list_all is_transactional (made.done ++ left)
 found_first ms a images left made tables =
-    ap (λ xs. list_all is_sound (filter reads_rows xs)) made.calls
-    ∙ ap (λ b. list_all is_sound (if b then made.first ∷ filter reads_rows made.more else filter reads_rows made.more)) (first_reads made.first a tables made.asked)
-    ∙ ap (λ xs. is_sound made.first && list_all is_sound xs) (none_kept made.more made.others)
-    ∙ with_true (is_sound made.first)
+    ap (λ xs. list_all finds_sound (filter reads_rows xs)) made.calls
+    ∙ ap (λ b. list_all finds_sound (if b then made.first ∷ filter reads_rows made.more else filter reads_rows made.more)) (first_reads made.first a tables made.asked)
+    ∙ ap (λ xs. finds_sound made.first && list_all finds_sound xs) (none_kept made.more made.others)
+    ∙ with_true (finds_sound made.first)
     ∙ ap (list_all is_transactional) (rows_read made.first.reply (made.done ++ left) made.rows)
   where
     with_true : (b : Bool) → (b && true) ≡ b
@@ -61,13 +58,13 @@ pub read_checks : (ms : List StoreCall) (a : Access) (images : List Record) → 
 read_checks ms a images made tables = found_first ms a images [] made tables ∙ ap (list_all is_transactional) (append-nil made.done) ∙ all_check made.done made.transactional
 
 call_more : (ms : List StoreCall) (m : StoreCall) → finds_transactional ms ≡ false → finds_transactional (ms ++ m ∷ []) ≡ false
-call_more ms m e = ap (list_all is_sound) (filter-append reads_rows ms (m ∷ [])) ∙ list_all-append is_sound (filter reads_rows ms) (filter reads_rows (m ∷ [])) ∙ ap (λ b. b && list_all is_sound (filter reads_rows (m ∷ []))) e
+call_more ms m e = ap (list_all finds_sound) (filter-append reads_rows ms (m ∷ [])) ∙ list_all-append finds_sound (filter reads_rows ms) (filter reads_rows (m ∷ [])) ∙ ap (λ b. b && list_all finds_sound (filter reads_rows (m ∷ []))) e
 
 -- One doesn't where one of those that are left doesn't.
 pub read_unchecked : (ms : List StoreCall) (m : StoreCall) (a : Access) (s : ReadAt) (q : Request) (r : Reply) → ReadMade ms a s → read_pending a s ≡ Some q → IsMade m q r → AsksRows a → HasUnchecked (rows_left s r) → finds_transactional (ms ++ m ∷ []) ≡ false
 read_unchecked ms m a Asking q r made e is tables unchecked =
     ap (λ xs. finds_transactional (xs ++ m ∷ [])) made
-    ∙ ap (λ b. list_all is_sound (if b then m ∷ [] else [])) (first_reads m a tables (is.request ∙ same (request_of a) q e))
+    ∙ ap (λ b. list_all finds_sound (if b then m ∷ [] else [])) (first_reads m a tables (is.request ∙ same (request_of a) q e))
     ∙ ap (λ x. list_all is_transactional (records_read x) && true) is.reply
     ∙ ap (λ b. b && true) unchecked
   where
@@ -75,6 +72,6 @@ read_unchecked ms m a Asking q r made e is tables unchecked =
     same x y e = cc
 read_unchecked ms m a (Resolving images rec meta p left) q r made e is tables unchecked =
     call_more ms m
-    (found_first ms a images (rec ∷ left) made.0 tables ∙ list_all-append is_transactional made.0.done (rec ∷ left) ∙ ap (λ b. list_all is_transactional made.0.done && (is_transactional rec && b)) unchecked ∙ ap (λ b. list_all is_transactional made.0.done && b) (either_false (is_transactional rec)) ∙ either_false (list_all is_transactional made.0.done))
+    (found_first ms a images (rec ∷ left) made.0 tables ∙ list_all-append is_transactional made.0.done (rec ∷ left) ∙ ap (λ b. list_all is_transactional made.0.done && (is_transactional rec && b)) unchecked ∙ ap (λ b. list_all is_transactional made.0.done && b) (and_false (is_transactional rec)) ∙ and_false (list_all is_transactional made.0.done))
 read_unchecked ms m a (Done images) q r made e is tables unchecked = absurd (cc)
 read_unchecked ms m a Failed q r made e is tables unchecked = absurd (cc)

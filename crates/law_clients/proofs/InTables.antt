@@ -48,6 +48,7 @@ use Rattle.sdb_vacuum.specs.Vacuum.{First, Malformed, Nothing, Over as Ends, Rem
 use Rattle.law_clients.specs.About.{AreListed, AreReadItemsIn, AreRecordsIn, AreWritesIn, IsIn, IsListed, IsRecordIn, IsSeenIn, IsStageIn, IsVacuumStageIn, IsVacuumIn, IsWorkIn}
 use Rattle.sdb_types.specs.Exact.{equal_of}
 use Rattle.sdb_model.specs.Tables.{is_table_of_run}
+use Rattle.law_clients.proofs.Lists.{filter_all, map_all}
 
 ---- the keys of an access
 
@@ -82,16 +83,6 @@ inside (access.Get key) q h = ap (λ (k : Key). k.table) (key_exact key q (equal
 inside (access.Scan span) q h = inside_span span q h
 
 ---- lists
-
-map_all : {A B : Type 0} (P : A → Type 0) (Q : B → Type 0) (f : A → B) (xs : List A) → ((x : A) → P x → Q (f x)) → AllByRecursion P xs → AllByRecursion Q (map f xs)
-map_all P Q f [] g h = tt
-map_all P Q f (x ∷ xs) g h = (g x h.0, map_all P Q f xs g h.1)
-
-filter_all : {A : Type 0} (P : A → Type 0) (p : A → Bool) (xs : List A) → AllByRecursion P xs → AllByRecursion P (filter p xs)
-filter_all P p [] h = tt
-filter_all P p (x ∷ xs) h =
-    let rest = filter_all P p xs h.1 in
-    elim (p x) as (λ b. AllByRecursion P (cond b (x ∷ filter p xs) (filter p xs))) [ true ↦ (h.0, rest) | false ↦ rest ]
 
 passed_all : {A : Type 0} (P : A → Type 0) (p : A → Bool) (xs : List A) → ((x : A) → p x ≡ true → P x) → AllByRecursion P (filter p xs)
 passed_all P p [] g = tt

@@ -17,7 +17,7 @@ use Rattle.sdb_model.specs.Exec.{Tables, all_rows, exec, is_row_of, key_of, name
 use Rattle.sdb_model.specs.Serial.{run_body}
 use Rattle.sdb_exec.specs.Plans.{are_shaped, changes_on, has_shape, put_row}
 use Rattle.sdb_model.specs.Reads.{access_of}
-use Rattle.sdb_exec.proofs.Public.{found_at, passing}
+use Rattle.sdb_exec.proofs.Public.{all_shaped, found_at, passing}
 use Rattle.sdb_snapshot.specs.Reads.{ReadRecord}
 use Rattle.sdb_snapshot.specs.Written.{most_writes, with_write, with_writes, write_of}
 use Rattle.sdb_txn.specs.Txn.{TxnAt}
@@ -40,30 +40,6 @@ keys_with read_set ws [] = refl
 keys_with read_set ws (k ∷ ks) = keys_with read_set (with_write ws (write_of read_set k)) ks ∙ ap (λ qs. with_keys qs (map (λ (x : Keyed). x.key) ks)) (one_key ws (write_of read_set k))
 
 ---- rows that fit have the shape of their table
-
-values_len : (cs : List Column) (ns : List Name) (vs : List Value) → are_values_of cs ns vs ≡ true → length vs ≡ length ns
-values_len cs [] [] h = refl
-values_len cs [] (v ∷ vs) h = absurd (cc)
-values_len cs (n ∷ ns) [] h = absurd (cc)
-values_len cs (n ∷ ns) (v ∷ vs) h =
-    let rest : length vs ≡ length ns = values_len cs ns vs (and_parts (is_value_of cs n v) (are_values_of cs ns vs) h).1 in
-    omega arith
-
-fits_shape : (t : Table) (k : Key) (c : List Pair) → fits_table t k c ≡ true → has_shape t k ≡ true
-fits_shape t k c h =
-    let a = and_parts (are_values_of t.columns t.partition k.partition) _ h in
-    let b = and_parts (are_values_of t.columns (order_names t.clustering) k.clustering) (list_all (is_stored_in t) c) a.1 in
-    and_from _ _ (eq-eqb _ _ (values_len t.columns t.partition k.partition a.0)) (eq-eqb _ _ (values_len t.columns (order_names t.clustering) k.clustering b.0 ∙ length-map t.clustering (λ o. o.name)))
-
-weaker : (a b c : Bool) → (b ≡ true → c ≡ true) → (not a || b) ≡ true → (not a || c) ≡ true
-weaker true b c f h = f h
-weaker false b c f h = refl
-
-all_shaped : (t : Table) (rs : List Image) → list_all (λ r. not (is_row_of t r) || fits_table t r.key r.columns) rs ≡ true → are_shaped t rs ≡ true
-all_shaped t [] h = refl
-all_shaped t (r ∷ rs) h =
-    let parts = and_parts (not (is_row_of t r) || fits_table t r.key r.columns) (list_all (λ x. not (is_row_of t x) || fits_table t x.key x.columns) rs) h in
-    and_from (not (is_row_of t r) || has_shape t r.key) (are_shaped t rs) (weaker (is_row_of t r) (fits_table t r.key r.columns) (has_shape t r.key) (fits_shape t r.key r.columns) parts.0) (all_shaped t rs parts.1)
 
 ---- a statement's changes
 

@@ -1,6 +1,6 @@
 -- What holds of each item of a list.
-use Rattle.std.proofs.Common.{◌≡◌, ℕ, zero, suc, Bool, true, false, List, [], ◌∷◌, ◌++◌, map, Some, refl, subst}
-use Rattle.std.specs.Prelude.{slice_get, filter, if◌then◌else◌}
+use Rattle.std.proofs.Common.{◌≡◌, ℕ, zero, suc, Bool, true, false, cond, List, [], ◌∷◌, ◌++◌, map, filter, take, drop, Some, refl, subst}
+use Rattle.std.specs.Prelude.{slice_get, if◌then◌else◌}
 use Rattle.std.specs.List.{AllByRecursion}
 use Rattle.sdb_types.proofs.Public.{append_all as each_append}
 
@@ -39,3 +39,23 @@ each_both P Q R (x ∷ xs) f a b = (f x a.0 b.0, each_both P Q R xs f a.1 b.1)
 pub each_drop : {A : Type 0} (P : A → Type 0) (xs : List A) (x : A) (ys : List A) → AllByRecursion P (xs ++ x ∷ ys) → AllByRecursion P (xs ++ ys)
 each_drop P [] x ys a = a.1
 each_drop P (y ∷ xs) x ys a = (a.0, each_drop P xs x ys a.1)
+
+pub map_all : {A B : Type 0} (P : A → Type 0) (Q : B → Type 0) (f : A → B) (xs : List A) → ((x : A) → P x → Q (f x)) → AllByRecursion P xs → AllByRecursion Q (map f xs)
+map_all P Q f [] g h = tt
+map_all P Q f (x ∷ xs) g h = (g x h.0, map_all P Q f xs g h.1)
+
+pub filter_all : {A : Type 0} (P : A → Type 0) (p : A → Bool) (xs : List A) → AllByRecursion P xs → AllByRecursion P (filter p xs)
+filter_all P p [] h = tt
+filter_all P p (x ∷ xs) h =
+    let rest = filter_all P p xs h.1 in
+    elim (p x) as (λ b. AllByRecursion P (cond b (x ∷ filter p xs) (filter p xs))) [ true ↦ (h.0, rest) | false ↦ rest ]
+
+pub take_all : {A : Type 0} (P : A → Type 0) (n : ℕ) (xs : List A) → AllByRecursion P xs → AllByRecursion P (take n xs)
+take_all P zero xs h = tt
+take_all P (suc n) [] h = tt
+take_all P (suc n) (x ∷ xs) h = (h.0, take_all P n xs h.1)
+
+pub drop_all : {A : Type 0} (P : A → Type 0) (n : ℕ) (xs : List A) → AllByRecursion P xs → AllByRecursion P (drop n xs)
+drop_all P zero xs h = h
+drop_all P (suc n) [] h = tt
+drop_all P (suc n) (x ∷ xs) h = drop_all P n xs h.1

@@ -175,7 +175,7 @@ before_moment : (m : Meta) (o : Result Meta (List ℕ)) (y : Meta) → with_befo
 before_moment m (Ok b) y h = let e : record m { has_before = true } ≡ y = cc in ap (λ (x : Meta). x.prepared_at) e
 before_moment m (Err name) y h = absurd (cc)
 
-final_moment : (ps : List Pair) (m y : Meta) → checked_before ps m ≡ Ok y → m.prepared_at ≡ y.prepared_at
+pub final_moment : (ps : List Pair) (m y : Meta) → checked_before ps m ≡ Ok y → m.prepared_at ≡ y.prepared_at
 final_moment ps m y h = by (list_any is_before_pair ps) h
   where
     by : (b : Bool) → cond b (refuse (find is_misnamed ps) (with_before m (checked_part is_committed (before_part ps)))) (Ok m) ≡ Ok y → m.prepared_at ≡ y.prepared_at

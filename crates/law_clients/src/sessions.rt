@@ -44,7 +44,7 @@ pub fn texts_are_read()
 /// Each record of a database is at its own key. Whatever stores contain, where it is sound plain tables that fit are its rows.
 pub fn databases_have_tables()
     ensures own { (places : List Place) (store_contents : List StoreContents) → AreOwn (database_of places store_contents) }
-    ensures tables { (catalog : List Table) (places : List Place) (store_contents : List StoreContents) → IsSound catalog (database_of places store_contents) → HasTables catalog (database_of places store_contents) }
+    ensures tables { (catalog : List Table) (places : List Place) (held : List StoreContents) → let g = database_of places held in IsSound catalog g → HasTables catalog g }
 {}
 
 /// A client that is alone takes a statement: it is answered at once, or waits for a reply.

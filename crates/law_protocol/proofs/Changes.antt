@@ -19,6 +19,7 @@ use Rattle.law_protocol.specs.Changed.{Change, Changed, AreSelfless, changes_of,
 use Rattle.law_protocol.proofs.Effects.{AtCall, at_call}
 use Rattle.law_protocol.proofs.Shown.{read_leaves}
 use Rattle.law_protocol.proofs.Writes.{IsWritten, put_written, delete_written}
+use Rattle.sdb_types.specs.Replies.{is_answered}
 
 -- what an event asks of a store, and the reply
 pub record Asks (e : Event) (q : Request) (r : Reply) : Type 0 where
@@ -67,13 +68,7 @@ one_changed places x r before now done written took = record {
     none true y = refl
     none false y = refl
 
--- a request for none
-abbrev is_of_write : Reply → Bool
-is_of_write reply.Applied = true
-is_of_write (reply.NotMet found) = true
-is_of_write r = false
-
-none_changed : (places : List Place) (q : Request) (r : Reply) (before now : List StoreContents) (done : Bool) → AtCall places q r before now → ((m : Contents) → after q m ≡ m) → ((m : Contents) → is_of_write (reply_to q m) ≡ false) → false ≡ done → HasChanged places [] r before now done
+none_changed : (places : List Place) (q : Request) (r : Reply) (before now : List StoreContents) (done : Bool) → AtCall places q r before now → ((m : Contents) → after q m ≡ m) → ((m : Contents) → is_answered (reply_to q m) ≡ false) → false ≡ done → HasChanged places [] r before now done
 none_changed places q r before now done a same replies took = record {
   changed = record {
     held = λ d. tt;
@@ -81,15 +76,15 @@ none_changed places q r before now done a same replies took = record {
     kept = λ n k. read_leaves places q r before now a same k;
     others = λ k h. read_leaves places q r before now a same k;
   };
-  applied = λ e. clash (sym (ap is_of_write e) ∙ none);
-  unmet = λ found e. absurd (apart (sym (ap is_of_write e) ∙ none));
+  applied = λ e. clash (sym (ap is_answered e) ∙ none);
+  unmet = λ found e. absurd (apart (sym (ap is_answered e) ∙ none));
   wanting = λ e. sym took;
 }
   where
-    none : is_of_write r ≡ false
+    none : is_answered r ≡ false
     none = elim a.moved [
-      | inl x ↦ elim x.1 [ inl e ↦ ap is_of_write e ∙ replies a.held | inr e ↦ ap is_of_write e ]
-      | inr x ↦ elim x.1 [ inl e ↦ ap is_of_write e | inr e ↦ ap is_of_write e ]
+      | inl x ↦ elim x.1 [ inl e ↦ ap is_answered e ∙ replies a.held | inr e ↦ ap is_answered e ]
+      | inr x ↦ elim x.1 [ inl e ↦ ap is_answered e | inr e ↦ ap is_answered e ]
     ]
 
     apart : true ≡ false → ⊥

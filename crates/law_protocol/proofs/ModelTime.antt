@@ -87,7 +87,7 @@ past_more m n (p ∷ ps) l a = (lower p.event a.0, past_more m n ps l a.1)
     lower : (x : ℕ) → n < x → m < x
     lower x h = omega arith
 
-rest_rising : (x : ℕ) (xs : List ℕ) → IsStrictlyIncreasing (x ∷ xs) → IsStrictlyIncreasing xs
+pub rest_rising : (x : ℕ) (xs : List ℕ) → IsStrictlyIncreasing (x ∷ xs) → IsStrictlyIncreasing xs
 rest_rising x xs r k l = subst (λ m. slice_index xs k < slice_index (x ∷ xs) m) (next k) (r (suc k) (omega arith))
   where
     next : (k : ℕ) → suc k + 1 ≡ suc (k + 1)

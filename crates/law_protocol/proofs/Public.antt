@@ -5,7 +5,7 @@ pub use Rattle.law_protocol.proofs.Derived.{points_differ, recorded_row, row_rec
 pub use Rattle.law_protocol.proofs.Effects.{AtCall, after_delete, after_put, at_call, store_same}
 pub use Rattle.law_protocol.proofs.Followed.{follows_moved}
 pub use Rattle.law_protocol.proofs.Known.{IsPlanned, held_key, row_known, taken_fits, took_is_taken, write_key, writer_taken, writes_it}
-pub use Rattle.law_protocol.proofs.ModelTime.{answers_true, keeps_real_time, ordered_of, point_of}
+pub use Rattle.law_protocol.proofs.ModelTime.{answers_true, keeps_real_time, ordered_of, point_of, rest_rising}
 pub use Rattle.law_protocol.proofs.Moments.{apart_from, at_cut, committed_at, cut, early_run, gone_at, half, rows_at, stands_at, unresolved_at}
 pub use Rattle.law_protocol.proofs.Moved.{begun_moved, commit_moved, moved_more, point_moved, said_moved}
 pub use Rattle.law_protocol.proofs.Order.{reads_serial, rows_serial}
@@ -19,4 +19,5 @@ pub use Rattle.law_protocol.proofs.Small.{any_key}
 pub use Rattle.law_protocol.proofs.Texts.{begin_begins, commit_commits}
 pub use Rattle.law_protocol.proofs.Times.{traced_of, whole_of}
 pub use Rattle.law_protocol.proofs.Told.{one_standing, run_moved}
+pub use Rattle.law_protocol.proofs.Traces.{contents_of}
 pub use Rattle.law_protocol.proofs.Whole.{Whole, whole}

@@ -19,7 +19,7 @@ use Rattle.sdb_model.specs.Tables.{is_table_of_run}
 
 ---- the one store
 
-abbrev contents_of : List StoreContents → Contents
+abbrev pub contents_of : List StoreContents → Contents
 contents_of [] = empty
 contents_of (s ∷ ss) = s.contents
 

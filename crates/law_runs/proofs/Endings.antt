@@ -52,6 +52,7 @@ use Rattle.law_runs.proofs.ReadLeads.{read_leads}
 use Rattle.law_runs.proofs.Takes.{CommitAtOnce, commit_taken}
 use Rattle.law_runs.proofs.Replies.{CallOf, ReadCall, call_of}
 use Rattle.law_runs.proofs.Statements.{AreKept, IsPast, SoBy, calls_more, replied_said, statements_so}
+use Rattle.law_runs.proofs.Busy.{AnyWaits}
 
 -- A COMMIT that is answered BadRecord met a row of the coordinator. A statement that reads and is answered Conflict had each unresolved
 -- record rolled first; so had one that is answered BadRecord, unless its calls showed a record of no form there.
@@ -59,9 +60,6 @@ pub record EndsAs (events : List Event) (c : ℕ) (s : Executed) : Type 0 where
   pub bad : (key : Key) → s.answer ≡ Some (answer.BadRecord key) → reads_commit s.text ≡ true → is_coordinator_table key.table ≡ true
   pub moved : (key : Key) (found : Option Record) → s.answer ≡ Some (answer.Conflict key found) → reads_commit s.text ≡ false → RolledBut events (reads_vacuum s.text) (calls_of events c s) []
   pub unfit : (key : Key) → s.answer ≡ Some (answer.BadRecord key) → reads_commit s.text ≡ false → reads_vacuum s.text ≡ false → ObservesBad (calls_of events c s) key ⊎ RolledBut events (reads_vacuum s.text) (calls_of events c s) []
-
-abbrev AnyWaits : List Event → ℕ → Executed → ClientAt → Type 0
-AnyWaits events c s h = Unit {0}
 
 ---- the row that a COMMIT can't read
 

@@ -3,16 +3,7 @@ use Rattle.std.proofs.Common.{◌≡◌, ℕ, zero, suc, Bool, true, false, cond
 use Rattle.std.specs.List.{AllByRecursion, cons_option, filter_map}
 use Rattle.std.specs.Option.{option_map}
 use Rattle.sdb_types.proofs.Public.{append_all, some_is}
-
-pub map_all : {A B : Type 0} (P : A → Type 0) (Q : B → Type 0) (f : A → B) (xs : List A) → ((x : A) → P x → Q (f x)) → AllByRecursion P xs → AllByRecursion Q (map f xs)
-map_all P Q f [] g h = tt
-map_all P Q f (x ∷ xs) g h = (g x h.0, map_all P Q f xs g h.1)
-
-pub filter_all : {A : Type 0} (P : A → Type 0) (p : A → Bool) (xs : List A) → AllByRecursion P xs → AllByRecursion P (filter p xs)
-filter_all P p [] h = tt
-filter_all P p (x ∷ xs) h =
-    let rest = filter_all P p xs h.1 in
-    elim (p x) as (λ b. AllByRecursion P (cond b (x ∷ filter p xs) (filter p xs))) [ true ↦ (h.0, rest) | false ↦ rest ]
+pub use Rattle.law_clients.proofs.Public.{drop_all, filter_all, map_all, take_all}
 
 -- an item more, if there is one
 pub cons_all : {B : Type 0} (Q : B → Type 0) (o : Option B) (ys : List B) → IfSome o Q → AllByRecursion Q ys → AllByRecursion Q (cons_option o ys)
@@ -22,16 +13,6 @@ cons_all Q (Some y) ys k h = (k, h)
 pub filter_map_all : {A B : Type 0} (P : A → Type 0) (Q : B → Type 0) (f : A → Option B) (xs : List A) → ((x : A) → P x → IfSome (f x) Q) → AllByRecursion P xs → AllByRecursion Q (filter_map f xs)
 filter_map_all P Q f [] g h = tt
 filter_map_all P Q f (x ∷ xs) g h = cons_all Q (f x) (filter_map f xs) (g x h.0) (filter_map_all P Q f xs g h.1)
-
-pub take_all : {A : Type 0} (P : A → Type 0) (n : ℕ) (xs : List A) → AllByRecursion P xs → AllByRecursion P (take n xs)
-take_all P zero xs h = tt
-take_all P (suc n) [] h = tt
-take_all P (suc n) (x ∷ xs) h = (h.0, take_all P n xs h.1)
-
-pub drop_all : {A : Type 0} (P : A → Type 0) (n : ℕ) (xs : List A) → AllByRecursion P xs → AllByRecursion P (drop n xs)
-drop_all P zero xs h = h
-drop_all P (suc n) [] h = tt
-drop_all P (suc n) (x ∷ xs) h = drop_all P n xs h.1
 
 -- with an item at a place
 pub insert_all : {A : Type 0} (P : A → Type 0) (xs : List A) (n : ℕ) (x : A) → P x → AllByRecursion P xs → AllByRecursion P (take n xs ++ x ∷ drop n xs)

@@ -10,7 +10,7 @@ use Rattle.sdb_model.specs.Events.{IsCall, IsTrace, StoreContents}
 use Rattle.sdb_model.specs.Plain.{is_one_line, HasLines}
 use Rattle.sdb_model.specs.Rows.{Name}
 use Rattle.law_protocol.specs.Spread.{HoldAs, relocated_events, one_store}
-use Rattle.law_protocol.proofs.Public.{one_held, one_left, Single, single}
+use Rattle.law_protocol.proofs.Public.{Single, contents_of, one_held, one_left, single}
 use Rattle.sdb_client.specs.Execution.{AreFresh, CallStep, IsPath, State, TakeStep, client_after, client_stopped, with_client_at}
 use Rattle.law_runs.specs.Laws.{ExecutionOf}
 use Rattle.law_runs.specs.Moments.{TraceOf}
@@ -85,12 +85,7 @@ one_call name q how r m now k h c =
 
 ---- a whole execution
 
-contents_of : List StoreContents → Contents
-contents_of [] = empty
-contents_of (s ∷ ss) = s.contents
-
 same_contents : (name : Name) (m last : Contents) → one_store name last ≡ one_store name m → last ≡ m
-unfolding contents_of
 same_contents name m last e = ap contents_of e
 
 -- its events, and what the one store holds after them

@@ -17,12 +17,9 @@ use Rattle.sdb_model.specs.Plain.{is_no_lf, is_one_line}
 use Rattle.sdb_model.specs.Sql.{Reads, Spells, Tokens, columns_tokens, insert_tokens, limit_tokens, literal_token, literal_tokens, names_tokens, separated, set_tokens, statement_tokens, table_tokens, test_tokens, tokens_of, where_tokens}
 use Rattle.sdb_model.specs.SqlTokens.{Bad, Lexed, Lexeme, Wide, begins, begins_blob, behind, blob_in, blob_token, closes, digits_len, enclosed, first_token, is_digit, is_gap, is_single_quote, keyword_of, letter_at, lexed, minus, name_token, negative_at, number_at, number_of, onto_text, or_word, quote_place, quoted_name_at, sign_of, sign_token, text_at, text_token, token_at, tokens_from, word_at, word_len, word_or_name}
 use Rattle.sdb_report.specs.OneLine.{ValueHasNoLf}
-use Rattle.sdb_report.proofs.Public.{lines_joined}
+use Rattle.sdb_report.proofs.Public.{IsLine, lines_joined}
 use Rattle.law_runs.proofs.Clear.{AreClear}
 use Rattle.law_runs.proofs.PlainStatements.{StatementClear, TestClear, TestsClear}
-
-abbrev One : List ℕ → Type 0
-One text = is_one_line text ≡ true
 
 ---- tokens
 
@@ -31,7 +28,7 @@ TokenClear (Word w) = Unit {0}
 TokenClear (Name n) = Unit {0}
 TokenClear Overlong = Unit {0}
 TokenClear (Number n) = Unit {0}
-TokenClear (Text text) = One text
+TokenClear (Text text) = IsLine text
 TokenClear (Blob bytes) = Unit {0}
 TokenClear (Mark s) = Unit {0}
 
@@ -47,20 +44,20 @@ LexedClear (Ok ps) = AllByRecursion PlacedClear ps
 LexedClear (Err f) = Unit {0}
 
 abbrev EnclosedClear : Option (List ℕ × ℕ) → Type 0
-EnclosedClear o = IfSome o (λ p. One p.0)
+EnclosedClear o = IfSome o (λ p. IsLine p.0)
 
-onto_clear : (front : List ℕ) (n : ℕ) (o : Option (List ℕ × ℕ)) → One front → EnclosedClear o → EnclosedClear (onto_text front n o)
+onto_clear : (front : List ℕ) (n : ℕ) (o : Option (List ℕ × ℕ)) → IsLine front → EnclosedClear o → EnclosedClear (onto_text front n o)
 onto_clear front n None h k = tt
 onto_clear front n (Some p) h k = lines_joined front p.0 h k
 
-one_byte : (c : ℕ) → is_no_lf c ≡ true → One (c ∷ [])
+one_byte : (c : ℕ) → is_no_lf c ≡ true → IsLine (c ∷ [])
 one_byte c h = rw h refl
 
-enclosed_clear : (bs : List ℕ) → One bs → EnclosedClear (enclosed bs)
+enclosed_clear : (bs : List ℕ) → IsLine bs → EnclosedClear (enclosed bs)
 enclosed_clear [] h = tt
 enclosed_clear (c ∷ []) h = elim (is_single_quote c) as (λ b. EnclosedClear (cond b (Some ([], 1)) None)) [ true ↦ refl | false ↦ tt ]
 enclosed_clear (c ∷ d ∷ ds) h =
-    let later : One (d ∷ ds) = and_second (is_no_lf c) _ h in
+    let later : IsLine (d ∷ ds) = and_second (is_no_lf c) _ h in
     let own = onto_clear (c ∷ []) 1 (enclosed (d ∷ ds)) (one_byte c (and_first (is_no_lf c) _ h)) (enclosed_clear (d ∷ ds) later) in
     let two = onto_clear (39 ∷ []) 2 (enclosed ds) refl (enclosed_clear ds (and_second (is_no_lf d) _ later)) in
     by (is_single_quote c) (is_single_quote d) own two
@@ -70,7 +67,7 @@ enclosed_clear (c ∷ d ∷ ds) h =
     by true false own two = refl
     by false b own two = own
 
-text_clear : (bytes : List ℕ) → One bytes → LexemeClear (text_at bytes)
+text_clear : (bytes : List ℕ) → IsLine bytes → LexemeClear (text_at bytes)
 unfolding text_at
 text_clear bytes h = by (enclosed bytes) (enclosed_clear bytes h)
   where
@@ -135,10 +132,10 @@ signs_clear : (o : Option Sign) → LexemeClear (sign_token o)
 signs_clear (Some s) = tt
 signs_clear None = tt
 
-rest_one : (b : ℕ) (bs : List ℕ) → One (b ∷ bs) → One bs
+rest_one : (b : ℕ) (bs : List ℕ) → IsLine (b ∷ bs) → IsLine bs
 rest_one b bs h = and_second (is_no_lf b) _ h
 
-token_clear : (b : ℕ) (bs : List ℕ) → One (b ∷ bs) → LexemeClear (token_at (b ∷ bs))
+token_clear : (b : ℕ) (bs : List ℕ) → IsLine (b ∷ bs) → LexemeClear (token_at (b ∷ bs))
 unfolding token_at
 token_clear b bs h = by (is_start b) (is_digit b) (Rattle.std.specs.Prelude.◌==◌ b 34) (Rattle.std.specs.Prelude.◌==◌ b 45) (is_single_quote b)
   where
@@ -158,7 +155,7 @@ first_clear : (place : ℕ) (x : Lexeme) (rest : ℕ → Lexed) → LexemeClear 
 first_clear place (Ok t) rest h k = behind_clear (record { at = place; token = t.0 } ∷ []) (rest t.1) (h, tt) (k t.1)
 first_clear place (Err f) rest h k = tt
 
-from_clear : (place n : ℕ) (bs : List ℕ) → One bs → LexedClear (tokens_from place n bs)
+from_clear : (place n : ℕ) (bs : List ℕ) → IsLine bs → LexedClear (tokens_from place n bs)
 from_clear place n [] h = tt
 from_clear place (suc n) (b ∷ bs) h = from_clear (place + 1) n bs (rest_one b bs h)
 from_clear place zero (b ∷ bs) h = by (is_gap b) (from_clear (place + 1) 0 bs (rest_one b bs h)) (λ n. from_clear (place + 1) n bs (rest_one b bs h))
@@ -167,7 +164,7 @@ from_clear place zero (b ∷ bs) h = by (is_gap b) (from_clear (place + 1) 0 bs 
     by true here later = here
     by false here later = first_clear place (token_at (b ∷ bs)) (λ n. tokens_from (place + 1) (n - 1) bs) (token_clear b bs h) (λ n. later (n - 1))
 
-lexed_clear : (text : List ℕ) → One text → LexedClear (lexed text)
+lexed_clear : (text : List ℕ) → IsLine text → LexedClear (lexed text)
 unfolding lexed
 lexed_clear text h = from_clear 0 0 text h
 

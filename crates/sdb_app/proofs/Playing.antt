@@ -22,6 +22,7 @@ use Rattle.sdb_world.specs.Step.{HasFollowed}
 use Rattle.sdb_world.proofs.Public.{breaks_more, breaks_still}
 use Rattle.sdb_app.specs.Run.{AreReady, Stops, status_of_call, status_of_closing}
 use Rattle.sdb_stores.specs.Views.{HaveRisen}
+use Rattle.sdb_shell.proofs.Public.{map_ok}
 
 pub has_followed : (old new : Attached) (script : Script) (w v : WorldAt) → w.script ≡ script → w.events ≡ [] → HasFollowed old new w v → Follows script v.events
 has_followed old new script w v same none came =
@@ -96,10 +97,6 @@ broken_played w v old mid new events none h goes is =
     (subst (λ (xs : List Event). BreaksWithin xs v.events old.views new.views) none (breaks_more w.events v.events v.events old mid new h goes (breaks_still v.events mid new goes)))
 
 ---- what is so of a result
-
-pub ok_then : {T E : Type 0} (P Q : T → Type 0) (r : Result T E) → ((x : T) → P x → Q x) → IfOk r P → IfOk r Q
-ok_then P Q (Ok x) f h = f x h
-ok_then P Q (Err e) f h = tt
 
 pub err_then : {T E : Type 0} (P Q : E → Type 0) (r : Result T E) → ((e : E) → P e → Q e) → IfErr r P → IfErr r Q
 err_then P Q (Ok x) f h = tt

@@ -14,20 +14,16 @@ use Rattle.sdb_model.proofs.Public.{id_again}
 use Rattle.sdb_bench.specs.Script.{bench_clients}
 use Rattle.sdb_bench.proofs.Taken.{AreTaken, taken_texts}
 use Rattle.sdb_bench.proofs.ReadAs.{IsInsert, IsLater, IsText, IsUpdate, all_kept, insert_kind, later_begins, later_statements, later_texts, setup_kind, setup_texts, update_kind, update_texts}
+use Rattle.law_clients.proofs.Public.{take_all}
 
 ---- what is so of all statements of a client is so of a body
-
-pub all_take : {A : Type 0} (P : A → Type 0) (k : ℕ) (xs : List A) → AllByRecursion P xs → AllByRecursion P (take k xs)
-all_take P zero xs h = tt
-all_take P (suc k) [] h = tt
-all_take P (suc k) (x ∷ xs) h = (h.0, all_take P k xs h.1)
 
 all_rest : (P : Executed → Type 0) (ss : List Executed) → AllByRecursion P ss → AllByRecursion P (rest_of ss)
 all_rest P [] h = tt
 all_rest P (s ∷ ss) h = h.1
 
 all_while : (P : Executed → Type 0) (p : Executed → Bool) (ss : List Executed) → AllByRecursion P ss → AllByRecursion P (take_while p ss)
-all_while P p ss h = all_take P (prefix_len p ss) ss h
+all_while P p ss h = take_all P (prefix_len p ss) ss h
 
 all_since : (P : Executed → Type 0) (k : ℕ) (ss : List Executed) → AllByRecursion P ss → AllByRecursion P (from_begin k ss)
 all_since P zero ss h = tt
@@ -48,7 +44,7 @@ of_texts Q [] h = tt
 of_texts Q (s ∷ ss) h = (h.0, of_texts Q ss h.1)
 
 taken_all : (Q : List ℕ → Type 0) (clients : List ScriptClient) (events : List Event) (c : ℕ) → AreTaken clients events → AllByRecursion Q (texts_of clients c) → AllByRecursion (λ s. Q s.text) (statements_by c events)
-taken_all Q clients events c accepted h = of_texts Q (statements_by c events) (subst (AllByRecursion Q) (sym (accepted c)) (all_take Q (takes_of c events) (texts_of clients c) h))
+taken_all Q clients events c accepted h = of_texts Q (statements_by c events) (subst (AllByRecursion Q) (sym (accepted c)) (take_all Q (takes_of c events) (texts_of clients c) h))
 
 read_all : (P : Statement → Type 0) (Q : List ℕ → Type 0) → ((text : List ℕ) (st : Statement) → Q text → Reads text st → P st) → (ss : List Executed) (b : List Statement) → AllByRecursion (λ s. Q s.text) ss → AreRead ss b → AllByRecursion P b
 read_all P Q each [] [] h read = tt
@@ -84,7 +80,7 @@ second_none k accepted first later [] h e = refl
 second_none k zero first later (s ∷ ss) h e = absurd (cc)
 second_none k (suc n) first later (s ∷ ss) h e =
     let rest : taken_texts ss ≡ take n later = ap tail_of e in
-    begins_once k s ss (no_begins ss (of_texts (IsText IsLater) ss (subst (AllByRecursion (IsText IsLater)) (sym rest) (all_take (IsText IsLater) n later h))))
+    begins_once k s ss (no_begins ss (of_texts (IsText IsLater) ss (subst (AllByRecursion (IsText IsLater)) (sym rest) (take_all (IsText IsLater) n later h))))
 
 no_second : (n k : ℕ) (events : List Event) → AreTaken (bench_clients n) events → from_begin (suc (suc k)) (statements_by 1 events) ≡ []
 no_second n k events accepted =

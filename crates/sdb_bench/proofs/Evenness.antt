@@ -21,8 +21,9 @@ use Rattle.sdb_bench.specs.declared.side.Side.TheVariants.{Left, Right}
 use Rattle.sdb_bench.specs.Counts.{differ, is_at, is_uneven, same_found, uneven_in, uneven_of}
 use Rattle.sdb_bench.specs.Draws.{numbers_below}
 use Rattle.sdb_bench.specs.Setup.{bench_catalog, bench_table, v_name}
-use Rattle.sdb_bench.proofs.Bodied.{all_take}
+use Rattle.law_clients.proofs.Public.{take_all}
 use Rattle.sdb_bench.proofs.Even.{AreCells, Chosen, IsCell, IsEven, IsOne, all_map}
+use Rattle.law_clients.proofs.Public.{drop_all, take_all}
 
 ---- lists
 
@@ -33,15 +34,10 @@ all_filter P p (x ∷ xs) h =
     (λ e. rw e ((h.0, e), all_filter P p xs h.1))
     (λ e. rw e (all_filter P p xs h.1))
 
-all_drop : {A : Type 0} (P : A → Type 0) (k : ℕ) (xs : List A) → AllByRecursion P xs → AllByRecursion P (drop k xs)
-all_drop P zero xs h = h
-all_drop P (suc k) [] h = tt
-all_drop P (suc k) (x ∷ xs) h = all_drop P k xs h.1
-
 all_placed : (P : Image → Type 0) (t : Table) (xs : List Image) (r : Image) → P r → AllByRecursion P xs → AllByRecursion P (placed t xs r)
 all_placed P t xs r one h =
     let k = length (take_while (λ (x : Image). is_lt (row_key_cmp t x.key r.key)) xs) in
-    append_all P (take k xs) (r ∷ drop k xs) (all_take P k xs h) (one, all_drop P k xs h)
+    append_all P (take k xs) (r ∷ drop k xs) (take_all P k xs h) (one, drop_all P k xs h)
 
 all_sorted : (P : Image → Type 0) (t : Table) (xs rs : List Image) → AllByRecursion P xs → AllByRecursion P rs → AllByRecursion P (fold (placed t) xs rs)
 all_sorted P t xs [] h hs = h

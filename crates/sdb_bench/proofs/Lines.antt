@@ -6,7 +6,7 @@ use Rattle.sdb_model.specs.declared.statement.Statement.{Statement}
 use Rattle.sdb_model.specs.Follows.{texts_of}
 use Rattle.sdb_model.specs.Plain.{HasLines, is_one_line}
 use Rattle.sdb_model.specs.Sql.{statement_text_of}
-use Rattle.sdb_report.proofs.Public.{decimal_one, lines_joined}
+use Rattle.sdb_report.proofs.Public.{IsLine, decimal_one, lines_joined}
 use Rattle.sdb_bench.specs.declared.side.Side.{Side}
 use Rattle.sdb_bench.specs.declared.side.Side.TheVariants.{Left, Right}
 use Rattle.sdb_bench.specs.Setup.{insert_of, namespace_of, update_of}
@@ -14,9 +14,6 @@ use Rattle.sdb_bench.specs.Script.{bench_clients, bench_script_of}
 use Rattle.sdb_bench.proofs.Playable.{apart, found_in}
 use Rattle.sdb_bench.proofs.ReadAs.{Changes, Closes, Inserts, IsInsert, IsOf, IsText, IsUpdate, Opens, Updates, setup_kind, update_texts}
 use Rattle.sdb_bench.proofs.Spelled.{insert_spelled, update_spelled}
-
-abbrev IsLine : List ℕ → Type 0
-IsLine text = is_one_line text ≡ true
 
 abbrev PrintsLine : Statement → Type 0
 PrintsLine st = IsLine (statement_text_of st)

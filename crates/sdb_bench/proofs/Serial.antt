@@ -19,6 +19,7 @@ use Rattle.sdb_bench.proofs.Even.{AreCells, HasNone, IsEven, all_zero, insert_ze
 use Rattle.sdb_bench.proofs.Evenness.{even_dumps}
 use Rattle.sdb_bench.proofs.ReadAs.{Changes, Closes, Inserts, IsInsert, IsOf, IsUpdate, Opens, Updates}
 use Rattle.sdb_bench.proofs.Taken.{AreTaken, all_taken}
+use Rattle.law_protocol.proofs.Public.{rest_rising}
 
 ---- one body
 
@@ -100,12 +101,6 @@ before_setup n events accepted (p ∷ ps) (b ∷ bs) d read once h =
 -- events after this one
 abbrev pub AreAfter : ℕ → List Point → Type 0
 AreAfter m ps = AllByRecursion (λ p. m < p.event) ps
-
-rest_rising : (x : ℕ) (xs : List ℕ) → IsStrictlyIncreasing (x ∷ xs) → IsStrictlyIncreasing xs
-rest_rising x xs r k l = subst (λ m. slice_index xs k < slice_index (x ∷ xs) m) (next k) (r (suc k) (omega arith))
-  where
-    next : (k : ℕ) → suc k + 1 ≡ suc (k + 1)
-    next k = omega arith
 
 first_below : (p : Point) (ps : List Point) → IsStrictlyIncreasing (map (λ (x : Point). x.event) (p ∷ ps)) → AreAfter p.event ps
 first_below p [] r = tt

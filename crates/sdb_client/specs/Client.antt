@@ -312,6 +312,10 @@ abbrev pub ReplyPost : ClientAt → Option VacuumAt → Reply → ℤ → Option
 ReplyPost c (Some v) r now result d = VacuumPost v r now result d.vacuum × (d ≡ record c { vacuum = d.vacuum })
 ReplyPost c None r now result d = OpenTxnPost c c.txn r now result d
 
+-- so it is of the reply to the call that is pending
+abbrev pub ReplyStep : ClientAt → Request → Reply → ℤ → Option Answer → ClientAt → Type 0
+ReplyStep c q r now result d = (client_pending c ≡ Some q) × ReplyPost c c.vacuum r now result d
+
 -- What the taking of a text by a client comes to: that, or out of memory.
 pub record TextStep (q : Taking) (text : List ℕ) (c : ClientAt) (result : Option Answer) (d : ClientAt) : Type 0 where
   pub memory : result ≡ Some answer.NoMemory → d ≡ out_of_memory text c

@@ -1,7 +1,7 @@
 //! Laws of a client's steps.
-ghost use Rattle.std.specs.Prelude.{◌≡◌, ℕ, ℤ, List, Option, Some};
+ghost use Rattle.std.specs.Prelude.{ℕ, ℤ, List, Option};
 ghost use Rattle.sdb_client.specs.Types.{Answer, Reply, Request};
-ghost use Rattle.sdb_client.specs.Client.{ClientAt, ReplyPost, Taking, TextStep, client_pending};
+ghost use Rattle.sdb_client.specs.Client.{ClientAt, ReplyStep, Taking, TextStep};
 ghost use Rattle.sdb_client.specs.Step.{Receives, Step, Takes};
 
 /// A client's steps by the protocol are what `Client::take` and `Client::advance` ensure: the taking of a text is a step that takes it,
@@ -9,6 +9,6 @@ ghost use Rattle.sdb_client.specs.Step.{Receives, Step, Takes};
 pub fn steps_are_rows()
     ensures text_rows { (q : Taking) (text : List ℕ) (c : ClientAt) (result : Option Answer) (d : ClientAt) → TextStep q text c result d → Step c (Takes q text) result d }
     ensures rows_text { (q : Taking) (text : List ℕ) (c : ClientAt) (result : Option Answer) (d : ClientAt) → Step c (Takes q text) result d → TextStep q text c result d }
-    ensures reply_rows { (c : ClientAt) (q : Request) (r : Reply) (now : ℤ) (result : Option Answer) (d : ClientAt) → client_pending c ≡ Some q → ReplyPost c c.vacuum r now result d → Step c (Receives q r now) result d }
-    ensures rows_reply { (c : ClientAt) (q : Request) (r : Reply) (now : ℤ) (result : Option Answer) (d : ClientAt) → Step c (Receives q r now) result d → (client_pending c ≡ Some q) × ReplyPost c c.vacuum r now result d }
+    ensures reply_rows { (c : ClientAt) (q : Request) (r : Reply) (now : ℤ) (result : Option Answer) (d : ClientAt) → ReplyStep c q r now result d → Step c (Receives q r now) result d }
+    ensures rows_reply { (c : ClientAt) (q : Request) (r : Reply) (now : ℤ) (result : Option Answer) (d : ClientAt) → Step c (Receives q r now) result d → ReplyStep c q r now result d }
 {}

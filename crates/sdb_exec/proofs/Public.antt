@@ -5,4 +5,4 @@ pub use Rattle.sdb_exec.proofs.Laid.{by_key, find-mapped, find-sieved, get-with_
 pub use Rattle.sdb_exec.proofs.Local.{agree_rows, found_at, ordered, passing}
 pub use Rattle.sdb_exec.proofs.Places.{named_is_table}
 pub use Rattle.sdb_exec.proofs.Sorting.{sorts}
-pub use Rattle.sdb_exec.proofs.Whole.{fitting_is_exec, own}
+pub use Rattle.sdb_exec.proofs.Whole.{all_shaped, fitting_is_exec, own}

@@ -43,7 +43,7 @@ weaker : (a b c : Bool) → (b ≡ true → c ≡ true) → (not a || b) ≡ tru
 weaker true b c f h = f h
 weaker false b c f h = refl
 
-all_shaped : (t : Table) (rs : List Image) → all_of t rs ≡ true → are_shaped t rs ≡ true
+pub all_shaped : (t : Table) (rs : List Image) → all_of t rs ≡ true → are_shaped t rs ≡ true
 all_shaped t [] h = refl
 all_shaped t (r ∷ rs) h =
     let parts = and_parts (not (is_row_of t r) || fits_table t r.key r.columns) (all_of t rs) h in

@@ -31,8 +31,8 @@ use Rattle.sdb_model.specs.declared.event.How.TheVariants.{Seen, Lost, Discarded
 use Rattle.sdb_report.specs.OneLine.{ValueHasNoLf, ValuesHaveNoLf, KeyHasNoLf, ColumnsHaveNoLf, RecordHasNoLf, AnswerHasNoLf, RequestHasNoLf, ReplyHasNoLf, EventHasNoLf}
 use Rattle.sdb_report.proofs.ValueLaws.{is_long}
 
-abbrev One : List ℕ → Type 0
-One text = is_one_line text ≡ true
+abbrev pub IsLine : List ℕ → Type 0
+IsLine text = is_one_line text ≡ true
 
 pub lines_joined : (xs ys : List ℕ) → is_one_line xs ≡ true → is_one_line ys ≡ true → is_one_line (xs ++ ys) ≡ true
 lines_joined [] ys h k = k
@@ -50,7 +50,7 @@ decimal_one n lt =
     decimal_by_steps (λ n ds. is_one_line ds ≡ true) (λ n small. rw (digit_no_lf n) refl)
     (λ n ds ge h. lines_joined ds ((48 + n % 10) ∷ []) h (rw (digit_no_lf (n % 10)) refl)) n lt
 
-signed_one : (z : ℤ) → FitsSigned w64 z → One (signed_decimal z)
+signed_one : (z : ℤ) → FitsSigned w64 z → IsLine (signed_decimal z)
 signed_one (pos n) fits = let lt : n < 2 ^ 63 = fits.sfits in decimal_one n (omega arith)
 signed_one (negsuc n) fits = let lt : n < 2 ^ 63 = fits.sfits in decimal_one (suc n) (omega arith)
 
@@ -92,7 +92,7 @@ upper_no_lf c d h =
     (λ e. let is : c ≡ 10 = eqb-true c 10 e in let bad : hex_digit_value 10 ≡ Some d = subst (λ (x : ℕ). hex_digit_value x ≡ Some d) is h in absurd cc)
     (λ e. rw e refl)
 
-hex_one : (bs : List ℕ) → AllByRecursion (λ b. b < 256) bs → One (encode_upper bs)
+hex_one : (bs : List ℕ) → AllByRecursion (λ b. b < 256) bs → IsLine (encode_upper bs)
 unfolding encode_with
 hex_one [] fits = refl
 hex_one (b ∷ bs) fits =
@@ -100,12 +100,12 @@ hex_one (b ∷ bs) fits =
     let low = upper_no_lf (slice_index upper_digits (b % 16)) (b % 16) (IsDigits-upper_digits (b % 16) (omega arith)) in
     rw (high, low) (hex_one bs fits.1)
 
-doubled_one : (text : List ℕ) → One text → One (flat_map doubled text)
+doubled_one : (text : List ℕ) → IsLine text → IsLine (flat_map doubled text)
 doubled_one [] h = refl
 doubled_one (b ∷ bs) h =
     lines_joined (doubled b) (flat_map doubled bs) (by_test (b == 39) (λ e. rw e refl) (λ e. rw (e, and_first (is_no_lf b) _ h) refl)) (doubled_one bs (and_second (is_no_lf b) _ h))
 
-pub value_one : (v : Value) → value_fits v → ValueHasNoLf v → One (value_text_of v)
+pub value_one : (v : Value) → value_fits v → ValueHasNoLf v → IsLine (value_text_of v)
 value_one value.Null fits h = refl
 value_one (value.Bool true) fits h = refl
 value_one (value.Bool false) fits h = refl
@@ -115,11 +115,11 @@ value_one (value.Text text) fits h = lines_joined (flat_map doubled text) (codes
 value_one (value.Blob bytes) fits h = lines_joined (encode_upper bytes) (codes "'") (hex_one bytes (recursion_from_All (λ b. b < 256) bytes fits)) refl
 
 -- texts one after another, each after a prefix
-flat_one : {X : Type 0} (front : List ℕ) (text : X → List ℕ) → One front → (xs : List X) → AllByRecursion (λ x. One (text x)) xs → One (flat_map (λ x. front ++ text x) xs)
+flat_one : {X : Type 0} (front : List ℕ) (text : X → List ℕ) → IsLine front → (xs : List X) → AllByRecursion (λ x. IsLine (text x)) xs → IsLine (flat_map (λ x. front ++ text x) xs)
 flat_one front text f [] h = refl
 flat_one front text f (x ∷ xs) h = lines_joined (front ++ text x) (flat_map (λ y. front ++ text y) xs) (lines_joined front (text x) f h.0) (flat_one front text f xs h.1)
 
-join_one : {X : Type 0} (text : X → List ℕ) (xs : List X) → AllByRecursion (λ x. One (text x)) xs → One (join_by text (codes ",") xs)
+join_one : {X : Type 0} (text : X → List ℕ) (xs : List X) → AllByRecursion (λ x. IsLine (text x)) xs → IsLine (join_by text (codes ",") xs)
 join_one text [] h = refl
 join_one text (x ∷ xs) h = lines_joined (text x) (flat_map (λ y. codes "," ++ text y) xs) h.0 (flat_one (codes ",") text refl xs h.1)
 
@@ -128,22 +128,22 @@ zipped : {X : Type 0} (P Q R : X → Type 0) → ((x : X) → P x → Q x → R 
 zipped P Q R each [] h k = tt
 zipped P Q R each (x ∷ xs) h k = (each x h.0 k.0, zipped P Q R each xs h.1 k.1)
 
-all_one : {X : Type 0} (P Q : X → Type 0) (text : X → List ℕ) → ((x : X) → P x → Q x → One (text x)) → (xs : List X) → All P xs → All Q xs → AllByRecursion (λ x. One (text x)) xs
-all_one P Q text each xs h k = zipped P Q (λ x. One (text x)) each xs (recursion_from_All P xs h) (recursion_from_All Q xs k)
+all_one : {X : Type 0} (P Q : X → Type 0) (text : X → List ℕ) → ((x : X) → P x → Q x → IsLine (text x)) → (xs : List X) → All P xs → All Q xs → AllByRecursion (λ x. IsLine (text x)) xs
+all_one P Q text each xs h k = zipped P Q (λ x. IsLine (text x)) each xs (recursion_from_All P xs h) (recursion_from_All Q xs k)
 
-pub values_one : (vs : List Value) → values_are_plain vs → ValuesHaveNoLf vs → One (values_text_of vs)
+pub values_one : (vs : List Value) → values_are_plain vs → ValuesHaveNoLf vs → IsLine (values_text_of vs)
 values_one vs fits h = join_one value_text_of vs (all_one value_fits ValueHasNoLf value_text_of value_one vs fits h)
 
-pub row_one : (vs : List Value) → values_are_plain vs → ValuesHaveNoLf vs → One (row_text_of vs)
+pub row_one : (vs : List Value) → values_are_plain vs → ValuesHaveNoLf vs → IsLine (row_text_of vs)
 row_one vs fits h = lines_joined (codes "(" ++ values_text_of vs) (codes ")") (lines_joined (codes "(") (values_text_of vs) refl (values_one vs fits h)) refl
 
-clustering_one : (vs : List Value) → values_are_plain vs → ValuesHaveNoLf vs → One (clustering_text_of vs)
+clustering_one : (vs : List Value) → values_are_plain vs → ValuesHaveNoLf vs → IsLine (clustering_text_of vs)
 clustering_one [] fits h = refl
 clustering_one (v ∷ vs) fits h = lines_joined (codes ";") (values_text_of (v ∷ vs)) refl (values_one (v ∷ vs) fits h)
 
 ---- keys and records
 
-pub key_one : (k : Key) → key_fits k → KeyHasNoLf k → One (key_text_of k)
+pub key_one : (k : Key) → key_fits k → KeyHasNoLf k → IsLine (key_text_of k)
 key_one k fits h =
     let t = table_one k.table (record { ns = fits.ns; table = fits.table }) in
     let a = lines_joined (table_text k.table) (codes "(") t refl in
@@ -151,32 +151,32 @@ key_one k fits h =
     let c = lines_joined (table_text k.table ++ codes "(" ++ values_text_of k.partition) (clustering_text_of k.clustering) b (clustering_one k.clustering fits.clustering h.clustering) in
     lines_joined (table_text k.table ++ codes "(" ++ values_text_of k.partition ++ clustering_text_of k.clustering) (codes ")") c refl
 
-pair_one : (p : Pair) → pair_fits p → ValueHasNoLf p.value → One (pair_text_of p)
+pair_one : (p : Pair) → pair_fits p → ValueHasNoLf p.value → IsLine (pair_text_of p)
 pair_one p fits h = lines_joined (p.name ++ codes "=") (value_text_of p.value) (lines_joined p.name (codes "=") (name_one p.name fits.0) refl) (value_one p.value fits.1 h)
 
-columns_one : (ps : List Pair) → columns_fit ps → ColumnsHaveNoLf ps → One (columns_text_of ps)
+columns_one : (ps : List Pair) → columns_fit ps → ColumnsHaveNoLf ps → IsLine (columns_text_of ps)
 columns_one ps fits h =
     let inside = join_one pair_text_of ps (all_one pair_fits (λ p. ValueHasNoLf p.value) pair_text_of pair_one ps fits.pairs h) in
     lines_joined (codes "{" ++ join_by pair_text_of (codes ",") ps) (codes "}") (lines_joined (codes "{") (join_by pair_text_of (codes ",") ps) refl inside) refl
 
-pub record_one : (r : Record) → record_fits r → RecordHasNoLf r → One (record_text_of r)
+pub record_one : (r : Record) → record_fits r → RecordHasNoLf r → IsLine (record_text_of r)
 record_one r fits h = lines_joined (key_text_of r.key) (columns_text_of r.columns) (key_one r.key fits.key h.key) (columns_one r.columns fits.columns h.columns)
 
 ---- answers
 
-then_space : (xs ys : List ℕ) → One xs → One ys → One (xs ++ codes " " ++ ys)
+then_space : (xs ys : List ℕ) → IsLine xs → IsLine ys → IsLine (xs ++ codes " " ++ ys)
 then_space xs ys h k = lines_joined (xs ++ codes " ") ys (lines_joined xs (codes " ") h refl) k
 
-found_columns_one : (key : Key) (found : Option Record) → IfSome found (IsFoundAt key) → IfSome found RecordHasNoLf → One (found_columns_text_of found)
+found_columns_one : (key : Key) (found : Option Record) → IfSome found (IsFoundAt key) → IfSome found RecordHasNoLf → IsLine (found_columns_text_of found)
 found_columns_one key None fits h = refl
 found_columns_one key (Some r) fits h = columns_one r.columns fits.fits.columns h.columns
 
-rows_one : (rows : List (List Value)) → length rows < 2 ^ 64 → All values_are_plain rows → All ValuesHaveNoLf rows → One (rows_text_of rows)
+rows_one : (rows : List (List Value)) → length rows < 2 ^ 64 → All values_are_plain rows → All ValuesHaveNoLf rows → IsLine (rows_text_of rows)
 rows_one rows lt fits h =
     lines_joined (decimal (length rows)) (flat_map (λ row. codes " " ++ row_text_of row) rows) (decimal_one (length rows) lt)
     (flat_one (codes " ") row_text_of refl rows (all_one values_are_plain ValuesHaveNoLf row_text_of row_one rows fits h))
 
-pub answer_one : (a : Answer) → IsPlainAnswer a → AnswerHasNoLf a → One (answer_text_of a)
+pub answer_one : (a : Answer) → IsPlainAnswer a → AnswerHasNoLf a → IsLine (answer_text_of a)
 answer_one (answer.Rows rows) fits h = rows_one rows fits.0 fits.1 h
 answer_one (answer.Count n) fits h = decimal_one n fits
 answer_one answer.Done fits h = refl
@@ -194,24 +194,24 @@ answer_one answer.Vacuuming fits h = refl
 answer_one answer.OpenTransactions fits h = refl
 answer_one answer.NoMemory fits h = refl
 
-given_one : (given : Option Answer) → IsPlainGiven given → IfSome given AnswerHasNoLf → One (given_text_of given)
+given_one : (given : Option Answer) → IsPlainGiven given → IfSome given AnswerHasNoLf → IsLine (given_text_of given)
 given_one None fits h = refl
 given_one (Some a) fits h = answer_one a fits h
 
 ---- requests and replies
 
-condition_one : (c : Condition) → One (condition_text_of c)
+condition_one : (c : Condition) → IsLine (condition_text_of c)
 condition_one Absent = refl
 condition_one (Version id Prepared) = then_space (id_text id.0) (decimal 1) (id_one id.0) (decimal_one 1 (omega arith))
 condition_one (Version id Deleted) = then_space (id_text id.0) (decimal 2) (id_one id.0) (decimal_one 2 (omega arith))
 condition_one (Version id Committed) = then_space (id_text id.0) (decimal 3) (id_one id.0) (decimal_one 3 (omega arith))
 condition_one (Version id Aborted) = then_space (id_text id.0) (decimal 4) (id_one id.0) (decimal_one 4 (omega arith))
 
-partition_one : (p : Option (List Value)) → IfSome p values_are_plain → IfSome p ValuesHaveNoLf → One (partition_text_of p)
+partition_one : (p : Option (List Value)) → IfSome p values_are_plain → IfSome p ValuesHaveNoLf → IsLine (partition_text_of p)
 partition_one None fits h = refl
 partition_one (Some vs) fits h = row_one vs fits h
 
-request_one : (r : Request) → request_is_plain r → RequestHasNoLf r → One (request_text_of r)
+request_one : (r : Request) → request_is_plain r → RequestHasNoLf r → IsLine (request_text_of r)
 request_one (ask.Get key) fits h = key_one key fits h
 request_one (ask.Scan span) fits h = lines_joined (table_text span.table) (partition_text_of span.partition) (table_one span.table fits.table) (partition_one span.partition fits.partition h)
 request_one (ask.PutIf r c) fits h =
@@ -219,17 +219,17 @@ request_one (ask.PutIf r c) fits h =
 request_one (ask.DeleteIf key c) fits h =
     lines_joined (codes "delete " ++ key_text_of key ++ codes " if ") (condition_text_of c) (lines_joined (codes "delete " ++ key_text_of key) (codes " if ") (key_one key fits.0 h) refl) (condition_one c)
 
-how_one : (how : How) → One (how_text_of how)
+how_one : (how : How) → IsLine (how_text_of how)
 how_one Seen = refl
 how_one Lost = refl
 how_one Discarded = refl
 how_one Broken = refl
 
-found_one : (found : Option Record) → IfSome found record_fits → IfSome found RecordHasNoLf → One (found_text_of found)
+found_one : (found : Option Record) → IfSome found record_fits → IfSome found RecordHasNoLf → IsLine (found_text_of found)
 found_one None fits h = refl
 found_one (Some r) fits h = record_one r fits h
 
-reply_one : (r : Reply) → reply_is_plain r → ReplyHasNoLf r → One (reply_text_of r)
+reply_one : (r : Reply) → reply_is_plain r → ReplyHasNoLf r → IsLine (reply_text_of r)
 reply_one (reply.Found found) fits h = found_one found fits h
 reply_one (reply.Rows rows) fits h =
     lines_joined (decimal (length rows)) (flat_map (λ r. codes " " ++ record_text_of r) rows) (decimal_one (length rows) fits.0)
@@ -241,7 +241,7 @@ reply_one reply.NoMemory fits h = refl
 
 ---- events
 
-pub event_one : (e : Event) → HasPlainParts e → EventHasNoLf e → One (event_text_of e)
+pub event_one : (e : Event) → HasPlainParts e → EventHasNoLf e → IsLine (event_text_of e)
 event_one (event.Take client text given) fits h =
     let front = then_space (codes "take " ++ decimal client) (given_text_of given) (decimal_one client (omega (arith, fits.0))) (given_one given fits.2 h.1) in
     lines_joined (codes "take " ++ decimal client ++ codes " " ++ given_text_of given ++ codes " : ") text (lines_joined (codes "take " ++ decimal client ++ codes " " ++ given_text_of given) (codes " : ") front refl) h.0

@@ -14,12 +14,9 @@ use Rattle.sdb_shell.specs.Groups.{AreGroups, Group, IsGroup}
 use Rattle.sdb_shell.specs.Loads.{AreOfSize, IsLoad, IsLoadOutOfMemory, exchanges_of, group_line, group_lines, line_of, rows_of}
 use Rattle.sdb_shell.specs.Turns.{HasLoaded, IsSoFar, Point, ends_between, group_of}
 use Rattle.sdb_shell.proofs.Points.{over_before, session_before}
+use Rattle.sdb_shell.proofs.SoFar.{flat_more}
 
 ---- lists with one more
-
-flat_more : {A B : Type 0} (f : A → List B) (xs : List A) (x : A) → flat_map f (xs ++ x ∷ []) ≡ flat_map f xs ++ f x
-flat_more f [] x = append-nil (f x)
-flat_more f (y ∷ xs) x = ap (λ ys. f y ++ ys) (flat_more f xs x) ∙ sym (append_assoc (f y) (flat_map f xs) (f x))
 
 -- each group has as many rows as a group has at most
 abbrev AreFull : ℕ → List Group → Type 0

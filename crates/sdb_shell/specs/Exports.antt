@@ -14,6 +14,7 @@ use Rattle.sdb_shell.specs.Ends.{Ends, IsSessionBefore, IsSessionOver}
 use Rattle.sdb_shell.specs.Groups.{AreAnswered, IsOf}
 use Rattle.sdb_shell.specs.Statements.{select_all}
 use Rattle.sdb_shell.specs.Turns.{AreExecutedBetween, IsExecuted, Point, Turn}
+use Rattle.sdb_client.specs.Client.{is_out_of_memory}
 
 -- the statements of an export
 abbrev pub export_statements : Table → List Statement
@@ -34,10 +35,6 @@ is_wanted st a = false
 abbrev pub IsTextOf : Table → Answer → List ℕ → Type 0
 IsTextOf t (answer.Rows rows) text = text ≡ printed t rows
 IsTextOf t a text = ⊥
-
-abbrev pub is_no_memory : Answer → Bool
-is_no_memory answer.NoMemory = true
-is_no_memory a = false
 
 -- A table was read as one transaction that was committed, and the text is its rows as CSV; the statements that were accepted are a session.
 pub record IsExport (catalog : List Table) (t : Table) (e : Ends) (text : List ℕ) : Type 0 where
@@ -77,7 +74,7 @@ pub record IsExportOutOfMemory (catalog : List Table) (t : Table) (e : Ends) : T
 
 -- Why there is no text: a statement got an answer that isn't the one wanted; or memory ran out.
 abbrev pub IsNotExported : List Table → Table → Ends → ExportRefused → Type 0
-IsNotExported catalog t e (refused.NotCommitted a) = (is_no_memory a ≡ false) × IsCutExport catalog t e a
+IsNotExported catalog t e (refused.NotCommitted a) = (is_out_of_memory a ≡ false) × IsCutExport catalog t e a
 IsNotExported catalog t e refused.NoMemory = IsExportOutOfMemory catalog t e
 
 ---- between two points
@@ -88,7 +85,7 @@ IsAnsweredAsExpected state catalog st p q a = IsExecuted state catalog st p a q 
 
 -- Why it didn't.
 abbrev pub IsLeftUnanswered : {S : Type 0} → (S → Attached) → List Table → Statement → Point S → Point S → ExportRefused → Type 0
-IsLeftUnanswered state catalog st p q (refused.NotCommitted a) = (is_no_memory a ≡ false) × IsExecuted state catalog st p a q × (is_wanted st a ≡ false)
+IsLeftUnanswered state catalog st p q (refused.NotCommitted a) = (is_out_of_memory a ≡ false) × IsExecuted state catalog st p a q × (is_wanted st a ≡ false)
 IsLeftUnanswered state catalog st p q refused.NoMemory = Unit {0}
 
 -- The statements of an export were accepted between two points, and this is the answer of SELECT.
@@ -121,7 +118,7 @@ pub record IsReadOutOfMemory {S : Type 0} (state : S → Attached) (catalog : Li
 
 -- why no rows were read
 abbrev pub HaveNotRead : {S : Type 0} → (S → Attached) → List Table → Table → Point S → Point S → ExportRefused → Type 0
-HaveNotRead state catalog t p q (refused.NotCommitted a) = (is_no_memory a ≡ false) × IsCutRead state catalog t p q a
+HaveNotRead state catalog t p q (refused.NotCommitted a) = (is_out_of_memory a ≡ false) × IsCutRead state catalog t p q a
 HaveNotRead state catalog t p q refused.NoMemory = IsReadOutOfMemory state catalog t p q
 
 ---- in contracts

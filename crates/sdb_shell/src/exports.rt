@@ -1,9 +1,9 @@
 //! A table, exported as CSV.
 ghost use Rattle.std.specs.Prelude.{◌≡◌, ◌<◌, length, true, IfOk, IfErr, OnOk};
 ghost use Rattle.sdb_contents.specs.Board.{GoOn};
-ghost use Rattle.sdb_client.specs.Client.{IsIdle};
 ghost use Rattle.sdb_shell.specs.Ends.{ends};
-ghost use Rattle.sdb_shell.specs.Exports.{IsAnsweredAsWanted, IsExport, IsNotAnswered, IsNotExported, IsTableRead, IsTableUnread, IsTextOf, is_no_memory as is_no_memory_lem, is_rows, is_wanted as is_wanted_lem};
+ghost use Rattle.sdb_client.specs.Client.{IsIdle, is_out_of_memory};
+ghost use Rattle.sdb_shell.specs.Exports.{IsAnsweredAsWanted, IsExport, IsNotAnswered, IsNotExported, IsTableRead, IsTableUnread, IsTextOf, is_rows, is_wanted as is_wanted_lem};
 ghost use Rattle.sdb_shell.specs.Statements as spec;
 ghost use Rattle.sdb_shell.specs.Turns.{turn};
 
@@ -41,7 +41,7 @@ fn is_wanted(statement: &Statement, answer: &Answer) -> bool
 }
 
 fn is_no_memory(answer: &Answer) -> bool
-    ensures { result ≡ is_no_memory_lem answer.now }
+    ensures { result ≡ is_out_of_memory answer.now }
 {
     matches!(answer, Answer::NoMemory)
 }

@@ -25,7 +25,8 @@ use Rattle.sdb_words.specs.declared.command.Command.TheVariants as command
 use Rattle.sdb_data.specs.declared.fault.Mode.{Mode}
 use Rattle.sdb_data.specs.declared.fault.Mode.TheVariants as mode
 use Rattle.sdb_words.specs.Commands.{AreWordsOf, mode_text}
-use Rattle.sdb_words.specs.Names.{IsTable, table_text}
+use Rattle.sdb_words.specs.Names.{IsTable}
+use Rattle.sdb_types.specs.Order.{table_text}
 use Rattle.sdb_words.specs.Places.{place_text, IsPlace}
 use Rattle.sdb_words.specs.Parser.{are_undashed, is_undashed, leaves, program}
 use Rattle.sdb_words.proofs.Taken.{replay_sub, sql_sub, audit_sub, bench_sub, export_sub, retire_sub, load_sub, alter_sub, schema_sub, any_taken}

@@ -14,7 +14,8 @@ use Rattle.sdb_words.specs.declared.command.Command.TheVariants as command
 use Rattle.sdb_data.specs.declared.fault.Mode.{Mode}
 use Rattle.sdb_data.specs.declared.fault.Mode.TheVariants as mode
 use Rattle.sdb_words.specs.Commands.{AreOfNone, AreWordsOf, CanRetire, IsWithin, most_rows, most_transactions, mode_text}
-use Rattle.sdb_words.specs.Names.{IsTable, table_text}
+use Rattle.sdb_words.specs.Names.{IsTable}
+use Rattle.sdb_types.specs.Order.{table_text}
 use Rattle.sdb_words.specs.Places.{place_text, IsPlace}
 use Rattle.sdb_words.proofs.Joined.{Halves, table_parted}
 use Rattle.sdb_words.proofs.Placing.{same_place}

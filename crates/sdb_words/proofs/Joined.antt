@@ -7,7 +7,8 @@ use Rattle.sdb_types.proofs.Public.{all_lack, and_both, around_behind, at_byte, 
 use Rattle.sdb_types.specs.Identifier.{is_part}
 use Rattle.sdb_types.specs.declared.key.TableName.{TableName}
 use Rattle.sdb_record.specs.Parts.{is_column_name}
-use Rattle.sdb_words.specs.Names.{IsTable, table_text}
+use Rattle.sdb_words.specs.Names.{IsTable}
+use Rattle.sdb_types.specs.Order.{table_text}
 use Rattle.sdb_types.specs.NameText.{around}
 use Rattle.sdb_record.proofs.Public.{name_of_column}
 

@@ -7,7 +7,8 @@ use Rattle.sdb_words.specs.declared.command.Command.{Command}
 use Rattle.sdb_words.specs.declared.command.Command.TheVariants as command
 use Rattle.sdb_data.specs.declared.fault.Mode.{Mode}
 use Rattle.sdb_data.specs.declared.fault.Mode.TheVariants as mode
-use Rattle.sdb_words.specs.Names.{IsTable, table_text}
+use Rattle.sdb_words.specs.Names.{IsTable}
+use Rattle.sdb_types.specs.Order.{table_text}
 use Rattle.sdb_words.specs.Places.{ArePlaces, place_text}
 
 -- the most transactions of `bench`

@@ -3,10 +3,6 @@ use Rattle.std.specs.Prelude.{◌≡◌, ℕ, true, ◌∷◌, ◌++◌, List}
 use Rattle.sdb_types.specs.declared.key.TableName.{TableName}
 use Rattle.sdb_record.specs.Parts.{is_column_name}
 
--- the word of a table: its two names, joined by a dot
-abbrev pub table_text : TableName → List ℕ
-table_text t = t.ns ++ 46 ∷ t.table
-
 -- Both are identifiers of at most 64 bytes.
 abbrev pub IsTable : TableName → Type 0
 IsTable t = (is_column_name t.ns ≡ true) × (is_column_name t.table ≡ true)

@@ -6,7 +6,8 @@ ghost use Rattle.std.specs.Str.{bytes_eq};
 ghost use Rattle.sdb_record.specs.Parts.{is_column_name};
 ghost use Rattle.sdb_types.specs.declared.key.TableName.{TableName};
 ghost use Rattle.sdb_words.specs.declared.command.WordsRefused.{WordsRefused};
-ghost use Rattle.sdb_words.specs.Names.{IsTable, table_text};
+ghost use Rattle.sdb_words.specs.Names.{IsTable};
+ghost use Rattle.sdb_types.specs.Order.{table_text};
 
 use crate::command::WordsRefused;
 use sdb_loader::{is_short_name, known_name};

@@ -1,5 +1,5 @@
 //! Sources and sinks of which one call fails, each in turn.
-use crate::correct::{Asked, REPLAY, attach_two, ends, feed, follow, tray, writes};
+use crate::asked::{Asked, REPLAY, attach_two, ends, feed, follow, tray, writes};
 use sdb_app::Status;
 use sdb_stores::{Registry, Stores};
 use sdb_types::{Feed, Tray};

@@ -1,5 +1,5 @@
 //! Inputs at their limits and past them, and statements that are refused.
-use crate::correct::{Asked, REPLAY, attach_two, ends, feed, follow, tray};
+use crate::asked::{Asked, REPLAY, attach_two, ends, feed, follow, tray};
 use crate::statements::{outcome_of, statements_of};
 use sdb_app::{InputFault, Status};
 use sdb_data::CsvFault;

@@ -8,7 +8,7 @@ mod commands;
 #[cfg(test)]
 mod commits;
 #[cfg(test)]
-mod correct;
+mod asked;
 #[cfg(test)]
 mod failing;
 #[cfg(test)]

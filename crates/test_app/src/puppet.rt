@@ -1,7 +1,7 @@
 //! Sessions over a store that answers with listed replies: a COMMIT of two writes, with each kind of reply in each place.
 ghost use Rattle.std.specs.Prelude.{◌<◌, length};
 
-use crate::correct::{attach, feed, tray};
+use crate::asked::{attach, feed, tray};
 use sdb_loader::catalog_of;
 use sdb_schema::Catalog;
 use sdb_shell::session;

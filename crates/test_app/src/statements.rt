@@ -1,5 +1,5 @@
 //! The statements of a client in a report: the calls that each made, with its answer.
-use crate::correct::{Asked, REPLAY, attach_two, writes};
+use crate::asked::{Asked, REPLAY, attach_two, writes};
 use sdb_model::{Answer, Event, Outcome, Points, put_answer, put_number};
 use sdb_report::read_report;
 use sdb_stores::Stores;

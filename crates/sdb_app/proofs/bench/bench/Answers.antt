@@ -9,7 +9,7 @@ use Rattle.sdb_bench.proofs.Public.{bench_lines}
 use Rattle.sdb_app.specs.Bench.{bench_over, name_at}
 use Rattle.sdb_app.specs.Run.{CanBePlaced, IsReportable, StopsRun}
 use Rattle.sdb_app.proofs.BenchPlayable.{benched_on, followable, placed_over, playable}
-use Rattle.sdb_app.proofs.Playing.{ok_then}
+use Rattle.sdb_shell.proofs.Public.{map_ok}
 use Rattle.sdb_app.proofs.bench.bench.Goals as goal
 
 pub play-requires-clause-playable : goal.play-requires-clause-playable
@@ -36,7 +36,7 @@ returns-in-Ok-play-clause-answered g c =
     let names = names_of old.views in
     let same : c.in-Ok.script ≡ bench_over c.args.n names = c.in-Ok.ensures ∙ ap (bench_over c.args.n) c.requires.names in
     let made = subst (λ (s : Script). IsReportable s old new.views c.in-Ok-play.outcome) same c.in-Ok-play.ensures.made in
-    ok_then _ _ c.text_of.result (λ text is. benched_on c.args.n old new.views c.in-Ok-play.outcome text made is (λ first last opening closing run. c.runs_are_even.ensures c.args.n first last opening closing c.in-Ok-play.outcome run)) c.text_of.ensures.ok
+    map_ok _ _ c.text_of.result (λ text is. benched_on c.args.n old new.views c.in-Ok-play.outcome text made is (λ first last opening closing run. c.runs_are_even.ensures c.args.n first last opening closing c.in-Ok-play.outcome run)) c.text_of.ensures.ok
 
 pub returns-in-Err-clause-err : goal.returns-in-Err-clause-err
 returns-in-Err-clause-err g c =

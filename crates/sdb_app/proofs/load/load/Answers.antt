@@ -6,7 +6,8 @@ use Rattle.sdb_app.specs.Load.IsTableUnopened.{Unnamed, Unopened}
 use Rattle.sdb_app.proofs.Loads.{loaded_on, starved_on}
 use Rattle.sdb_shell.specs.Statements.{load_of, rows_after}
 use Rattle.sdb_shell.proofs.Public.{starved_after}
-use Rattle.sdb_app.proofs.Playing.{err_then, ok_then}
+use Rattle.sdb_app.proofs.Playing.{err_then}
+use Rattle.sdb_shell.proofs.Public.{map_ok}
 use Rattle.sdb_app.proofs.load.load.Goals as goal
 
 pub returns-in-Err-clause-err : goal.returns-in-Err-clause-err
@@ -41,7 +42,7 @@ returns-in-Ok-load_rows-clause-answered g c =
       read = c.in-Ok-read_rows.ensures.read;
       loaded = loaded_on _ _ _ _ mid last _ _ _ _ _ _ _ (record { places = refl; views = refl; where_known = opens.where_known }) (record { places = sat.places; views = refl; where_known = λ at acked. sat.where_known at (opens.where_known at acked) }) c.in-Ok-load_rows.ensures.loaded;
     } in
-    ok_then _ _ c.text_of.result (λ text is. subst (λ (xs : List ℕ). IsLoaded c.args.name.now c.args.mode c.args.size work d xs) (sym is) loaded) c.text_of.ensures.ok
+    map_ok _ _ c.text_of.result (λ text is. subst (λ (xs : List ℕ). IsLoaded c.args.name.now c.args.mode c.args.size work d xs) (sym is) loaded) c.text_of.ensures.ok
 
 pub returns-in-Ok-load_rows-clause-err : goal.returns-in-Ok-load_rows-clause-err
 returns-in-Ok-load_rows-clause-err g c =

@@ -8,7 +8,8 @@ use Rattle.sdb_world.specs.Ran.{HasNotRun}
 use Rattle.sdb_world.specs.Step.{CanFollow}
 use Rattle.sdb_app.specs.declared.status.Status.TheVariants as status
 use Rattle.sdb_app.proofs.Headline.{passed_on, stops_after, stops_both}
-use Rattle.sdb_app.proofs.Playing.{broken_played, err_both, executed_played, explained_played, none_played, odd_played, ok_then, read_played, run_played}
+use Rattle.sdb_app.proofs.Playing.{broken_played, err_both, executed_played, explained_played, none_played, odd_played, read_played, run_played}
+use Rattle.sdb_shell.proofs.Public.{map_ok}
 use Rattle.sdb_app.proofs.play.run_world.Goals as goal
 
 ---- a world for which there is no memory
@@ -77,7 +78,7 @@ returns-clause-run g c =
     let made = c.in_ok-follow.ensures in
     let old = g.R.Registry.state c.args.stores.now in
     let mid = g.R.Registry.state c.follow.new.stores in
-    ok_then _ _ c.ended.result
+    map_ok _ _ c.ended.result
     (λ o. run_played c.args.script c.in_ok-world.world c.follow.new.self old mid before.script before.events before.initial made.come made.goes (g.R.Registry.state c.ended.new.stores) o) c.ended.ensures.run
 
 pub returns-clause-read : goal.returns-clause-read
@@ -87,7 +88,7 @@ returns-clause-read g c =
     let old = g.R.Registry.state c.args.stores.now in
     let mid = g.R.Registry.state c.follow.new.stores in
     let new = g.R.Registry.state c.ended.new.stores in
-    ok_then _ _ c.ended.result (λ o. read_played c.args.script c.in_ok-world.world c.follow.new.self old mid before.script made.come made.goes new o) c.ended.ensures.read
+    map_ok _ _ c.ended.result (λ o. read_played c.args.script c.in_ok-world.world c.follow.new.self old mid before.script made.come made.goes new o) c.ended.ensures.read
 
 pub returns-clause-explained : goal.returns-clause-explained
 returns-clause-explained g c =
@@ -95,12 +96,12 @@ returns-clause-explained g c =
     let made = c.in_ok-follow.ensures in
     let old = g.R.Registry.state c.args.stores.now in
     let mid = g.R.Registry.state c.follow.new.stores in
-    ok_then _ _ c.ended.result (λ o. explained_played c.args.script c.in_ok-world.world c.follow.new.self old mid before.script before.events before.initial made.come made.goes o.events) c.ended.ensures.explained
+    map_ok _ _ c.ended.result (λ o. explained_played c.args.script c.in_ok-world.world c.follow.new.self old mid before.script before.events before.initial made.come made.goes o.events) c.ended.ensures.explained
 
 pub returns-clause-executed : goal.returns-clause-executed
 returns-clause-executed g c =
     let before = c.in_ok-world.ensures in
-    ok_then _ _ c.ended.result (λ o. executed_played (g.R.Registry.state c.args.stores.now) (g.R.Registry.state c.follow.new.stores) c.args.script c.in_ok-world.world c.follow.new.self before.script before.events before.initial c.in_ok-follow.ensures.come o.events) c.ended.ensures.events
+    map_ok _ _ c.ended.result (λ o. executed_played (g.R.Registry.state c.args.stores.now) (g.R.Registry.state c.follow.new.stores) c.args.script c.in_ok-world.world c.follow.new.self before.script before.events before.initial c.in_ok-follow.ensures.come o.events) c.ended.ensures.events
 
 pub returns-clause-fits : goal.returns-clause-fits
 returns-clause-fits g c = c.ended.ensures.fits
@@ -110,7 +111,7 @@ returns-clause-broken g c =
     let old = g.R.Registry.state c.args.stores.now in
     let mid = g.R.Registry.state c.follow.new.stores in
     let new = g.R.Registry.state c.ended.new.stores in
-    ok_then _ _ c.ended.result (λ o. broken_played c.in_ok-world.world c.follow.new.self old mid new o.events c.in_ok-world.ensures.events c.in_ok-follow.ensures.broken c.ended.ensures.goes) c.ended.ensures.events
+    map_ok _ _ c.ended.result (λ o. broken_played c.in_ok-world.world c.follow.new.self old mid new o.events c.in_ok-world.ensures.events c.in_ok-follow.ensures.broken c.ended.ensures.goes) c.ended.ensures.events
 
 pub returns-clause-goes : goal.returns-clause-goes
 returns-clause-goes g c = goes_more _ _ _ c.in_ok-follow.ensures.goes c.ended.ensures.goes

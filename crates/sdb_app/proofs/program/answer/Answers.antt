@@ -6,7 +6,8 @@ use Rattle.sdb_app.specs.Ends.AreKeptOr.{Kept}
 use Rattle.sdb_app.specs.Promise.{AnswersOnce, promise_of}
 use Rattle.sdb_stores.specs.Views.{names_of}
 use Rattle.sdb_app.proofs.Keeping.{kept_by}
-use Rattle.sdb_app.proofs.Playing.{err_then, ok_then}
+use Rattle.sdb_app.proofs.Playing.{err_then}
+use Rattle.sdb_shell.proofs.Public.{map_ok}
 use Rattle.sdb_app.proofs.program.answer.Goals as goal
 
 pub returns-in-Replay-clause-answered : goal.returns-in-Replay-clause-answered
@@ -14,7 +15,7 @@ returns-in-Replay-clause-answered g c =
     let work = work_of g.S.Registry.state (stream g.R.Source.remaining g.R.Source.faults) c.args.stores.now c.replay.new.stores c.args.input.now c.replay.new.input in
     let d = draws g.C.Clock.answered g.I.Ids.answered c.args.clock.now c.args.clock.now c.args.ids.now c.args.ids.now in
     subst (λ (x : Command). IfOk c.replay.result (λ text. (promise_of x work d).answers text)) (sym c.in-Replay.is)
-    (ok_then _ _ c.replay.result (λ text h. (h, record { clock = refl; ids = refl })) c.replay.ensures.answered)
+    (map_ok _ _ c.replay.result (λ text h. (h, record { clock = refl; ids = refl })) c.replay.ensures.answered)
 
 pub returns-in-Replay-clause-err : goal.returns-in-Replay-clause-err
 returns-in-Replay-clause-err g c =
@@ -28,7 +29,7 @@ returns-in-Bench-clause-answered g c =
     let work = work_of g.S.Registry.state (stream g.R.Source.remaining g.R.Source.faults) c.args.stores.now c.bench.new.stores c.args.input.now c.args.input.now in
     let d = draws g.C.Clock.answered g.I.Ids.answered c.args.clock.now c.args.clock.now c.args.ids.now c.args.ids.now in
     subst (λ (x : Command). IfOk c.bench.result (λ text. (promise_of x work d).answers text)) (sym c.in-Bench.is)
-    (ok_then _ _ c.bench.result (λ text h. (record { benched = h; unread = refl }, record { clock = refl; ids = refl })) c.bench.ensures.answered)
+    (map_ok _ _ c.bench.result (λ text h. (record { benched = h; unread = refl }, record { clock = refl; ids = refl })) c.bench.ensures.answered)
 
 pub returns-in-Bench-clause-err : goal.returns-in-Bench-clause-err
 returns-in-Bench-clause-err g c =
@@ -42,7 +43,7 @@ returns-in-Schema-clause-answered g c =
     let work = work_of g.S.Registry.state (stream g.R.Source.remaining g.R.Source.faults) c.args.stores.now c.schema.new.stores c.args.input.now c.schema.new.input in
     let d = draws g.C.Clock.answered g.I.Ids.answered c.args.clock.now c.args.clock.now c.args.ids.now c.args.ids.now in
     subst (λ (x : Command). IfOk c.schema.result (λ text. (promise_of x work d).answers text)) (sym c.in-Schema.is)
-    (ok_then _ _ c.schema.result (λ text h. (h, record { clock = refl; ids = refl }))
+    (map_ok _ _ c.schema.result (λ text h. (h, record { clock = refl; ids = refl }))
     (subst (λ (ps : List Place). IfOk c.schema.result (λ text. IsSchemaKept ps work text)) c.as_slice.ensures c.schema.ensures.answered))
 
 pub returns-in-Schema-clause-err : goal.returns-in-Schema-clause-err
@@ -70,7 +71,7 @@ returns-in-Export-clause-answered g c =
     let input = stream g.R.Source.remaining g.R.Source.faults c.args.input.now in
     let work = work_on (g.S.Registry.state c.args.stores.now) (g.S.Registry.state c.export.new.stores) input in
     let d = draws g.C.Clock.answered g.I.Ids.answered c.args.clock.now c.export.new.clock c.args.ids.now c.export.new.ids in
-    subst (λ (x : Command). IfOk c.export.result (λ text. (promise_of x work d).answers text)) (sym c.in-Export.is) (ok_then _ _ c.export.result (λ text h. h input) c.export.ensures.answered)
+    subst (λ (x : Command). IfOk c.export.result (λ text. (promise_of x work d).answers text)) (sym c.in-Export.is) (map_ok _ _ c.export.result (λ text h. h input) c.export.ensures.answered)
 
 pub returns-in-Export-clause-err : goal.returns-in-Export-clause-err
 returns-in-Export-clause-err g c =
@@ -85,7 +86,7 @@ returns-in-Retire-clause-answered g c =
     let work = work_on (g.S.Registry.state c.args.stores.now) (g.S.Registry.state c.retire.new.stores) input in
     let d = draws g.C.Clock.answered g.I.Ids.answered c.args.clock.now c.args.clock.now c.args.ids.now c.args.ids.now in
     subst (λ (x : Command). IfOk c.retire.result (λ text. (promise_of x work d).answers text)) (sym c.in-Retire.is)
-    (ok_then _ _ c.retire.result (λ text h. (h input, record { clock = refl; ids = refl })) c.retire.ensures.answered)
+    (map_ok _ _ c.retire.result (λ text h. (h input, record { clock = refl; ids = refl })) c.retire.ensures.answered)
 
 pub returns-in-Retire-clause-err : goal.returns-in-Retire-clause-err
 returns-in-Retire-clause-err g c =

@@ -5,7 +5,8 @@ use Rattle.sdb_app.specs.Ends.{stream, work_of}
 use Rattle.sdb_app.specs.Run.{CanBePlaced, IsScriptRead, StopsReplay}
 use Rattle.sdb_app.specs.Run.StopsReplay.{Unplayed}
 use Rattle.sdb_app.proofs.Playable.{followable, of_lines, placeable, playable}
-use Rattle.sdb_app.proofs.Playing.{err_then, ok_then}
+use Rattle.sdb_app.proofs.Playing.{err_then}
+use Rattle.sdb_shell.proofs.Public.{map_ok}
 use Rattle.sdb_app.proofs.replay.replay.Goals as goal
 
 pub play-requires-clause-playable : goal.play-requires-clause-playable
@@ -26,7 +27,7 @@ returns-in-Ok-play-clause-answered g c =
     let read = subst (λ (ns : List (List ℕ)). IsScriptRead ns work.input.bytes work.rest.bytes c.in-Ok.script) c.requires.names c.in-Ok.ensures.read in
     let outcome = c.in-Ok-play.outcome in
     let made = c.in-Ok-play.ensures.made in
-    ok_then _ _ c.text_of.result
+    map_ok _ _ c.text_of.result
     (λ text is. record { script = c.in-Ok.script; read = read; outcome = outcome; made = made; text = is; only = λ all other plain same. one_text_of other outcome plain (made.correct all).plain (sym same ∙ is) })
     c.text_of.ensures.ok
 
