@@ -2,6 +2,8 @@ mod Fixed
 mod Gathered
 mod Sorting
 mod Places
+mod Sought
+mod Repeats
 mod Narrow
 mod Laid
 mod Local

@@ -4,6 +4,7 @@
 
 mod access;
 mod change;
+mod column;
 mod finish;
 pub mod laws;
 mod mention;

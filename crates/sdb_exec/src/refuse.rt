@@ -3,16 +3,18 @@ ghost use Rattle.std.specs.Prelude.{◌≡◌, ◌+◌, not, ◌&&◌, true, fal
 ghost use Rattle.std.specs.Option.{option_map, option_map_or};
 ghost use Rattle.std.specs.List.{list_any};
 ghost use Rattle.sdb_types.specs.Columns.{is_null as is_null_lem};
-ghost use Rattle.sdb_schema.specs.Table.{is_table, has_column as has_column_lem, key_names as key_names_lem};
+ghost use Rattle.sdb_schema.specs.Table.{is_table, rises, key_names as key_names_lem};
 ghost use Rattle.sdb_model.specs.Rows.{same_name};
-ghost use Rattle.sdb_model.specs.Refused.{suits as suits_lem, is_within as is_within_lem, is_unknown as is_unknown_lem, names_key as names_key_lem, is_of_other_kind as is_of_other_kind_lem, is_null_in_key as is_null_in_key_lem, is_out_of_range as is_out_of_range_lem, is_too_long as is_too_long_lem, is_named_by, or_next, repeat_place, refusal, first_place, written as written_lem, mentions as mentions_lem, key_refusal, literal_refusal, missing_refusal, refusal_on};
+ghost use Rattle.sdb_model.specs.Refused.{suits as suits_lem, is_within as is_within_lem, is_unknown as is_unknown_lem, names_key as names_key_lem, is_of_other_kind as is_of_other_kind_lem, is_null_in_key as is_null_in_key_lem, is_out_of_range as is_out_of_range_lem, is_too_long as is_too_long_lem, or_next, repeat_place, refusal, first_place, written as written_lem, mentions as mentions_lem, key_refusal, literal_refusal, missing_refusal, refusal_on};
 
+use crate::column::{has_column, kind_of_known};
+use crate::is_key_name;
 use crate::mention::{mentions_of, written_in};
-use crate::{is_key_name, kind_of};
 use sdb_model::{Insert, Mention, Refusal, Statement};
-use sdb_schema::{Column, Kind, Table};
+use sdb_schema::{Kind, Table};
 use sdb_types::{Duplicate, Name, Names, NoMemory, Seq, Value};
 use std::alloc::Global;
+use std::collections::BTreeSet;
 use std::marker::Model;
 
 const LARGEST: i64 = 9_007_199_254_740_992;
@@ -47,19 +49,15 @@ fn of_kind(kind: u8, index: Option<usize>) -> Option<Fault>
     }
 }
 
-fn has_column(columns: &[Column], name: &Name) -> bool
-    ensures { result ≡ has_column_lem columns.now name.now }
-{
-    columns.iter().any(|column| column.name.cmp(name).is_eq())
-}
-
 fn is_unknown(table: &Table, mention: &Mention) -> bool
+    requires { rises table.now.columns ≡ true }
     ensures { result ≡ is_unknown_lem table.now mention.now }
 {
-    !has_column(table.columns.as_slice(), &mention.name)
+    !has_column(table, &mention.name)
 }
 
 fn find_unknown(table: &Table, mentions: &[Mention]) -> Option<usize>
+    requires { rises table.now.columns ≡ true }
     ensures { result ≡ position (is_unknown_lem table.now) mentions.now }
 {
     mentions
@@ -67,26 +65,17 @@ fn find_unknown(table: &Table, mentions: &[Mention]) -> Option<usize>
         .position(|mention| is_unknown(table, mention))
 }
 
-fn names_column(mentions: &[Mention], name: &Name) -> bool
-    ensures { result ≡ list_any (is_named_by name.now) mentions.now }
+// The index of the first mention whose column is mentioned before it. Takes n log n comparisons of the n mentions.
+fn find_repeat(alloc: Global, mentions: &[Mention]) -> Result<Option<usize>, NoMemory>
+    ensures { IfOk result (λ found. option_map (λ i. i + 1) found ≡ repeat_place [] mentions.now) }
 {
-    mentions
-        .iter()
-        .any(|mention| mention.name.cmp(name).is_eq())
-}
-
-// The index of the first mention whose column is mentioned before it. Compares each with those before it, up to that one.
-fn find_repeat(mentions: &[Mention]) -> Option<usize>
-    ensures { option_map (λ i. i + 1) result ≡ repeat_place [] mentions.now }
-{
-    let mut i = 0;
-    while i < mentions.len() {
-        if names_column(&mentions[..i], &mentions[i].name) {
-            return Some(i);
+    let mut passed = BTreeSet::new(alloc);
+    for (i, mention) in mentions.iter().enumerate() {
+        if !passed.insert(mention.name.copy()?)? {
+            return Ok(Some(i));
         }
-        i += 1;
     }
-    None
+    Ok(None)
 }
 
 fn names_key(table: &Table, mention: &Mention) -> bool
@@ -119,15 +108,17 @@ fn suits(kind: Kind, value: &Value) -> bool
 }
 
 fn is_of_other_kind(table: &Table, mention: &Mention) -> bool
+    requires { rises table.now.columns ≡ true }
     ensures { result ≡ is_of_other_kind_lem table.now mention.now }
 {
     match &mention.literal {
-        Some(literal) => !suits(kind_of(table, &mention.name), literal),
+        Some(literal) => !suits(kind_of_known(table, &mention.name), literal),
         None => false,
     }
 }
 
 fn find_other_kind(table: &Table, mentions: &[Mention]) -> Option<usize>
+    requires { rises table.now.columns ≡ true }
     ensures { result ≡ position (is_of_other_kind_lem table.now) mentions.now }
 {
     mentions
@@ -166,15 +157,17 @@ fn is_within(kind: Kind, value: &Value) -> bool
 }
 
 fn is_out_of_range(table: &Table, mention: &Mention) -> bool
+    requires { rises table.now.columns ≡ true }
     ensures { result ≡ is_out_of_range_lem table.now mention.now }
 {
     match &mention.literal {
-        Some(literal) => !is_within(kind_of(table, &mention.name), literal),
+        Some(literal) => !is_within(kind_of_known(table, &mention.name), literal),
         None => false,
     }
 }
 
 fn find_outside(table: &Table, mentions: &[Mention]) -> Option<usize>
+    requires { rises table.now.columns ≡ true }
     ensures { result ≡ position (is_out_of_range_lem table.now) mentions.now }
 {
     mentions
@@ -221,16 +214,23 @@ fn find_unlisted(keys: &[Name], names: &[Name]) -> Option<usize>
     keys.iter().position(|key| !is_listed(names, key))
 }
 
-fn column_fault(table: &Table, written: &[Mention], mentions: &[Mention]) -> Option<Fault>
-    ensures { result ≡ or_next (refusal 7 (first_place (is_unknown_lem table.now) mentions.now)) (refusal 8 (repeat_place [] written.now)) }
+fn column_fault(
+    alloc: Global,
+    table: &Table,
+    written: &[Mention],
+    mentions: &[Mention],
+) -> Result<Option<Fault>, NoMemory>
+    requires { rises table.now.columns ≡ true }
+    ensures { IfOk result (λ found. found ≡ or_next (refusal 7 (first_place (is_unknown_lem table.now) mentions.now)) (refusal 8 (repeat_place [] written.now))) }
 {
     match of_kind(7, find_unknown(table, mentions)) {
-        Some(found) => Some(found),
-        None => of_kind(8, find_repeat(written)),
+        Some(found) => Ok(Some(found)),
+        None => Ok(of_kind(8, find_repeat(alloc, written)?)),
     }
 }
 
 fn kind_fault(table: &Table, mentions: &[Mention]) -> Option<Fault>
+    requires { rises table.now.columns ≡ true }
     ensures { result ≡ or_next (refusal 10 (first_place (is_of_other_kind_lem table.now) mentions.now)) (refusal 11 (first_place (is_null_in_key_lem table.now) mentions.now)) }
 {
     match of_kind(10, find_other_kind(table, mentions)) {
@@ -240,6 +240,7 @@ fn kind_fault(table: &Table, mentions: &[Mention]) -> Option<Fault>
 }
 
 fn size_fault(table: &Table, mentions: &[Mention]) -> Option<Fault>
+    requires { rises table.now.columns ≡ true }
     ensures { result ≡ or_next (refusal 12 (first_place (is_out_of_range_lem table.now) mentions.now)) (refusal 13 (first_place is_too_long_lem mentions.now)) }
 {
     match of_kind(12, find_outside(table, mentions)) {
@@ -249,6 +250,7 @@ fn size_fault(table: &Table, mentions: &[Mention]) -> Option<Fault>
 }
 
 fn literal_fault(table: &Table, mentions: &[Mention]) -> Option<Fault>
+    requires { rises table.now.columns ≡ true }
     ensures { result ≡ literal_refusal table.now mentions.now }
 {
     match kind_fault(table, mentions) {
@@ -286,26 +288,28 @@ fn missing_fault(table: &Table, keys: &[Name], statement: &Statement) -> Option<
 }
 
 fn first_fault(
+    alloc: Global,
     table: &Table,
     keys: &[Name],
     statement: &Statement,
     written: &[Mention],
     mentions: &[Mention],
-) -> Option<Fault>
+) -> Result<Option<Fault>, NoMemory>
+    requires columns { rises table.now.columns ≡ true }
     requires keys { keys.now ≡ key_names_lem table.now }
     requires written { written.now ≡ written_lem statement.now }
     requires mentions { mentions.now ≡ mentions_lem statement.now }
-    ensures { result ≡ refusal_on table.now statement.now }
+    ensures { IfOk result (λ found. found ≡ refusal_on table.now statement.now) }
 {
-    if let Some(found) = column_fault(table, written, mentions) {
-        return Some(found);
+    if let Some(found) = column_fault(alloc, table, written, mentions)? {
+        return Ok(Some(found));
     }
     if let Some(found) = key_fault(table, statement, written) {
-        return Some(found);
+        return Ok(Some(found));
     }
     match literal_fault(table, mentions) {
-        Some(found) => Some(found),
-        None => missing_fault(table, keys, statement),
+        Some(found) => Ok(Some(found)),
+        None => Ok(missing_fault(table, keys, statement)),
     }
 }
 
@@ -326,12 +330,13 @@ pub fn refusal_on_table(
         return Err(NoMemory);
     }
     let found = first_fault(
+        alloc,
         table,
         keys.as_slice(),
         statement,
         written.as_slice(),
         mentions.as_slice(),
-    );
+    )?;
     match found {
         None => Ok(None),
         Some(fault) => Ok(Some(Refusal {

@@ -1,12 +1,13 @@
-use Rattle.std.proofs.Common.{◌≡◌, ◌≤◌, ◌-◌, length, take, drop, []}
-use Rattle.sdb_model.specs.Refused.{repeat_place}
+use Rattle.std.proofs.Common.{◌≡◌, take, drop, []}
+use Rattle.std.specs.BTreeSet.{contains}
+use Rattle.std.specs.List.{list_any}
+use Rattle.sdb_types.specs.Order.{name_cmp}
+use Rattle.sdb_model.specs.Rows.{Name}
+use Rattle.sdb_model.specs.Refused.{is_named_by, repeat_place}
 use Rattle.sdb_exec.proofs.refuse.find_repeat.Given as goal
 
 abbrev pub invariant-loop-i : goal.invariant-loop-i
 invariant-loop-i l = record {
-  within : l.i ≤ length l.mentions;
   same : repeat_place (take l.i l.mentions) (drop l.i l.mentions) ≡ repeat_place [] l.mentions;
+  passed : (name : Name) → contains name_cmp l.passed name ≡ list_any (is_named_by name) (take l.i l.mentions);
 }
-
-abbrev pub decreases-loop-i : goal.decreases-loop-i
-decreases-loop-i l = length l.mentions - l.i
