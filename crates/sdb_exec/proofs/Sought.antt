@@ -1,10 +1,10 @@
 -- A column is found at its place, among columns in the order of their names.
 use Rattle.std.proofs.Common.{◌≡◌, ℕ, zero, suc, ◌<◌, ◌≤◌, List, [], ◌∷◌, true, false, cond, Option, Some, None, Bor, refl, sym, ap, ◌∙◌, arith, length, drop, get_or}
-use Rattle.std.specs.Prelude.{Bool, ◌||◌, find, is_some, if◌then◌else◌}
+use Rattle.std.specs.Prelude.{Bool, ◌||◌, find, is_some}
 use Rattle.std.specs.List.{list_any}
 use Rattle.std.specs.Option.{option_copied}
 use Rattle.std.specs.List.Sorted.{IsPartitionPoint}
-use Rattle.std.specs.declared.cmp.Ordering.TheVariants.{Less, Equal, Greater}
+use Rattle.std.specs.declared.cmp.Ordering.TheVariants.{Less, Greater}
 use Rattle.std.specs.Ordering.{is_lt}
 use Rattle.sdb_types.specs.Order.{name_cmp}
 use Rattle.sdb_types.proofs.Public.{and_first, and_second, by_order, less_of, name_total, turned}
@@ -67,8 +67,8 @@ found-at_place name (c ∷ cs) r =
     (λ q. simp q (found-at_place name cs (tail_rises c cs r)))
     (λ q. simp q refl)
     (λ q.
-        let above : is_above_column name cs ≡ true = above_more name c cs (ap is_lt (turned c.name name Greater q)) (first_above c cs r) in
-        simp q (sym (none_above name cs (tail_rises c cs r) above)))
+    let above : is_above_column name cs ≡ true = above_more name c cs (ap is_lt (turned c.name name Greater q)) (first_above c cs r) in
+    simp q (sym (none_above name cs (tail_rises c cs r) above)))
 
 found-is : {X : Type 0} (p : X → Bool) (xs : List X) → is_some (find p xs) ≡ list_any p xs
 found-is p [] = refl

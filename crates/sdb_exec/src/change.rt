@@ -1,9 +1,11 @@
 //! What a statement makes of rows.
-ghost use Rattle.std.specs.Prelude.{◌≡◌, IfOk, map, if◌then◌else◌};
+ghost use Rattle.std.specs.Prelude.{◌≡◌, true, IfOk, map, if◌then◌else◌};
 ghost use Rattle.sdb_record.specs.declared.write.Change.TheVariants as change;
+ghost use Rattle.sdb_schema.specs.Table.{rises};
 ghost use Rattle.sdb_model.specs.Rows.{at_kind as at_kind_lem, literal_at as literal_at_lem, order_names};
 ghost use Rattle.sdb_model.specs.Exec.{with_sets, with_named, literal_in, key_of};
 
+use crate::column::{columns_rise, kind_where};
 use crate::read::{fits_int, is_key_name, kind_of, value_beside};
 use sdb_model::Insert;
 use sdb_record::{Change, Changes, Image, Keyed};
@@ -27,16 +29,63 @@ pub fn literal_at(table: &Table, name: &Name, literal: &Value) -> Result<Value, 
     at_kind(kind_of(table, name), literal)
 }
 
-/// The columns with each of the sets.
-pub fn set_columns(table: &Table, sets: &[Pair], columns: Columns) -> Result<Columns, NoMemory>
+// The same, of a table whose columns may be in order.
+fn literal_where(
+    table: &Table,
+    rising: bool,
+    name: &Name,
+    literal: &Value,
+) -> Result<Value, NoMemory>
+    requires { rising ≡ true → rises table.now.columns ≡ true }
+    ensures { IfOk result (λ v. v ≡ literal_at_lem table.now name.now literal.now) }
+{
+    at_kind(kind_where(table, rising, name), literal)
+}
+
+fn put_sets(
+    table: &Table,
+    rising: bool,
+    sets: &[Pair],
+    columns: Columns,
+) -> Result<Columns, NoMemory>
+    requires { rising ≡ true → rises table.now.columns ≡ true }
     ensures { IfOk result (λ after. after ≡ with_sets table.now sets.now columns) }
 {
     let mut columns = columns;
     for pair in sets {
-        let value = literal_at(table, &pair.name, &pair.value)?;
+        let value = literal_where(table, rising, &pair.name, &pair.value)?;
         columns.set(pair.name.copy()?, value)?;
     }
     Ok(columns)
+}
+
+/// The columns with each of the sets.
+pub fn set_columns(table: &Table, sets: &[Pair], columns: Columns) -> Result<Columns, NoMemory>
+    ensures { IfOk result (λ after. after ≡ with_sets table.now sets.now columns) }
+{
+    put_sets(table, columns_rise(table), sets, columns)
+}
+
+fn put_named(
+    table: &Table,
+    rising: bool,
+    names: &[Name],
+    values: &[Value],
+    columns: Columns,
+) -> Result<Columns, NoMemory>
+    requires { rising ≡ true → rises table.now.columns ≡ true }
+    ensures { IfOk result (λ after. after ≡ with_named table.now names.now values.now columns) }
+{
+    match (names.split_first(), values.split_first()) {
+        (Some((name, ns)), Some((value, vs))) => {
+            let mut columns = columns;
+            if !is_key_name(table, name) {
+                columns.set(name.copy()?, literal_where(table, rising, name, value)?)?;
+            }
+            put_named(table, rising, ns, vs, columns)
+        }
+        _ => Ok(columns),
+    }
 }
 
 /// The columns with each named user column set: those of the key are left out.
@@ -48,16 +97,7 @@ pub fn named_columns(
 ) -> Result<Columns, NoMemory>
     ensures { IfOk result (λ after. after ≡ with_named table.now names.now values.now columns) }
 {
-    match (names.split_first(), values.split_first()) {
-        (Some((name, ns)), Some((value, vs))) => {
-            let mut columns = columns;
-            if !is_key_name(table, name) {
-                columns.set(name.copy()?, literal_at(table, name, value)?)?;
-            }
-            named_columns(table, ns, vs, columns)
-        }
-        _ => Ok(columns),
-    }
+    put_named(table, columns_rise(table), names, values, columns)
 }
 
 fn literal_of(table: &Table, insert: &Insert, name: &Name) -> Result<Value, NoMemory>
@@ -124,9 +164,10 @@ pub fn updates(
 ) -> Result<Changes, NoMemory>
     ensures { IfOk result (λ changes. changes ≡ map (λ r. record { key = r.key; change = change.Row (with_sets table.now sets.now r.columns) }) rows.now) }
 {
+    let rising = columns_rise(table);
     let mut changes = Seq::new(alloc);
     for row in rows {
-        let columns = set_columns(table, sets, row.columns.copy()?)?;
+        let columns = put_sets(table, rising, sets, row.columns.copy()?)?;
         changes.push(Keyed {
             key: row.key.copy()?,
             change: Change::Row(columns),

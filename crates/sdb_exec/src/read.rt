@@ -1,14 +1,16 @@
 //! What a row gives a column, and whether it passes tests.
-ghost use Rattle.std.specs.Prelude.{◌≡◌, unwrap_or, find, filter};
+ghost use Rattle.std.specs.Prelude.{◌≡◌, true, unwrap_or, find, filter};
 ghost use Rattle.std.specs.Option.{option_copied};
 ghost use Rattle.std.specs.List.{list_all, list_any};
 ghost use Rattle.sdb_types.specs.Order.{value_cmp};
 ghost use Rattle.sdb_types.specs.Columns.{is_null};
 ghost use Rattle.sdb_types.specs.declared.value.Value.TheVariants as value;
+ghost use Rattle.sdb_schema.specs.Table.{rises};
 ghost use Rattle.sdb_model.specs.Rows.{value_in, value_of, order_names, same_name, kind_of_column, is_key_column, at_kind};
 ghost use Rattle.sdb_model.specs.Exec.{agrees as agrees_lem, passes_test, passes as passes_lem};
 ghost use Rattle.sdb_types.specs.Fits.{fits_int as fits_int_lem};
 
+use crate::column::{columns_rise, kind_where};
 use sdb_model::{Comparison, Test};
 use sdb_record::{Image, Images};
 use sdb_schema::{Column, Kind, Order, Table};
@@ -149,7 +151,8 @@ fn is_null_at(table: &Table, row: &Image, name: &Name) -> bool
     }
 }
 
-fn passes_one(table: &Table, row: &Image, test: &Test) -> bool
+fn passes_one(table: &Table, rising: bool, row: &Image, test: &Test) -> bool
+    requires { rising ≡ true → rises table.now.columns ≡ true }
     ensures { result ≡ passes_test table.now row.now test.now }
 {
     match test {
@@ -158,7 +161,7 @@ fn passes_one(table: &Table, row: &Image, test: &Test) -> bool
             Some(Value::Null) => false,
             Some(value) => agrees(
                 *comparison,
-                compare_at(value, kind_of(table, name), literal),
+                compare_at(value, kind_where(table, rising, name), literal),
             ),
         },
         Test::IsNull(name) => is_null_at(table, row, name),
@@ -166,24 +169,35 @@ fn passes_one(table: &Table, row: &Image, test: &Test) -> bool
     }
 }
 
-fn all_pass(table: &Table, tests: &[Test], row: &Image) -> bool
+fn all_pass(table: &Table, rising: bool, tests: &[Test], row: &Image) -> bool
+    requires { rising ≡ true → rises table.now.columns ≡ true }
     ensures { result ≡ list_all (passes_test table.now row.now) tests.now }
 {
-    tests.iter().all(|test| passes_one(table, row, test))
+    tests
+        .iter()
+        .all(|test| passes_one(table, rising, row, test))
+}
+
+fn passes_where(table: &Table, rising: bool, tests: &[Test], row: &Image) -> bool
+    requires { rising ≡ true → rises table.now.columns ≡ true }
+    ensures { result ≡ passes_lem table.now tests.now row.now }
+{
+    row.key.table.cmp(&table.name).is_eq() && all_pass(table, rising, tests, row)
 }
 
 /// Whether a row is one of the table and passes all tests. Takes no memory.
 pub fn passes(table: &Table, tests: &[Test], row: &Image) -> bool
     ensures { result ≡ passes_lem table.now tests.now row.now }
 {
-    row.key.table.cmp(&table.name).is_eq() && all_pass(table, tests, row)
+    passes_where(table, false, tests, row)
 }
 
 /// The rows of the table that pass all tests, in their order. Takes no memory.
 pub fn passing(table: &Table, tests: &[Test], rows: Images) -> Images
     ensures { result ≡ filter (passes_lem table.now tests.now) rows }
 {
+    let rising = columns_rise(table);
     let mut rows = rows.into_vec();
-    rows.retain(|row| passes(table, tests, row));
+    rows.retain(|row| passes_where(table, rising, tests, row));
     Seq::from_vec(rows)
 }
