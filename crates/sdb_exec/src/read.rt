@@ -189,6 +189,7 @@ fn passes_where(table: &Table, rising: bool, tests: &[Test], row: &Image) -> boo
 pub fn passes(table: &Table, tests: &[Test], row: &Image) -> bool
     ensures { result ≡ passes_lem table.now tests.now row.now }
 {
+    // For one row it isn't worth to look whether the columns rise.
     passes_where(table, false, tests, row)
 }
 

@@ -5,7 +5,7 @@ ghost use Rattle.std.specs.List.{list_any};
 ghost use Rattle.sdb_types.specs.Columns.{is_null as is_null_lem};
 ghost use Rattle.sdb_schema.specs.Table.{is_table, rises, key_names as key_names_lem};
 ghost use Rattle.sdb_model.specs.Rows.{same_name};
-ghost use Rattle.sdb_model.specs.Refused.{suits as suits_lem, is_within as is_within_lem, is_unknown as is_unknown_lem, names_key as names_key_lem, is_of_other_kind as is_of_other_kind_lem, is_null_in_key as is_null_in_key_lem, is_out_of_range as is_out_of_range_lem, is_too_long as is_too_long_lem, or_next, repeat_place, refusal, first_place, written as written_lem, mentions as mentions_lem, key_refusal, literal_refusal, missing_refusal, refusal_on};
+ghost use Rattle.sdb_model.specs.Refused.{suits as suits_lem, is_within as is_within_lem, is_unknown as is_unknown_lem, names_key as names_key_lem, is_of_other_kind as is_of_other_kind_lem, is_null_in_key as is_null_in_key_lem, is_out_of_range as is_out_of_range_lem, is_too_long as is_too_long_lem, is_named_by, or_next, repeat_place, refusal, first_place, written as written_lem, mentions as mentions_lem, key_refusal, literal_refusal, missing_refusal, refusal_on};
 
 use crate::column::{has_column, kind_of_known};
 use crate::is_key_name;
@@ -22,6 +22,9 @@ const LARGEST: i64 = 9_007_199_254_740_992;
 const LONGEST: usize = 4096;
 
 const MOST: usize = 1 << 32;
+
+// Up to as many mentions as this are compared with one another in less time than a set of them is made.
+const FEW: usize = 16;
 
 // A refusal's kind, and the index, from 0, of the mention or the column of the key that it names. It is seen as the refusal,
 // whose place counts from 1.
@@ -65,8 +68,30 @@ fn find_unknown(table: &Table, mentions: &[Mention]) -> Option<usize>
         .position(|mention| is_unknown(table, mention))
 }
 
-// The index of the first mention whose column is mentioned before it. Takes n log n comparisons of the n mentions.
-fn find_repeat(alloc: Global, mentions: &[Mention]) -> Result<Option<usize>, NoMemory>
+fn names_column(mentions: &[Mention], name: &Name) -> bool
+    ensures { result ≡ list_any (is_named_by name.now) mentions.now }
+{
+    mentions
+        .iter()
+        .any(|mention| mention.name.cmp(name).is_eq())
+}
+
+// Compares each mention with those before it, up to the first that repeats one of these.
+fn repeat_of_few(mentions: &[Mention]) -> Option<usize>
+    ensures { option_map (λ i. i + 1) result ≡ repeat_place [] mentions.now }
+{
+    let mut i = 0;
+    while i < mentions.len() {
+        if names_column(&mentions[..i], &mentions[i].name) {
+            return Some(i);
+        }
+        i += 1;
+    }
+    None
+}
+
+// Keeps the names that were passed in a set, which takes memory, and n log n comparisons of the n mentions.
+fn repeat_of_many(alloc: Global, mentions: &[Mention]) -> Result<Option<usize>, NoMemory>
     ensures { IfOk result (λ found. option_map (λ i. i + 1) found ≡ repeat_place [] mentions.now) }
 {
     let mut passed = BTreeSet::new(alloc);
@@ -76,6 +101,16 @@ fn find_repeat(alloc: Global, mentions: &[Mention]) -> Result<Option<usize>, NoM
         }
     }
     Ok(None)
+}
+
+// The index of the first mention whose column is mentioned before it.
+fn find_repeat(alloc: Global, mentions: &[Mention]) -> Result<Option<usize>, NoMemory>
+    ensures { IfOk result (λ found. option_map (λ i. i + 1) found ≡ repeat_place [] mentions.now) }
+{
+    if mentions.len() <= FEW {
+        return Ok(repeat_of_few(mentions));
+    }
+    repeat_of_many(alloc, mentions)
 }
 
 fn names_key(table: &Table, mention: &Mention) -> bool
@@ -313,8 +348,8 @@ fn first_fault(
     }
 }
 
-/// The refusal of a statement on its table, if there is one. Takes time linear in the statement. A statement with more mentions
-/// than 32 bits can number counts as out of memory.
+/// The refusal of a statement on its table, if there is one. Takes time linear in the statement, and n log n comparisons of names
+/// for its n mentions and the table's columns. A statement with more mentions than 32 bits can number counts as out of memory.
 pub fn refusal_on_table(
     alloc: Global,
     table: &Table,

@@ -3,7 +3,7 @@ use Rattle.std.specs.BTreeSet.{contains}
 use Rattle.sdb_types.specs.Order.{name_cmp}
 use Rattle.sdb_model.specs.Rows.{same_name}
 use Rattle.sdb_exec.proofs.Repeats.{not_repeated, passed_more}
-use Rattle.sdb_exec.proofs.refuse.find_repeat.Goals as goal
+use Rattle.sdb_exec.proofs.refuse.repeat_of_many.Goals as goal
 
 absent : (added there : Bool) → added ≡ not there → added ≡ true → there ≡ false
 absent added true e h = sym h ∙ e

@@ -4,7 +4,7 @@ use Rattle.std.specs.List.{list_any}
 use Rattle.sdb_types.specs.Order.{name_cmp}
 use Rattle.sdb_model.specs.Rows.{Name}
 use Rattle.sdb_model.specs.Refused.{is_named_by, repeat_place}
-use Rattle.sdb_exec.proofs.refuse.find_repeat.Given as goal
+use Rattle.sdb_exec.proofs.refuse.repeat_of_many.Given as goal
 
 abbrev pub invariant-loop-i : goal.invariant-loop-i
 invariant-loop-i l = record {
