@@ -1,5 +1,5 @@
 -- Columns put in order.
-use Rattle.std.proofs.Common.{◌≡◌, ℕ, ◌+◌, List, [], ◌∷◌, ◌++◌, length, Bool, true, false, not, ◌&&◌, cond, refl, sym, ap, ◌∙◌, subst, append_assoc, Some, None}
+use Rattle.std.proofs.Common.{◌≡◌, ℕ, List, [], ◌∷◌, ◌++◌, length, Bool, true, false, not, ◌&&◌, cond, refl, sym, ap, ◌∙◌, subst, append_assoc, Some, None}
 use Rattle.std.specs.Prelude.{take_while, insert, nat_le}
 use Rattle.std.specs.List.{list_all}
 use Rattle.std.specs.declared.cmp.Ordering.{Ordering}

@@ -1,4 +1,5 @@
 mod ColumnOrder
+mod Sought
 mod TableLaws
 mod OrderLaws
 mod CatalogLaws

@@ -2,6 +2,7 @@
 #![tactic(auto)]
 
 mod catalog;
+mod column;
 pub mod laws;
 mod make;
 mod order;
