@@ -1,6 +1,9 @@
 -- A column set at its place, and columns stay columns.
-use Rattle.std.proofs.Common.{◌≡◌, ℕ, zero, suc, ◌<◌, ◌≤◌, List, [], ◌∷◌, true, false, not, refl, ap, ◌∙◌, subst, arith, length, drop, get_or}
-use Rattle.std.specs.Prelude.{insert, remove, slice_set, if◌then◌else◌}
+use Rattle.std.proofs.Common.{◌≡◌, ℕ, zero, suc, ◌<◌, ◌≤◌, List, [], ◌∷◌, true, false, not, refl, sym, ap, ◌∙◌, ◌-◌, subst, arith, length, drop, get_or}
+use Rattle.std.specs.Prelude.{insert, remove, slice_set, slice_get, if◌then◌else◌, Some}
+use Rattle.std.specs.Option.{option_map_or}
+use Rattle.std.proofs.lemmas.List.{get_or_default}
+use Rattle.std.proofs.lemmas.Option.{slice_get-get_or}
 use Rattle.std.specs.List.Sorted.{IsPartitionPoint}
 use Rattle.std.specs.declared.cmp.Ordering.{Ordering}
 use Rattle.std.specs.declared.cmp.Ordering.TheVariants.{Less, Equal, Greater}
@@ -11,7 +14,7 @@ use Rattle.sdb_types.specs.declared.memory.NoMemory.{NoMemory}
 use Rattle.sdb_types.specs.Order.{name_cmp}
 use Rattle.sdb_types.proofs.Bools.{and_first, and_second, and_both}
 use Rattle.sdb_types.proofs.KeyOrder.{name_exact, name_total}
-use Rattle.sdb_types.specs.Columns.{is_null, starts_above, are_columns, is_below, put_pair, take_out, with_column, place_in, is_first_name}
+use Rattle.sdb_types.specs.Columns.{is_null, starts_above, are_columns, is_below, put_pair, take_out, with_column, place_in, is_first_name, ends_below}
 use Rattle.sdb_types.proofs.Basics.{less_of}
 
 pub by_order : {G : Type 0} (r : Ordering) → (r ≡ Less → G) → (r ≡ Equal → G) → (r ≡ Greater → G) → G
@@ -142,6 +145,18 @@ parted-place name (e ∷ es) (suc n) h parted =
     let q : name_cmp e.name name ≡ Less = less_of _ (parted.0 0 e (omega arith) (omega arith)) in
     let rest : IsPartitionPoint (λ e. is_below name e ≡ true) (λ e. is_below name e ≡ false) es n = (λ k d l u. parted.0 (suc k) d (omega arith) (omega (arith, u)), λ k d l u. parted.1 (suc k) d (omega (arith, l)) (omega (arith, u))) in
     simp q (ap suc (parted-place name es n (omega (arith, h)) rest))
+
+-- after the last column, where that is below the name
+pub end-is_place : (name : List ℕ) (es : List Pair) → are_columns es ≡ true → ends_below name es ≡ true → length es ≡ place_in name es
+end-is_place name [] c h = refl
+end-is_place name (e ∷ es) c h =
+    let same : length (e ∷ es) - 1 ≡ length es = omega arith in
+    let last : slice_get (e ∷ es) (length es) ≡ Some (get_or (e ∷ es) (length es) e) = slice_get-get_or (e ∷ es) (length es) e (omega arith) in
+    let below : is_below name (get_or (e ∷ es) (length es) e) ≡ true = sym (ap (λ o. option_map_or (is_below name) o false) last) ∙ sym (ap (λ n. option_map_or (is_below name) (slice_get (e ∷ es) n) false) same) ∙ h in
+    parted-place name (e ∷ es) (length (e ∷ es)) (omega arith) (
+      λ k d l u. columns_parted name (e ∷ es) c k (length es) d (omega arith) (omega arith) (ap (is_below name) (get_or_default (e ∷ es) (length es) d e (omega arith)) ∙ below),
+      λ k d l u. absurd (omega arith),
+    )
 
 -- the same at a place that a search has given
 module _ (p : Pair) (es : List Pair) (n : ℕ) (at : n ≡ place_in p.name es) where

@@ -1,6 +1,6 @@
 -- Columns are a map from names to values: what is at a name after a column is set, and columns that agree at every
 -- name are equal.
-use Rattle.std.proofs.Common.{◌≡◌, ℕ, List, [], ◌∷◌, true, false, not, cond, Some, None, option_map, refl, sym, ap, ◌∙◌, subst}
+use Rattle.std.proofs.Common.{◌≡◌, ℕ, List, [], ◌∷◌, true, false, not, cond, Some, None, option_map, refl, sym, ap, ◌∙◌, subst, drop}
 use Rattle.std.specs.Prelude.{if◌then◌else◌, find}
 use Rattle.std.specs.declared.cmp.Ordering.{Ordering}
 use Rattle.std.specs.declared.cmp.Ordering.TheVariants.{Less, Equal, Greater}
@@ -8,7 +8,7 @@ use Rattle.std.specs.Ordering.{is_lt, is_eq, ordering_reverse}
 use Rattle.std.specs.Cmp.{tied_itself}
 use Rattle.sdb_types.specs.declared.pair.Pair.{Pair}
 use Rattle.sdb_types.specs.Order.{name_cmp}
-use Rattle.sdb_types.specs.Columns.{is_null, starts_above, are_columns, put_pair, take_out, with_column, column, is_named}
+use Rattle.sdb_types.specs.Columns.{is_null, starts_above, are_columns, put_pair, take_out, with_column, column, is_named, first_value, place_in}
 use Rattle.sdb_types.proofs.Bools.{and_first, and_second}
 use Rattle.sdb_types.proofs.KeyOrder.{name_exact, name_total}
 use Rattle.sdb_types.proofs.ColumnLemmas.{by_order, above_more}
@@ -35,6 +35,15 @@ column_above name [] c h = refl
 column_above name (e ∷ es) c h =
     let q = turned name e.name Less (less_of _ h) in
     simp q (column_above name es (tail_columns e es c) (above_more name e es h (tail_above e es c)))
+
+-- a column is found at its place
+pub column-at_place : (name : List ℕ) (ps : List Pair) → are_columns ps ≡ true → first_value name (drop (place_in name ps) ps) ≡ column ps name
+column-at_place name [] c = refl
+column-at_place name (e ∷ es) c =
+    by_order (name_cmp e.name name)
+    (λ q. simp q (column-at_place name es (tail_columns e es c)))
+    (λ q. simp q refl)
+    (λ q. let above : starts_above name es ≡ true = above_more name e es (ap is_lt (turned e.name name Greater q)) (tail_above e es c) in simp q (sym (column_above name es (tail_columns e es c) above)))
 
 pub column-put_same : (p : Pair) (ps : List Pair) → column (put_pair p ps) p.name ≡ Some p.value
 column-put_same p [] = simp (itself p.name) refl

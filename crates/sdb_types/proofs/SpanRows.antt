@@ -1,6 +1,5 @@
 -- Rows of a span.
-use Rattle.std.proofs.Common.{◌≡◌, Bool, true, false, cond, Option, Some, None, List, refl, sym, ap, ◌∙◌, map}
-use Rattle.std.specs.Ordering.{eq_by_cmp}
+use Rattle.std.proofs.Common.{◌≡◌, Bool, true, false, cond, Option, None, List, refl, sym, ap, ◌∙◌, map}
 use Rattle.std.specs.declared.cmp.Ordering.TheVariants.{Equal}
 use Rattle.std.specs.FinMap.{find, get, entries, entries_sorted, get-entries}
 use Rattle.std.specs.FinMap.Entries.{where_key, is_sorted-where_key, find-where_key, same_entries}

@@ -1,6 +1,6 @@
 -- The columns of a record: pairs in the order of their names, each name once, and none with Null.
-use Rattle.std.specs.Prelude.{ℕ, suc, Bool, true, false, not, ◌&&◌, if◌then◌else◌, List, [], ◌∷◌, Option, find}
-use Rattle.std.specs.Option.{option_map}
+use Rattle.std.specs.Prelude.{ℕ, suc, Bool, true, false, not, ◌&&◌, if◌then◌else◌, ◌-◌, List, [], ◌∷◌, Option, Some, None, find, length, slice_get}
+use Rattle.std.specs.Option.{option_map, option_map_or}
 use Rattle.std.specs.declared.cmp.Ordering.{Ordering}
 use Rattle.std.specs.declared.cmp.Ordering.TheVariants.{Less, Equal, Greater}
 use Rattle.std.specs.Ordering.{is_lt, is_eq}
@@ -61,3 +61,12 @@ place_in name (e ∷ es) = choose_by (name_cmp e.name name) (suc (place_in name 
 abbrev pub is_first_name : List ℕ → List Pair → Bool
 is_first_name name [] = false
 is_first_name name (e ∷ es) = is_named name e
+
+-- the value of the first column, where that has the name
+abbrev pub first_value : List ℕ → List Pair → Option Value
+first_value name [] = None
+first_value name (e ∷ es) = if is_named name e then Some e.value else None
+
+-- whether the last column has a smaller name
+abbrev pub ends_below : List ℕ → List Pair → Bool
+ends_below name ps = option_map_or (is_below name) (slice_get ps (length ps - 1)) false

@@ -2,7 +2,7 @@
 ghost use Rattle.std.specs.Prelude.{◌≡◌, [], length, true, IfOk, OnOk, OnErr, drop};
 ghost use Rattle.std.specs.Option.{option_copied};
 ghost use Rattle.std.specs.Slice.{IsItemAt};
-ghost use Rattle.sdb_types.specs.Columns.{are_columns, column, with_column, place_in, is_null, is_first_name};
+ghost use Rattle.sdb_types.specs.Columns.{are_columns, column, with_column, place_in, is_null, is_first_name, first_value, ends_below};
 
 use crate::memory::{Duplicate, NoMemory};
 use crate::name::Name;
@@ -51,7 +51,28 @@ fn place_of(pairs: &[Pair], name: &Name) -> usize
     requires { are_columns pairs.now ≡ true }
     ensures { result ≡ place_in name.now pairs.now }
 {
-    pairs.partition_point(|pair| pair.name.cmp(name).is_lt())
+    let text = name.as_str();
+    pairs.partition_point(|pair| pair.name.as_str().cmp(text).is_lt())
+}
+
+fn are_below(pairs: &[Pair], name: &Name) -> bool
+    ensures { result ≡ ends_below name.now pairs.now }
+{
+    match pairs.last() {
+        Some(pair) => pair.name.as_str().cmp(name.as_str()).is_lt(),
+        None => false,
+    }
+}
+
+// The same. Most columns are set in the order of their names, so the end is looked at first.
+fn place_from_end(pairs: &[Pair], name: &Name) -> usize
+    requires { are_columns pairs.now ≡ true }
+    ensures { result ≡ place_in name.now pairs.now }
+{
+    if are_below(pairs, name) {
+        return pairs.len();
+    }
+    place_of(pairs, name)
 }
 
 fn is_at(pairs: &[Pair], place: usize, name: &Name) -> bool
@@ -61,6 +82,23 @@ fn is_at(pairs: &[Pair], place: usize, name: &Name) -> bool
         Some(pair) => pair.name.cmp(name).is_eq(),
         None => false,
     }
+}
+
+fn value_at<'a>(pairs: &'a [Pair], place: usize, name: &Name) -> Option<&'a Value>
+    ensures { option_copied result ≡ first_value name.now (drop place pairs.now) }
+{
+    match pairs.get(place) {
+        Some(pair) if pair.name.cmp(name).is_eq() => Some(&pair.value),
+        _ => None,
+    }
+}
+
+// The value of a column, which is found by its place.
+fn value_in<'a>(pairs: &'a [Pair], name: &Name) -> Option<&'a Value>
+    requires { are_columns pairs.now ≡ true }
+    ensures { option_copied result ≡ column pairs.now name.now }
+{
+    value_at(pairs, place_of(pairs, name), name)
 }
 
 /// The value of the column whose name is this text, if there is one. Takes no memory.
@@ -78,7 +116,7 @@ fn put(pairs: &mut SharedSeq<Pair>, pair: Pair) -> Result<(), NoMemory>
     ensures ok { OnOk result (pairs.new ≡ with_column pair pairs.old) }
     ensures err { OnErr result (pairs.new ≡ pairs.old) }
 {
-    let place = place_of(pairs.as_slice(), &pair.name);
+    let place = place_from_end(pairs.as_slice(), &pair.name);
     let known = is_at(pairs.as_slice(), place, &pair.name);
     if is_null_value(&pair.value) {
         if known {
@@ -131,7 +169,7 @@ impl Columns {
     pub fn get(&self, name: &Name) -> Option<&Value>
         ensures { option_copied result ≡ column self.now name.now }
     {
-        value_named(self.pairs.as_slice(), name.as_str())
+        value_in(self.pairs.as_slice(), name)
     }
 
     pub fn set(&mut self, name: Name, value: Value) -> Result<(), NoMemory>
