@@ -25,7 +25,7 @@ with_table-is t (u ∷ us) =
       | false ↦ λ q. simp q refl
     ] refl
 
-above-of : (r s : Ordering) → s ≡ ordering_reverse r → is_lt r ≡ false → is_eq r ≡ false → is_lt s ≡ true
+pub above-of : (r s : Ordering) → s ≡ ordering_reverse r → is_lt r ≡ false → is_eq r ≡ false → is_lt s ≡ true
 above-of Less s e h k = absurd (cc)
 above-of Equal s e h k = absurd (cc)
 above-of Greater s e h k = ap is_lt e

@@ -119,7 +119,7 @@ in_order-rises cs h = weak-rises (in_order cs) (weak-put_columns cs [] refl) h
 
 ---- names
 
-all-put : (t : Column → Bool) (c : Column) (ds : List Column) → t c ≡ true → list_all t ds ≡ true → list_all t (put_column c ds) ≡ true
+pub all-put : (t : Column → Bool) (c : Column) (ds : List Column) → t c ≡ true → list_all t ds ≡ true → list_all t (put_column c ds) ≡ true
 all-put t c [] h k = and_both (t c) true h refl
 all-put t c (d ∷ ds) h k =
     elim (below c d) as (λ b. list_all t (cond b (d ∷ put_column c ds) (c ∷ d ∷ ds)) ≡ true) [

@@ -3,4 +3,5 @@ mod Sought
 mod TableLaws
 mod OrderLaws
 mod CatalogLaws
+mod Grown
 pub mod Public

@@ -1,14 +1,16 @@
 //! Catalogs: tables by name.
-ghost use Rattle.std.specs.Prelude.{◌≡◌, ◌<◌, ◌≤◌, ◌↔◌, [], length, true, false, take_while, IfOk, OnOk, OnErr, IfSome, IsErrOf};
+ghost use Rattle.std.specs.Prelude.{◌≡◌, ◌<◌, ◌≤◌, ◌↔◌, [], length, true, false, not, nat_le, None, take_while, IfOk, IfErr, OnOk, OnErr, IfSome, IsErrOf};
 ghost use Rattle.std.specs.Option.{option_copied};
 ghost use Rattle.std.specs.Slice.{IsItemAt};
 ghost use Rattle.std.specs.Ordering.{is_lt};
 ghost use Rattle.sdb_types.specs.Order.{table_cmp};
 ghost use Rattle.sdb_schema.specs.declared.catalog.AddRefused.TheVariants.{NoMemory as OutOfMemory};
+ghost use Rattle.sdb_schema.specs.Added.{column_refused, number_of, with_column};
 ghost use Rattle.sdb_schema.specs.Table.{is_table};
 ghost use Rattle.sdb_schema.specs.Catalog.{table_named, has_table, with_table, is_called, is_catalog};
 
-use crate::table::Table;
+use crate::added::ColumnRefused;
+use crate::table::{Column, Table};
 use sdb_types::{Duplicate, NoMemory, Seq, TableName};
 use std::alloc::Global;
 use std::marker::Model;
@@ -106,6 +108,35 @@ fn place(tables: &mut Seq<Table>, table: Table) -> Result<(), AddRefused>
     Ok(())
 }
 
+// How many tables come before the first of that name.
+fn count_before(tables: &[Table], name: &TableName) -> usize
+    ensures { result ≡ length (take_while (λ t. not (is_called name.now t)) tables.now) }
+{
+    tables
+        .iter()
+        .take_while(|table| !table.name.cmp(name).is_eq())
+        .count()
+}
+
+// Adds a column to the table of that name.
+fn grow(tables: &mut Seq<Table>, name: &TableName, column: &Column) -> Result<(), ColumnRefused>
+    requires catalog { is_catalog tables.old ≡ true }
+    requires short { nat_le (length column.now.name) 64 ≡ true }
+    ensures ok { OnOk result (tables.new ≡ with_column tables.old name.now column.now) }
+    ensures taken { OnOk result (column_refused tables.old name.now column.now ≡ None) }
+    ensures catalog { is_catalog tables.new ≡ true }
+    ensures err { OnErr result (tables.new ≡ tables.old) }
+    ensures refused { IfErr result (λ e. number_of e ≡ column_refused tables.old name.now column.now) }
+{
+    let place = count_before(tables.as_slice(), name);
+    let Some(table) = find_table(tables.as_slice(), name) else {
+        return Err(ColumnRefused::NoTable);
+    };
+    let grown = table.with_column(column)?;
+    tables.replace(place, grown);
+    Ok(())
+}
+
 impl Catalog {
     pub fn new(alloc: Global) -> Catalog
         ensures { result ≡ [] }
@@ -124,6 +155,18 @@ impl Catalog {
         ensures too_many { IsErrOf result AddRefused.TooMany ↔ ((has_table self.old table.name ≡ false) × (64 ≤ length self.old)) }
     {
         place(&mut self.tables, table)
+    }
+
+    /// Adds a column to a table, in its place. Its condition is that the name of the column has at most 64 bytes. A refusal leaves the
+    /// catalog.
+    pub fn add_column(&mut self, table: &TableName, column: Column) -> Result<(), ColumnRefused>
+        requires { nat_le (length column.name) 64 ≡ true }
+        ensures ok { OnOk result (self.new ≡ with_column self.old table.now column) }
+        ensures taken { OnOk result (column_refused self.old table.now column ≡ None) }
+        ensures err { OnErr result (self.new ≡ self.old) }
+        ensures refused { IfErr result (λ e. number_of e ≡ column_refused self.old table.now column) }
+    {
+        grow(&mut self.tables, table, &column)
     }
 
     /// The table of a name. Takes no memory.

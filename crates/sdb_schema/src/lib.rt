@@ -1,6 +1,7 @@
 //! Tables and catalogs.
 #![tactic(auto)]
 
+mod added;
 mod catalog;
 mod column;
 pub mod laws;
@@ -9,6 +10,7 @@ mod order;
 mod row;
 mod table;
 
+pub use added::ColumnRefused;
 pub use catalog::{AddRefused, Catalog};
 pub use make::TableRefused;
 pub use row::RowRefused;

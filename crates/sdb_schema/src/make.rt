@@ -1,5 +1,5 @@
 //! Tables made of columns and keys.
-ghost use Rattle.std.specs.Prelude.{◌≡◌, ◌∷◌, [], ◌++◌, ◌≤◌, true, not, length, drop, find, map, IfOk, IfErr, OnOk, take_while, Ok, Err, Some, None};
+ghost use Rattle.std.specs.Prelude.{◌≡◌, ◌∷◌, [], ◌++◌, ◌≤◌, true, not, length, drop, find, map, IfOk, IfErr, OnOk, OnErr, take_while, Ok, Err, Some, None};
 ghost use Rattle.std.specs.Option.{option_copied, option_map};
 ghost use Rattle.std.specs.List.{list_all};
 ghost use Rattle.std.specs.Ordering.{is_lt};
@@ -144,9 +144,10 @@ fn place_of(columns: &[Column], column: &Column) -> usize
         .count()
 }
 
-// Puts a column in its place.
-fn put(columns: &mut ColumnList, column: Column) -> Result<(), NoMemory>
-    ensures { OnOk result (columns.new ≡ put_column column columns.old) }
+/// Puts a column in its place.
+pub fn put(columns: &mut ColumnList, column: Column) -> Result<(), NoMemory>
+    ensures ok { OnOk result (columns.new ≡ put_column column columns.old) }
+    ensures err { OnErr result (columns.new ≡ columns.old) }
 {
     let place = place_of(columns.as_slice(), &column);
     columns.insert(place, column)
