@@ -40,7 +40,7 @@ unfolding coordinators
 own_named = refl
 
 -- a table that isn't the coordinator's
-open_is : (e : Entry) → MayHaveRow e.table → is_coordinators e ≡ false → is_table e.table ≡ true
+pub open_is : (e : Entry) → MayHaveRow e.table → is_coordinators e ≡ false → is_table e.table ≡ true
 open_is e h other =
     elim h [
       | inl own ↦ absurd (let f : true ≡ false = sym own_ns ∙ ap (λ (t : Table). bytes_eq t.name.ns (codes "coordinator")) (sym own) ∙ other in cc)

@@ -36,7 +36,7 @@ passed_on P (Err x) e h p = subst P (sym h) p
 ---- one call
 
 -- the first store answers as a map does
-performed : (q : Request) (r : Reply) (old : Attached) (new : List StoreView) → old.known 0 → Called q r old new → Performs q r (first_contents old.views) (first_contents new)
+pub performed : (q : Request) (r : Reply) (old : Attached) (new : List StoreView) → old.known 0 → Called q r old new → Performs q r (first_contents old.views) (first_contents new)
 performed q r old new t call =
     subst (λ (m : Contents). Performs q r m (first_contents new)) (sym (first_before old.views call.before call.stood))
     (subst (Performs q r call.before.contents) (sym (first_now old.views new call.before call.now call.stood call.rest)) (call.performed t))
@@ -53,7 +53,7 @@ contents_read rows old new t call = (performed (Scan metadata_span) (Rows rows) 
 
 ---- what is read
 
-opens_in : (es : List Entry) (old : Attached) (mid : List StoreView) → old.known 0 → IsRead old mid es → Opens (names_of old.views) (rows_in metadata_span (first_contents old.views)) es
+pub opens_in : (es : List Entry) (old : Attached) (mid : List StoreView) → old.known 0 → IsRead old mid es → Opens (names_of old.views) (rows_in metadata_span (first_contents old.views)) es
 opens_in es old mid t read = subst (λ (rs : List Record). Opens (names_of old.views) rs es) (rows_shown read.rows old mid t read.scanned) read.opens
 
 pub catalog_in : (es : List Entry) (now : List Place) (opened : List Table) (old : Attached) (mid : List StoreView) → IsRead old mid es → opened ≡ tables_of es → ((ns : List ℕ) → route_of ns now ≡ store_in es ns) → old.known 0

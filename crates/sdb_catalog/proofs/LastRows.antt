@@ -19,21 +19,21 @@ abbrev pub are_below : Key → List Record → Bool
 are_below k rs = list_all (λ (r : Record). is_lt (key_cmp r.key k)) rs
 
 -- no key is below itself
-not_below : {X : Type 0} (k : Key) → is_lt (key_cmp k k) ≡ true → X
+pub not_below : {X : Type 0} (k : Key) → is_lt (key_cmp k k) ≡ true → X
 not_below k h = absurd (let e : Equal ≡ Less = sym (tied_itself key_total k) ∙ less_of (key_cmp k k) h in cc)
 
 below_trans : (a b c : Key) → is_lt (key_cmp a b) ≡ true → is_lt (key_cmp b c) ≡ true → is_lt (key_cmp a c) ≡ true
 below_trans a b c h k = ap is_lt (key_total.trans a b c (less_of (key_cmp a b) h) (less_of (key_cmp b c) k))
 
-below_more : (k : Key) (x : Key) (es : List (Key × List Pair)) → is_lt (key_cmp k x) ≡ true → below_all key_cmp x es ≡ true → below_all key_cmp k es ≡ true
+pub below_more : (k : Key) (x : Key) (es : List (Key × List Pair)) → is_lt (key_cmp k x) ≡ true → below_all key_cmp x es ≡ true → below_all key_cmp k es ≡ true
 below_more k x [] h l = refl
 below_more k x (e ∷ es) h l =
     and_both (is_lt (key_cmp k e.0)) (below_all key_cmp k es) (below_trans k x e.0 h (and_first (is_lt (key_cmp x e.0)) (below_all key_cmp x es) l)) (below_more k x es h (and_second (is_lt (key_cmp x e.0)) (below_all key_cmp x es) l))
 
-abbrev inside : Span → Key × List Pair → Bool
+abbrev pub inside : Span → Key × List Pair → Bool
 inside span e = in_span span e.0
 
-abbrev rows_if : Span → Bool → Key × List Pair → List (Key × List Pair) → List Record
+abbrev pub rows_if : Span → Bool → Key × List Pair → List (Key × List Pair) → List Record
 rows_if span b e es = map record_of (cond b (e ∷ filter (inside span) es) (filter (inside span) es))
 
 -- entries above the key have no record of the span, where all of these are below it

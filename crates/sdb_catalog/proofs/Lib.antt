@@ -10,6 +10,9 @@ mod Known
 mod Added
 mod OneReading
 mod LastRows
+mod Replaced
+mod Altering
+mod Altered
 mod Kept
 mod FirstEntries
 mod ReadBack

@@ -7,3 +7,4 @@ pub mod Calls
 pub mod Written
 pub mod Known
 pub mod Stored
+pub mod Altered

@@ -1,4 +1,7 @@
 //! What a row of the catalog says.
+ghost use Rattle.std.specs.Prelude.{◌≡◌};
+ghost use Rattle.sdb_catalog.specs.Altered.{next_revision as next_revision_lem};
+
 use sdb_schema::Table;
 use sdb_types::{Name, TxId};
 
@@ -18,5 +21,16 @@ impl Drop for Entry {
             store: _,
             revision: _,
         } = self;
+    }
+}
+
+/// The revision after another: 1 after the greatest.
+pub fn next_revision(id: TxId) -> TxId
+    ensures { result ≡ next_revision_lem id }
+{
+    if id.0 < u128::MAX {
+        TxId(id.0 + 1)
+    } else {
+        TxId(1)
     }
 }
