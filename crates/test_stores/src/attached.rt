@@ -3,7 +3,7 @@ use sdb_model::Event;
 use sdb_ordered::Ordered;
 use sdb_report::read_report;
 use sdb_sqlite::Kept as Database;
-use sdb_store::{Fail as Failing, Fails, Store};
+use sdb_store::{Fail as Failing, Fails, Puppet, Replies, Store};
 use sdb_stores::{Registry, Stores};
 use sdb_types::Name;
 use std::alloc::Global;
@@ -23,6 +23,14 @@ pub fn attach_failing(alloc: Global, stores: &mut Stores, name: &str, failing: &
         return attach(alloc, stores, name, store);
     }
     false
+}
+
+/// Attaches a store that answers with these replies.
+pub fn attach_puppet(alloc: Global, stores: &mut Stores, name: &str, replies: Replies) -> bool {
+    match Box::new(alloc, Puppet::new(replies)) {
+        Ok(store) => attach(alloc, stores, name, store),
+        Err(_) => false,
+    }
 }
 
 fn attach_database(alloc: Global, stores: &mut Stores, name: &str) -> bool {

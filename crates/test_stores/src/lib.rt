@@ -2,6 +2,8 @@
 #![tactic(auto)]
 
 #[cfg(test)]
+mod alter;
+#[cfg(test)]
 mod answers;
 #[cfg(test)]
 mod attached;

@@ -16,8 +16,8 @@ const LISTED: &str =
 const ANSWERED: &str =
     "scalardb report 1\nevents 12\n1 call 1 s get shop.item(3;1) seen found none -\n2 call 1 s get shop.item(1;1) seen fault -\n3 call 1 s scan shop.item(1) seen fault -\n4 call 1 s scan shop.item seen rows 1 shop.item(1;1){amount=5,tx_id='00000000-0000-0000-0000-000000000007',tx_state=3} -\n5 call 1 s get shop.item(1;1) seen fault -\n6 call 1 s delete shop.item(9;9) if absent seen applied -\n7 call 1 s put shop.item(1;1){amount=6,tx_id='00000000-0000-0000-0000-000000000007',tx_state=3} if absent seen notmet shop.item(1;1){amount=5,tx_id='00000000-0000-0000-0000-000000000007',tx_state=3} -\n8 call 1 s put shop.item(1;1){amount=6,tx_id='00000000-0000-0000-0000-000000000007',tx_state=3} if 00000000-0000-0000-0000-000000000007 3 seen fault -\n9 call 1 s put shop.item(1;1){amount=6,tx_id='00000000-0000-0000-0000-000000000007',tx_state=3} if absent seen fault -\n10 call 1 s scan shop.item seen fault -\n11 call 1 s scan shop.item seen fault -\n12 call 1 s get shop.item(1;1) seen fault -\norder 0\ntables 0\nend\n";
 
-// The replies of a report's calls.
-fn listed(alloc: Global, report: &str) -> Result<Replies, Fail> {
+/// The replies of a report's calls.
+pub fn listed(alloc: Global, report: &str) -> Result<Replies, Fail> {
     let report = read_report(alloc, report.as_bytes())?;
     let mut replies = Replies::new(alloc);
     for event in &report.events {
