@@ -1,15 +1,16 @@
 -- Rows of a catalog once a store was given up.
-use Rattle.std.proofs.Common.{◌≡◌, ◌⊎◌, inl, inr, ℕ, ◌+◌, ◌<◌, ◌^◌, lit<, List, [], ◌∷◌, ◌++◌, map, Bool, true, false, not, ◌&&◌, ◌||◌, cond, refl, sym, ap, subst, ◌∙◌}
+use Rattle.std.proofs.Common.{◌≡◌, ◌⊎◌, inl, inr, ℕ, ◌+◌, List, [], ◌∷◌, ◌++◌, map, Bool, true, false, not, ◌&&◌, ◌||◌, cond, refl, sym, ap, subst, ◌∙◌}
 use Rattle.std.specs.Prelude.{nat_lt, if◌then◌else◌}
 use Rattle.std.specs.List.{list_all}
 use Rattle.std.specs.Str.{bytes_eq}
 use Rattle.std.proofs.lemmas.List.{map-append}
 use Rattle.std.proofs.lemmas.List.Sums.{sum_by-cons}
-use Rattle.sdb_contents.specs.Types.{Entry, TxId}
-use Rattle.sdb_types.proofs.Public.{by_test, lt_of}
+use Rattle.sdb_contents.specs.Types.{Entry}
+use Rattle.sdb_types.proofs.Public.{by_test}
+use Rattle.sdb_catalog.proofs.Public.{next_fits}
 use Rattle.sdb_catalog.specs.Opened.{Follow, IsEntry, agrees, fits, is_attached, is_coordinators, open_count, tables_of}
 use Rattle.sdb_contents.specs.Joined.{ArePartly, AreStillAttached, settle}
-use Rattle.sdb_contents.specs.Moving.{FollowMoving, agrees_moving, agrees_with_moving, next_revision, renewed, settled}
+use Rattle.sdb_contents.specs.Moving.{FollowMoving, agrees_moving, agrees_with_moving, renewed, settled}
 
 pub settle_table : (from to : List ℕ) (e : Entry) → (settle from to e).table ≡ e.table
 settle_table from to e = elim (bytes_eq e.store from) as (λ b. (if b then renewed to e else e).table ≡ e.table) [ true ↦ refl | false ↦ refl ]
@@ -40,15 +41,6 @@ fits_settle from to passed e =
     ap (λ (b : Bool). b && (is_coordinators (settle from to e) || nat_lt (open_count (map (settle from to) passed)) 64)) (all_settle from to e passed)
     ∙ ap (λ (b : Bool). list_all (agrees_moving from to e) passed && (b || nat_lt (open_count (map (settle from to) passed)) 64)) (coordinators_settle from to e)
     ∙ ap (λ (n : ℕ). list_all (agrees_moving from to e) passed && (is_coordinators e || nat_lt n 64)) (count_settle from to passed)
-
-next_fits : (id : TxId) → (next_revision id).0 < 2 ^ 128
-next_fits id = by_test (nat_lt (id.0 + 1) (2 ^ 128)) (λ e. subst (λ (r : TxId). r.0 < 2 ^ 128) (sym (chosen true e)) (lt_of (id.0 + 1) (2 ^ 128) e)) (λ e. subst (λ (r : TxId). r.0 < 2 ^ 128) (sym (chosen false e)) one)
-  where
-    chosen : (b : Bool) → nat_lt (id.0 + 1) (2 ^ 128) ≡ b → next_revision id ≡ (if b then record { 0 = id.0 + 1 } else record { 0 = 1 })
-    chosen b e = ap (λ (t : Bool). if t then record { 0 = id.0 + 1 } else record { 0 = 1 }) e
-
-    one : 1 < 2 ^ 128
-    one = lit< tt
 
 entry_settle : (names left : List (List ℕ)) (from to : List ℕ) (e : Entry) → AreStillAttached names left from to → IsEntry names e → IsEntry left (settle from to e)
 entry_settle names left from to e still h = by_test (bytes_eq e.store from)

@@ -1,11 +1,12 @@
 -- Rows of a catalog of which some namespaces move from one store to another.
-use Rattle.std.specs.Prelude.{◌≡◌, ◌+◌, ◌^◌, ℕ, Bool, true, not, ◌&&◌, ◌||◌, nat_lt, List, [], ◌∷◌, ◌++◌, map, filter, if◌then◌else◌}
+use Rattle.std.specs.Prelude.{◌≡◌, ℕ, Bool, true, not, ◌&&◌, ◌||◌, nat_lt, List, [], ◌∷◌, ◌++◌, map, filter, if◌then◌else◌}
 use Rattle.std.specs.List.{list_all, list_any}
 use Rattle.std.specs.Str.{bytes_eq}
-use Rattle.sdb_contents.specs.Types.{Entry, Key, Record, Request, TableName, TxId}
+use Rattle.sdb_contents.specs.Types.{Entry, Key, Record, Request, TableName}
 use Rattle.sdb_types.specs.declared.record.Condition.TheVariants.{Version}
 use Rattle.sdb_types.specs.declared.record.Request.TheVariants.{PutIf}
 use Rattle.sdb_types.specs.declared.record.State.TheVariants.{Committed}
+use Rattle.sdb_catalog.specs.Altered.{next_revision}
 use Rattle.sdb_catalog.specs.Opened.{IsEntry, is_coordinators, open_count}
 use Rattle.sdb_catalog.specs.Rows.{row_of}
 
@@ -56,10 +57,6 @@ is_moving from es ns = list_any (is_in_store from ns) es
 -- the tables of moving namespaces, in the order of the rows
 abbrev pub moving_tables : List ℕ → List Entry → List TableName
 moving_tables from es = map (λ e. e.table.name) (filter (λ e. is_moving from es e.table.name.ns) es)
-
--- the revision after another: 1 after the greatest
-abbrev pub next_revision : TxId → TxId
-next_revision id = if nat_lt (id.0 + 1) (2 ^ 128) then record { 0 = id.0 + 1 } else record { 0 = 1 }
 
 -- what the row of a table then says that names `from`
 abbrev pub renewed : List ℕ → Entry → Entry

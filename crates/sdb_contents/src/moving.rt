@@ -2,10 +2,10 @@
 ghost use Rattle.std.specs.Prelude.{◌≡◌, true, IfOk};
 ghost use Rattle.std.specs.List.{list_all};
 ghost use Rattle.sdb_schema.specs.Table.{rises};
-ghost use Rattle.sdb_contents.specs.Moving.{is_moving as is_moving_lem, is_in_store as is_in_store_lem, moving_tables as moving_tables_lem, next_revision as next_revision_lem, renewal as renewal_lem, renewals as renewals_lem};
+ghost use Rattle.sdb_contents.specs.Moving.{is_moving as is_moving_lem, is_in_store as is_in_store_lem, moving_tables as moving_tables_lem, renewal as renewal_lem, renewals as renewals_lem};
 
-use sdb_catalog::{Entry, row_of};
-use sdb_types::{Condition, Duplicate, Name, NoMemory, Request, Seq, State, TableName, TxId};
+use sdb_catalog::{Entry, next_revision, row_of};
+use sdb_types::{Condition, Duplicate, Name, NoMemory, Request, Seq, State, TableName};
 use std::alloc::Global;
 
 fn keeps(from: &Name, ns: &Name, entry: &Entry) -> bool
@@ -35,16 +35,6 @@ pub fn moving_tables(
         }
     }
     Ok(tables)
-}
-
-fn next_revision(id: TxId) -> TxId
-    ensures { result ≡ next_revision_lem id }
-{
-    if id.0 < u128::MAX {
-        TxId(id.0 + 1)
-    } else {
-        TxId(1)
-    }
 }
 
 // The put of the row of a table that is in the store `to` now, on condition of its old revision.
