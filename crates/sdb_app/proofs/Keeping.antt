@@ -57,5 +57,5 @@ answers_once stores command.Sql words are once = absurd (once refl)
 answers_once stores (command.Load table mode n) words (is, named, within) once = within
 answers_once stores (command.Export table) words are once = tt
 answers_once stores (command.Retire from to) words (is, can) once = record { from = can.from_attached; to = can.to_attached; apart = can.differ; stays = can.stays }
-answers_once stores (command.Alter table column kind) words are once = tt
+answers_once stores (command.Alter table column kind) words (word, is, named, column_named, kind_is) once = column_named
 answers_once stores command.Audit words are once = tt

@@ -8,6 +8,7 @@ mod Schemas
 mod Sessions
 mod Loads
 mod Retiring
+mod Alters
 mod Keeping
 mod Promising
 mod WhereKnown

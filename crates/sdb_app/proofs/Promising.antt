@@ -14,6 +14,7 @@ use Rattle.sdb_app.proofs.Headline.{bench_stops_before, benched_before, begun_wi
 use Rattle.sdb_app.proofs.Schemas.{schema_kept_before, schema_stops_before}
 use Rattle.sdb_app.proofs.Sessions.{session_before}
 use Rattle.sdb_app.proofs.Retiring.{retire_stops_before, retired_before}
+use Rattle.sdb_app.proofs.Alters.{alter_stops_before, altered_before}
 use Rattle.sdb_app.proofs.Loads.{export_stops_before, exported_before, load_stops_before, loaded_before}
 
 -- The work of a command began with the same stores, of which no fewer had known contents.
@@ -29,7 +30,7 @@ answers_before before work d b command.Sql text h = absurd h
 answers_before before work d b (command.Load table mode n) text h = loaded_before before work d table mode n text b.same b.where_known h
 answers_before before work d b (command.Export table) text h = exported_before before work d table text b.same b.where_known h
 answers_before before work d b (command.Retire from to) text h = (retired_before before work (record { from = from; to = to }) text b.same b.where_known h.0, h.1)
-answers_before before work d b (command.Alter table column kind) text h = absurd h.0
+answers_before before work d b (command.Alter table column kind) text h = (altered_before before work table (record { name = column; kind = kind }) text b.same b.where_known h.0, h.1)
 answers_before before work d b command.Audit text h = absurd h.0
 
 not_there_before : (before : Attached) (work : Work) → BeginsAs before work → (s : Status) → IsNotThere work s → IsNotThere (begun_with before work) s
@@ -43,7 +44,7 @@ stops_before before work d b command.Sql s h = absurd h
 stops_before before work d b (command.Load table mode n) s h = load_stops_before before work d table mode n s b.same b.where_known h
 stops_before before work d b (command.Export table) s h = export_stops_before before work d table s b.same b.where_known h
 stops_before before work d b (command.Retire from to) s h = (retire_stops_before before work (record { from = from; to = to }) s b.same b.where_known h.0, h.1)
-stops_before before work d b (command.Alter table column kind) s h = (not_there_before before work b s h.0, h.1)
+stops_before before work d b (command.Alter table column kind) s h = (alter_stops_before before work table (record { name = column; kind = kind }) s b.same b.where_known h.0, h.1)
 stops_before before work d b command.Audit s h = (not_there_before before work b s h.0, h.1)
 
 once_before : (before : Attached) (work : Work) (d : Draws) → BeginsAs before work → (c : Command) (output written : Stream) (s : Status) → EndsOnce c work d output written s → EndsOnce c (begun_with before work) d output written s

@@ -10,4 +10,5 @@ pub mod Sql
 pub mod Load
 pub mod Export
 pub mod Retire
+pub mod Alter
 pub mod Promise

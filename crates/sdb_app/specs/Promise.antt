@@ -1,6 +1,7 @@
 -- What each command promises, and how a call of the program may end.
-use Rattle.std.specs.Prelude.{◌≡◌, ℕ, ◌≤◌, List, length, take, Option}
+use Rattle.std.specs.Prelude.{◌≡◌, ℕ, ◌≤◌, true, List, length, take, Option}
 use Rattle.sdb_types.specs.Bytes.{Appends, HasRisen}
+use Rattle.sdb_record.specs.Parts.{is_column_name}
 use Rattle.sdb_stores.specs.Views.{names_of}
 use Rattle.sdb_model.specs.Rows.{Name}
 use Rattle.sdb_words.specs.declared.command.Command.{Command}
@@ -16,6 +17,7 @@ use Rattle.sdb_app.specs.Sql.{HasEndedSession}
 use Rattle.sdb_app.specs.Load.{IsLoaded, StopsLoad}
 use Rattle.sdb_app.specs.Export.{IsExported, StopsExport}
 use Rattle.sdb_app.specs.Retire.{IsStoreRetired, StopsRetire}
+use Rattle.sdb_app.specs.Alter.{IsColumnAnswered, StopsAlter}
 use Rattle.sdb_contents.specs.Dropped.{MayRetire}
 use Rattle.sdb_contents.specs.Retired.{sides}
 
@@ -31,7 +33,8 @@ IsNotThere work s = (s ≡ status.Usage) × AreUnchanged work × (work.rest ≡ 
 abbrev pub not_there : Work → Promise
 not_there work = record { answers = λ text. ⊥; stops = IsNotThere work }
 
--- The command answers one text at its end. Its numbers are within their limits, and of stores of these names it retires one that may be.
+-- The command answers one text at its end. Its numbers are within their limits, of stores of these names it retires one that may be, and it adds
+-- a column whose name is an identifier of at most 64 bytes.
 abbrev pub AnswersOnce : List Name → Command → Type 0
 AnswersOnce stores command.Replay = Unit {0}
 AnswersOnce stores (command.Bench n) = n ≤ most_transactions
@@ -40,7 +43,7 @@ AnswersOnce stores command.Sql = ⊥
 AnswersOnce stores (command.Load table mode n) = IsWithin most_rows n
 AnswersOnce stores (command.Export table) = Unit {0}
 AnswersOnce stores (command.Retire from to) = MayRetire stores (sides from to)
-AnswersOnce stores (command.Alter table column kind) = Unit {0}
+AnswersOnce stores (command.Alter table column kind) = is_column_name column ≡ true
 AnswersOnce stores command.Audit = Unit {0}
 
 -- The command may drop the store of that name: it retires it.
@@ -68,7 +71,7 @@ promise_of command.Sql work d = unanswered
 promise_of (command.Load table mode n) work d = record { answers = IsLoaded table mode n work d; stops = StopsLoad table mode n work d }
 promise_of (command.Export table) work d = record { answers = IsExported table work d; stops = StopsExport table work d }
 promise_of (command.Retire from to) work d = undrawn d (record { answers = IsStoreRetired (sides from to) work; stops = StopsRetire (sides from to) work })
-promise_of (command.Alter table column kind) work d = undrawn d (not_there work)
+promise_of (command.Alter table column kind) work d = undrawn d (record { answers = IsColumnAnswered table (record { name = column; kind = kind }) work; stops = StopsAlter table (record { name = column; kind = kind }) work })
 promise_of command.Audit work d = undrawn d (not_there work)
 
 ---- what is written

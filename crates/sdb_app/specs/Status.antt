@@ -30,7 +30,7 @@ which_name limited.Moves = codes "Moves"
 
 abbrev pub line_of : Status → List ℕ
 line_of status.Done = []
-line_of status.Usage = codes "usage: scalardb replay | sql | schema [NS=STORE]... | load NS.TABLE insert|update|upsert N | export NS.TABLE | bench N | retire FROM TO"
+line_of status.Usage = codes "usage: scalardb replay | sql | schema [NS=STORE]... | load NS.TABLE insert|update|upsert N | export NS.TABLE | bench N | retire FROM TO | alter NS.TABLE COLUMN KIND"
 line_of (status.BadInput n fault) = codes "bad input at " ++ decimal n
 line_of status.ReadFault = codes "read fault"
 line_of status.WriteFault = codes "write fault"

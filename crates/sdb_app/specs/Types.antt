@@ -1,5 +1,6 @@
 -- The types of other crates that this crate speaks of.
 pub use Rattle.sdb_catalog.specs.declared.entry.Entry.{Entry}
+pub use Rattle.sdb_catalog.specs.declared.refused.AlterRefused.{AlterRefused}
 pub use Rattle.sdb_catalog.specs.declared.refused.CatalogRefused.{CatalogRefused}
 pub use Rattle.sdb_contents.specs.declared.dump_refused.ClosingRefused.{ClosingRefused}
 pub use Rattle.sdb_contents.specs.declared.refused.CallRefused.{CallRefused}

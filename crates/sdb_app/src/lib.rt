@@ -1,6 +1,7 @@
 //! The top call of the program.
 #![tactic(auto)]
 
+mod alter;
 mod bench;
 mod export;
 mod input;

@@ -5,6 +5,7 @@ ghost use Rattle.sdb_words.specs.Commands.{AreWordsOf};
 ghost use Rattle.sdb_app.specs.Ends.{AreKeptOr, draws, ends, stream, views, work_of};
 ghost use Rattle.sdb_app.specs.Promise.{AnswersOnce, Drops, EndsAs, EndsOnce, HasEnded, IsNoCommand, IsWritten, WordsDrop, promise_of};
 
+use crate::alter::alter;
 use crate::bench::bench;
 use crate::export::export;
 use crate::load::load;
@@ -61,7 +62,8 @@ fn answer<S: Registry, R: Source, C: Clock, I: Ids>(
         Command::Load(table, mode, n) => load(alloc, stores, input, clock, ids, table, *mode, *n),
         Command::Export(table) => export(alloc, stores, clock, ids, table),
         Command::Retire(from, to) => retire(alloc, stores, from, to),
-        Command::Alter(_, _, _) | Command::Audit => Err(Status::Usage),
+        Command::Alter(table, name, kind) => alter(alloc, stores, table, name, *kind),
+        Command::Audit => Err(Status::Usage),
     }
 }
 

@@ -78,7 +78,7 @@ impl Status {
             Status::Done => Txt::new(alloc, ""),
             Status::Usage => Txt::new(
                 alloc,
-                "usage: scalardb replay | sql | schema [NS=STORE]... | load NS.TABLE insert|update|upsert N | export NS.TABLE | bench N | retire FROM TO",
+                "usage: scalardb replay | sql | schema [NS=STORE]... | load NS.TABLE insert|update|upsert N | export NS.TABLE | bench N | retire FROM TO | alter NS.TABLE COLUMN KIND",
             ),
             Status::BadInput(n, _) => bad_input(alloc, *n),
             Status::ReadFault => Txt::new(alloc, "read fault"),

@@ -1,4 +1,7 @@
-use Rattle.std.proofs.Common.{IfErr, IfOk, List, refl, subst, sym}
+use Rattle.std.proofs.Common.{IfErr, IfOk, List, length, refl, subst, sym}
+use Rattle.std.specs.Prelude.{nat_le}
+use Rattle.sdb_types.specs.Identifier.{is_identifier}
+use Rattle.sdb_types.proofs.Public.{and_first}
 use Rattle.sdb_app.specs.Types.{Command, Place}
 use Rattle.sdb_app.specs.Schema.{IsSchemaKept, StopsSchema}
 use Rattle.sdb_app.specs.Ends.{draws, stream, work_of, work_on}
@@ -96,6 +99,22 @@ returns-in-Retire-clause-err g c =
     subst (λ (x : Command). IfErr c.retire.result (promise_of x work d).stops) (sym c.in-Retire.is)
     (err_then _ _ c.retire.result (λ s h. (h input, record { clock = refl; ids = refl })) c.retire.ensures.err)
 
+pub returns-in-Alter-clause-answered : goal.returns-in-Alter-clause-answered
+returns-in-Alter-clause-answered g c =
+    let input = stream g.R.Source.remaining g.R.Source.faults c.args.input.now in
+    let work = work_on (g.S.Registry.state c.args.stores.now) (g.S.Registry.state c.alter.new.stores) input in
+    let d = draws g.C.Clock.answered g.I.Ids.answered c.args.clock.now c.args.clock.now c.args.ids.now c.args.ids.now in
+    subst (λ (x : Command). IfOk c.alter.result (λ text. (promise_of x work d).answers text)) (sym c.in-Alter.is)
+    (ok_then _ _ c.alter.result (λ text h. (h input, record { clock = refl; ids = refl })) c.alter.ensures.answered)
+
+pub returns-in-Alter-clause-err : goal.returns-in-Alter-clause-err
+returns-in-Alter-clause-err g c =
+    let input = stream g.R.Source.remaining g.R.Source.faults c.args.input.now in
+    let work = work_on (g.S.Registry.state c.args.stores.now) (g.S.Registry.state c.alter.new.stores) input in
+    let d = draws g.C.Clock.answered g.I.Ids.answered c.args.clock.now c.args.clock.now c.args.ids.now c.args.ids.now in
+    subst (λ (x : Command). IfErr c.alter.result (promise_of x work d).stops) (sym c.in-Alter.is)
+    (err_then _ _ c.alter.result (λ s h. (h input, record { clock = refl; ids = refl })) c.alter.ensures.err)
+
 ---- which stores stay
 
 pub returns-in-Replay-clause-kept : goal.returns-in-Replay-clause-kept
@@ -116,7 +135,14 @@ returns-in-Export-clause-kept g c = Kept c.export.ensures.kept
 pub returns-in-Retire-clause-kept : goal.returns-in-Retire-clause-kept
 returns-in-Retire-clause-kept g c = kept_by c.args.command.now _ _ _ _ c.in-Retire.is c.retire.ensures.kept
 
+pub returns-in-Alter-clause-kept : goal.returns-in-Alter-clause-kept
+returns-in-Alter-clause-kept g c = Kept c.alter.ensures.kept
+
 ---- what the calls require
+
+pub alter-requires-clause-short : goal.alter-requires-clause-short
+alter-requires-clause-short g c =
+    and_first (nat_le (length c.in-Alter.name.now) 64) (is_identifier c.in-Alter.name.now) (subst (λ (x : Command). AnswersOnce (names_of (g.S.Registry.state c.args.stores.now).views) x) c.in-Alter.is c.requires.once)
 
 pub retire-requires : goal.retire-requires
 retire-requires g c = record { may = subst (λ (x : Command). AnswersOnce (names_of (g.S.Registry.state c.args.stores.now).views) x) c.in-Retire.is c.requires.once }
