@@ -125,7 +125,7 @@ const NO_SCHEMA: Refusal = Refusal {
 
 pub const USAGE: Refusal = Refusal {
     end: End::Usage,
-    line: "usage: scalardb replay | sql | schema [NS=STORE]... | load NS.TABLE insert|update|upsert N | export NS.TABLE | bench N | retire FROM TO",
+    line: "usage: scalardb replay | sql | schema [NS=STORE]... | load NS.TABLE insert|update|upsert N | export NS.TABLE | bench N | retire FROM TO | alter NS.TABLE COLUMN KIND",
     code: 2,
 };
 

@@ -126,7 +126,7 @@ static STOPPED: [Call<'static>; 3] = [
         reads_fail: &[],
         writes_fail: &[],
         end: End::Usage,
-        line: "usage: scalardb replay | sql | schema [NS=STORE]... | load NS.TABLE insert|update|upsert N | export NS.TABLE | bench N | retire FROM TO",
+        line: "usage: scalardb replay | sql | schema [NS=STORE]... | load NS.TABLE insert|update|upsert N | export NS.TABLE | bench N | retire FROM TO | alter NS.TABLE COLUMN KIND",
         code: 2,
         written: b"",
     },

@@ -25,7 +25,7 @@ pub const LOADED: &[u8] = b"1 rows 2 written 2 committed\n2 rows 1 written 1 com
 
 pub const EXPORTED: &[u8] = b"customer,note,placed\n1,\"a,b\",200\n1,first,100\n2,\\N,50\n";
 
-const NO_TABLE: Refusal = Refusal {
+pub const NO_TABLE: Refusal = Refusal {
     end: End::NoTable,
     line: "no such table",
     code: 11,
