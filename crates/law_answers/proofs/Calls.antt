@@ -23,9 +23,9 @@ within_more n xs x l = let e : length (xs ++ x ∷ []) ≡ length xs + 1 = lengt
 
 ---- statements
 
-pub call_said : (c : ℕ) (events : List Event) (store : Name) (q : Request) (how : How) (r : Reply) (a : Answer) (front : List Executed) (w : Executed) → statements_by c events ≡ front ++ w ∷ [] → statements_by c (events ++ event.Call c store q how r (Some a) ∷ []) ≡ front ++ executed_with_answer events w a ∷ []
-call_said c events store q how r a front w e =
-    said_more c events (event.Call c store q how r (Some a))
+pub call_said : (c : ℕ) (events : List Event) (m : StoreCall) (a : Answer) (front : List Executed) (w : Executed) → statements_by c events ≡ front ++ w ∷ [] → statements_by c (events ++ event.Call c m.store m.request m.how m.reply (Some a) ∷ []) ≡ front ++ executed_with_answer events w a ∷ []
+call_said c events m a front w e =
+    said_more c events (event.Call c m.store m.request m.how m.reply (Some a))
     ∙ ap (λ t. if t then with_answer (statements_by c events) (1 + length events) a else statements_by c events) (itself c)
     ∙ ap (λ ss. with_answer ss (1 + length events) a) e
     ∙ answer_last front w (1 + length events) a

@@ -76,8 +76,8 @@ outcome_caused catalog events c s id outcome.NoMemory commit e z = tt
 ---- the COMMIT of a transaction
 
 -- what ends the open transaction and reads as COMMIT is its COMMIT
-pub commit_is : (events : List Event) (c n : ℕ) (answered : List Executed) (w : Executed) (t : TxnAt) → n < 2 ^ 64 → statements_by c events ≡ answered ++ w ∷ [] → reads_commit w.text ≡ true → ends w ≡ true → IsOpenAs c n answered t → IsCommitOf events c w t.id
-commit_is events c n answered w t small same commit over o = subst (IsCommitOf events c w) (sym o.id) (client_is c n small, ends_it)
+pub commit_is : (events : List Event) {c n : ℕ} {answered : List Executed} (w : Executed) {t : TxnAt} → n < 2 ^ 64 → statements_by c events ≡ answered ++ w ∷ [] → reads_commit w.text ≡ true → ends w ≡ true → IsOpenAs c n answered t → IsCommitOf events c w t.id
+commit_is events {c} {n} {answered} w small same commit over o = subst (IsCommitOf events c w) (sym o.id) (client_is c n small, ends_it)
   where
     since : from_begin (ordinal_of (id_of c n)) (statements_by (client_of (id_of c n)) events) ≡ o.begin ∷ (o.body ++ w ∷ [])
     since = ap (λ d. from_begin (ordinal_of (id_of c n)) (statements_by d events)) (client_is c n small) ∙ ap (λ k. from_begin k (statements_by c events)) (ordinal_is c n small) ∙ ap (from_begin n) same ∙ since_more n answered w o.begin o.body o.since

@@ -172,6 +172,10 @@ changes_inside t statement.Commit rows all = tt
 changes_inside t statement.Rollback rows all = tt
 changes_inside t statement.Vacuum rows all = tt
 
+-- it leaves what is at a key that its access doesn't read
+pub left_outside : (table : Table) (st : Statement) (s : Seen) (d : Tables) (q : Key) → in_access (access_of table st) q ≡ false → get (with_changes d (changes_on table st (overlay (access_of table st) s))) q ≡ get d q
+left_outside table st s d q none = laid_outside (in_access (access_of table st)) (changes_on table st (overlay (access_of table st) s)) d q (changes_inside table st (overlay (access_of table st) s) (passes_all (λ (r : Image). in_access (access_of table st) r.key) (all_rows (tables_seen s)))) none
+
 ---- a statement whose access reads only rows that fit
 
 module _ (catalog : List Table) (table : Table) (st : Statement) (s : Seen) (is : is_catalog catalog ≡ true) (named : named_table catalog st ≡ Some table) (none : first_unfit table (overlay (access_of table st) s) ≡ None) where
@@ -189,10 +193,6 @@ module _ (catalog : List Table) (table : Table) (st : Statement) (s : Seen) (is 
   access_fits q inside cs found =
       ap (λ (o : Option Table). option_map_or (λ t. fits_table t q cs) o false) (ap (find_table catalog) (inside_access (access_of table st) q inside ∙ own_table table st) ∙ found_itself catalog (table_of st) table named)
       ∙ found_fits table (access_of table st) (tables_seen s) q cs none inside found
-
-  -- it leaves what is at a key that its access doesn't read
-  pub left_outside : (d : Tables) (q : Key) → in_access (access_of table st) q ≡ false → get (with_changes d changes) q ≡ get d q
-  left_outside d q none = laid_outside (in_access (access_of table st)) changes d q (changes_inside table st rows (passes_all (λ (r : Image). in_access (access_of table st) r.key) (all_rows (tables_seen s)))) none
 
   -- its access reads the same rows of the part that fits
   pub rows_fitting : rows_at (access_of table st) part ≡ rows
@@ -214,7 +214,7 @@ module _ (catalog : List Table) (table : Table) (st : Statement) (s : Seen) (is 
 
   module _ (accepted : refusal_of catalog st ≡ None) (literals : has_all_literals st ≡ true) where
     left_fits : tables_are_well_typed catalog (with_changes part changes) ≡ true
-    left_fits = (answers_on catalog (plan_of table st) s (answer_on table st rows) changes is named refl accepted literals (asked_gives (plan_of table st) rows None refl none) part (part_fits catalog (tables_seen s)) rows_fitting).1
+    left_fits = (answers_on catalog (plan_of table st) s is named refl accepted literals (asked_gives (plan_of table st) rows None refl none) part (part_fits catalog (tables_seen s)) rows_fitting).1
 
     -- a row that is left fits, or was there
     pub left_at_key : (q : Key) (cs : List Pair) → get (with_changes (tables_seen s) changes) q ≡ Some cs → (row_is_well_typed catalog q cs ≡ true) ⊎ (get (tables_seen s) q ≡ Some cs)

@@ -130,7 +130,7 @@ module _ (catalog : List Table) (table : Table) (st : Statement) (s : Seen) (is 
   fits_before after =
       by_test (in_access (access_of table st) key)
       (λ inside. fits_any catalog key row (λ cs e. access_fits catalog table st s is named none key inside cs (get_seen s.read_set s.writes key ∙ e)))
-      (λ outside. ap (fits_if_any catalog key) (sym (row_written s changes key ∙ left_outside catalog table st s is named none (tables_seen s) key outside ∙ get_seen s.read_set s.writes key)) ∙ after)
+      (λ outside. ap (fits_if_any catalog key) (sym (row_written s changes key ∙ left_outside table st s (tables_seen s) key outside ∙ get_seen s.read_set s.writes key)) ∙ after)
 
 ---- rows that are answered
 

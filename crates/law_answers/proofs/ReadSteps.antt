@@ -31,7 +31,7 @@ use Rattle.sdb_phases.specs.Work.{abort_of, look_of}
 use Rattle.sdb_txn.specs.Read.{Asking, Bad, Ended, Firm, Kind, Open, ReadStage, Resolving, answered, kind_of, opened, read_pending_at, read_step, request_of, resolved, settle, settle_one}
 use Rattle.law_clients.proofs.Public.{access_table, final_moment, meta_of}
 use Rattle.law_answers.specs.Commits.{IsBadRow, ObservesBad}
-use Rattle.law_answers.specs.Reads.{IsBusyBy, IsFoundBy, IsPhaseBy, LedBy, ReadsBy, ResolvesBy}
+use Rattle.law_answers.specs.Reads.{IsBusyBy, IsFoundBy, IsPhaseBy, LedBy, NextCall, ReadsBy, ResolvesBy}
 use Rattle.law_answers.proofs.Rows.{after_last, reply_now, reply_stays, shows_bad_row}
 use Rattle.sdb_types.specs.Replies.{is_fault}
 
@@ -235,10 +235,14 @@ module _ (events : List Event) (calls : List StoreCall) (m : StoreCall) (older :
   LeavesData (Resolving images rec meta p left) = AllByRecursion (λ r. IsDataTable r.key.table) left
   LeavesData s = Unit {0}
 
-  pub reads_on : (a : Access) (s : ReadStage) → IsDataTable (access_table a) → LeavesData s → ReadsBy calls s → read_pending_at (request_of a) s ≡ Some m.request → CanAnswer m.request m.reply → LedBy events more (read_step s now m.reply)
-  reads_on a Asking k l h e can = let same : m.request ≡ request_of a = sym (some_is (request_of a) m.request e) in answered_is a m.reply k same refl (subst (λ (x : Request). CanAnswer x m.reply) same can)
-  reads_on a (Resolving images rec meta p left) k l h e can = resolved_is images rec meta left p h (recover_next rec meta p now m.reply) l (recovered_is rec meta left p h m.reply e refl can)
-  reads_on a (Ended s) k l h e can = absurd h
+  stage_led : (a : Access) (s : ReadStage) → IsDataTable (access_table a) → LeavesData s → ReadsBy calls s → read_pending_at (request_of a) s ≡ Some m.request → CanAnswer m.request m.reply → LedBy events more (read_step s now m.reply)
+  stage_led a Asking k l h e can = let same : m.request ≡ request_of a = sym (some_is (request_of a) m.request e) in answered_is a m.reply k same refl (subst (λ (x : Request). CanAnswer x m.reply) same can)
+  stage_led a (Resolving images rec meta p left) k l h e can = resolved_is images rec meta left p h (recover_next rec meta p now m.reply) l (recovered_is rec meta left p h m.reply e refl can)
+  stage_led a (Ended s) k l h e can = absurd h
+
+pub reads_on : (n : NextCall) (a : Access) (s : ReadStage) → IsDataTable (access_table a) → LeavesData n.events n.calls n.call n.later n.now n.clock s → ReadsBy n.calls s → read_pending_at (request_of a) s ≡ Some n.call.request → CanAnswer n.call.request n.call.reply
+    → LedBy n.events (n.calls ++ n.call ∷ []) (read_step s n.now n.call.reply)
+reads_on n = stage_led n.events n.calls n.call n.later n.now n.clock
 
 -- a read that ends so has its cause
 pub busy_caused : (events : List Event) (c : ℕ) (s : Executed) (key : Key) (id : TxId) (at : ℤ) → IsBusyBy events (calls_of events c s) key id at → IsBusy events c s key id at

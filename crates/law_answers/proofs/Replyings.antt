@@ -158,7 +158,7 @@ module _ (catalog : List Table) (events : List Event) (states : ℕ → ClientSt
     calls_done b = calls_open c (E (Some b)) (done b) (end_answered (E (Some b)) (done b) b refl ∙ sym (long (Some b))) ∙ later_one (Some b)
 
     said_done : (b : Answer) → statements_by c (E (Some b)) ≡ k.entries ++ done b ∷ []
-    said_done b = call_said c events y.store y.request y.how y.reply b k.entries w said_told
+    said_done b = call_said c events made b k.entries w said_told
 
     begins_none : (b : Answer) → begins (done b) ≡ false
     begins_none b = ap (λ x. x && is_done (Some b)) waits.begin
@@ -360,10 +360,10 @@ module _ (catalog : List Table) (events : List Event) (states : ℕ → ClientSt
         open_at (Ended s) i = absurd i
 
         observed : StageObserves x.request (ms ++ made ∷ []) (read_step x.stage y.now y.reply)
-        observed = shows_on x.request ms made y.now called.moment a x.stage asked.request (open_at x.stage is.stage) is.shows (subst (λ (q : Request). read_pending_at q x.stage ≡ Some made.request) (sym asked.request) pends) called.can
+        observed = shows_on ms y.now called.moment a asked.request (record { stage = x.stage; call = made; pending = subst (λ (q : Request). read_pending_at q x.stage ≡ Some made.request) (sym asked.request) pends }) (open_at x.stage is.stage) is.shows called.can
 
         leads : (result : Option Answer) → LedBy (E result) (ms ++ made ∷ []) (read_step x.stage y.now y.reply)
-        leads result = reads_on (E result) ms made older y.now (clock_now result) a x.stage own (leaves x.stage read_in.stage) is.stage pends called.can
+        leads result = reads_on (record { events = E result; calls = ms; call = made; now = y.now; later = older; clock = clock_now result }) a x.stage own (leaves x.stage read_in.stage) is.stage pends called.can
 
         counted_read : ReadCounted (ms ++ made ∷ []) (read_step x.stage y.now y.reply)
         counted_read = let d : DoingCounted w.text so_id so_noted ms (doing.Read a x) = subst (DoingCounted w.text so_id so_noted ms) reads open_counted in read_more ms made a x.stage y.now own d.1 pends
@@ -371,7 +371,7 @@ module _ (catalog : List Table) (events : List Event) (states : ℕ → ClientSt
         rolled_read : (result : Option Answer) → ReadRolls (E result) (reads_vacuum w.text) (ms ++ made ∷ []) (read_step x.stage y.now y.reply)
         rolled_read result =
             let so : ReadRolls events (reads_vacuum w.text) ms x.stage = subst (DoingRolls events (reads_vacuum w.text) ms) reads (subst (WaitRolls events (reads_vacuum w.text) ms None) some (subst (λ v. WaitRolls events (reads_vacuum w.text) ms v h.txn) free rolls_now)) in
-            read_rolls (E result) (reads_vacuum w.text) ms made older y.now (clock_now result) called.moment (request_of a) x.stage (reads_so_far c events (call_event y result) w x.stage so) pends
+            read_rolls (record { events = E result; calls = ms; call = made; now = y.now; later = older; clock = clock_now result }) (reads_vacuum w.text) called.moment (request_of a) x.stage (reads_so_far c events (call_event y result) w x.stage so) pends
 
         -- what it has noted
         read_so : ReadItemsAre so_noted t.seen.reads t.seen.scans
@@ -584,7 +584,7 @@ module _ (catalog : List Table) (events : List Event) (states : ℕ → ClientSt
         over_done b = ap (λ z. z || is_conflict (Some b) || (reads_rollback w.text && is_done (Some b))) is.text
 
         commit_done : (b : Answer) → IsCommitOf (E (Some b)) c (done b) j.work.id
-        commit_done b = subst (IsCommitOf (E (Some b)) c (done b)) (sym is.same) (commit_is (E (Some b)) c h.begun k.entries (done b) t k.small (said_done b) is.text (over_done b) stands_open.1)
+        commit_done b = subst (IsCommitOf (E (Some b)) c (done b)) (sym is.same) (commit_is (E (Some b)) (done b) k.small (said_done b) is.text (over_done b) stands_open.1)
 
         -- why it ends so
         end_caused : (a : Outcome) → EndsBy j.work.id (ms ++ made ∷ []) a → is_conflict (Some (answer_of_outcome a)) ≡ false → IsCaused catalog (E (Some (answer_of_outcome a))) c (done (answer_of_outcome a)) (answer_of_outcome a)
@@ -744,7 +744,7 @@ module _ (catalog : List Table) (events : List Event) (states : ℕ → ClientSt
       by (Some w) e is = (w, e, is)
 
   asked_by : (t : TxnAt) (p : Planned) (a : Access) (x : ReadAt) → IsReadAt h y.request t p a x → IsAskedBy catalog p a x
-  asked_by t p a x at = asked_at catalog h y.request y.reply y.now called.waiting.fitted t p a x at
+  asked_by t p a x at = asked_at catalog h y.request y.reply y.now called.waiting.fitted at
 
   pub replies_known : (result : Option Answer) (d : Client) → Step h (Receives y.request y.reply y.now) result d → So result d
   replies_known result d (ReadGoesOn t p a x at more) = let w = reads_for t p a x at in read_goes_on w.0 w.1 t at.opened at.free p a x at.plan at.doing (asked_by t p a x at) w.2 (read_step x.stage y.now y.reply) refl more

@@ -32,6 +32,7 @@ use Rattle.law_clients.proofs.Public.{meta_of, state_says}
 use Rattle.sdb_vacuum.specs.declared.work.VacuumStep.TheVariants as vacuuming
 use Rattle.sdb_vacuum.specs.Vacuum as vacuum
 use Rattle.sdb_vacuum.specs.Vacuum.{First, Malformed, Nothing, Tombstone, Unresolved, VacuumAt, VacuumStage, first_of, first_one, next_of_row, with_call, next_table, pending_at, removal_answered, step_at, tombstone_or}
+use Rattle.law_answers.specs.Reads.{NextCall}
 use Rattle.law_answers.specs.Rolled.{HasLooked, IsDealtWith, IsRolledBy, PhaseLooks, ReadRolls, RolledBut, VacuumRolls}
 use Rattle.law_answers.proofs.ReadSteps.{open_is, prepared_moment}
 use Rattle.law_answers.proofs.Rows.{after_last, after_more, asks_row, shown_is}
@@ -247,11 +248,11 @@ module _ (events : List Event) (vacuums : Bool) (calls : List StoreCall) (m : St
     resolved_rolls images left f h (x, steps.BadRecord key) c = tt
     resolved_rolls images left f h (x, steps.NoMemory) c = tt
 
-  pub read_rolls : (now : ℤ) → clock_at events m.at ≡ now → is_moment now ≡ true → (q : Request) (s : ReadStage) → ReadRolls events vacuums calls s → read_pending_at q s ≡ Some m.request → ReadRolls events vacuums more (read_step s now m.reply)
-  read_rolls now clock moment q Asking h e = answered_rolls m.reply (rows_add m.reply refl h)
-  read_rolls now clock moment q (Resolving images rec meta p left) h e =
+  stage_rolls : (now : ℤ) → clock_at events m.at ≡ now → is_moment now ≡ true → (q : Request) (s : ReadStage) → ReadRolls events vacuums calls s → read_pending_at q s ≡ Some m.request → ReadRolls events vacuums more (read_step s now m.reply)
+  stage_rolls now clock moment q Asking h e = answered_rolls m.reply (rows_add m.reply refl h)
+  stage_rolls now clock moment q (Resolving images rec meta p left) h e =
       resolved_rolls now clock moment rec meta h.1 images left (recovery_unread rec meta p m e) h.0 (recover_next rec meta p now m.reply) (recovered_comes now clock moment rec meta h.1 p h.2 e)
-  read_rolls now clock moment q (Ended s) h e = none_some m.request e
+  stage_rolls now clock moment q (Ended s) h e = none_some m.request e
 
   ---- a VACUUM
 
@@ -339,3 +340,6 @@ module _ (events : List Event) (vacuums : Bool) (calls : List StoreCall) (m : St
       resolved_sweeps now clock moment rec meta h.1 is ss n left (recovery_unread rec meta p m e) h.0 (recover_next rec meta p now m.reply) (recovered_comes now clock moment rec meta h.1 p h.2 e)
   sweep_rolls now clock moment is ss n (vacuum.Removing b left) h e = removal_sweeps ss n left m.reply (but_stays left (asks_unread b (id_in b.columns) e) h)
   sweep_rolls now clock moment is ss n vacuum.Over h e = none_some m.request e
+
+pub read_rolls : (n : NextCall) (vacuums : Bool) → is_moment n.now ≡ true → (q : Request) (s : ReadStage) → ReadRolls n.events vacuums n.calls s → read_pending_at q s ≡ Some n.call.request → ReadRolls n.events vacuums (n.calls ++ n.call ∷ []) (read_step s n.now n.call.reply)
+read_rolls n vacuums = stage_rolls n.events vacuums n.calls n.call n.later n.now n.clock

@@ -27,6 +27,7 @@ use Rattle.sdb_phases.proofs.Public.{by_expiry, by_row, by_rows_recover_rows as 
 use Rattle.sdb_phases.specs.Work.{abort_of, look_of}
 use Rattle.sdb_txn.specs.Read.{Asking, Bad, Ended, Firm, Kind, Open, ReadStage, Resolving, answered, kind_of, opened, read_pending_at, read_step, request_of, resolved, settle, settle_one}
 use Rattle.law_clients.proofs.Public.{abort_rolls_none, back_rolls_to, before_key, coordinators, each_more, each_of, find_last, find_more, forward_rolls_to, IsRollTo, look_rolls_none, meta_of, read_unrolled, rolls_none_after, unrolled_more}
+use Rattle.law_answers.specs.Reads.{WaitingRead}
 use Rattle.law_answers.specs.Changes.{HasRead, HasObserved, IsRolledAs, IsRows, IsSettledAs, PhaseObserves, StageObserves}
 use Rattle.law_answers.proofs.ReadSteps.{open_is}
 use Rattle.law_answers.proofs.Rows.{asks_row, shown_is}
@@ -323,7 +324,11 @@ module _ (q : Request) (calls : List StoreCall) (m : StoreCall) (now : ℤ) (mom
   IsOpenAt (Resolving images rec meta p left) = kind_of rec ≡ Open meta
   IsOpenAt s = Unit {0}
 
-  pub shows_on : (a : Access) (s : ReadStage) → q ≡ request_of a → IsOpenAt s → StageObserves q calls s → read_pending_at q s ≡ Some m.request → CanAnswer m.request m.reply → StageObserves q more (read_step s now m.reply)
-  shows_on a Asking is o h e can = let same : m.request ≡ q = sym (some_is q m.request e) in answered_shows a m.reply is h same refl (subst (λ (x : Request). CanAnswer x m.reply) same can)
-  shows_on a (Resolving images rec meta p left) is o h e can = resolved_shows images rec meta left o h.0 (recover_next rec meta p now m.reply) (recovered_shows images rec meta left o h.0 p h.1 e)
-  shows_on a (Ended s) is o h e can = absurd (cc)
+  stage_shows : (a : Access) (s : ReadStage) → q ≡ request_of a → IsOpenAt s → StageObserves q calls s → read_pending_at q s ≡ Some m.request → CanAnswer m.request m.reply → StageObserves q more (read_step s now m.reply)
+  stage_shows a Asking is o h e can = let same : m.request ≡ q = sym (some_is q m.request e) in answered_shows a m.reply is h same refl (subst (λ (x : Request). CanAnswer x m.reply) same can)
+  stage_shows a (Resolving images rec meta p left) is o h e can = resolved_shows images rec meta left o h.0 (recover_next rec meta p now m.reply) (recovered_shows images rec meta left o h.0 p h.1 e)
+  stage_shows a (Ended s) is o h e can = absurd (cc)
+
+pub shows_on : {q : Request} (calls : List StoreCall) (now : ℤ) (moment : is_moment now ≡ true) (a : Access) → q ≡ request_of a → (r : WaitingRead q) → IsOpenAt q calls r.call now moment r.stage → StageObserves q calls r.stage → CanAnswer r.call.request r.call.reply
+    → StageObserves q (calls ++ r.call ∷ []) (read_step r.stage now r.call.reply)
+shows_on {q} calls now moment a is r o h can = stage_shows q calls r.call now moment a r.stage is o h r.pending can

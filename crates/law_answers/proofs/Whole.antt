@@ -7,27 +7,26 @@ use Rattle.std.proofs.lemmas.Bool.{eqb-false, eqb-true, ne_eqb}
 use Rattle.std.proofs.lemmas.List.{append-nil, append_assoc}
 use Rattle.std.proofs.lemmas.List.Elements.{Contains-append_cases, Contains-append_right, Contains-push, Contains-push_cases}
 use Rattle.law_answers.specs.Types.{Access, Answer, Event, How, Key, Record, Reply, Request, Table}
-use Rattle.sdb_record.specs.Meta.{is_moment}
-use Rattle.sdb_schema.specs.Catalog.{is_catalog}
 use Rattle.sdb_model.specs.declared.answer.Answer.TheVariants as answer
 use Rattle.sdb_model.specs.declared.event.Event.TheVariants as event
 use Rattle.sdb_model.specs.Rows.{Name}
-use Rattle.sdb_model.specs.Calls.{calls_of, made_by, is_stored_reply}
+use Rattle.sdb_model.specs.Calls.{calls_of, made_by}
 use Rattle.sdb_model.specs.ReadSet.{read_set_of}
 use Rattle.sdb_model.specs.Sql.{reads_commit}
 use Rattle.sdb_model.specs.Causes.{ConflictsAtCommit, IsCaused, IsCommitOf, IsConflict, IsRejected, before}
-use Rattle.sdb_model.specs.Exec.{Tables, find_table}
+use Rattle.sdb_model.specs.Exec.{Tables}
 use Rattle.sdb_model.specs.Follows.{has_stopped, stops}
 use Rattle.sdb_model.specs.Transactions.{Executed, ends, from_begin, id_of, is_conflict, ordinal_of, rest_of, statements_by, statements_of, through_end, with_answer}
-use Rattle.sdb_client.specs.Client.{ClientAt as Client, Taking, nothing_done, next_id}
-use Rattle.sdb_client.specs.Step.{Receives, Step, Takes}
+use Rattle.sdb_client.specs.Client.{ClientAt as Client, nothing_done}
+use Rattle.sdb_client.proofs.Public.{step_of_reply, step_of_text}
+use Rattle.law_clients.specs.Turns.{CallReplied, TextExecuted, reply_event, states_after_reply, states_after_text, take_event}
+use Rattle.law_answers.specs.Turns.{CauseInvariantAtReply, CauseInvariantAtTake, IsGatedTake, IsStoredReply}
 use Rattle.sdb_snapshot.specs.Sets.{WereRead}
-use Rattle.law_clients.specs.About.{IsOfTables}
-use Rattle.law_clients.specs.States.{ClientState, IsCalled, IsReady, doing_of, system_of, with_state}
+use Rattle.law_clients.specs.States.{ClientState, IsReady, doing_of, system_of, with_state}
 use Rattle.law_clients.specs.History.{executed_of_take, waiting_of}
 use Rattle.law_clients.proofs.Public.{said_more}
 use Rattle.law_clients.specs.Machine.{abstract_read}
-use Rattle.law_clients.specs.System.{ClientCall, ClientOk, Open, Reading, call_event}
+use Rattle.law_clients.specs.System.{ClientOk, Open, Reading}
 use Rattle.law_clients.specs.Reads.{IsScanOk}
 use Rattle.sdb_validate.specs.Rescan.{reads_rise}
 use Rattle.law_clients.specs.Invariant.{RunInvariant}
@@ -35,7 +34,7 @@ use Rattle.sdb_txn.specs.Read.{ReadAt}
 use Rattle.sdb_txn.specs.declared.txn.Doing.TheVariants as doing
 use Rattle.sdb_txn.specs.Txn.{TxnAt}
 use Rattle.sdb_types.proofs.Public.{all_each as each_any, itself, none_some, or_false, some_is}
-use Rattle.law_answers.specs.Invariant.{AnswersHaveCauses, IsAnswered, CauseInvariant, IsGate, IsWaiting, Knows, with_stopped}
+use Rattle.law_answers.specs.Invariant.{AnswersHaveCauses, IsAnswered, CauseInvariant, IsWaiting, Knows, with_stopped}
 use Rattle.law_answers.proofs.Calls.{clock_more}
 use Rattle.law_answers.proofs.Knowing.{knows_still}
 use Rattle.law_answers.specs.Counts.{CommitsAreCounted}
@@ -49,7 +48,6 @@ use Rattle.law_answers.proofs.Replyings.{replies_known}
 use Rattle.law_answers.proofs.Rolled.{records_rolled}
 use Rattle.law_answers.proofs.ShowsWhole.{rows_shown}
 use Rattle.law_answers.proofs.Takings.{takes_known}
-use Rattle.sdb_model.specs.Tables.{is_data}
 
 ---- who has stopped
 
@@ -115,17 +113,16 @@ going_taken catalog fit es states g c ready t some = record { answered = record 
     ok : ClientOk g.plan g.past c (Open t.id t.seen)
     ok = subst (ClientOk g.plan g.past c) here (g.system.each c)
 
-pub takes_all : (q : Taking) (events : List Event) (states : ℕ → ClientState) (c : ℕ) (text : List ℕ) (result : Option Answer) (d : Client) → CauseInvariant q.catalog events q.now states → IsReady states c → IsGate states c q.gate → is_moment q.now ≡ true → is_catalog q.catalog ≡ true → (es : List Event) (fit : Tables → Bool) → RunInvariant q.catalog fit es (system_of states) (doing_of states) → ((x : Key) → is_some (find_table q.catalog x.table) ≡ true → is_data x ≡ true) → q.fresh ≡ next_id (states c).client → d.begun < 2 ^ 64 → Step (states c).client (Takes q text) result d
-    → CauseInvariant q.catalog (events ++ event.Take c text result ∷ []) q.now (with_state states c d)
-takes_all q events states c text result d ex ready gate moment is es fit g apart numbered few x = record {
-  clock = clock_more events (event.Take c text result) ∙ ex.clock;
-  stopped = none_stops q.catalog events (event.Take c text result) states c d ex.stopped ready.goes_on (λ n. refl);
-  each = moved_all q.catalog events (event.Take c text result) states c d ex.each (takes_known q events states ex c ready gate moment is (λ t some. going_taken q.catalog fit es states g c ready t some) apart text numbered result d few x) (λ n apart. take_apart n c events text result apart) (λ n apart. refl);
+pub takes_all : (t : TextExecuted) (events : List Event) → IsGatedTake t → CauseInvariantAtTake t events t.states → CauseInvariantAtTake t (events ++ take_event t ∷ []) (states_after_text t)
+takes_all t events may ex = record {
+  clock = clock_more events (take_event t) ∙ ex.clock;
+  stopped = none_stops t.q.catalog events (take_event t) t.states t.client t.after ex.stopped t.ready.goes_on (λ n. refl);
+  each = moved_all t.q.catalog events (take_event t) t.states t.client t.after ex.each (takes_known t.q events t.states ex t.client t.ready may.gate t.moment t.of_data.is (λ u some. going_taken t.q.catalog may.reached.fit may.reached.events t.states may.reached.running t.client t.ready u some) t.of_data.apart t.text t.numbered t.result t.after t.few (step_of_text t.q t.text (t.states t.client).client t.result t.after t.takes)) (λ n apart. take_apart n t.client events t.text t.result apart) (λ n apart. refl);
 }
 
 -- what a client that reads has read says what is noted, and it had read what it wrote
-pub going_told : (catalog : List Table) (fit : Tables → Bool) (es : List Event) (states : ℕ → ClientState) (g : RunInvariant catalog fit es (system_of states) (doing_of states)) (c : ℕ) → (states c).stopped ≡ false → (states c).client.vacuum ≡ None → (t : TxnAt) (a : Access) (x : ReadAt) → (states c).client.txn ≡ Some t → t.doing ≡ doing.Read a x → IsTold t.seen × WereRead t.seen.read_set t.seen.writes
-going_told catalog fit es states g c goes_on free t a x some reads = (record { reads = ok.1.reads; found = ok.1.found; as_read = ok.1.as_read }, ok.1.kept.read)
+pub going_told : {catalog : List Table} {fit : Tables → Bool} {es : List Event} (states : ℕ → ClientState) (g : RunInvariant catalog fit es (system_of states) (doing_of states)) (c : ℕ) → (states c).stopped ≡ false → (states c).client.vacuum ≡ None → {t : TxnAt} {a : Access} {x : ReadAt} → (states c).client.txn ≡ Some t → t.doing ≡ doing.Read a x → IsTold t.seen × WereRead t.seen.read_set t.seen.writes
+going_told states g c goes_on free {t} {a} {x} some reads = (record { reads = ok.1.reads; found = ok.1.found; as_read = ok.1.as_read }, ok.1.kept.read)
   where
     here : (system_of states).clients c ≡ Reading t.id t.seen a (abstract_read x.stage)
     here = rw (goes_on, free, some, reads) refl
@@ -133,12 +130,11 @@ going_told catalog fit es states g c goes_on free t a x some reads = (record { r
     ok : ClientOk g.plan g.past c (Reading t.id t.seen a (abstract_read x.stage))
     ok = subst (ClientOk g.plan g.past c) here (g.system.each c)
 
-pub replies_all : (catalog : List Table) (events : List Event) (states : ℕ → ClientState) (y : ClientCall) (result : Option Answer) (d : Client) → is_catalog catalog ≡ true → ((k : Key) → is_some (find_table catalog k.table) ≡ true → is_data k ≡ true) → IsCalled catalog states y → is_stored_reply y.reply ≡ true → IsOfTables catalog (states y.client).client → (es : List Event) (fit : Tables → Bool) → RunInvariant catalog fit es (system_of states) (doing_of states) → CauseInvariant catalog events y.now states
-    → Step (states y.client).client (Receives y.request y.reply y.now) result d → CauseInvariant catalog (events ++ call_event y result ∷ []) y.now (with_state states y.client d)
-replies_all catalog events states y result d is apart called stored about es fit g ex x = record {
-  clock = clock_more events (call_event y result) ∙ ex.clock;
-  stopped = none_stops catalog events (call_event y result) states y.client d ex.stopped called.waiting.goes_on (λ n. refl);
-  each = moved_all catalog events (call_event y result) states y.client d ex.each (replies_known catalog events states y ex called about apart (going_told catalog fit es states g y.client called.waiting.goes_on) is stored result d x) (λ n other. call_apart n y.client events y.store y.request y.how y.reply result other) (λ n other. call_unmade n y.client (1 + length events) y.store y.request y.how y.reply result other);
+pub replies_all : (r : CallReplied) (events : List Event) → IsStoredReply r → CauseInvariantAtReply r events r.states → CauseInvariantAtReply r (events ++ reply_event r ∷ []) (states_after_reply r)
+replies_all r events may ex = record {
+  clock = clock_more events (reply_event r) ∙ ex.clock;
+  stopped = none_stops r.catalog events (reply_event r) r.states r.call.client r.after ex.stopped r.called.waiting.goes_on (λ n. refl);
+  each = moved_all r.catalog events (reply_event r) r.states r.call.client r.after ex.each (replies_known r.catalog events r.states r.call ex r.called may.about r.of_data.apart (λ free t a x some reads. going_told r.states may.reached.running r.call.client r.called.waiting.goes_on free some reads) r.of_data.is may.stored r.result r.after (step_of_reply (r.states r.call.client).client r.call.request r.call.reply r.call.now r.called.waiting.pending r.result r.after r.answered)) (λ n other. call_apart n r.call.client events r.call.store r.call.request r.call.how r.call.reply r.result other) (λ n other. call_unmade n r.call.client (1 + length events) r.call.store r.call.request r.call.how r.call.reply r.result other);
 }
 
 ---- the other events

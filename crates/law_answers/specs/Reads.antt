@@ -1,14 +1,14 @@
 -- The stage of a read by the calls of its statement, and why it ends so.
-use Rattle.std.specs.Prelude.{◌≡◌, ℤ, true, false, List, ◌∷◌, Contains}
+use Rattle.std.specs.Prelude.{◌≡◌, ◌<◌, ℤ, true, false, List, ◌∷◌, Contains, Some}
 use Rattle.std.specs.List.{AllByRecursion}
-use Rattle.law_answers.specs.Types.{Event, Key, Meta, ReadStep, Record, RecoverPhase, TxId}
+use Rattle.law_answers.specs.Types.{Event, Key, Meta, ReadStep, Record, RecoverPhase, Request, TxId}
 use Rattle.sdb_record.specs.Coordinator.{is_coordinator_table}
-use Rattle.sdb_model.specs.Calls.{StoreCall, is_read, records_read}
+use Rattle.sdb_model.specs.Calls.{StoreCall, clock_at, is_read, records_read}
 use Rattle.sdb_model.specs.Causes.{HasReply, IsEarly}
 use Rattle.sdb_model.specs.Events.{table_asked}
 use Rattle.sdb_phases.specs.declared.step.RecoverPhase.TheVariants as phase
 use Rattle.sdb_txn.specs.declared.read.ReadStep.TheVariants as step
-use Rattle.sdb_txn.specs.Read.{Asking, Ended, Open, ReadStage, Resolving, kind_of}
+use Rattle.sdb_txn.specs.Read.{Asking, Ended, Open, ReadStage, Resolving, kind_of, read_pending_at}
 use Rattle.law_answers.specs.Commits.{ObservesBad}
 use Rattle.sdb_types.specs.Replies.{is_fault}
 
@@ -57,3 +57,18 @@ ReadsBy calls (Ended s) = ⊥
 abbrev pub LedBy : List Event → List StoreCall → ReadStage → Type 0
 LedBy events calls (Ended s) = GivenBy events calls s
 LedBy events calls s = ReadsBy calls s
+
+-- The calls of a statement so far and its next one, which is after all of them, and the moment that the clock shows at it.
+pub record NextCall : Type 0 where
+  pub events : List Event
+  pub calls : List StoreCall
+  pub call : StoreCall
+  pub now : ℤ
+  pub later : AllByRecursion (λ m. m.at < call.at) calls
+  pub clock : clock_at events call.at ≡ now
+
+-- A read with that request is at a stage at which this call is pending.
+pub record WaitingRead (q : Request) : Type 0 where
+  pub stage : ReadStage
+  pub call : StoreCall
+  pub pending : read_pending_at q stage ≡ Some call.request

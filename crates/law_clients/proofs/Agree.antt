@@ -15,7 +15,7 @@ some_is x y e = cc
 shown_is : (plan : ℕ → Plan) (places : List Place) (opening : List StoreContents) (past : List Labelled) (ss : List (List StoreContents)) (t : ℕ) (d : Decision) (m : ℤ) → IsRunOf plan places opening past ss → t < 2 ^ 128 → IsRowObserved past t d m → (history plan places opening past ss).row t ≡ Some d
 shown_is plan places opening past ss t d m run fits row =
     let all = whole_of plan places opening past ss run in
-    (row_known plan (history plan places opening past ss) past t d m all.knows.observed (all.knows.moments t) fits row).0
+    (row_known past t d m all.knows.observed (all.knows.moments t) fits row).0
 
 pub rows_agree : (plan : ℕ → Plan) (places : List Place) (opening : List StoreContents) (past : List Labelled) (ss : List (List StoreContents)) (t : ℕ) (c d : Decision) (m n : ℤ) → IsRunOf plan places opening past ss → t < 2 ^ 128 → IsRowObserved past t c m → IsRowObserved past t d n → c ≡ d
 rows_agree plan places opening past ss t c d m n run fits a b = some_is c d (sym (shown_is plan places opening past ss t c m run fits a) ∙ shown_is plan places opening past ss t d n run fits b)

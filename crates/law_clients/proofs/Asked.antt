@@ -102,7 +102,7 @@ module _ (catalog : List Table) (events : List Event) (states : ℕ → ClientSt
       moved catalog (tables_are_well_typed catalog) states c (holding now (written t ks)) (taken_so (Some b)) ready.idle.free refl
       (subst (λ (x : ClientAt). RunInvariant catalog (tables_are_well_typed catalog) (taken_so (Some b)) (with_client (system_of states) c x) (at (doing_of states) c None)) (sym by_doing)
       (going_answers catalog (tables_are_well_typed catalog) events (system_of states) (doing_of states) g c t.id t.seen here text b st a ks rows k.no_commit k.reads (covered_is t.seen a covered)
-      (answers_on catalog p t.seen b ks k.is k.named refl k.accepted k.literals step) changes))
+      (answers_on catalog p t.seen k.is k.named refl k.accepted k.literals step) changes))
     where
       by_doing : abstract_txn (Some (written t ks)) ≡ Open t.id (with_written t.seen ks)
       by_doing = rw idle refl

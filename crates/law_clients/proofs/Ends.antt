@@ -64,7 +64,7 @@ run_told catalog fit plan places opening labelled ss ran order run faithful orde
     bodies = map (λ t. (ran t).body) (ordinals_of order)
 
     runs : (e : Tables) × RunsWhole catalog fit plan ran (ordinals_of order) empty e × ContainsTables places (closing opening ss) e
-    runs = order_runs catalog fit plan places opening (newest_first labelled) ss ran (ordinals_of order) run (ordered_of plan places opening labelled ss order run faithful ordered small) (each_any (λ t. ExecutionOk catalog fit plan (newest_first labelled) t (ran t) × BodyIsExecuted (events_of labelled) t (ran t)) (λ t. ExecutionOk catalog fit plan (newest_first labelled) t (ran t)) (ordinals_of order) (λ t h. h.0) all) fitting.starts
+    runs = order_runs catalog fit ran (ordinals_of order) run (ordered_of labelled order run faithful ordered small) (each_any (λ t. ExecutionOk catalog fit plan (newest_first labelled) t (ran t) × BodyIsExecuted (events_of labelled) t (ran t)) (λ t. ExecutionOk catalog fit plan (newest_first labelled) t (ran t)) (ordinals_of order) (λ t h. h.0) all) fitting.starts
 
     true_answers : Rattle.law_protocol.specs.Faithful.AnswersAreTrue places (events_of labelled) (closing opening ss)
     true_answers = answers_true plan places opening labelled ss run faithful

@@ -118,8 +118,8 @@ rows_read_idle t (access.Scan span) images = refl
 
 module _ (catalog : List Table) (c : Client) (q : Request) (r : Reply) (now : ℤ) (fitted : IsFitted catalog c) where
   -- the statement that reads
-  pub asked_at : (t : TxnAt) (p : Planned) (a : Access) (x : ReadAt) → IsReadAt c q t p a x → IsAskedBy catalog p a x
-  asked_at t p a x at =
+  pub asked_at : {t : TxnAt} {p : Planned} {a : Access} {x : ReadAt} → IsReadAt c q t p a x → IsAskedBy catalog p a x
+  asked_at {a} {x} at =
       subst (λ (o : Option Planned). IsUsing catalog (doing.Read a x) o) at.plan (subst (λ (d : Doing). IsUsing catalog d c.plan) at.doing
       (subst (λ (o : Option TxnAt). IsUsingTxn catalog o c.plan) at.opened (subst (λ (v : Option VacuumAt). IsFittedBy catalog v c) at.free fitted)))
 
@@ -129,7 +129,7 @@ module _ (catalog : List Table) (c : Client) (q : Request) (r : Reply) (now : �
 
   pub replies_fitted : (result : Option Answer) (d : Client) → Step c (Receives q r now) result d → IsAfter catalog c result d
   replies_fitted result d (ReadGoesOn t p a x at more) =
-      let k = asked_at t p a x at in
+      let k = asked_at at in
       so_reads catalog c t p a (record x { stage = read_step x.stage now r }) c.plan at.free at.plan (record { named = k.named; asked = k.asked; accepted = k.accepted; literals = k.literals; access = k.access; request = k.request })
   replies_fitted result d (ReadEnds t p a x images at ends is_asked as_read) =
       so_left catalog c _ _ at.free (left_idle (with_rows_read t a images) (gives p a (with_rows_read t a images)) (rows_read_idle t a images))

@@ -19,13 +19,14 @@ use Rattle.sdb_record.specs.declared.coordinator.Decision.TheVariants.{Committed
 use Rattle.law_protocol.specs.History.{History}
 use Rattle.law_protocol.specs.Lawful.{Labelled, id, protocol_state}
 use Rattle.law_protocol.specs.Plan.{Plan}
-use Rattle.law_protocol.specs.Trace.{IsTraced, StartsEmpty, closing, history}
+use Rattle.law_protocol.specs.Trace.{IsTraced, closing, history}
 use Rattle.law_protocol.proofs.Public.{recorded_row, traced_of, whole_of}
+use Rattle.law_clients.specs.Progress.{Ending, outcome_with}
 use Rattle.law_clients.specs.System.{SystemAt}
 use Rattle.law_clients.proofs.Begin.{taken_begun}
 use Rattle.law_clients.specs.Reads.{work_of}
 use Rattle.law_clients.specs.Filed.{number}
-use Rattle.law_clients.specs.Left.{Execution, ExecutionOk, BodyIsExecuted, IsFitting, ordinals_of}
+use Rattle.law_clients.specs.Left.{Execution, ExecutionOk, BodyIsExecuted, ordinals_of}
 use Rattle.law_clients.specs.Linked.{HaveStories}
 use Rattle.law_clients.specs.Story.{Closed, Finished, IsWellFormedStory, MayCome, Opened, Rest, all_of, txn_ended_at, statements_in, saids_of, settle}
 use Rattle.law_clients.specs.History.{OpenFiled, HistoryInvariant, ClientHistory, begun_in, count_of, waiting_of}
@@ -189,35 +190,33 @@ length_ids [] = refl
 length_ids (p ∷ ps) = ap suc (length_ids ps)
 
 -- Events of any number of clients that are tied to them, follow a script's moves, and agree with stores whose tables began empty, are a run.
-pub going_is_run : (script : Script) (fit : Tables → Bool) (events : List Event) (sys : SystemAt) (doing : ℕ → Option Statement) (opening end : List StoreContents) (moments : List (List StoreContents)) (order : List Point) → IsFitting script.catalog fit → RunInvariant script.catalog fit events sys doing
-    → Follows script events → IsTrace script.places events opening moments end → StartsEmpty script.places opening → IsOrder script.places events end order → All (λ (p : Point). p.id.0 < 2 ^ 128) order
-    → (tables : List TableDump) × IsRun script opening end (record { events = events; order = order; tables = tables })
-going_is_run script fit events sys doing opening end moments order fitting g follows trace empty ordered small =
-    subst (λ es. (tables : List TableDump) × IsRun script opening end (record { events = es; order = order; tables = tables })) (sym g.same)
-    (linked_run script fit g.labelled opening end moments order fitting linked (subst (Follows script) g.same follows) (subst (λ es. IsTrace script.places es opening moments end) g.same trace) empty (subst (λ es. IsOrder script.places es end order) g.same ordered) small)
+pub going_is_run : (script : Script) (e : Ending script) → (tables : List TableDump) × IsRun script e.opening e.closing (outcome_with e tables)
+going_is_run script e =
+    subst (λ es. (tables : List TableDump) × IsRun script e.opening e.closing (record { events = es; order = e.order; tables = tables })) (sym e.running.same)
+    (linked_run script e.fit e.running.labelled e.opening e.closing e.moments e.order e.fitting linked (subst (Follows script) e.running.same e.follows) (subst (λ es. IsTrace script.places es e.opening e.moments e.closing) e.running.same e.traced) e.empty (subst (λ es. IsOrder script.places es e.closing e.order) e.running.same e.ordered) e.ids)
   where
-    turned : IsTraced script.places opening (newest_first g.labelled) (newest_first moments) × (closing opening (newest_first moments) ≡ end)
-    turned = traced_of script.places opening g.labelled moments end (subst (λ es. IsTrace script.places es opening moments end) g.same trace)
+    turned : IsTraced script.places e.opening (newest_first e.running.labelled) (newest_first e.moments) × (closing e.opening (newest_first e.moments) ≡ e.closing)
+    turned = traced_of script.places e.opening e.running.labelled e.moments e.closing (subst (λ es. IsTrace script.places es e.opening e.moments e.closing) e.running.same e.traced)
 
-    run : IsRunOf g.plan script.places opening g.past (newest_first moments)
-    run = subst (λ ps. IsRunOf g.plan script.places opening ps (newest_first moments)) (sym g.turned) (record { empty = empty; lawful = subst (Rattle.law_protocol.specs.Lawful.IsLawful g.plan) g.turned g.system.lawful; traced = turned.0 })
+    run : IsRunOf e.running.plan script.places e.opening e.running.past (newest_first e.moments)
+    run = subst (λ ps. IsRunOf e.running.plan script.places e.opening ps (newest_first e.moments)) (sym e.running.turned) (record { empty = e.empty; lawful = subst (Rattle.law_protocol.specs.Lawful.IsLawful e.running.plan) e.running.turned e.running.system.lawful; traced = turned.0 })
 
-    accepted : All (λ (p : Point). (protocol_state g.past).accepted p.id.0 ≡ true) order
+    accepted : All (λ (p : Point). (protocol_state e.running.past).accepted p.id.0 ≡ true) e.order
     accepted k d l =
-        let p : Point = slice_index_or order k d in
-        let among : Contains (map (λ (q : Point). q.id) order) p.id = (k, subst (λ m. k < m) (sym (length_ids order)) l, index_map order k d p l) in
-        let recorded : Recorded script.places end p.id = (ordered.recorded p.id (small k d l)).0 among in
-        taken_of g.plan script.places opening g.past (newest_first moments) p.id.0 run (small k d l) (subst (λ s. Recorded script.places s p.id) (sym turned.1) recorded)
+        let p : Point = slice_index_or e.order k d in
+        let among : Contains (map (λ (q : Point). q.id) e.order) p.id = (k, subst (λ m. k < m) (sym (length_ids e.order)) l, index_map e.order k d p l) in
+        let recorded : Recorded script.places e.closing p.id = (e.ordered.recorded p.id (e.ids k d l)).0 among in
+        taken_of e.running.plan script.places e.opening e.running.past (newest_first e.moments) p.id.0 run (e.ids k d l) (subst (λ s. Recorded script.places s p.id) (sym turned.1) recorded)
 
-    linked : HaveStories script.catalog fit g.labelled order
+    linked : HaveStories script.catalog e.fit e.running.labelled e.order
     linked = record {
-      plan = g.plan;
-      sys = sys;
-      answered = g.answered;
-      ran = ran_of script.catalog fit events sys doing g;
-      system = subst (λ ps. Rattle.law_clients.specs.System.SystemOk g.plan ps sys) g.turned g.system;
-      stories = subst (λ ps. Rattle.law_clients.specs.History.AllStories (events_of g.labelled) ps sys g.answered) g.turned (subst (λ es. Rattle.law_clients.specs.History.AllStories es g.past sys g.answered) g.same g.stories);
-      bodies = subst (λ ps. Rattle.law_clients.specs.Left.AllBodiesExecuted script.catalog fit g.plan (events_of g.labelled) ps (ran_of script.catalog fit events sys doing g) (ordinals_of order)) g.turned (subst (λ es. Rattle.law_clients.specs.Left.AllBodiesExecuted script.catalog fit g.plan es g.past (ran_of script.catalog fit events sys doing g) (ordinals_of order)) g.same
-          (all_ids (λ t. ExecutionOk script.catalog fit g.plan g.past t (ran_of script.catalog fit events sys doing g t) × BodyIsExecuted events t (ran_of script.catalog fit events sys doing g t)) order
-          (all_by (λ (p : Point). ExecutionOk script.catalog fit g.plan g.past p.id.0 (ran_of script.catalog fit events sys doing g p.id.0) × BodyIsExecuted events p.id.0 (ran_of script.catalog fit events sys doing g p.id.0)) order (λ k d l. done script.catalog fit events sys doing g (slice_index_or order k d).id.0 (accepted k d l)))));
+      plan = e.running.plan;
+      sys = e.sys;
+      answered = e.running.answered;
+      ran = ran_of script.catalog e.fit e.events e.sys e.doing e.running;
+      system = subst (λ ps. Rattle.law_clients.specs.System.SystemOk e.running.plan ps e.sys) e.running.turned e.running.system;
+      stories = subst (λ ps. Rattle.law_clients.specs.History.AllStories (events_of e.running.labelled) ps e.sys e.running.answered) e.running.turned (subst (λ es. Rattle.law_clients.specs.History.AllStories es e.running.past e.sys e.running.answered) e.running.same e.running.stories);
+      bodies = subst (λ ps. Rattle.law_clients.specs.Left.AllBodiesExecuted script.catalog e.fit e.running.plan (events_of e.running.labelled) ps (ran_of script.catalog e.fit e.events e.sys e.doing e.running) (ordinals_of e.order)) e.running.turned (subst (λ es. Rattle.law_clients.specs.Left.AllBodiesExecuted script.catalog e.fit e.running.plan es e.running.past (ran_of script.catalog e.fit e.events e.sys e.doing e.running) (ordinals_of e.order)) e.running.same
+          (all_ids (λ t. ExecutionOk script.catalog e.fit e.running.plan e.running.past t (ran_of script.catalog e.fit e.events e.sys e.doing e.running t) × BodyIsExecuted e.events t (ran_of script.catalog e.fit e.events e.sys e.doing e.running t)) e.order
+          (all_by (λ (p : Point). ExecutionOk script.catalog e.fit e.running.plan e.running.past p.id.0 (ran_of script.catalog e.fit e.events e.sys e.doing e.running p.id.0) × BodyIsExecuted e.events p.id.0 (ran_of script.catalog e.fit e.events e.sys e.doing e.running p.id.0)) e.order (λ k d l. done script.catalog e.fit e.events e.sys e.doing e.running (slice_index_or e.order k d).id.0 (accepted k d l)))));
     }

@@ -203,7 +203,7 @@ module _ (catalog : List Table) (events : List Event) (states : ℕ → ClientSt
       is_known v b ks n gave rows =
           let h : step_of p (overlay (access_of p.table p.statement) seen) ≡ Finished b ks = step_seen v b ks n gave in
           let changes : AreChanges seen.read_set ks = subst (MayWrite seen.read_set) h (may_write seen p valid kept (subst (IsKeyRead seen.read_set) k.access (key_read_now t.seen a images))) in
-          let answers : AnswersOn catalog (tables_are_well_typed catalog) seen p.statement a b ks = subst (λ (q : Access). AnswersOn catalog (tables_are_well_typed catalog) seen p.statement q b ks) (sym k.access) (answers_on catalog p seen b ks is k.named k.asked k.accepted k.literals h) in
+          let answers : AnswersOn catalog (tables_are_well_typed catalog) seen p.statement a b ks = subst (λ (q : Access). AnswersOn catalog (tables_are_well_typed catalog) seen p.statement q b ks) (sym k.access) (answers_on catalog p seen is k.named k.asked k.accepted k.literals h) in
           moved catalog (tables_are_well_typed catalog) states y.client (holding now (written v ks)) (events ++ call_event y (Some b) ∷ []) free refl
           (subst (λ (z : ClientAt). RunInvariant catalog (tables_are_well_typed catalog) (events ++ call_event y (Some b) ∷ []) (with_client (system_of states) y.client z) (at (doing_of states) y.client None)) (sym by_doing)
           (going_tells catalog (tables_are_well_typed catalog) events (system_of states) (doing_of states) g y.client y.store y.request y.how y.reply y.now t.id t.seen a (abstract_read x.stage) here asked b p.statement runs_it images ks

@@ -207,18 +207,18 @@ module _ (catalog : List Table) (events : List Event) (states : ℕ → ClientSt
 
   -- the statement that reads
   asked_by : (t : TxnAt) (p : Planned) (a : Access) (x : ReadAt) → IsReadAt now y.request t p a x → IsAskedBy catalog p a x
-  asked_by t p a x at = asked_at catalog now y.request y.reply y.now called.waiting.fitted t p a x at
+  asked_by t p a x at = asked_at catalog now y.request y.reply y.now called.waiting.fitted at
 
-  pub replies_so : ((k : Key) → is_some (find_table catalog k.table) ≡ true → is_data k ≡ true) → (result : Option Answer) (d : Client) → Step now (Receives y.request y.reply y.now) result d → Replied result d
-  replies_so apart result d (ReadGoesOn t p a x at more) = reads_on catalog events states g y is called t p a x at.free at.opened at.doing at.plan (asked_by t p a x at) (read_step x.stage y.now y.reply) refl
-  replies_so apart result d (ReadEnds t p a x images at ends is_asked as_read) = read_ends catalog events states g y is called t p a x at.free at.opened at.doing at.plan (asked_by t p a x at) images ends as_read
-  replies_so apart result d (ReadConflicts t p a x images key found at ends changed) = differs catalog events states g y is called t p a x at.free at.opened at.doing at.plan (asked_by t p a x at) key found
-  replies_so apart result d (ReadFails {b = b} t p a x at f) = read_fails catalog events states g y is called t p a x at.free at.opened at.doing at.plan (asked_by t p a x at) b f
-  replies_so apart result d (CommitGoesOn {u = u} t k next at to) = goes_on t k at.free at.opened at.doing at.plan u (record { work = k.work; stage = next }) to.doing refl to.next to.more
-  replies_so apart result d (CommitEnds t k a at ended) = is_over t k at.free at.opened at.doing at.plan a (ended_is (commit_step k.work k.stage y.reply) a ended)
-  replies_so apart result d (VacuumGoesOn {w = w} v at gave) =
+  pub replies_so : ((k : Key) → is_some (find_table catalog k.table) ≡ true → is_data k ≡ true) → {result : Option Answer} {d : Client} → Step now (Receives y.request y.reply y.now) result d → Replied result d
+  replies_so apart (ReadGoesOn t p a x at more) = reads_on catalog events states g y is called t p a x at.free at.opened at.doing at.plan (asked_by t p a x at) (read_step x.stage y.now y.reply) refl
+  replies_so apart (ReadEnds t p a x images at ends is_asked as_read) = read_ends catalog events states g y is called t p a x at.free at.opened at.doing at.plan (asked_by t p a x at) images ends as_read
+  replies_so apart (ReadConflicts t p a x images key found at ends changed) = differs catalog events states g y is called t p a x at.free at.opened at.doing at.plan (asked_by t p a x at) key found
+  replies_so apart (ReadFails {b = b} t p a x at f) = read_fails catalog events states g y is called t p a x at.free at.opened at.doing at.plan (asked_by t p a x at) b f
+  replies_so apart (CommitGoesOn {u = u} t k next at to) = goes_on t k at.free at.opened at.doing at.plan u (record { work = k.work; stage = next }) to.doing refl to.next to.more
+  replies_so apart (CommitEnds t k a at ended) = is_over t k at.free at.opened at.doing at.plan a (ended_is (commit_step k.work k.stage y.reply) a ended)
+  replies_so apart (VacuumGoesOn {w = w} v at gave) =
       let k = vacuum_at catalog now y.request y.reply y.now called.waiting.fitted v at in
       vacuum_goes apart v at.runs k.0 k.1 k.2 w gave
-  replies_so apart result d (VacuumEnds {b = b} v w s at gave answers) =
+  replies_so apart (VacuumEnds {b = b} v w s at gave answers) =
       let k = vacuum_at catalog now y.request y.reply y.now called.waiting.fitted v at in
       swept_so apart v at.runs k.0 k.1 k.2 b (vacuum_answered s b answers)

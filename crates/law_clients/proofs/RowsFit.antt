@@ -190,9 +190,9 @@ left_fit catalog p rows b ks e found asked accepted literals step fit =
       | Some key ↦ λ q k. subst (λ (l : List Keyed). tables_are_well_typed catalog (with_changes e l) ≡ true) (done_is _ b [] ks k) fit
     ] refl (rw asked at step)
 
-pub answers_on : (catalog : List Table) (p : Planned) (seen : Seen) (b : Answer) (ks : List Keyed) → is_catalog catalog ≡ true → named_table catalog p.statement ≡ Some p.table → p.asked ≡ true → refusal_of catalog p.statement ≡ None → has_all_literals p.statement ≡ true
+pub answers_on : (catalog : List Table) (p : Planned) (seen : Seen) {b : Answer} {ks : List Keyed} → is_catalog catalog ≡ true → named_table catalog p.statement ≡ Some p.table → p.asked ≡ true → refusal_of catalog p.statement ≡ None → has_all_literals p.statement ≡ true
     → step_of p (overlay (access_of p.table p.statement) seen) ≡ Finished b ks → AnswersOn catalog (tables_are_well_typed catalog) seen p.statement (access_of p.table p.statement) b ks
-answers_on catalog p seen b ks is named asked accepted literals step e fit rows =
+answers_on catalog p seen {b} {ks} is named asked accepted literals step e fit rows =
     let found : find_table catalog p.table.name ≡ Some p.table = found_itself catalog (table_of p.statement) p.table named in
     let run : IsExec catalog p e (step_of p (rows_at (access_of p.table p.statement) e)) = fitting_is_exec catalog p e (named_is_table catalog p.statement p.table is named) named asked (all_in_fit catalog p.table (all_rows e) found fit) in
     let same : step_of p (rows_at (access_of p.table p.statement) e) ≡ Finished b ks = ap (step_of p) rows ∙ step in

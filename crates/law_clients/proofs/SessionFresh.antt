@@ -73,12 +73,12 @@ module _ (catalog : List Table) (apart : IsApart catalog) (start : Database) (be
       by false f a rest = rest a (kept_outside p.ended p.opened e id (λ g. false_true (sym f ∙ g)) x)
 
   -- What is so after a session: the database is sound and has plain tables that fit, and an id that was new and wasn't used is new.
-  pub reached : IsSound catalog start → AreImagesOf catalog start before → tables_are_well_typed catalog before ≡ true → (es : List Exchange) (last : Database) → AreNewIds catalog start (begun_ids es) → Chain catalog start no_parts es last → IsReached catalog start last before es
-  reached sound are_images fit es last new chain =
+  pub reached : IsSound catalog start → AreImagesOf catalog start before → tables_are_well_typed catalog before ≡ true → {es : List Exchange} {last : Database} → AreNewIds catalog start (begun_ids es) → Chain catalog start no_parts es last → IsReached catalog start last before es
+  reached sound are_images fit {es} {last} new chain =
       let so = (session_at catalog apart start before no_parts start es last (begins_serial catalog apart start before sound are_images fit) (fresh_ids es new) chain).0 in
       record { sound = so.sound; are_images = so.are_images; fit = so.fit; unused = λ id n a. so.unused id n (outside_of no_parts es id a (tt, tt)) }
 
 -- one statement more
-pub chain_more : (catalog : List Table) (p : Parts) (g h last : Database) (es : List Exchange) (e : Exchange) (c : ClientAt) → Chain catalog g p es h → ((k : Key) (r : Record) → last k ≡ Some r → r.key ≡ k) → Exchanged catalog h (open_of (fold parts_after p es).opened) e last c → Chain catalog g p (es ++ e ∷ []) last
-chain_more catalog p g h last [] e c is own x = (last, c, own, subst (λ j. Exchanged catalog j (open_of p.opened) e last c) is x, refl)
-chain_more catalog p g h last (y ∷ es) e c (j, d, own_j, z, rest) own x = (j, d, own_j, z, chain_more catalog (parts_after p y) j h last es e c rest own x)
+pub chain_more : (catalog : List Table) (p : Parts) (g h last : Database) (es : List Exchange) {e : Exchange} {c : ClientAt} → Chain catalog g p es h → ((k : Key) (r : Record) → last k ≡ Some r → r.key ≡ k) → Exchanged catalog h (open_of (fold parts_after p es).opened) e last c → Chain catalog g p (es ++ e ∷ []) last
+chain_more catalog p g h last [] {e} {c} is own x = (last, c, own, subst (λ j. Exchanged catalog j (open_of p.opened) e last c) is x, refl)
+chain_more catalog p g h last (y ∷ es) {e} {c} (j, d, own_j, z, rest) own x = (j, d, own_j, z, chain_more catalog (parts_after p y) j h last es rest own x)

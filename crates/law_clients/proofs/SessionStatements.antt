@@ -217,7 +217,7 @@ module _ (catalog : List Table) (apart : IsApart catalog) (g h : Database) (soun
     step_seen v b ks n e = sym (ap (λ (c : Access). step_of p (overlay c seen)) k.access) ∙ ap (λ (s : Seen). step_of p (overlay a s)) (sym n.seen) ∙ e
 
     on_tables : (b : Answer) (ks : List Keyed) → step_of p (overlay (access_of p.table p.statement) seen) ≡ Finished b ks → AnswersOn catalog (tables_are_well_typed catalog) seen p.statement a b ks
-    on_tables b ks e = subst (λ (c : Access). AnswersOn catalog (tables_are_well_typed catalog) seen p.statement c b ks) (sym k.access) (answers_on catalog p seen b ks k.is k.named k.asked k.accepted k.literals e)
+    on_tables b ks e = subst (λ (c : Access). AnswersOn catalog (tables_are_well_typed catalog) seen p.statement c b ks) (sym k.access) (answers_on catalog p seen k.is k.named k.asked k.accepted k.literals e)
 
     -- what is given is answered from rows
     answered : (b : Answer) (ks : List Keyed) → step_of p (overlay (access_of p.table p.statement) seen) ≡ Finished b ks → is_answered_from_rows b ≡ true

@@ -189,8 +189,8 @@ module _ (catalog : List Table) (apart : IsApart catalog) (start : Database) (be
       (h, q.0.are_images, exchanged_step catalog (tables_after catalog g before p.ended) g h e so.sound so.are_images so.fit c p.opened x, steps_at (parts_after p e) h es last q.0 new.1 rest)
 
   -- What a session of a client that is alone owes.
-  pub session_serial : IsSound catalog start → AreImagesOf catalog start before → tables_are_well_typed catalog before ≡ true → (es : List Exchange) (last : Database) → AreFresh catalog apart start before no_parts es → Chain catalog start no_parts es last → IsSerialSession catalog start last before es
-  session_serial sound are_images fit es last new chain =
+  pub session_serial : IsSound catalog start → AreImagesOf catalog start before → tables_are_well_typed catalog before ≡ true → {es : List Exchange} {last : Database} → AreFresh catalog apart start before no_parts es → Chain catalog start no_parts es last → IsSerialSession catalog start last before es
+  session_serial sound are_images fit {es} {last} new chain =
       let begins = begins_serial catalog apart start before sound are_images fit in
       let so = session_at catalog apart start before no_parts start es last begins new chain in
       let steps = steps_at no_parts start es last begins new chain in

@@ -26,7 +26,7 @@ reads_as_commit text (Ok (statement.Update s)) h = other_no_commit text (stateme
 reads_as_commit text (Ok (statement.Delete s)) h = other_no_commit text (statement.Delete s) h (λ e. cc)
 reads_as_commit text (Ok (statement.Select s)) h = other_no_commit text (statement.Select s) h (λ e. cc)
 
-pub starves : (catalog : List Table) (g : Database) (o : Option OpenTransaction) (e : Exchange) (text : List ℕ) (c d : ClientAt) → Parses text e.says → e.answer ≡ answer.NoMemory → Between catalog g o c → d ≡ out_of_memory text c → Exchanged catalog g o e g d
-starves catalog g o e text c d says none between is = OutOfMemory none refl
+pub starves : {catalog : List Table} {g : Database} {o : Option OpenTransaction} (e : Exchange) (text : List ℕ) {c : ClientAt} (d : ClientAt) → Parses text e.says → e.answer ≡ answer.NoMemory → Between catalog g o c → d ≡ out_of_memory text c → Exchanged catalog g o e g d
+starves {catalog} {g} {o} e text {c} d says none between is = OutOfMemory none refl
     (λ f. subst (Between catalog g None) (sym (is ∙ ap (λ b. if b then resting c else c) (reads_as_commit text e.says says ∙ f))) (record { free = between.free; plan = refl; txn = tt }))
     (λ f. subst (Between catalog g o) (sym (is ∙ ap (λ b. if b then resting c else c) (reads_as_commit text e.says says ∙ f))) between)

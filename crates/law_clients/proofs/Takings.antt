@@ -54,6 +54,7 @@ use Rattle.law_clients.specs.Database.{Database}
 use Rattle.law_clients.specs.OnlyResolves.{IsApart, IsSound}
 use Rattle.law_clients.specs.Commits.{CommitAlone, EachWrite, IsPrepared, StageAlone, WorkAlone, IsBaseCurrent}
 use Rattle.law_clients.specs.SessionReads.{IsOfTables}
+use Rattle.law_clients.specs.SessionTurns.{ExecutedAlone}
 use Rattle.law_clients.specs.Seen.{SeenAlone, AreImagesOf}
 use Rattle.law_clients.specs.SessionVacuums.{IsOfCatalog, LeftAlone}
 use Rattle.law_clients.specs.Clients.{Added, AnsweredAlone, IdleAlone, IsAskedFor, IsUnused, Kept, OpenAlone, Passes}
@@ -86,7 +87,7 @@ module _ (catalog : List Table) (g : Database) (sound : IsSound catalog g) (d : 
   at_access b ks e = sym (ap (λ (c : Access). step_of p (overlay c t.seen)) k.access) ∙ e
 
   on_tables : (b : Answer) (ks : List Keyed) → step_of p (overlay (access_of p.table p.statement) t.seen) ≡ Finished b ks → AnswersOn catalog (tables_are_well_typed catalog) t.seen p.statement a b ks
-  on_tables b ks e = subst (λ (c : Access). AnswersOn catalog (tables_are_well_typed catalog) t.seen p.statement c b ks) (sym k.access) (answers_on catalog p t.seen b ks k.is k.named k.asked k.accepted k.literals e)
+  on_tables b ks e = subst (λ (c : Access). AnswersOn catalog (tables_are_well_typed catalog) t.seen p.statement c b ks) (sym k.access) (answers_on catalog p t.seen k.is k.named k.asked k.accepted k.literals e)
 
   answered : (b : Answer) (ks : List Keyed) → step_of p (overlay (access_of p.table p.statement) t.seen) ≡ Finished b ks → is_answered_from_rows b ≡ true
   answered b ks e =
@@ -326,7 +327,10 @@ module _ (q : Taking) (apart : IsApart q.catalog) (is : is_catalog q.catalog ≡
   statement_case text (statement.Delete s) h took = ask_case (statement.Delete s) (literals_read text (statement.Delete s) h) (record { away_open = refl; away_none = refl }) c.txn refl o refl between.txn took
   statement_case text (statement.Select s) h took = ask_case (statement.Select s) (literals_read text (statement.Select s) h) (record { away_open = refl; away_none = refl }) c.txn refl o refl between.txn took
 
-  -- Whatever a client that is alone takes.
-  pub takes : (text : List ℕ) (says : Result Statement Refusal) → Parses text says → ParsedPost q says c result e → Taken says
-  takes text (Ok st) h took = statement_case text st h took
-  takes text (Err r) h took = turned (Err r) (answer.Refused r) refl took
+  text_case : (text : List ℕ) (says : Result Statement Refusal) → Parses text says → ParsedPost q says c result e → Taken says
+  text_case text (Ok st) h took = statement_case text st h took
+  text_case text (Err r) h took = turned (Err r) (answer.Refused r) refl took
+
+-- Whatever a client that is alone takes.
+pub takes : (t : ExecutedAlone) → LeadsTo t.taking.catalog t.g t.taking.fresh t.taking.now t.says t.g t.opened t.result t.after
+takes t = let s = t.well_formed in text_case t.taking s.apart s.is (t.vacuums, t.opens) t.time t.g s.sound s.tables s.are_images s.fit t.opened t.before t.between t.new t.result t.after t.text t.says t.reads t.took

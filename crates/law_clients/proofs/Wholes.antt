@@ -71,9 +71,9 @@ rest_runs catalog fit plan w past ran order front (t ∷ back) d left serial_rea
 
 -- Over a run, the recorded transactions in the order of their points, run whole one after the other from empty tables, give the
 -- answers that their statements had, and leave the rows that the stores show.
-pub order_runs : (catalog : List Table) (fit : Tables → Bool) (plan : ℕ → Plan) (places : List Place) (opening : List StoreContents) (past : List Labelled) (ss : List (List StoreContents)) (ran : ℕ → Execution) (order : List ℕ) → IsRunOf plan places opening past ss → IsOrdered (history plan places opening past ss) order → AllExecutions catalog fit plan past ran order → fit empty ≡ true
+pub order_runs : (catalog : List Table) (fit : Tables → Bool) {plan : ℕ → Plan} {places : List Place} {opening : List StoreContents} {past : List Labelled} {ss : List (List StoreContents)} (ran : ℕ → Execution) (order : List ℕ) → IsRunOf plan places opening past ss → IsOrdered (history plan places opening past ss) order → AllExecutions catalog fit plan past ran order → fit empty ≡ true
     → (e : Tables) × RunsWhole catalog fit plan ran order empty e × ContainsTables places (closing opening ss) e
-order_runs catalog fit plan places opening past ss ran order run ordered all f =
+order_runs catalog fit {plan} {places} {opening} {past} {ss} ran order run ordered all f =
     let x = rest_runs catalog fit plan w past ran order [] order empty (λ s ok. notes_left plan places opening past ss s run ok) (reads_serial plan places w past (closing opening ss) order (whole_of plan places opening past ss run) ordered) refl all (record { row = λ k. map.get-empty key_cmp k }) f in
     (x.0, x.1, λ k outside. rows_serial plan places w past (closing opening ss) order (whole_of plan places opening past ss run) ordered k outside ∙ sym (x.2.row k))
   where

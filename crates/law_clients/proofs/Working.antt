@@ -29,7 +29,7 @@ use Rattle.sdb_client.proofs.Public.{given_idle as left_idle}
 use Rattle.law_clients.proofs.Fitted.{by_next, no_none}
 use Rattle.law_clients.proofs.Whole.{by_memory}
 use Rattle.law_clients.specs.Session.{Exchange, IsAccepted, MayAnswer, begins, ends, is_commit, is_rollback, rejected}
-use Rattle.law_clients.specs.Working.{Commits, IsAtWork, IsEnded, LeadsOn, Reads, InVacuum, ExecutedBy, is_open_after}
+use Rattle.law_clients.specs.Working.{Commits, IsAtWork, IsEnded, LeadsOn, Reads, InVacuum, ExecutedBy, RepliedBy, is_open_after}
 use Rattle.law_clients.proofs.Starves.{reads_as_commit}
 
 no_answer : (z : Answer) → ◌≡◌ {A = Option Answer} None (Some z) → ⊥
@@ -263,24 +263,27 @@ module _ (catalog : List Table) (now : ℤ) (id : TxId) where
   as_leads : (opened : Bool) (says : Result Statement Refusal) (r result : Option Answer) (u d : ClientAt) → result ≡ r → d ≡ u → Leads opened says r u → Leads opened says result d
   as_leads opened says r result u d e k s = subst (λ (x : Option Answer). Leads opened says x d) (sym e) (subst (Leads opened says r) (sym k) s)
 
-  pub replies_lead : (st : Statement) (opened : Bool) → rejected catalog opened (Ok st) ≡ None → (c : ClientAt) → IsAtWork st opened c → (r : Reply) (moment : ℤ) (result : Option Answer) (d : ClientAt) → ReplyPost c c.vacuum r moment result d → Leads opened (Ok st) result d
-  replies_lead st opened stays c (Reads t p a x free txn plan does of table inside) r moment result d h =
+  reply_case : (st : Statement) (opened : Bool) → rejected catalog opened (Ok st) ≡ None → (c : ClientAt) → IsAtWork st opened c → (r : Reply) (moment : ℤ) (result : Option Answer) (d : ClientAt) → ReplyPost c c.vacuum r moment result d → Leads opened (Ok st) result d
+  reply_case st opened stays c (Reads t p a x free txn plan does of table inside) r moment result d h =
       let open_case : OpenTxnPost c (Some t) r moment result d = subst (λ (o : Option TxnAt). OpenTxnPost c o r moment result d) txn (subst (λ (o : Option VacuumAt). ReplyPost c o r moment result d) free h) in
       let acked : CallPost t p a x r moment open_case.next open_case.left = subst (λ (o : Option Planned). NextPost t (doing.Read a x) o r moment open_case.next open_case.left) plan (subst (λ (o : Doing). NextPost t o c.plan r moment open_case.next open_case.left) does open_case.answered) in
       subst (λ (b : Bool). Leads b (Ok st) result d) (sym inside)
       (as_leads true (Ok st) (answer_in open_case.next) result (after c open_case.next open_case.left) d open_case.answer open_case.client
       (call_case c free st (subst (λ (b : Bool). rejected catalog b (Ok st) ≡ None) inside stays) table t p a x plan of r moment open_case.next open_case.left acked))
-  replies_lead st opened stays c (Commits t k free txn plan does commit inside) r moment result d h =
+  reply_case st opened stays c (Commits t k free txn plan does commit inside) r moment result d h =
       let open_case : OpenTxnPost c (Some t) r moment result d = subst (λ (o : Option TxnAt). OpenTxnPost c o r moment result d) txn (subst (λ (o : Option VacuumAt). ReplyPost c o r moment result d) free h) in
       let acked : CommitNext t k r open_case.next open_case.left = subst (λ (o : Option Planned). NextPost t (doing.Commit k) o r moment open_case.next open_case.left) plan (subst (λ (o : Doing). NextPost t o c.plan r moment open_case.next open_case.left) does open_case.answered) in
       subst (λ (b : Bool). Leads b (Ok st) result d) (sym inside)
       (subst (λ (x : Statement). Leads true (Ok x) result d) (sym commit)
       (as_leads true (Ok statement.Commit) (answer_in open_case.next) result (after c open_case.next open_case.left) d open_case.answer open_case.client (commit_next c free t k r plan open_case.next open_case.left acked)))
-  replies_lead st opened stays c (InVacuum v runs txn vacuum outside) r moment result d h =
+  reply_case st opened stays c (InVacuum v runs txn vacuum outside) r moment result d h =
       let sweep_case : VacuumPost v r moment result d.vacuum × (d ≡ record c { vacuum = d.vacuum }) = subst (λ (o : Option VacuumAt). ReplyPost c o r moment result d) runs h in
       subst (λ (b : Bool). Leads b (Ok st) result d) (sym outside)
       (subst (λ (x : Statement). Leads false (Ok x) result d) (sym vacuum)
       (as_leads false (Ok statement.Vacuum) (answer_of sweep_case.0.step) result (record c { vacuum = vacuum_left sweep_case.0.step sweep_case.0.left }) d sweep_case.0.answer (sweep_case.1 ∙ ap (λ (o : Option VacuumAt). record c { vacuum = o }) sweep_case.0.goes) (swept_case c txn sweep_case.0.step sweep_case.0.left)))
+
+pub replies_lead : (r : RepliedBy) → LeadsOn r.catalog r.opened (Ok r.statement) r.moment r.id r.result r.after
+replies_lead r = reply_case r.catalog r.moment r.id r.statement r.opened r.stays r.before r.works r.reply r.now r.result r.after r.took
 
 ---- a taking
 

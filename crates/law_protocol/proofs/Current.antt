@@ -110,7 +110,7 @@ open_changed x (Some v) h e = clash (sym e ∙ not_firm_version v x h)
 shows_stands : (places : List Place) (client : ℕ) (store : Name) (q : Request) (how : How) (r : Reply) (answer : Option Answer) (before now : List StoreContents) (key : Key) (found : Option Record) → Effect places (event.Call client store q how r answer) before now → Observes q r key found → found ≡ stored_at places before key
 shows_stands places client store (ask.Get k) how (reply.Found x) answer before now key found c (same, is) = sym is ∙ get_reply places k (reply.Found x) x before now (at_call places store (ask.Get k) how (reply.Found x) before now c) refl ∙ ap (stored_at places before) same
 shows_stands places client store (ask.Scan span) how (reply.Rows rows) answer before now key found c (inside, is) =
-    sym is ∙ scan_reply places span (reply.Rows rows) rows before now (at_call places store (ask.Scan span) how (reply.Rows rows) before now c) refl key inside
+    sym is ∙ scan_reply span (reply.Rows rows) rows (at_call places store (ask.Scan span) how (reply.Rows rows) before now c) refl key inside
 shows_stands places client store (ask.Get k) how (reply.Rows rows) answer before now key found c h = absurd h
 shows_stands places client store (ask.Get k) how reply.Applied answer before now key found c h = absurd h
 shows_stands places client store (ask.Get k) how (reply.NotMet x) answer before now key found c h = absurd h
@@ -169,7 +169,7 @@ unchanged_at plan places opening labelled moments catalog r none front back clie
         less a b n e = omega (arith, e)
 
     agrees : stored_at places (moment opening moments (length front)) x.key ≡ Some x
-    agrees = stands_at plan places opening labelled moments catalog (length front) r none below id x before fits (subst (IsTableKey catalog) (sym at) table) early p no_row
+    agrees = stands_at labelled moments catalog (length front) r none below id x before fits (subst (IsTableKey catalog) (sym at) table) early p no_row
 
 ---- who wrote a key
 
@@ -342,7 +342,7 @@ module _ (plan : ℕ → Plan) (places : List Place) (opening : List StoreConten
     -- the point of a recorded transaction is the law's
     point_is : (u : TxId) → u.0 < 2 ^ 128 → w.row u.0 ≡ Some Committed → point events u ≡ w.protocol.point u.0
     point_is u fits h =
-        point_of plan places opening labelled (newest_first moments) u.0 r faithful fits (subst (λ (x : ProtocolState). x.accepted u.0 ≡ true) (sym i.knows.talks) (accepted u.0 h)) ∙ ap (λ (x : ProtocolState). x.point u.0) i.knows.talks
+        point_of labelled u.0 r faithful fits (subst (λ (x : ProtocolState). x.accepted u.0 ≡ true) (sym i.knows.talks) (accepted u.0 h)) ∙ ap (λ (x : ProtocolState). x.point u.0) i.knows.talks
 
     less_of : (t u : TxId) → t.0 < 2 ^ 128 → u.0 < 2 ^ 128 → w.row t.0 ≡ Some Committed → w.row u.0 ≡ Some Committed → w.protocol.point t.0 < w.protocol.point u.0 → point events t < point events u
     less_of t u ft fu ht hu l = subst (λ n. n < point events u) (sym (point_is t ft ht)) (subst (λ n. w.protocol.point t.0 < n) (sym (point_is u fu hu)) l)
@@ -441,9 +441,9 @@ stand_at plan places opening labelled moments catalog r none faithful key t tabl
     (stands_on plan places opening labelled moments catalog r apart faithful key t (image_at places (closing opening (newest_first moments)) key) kept x
     (image_is_last_writer plan places (history plan places opening (newest_first labelled) (newest_first moments)) (newest_first labelled) (closing opening (newest_first moments)) (whole_of plan places opening (newest_first labelled) (newest_first moments) r) key kept))
 
-pub current_at : (plan : ℕ → Plan) (places : List Place) (opening : List StoreContents) (labelled : List Labelled) (moments : List (List StoreContents)) (catalog : List Table) → IsRunOf plan places opening (newest_first labelled) (newest_first moments) → find_table catalog coordinator_table ≡ None → IsFaithful (events_of labelled) (newest_first labelled) → AreReadSets plan (events_of labelled) (newest_first labelled)
+pub current_at : {plan : ℕ → Plan} {places : List Place} {opening : List StoreContents} (labelled : List Labelled) (moments : List (List StoreContents)) (catalog : List Table) → IsRunOf plan places opening (newest_first labelled) (newest_first moments) → find_table catalog coordinator_table ≡ None → IsFaithful (events_of labelled) (newest_first labelled) → AreReadSets plan (events_of labelled) (newest_first labelled)
     → ReadsCurrent catalog places (events_of labelled) opening moments
-current_at plan places opening labelled moments catalog r none faithful are t item key version fits recorded inside says table =
+current_at {plan} {places} {opening} labelled moments catalog r none faithful are t item key version fits recorded inside says table =
     let apart = apart_from catalog none in
     let w = history plan places opening (newest_first labelled) (newest_first moments) in
     let i = whole_of plan places opening (newest_first labelled) (newest_first moments) r in

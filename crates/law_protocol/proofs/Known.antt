@@ -172,8 +172,8 @@ ok_is : (a b : Decided) → ◌≡◌ {A = Result Decided (List ℕ)} (Ok a) (Ok
 ok_is a b e = cc
 
 -- a row that was shown is the transaction's row
-pub row_known : (plan : ℕ → Plan) (w : History) (past : List Labelled) (t : ℕ) (d : Decision) (m : ℤ) → ((r : Record) → IsObserved past r → Known plan w r) → AreMoments plan w t → t < 2 ^ 128 → IsRowObserved past t d m → (w.row t ≡ Some d) × (m ≡ w.moment t)
-row_known plan w past t d m known moments fits observed = by (w.row t) refl ((known observed.row observed.observed).row t fits observed.key)
+pub row_known : {plan : ℕ → Plan} {w : History} (past : List Labelled) (t : ℕ) (d : Decision) (m : ℤ) → ((r : Record) → IsObserved past r → Known plan w r) → AreMoments plan w t → t < 2 ^ 128 → IsRowObserved past t d m → (w.row t ≡ Some d) × (m ≡ w.moment t)
+row_known {w} past t d m known moments fits observed = by (w.row t) refl ((known observed.row observed.observed).row t fits observed.key)
   where
     some_is : (a b : Record) → Some a ≡ Some b → b ≡ a
     some_is a b e = cc

@@ -130,15 +130,15 @@ agrees f (p ∷ ps) early late a r (inr m) (inr n) l =
 
 ---- real time
 
-pub point_of : (plan : ℕ → Plan) (places : List Place) (opening : List StoreContents) (labelled : List Labelled) (ss : List (List StoreContents)) (t : ℕ) → IsRunOf plan places opening (newest_first labelled) ss → IsFaithful (events_of labelled) (newest_first labelled) → t < 2 ^ 128 → (protocol_state (newest_first labelled)).accepted t ≡ true → point (events_of labelled) (id t) ≡ (protocol_state (newest_first labelled)).point t
-point_of plan places opening labelled ss t r faithful fits accepted =
+pub point_of : {plan : ℕ → Plan} {places : List Place} {opening : List StoreContents} (labelled : List Labelled) {ss : List (List StoreContents)} (t : ℕ) → IsRunOf plan places opening (newest_first labelled) ss → IsFaithful (events_of labelled) (newest_first labelled) → t < 2 ^ 128 → (protocol_state (newest_first labelled)).accepted t ≡ true → point (events_of labelled) (id t) ≡ (protocol_state (newest_first labelled)).point t
+point_of {plan} {places} {opening} labelled {ss} t r faithful fits accepted =
     ap (unwrap_or (last_prepare (events_of labelled) (id t))) (faithful.accepted t accepted) ∙ sym (point_is_last plan places opening labelled ss t r fits accepted)
 
 pub keeps_real_time : (plan : ℕ → Plan) (places : List Place) (opening : List StoreContents) (labelled : List Labelled) (ss : List (List StoreContents)) (order : List Point) → IsRunOf plan places opening (newest_first labelled) ss → IsFaithful (events_of labelled) (newest_first labelled) → IsOrder places (events_of labelled) (closing opening ss) order → TransactionsInRealTime places (events_of labelled) (closing opening ss) order
 keeps_real_time plan places opening labelled ss order r faithful o early late fits_early fits_late s commit acked recorded m n ended begun lt =
     agrees (point (events_of labelled)) order early late (are_at (point (events_of labelled)) order o.points) (rises order o.rising)
     (among early fits_early (row_recorded plan places w past end early.0 i fits_early decided.0)) (among late fits_late recorded)
-    (less (point_of plan places opening labelled ss early.0 r faithful fits_early (accepted early.0 decided.0)) (point_of plan places opening labelled ss late.0 r faithful fits_late (accepted late.0 row)) below)
+    (less (point_of labelled early.0 r faithful fits_early (accepted early.0 decided.0)) (point_of labelled late.0 r faithful fits_late (accepted late.0 row)) below)
   where
     past : List Labelled
     past = newest_first labelled
@@ -222,9 +222,9 @@ is_rising : (w : History) (ps : List Point) → ArePoints w ps → Rises ps → 
 is_rising w [] a r = tt
 is_rising w (p ∷ ps) a r = (all_above w p.event (w.protocol.point p.id.0) ps a.0 a.1 r.0, is_rising w ps a.1 r.1)
 
-pub ordered_of : (plan : ℕ → Plan) (places : List Place) (opening : List StoreContents) (labelled : List Labelled) (ss : List (List StoreContents)) (order : List Point) → IsRunOf plan places opening (newest_first labelled) ss → IsFaithful (events_of labelled) (newest_first labelled) → IsOrder places (events_of labelled) (closing opening ss) order → All (λ (p : Point). p.id.0 < 2 ^ 128) order
+pub ordered_of : {plan : ℕ → Plan} {places : List Place} {opening : List StoreContents} (labelled : List Labelled) {ss : List (List StoreContents)} (order : List Point) → IsRunOf plan places opening (newest_first labelled) ss → IsFaithful (events_of labelled) (newest_first labelled) → IsOrder places (events_of labelled) (closing opening ss) order → All (λ (p : Point). p.id.0 < 2 ^ 128) order
     → IsOrdered (history plan places opening (newest_first labelled) ss) (map (λ (p : Point). p.id.0) order)
-ordered_of plan places opening labelled ss order r faithful o fit = record {
+ordered_of {plan} {places} {opening} labelled {ss} order r faithful o fit = record {
   recorded = λ t. (
     λ h. is_in t order (among t (row_fits t h) h),
     λ m. let x = from_in t order (all_fit order fit) m in member (id t) x.1 x.0,
@@ -254,7 +254,7 @@ ordered_of plan places opening labelled ss order r faithful o fit = record {
     points [] inside a f = tt
     points (p ∷ ps) inside a f =
         let here = accepted p.id.0 (member p.id f.0 (inside p.id (inl refl))) in
-        (a.0 ∙ point_of plan places opening labelled ss p.id.0 r faithful f.0 (subst (λ (x : ProtocolState). x.accepted p.id.0 ≡ true) (sym i.knows.talks) here) ∙ ap (λ (x : ProtocolState). x.point p.id.0) i.knows.talks, points ps (λ t m. inside t (inr m)) a.1 f.1)
+        (a.0 ∙ point_of labelled p.id.0 r faithful f.0 (subst (λ (x : ProtocolState). x.accepted p.id.0 ≡ true) (sym i.knows.talks) here) ∙ ap (λ (x : ProtocolState). x.point p.id.0) i.knows.talks, points ps (λ t m. inside t (inr m)) a.1 f.1)
 
 ---- answers
 

@@ -464,34 +464,34 @@ took_of plan places opening labelled moments t x before r fits outside p =
     c : IsCut plan places opening labelled moments n
     c = cut plan places opening labelled moments n r at_most
 
-pub committed_at : (plan : ℕ → Plan) (places : List Place) (opening : List StoreContents) (labelled : List Labelled) (moments : List (List StoreContents)) (catalog : List Table) (n : ℕ) → IsRunOf plan places opening (newest_first labelled) (newest_first moments) → find_table catalog coordinator_table ≡ None → n ≤ length moments → CommittedRecorded catalog places (moment opening moments n)
-committed_at plan places opening labelled moments catalog n r none h =
+pub committed_at : {plan : ℕ → Plan} {places : List Place} {opening : List StoreContents} (labelled : List Labelled) (moments : List (List StoreContents)) (catalog : List Table) (n : ℕ) → IsRunOf plan places opening (newest_first labelled) (newest_first moments) → find_table catalog coordinator_table ≡ None → n ≤ length moments → CommittedRecorded catalog places (moment opening moments n)
+committed_at {plan} {places} {opening} labelled moments catalog n r none h =
     let c = cut plan places opening labelled moments n r h in
     subst (CommittedRecorded catalog places) (sym (at_cut opening moments n c.size)) (committed plan places (history plan places opening (newest_first (take n labelled)) (newest_first (take n moments))) (newest_first (take n labelled)) (closing opening (newest_first (take n moments))) catalog (early_whole plan places opening labelled moments n c) (apart_from catalog none))
 
-pub gone_at : (plan : ℕ → Plan) (places : List Place) (opening : List StoreContents) (labelled : List Labelled) (moments : List (List StoreContents)) (catalog : List Table) (n : ℕ) → IsRunOf plan places opening (newest_first labelled) (newest_first moments) → find_table catalog coordinator_table ≡ None → n ≤ length moments → AbortedRemoved catalog places (moment opening moments n)
-gone_at plan places opening labelled moments catalog n r none h =
+pub gone_at : {plan : ℕ → Plan} {places : List Place} {opening : List StoreContents} (labelled : List Labelled) (moments : List (List StoreContents)) (catalog : List Table) (n : ℕ) → IsRunOf plan places opening (newest_first labelled) (newest_first moments) → find_table catalog coordinator_table ≡ None → n ≤ length moments → AbortedRemoved catalog places (moment opening moments n)
+gone_at {plan} {places} {opening} labelled moments catalog n r none h =
     let c = cut plan places opening labelled moments n r h in
     subst (AbortedRemoved catalog places) (sym (at_cut opening moments n c.size)) (gone plan places (history plan places opening (newest_first (take n labelled)) (newest_first (take n moments))) (newest_first (take n labelled)) (closing opening (newest_first (take n moments))) catalog (early_whole plan places opening labelled moments n c) (apart_from catalog none))
 
-pub unresolved_at : (plan : ℕ → Plan) (places : List Place) (opening : List StoreContents) (labelled : List Labelled) (moments : List (List StoreContents)) (catalog : List Table) (n : ℕ) → IsRunOf plan places opening (newest_first labelled) (newest_first moments) → find_table catalog coordinator_table ≡ None → n ≤ length moments → UnresolvedPrepared catalog places (events_of labelled) opening moments n
-unresolved_at plan places opening labelled moments catalog n r none h =
+pub unresolved_at : {plan : ℕ → Plan} {places : List Place} {opening : List StoreContents} (labelled : List Labelled) (moments : List (List StoreContents)) (catalog : List Table) (n : ℕ) → IsRunOf plan places opening (newest_first labelled) (newest_first moments) → find_table catalog coordinator_table ≡ None → n ≤ length moments → UnresolvedPrepared catalog places (events_of labelled) opening moments n
+unresolved_at {plan} {places} {opening} labelled moments catalog n r none h =
     let c = cut plan places opening labelled moments n r h in
     subst (UnresolvedPrepared catalog places (events_of labelled) opening moments) c.size
     (subst (λ y. UnresolvedPrepared catalog places (events_of labelled) opening y (length (take n moments))) (take-append-drop n moments)
     (subst (λ y. UnresolvedPrepared catalog places (events_of y) opening (take n moments ++ drop n moments) (length (take n moments))) (take-append-drop n labelled)
     (unresolved plan places opening (take n labelled) (drop n labelled) (take n moments) (drop n moments) catalog c.same c.whole (apart_from catalog none))))
 
-pub stands_at : (plan : ℕ → Plan) (places : List Place) (opening : List StoreContents) (labelled : List Labelled) (moments : List (List StoreContents)) (catalog : List Table) (n : ℕ) → IsRunOf plan places opening (newest_first labelled) (newest_first moments) → find_table catalog coordinator_table ≡ None → n ≤ length moments → PreparedPersists catalog places (events_of labelled) opening moments n
-stands_at plan places opening labelled moments catalog n r none h =
+pub stands_at : {plan : ℕ → Plan} {places : List Place} {opening : List StoreContents} (labelled : List Labelled) (moments : List (List StoreContents)) (catalog : List Table) (n : ℕ) → IsRunOf plan places opening (newest_first labelled) (newest_first moments) → find_table catalog coordinator_table ≡ None → n ≤ length moments → PreparedPersists catalog places (events_of labelled) opening moments n
+stands_at {plan} {places} {opening} labelled moments catalog n r none h =
     let c = cut plan places opening labelled moments n r h in
     subst (PreparedPersists catalog places (events_of labelled) opening moments) c.size
     (subst (λ y. PreparedPersists catalog places (events_of labelled) opening y (length (take n moments))) (take-append-drop n moments)
     (subst (λ y. PreparedPersists catalog places (events_of y) opening (take n moments ++ drop n moments) (length (take n moments))) (take-append-drop n labelled)
     (agrees plan places opening (take n labelled) (drop n labelled) (take n moments) (drop n moments) catalog c.even c.same c.whole (apart_from catalog none))))
 
-pub rows_at : (plan : ℕ → Plan) (places : List Place) (opening : List StoreContents) (labelled : List Labelled) (moments : List (List StoreContents)) (early late : ℕ) → IsRunOf plan places opening (newest_first labelled) (newest_first moments) → early ≤ late → late ≤ length moments → RowsFinal places (moment opening moments early) (moment opening moments late)
-rows_at plan places opening labelled moments early late r below h id row fits at =
+pub rows_at : {plan : ℕ → Plan} {places : List Place} {opening : List StoreContents} (labelled : List Labelled) (moments : List (List StoreContents)) (early late : ℕ) → IsRunOf plan places opening (newest_first labelled) (newest_first moments) → early ≤ late → late ≤ length moments → RowsFinal places (moment opening moments early) (moment opening moments late)
+rows_at {plan} {places} {opening} labelled moments early late r below h id row fits at =
     ap (λ y. stored_at places y (coordinator_key_of id)) (at_cut opening moments late c.size) ∙ later id.0 row fits (ap (λ y. stored_at places y (coordinator_key_of id)) (sym first) ∙ at)
   where
     c : IsCut plan places opening labelled moments late

@@ -18,6 +18,6 @@ pub use Rattle.law_protocol.proofs.Single.{Single, one_held, one_left, single}
 pub use Rattle.law_protocol.proofs.Small.{any_key}
 pub use Rattle.law_protocol.proofs.Texts.{begin_begins, commit_commits}
 pub use Rattle.law_protocol.proofs.Times.{traced_of, whole_of}
-pub use Rattle.law_protocol.proofs.Told.{one_standing, run_moved}
+pub use Rattle.law_protocol.proofs.Told.{one_standing, run_moved, run_relocated}
 pub use Rattle.law_protocol.proofs.Traces.{contents_of}
 pub use Rattle.law_protocol.proofs.Whole.{Whole, whole}

@@ -71,7 +71,7 @@ unchanged_at plan places t i (KeyRead read) q r before now at a u k v n free =
 unchanged_at plan places t i (SpanRead scan) q r before now at a u k v n free =
     let s = noted_scanned (plan t) i scan k v at n in
     let a' : AtCall places (ask.Scan scan.span) r before now = subst (λ x. AtCall places x r before now) u.1 a in
-    let agrees = scan_reply places scan.span r u.0 before now a' u.2 k s.0 in
+    let agrees = scan_reply scan.span r u.0 a' u.2 k s.0 in
     rw s.1 (rw (number_back (version_among scan.found k)) (subst (λ x. holds (condition_of (version_among scan.found k)) x ≡ true) agrees (u.3 k s.0 free)))
 
 read_still : (plan : Plan) (places : List Place) (item : ReadItem) (q : Request) (r : Reply) (before now : List StoreContents) → AtCall places q r before now → IsUnchanged plan item q r → (k : Key) → stored_at places now k ≡ stored_at places before k

@@ -72,7 +72,7 @@ firm_of plan w past k b knows outside (Itself observed key firm) = elim ((knows.
     held h = clash (sym firm ∙ ap (λ y. is_in state.Committed y.columns) h.same ∙ held_open plan h.t b.key)
 firm_of plan w past k b knows outside (Forward t r moment held row same) =
     let own = held_shown plan w past t k r knows outside held in
-    let x = row_known plan w past t Committed moment knows.observed (knows.moments t) own.fits row in
+    let x = row_known past t Committed moment knows.observed (knows.moments t) own.fits row in
     record { t = t; same = same ∙ ap (λ y. forward_record y moment) own.same ∙ forward_at plan t k moment (x.1 ∙ (knows.moments t).committed x.0); writer = (x.0, own.writes); fits = own.fits }
 firm_of plan w past k b knows outside (Back t r held same) =
     let own = held_shown plan w past t k r knows outside held in
@@ -103,12 +103,12 @@ prepared_there plan w past t k r knows outside (inr h) =
 ---- decisions
 
 pub committed_of : (plan : ℕ → Plan) (w : History) (past : List Labelled) (t : ℕ) (m : ℤ) → Knows plan w past → t < 2 ^ 128 → IsKnownCommitted plan past t m → (w.row t ≡ Some Committed) × (m ≡ (plan t).now)
-committed_of plan w past t m knows fits (inl row) = let x = row_known plan w past t Committed m knows.observed (knows.moments t) fits row in (x.0, x.1 ∙ (knows.moments t).committed x.0)
+committed_of plan w past t m knows fits (inl row) = let x = row_known past t Committed m knows.observed (knows.moments t) fits row in (x.0, x.1 ∙ (knows.moments t).committed x.0)
 committed_of plan w past t m knows fits (inr (inl won)) = ((knows.inv.heard t).0 (subst (λ (x : ProtocolState). x.won t ≡ true) knows.talks won.0), won.1)
-committed_of plan w past t m knows fits (inr (inr own)) = ((row_known plan w past t Committed own.1.0 knows.observed (knows.moments t) fits own.1.1).0, own.2)
+committed_of plan w past t m knows fits (inr (inr own)) = ((row_known past t Committed own.1.0 knows.observed (knows.moments t) fits own.1.1).0, own.2)
 
 pub aborted_of : (plan : ℕ → Plan) (w : History) (past : List Labelled) (t : ℕ) → Knows plan w past → t < 2 ^ 128 → IsKnownAborted past t → w.row t ≡ Some Aborted
-aborted_of plan w past t knows fits (inl row) = (row_known plan w past t Aborted row.0 knows.observed (knows.moments t) fits row.1).0
+aborted_of plan w past t knows fits (inl row) = (row_known past t Aborted row.0 knows.observed (knows.moments t) fits row.1).0
 aborted_of plan w past t knows fits (inr (inl dead)) = (knows.inv.heard t).1 (subst (λ (x : ProtocolState). x.dead t ≡ true) knows.talks dead)
 aborted_of plan w past t knows fits (inr (inr met)) = by (w.row t) refl
   where

@@ -136,8 +136,8 @@ get_reply places key r found before now a e = elim a.moved [
     wanting : reply.Found found ≡ reply.NoMemory → ⊥
     wanting x = cc
 
-pub scan_reply : (places : List Place) (span : Span) (r : Reply) (rows : List Record) (before now : List StoreContents) → AtCall places (ask.Scan span) r before now → r ≡ reply.Rows rows → (k : Key) → in_span span k ≡ true → record_among rows k ≡ stored_at places before k
-scan_reply places span r rows before now a e k h = elim a.moved [
+pub scan_reply : {places : List Place} (span : Span) (r : Reply) (rows : List Record) {before now : List StoreContents} → AtCall places (ask.Scan span) r before now → r ≡ reply.Rows rows → (k : Key) → in_span span k ≡ true → record_among rows k ≡ stored_at places before k
+scan_reply span r rows a e k h = elim a.moved [
   | inl m ↦ elim m.1 [
     | inl x ↦ ap (λ z. record_among z k) (some (sym e ∙ x)) ∙ row_there span k a.held h ∙ sym (a.here k (span_table span k h)).0
     | inr x ↦ absurd (fault (sym e ∙ x))

@@ -56,21 +56,21 @@ pub record Single (catalog : List Table) (name : Name) (places : List Place) (ev
 one_more : (catalog : List Table) (name : Name) (places : List Place) (e : Event) (es : List Event) (m0 m1 : Contents) (closing : List StoreContents) → Effect [] (relocated_event (λ ns. name) e) (one_store name m0) (one_store name m1) → Single catalog name places es m1 closing → Single catalog name places (e ∷ es) m0 closing
 one_more catalog name places e es m0 m1 closing effect rest = record { singles = one_store name m1 ∷ rest.singles; last = rest.last; traced = (effect, rest.traced); same = rest.same }
 
-pub single : (catalog : List Table) (name : Name) (places : List Place) (events : List Event) (before : List StoreContents) (moments : List (List StoreContents)) (closing : List StoreContents) (m : Contents) → IsTrace places events before moments closing → AreAbout catalog events → HoldAs catalog places before m → Single catalog name places events m closing
-single catalog name places [] before [] closing m t about h = record { singles = []; last = m; traced = refl; same = subst (λ x. HoldAs catalog places x m) (sym t) h }
-single catalog name places [] before (s ∷ ss) closing m t about h = absurd t
-single catalog name places (e ∷ es) before [] closing m t about h = absurd t
-single catalog name places (event.Take client text answer ∷ es) before (s ∷ ss) closing m t about h = one_more catalog name places (event.Take client text answer) es m m closing refl (single catalog name places es s ss closing m t.1 about.1 (subst (λ x. HoldAs catalog places x m) (sym t.0) h))
-single catalog name places (event.Stop client ∷ es) before (s ∷ ss) closing m t about h = one_more catalog name places (event.Stop client) es m m closing refl (single catalog name places es s ss closing m t.1 about.1 (subst (λ x. HoldAs catalog places x m) (sym t.0) h))
-single catalog name places (event.Clock moment ∷ es) before (s ∷ ss) closing m t about h = one_more catalog name places (event.Clock moment) es m m closing refl (single catalog name places es s ss closing m t.1 about.1 (subst (λ x. HoldAs catalog places x m) (sym t.0) h))
-single catalog name places (event.Idle client ∷ es) before (s ∷ ss) closing m t about h = one_more catalog name places (event.Idle client) es m m closing refl (single catalog name places es s ss closing m t.1 about.1 (subst (λ x. HoldAs catalog places x m) (sym t.0) h))
-single catalog name places (event.Call client store q how r answer ∷ es) before (s ∷ ss) closing m t about h =
+pub single : {catalog : List Table} (name : Name) {places : List Place} (events : List Event) (before : List StoreContents) (moments : List (List StoreContents)) (closing : List StoreContents) {m : Contents} → IsTrace places events before moments closing → AreAbout catalog events → HoldAs catalog places before m → Single catalog name places events m closing
+single {catalog} name {places} [] before [] closing {m} t about h = record { singles = []; last = m; traced = refl; same = subst (λ x. HoldAs catalog places x m) (sym t) h }
+single name [] before (s ∷ ss) closing t about h = absurd t
+single name (e ∷ es) before [] closing t about h = absurd t
+single {catalog} name {places} (event.Take client text answer ∷ es) before (s ∷ ss) closing {m} t about h = one_more catalog name places (event.Take client text answer) es m m closing refl (single name es s ss closing t.1 about.1 (subst (λ x. HoldAs catalog places x m) (sym t.0) h))
+single {catalog} name {places} (event.Stop client ∷ es) before (s ∷ ss) closing {m} t about h = one_more catalog name places (event.Stop client) es m m closing refl (single name es s ss closing t.1 about.1 (subst (λ x. HoldAs catalog places x m) (sym t.0) h))
+single {catalog} name {places} (event.Clock moment ∷ es) before (s ∷ ss) closing {m} t about h = one_more catalog name places (event.Clock moment) es m m closing refl (single name es s ss closing t.1 about.1 (subst (λ x. HoldAs catalog places x m) (sym t.0) h))
+single {catalog} name {places} (event.Idle client ∷ es) before (s ∷ ss) closing {m} t about h = one_more catalog name places (event.Idle client) es m m closing refl (single name es s ss closing t.1 about.1 (subst (λ x. HoldAs catalog places x m) (sym t.0) h))
+single {catalog} name {places} (event.Call client store q how r answer ∷ es) before (s ∷ ss) closing {m} t about h =
     let o = one catalog places store q how r before s m t.0 about.0 h in
     one_more catalog name places (event.Call client store q how r answer) es m o.left closing
     (record { held = m; left = o.left; placed = refl; found = one_held name m; performed = o.performed; others = sym (one_left name m o.left) })
-    (single catalog name places es s ss closing o.left t.1 about.1 o.same)
+    (single name es s ss closing t.1 about.1 o.same)
 
 pub single_of : (t : TraceOnMany) (name : Name) → HasTraceOnOne t name
 single_of t name =
-    let s = single t.catalog name t.places t.events t.opening t.moments t.closing t.held t.trace t.about t.same in
+    let s = single name t.events t.opening t.moments t.closing t.trace t.about t.same in
     record { singles = s.singles; last = s.last; traced = s.traced; same = s.same }

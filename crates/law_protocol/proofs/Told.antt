@@ -2,7 +2,7 @@
 use Rattle.std.proofs.Common.{◌≡◌, Bool, true, false, List, [], ◌∷◌, Option, Some, None, refl, sym, ap, subst, ◌∙◌, ◌⊎◌}
 use Rattle.std.specs.Prelude.{map, IsSome, IsSomeAnd, Contains, ◌↔◌, ◌||◌, is_some, slice_index_or, if◌then◌else◌}
 use Rattle.std.specs.Option.{option_and_then}
-use Rattle.law_protocol.specs.Types.{Answer, Decided, Event, Key, Outcome, Pair, Place, Point, Record, Script, Statement, Table, TableDump, TxId}
+use Rattle.law_protocol.specs.Types.{Answer, Decided, Event, Key, Pair, Place, Point, Record, Statement, Table, TableDump, TxId}
 use Rattle.sdb_types.specs.Contents.{Contents, record_at}
 use Rattle.sdb_record.specs.declared.coordinator.Decision.TheVariants as decision
 use Rattle.sdb_record.specs.Coordinator.{coordinator_key_of, decision_in}
@@ -13,7 +13,7 @@ use Rattle.std.specs.Result.{result_ok}
 use Rattle.sdb_model.specs.declared.answer.Answer.TheVariants as answer
 use Rattle.sdb_model.specs.Rows.{Name}
 use Rattle.sdb_model.specs.Exec.{find_table}
-use Rattle.sdb_model.specs.Events.{StoreContents, stored_at, IsTrace}
+use Rattle.sdb_model.specs.Events.{StoreContents, stored_at}
 use Rattle.sdb_model.specs.Images.{decision_at, decision_on, row_at}
 use Rattle.sdb_model.specs.Transactions.{Executed, IsOrder}
 use Rattle.sdb_model.specs.Serial.{AreBodies, AreRead, answers_given, commit_answer, IsSerial, RespectsRealTime, IsRun}
@@ -120,20 +120,14 @@ time_moved at catalog places closing name m events order a k client s among answ
 
 ---- the whole
 
-pub run_moved : (script : Script) (name : Name) (m0 m1 : Contents) (o : Outcome) (places : List Place) (at : Name → Name) (opening closing : List StoreContents) (moments : List (List StoreContents))
-    → script.places ≡ [] → IsRun script (one_store name m0) (one_store name m1) o
-    → IsTrace places (relocated_events at o.events) opening moments closing → HoldAs script.catalog places closing m1
-    → IsRun (script_with_places script places) opening closing (relocated_outcome at o)
-run_moved script name m0 m1 o places at opening closing moments none run trace held =
-    let a = alike script.catalog places closing name m1 held in
-    record {
-      moments = moments;
-      follows = follows_moved at script o.events run.follows;
-      consistent = trace;
-      order = order_moved at script.catalog places closing name m1 o.events o.order a (subst (λ (ps : List Place). IsOrder ps o.events (one_store name m1) o.order) none run.order);
-      answered = told_moved at script.catalog places closing name m1 o.events o.order o.tables a (subst (λ (ps : List Place). IsSerial script.catalog ps o.events (one_store name m1) o.order o.tables) none run.answered);
-      real_time = time_moved at script.catalog places closing name m1 o.events o.order a (subst (λ (ps : List Place). RespectsRealTime ps o.events (one_store name m1) o.order) none run.real_time);
-    }
-
 pub run_relocated : (r : RelocatedRun) → IsRun (script_with_places r.script r.places) r.opening r.closing (relocated_outcome r.at r.outcome)
-run_relocated r = run_moved r.script r.name r.held_before r.held_after r.outcome r.places r.at r.opening r.closing r.moments r.no_places r.run r.trace r.same
+run_relocated r =
+    let a = alike r.script.catalog r.places r.closing r.name r.held_after r.same in
+    record {
+      moments = r.moments;
+      follows = follows_moved r.at r.script r.outcome.events r.run.follows;
+      consistent = r.trace;
+      order = order_moved r.at r.script.catalog r.places r.closing r.name r.held_after r.outcome.events r.outcome.order a (subst (λ (ps : List Place). IsOrder ps r.outcome.events (one_store r.name r.held_after) r.outcome.order) r.no_places r.run.order);
+      answered = told_moved r.at r.script.catalog r.places r.closing r.name r.held_after r.outcome.events r.outcome.order r.outcome.tables a (subst (λ (ps : List Place). IsSerial r.script.catalog ps r.outcome.events (one_store r.name r.held_after) r.outcome.order r.outcome.tables) r.no_places r.run.answered);
+      real_time = time_moved r.at r.script.catalog r.places r.closing r.name r.held_after r.outcome.events r.outcome.order a (subst (λ (ps : List Place). RespectsRealTime ps r.outcome.events (one_store r.name r.held_after) r.outcome.order) r.no_places r.run.real_time);
+    }

@@ -19,6 +19,7 @@ use Rattle.sdb_client.specs.Execution.{IsExecution, IsPath, IsPlayable, State}
 use Rattle.law_runs.specs.Linked.{one_name}
 use Rattle.law_runs.specs.World.{states_of}
 use Rattle.law_runs.proofs.Steps.{execution_about, execution_linked}
+use Rattle.law_runs.specs.Traces.{InvariantOnOne}
 
 -- the first steps of a path
 record IsFront (script : Script) (s : State) (es : List Event) : Type 0 where
@@ -49,16 +50,18 @@ no_coordinator script p = by (find_table script.catalog coordinator_table) refl
     by None e = e
     by (Some t) e = clash (sym (p.apart (record { table = coordinator_table; partition = []; clustering = [] }) (ap is_some e)))
 
+-- the run invariant of an execution's events, as made on one store
+abbrev pub invariant_on_one : (script : Script) (events : List Event) → IsPlayable script → IsExecution script events → InvariantOnOne script.catalog
+invariant_on_one script events playable x = record { name = one_name; fit = tables_are_well_typed script.catalog; events = events; sys = system_of (states_of x.last.client_slots); doing = doing_of (states_of x.last.client_slots); running = execution_linked script events playable x }
+
 -- What there is after so many events is explained by them.
 pub explained_at : (script : Script) (events : List Event) (opening closing : List StoreContents) (moments : List (List StoreContents)) (n : ℕ) → IsPlayable script → IsExecution script events → IsTrace script.places events opening moments closing → HoldAs script.catalog script.places opening empty → Explained script.catalog script.places (take n events) opening (take n moments)
 explained_at script events opening closing moments n playable x trace nothing =
     let y : IsExecution script (take n events) = begins_execution script events n x in
-    going_is_explained script.catalog script.places one_name (tables_are_well_typed script.catalog) (take n events) (system_of (states_of y.last.client_slots)) (doing_of (states_of y.last.client_slots)) opening (moment opening moments n) (take n moments)
-    (execution_linked script (take n events) playable y) (no_coordinator script playable) (trace_front script.places n events opening moments closing trace) (execution_about script (take n events) playable y) nothing
+    going_is_explained (record { catalog = script.catalog; running = invariant_on_one script (take n events) playable y; apart = no_coordinator script playable; places = script.places; opening = opening; closing = moment opening moments n; moments = take n moments; trace = trace_front script.places n events opening moments closing trace; about = execution_about script (take n events) playable y; nothing = nothing })
 
 -- Each record that is there after so many events passes the checks.
 pub sound_at : (script : Script) (events : List Event) (opening closing : List StoreContents) (moments : List (List StoreContents)) (n : ℕ) → IsPlayable script → IsExecution script events → IsTrace script.places events opening moments closing → HoldAs script.catalog script.places opening empty → AreSound script.catalog script.places (moment opening moments n)
 sound_at script events opening closing moments n playable x trace nothing =
     let y : IsExecution script (take n events) = begins_execution script events n x in
-    sound_on_stores script one_name (tables_are_well_typed script.catalog) (take n events) (system_of (states_of y.last.client_slots)) (doing_of (states_of y.last.client_slots)) opening (moment opening moments n) (execution_linked script (take n events) playable y)
-    (record { moments = take n moments; traced = trace_front script.places n events opening moments closing trace; about = execution_about script (take n events) playable y; nothing = nothing })
+    sound_on_stores script (record { running = invariant_on_one script (take n events) playable y; opening = opening; closing = moment opening moments n; labelled = record { moments = take n moments; traced = trace_front script.places n events opening moments closing trace; about = execution_about script (take n events) playable y; nothing = nothing } })

@@ -47,7 +47,7 @@ module _ (catalog : List Table) (events : List Event) (c : ℕ) (h : ClientAt) (
   -- with the call, what it has said
   says : (b : Option Answer) → statements_by c (events ++ event.Call c store q how r b ∷ []) ≡ k.entries ++ replied_said events x b ∷ []
   says None = silent_said c events store q how r ∙ answered
-  says (Some b) = call_said c events store q how r b k.entries x answered
+  says (Some b) = call_said c events (made_at events store q how r) b k.entries x answered
 
   of_waiting : (m : StoreCall) → Contains (calls_of events c x ++ made_at events store q how r ∷ []) m → IsOfStatement E c m
   of_waiting m has = record {

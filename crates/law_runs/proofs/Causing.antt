@@ -6,7 +6,8 @@ use Rattle.sdb_types.specs.Contents.{CanAnswer}
 use Rattle.sdb_record.specs.Meta.{is_moment}
 use Rattle.sdb_model.specs.declared.event.Event.TheVariants as event
 use Rattle.sdb_model.specs.Rows.{Name}
-use Rattle.sdb_client.specs.Client.{ClientAt as Client, next_id}
+use Rattle.sdb_client.specs.Client.{ClientAt as Client, Taking, next_id}
+use Rattle.sdb_client.proofs.Public.{reply_of_step, text_of_step}
 use Rattle.sdb_client.specs.Step.{Receives, Step, Takes}
 use Rattle.law_protocol.specs.History.{at}
 use Rattle.law_clients.specs.About.{IsOfTables}
@@ -42,18 +43,17 @@ caused_by w i s t e here h = same_kept w.script.catalog (w.events ++ e ∷ []) w
 pub caused_takes : (w : WorldAt) (i : ℕ) (s : ClientSlot) (gate : Gate) (text : List ℕ) (a : Option Answer) (d : Client) → IsPlayable w.script → slice_get w.client_slots i ≡ Some s → s.stopped ≡ false → IsReady (states_of w.client_slots) (suc i) → IsGate (states_of w.client_slots) (suc i) gate → is_moment w.clock ≡ true → d.begun < 2 ^ 64
     → Step s.client (Takes (record { catalog = w.script.catalog; now = w.clock; gate = gate; fresh = next_id s.client }) text) a d → IsLinked w → HaveCauses w → HaveCauses (with_event (with_client w i (client_after s 1 d)) (event.Take (suc i) text a))
 caused_takes w i s gate text a d playable here goes ready gated moment begun takes linked h =
+    let taking : Taking = record { catalog = w.script.catalog; now = w.clock; gate = gate; fresh = next_id s.client } in
     caused_by w i s (client_after s 1 d) (event.Take (suc i) text a) here
     (subst (λ (b : Bool). CauseInvariant w.script.catalog (w.events ++ event.Take (suc i) text a ∷ []) w.clock (at (states_of w.client_slots) (suc i) (record { client = d; stopped = b }))) (sym goes)
-    (takes_all (record { catalog = w.script.catalog; now = w.clock; gate = gate; fresh = next_id s.client }) w.events (states_of w.client_slots) (suc i) text a d h ready gated moment playable.catalog (on_one w.events) (tables_are_well_typed w.script.catalog) linked playable.apart (on_hand (λ (x : ClientState). next_id s.client ≡ next_id x.client) w.client_slots i s here refl) begun
-    (on_hand (λ (x : ClientState). Step x.client (Takes (record { catalog = w.script.catalog; now = w.clock; gate = gate; fresh = next_id s.client }) text) a d) w.client_slots i s here takes)))
+    (takes_all (record { q = taking; states = states_of w.client_slots; client = suc i; text = text; result = a; after = d; of_data = record { is = playable.catalog; apart = playable.apart }; moment = moment; ready = ready; few = begun; numbered = on_hand (λ (x : ClientState). next_id s.client ≡ next_id x.client) w.client_slots i s here refl; takes = text_of_step taking text (states_of w.client_slots (suc i)).client a d (on_hand (λ (x : ClientState). Step x.client (Takes taking text) a d) w.client_slots i s here takes) }) w.events (record { gate = gated; reached = record { events = on_one w.events; fit = tables_are_well_typed w.script.catalog; running = linked } }) h))
 
 pub caused_calls : (w : WorldAt) (i : ℕ) (s : ClientSlot) (store : Name) (how : How) (q : Request) (r : Reply) (a : Option Answer) (d : Client) → IsPlayable w.script → slice_get w.client_slots i ≡ Some s → s.stopped ≡ false → IsWaiting w.script.catalog (states_of w.client_slots) (suc i) q → IsOfTables w.script.catalog s.client → CanAnswer q r → is_stored_reply r ≡ true → Step s.client (Receives q r w.clock) a d → is_moment w.clock ≡ true
     → IsLinked w → HaveCauses w → HaveCauses (with_event (with_client w i (client_after s 0 d)) (event.Call (suc i) store q how r a))
 caused_calls w i s store how q r a d playable here goes waiting about can stored answered moment linked h =
     caused_by w i s (client_after s 0 d) (event.Call (suc i) store q how r a) here
     (subst (λ (b : Bool). CauseInvariant w.script.catalog (w.events ++ event.Call (suc i) store q how r a ∷ []) w.clock (at (states_of w.client_slots) (suc i) (record { client = d; stopped = b }))) (sym goes)
-    (replies_all w.script.catalog w.events (states_of w.client_slots) (record { client = suc i; store = store; request = q; how = how; reply = r; now = w.clock }) a d playable.catalog playable.apart (record { waiting = waiting; can = can; moment = moment }) stored
-    (on_hand (λ (x : ClientState). IsOfTables w.script.catalog x.client) w.client_slots i s here about) (on_one w.events) (tables_are_well_typed w.script.catalog) linked h (on_hand (λ (x : ClientState). Step x.client (Receives q r w.clock) a d) w.client_slots i s here answered)))
+    (replies_all (record { catalog = w.script.catalog; states = states_of w.client_slots; call = record { client = suc i; store = store; request = q; how = how; reply = r; now = w.clock }; result = a; after = d; of_data = record { is = playable.catalog; apart = playable.apart }; called = record { waiting = waiting; can = can; moment = moment }; answered = (reply_of_step (states_of w.client_slots (suc i)).client q r w.clock a d (on_hand (λ (x : ClientState). Step x.client (Receives q r w.clock) a d) w.client_slots i s here answered)).1 }) w.events (record { stored = stored; about = on_hand (λ (x : ClientState). IsOfTables w.script.catalog x.client) w.client_slots i s here about; reached = record { events = on_one w.events; fit = tables_are_well_typed w.script.catalog; running = linked } }) h))
 
 pub caused_stops : (w : WorldAt) (i : ℕ) (s : ClientSlot) → slice_get w.client_slots i ≡ Some s → HaveCauses w → HaveCauses (with_event (with_client w i (client_stopped s)) (event.Stop (suc i)))
 caused_stops w i s here h =

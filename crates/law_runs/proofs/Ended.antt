@@ -1,31 +1,28 @@
 -- Events that are made on several stores are a run on them, where as made on one store they are tied to their clients.
-use Rattle.std.proofs.Common.{◌≡◌, ℕ, Bool, List, [], ◌∷◌, Option, refl, sym, ap, subst, ◌∙◌}
+use Rattle.std.proofs.Common.{◌≡◌, List, [], ◌∷◌, Option, refl, sym, ap, subst, ◌∙◌}
 use Rattle.std.specs.Prelude.{IsSome, IsSomeAnd, Contains, ◌↔◌, is_some, map, slice_index_or}
 use Rattle.std.specs.Option.{option_and_then, option_map}
 use Rattle.std.specs.Result.{result_ok}
 use Rattle.std.specs.FinMap.{empty, get-empty}
-use Rattle.law_runs.specs.Types.{Decided, Event, Pair, Place, Point, Record, Script, Statement, Table, TableDump, TxId}
+use Rattle.law_runs.specs.Types.{Decided, Event, Pair, Place, Point, Record, Script, Table, TableDump, TxId}
 use Rattle.sdb_types.specs.Contents.{Contents, record_of}
 use Rattle.sdb_types.specs.Order.{key_cmp}
 use Rattle.sdb_record.specs.declared.coordinator.Decision.TheVariants as decision
 use Rattle.sdb_record.specs.Coordinator.{coordinator_key_of, decision_in}
 use Rattle.sdb_model.specs.declared.event.Event.TheVariants as event
 use Rattle.sdb_model.specs.Events.{IsTrace, StoreContents, store_of, table_asked}
-use Rattle.sdb_model.specs.Exec.{Tables, find_table}
+use Rattle.sdb_model.specs.Exec.{find_table}
 use Rattle.sdb_model.specs.Form.{script_with_places}
 use Rattle.sdb_model.specs.Images.{decision_at}
 use Rattle.sdb_model.specs.Rows.{Name}
 use Rattle.sdb_model.specs.Serial.{IsRun}
 use Rattle.sdb_model.specs.Transactions.{IsOrder}
 use Rattle.law_protocol.specs.Trace.{StartsEmpty}
-use Rattle.law_protocol.proofs.Public.{commit_moved, follows_moved, one_standing, point_moved, run_moved, single, store_same}
-use Rattle.law_clients.specs.System.{SystemAt}
-use Rattle.law_clients.specs.Left.{IsFitting}
-use Rattle.law_clients.specs.Invariant.{RunInvariant}
+use Rattle.law_protocol.proofs.Public.{commit_moved, follows_moved, one_standing, point_moved, run_relocated, single, store_same}
 use Rattle.law_clients.proofs.Public.{going_is_run}
 use Rattle.law_protocol.specs.Spread.{HoldAs, relocated_events, one_store}
-use Rattle.law_runs.specs.Ending.{IsEnd}
 use Rattle.sdb_types.proofs.Public.{or_true}
+use Rattle.law_runs.specs.Traces.{EndOnStores, outcome_on}
 
 ---- back to the stores of their tables
 
@@ -69,17 +66,13 @@ order_on_one at catalog places closing name m events order h o = record {
 pub starts_empty : (name : Name) → StartsEmpty [] (one_store name empty)
 starts_empty name key = one_standing name empty key ∙ ap (λ (o : Option (List Pair)). option_map (λ (columns : List Pair). record_of (key, columns)) o) (get-empty key_cmp key)
 
-pub going_is_run_on_stores : (script : Script) (name : Name) (fit : Tables → Bool) (events : List Event) (sys : SystemAt) (doing : ℕ → Option Statement) (opening closing : List StoreContents) (order : List Point)
-    → IsFitting script.catalog fit → RunInvariant script.catalog fit (relocated_events (λ ns. name) events) sys doing → IsEnd script events opening closing order
-    → (tables : List TableDump) × IsRun script opening closing (record { events = events; order = order; tables = tables })
-going_is_run_on_stores script name fit events sys doing opening closing order fitting running e =
+pub going_is_run_on_stores : (script : Script) (e : EndOnStores script) → (tables : List TableDump) × IsRun script e.opening e.closing (outcome_on e tables)
+going_is_run_on_stores script e =
     let alone : Script = script_with_places script [] in
-    let moved : List Event = relocated_events (λ ns. name) events in
-    let s = single script.catalog name script.places events opening e.moments closing empty e.traced e.about e.nothing in
-    let ran = going_is_run alone fit moved sys doing (one_store name empty) (one_store name s.last) s.singles order fitting running
-    (follows_moved (λ ns. name) script events e.follows) s.traced (starts_empty name) (order_on_one (λ ns. name) script.catalog script.places closing name s.last events order s.same e.ordered) e.small in
-    let at : Name → Name = store_of script.places opening in
-    let back : relocated_events at moved ≡ events = put_back name script.places at events opening e.moments closing (λ ns. refl) e.traced in
-    let there = run_moved alone name empty s.last (record { events = moved; order = order; tables = ran.0 }) script.places at opening closing e.moments refl ran.1
-    (subst (λ (es : List Event). IsTrace script.places es opening e.moments closing) (sym back) e.traced) s.same in
-    (ran.0, subst (λ (es : List Event). IsRun script opening closing (record { events = es; order = order; tables = ran.0 })) back there)
+    let moved : List Event = relocated_events (λ ns. e.running.name) e.running.events in
+    let s = single e.running.name e.running.events e.opening e.ends.moments e.closing e.ends.traced e.ends.about e.ends.nothing in
+    let ran = going_is_run alone (record { fit = e.running.fit; events = moved; sys = e.running.sys; doing = e.running.doing; opening = one_store e.running.name empty; closing = one_store e.running.name s.last; moments = s.singles; order = e.order; fitting = e.fitting; running = e.running.running; follows = follows_moved (λ ns. e.running.name) script e.running.events e.ends.follows; traced = s.traced; empty = starts_empty e.running.name; ordered = order_on_one (λ ns. e.running.name) script.catalog script.places e.closing e.running.name s.last e.running.events e.order s.same e.ends.ordered; ids = e.ends.small }) in
+    let at : Name → Name = store_of script.places e.opening in
+    let back : relocated_events at moved ≡ e.running.events = put_back e.running.name script.places at e.running.events e.opening e.ends.moments e.closing (λ ns. refl) e.ends.traced in
+    let there = run_relocated (record { script = alone; name = e.running.name; held_before = empty; held_after = s.last; outcome = record { events = moved; order = e.order; tables = ran.0 }; no_places = refl; run = ran.1; places = script.places; at = at; opening = e.opening; closing = e.closing; moments = e.ends.moments; trace = subst (λ (es : List Event). IsTrace script.places es e.opening e.ends.moments e.closing) (sym back) e.ends.traced; same = s.same }) in
+    (ran.0, subst (λ (es : List Event). IsRun script e.opening e.closing (record { events = es; order = e.order; tables = ran.0 })) back there)

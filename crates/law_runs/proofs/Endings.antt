@@ -227,7 +227,7 @@ module _ (catalog : List Table) (events : List Event) (c : ℕ) (h d : ClientAt)
 
     -- where a read leads, what it found is dealt with
     rolled : (a : Option Answer) (z : ReadCall catalog events c x h q r now a d) → ReadRolls (E a) (reads_vacuum x.text) (ms ++ made ∷ []) (read_step z.x.stage now r)
-    rolled a z = read_rolls (E a) (reads_vacuum x.text) ms made older now (clock_now a) moment (request_of z.access) z.x.stage (reads_so_far c events (event.Call c store q how r a) x z.x.stage so) asks
+    rolled a z = read_rolls (record { events = E a; calls = ms; call = made; now = now; later = older; clock = clock_now a }) (reads_vacuum x.text) moment (request_of z.access) z.x.stage (reads_so_far c events (event.Call c store q how r a) x z.x.stage so) asks
       where
         so : ReadRolls events (reads_vacuum x.text) ms z.x.stage
         so =

@@ -6,7 +6,7 @@ use Rattle.std.specs.Option.{option_and_then}
 use Rattle.std.specs.Result.{result_ok}
 use Rattle.std.specs.FinMap.{empty}
 use Rattle.std.proofs.lemmas.List.{length-map}
-use Rattle.law_runs.specs.Types.{Answer, Decided, Event, How, Key, Place, Record, Reply, Request, Statement, Table, TxId}
+use Rattle.law_runs.specs.Types.{Answer, Decided, Event, How, Key, Place, Record, Reply, Request, Table, TxId}
 use Rattle.sdb_types.specs.Contents.{Contents}
 use Rattle.sdb_types.proofs.Public.{clash, or_first, or_true}
 use Rattle.sdb_record.specs.declared.coordinator.Decision.TheVariants as decision
@@ -14,8 +14,8 @@ use Rattle.sdb_record.specs.Coordinator.{coordinator_key_of, coordinator_table, 
 use Rattle.sdb_record.specs.Meta.{id_in}
 use Rattle.sdb_record.specs.Rolls.{image_of}
 use Rattle.sdb_model.specs.declared.event.Event.TheVariants as event
-use Rattle.sdb_model.specs.Events.{IsTrace, StoreContents, moment, stored_at, table_asked}
-use Rattle.sdb_model.specs.Exec.{Tables, find_table}
+use Rattle.sdb_model.specs.Events.{StoreContents, moment, stored_at, table_asked}
+use Rattle.sdb_model.specs.Exec.{find_table}
 use Rattle.sdb_model.specs.Explained.{Explained, IsCurrent, IsLastBefore, IsLeftBy, IsOfOrLater, IsPrepareOf, IsPreparedAfter, IsTableKey, IsWriter, ReadsCurrent, ContentsExplained, closing_of, AreTransactional}
 use Rattle.sdb_model.specs.Images.{decision_at, image_at}
 use Rattle.sdb_model.specs.ReadSet.{ReadItem}
@@ -23,33 +23,32 @@ use Rattle.sdb_model.specs.Rows.{Name}
 use Rattle.sdb_model.specs.Transactions.{Recorded, point}
 use Rattle.sdb_model.proofs.Public.{call_of, puts_table}
 use Rattle.law_protocol.proofs.Public.{begun_moved, committed_at, current_at, gone_at, moved_more, point_moved, rows_at, stand_at, stands_at, unchanged_at, unresolved_at}
-use Rattle.law_clients.specs.System.{SystemAt}
-use Rattle.law_clients.specs.Invariant.{RunInvariant}
-use Rattle.law_protocol.specs.Spread.{AreAbout, HoldAs, IsAbout, relocated_event, relocated_events, one_store}
+use Rattle.law_protocol.specs.Spread.{AreAbout, IsAbout, relocated_event, relocated_events, one_store}
 use Rattle.law_runs.proofs.Ended.{starts_empty}
 use Rattle.law_runs.proofs.Moments.{Alone, alone}
 use Rattle.law_runs.proofs.Noted.{noted_moved}
 use Rattle.law_runs.proofs.Runs.{IsLawfulRun, lawful_run}
 use Rattle.law_runs.proofs.Standing.{taken_at}
 use Rattle.sdb_model.specs.Tables.{is_table_of_run}
+use Rattle.law_runs.specs.Traces.{TracedOnStores}
 
 ---- a run of the laws
 
 standing_by_run : (catalog : List Table) (places : List Place) (events : List Event) (opening : List StoreContents) (moments : List (List StoreContents)) → find_table catalog coordinator_table ≡ None → IsLawfulRun places events opening moments → ContentsExplained catalog places events opening moments
 standing_by_run catalog places events opening moments none b =
     subst (λ (es : List Event). ContentsExplained catalog places es opening moments) (sym b.same) (record {
-      committed_recorded = λ n low. committed_at b.plan places opening b.labelled moments catalog n b.run none low;
-      unresolved_prepared = λ n low. unresolved_at b.plan places opening b.labelled moments catalog n b.run none low;
-      prepared_stands = λ n low. stands_at b.plan places opening b.labelled moments catalog n b.run none low;
+      committed_recorded = λ n low. committed_at b.labelled moments catalog n b.run none low;
+      unresolved_prepared = λ n low. unresolved_at b.labelled moments catalog n b.run none low;
+      prepared_stands = λ n low. stands_at b.labelled moments catalog n b.run none low;
       writes_stand = stand_at b.plan places opening b.labelled moments catalog b.run none b.faithful;
-      aborted_gone = λ n low. gone_at b.plan places opening b.labelled moments catalog n b.run none low;
-      rows_final = λ early late order low. rows_at b.plan places opening b.labelled moments early late b.run order low;
+      aborted_gone = λ n low. gone_at b.labelled moments catalog n b.run none low;
+      rows_final = λ early late order low. rows_at b.labelled moments early late b.run order low;
       unchanged_resolved = unchanged_at b.plan places opening b.labelled moments catalog b.run none;
     })
 
 -- what each recorded transaction noted is current
 reads_by_run : (catalog : List Table) (places : List Place) (events : List Event) (opening : List StoreContents) (moments : List (List StoreContents)) → find_table catalog coordinator_table ≡ None → IsLawfulRun places events opening moments → ReadsCurrent catalog places events opening moments
-reads_by_run catalog places events opening moments none b = subst (λ (es : List Event). ReadsCurrent catalog places es opening moments) (sym b.same) (current_at b.plan places opening b.labelled moments catalog b.run none b.faithful b.as_read)
+reads_by_run catalog places events opening moments none b = subst (λ (es : List Event). ReadsCurrent catalog places es opening moments) (sym b.same) (current_at b.labelled moments catalog b.run none b.faithful b.as_read)
 
 ---- calls among events
 
@@ -292,25 +291,20 @@ module _ (catalog : List Table) (name : Name) (places : List Place) (events : Li
 abbrev Beside : List Table → List Place → Name → List Event → List StoreContents → List (List StoreContents) → Type 0
 Beside catalog places name events opening moments = (a : Alone catalog name places events opening moments empty) × IsLawfulRun [] (relocated_events (λ ns. name) events) (one_store name empty) a.singles
 
-beside : (catalog : List Table) (places : List Place) (name : Name) (fit : Tables → Bool) (events : List Event) (sys : SystemAt) (doing : ℕ → Option Statement) (opening closing : List StoreContents) (moments : List (List StoreContents))
-    → RunInvariant catalog fit (relocated_events (λ ns. name) events) sys doing → IsTrace places events opening moments closing → AreAbout catalog events → HoldAs catalog places opening empty → Beside catalog places name events opening moments
-beside catalog places name fit events sys doing opening closing moments g t about h =
-    let a = alone catalog name places events opening moments closing empty t about h in
-    (a, lawful_run catalog fit (relocated_events (λ ns. name) events) sys doing [] (one_store name empty) a.last a.singles g a.traced (starts_empty name))
+beside : (t : TracedOnStores) → Beside t.catalog t.places t.running.name t.running.events t.opening t.moments
+beside t =
+    let a = alone t.catalog t.running.name t.places t.running.events t.opening t.moments t.closing empty t.trace t.about t.nothing in
+    (a, lawful_run t.catalog t.running.fit (relocated_events (λ ns. t.running.name) t.running.events) t.running.sys t.running.doing [] (one_store t.running.name empty) a.last a.singles t.running.running a.traced (starts_empty t.running.name))
 
-pub going_is_explained : (catalog : List Table) (places : List Place) (name : Name) (fit : Tables → Bool) (events : List Event) (sys : SystemAt) (doing : ℕ → Option Statement) (opening closing : List StoreContents) (moments : List (List StoreContents))
-    → RunInvariant catalog fit (relocated_events (λ ns. name) events) sys doing → find_table catalog coordinator_table ≡ None → IsTrace places events opening moments closing → AreAbout catalog events → HoldAs catalog places opening empty
-    → Explained catalog places events opening moments
-going_is_explained catalog places name fit events sys doing opening closing moments g none t about h =
-    let b = beside catalog places name fit events sys doing opening closing moments g t about h in
+pub going_is_explained : (t : TracedOnStores) → Explained t.catalog t.places t.running.events t.opening t.moments
+going_is_explained t =
+    let b = beside t in
     record {
-      stored_at = standing_back catalog name places events opening moments empty about b.0 (standing_by_run catalog [] (relocated_events (λ ns. name) events) (one_store name empty) b.0.singles none b.1);
-      reads_current = reads_back catalog name places events opening moments empty about b.0 (reads_by_run catalog [] (relocated_events (λ ns. name) events) (one_store name empty) b.0.singles none b.1);
+      stored_at = standing_back t.catalog t.running.name t.places t.running.events t.opening t.moments empty t.about b.0 (standing_by_run t.catalog [] (relocated_events (λ ns. t.running.name) t.running.events) (one_store t.running.name empty) b.0.singles t.apart b.1);
+      reads_current = reads_back t.catalog t.running.name t.places t.running.events t.opening t.moments empty t.about b.0 (reads_by_run t.catalog [] (relocated_events (λ ns. t.running.name) t.running.events) (one_store t.running.name empty) b.0.singles t.apart b.1);
     }
 
-pub going_is_taken : (catalog : List Table) (places : List Place) (name : Name) (fit : Tables → Bool) (events : List Event) (sys : SystemAt) (doing : ℕ → Option Statement) (opening closing : List StoreContents) (moments : List (List StoreContents))
-    → RunInvariant catalog fit (relocated_events (λ ns. name) events) sys doing → find_table catalog coordinator_table ≡ None → IsTrace places events opening moments closing → AreAbout catalog events → HoldAs catalog places opening empty
-    → AreTransactional catalog places opening moments
-going_is_taken catalog places name fit events sys doing opening closing moments g none t about h =
-    let b = beside catalog places name fit events sys doing opening closing moments g t about h in
-    taken_back catalog name places events opening moments empty about b.0 (taken_at b.1.plan [] (one_store name empty) b.1.labelled b.0.singles catalog b.1.run none)
+pub going_is_taken : (t : TracedOnStores) → AreTransactional t.catalog t.places t.opening t.moments
+going_is_taken t =
+    let b = beside t in
+    taken_back t.catalog t.running.name t.places t.running.events t.opening t.moments empty t.about b.0 (taken_at b.1.plan [] (one_store t.running.name empty) b.1.labelled b.0.singles t.catalog b.1.run t.apart)

@@ -27,7 +27,7 @@ use Rattle.sdb_model.specs.Exec.{find_table}
 use Rattle.sdb_model.specs.Explained.{IsPreparedAfter, IsTableKey, Observes, ContentsExplained, AreTransactional}
 use Rattle.sdb_model.specs.Images.{decision_at, decision_on}
 use Rattle.sdb_model.specs.ReadSet.{meaning_of, reads_rows}
-use Rattle.sdb_model.specs.DirtyReads.{AnswersHaveRows, NoDirtyReads, CommittedBy, HasRow, IsMeantBy, ReadsKey, AnswersAreOf, WasCommitted, WasFound}
+use Rattle.sdb_model.specs.DirtyReads.{AnswersHaveRows, CommittedBy, HasRow, IsMeantBy, ReadsKey, AnswersAreOf, WasCommitted, WasFound}
 use Rattle.sdb_model.specs.Transactions.{Executed, client_of}
 use Rattle.law_protocol.proofs.Public.{after_put, apart_from, at_call, AtCall, get_reply, scan_reply}
 use Rattle.law_clients.proofs.Public.{among_found, meaning_settled}
@@ -35,6 +35,7 @@ use Rattle.law_runs.specs.DirtyReads.{FoundDecided, IsDecidedIn, IsReader, ReadB
 use Rattle.law_runs.proofs.Agreeing.{Stands, decisions_agree, same_row, shown_stands}
 use Rattle.law_runs.proofs.Calls.{IsAt, IsWithin, call_at, effect_at, later_call, the_first, within_statement}
 use Rattle.law_runs.proofs.Others.{PutsAt, stood_or_put}
+use Rattle.law_runs.specs.Traces.{AnswersAsRead, HasNoDirtyReads, HasTransactional, IsApart, IsExplainedTrace, Traced}
 
 ---- one event
 
@@ -97,7 +98,7 @@ read_of (ask.Scan span) (reply.Rows rows) key found (inside, is) = record {
   reads = inside;
   is = refl;
   table = table_exact span.table key.table (equal_of (table_cmp span.table key.table) (and_first (is_eq (table_cmp span.table key.table)) (is_partition span.partition key) inside));
-  stood = λ places before now a. sym (scan_reply places span (reply.Rows rows) rows before now a refl key inside) ∙ is;
+  stood = λ places before now a. sym (scan_reply span (reply.Rows rows) rows a refl key inside) ∙ is;
   observed = λ y e. among_found rows key y (is ∙ e);
 }
 read_of (ask.Get k) r key found h = absurd h
@@ -380,10 +381,9 @@ answers_as catalog was now events f h id s a has is = by a (h id s a has is)
     by (answer.Duplicate key) (columns, row) = (columns, has_row_as catalog (was (client_of id)) (now (client_of id)) id events (f (client_of id)) s key (Some columns) row)
     by a k = tt
 
-pub answers_committed : (catalog : List Table) (places : List Place) (events : List Event) (opening closing : List StoreContents) (moments : List (List StoreContents)) → find_table catalog coordinator_table ≡ None → IsTrace places events opening moments closing → ContentsExplained catalog places events opening moments → AreTransactional catalog places opening moments → AreResolved events
-    → AnswersHaveRows catalog (ReadBy catalog events) events → NoDirtyReads catalog places events opening moments
-answers_committed catalog places events opening closing moments none trace x all rolled answers = answers_as catalog (ReadBy catalog events) (CommittedBy places events opening moments) events committed answers
+pub answers_committed : (t : Traced) → IsApart t → IsExplainedTrace t → HasTransactional t → AreResolved t.events → AnswersAsRead t → HasNoDirtyReads t
+answers_committed t none x all rolled answers = answers_as t.catalog (ReadBy t.catalog t.events) (CommittedBy t.places t.events t.opening t.moments) t.events committed answers
   where
-    committed : (client : ℕ) (s : Executed) (key : Key) (row : Option (List Pair)) → ReadBy catalog events client s key row → CommittedBy places events opening moments client s key row
+    committed : (client : ℕ) (s : Executed) (key : Key) (row : Option (List Pair)) → ReadBy t.catalog t.events client s key row → CommittedBy t.places t.events t.opening t.moments client s key row
     committed client s key row (reader, table, w) =
-        found_committed catalog places events opening closing moments client s key trace table x row w (resolved_decided catalog places events opening closing moments client s key trace table none all rolled reader)
+        found_committed t.catalog t.places t.events t.opening t.closing t.moments client s key t.trace table x row w (resolved_decided t.catalog t.places t.events t.opening t.closing t.moments client s key t.trace table none all rolled reader)

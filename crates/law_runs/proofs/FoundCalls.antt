@@ -158,7 +158,7 @@ module _ (catalog : List Table) (is : is_catalog catalog ≡ true) (apart : (k :
     open_at (Ended s) i = absurd i
 
     observed : StageObserves z.x.request (ms ++ made ∷ []) (read_step z.x.stage now r)
-    observed = shows_on z.x.request ms made now moment z.access z.x.stage z.asked.request (open_at z.x.stage z.is.stage) z.is.shows z.pends can
+    observed = shows_on ms now moment z.access z.asked.request (record { stage = z.x.stage; call = made; pending = z.pends }) (open_at z.x.stage z.is.stage) z.is.shows can
 
     has_read : (images : List Record) → read_step z.x.stage now r ≡ Ended (step.Images images) → HasRead (request_of z.access) (ms ++ made ∷ []) images []
     has_read images e = subst (λ (y : Request). HasRead y (ms ++ made ∷ []) images []) z.asked.request (subst (StageObserves z.x.request (ms ++ made ∷ [])) e observed)
@@ -249,4 +249,4 @@ module _ (catalog : List Table) (is : is_catalog catalog ≡ true) (apart : (k :
   calls_runs None z = follows.still_runs catalog events c h k runs (ev None) d (ap (filter is_answered) (silent_said c events store q how r) ∙ answered_of_is catalog events c h k) (call_comes None z)
   calls_runs (Some b) z =
       follows.next_runs catalog events c h k runs (ev (Some b)) (done b) d
-      (ap (filter is_answered) (call_said c events store q how r b k.entries x (k.same ∙ ap (λ (o : Option Executed). k.entries ++ waiting_of o) waiting)) ∙ filter-append is_answered k.entries (done b ∷ []) ∙ ap (λ ss. ss ++ done b ∷ []) (all_answered catalog events c k.entries k.answered)) (call_comes (Some b) z) (last_wrote b z)
+      (ap (filter is_answered) (call_said c events (made_at events store q how r) b k.entries x (k.same ∙ ap (λ (o : Option Executed). k.entries ++ waiting_of o) waiting)) ∙ filter-append is_answered k.entries (done b ∷ []) ∙ ap (λ ss. ss ++ done b ∷ []) (all_answered catalog events c k.entries k.answered)) (call_comes (Some b) z) (last_wrote b z)

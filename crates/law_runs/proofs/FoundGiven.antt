@@ -178,7 +178,7 @@ module _ (catalog : List Table) (events : List Event) (c : ℕ) (ss : List Execu
       where
         by : (b : Bool) → in_access own q ≡ b → is_misfit_row catalog q (get d q) ≡ is_misfit_row catalog q (get (with_changes d ks) q)
         by true e = fits_before q e ∙ sym (fits_after q e)
-        by false e = ap (is_misfit_row catalog q) (sym (left_outside catalog p.table p.statement v.seen on.is on.named fits d q e))
+        by false e = ap (is_misfit_row catalog q) (sym (left_outside p.table p.statement v.seen d q e))
 
     left_view : IsViewOf catalog (exec_on catalog p.statement w).1 (with_written v.seen ks)
     left_view = record {

@@ -44,7 +44,7 @@ AllRun w = (c : ℕ) → ClientRuns w.script.catalog w.events c (states_of w.cli
 
 -- a client that reads had read what it wrote
 going_kept : (catalog : List Table) (fit : Tables → Bool) (es : List Event) (states : ℕ → ClientState) (g : RunInvariant catalog fit es (system_of states) (doing_of states)) (c : ℕ) → (states c).stopped ≡ false → (states c).client.vacuum ≡ None → (t : TxnAt) → (states c).client.txn ≡ Some t → (a : Access) (x : ReadAt) → t.doing ≡ doing.Read a x → WereRead t.seen.read_set t.seen.writes
-going_kept catalog fit es states g c goes_on free t some a x reads = (going_told catalog fit es states g c goes_on free t a x some reads).1
+going_kept catalog fit es states g c goes_on free t some a x reads = (going_told states g c goes_on free some reads).1
 
 ---- the clients by their numbers
 

@@ -575,7 +575,7 @@ module _ (catalog : List Table) (events : List Event) (c : ℕ) (h d : ClientAt)
           let acked : statements_by c events ≡ k.entries ++ x ∷ [] = k.same ∙ ap (λ (o : Option Executed). k.entries ++ waiting_of o) waiting in
           inl (record {
             commit = subst (IsCommitOf (E (Some b)) c (executed_with_answer events x b)) (sym (own.0 ∙ z.is.same))
-                (commit_is (E (Some b)) c h.begun k.entries (executed_with_answer events x b) z.t k.small (call_said c events store q how r b k.entries x acked) z.is.text (ends_commit (executed_with_answer events x b) z.is.text) z.since);
+                (commit_is (E (Some b)) (executed_with_answer events x b) k.small (call_said c events (made_at events store q how r) b k.entries x acked) z.is.text (ends_commit (executed_with_answer events x b) z.is.text) z.since);
             decision = own.1;
             asks = own.2 ∙ ap (λ (i : TxId). row_put i own.1 z.k.work.now) (sym own.0) ∙ ap (row_put id own.1) (shows (Some b));
           })

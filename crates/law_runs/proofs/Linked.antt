@@ -81,7 +81,7 @@ pub linked_calls : (w : WorldAt) (i : ℕ) (s : ClientSlot) (store : Name) (how 
 linked_calls w i s store how q r a d playable here goes waiting can answered moment g =
     linked_by w i s (client_after s 0 d) (event.Call (suc i) store q how r a) here
     (subst (λ (b : Bool). RunInvariant w.script.catalog (tables_are_well_typed w.script.catalog) (on_one w.events ++ event.Call (suc i) one_name q how r a ∷ []) (system_of (at (states_of w.client_slots) (suc i) (record { client = d; stopped = b }))) (doing_of (at (states_of w.client_slots) (suc i) (record { client = d; stopped = b })))) (sym goes)
-    (replies_so w.script.catalog (on_one w.events) (states_of w.client_slots) g (record { client = suc i; store = one_name; request = q; how = how; reply = r; now = w.clock }) playable.catalog (record { waiting = waiting; can = can; moment = moment }) playable.apart a d (on_hand (λ (h : ClientState). Step h.client (Receives q r w.clock) a d) w.client_slots i s here answered)))
+    (replies_so w.script.catalog (on_one w.events) (states_of w.client_slots) g (record { client = suc i; store = one_name; request = q; how = how; reply = r; now = w.clock }) playable.catalog (record { waiting = waiting; can = can; moment = moment }) playable.apart (on_hand (λ (h : ClientState). Step h.client (Receives q r w.clock) a d) w.client_slots i s here answered)))
 
 ---- a client stops
 

@@ -48,6 +48,6 @@ alone catalog name places [] before [] closing m t about h = record { singles = 
 alone catalog name places [] before (s ∷ ss) closing m t about h = absurd t
 alone catalog name places (e ∷ es) before [] closing m t about h = absurd t
 alone catalog name places (e ∷ es) before (s ∷ ss) closing m t about h =
-    let one = single catalog name places (e ∷ []) before (s ∷ []) s m (t.0, refl) (about.0, tt) h in
+    let one = single name (e ∷ []) before (s ∷ []) s (t.0, refl) (about.0, tt) h in
     alone_more catalog name places e es before s ss m one.last (lone_effect [] (relocated_event (λ ns. name) e) (one_store name m) (one_store name one.last) one.singles one.traced) h
     (alone catalog name places es s ss closing one.last t.1 about.1 one.same)

@@ -18,7 +18,7 @@ use Rattle.law_clients.specs.States.{ClientState}
 use Rattle.law_clients.specs.History.{executed_with_answer, executed_of_take, waiting_of}
 use Rattle.law_clients.proofs.Public.{others_silent, said_more, take_said}
 use Rattle.law_answers.specs.Invariant.{IsAnswered, IsDoing, IsWaiting, Knows, DoingByHistory, ClientByHistory, begun_in, open_after}
-use Rattle.law_answers.proofs.Public.{call_said, silent_said, take_open}
+use Rattle.law_answers.proofs.Public.{call_said, made_at, silent_said, take_open}
 use Rattle.sdb_client.specs.Execution.{IsExecution, IsPath, IsPlayable, IsStepFrom, State}
 use Rattle.law_runs.specs.Found.{IsNewRead, ReadsAreNew, is_answered, takes_part}
 use Rattle.law_runs.specs.World.{WorldAt, states_of, state_of}
@@ -104,7 +104,7 @@ module _ (w : WorldAt) (h : Holds w) (all : AllRun w) (so : AllSo NothingMore Wa
       by None e = rests_new catalog w.events (event.Call c store q how r None) c t.client_slot.client k (silent_said c w.events store q how r) (new c)
       by (Some b) e =
           ends_new catalog w.events (event.Call c store q how r (Some b)) c t.client_slot.client k (executed_with_answer w.events x.0 b)
-          (ap (filter is_answered) (call_said c w.events store q how r b k.entries x.0 (k.same ∙ ap (λ (o : Option Executed). k.entries ++ waiting_of o) x.1)) ∙ filter-append is_answered k.entries (executed_with_answer w.events x.0 b ∷ []) ∙ ap (λ ss. ss ++ executed_with_answer w.events x.0 b ∷ []) (all_answered catalog w.events c k.entries k.answered)) (new c)
+          (ap (filter is_answered) (call_said c w.events (made_at w.events store q how r) b k.entries x.0 (k.same ∙ ap (λ (o : Option Executed). k.entries ++ waiting_of o) x.1)) ∙ filter-append is_answered k.entries (executed_with_answer w.events x.0 b ∷ []) ∙ ap (λ ss. ss ++ executed_with_answer w.events x.0 b ∷ []) (all_answered catalog w.events c k.entries k.answered)) (new c)
           (answered_new catalog w.events c t.client_slot.client t.client k (subst (λ (y : ClientState). ClientRuns catalog w.events c y.client) next_state (all c)) store q how r w.clock x.0 b waits (wait_new w so c t.client_slot.client (ap (λ (y : ClientState). y.client) next_state) k x.0 x.1 waits)
           (subst (λ (o : Option Answer). CallOf catalog w.events c k.entries x.0 t.client_slot.client q r w.clock o t.client) e (call_of catalog w.events c t.client_slot.client k x.0 x.1 q r w.clock a t.client t.pending (h.world.each t.place t.client_slot t.at).fitted t.takes)))
 

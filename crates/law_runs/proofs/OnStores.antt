@@ -1,58 +1,56 @@
 -- Recorded transactions and records on the stores of a script.
-use Rattle.std.proofs.Common.{◌≡◌, ℕ, Bool, true, List, [], Option, Some, sym, subst, ◌∙◌}
+use Rattle.std.proofs.Common.{◌≡◌, true, List, [], Option, Some, sym, subst, ◌∙◌}
 use Rattle.std.specs.Prelude.{IsSome, IsSomeAnd, is_some}
 use Rattle.std.specs.FinMap.{empty}
-use Rattle.law_runs.specs.Types.{Decided, Event, Key, Record, Script, Statement, Table, TableName, TxId}
+use Rattle.law_runs.specs.Types.{Decided, Event, Key, Record, Script, Table, TableName, TxId}
 use Rattle.sdb_record.specs.declared.coordinator.Decision.TheVariants as decision
 use Rattle.sdb_record.specs.Coordinator.{is_coordinator_table}
-use Rattle.sdb_model.specs.Events.{StoreContents, stored_at}
-use Rattle.sdb_model.specs.Exec.{Tables, find_table}
-use Rattle.sdb_model.specs.Rows.{Name}
+use Rattle.sdb_model.specs.Events.{stored_at}
+use Rattle.sdb_model.specs.Exec.{find_table}
 use Rattle.sdb_model.specs.Transactions.{Recorded}
-use Rattle.law_clients.specs.System.{SystemAt}
-use Rattle.law_clients.specs.Invariant.{RunInvariant}
 use Rattle.law_protocol.specs.Spread.{relocated_events, one_store}
 use Rattle.law_protocol.proofs.Public.{commit_moved, one_standing, point_moved, Single, single}
 use Rattle.law_runs.specs.Points.{HavePoints}
-use Rattle.law_runs.specs.Stores.{AreSound, IsTraceOnEmpty}
+use Rattle.law_runs.specs.Stores.{AreSound}
 use Rattle.law_runs.proofs.Ended.{decides, starts_empty}
 use Rattle.law_runs.proofs.Recorded.{have_points}
 use Rattle.law_runs.proofs.Runs.{ByLaws, by_laws}
 use Rattle.law_runs.proofs.Standing.{are_known}
 use Rattle.sdb_types.proofs.Public.{or_true}
 use Rattle.sdb_model.specs.Tables.{is_table_of_run}
+use Rattle.law_runs.specs.Traces.{TraceOnStores}
 
 rows_played : (catalog : List Table) (table : TableName) → is_coordinator_table table ≡ true → is_table_of_run catalog table ≡ true
 rows_played catalog table h = rw h (or_true (is_some (find_table catalog table)))
 
-module _ (script : Script) (name : Name) (fit : Tables → Bool) (events : List Event) (sys : SystemAt) (doing : ℕ → Option Statement) (opening closing : List StoreContents) (g : RunInvariant script.catalog fit (relocated_events (λ ns. name) events) sys doing) (p : IsTraceOnEmpty script events opening closing) where
+module _ (script : Script) (t : TraceOnStores script) where
   abbrev moved : List Event
-  moved = relocated_events (λ ns. name) events
+  moved = relocated_events (λ ns. t.running.name) t.running.events
 
-  abbrev one : Single script.catalog name script.places events empty closing
-  one = single script.catalog name script.places events opening p.moments closing empty p.traced p.about p.nothing
+  abbrev one : Single script.catalog t.running.name script.places t.running.events empty t.closing
+  one = single t.running.name t.running.events t.opening t.labelled.moments t.closing t.labelled.traced t.labelled.about t.labelled.nothing
 
-  laws : ByLaws [] moved (one_store name empty) (one_store name one.last)
-  laws = by_laws script.catalog fit moved sys doing [] (one_store name empty) (one_store name one.last) one.singles g one.traced (starts_empty name)
+  laws : ByLaws [] moved (one_store t.running.name empty) (one_store t.running.name one.last)
+  laws = by_laws script.catalog t.running.fit moved t.running.sys t.running.doing [] (one_store t.running.name empty) (one_store t.running.name one.last) one.singles t.running.running one.traced (starts_empty t.running.name)
 
-  recorded_there : (id : TxId) → Recorded script.places closing id → Recorded [] (one_store name one.last) id
-  recorded_there id h = subst (λ (d : Option Decided). IsSomeAnd d (λ d. d.decision ≡ decision.Committed)) (decides script.catalog script.places closing name one.last one.same id) h
+  recorded_there : (id : TxId) → Recorded script.places t.closing id → Recorded [] (one_store t.running.name one.last) id
+  recorded_there id h = subst (λ (d : Option Decided). IsSomeAnd d (λ d. d.decision ≡ decision.Committed)) (decides script.catalog script.places t.closing t.running.name one.last one.same id) h
 
-  pub points_on_stores : HavePoints script.places events closing
+  pub points_on_stores : HavePoints script.places t.running.events t.closing
   points_on_stores =
-      let h = have_points [] moved (one_store name empty) (one_store name one.last) laws in
+      let h = have_points [] moved (one_store t.running.name empty) (one_store t.running.name one.last) laws in
       record {
-        accepted = λ id small r. subst IsSome (commit_moved (λ ns. name) events id) (h.accepted id small (recorded_there id r));
-        some = λ id small r none. h.some id small (recorded_there id r) (point_moved (λ ns. name) events id ∙ none);
-        apart = λ id other small low r q differ same. h.apart id other small low (recorded_there id r) (recorded_there other q) differ (point_moved (λ ns. name) events id ∙ same ∙ sym (point_moved (λ ns. name) events other));
+        accepted = λ id small r. subst IsSome (commit_moved (λ ns. t.running.name) t.running.events id) (h.accepted id small (recorded_there id r));
+        some = λ id small r none. h.some id small (recorded_there id r) (point_moved (λ ns. t.running.name) t.running.events id ∙ none);
+        apart = λ id other small low r q differ same. h.apart id other small low (recorded_there id r) (recorded_there other q) differ (point_moved (λ ns. t.running.name) t.running.events id ∙ same ∙ sym (point_moved (λ ns. t.running.name) t.running.events other));
       }
 
-  stands_there : (k : Key) (r : Record) → is_table_of_run script.catalog k.table ≡ true → stored_at script.places closing k ≡ Some r → stored_at [] (one_store name one.last) k ≡ Some r
-  stands_there k r about h = one_standing name one.last k ∙ sym (one.same.at k about) ∙ h
+  stands_there : (k : Key) (r : Record) → is_table_of_run script.catalog k.table ≡ true → stored_at script.places t.closing k ≡ Some r → stored_at [] (one_store t.running.name one.last) k ≡ Some r
+  stands_there k r about h = one_standing t.running.name one.last k ∙ sym (one.same.at k about) ∙ h
 
-  pub sound_on_stores : AreSound script.catalog script.places closing
+  pub sound_on_stores : AreSound script.catalog script.places t.closing
   sound_on_stores =
-      let h = are_known [] moved (one_store name empty) (one_store name one.last) laws in
+      let h = are_known [] moved (one_store t.running.name empty) (one_store t.running.name one.last) laws in
       record {
         accepted = λ k r about of_data agrees. h.accepted k r of_data (stands_there k r about agrees);
         rows = λ k row of_rows agrees. h.rows k row of_rows (stands_there k row (rows_played script.catalog k.table of_rows) agrees);

@@ -241,7 +241,7 @@ module _ (catalog : List Table) (events : List Event) (c : ℕ) (h d : ClientAt)
           let answered : statements_by c events ≡ k.entries ++ x ∷ [] = k.same ∙ ap (λ (o : Option Executed). k.entries ++ waiting_of o) waiting in
           record {
             commit = subst (IsCommitOf (E (Some b)) c (executed_with_answer events x b)) (sym (found.0 ∙ z.is.same))
-                (commit_is (E (Some b)) c h.begun k.entries (executed_with_answer events x b) z.t k.small (call_said c events store q how r b k.entries x answered) z.is.text (ends_commit (executed_with_answer events x b) z.is.text) z.since);
+                (commit_is (E (Some b)) (executed_with_answer events x b) k.small (call_said c events (made_at events store q how r) b k.entries x answered) z.is.text (ends_commit (executed_with_answer events x b) z.is.text) z.since);
             moment = found.1 ∙ ap Some (was.0 ∙ sym (clock_same events (event.Call c store q how r (Some b)) x.accepted waits.accepted));
           }
 
@@ -280,7 +280,7 @@ commit_waits catalog events c h k s waiting p here = by_vacuum h.vacuum (subst (
     by_doing : (t : TxnAt) (x : Doing) → IsOpenAs c h.begun k.entries t → IsDoing events c t h.plan (Some s) x → work_doing x ≡ Some p → IsCommitOf events c s p.id
     by_doing t (doing.Commit y) since is e =
         let same : t.id ≡ p.id = sym is.same ∙ ap (λ (w : Work). w.id) (some_is y.work p e) in
-        subst (IsCommitOf events c s) same (commit_is events c h.begun k.entries s t k.small answered is.text (ends_commit s is.text) since)
+        subst (IsCommitOf events c s) same (commit_is events s k.small answered is.text (ends_commit s is.text) since)
     by_doing t doing.Idle since is e = none_some p e
     by_doing t (doing.Read a x) since is e = none_some p e
     by_doing t doing.Over since is e = none_some p e

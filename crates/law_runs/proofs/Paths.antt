@@ -128,7 +128,7 @@ pub record WholeClear (x : ExecutionOf) (closing : List StoreContents) : Type 0 
 pub execution_clear : (x : ExecutionOf) (t : TraceOf x) → HasLines x.script → WholeClear x t.closing
 execution_clear x t lines =
     let s : Single x.script.catalog [] x.script.places x.events empty t.closing =
-    single x.script.catalog [] x.script.places x.events t.opening t.moments t.closing empty t.trace (execution_about x.script x.events x.playable x.execution) t.nothing in
+    single [] x.events t.opening t.moments t.closing t.trace (execution_about x.script x.events x.playable x.execution) t.nothing in
     record {
       last = s.last;
       same = s.same;

@@ -1,5 +1,5 @@
 -- The lemmas of this crate that others cite.
-pub use Rattle.law_runs.proofs.Beginnings.{no_coordinator}
+pub use Rattle.law_runs.proofs.Beginnings.{invariant_on_one, no_coordinator}
 pub use Rattle.law_runs.proofs.Ended.{decides, going_is_run_on_stores, starts_empty}
 pub use Rattle.law_runs.proofs.Explains.{going_is_explained, going_is_taken}
 pub use Rattle.law_runs.proofs.Finding.{answers_as, answers_committed}

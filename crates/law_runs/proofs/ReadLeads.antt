@@ -61,4 +61,4 @@ module _ (catalog : List Table) (apart : (k : Key) → is_some (find_table catal
 
   -- what the calls show where it leads
   pub read_leads : LedBy E (ms ++ made ∷ []) (read_step z.x.stage now r)
-  read_leads = reads_on E ms made older now clock_now z.access z.x.stage reads_data (leaves z.x.stage read_in.stage) z.is.stage (subst (λ (y : Request). read_pending_at y z.x.stage ≡ Some q) z.asked.request z.pends) can
+  read_leads = reads_on (record { events = E; calls = ms; call = made; now = now; later = older; clock = clock_now }) z.access z.x.stage reads_data (leaves z.x.stage read_in.stage) z.is.stage (subst (λ (y : Request). read_pending_at y z.x.stage ≡ Some q) z.asked.request z.pends) can

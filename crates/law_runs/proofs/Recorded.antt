@@ -51,7 +51,7 @@ module _ (places : List Place) (events : List Event) (opening end : List StoreCo
   taken_of t fits recorded = subst (λ (x : ProtocolState). x.accepted t ≡ true) (sym whole.knows.talks) (was_taken t (row_of t fits recorded))
 
   point_is : (t : ℕ) → t < 2 ^ 128 → Recorded places end (id t) → point events (id t) ≡ (history b.plan places opening (newest_first b.labelled) b.held).protocol.point t
-  point_is t fits recorded = ap (λ es. point es (id t)) b.same ∙ point_of b.plan places opening b.labelled b.held t b.run b.faithful fits (taken_of t fits recorded) ∙ ap (λ (x : ProtocolState). x.point t) whole.knows.talks
+  point_is t fits recorded = ap (λ es. point es (id t)) b.same ∙ point_of b.labelled t b.run b.faithful fits (taken_of t fits recorded) ∙ ap (λ (x : ProtocolState). x.point t) whole.knows.talks
 
   commit_taken : (t : ℕ) → t < 2 ^ 128 → Recorded places end (id t) → IsSome (commit_of events (id t))
   commit_taken t fits recorded = subst (λ es. IsSome (commit_of es (id t))) (sym b.same) (some_of (commit_of (events_of b.labelled) (id t)) ((protocol_state (newest_first b.labelled)).taken_at t) (b.faithful.accepted t (taken_of t fits recorded)) (taken_after (newest_first b.labelled) t (taken_of t fits recorded)))

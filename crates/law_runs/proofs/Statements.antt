@@ -185,7 +185,7 @@ module _ (A : List Table → List Event → ℕ → Executed → Type 0) (W : Li
       answered = k.same ∙ ap (λ (o : Option Executed). k.entries ++ waiting_of o) waiting
 
       says : statements_by c (events ++ event.Call c store q how r (Some b) ∷ []) ≡ k.entries ++ executed_with_answer events x b ∷ []
-      says = call_said c events store q how r b k.entries x answered
+      says = call_said c events (made_at events store q how r) b k.entries x answered
 
       by : Contains k.entries s ⊎ (executed_with_answer events x b ≡ s) → SoOver A W catalog (events ++ event.Call c store q how r (Some b) ∷ []) c s d s.answer
       by (inl t) =

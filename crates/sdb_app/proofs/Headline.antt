@@ -142,7 +142,7 @@ ready_after script mid then same goes fit none quiet = record {
 shown_of : (script : Script) (opening : List StoreContents) (events : List Event) → find_table script.catalog coordinator_table ≡ None → AnswersHaveCauses script.catalog events → AreResolved events → IsExplained script events opening → HasNoDirtyReads script events opening
 shown_of script opening events none caused resolved explained moments end traced =
     let at = explained moments end traced in
-    answers_committed script.catalog script.places events opening end moments none traced at.explained.stored_at at.accepted resolved
+    answers_committed (record { catalog = script.catalog; places = script.places; events = events; opening = opening; closing = end; moments = moments; trace = traced }) none at.explained.stored_at at.accepted resolved
     (answers_as script.catalog (WasRead script.catalog events) (ReadBy script.catalog events) events read (answers_own script.catalog events caused.observed))
   where
     read : (c : ℕ) (s : Executed) (key : Key) (row : Option (List Pair)) → WasRead script.catalog events c s key row → ReadBy script.catalog events c s key row

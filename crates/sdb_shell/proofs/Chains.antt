@@ -159,7 +159,7 @@ module _ (catalog : List Table) (old mid new : Attached) (clock clock_mid clock_
   chain_now : AreUsable catalog old → (w : IsWellFormed catalog (database_in old)) → AreNewIds catalog (database_in old) (map drawn_id (so.drawn ++ so.spare ∷ [])) → Chain catalog (database_in old) no_parts (es ++ e ∷ []) (database_in new) × Between catalog (database_in new) (open_after (es ++ e ∷ [])) t.client
   chain_now f w n =
       let before = so.chain f w n in
-      let there : IsReached catalog (database_in old) (database_in mid) w.tables es = reached catalog w.apart (database_in old) w.tables w.sound w.are_images w.fit es (database_in mid) (new_so_far n) before.0 in
+      let there : IsReached catalog (database_in old) (database_in mid) w.tables es = reached catalog w.apart (database_in old) w.tables w.sound w.are_images w.fit (new_so_far n) before.0 in
       let last = new_last catalog (database_in old) (map drawn_id so.drawn) (drawn_id so.spare) (subst (AreNewIds catalog (database_in old)) (map_last drawn_id so.drawn so.spare) n) in
       let alone : IsAlone catalog s.fresh h.now mid s.client = record {
         fit = so.fit f;
@@ -171,7 +171,7 @@ module _ (catalog : List Table) (old mid new : Attached) (clock clock_mid clock_
         new = there.unused s.fresh (subst (IsNewId catalog (database_in old)) (sym so.next_state) last.0) (subst (λ xs. AllByRecursion (λ x. x ≢ s.fresh) xs) (sym so.begun) (subst (λ y. AllByRecursion (λ x. x ≢ y) (map drawn_id so.drawn)) (sym so.next_state) last.1));
       } in
       let x = h.answered.alone alone in
-      (chain_more catalog no_parts (database_in old) (database_in mid) (database_in new) es e t.client before.0 (own_at new.places (contents_of_views new.views)) x, between_more catalog (database_in mid) (database_in new) es e t.client x)
+      (chain_more catalog no_parts (database_in old) (database_in mid) (database_in new) es before.0 (own_at new.places (contents_of_views new.views)) x, between_more catalog (database_in mid) (database_in new) es e t.client x)
 
   pub session_more : IsSessionSoFar catalog old new clock clock_then ids ids_then (es ++ e ∷ []) t
   session_more = by (begins e) refl h.next_state
@@ -221,6 +221,6 @@ session_whole catalog old new clock clock_then ids ids_then es s so = record {
   begun = so.begun;
   accepted = so.accepted;
   faults = so.faults;
-  serial = λ f w n. session_serial catalog w.apart (database_in old) w.tables w.sound w.are_images w.fit es (database_in new)
+  serial = λ f w n. session_serial catalog w.apart (database_in old) w.tables w.sound w.are_images w.fit
       (fresh_ids catalog w.apart (database_in old) w.tables es (subst (AreNewIds catalog (database_in old)) (sym so.begun) (new_front catalog (database_in old) (map drawn_id so.drawn) (drawn_id so.spare) (subst (AreNewIds catalog (database_in old)) (map_last drawn_id so.drawn so.spare) n)))) (so.chain f w n).0;
 }

@@ -27,7 +27,7 @@ ok_one x y e = cc
 ---- whatever the stores answer
 
 pub works_lead : (now : ℤ) (old new : Attached) (c : ClientAt) (result : Option Answer) (d : ClientAt) → HasCalled now old c result new d → (catalog : List Table) (st : Statement) (opened : Bool) → rejected catalog opened (Ok st) ≡ None → IsAtWork st opened c → (moment : ℤ) (id : TxId) → LeadsOn catalog opened (Ok st) moment id result d
-works_lead now old new c result d h catalog st opened stays works moment id = replies_lead catalog moment id st opened stays c works h.reply now result d h.took
+works_lead now old new c result d h catalog st opened stays works moment id = replies_lead (record { catalog = catalog; statement = st; opened = opened; stays = stays; moment = moment; id = id; before = c; works = works; reply = h.reply; now = now; result = result; after = d; took = h.took })
 
 -- another call is pending
 pub works_still : (now : ℤ) (old new : Attached) (c d : ClientAt) → HasCalled now old c None new d → (catalog : List Table) (st : Statement) (opened : Bool) → rejected catalog opened (Ok st) ≡ None → IsAtWork st opened c → IsAtWork st opened d
@@ -129,8 +129,7 @@ module _ (q : Taking) (vacuums : q.gate.vacuum_runs ≡ false) (opens : q.gate.o
 
   alone_taken : (stores : Attached) (w : IsAlone q.catalog q.fresh q.now stores c) (says : Result Statement Refusal) → Parses text says → ParsedPost q says c result d → LeadsTo q.catalog (database_in stores) q.fresh q.now says (database_in stores) w.opened result d
   alone_taken stores w says reads took =
-      let f = w.well_formed in
-      takes q f.apart f.is (vacuums, opens) w.time (database_in stores) f.sound f.tables f.are_images f.fit w.opened c w.between w.new result d text says reads took
+      takes (record { taking = q; g = database_in stores; well_formed = w.well_formed; vacuums = vacuums; opens = opens; time = w.time; opened = w.opened; before = c; between = w.between; new = w.new; text = text; says = says; reads = reads; result = result; after = d; took = took })
 
   pub answered_at_once : (a : Answer) → result ≡ Some a → (stores : Attached) → IsAnswered q.catalog text q.fresh q.now stores c a stores d
   answered_at_once a e stores =
@@ -141,7 +140,7 @@ module _ (q : Taking) (vacuums : q.gate.vacuum_runs ≡ false) (opens : q.gate.o
         ended = (leads x.0 x.1 (λ n. absurd (n f))).ended a e;
         about = about_taken;
         fault = λ k. clean_at_once a e x.0 x.1 (λ n. absurd (n f)) k stores;
-        alone = λ w. starves q.catalog (database_in stores) w.opened (exchange x.0 q.now q.fresh a) text c d x.1 (some_is a answer.NoMemory (sym e ∙ f)) w.between (memory f);
+        alone = λ w. starves (exchange x.0 q.now q.fresh a) text d x.1 (some_is a answer.NoMemory (sym e ∙ f)) w.between (memory f);
       })
       (λ n. let x = answered n in record {
         says = x.0;

@@ -125,5 +125,5 @@ module _ (catalog : List Table) (fit : Tables → Bool) (events : List Event) (s
         (λ t h. let c = of_numbers ids t h in row_is t (small (id t) c) ((recorded (id t) (small (id t) c)).0 c)) in
         let ran = all_in (λ t. ExecutionOk catalog fit g.plan g.past t (ran_of catalog fit events sys doing g t)) o.0
         (λ t h. ran_at t (subst (λ (x : ProtocolState). x.accepted t ≡ true) (sym whole.knows.talks) (accepted t ((o.1.recorded t).1 h)))) in
-        let left = order_runs catalog fit g.plan places opening g.past held (ran_of catalog fit events sys doing g) o.0 run o.1 ran starts in
+        let left = order_runs catalog fit (ran_of catalog fit events sys doing g) o.0 run o.1 ran starts in
         (left.0, left.1.fits, subst (λ s. ContainsTables places s left.0) turned.1 left.2)

@@ -83,7 +83,7 @@ module _ (w : WorldAt) (h : IsWorld w) (opening closing : List StoreContents) (p
   places = w.script.places
 
   abbrev one : Single w.script.catalog one_name places w.events empty closing
-  one = single w.script.catalog one_name places w.events opening p.moments closing empty p.traced h.about p.nothing
+  one = single one_name w.events opening p.moments closing p.traced h.about p.nothing
 
   abbrev end : List StoreContents
   end = one_store one_name one.last

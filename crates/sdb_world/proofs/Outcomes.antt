@@ -15,20 +15,18 @@ use Rattle.sdb_model.specs.Exec.{Tables, find_table}
 use Rattle.sdb_model.specs.Images.{decision_at, decision_on, row_at}
 use Rattle.sdb_model.specs.Serial.{AreImages, IsRun, dumps_of, serial}
 use Rattle.sdb_model.specs.Transactions.{Recorded}
-use Rattle.law_clients.specs.Fitting.{row_is_well_typed, tables_are_well_typed}
-use Rattle.law_clients.specs.Invariant.{RunInvariant}
-use Rattle.law_clients.specs.States.{ClientState, doing_of, system_of}
+use Rattle.law_clients.specs.Fitting.{row_is_well_typed}
 use Rattle.law_clients.proofs.Public.{is_fitting}
 use Rattle.sdb_contents.specs.Dumped.{image_is_well_typed, row_by}
 use Rattle.sdb_contents.specs.Odd.{IsOddAt}
 use Rattle.law_runs.specs.Ending.{IsEnd}
 use Rattle.law_runs.specs.Order.{HasRisen}
-use Rattle.law_runs.specs.Stores.{AreSound, IsTraceOnEmpty}
-use Rattle.law_runs.proofs.Public.{execution_linked, going_is_run_on_stores, is_order, points_on_stores, risen_fits, sound_on_stores}
-use Rattle.law_runs.specs.World.{IsWorld, WorldAt, states_of}
-use Rattle.law_runs.specs.Linked.{on_one, one_name}
+use Rattle.law_runs.specs.Stores.{AreSound}
+use Rattle.law_runs.proofs.Public.{going_is_run_on_stores, invariant_on_one, is_order, points_on_stores, risen_fits, sound_on_stores}
+use Rattle.law_runs.specs.World.{IsWorld, WorldAt}
 use Rattle.sdb_world.specs.Ran.{HasRun}
 use Rattle.sdb_world.proofs.Fitting.{final_row_fits, found_by_name}
+use Rattle.law_runs.specs.Traces.{TraceOnStores}
 
 or_same : {A : Type 0} (xs : List A) (i : ℕ) (a b : A) → i < length xs → get_or xs i a ≡ get_or xs i b
 or_same [] i a b low = absurd (omega arith)
@@ -41,21 +39,15 @@ all_contained P xs h i d low = h (slice_index_or xs i d) (i, low, or_same xs i (
 
 module _ (w : WorldAt) (h : IsWorld w) (opening closing : List StoreContents) (p : HasRun w opening closing) where
   -- the clients where the events lead to
-  abbrev states : ℕ → ClientState
-  states = states_of p.executed.last.client_slots
-
-  running : RunInvariant w.script.catalog (tables_are_well_typed w.script.catalog) (on_one w.events) (system_of states) (doing_of states)
-  running = execution_linked w.script w.events h.playable p.executed
-
-  on_stores : IsTraceOnEmpty w.script w.events opening closing
-  on_stores = record { moments = p.moments; traced = p.traced; about = h.about; nothing = p.nothing }
+  abbrev traced : TraceOnStores w.script
+  traced = record { running = invariant_on_one w.script w.events h.playable p.executed; opening = opening; closing = closing; labelled = record { moments = p.moments; traced = p.traced; about = h.about; nothing = p.nothing } }
 
   -- what an order of the recorded transactions and the rows of the images are
   pub run_is : (recorded : List TxId) (order : List Point) (tables : List TableDump) → ((id : TxId) → id.0 < 2 ^ 128 → Contains recorded id ↔ Recorded w.script.places closing id) → ((id : TxId) → Contains recorded id → id.0 < 2 ^ 128) → HasRisen w.events recorded order
       → ((d : Tables) → AreImages w.script.catalog w.script.places closing d → tables ≡ dumps_of w.script.catalog d) → IsRun w.script opening closing (record { events = w.events; order = order; tables = tables })
   run_is recorded order tables each small risen printed =
       let all_small = all_contained (λ (id : TxId). id.0 < 2 ^ 128) recorded small in
-      let have = points_on_stores w.script one_name (tables_are_well_typed w.script.catalog) w.events (system_of states) (doing_of states) opening closing running on_stores in
+      let have = points_on_stores w.script traced in
       let end : IsEnd w.script w.events opening closing order = record {
         moments = p.moments;
         follows = p.follows;
@@ -65,12 +57,12 @@ module _ (w : WorldAt) (h : IsWorld w) (opening closing : List StoreContents) (p
         ordered = is_order w.script.places w.events closing recorded order all_small each have risen;
         small = risen_fits w.events recorded order all_small risen;
       } in
-      let run = going_is_run_on_stores w.script one_name (tables_are_well_typed w.script.catalog) w.events (system_of states) (doing_of states) opening closing order (is_fitting w.script.catalog h.playable.apart) running end in
+      let run = going_is_run_on_stores w.script (record { running = traced.running; fitting = is_fitting w.script.catalog h.playable.apart; opening = opening; closing = closing; order = order; ends = end }) in
       let same : tables ≡ run.0 = printed (serial w.script.catalog run.1.answered.bodies empty).1 run.1.answered.images ∙ sym run.1.answered.printed in
       subst (λ (ts : List TableDump). IsRun w.script opening closing (record { events = w.events; order = order; tables = ts })) (sym same) run.1
 
   sound : AreSound w.script.catalog w.script.places closing
-  sound = sound_on_stores w.script one_name (tables_are_well_typed w.script.catalog) w.events (system_of states) (doing_of states) opening closing running on_stores
+  sound = sound_on_stores w.script traced
 
   -- a record that is at a key has that key
   key_is : (key : Key) (r : Record) → stored_at w.script.places closing key ≡ Some r → r.key ≡ key

@@ -2,4 +2,4 @@ use Rattle.law_protocol.proofs.explained.aborted_is_removed.Goals as goal
 use Rattle.law_protocol.proofs.Moments.{gone_at}
 
 pub returns : goal.returns
-returns c = λ r d n. gone_at r.plan r.places r.opening r.labelled r.moments d.catalog n r.run d.apart
+returns c = λ r d n. gone_at r.labelled r.moments d.catalog n r.run d.apart

@@ -2,4 +2,4 @@ use Rattle.law_protocol.proofs.explained.prepared_record_persists.Goals as goal
 use Rattle.law_protocol.proofs.Moments.{stands_at}
 
 pub returns : goal.returns
-returns c = λ r d n. stands_at r.plan r.places r.opening r.labelled r.moments d.catalog n r.run d.apart
+returns c = λ r d n. stands_at r.labelled r.moments d.catalog n r.run d.apart
