@@ -92,8 +92,8 @@ follow_more names passed (x ∷ xs) e h k =
 
 ---- rows read one after the other
 
-pub rows_more : (rows : List Record) (i : ℕ) (row : Record) (es more : List Entry) (e : Entry) → i < length rows → row ≡ get_or rows i row → row_of e ≡ row → take i rows ≡ map row_of es → more ≡ es ++ e ∷ [] → take (i + 1) rows ≡ map row_of more
-rows_more rows i row es more e inside is at h pushed =
+pub rows_more : (rows : List Record) (i : ℕ) {row : Record} (es : List Entry) {more : List Entry} (e : Entry) → i < length rows → row ≡ get_or rows i row → row_of e ≡ row → take i rows ≡ map row_of es → more ≡ es ++ e ∷ [] → take (i + 1) rows ≡ map row_of more
+rows_more rows i {row} es e inside is at h pushed =
     ap (λ (n : ℕ). take n rows) (add-one i) ∙ take-suc rows i row inside ∙ ap (λ (l : List Record). l ++ get_or rows i row ∷ []) h
     ∙ ap (λ (r : Record). map row_of es ++ r ∷ []) (sym is ∙ sym at) ∙ sym (map-append row_of es (e ∷ [])) ∙ ap (map row_of) (sym pushed)
 

@@ -16,6 +16,6 @@ loop-row-preserved c =
     let found = subst (λ (o : Option Entry). IfSome o (λ e. (row_of e ≡ c.row-item.result) × Follows c.args.names.now c.as_slice.result.now e)) c.in-Some.is c.in_ok-entry.ensures.some in
     let fit = subst (λ (l : List Entry). Follows c.args.names.now l c.in-Some.entry) c.as_slice.ensures found.1 in
     record {
-      rows = rows_more c.args.rows.now c.loop-row.row-index c.row-item.result c.loop-row.entries c.push.new.self c.in-Some.entry c.loop-row-test.true c.row-item.is found.0 c.loop-row.invariant.rows c.in_ok-push-in-Some.ensures.ok;
+      rows = rows_more c.args.rows.now c.loop-row.row-index c.loop-row.entries c.in-Some.entry c.loop-row-test.true c.row-item.is found.0 c.loop-row.invariant.rows c.in_ok-push-in-Some.ensures.ok;
       follow = subst (λ (l : List Entry). Follow c.args.names.now [] l) (sym c.in_ok-push-in-Some.ensures.ok) (follow_more c.args.names.now [] c.loop-row.entries c.in-Some.entry c.loop-row.invariant.follow fit);
     }
