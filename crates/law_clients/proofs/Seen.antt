@@ -19,10 +19,9 @@ use Rattle.sdb_record.specs.Among.{version_among}
 use Rattle.law_protocol.specs.Lawful.{Labelled, IsSettled}
 use Rattle.sdb_phases.specs.Checks.{base_of}
 use Rattle.sdb_snapshot.specs.Reads.{ReadRecord, IsUnmoved, has_changed, is_key_read, base_at, with_read_record, with_images, reads_of}
-use Rattle.sdb_snapshot.specs.Written as snap
 use Rattle.sdb_snapshot.specs.Written.{AreChanges, HaveBases}
 use Rattle.sdb_snapshot.specs.Seen.{Seen, nothing, with_get, with_scan, with_written}
-use Rattle.sdb_snapshot.proofs.Public.{Keeps, kept_either, kept_get, kept_scan, noted_images, or_there, value_last}
+use Rattle.sdb_snapshot.proofs.Public.{Keeps, kept_get, kept_scan, kept_writes, noted_images, or_there, value_last}
 use Rattle.sdb_validate.specs.Rescan.{reads_rise, starts_behind}
 use Rattle.law_clients.specs.Reads.{VersionSettled, IsReadThere, IsReadItemOk, IsReadOk, IsScanOk, IsFoundOk, is_found, was_read, was_found, SeenOk, first_image, with_read, MayRecord, work_of, ReadAgrees, Sound, Settled}
 use Rattle.law_clients.specs.ReadAt.{IsImage, IsOfData, Rise, AreInOrder, keys_of}
@@ -247,16 +246,13 @@ read_noted past s (access.Scan span) images ok tables free all place = scan_note
 -- Changes of keys that were read may be written.
 pub write_kept : (past : List Labelled) (s : Seen) (changes : List Keyed) → SeenOk past s → AreChanges s.read_set changes → SeenOk past (with_written s changes)
 write_kept past s changes ok valid = record {
-  kept = kept_either done s.read_set s.read_set s.writes (snap.with_writes s.read_set s.writes changes) changes refl ok.kept valid refl tt;
+  kept = kept_writes s.read_set s.writes changes ok.kept valid;
   read_set = ok.read_set;
   reads = ok.reads;
   scans = ok.scans;
   found = ok.found;
   as_read = ok.as_read;
 }
-  where
-    done : Rattle.std.specs.Prelude.Result (Unit {0}) (Unit {0})
-    done = Rattle.std.specs.Prelude.Ok tt
 
 ---- as the COMMIT takes it
 

@@ -98,7 +98,7 @@ kept_scan read_set ws rs h images = record {
   once = h.once;
 }
 
-kept_writes : (read_set : List ReadRecord) (ws : List Write) (ks : List Keyed) → IsSetInvariant read_set ws → AreChanges read_set ks → IsSetInvariant read_set (with_writes read_set ws ks)
+pub kept_writes : (read_set : List ReadRecord) (ws : List Write) (ks : List Keyed) → IsSetInvariant read_set ws → AreChanges read_set ks → IsSetInvariant read_set (with_writes read_set ws ks)
 kept_writes read_set ws ks h changes = record {
   read = writes_read read_set ws ks h.read changes;
   bases = h.bases;

@@ -2,5 +2,5 @@
 pub use Rattle.sdb_snapshot.proofs.Differences.{noted_images, or_there}
 pub use Rattle.sdb_snapshot.proofs.Forgotten.{get_forgotten, scan_forgotten}
 pub use Rattle.sdb_snapshot.proofs.Keys.{value_last}
-pub use Rattle.sdb_snapshot.proofs.Owned.{Keeps, kept_either, kept_get, kept_scan}
+pub use Rattle.sdb_snapshot.proofs.Owned.{Keeps, kept_get, kept_scan, kept_writes}
 pub use Rattle.sdb_snapshot.proofs.Shown.{get_own, get_seen, no_row, overlay_is, own_is, own_row}
