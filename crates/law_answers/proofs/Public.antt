@@ -10,9 +10,11 @@ pub use Rattle.law_answers.proofs.Fitting.{RowFits, access_fits, all_fitting, ex
 pub use Rattle.law_answers.proofs.Given.{IsMiddle, asked_gives, given_middle, unfit_data}
 pub use Rattle.law_answers.proofs.Knowing.{calls_wait}
 pub use Rattle.law_answers.proofs.Later.{commit_stays}
+pub use Rattle.law_answers.proofs.Laws.{rolls_bad, rolls_committed, rolls_lost, rolls_unknown}
 pub use Rattle.law_answers.proofs.Lists.{each_in, each_kept, filter_same, kept_in, since_more, since_new, since_none}
 pub use Rattle.law_answers.proofs.Noting.{each_left, each_middle, since_all, take_ends, take_open}
 pub use Rattle.law_answers.proofs.Passing.{Grows}
+pub use Rattle.law_answers.proofs.PathCalls.{made_more, made_none}
 pub use Rattle.law_answers.proofs.ReadSteps.{IsDataTable, LeavesData, bad_is, open_is, prepared_moment, reads_on, shown_read}
 pub use Rattle.law_answers.proofs.Rolled.{all_resolved, but_still, none_found, reads_so_far}
 pub use Rattle.law_answers.proofs.RolledSteps.{read_rolls, recovery_unread}

@@ -48,6 +48,8 @@ mod FoundCalls
 mod FoundRuns
 mod AfterPoints
 mod WroteRuns
+mod CommitSteps
+mod CommitPaths
 mod NewReads
 mod NewRuns
 mod ForgedFound
@@ -72,4 +74,5 @@ mod MalformedStatements
 mod MalformedSweeps
 mod MalformedAnswers
 mod ForgedMalformed
+mod ForgedPaths
 pub mod Public

@@ -210,6 +210,36 @@ decides_early f t =
     answered_after f.on (ask.Get (insert_key f)) (reply.Found None) (answer.Count 1)
     ++ event.Take 1 t.text None ∷ seen_so (decide_first t) reply.Applied ∷ seen_so (prepare_first t) reply.Applied ∷ []
 
+---- COMMITs that roll otherwise than they prepared
+
+-- the put of its row ABORTED
+abbrev pub abort_first : CommitText → Request
+abort_first t = row_put (id_of 1 1) decision.Aborted t.now
+
+-- the delete of the record that it prepared
+abbrev pub delete_first : CommitText → Request
+delete_first t = ask.DeleteIf t.write.key (condition.Version (id_of 1 1) state.Prepared)
+
+-- A COMMIT whose prepare and deciding put were applied is answered Committed, and hasn't rolled the record forward.
+abbrev pub ends_unfinished : InsertOn → CommitText → List Event
+ends_unfinished f t =
+    answered_after f.on (ask.Get (insert_key f)) (reply.Found None) (answer.Count 1)
+    ++ event.Take 1 t.text None ∷ seen_so (prepare_first t) reply.Applied ∷ event.Call 1 [] (decide_first t) Seen reply.Applied (Some answer.Committed) ∷ []
+
+-- It has made a get of the key in place of that.
+abbrev pub reads_for_rolls : InsertOn → CommitText → Record → List Event
+reads_for_rolls f t r =
+    answered_after f.on (ask.Get (insert_key f)) (reply.Found None) (answer.Count 1)
+    ++ event.Take 1 t.text None
+    ∷ seen_so (prepare_first t) reply.Applied ∷ seen_so (decide_first t) reply.Applied ∷ event.Call 1 [] (ask.Get t.write.key) Seen (reply.Found (Some r)) (Some answer.Committed) ∷ []
+
+-- A COMMIT whose prepare was not met puts its row ABORTED, rolls a record back nevertheless, and is answered Conflict.
+abbrev pub rolls_unprepared : InsertOn → CommitText → Record → List Event
+rolls_unprepared f t r =
+    answered_after f.on (ask.Get (insert_key f)) (reply.Found None) (answer.Count 1)
+    ++ event.Take 1 t.text None
+    ∷ seen_so (prepare_first t) (reply.NotMet (Some r)) ∷ seen_so (abort_first t) reply.Applied ∷ event.Call 1 [] (delete_first t) Seen reply.Applied (Some (answer.Conflict t.write.key (Some r))) ∷ []
+
 ---- answers over a malformed record
 
 -- A SELECT finds a record, and is answered BadRecord of a key.

@@ -13,6 +13,7 @@ pub mod Vacuums
 pub mod Moments
 pub mod Found
 pub mod Written
+pub mod CommitPaths
 pub mod Forged
 pub mod Facts
 pub mod Runs

@@ -6,8 +6,9 @@ ghost use Rattle.sdb_client.specs.Execution.{IsExecution};
 ghost use Rattle.sdb_model.specs.Causes.{AreCaused};
 ghost use Rattle.sdb_model.specs.Counted.{AreCounted, AreResolved};
 ghost use Rattle.law_protocol.specs.Spread.{AreAbout};
+ghost use Rattle.law_runs.specs.CommitPaths.{CommitsArePaths, OpenCommitsArePaths};
 ghost use Rattle.law_runs.specs.Complete.{RecoveriesComplete, ResolvedAreNotBusy, SeenAreServed, StatementsComplete, UncontendedCommitsComplete};
-ghost use Rattle.law_runs.specs.Forged.{MeetsMalformed, answers_bad, answers_bad_later, CommitText, FindsMisfit, FindsRow, FindsUnresolved, InsertOn, IsOfOther, IsOtherMoment, SelectOn, IsCommittedRow, UpdateOn, busy_at_once, counted_at_once, counts_over, counts_twice, counts_unread, decides_at_once, decides_early, decides_unapplied, decides_unprepared, duplicates_none, faults_at_once, leaves_out, prepares_at, prepares_unwritten, reads_again, reads_and_is_done, answers_rows, answers_two, answers_unread, answers_unrolled};
+ghost use Rattle.law_runs.specs.Forged.{MeetsMalformed, answers_bad, answers_bad_later, CommitText, FindsMisfit, FindsRow, FindsUnresolved, InsertOn, IsOfOther, IsOtherMoment, SelectOn, IsCommittedRow, UpdateOn, busy_at_once, counted_at_once, counts_over, counts_twice, counts_unread, decides_at_once, decides_early, decides_unapplied, decides_unprepared, duplicates_none, ends_unfinished, faults_at_once, leaves_out, prepares_at, prepares_unwritten, reads_again, reads_and_is_done, reads_for_rolls, rolls_unprepared, answers_rows, answers_two, answers_unread, answers_unrolled};
 ghost use Rattle.law_runs.specs.Found.{ReadsAreNew, RunsOnFound};
 ghost use Rattle.law_runs.specs.Laws.{BusyIsOfReads, CallsAreOfStatements, DecisionsAreDue, ExecutionOf, FollowsMoves, RulesHold, PreparesAreOwn, ReadsAreFew};
 ghost use Rattle.law_runs.specs.Malformed.{MalformedAreAnswered, MalformedEndAtOnce, VacuumsMeetMalformed};
@@ -98,6 +99,16 @@ pub fn commits_prepare_written()
     ensures counted { (x : ExecutionOf) → PreparesAreAsMany x.script.catalog x.events }
 {}
 
+/// A COMMIT that is answered made the calls of a COMMIT of its transaction over the replies that it got, and ends as that does. Committed, it
+/// rolls forward each write, once and in order, and none back; Conflict, Expired, Faulted or out of memory, it rolls back, once and in order, each
+/// write whose prepare was applied or faulted, and no other, or none where its put of ABORTED failed; with any other answer it rolls nothing. Or it
+/// was answered as it was accepted, that it was out of memory or that no transaction is open, and has made no call. One that waits has made
+/// the first calls of such a COMMIT.
+pub fn commits_are_paths()
+    ensures answered { (x : ExecutionOf) → CommitsArePaths x.events }
+    ensures waiting { (x : ExecutionOf) → OpenCommitsArePaths x.events }
+{}
+
 /// Where the events follow the script's moves, a call that puts a transaction's row COMMITTED is after the transaction's point, and each prepare
 /// of its COMMIT was seen and applied, at the point or before it.
 pub fn decisions_follow_points()
@@ -165,7 +176,8 @@ pub fn records_are_sound_at_every_moment()
 /// that is counted over a row that it found or over its transaction's own row, a Duplicate where nothing was found, an INSERT that reads its
 /// key again, and a SELECT that finds a malformed record, and is answered with rows, BadRecord of another key, or BadRecord after another call;
 /// and a COMMIT that prepares a key that its transaction only read, or puts its row COMMITTED without an applied prepare of what its
-/// transaction inserted: without any, after one that faulted, or before one.
+/// transaction inserted: without any, after one that faulted, or before one; one that is answered Committed and hasn't rolled forward what it
+/// prepared, or has made a get in place of that, and one that is answered Conflict and rolls back what it hasn't prepared.
 pub fn forged_events_are_refused()
     ensures busy { (text : List ℕ) (key : Key) (id : TxId) (at : ℤ) → reads_commit text ≡ true → BusyIsOfReads (busy_at_once text key id at) → ⊥ }
     ensures idle_busy { (text : List ℕ) (key : Key) (id : TxId) (at : ℤ) → ResolvedAreNotBusy (busy_at_once text key id at) → ⊥ }
@@ -191,4 +203,7 @@ pub fn forged_events_are_refused()
     ensures misnamed { (f : SelectOn) (key : Key) (r : Record) (other : Key) → MeetsMalformed f key r → other ≢ r.key → MalformedAreAnswered (answers_bad f key r other) → ⊥ }
     ensures late { (f : SelectOn) (key : Key) (r : Record) (other : Key) → MeetsMalformed f key r → MalformedEndAtOnce (answers_bad_later f key r other) → ⊥ }
     ensures early { (f : InsertOn) (t : CommitText) → DecisionsFollowPoints (decides_early f t) → ⊥ }
+    ensures unfinished { (f : InsertOn) (t : CommitText) → CommitsArePaths (ends_unfinished f t) → ⊥ }
+    ensures read_for_rolls { (f : InsertOn) (t : CommitText) (r : Record) → CommitsArePaths (reads_for_rolls f t r) → ⊥ }
+    ensures rolled_unprepared { (f : InsertOn) (t : CommitText) (r : Record) → CommitsArePaths (rolls_unprepared f t r) → ⊥ }
 {}

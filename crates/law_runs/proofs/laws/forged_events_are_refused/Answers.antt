@@ -2,6 +2,7 @@ use Rattle.law_runs.proofs.ForgedCommits.{early_refused, unapplied_refused, unpr
 use Rattle.law_runs.proofs.ForgedEnds.{faulted_refused}
 use Rattle.law_runs.proofs.ForgedFound.{again_refused, counted_over_refused, forgotten_refused, invented_refused, left_out_refused, miscounted_refused, misfit_refused, no_duplicate_refused, unlimited_refused, unrolled_refused}
 use Rattle.law_runs.proofs.ForgedMalformed.{later_refused, other_refused, rows_refused}
+use Rattle.law_runs.proofs.ForgedPaths.{read_roll_refused, unfinished_refused, unprepared_roll_refused}
 use Rattle.law_runs.proofs.Forgeries.{begin_refused, busy_refused, decision_refused, idle_busy_refused, lazy_refused, moment_refused}
 use Rattle.law_runs.proofs.laws.forged_events_are_refused.Goals as goal
 
@@ -31,4 +32,7 @@ returns c = record {
   misnamed = λ f key r other h. other_refused f key r h other;
   late = λ f key r other h. later_refused f key r h other;
   early = early_refused;
+  unfinished = unfinished_refused;
+  read_for_rolls = read_roll_refused;
+  rolled_unprepared = unprepared_roll_refused;
 }

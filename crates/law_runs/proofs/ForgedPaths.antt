@@ -1,0 +1,175 @@
+-- COMMITs that roll otherwise than they prepared are refused.
+use Rattle.std.proofs.Common.{◌≡◌, ◌⊎◌, inl, inr, ℕ, zero, suc, Bool, true, false, List, [], ◌∷◌, ◌++◌, map, take, Option, Some, None, refl, sym, ap, subst, ◌∙◌}
+use Rattle.std.specs.List.{AllByRecursion}
+use Rattle.std.proofs.lemmas.List.Elements.{Contains-push}
+use Rattle.law_runs.specs.Types.{Answer, Check, Key, Record, Reply, Request, Write}
+use Rattle.sdb_types.specs.declared.record.Condition.TheVariants as condition
+use Rattle.sdb_types.specs.declared.record.Reply.TheVariants as reply
+use Rattle.sdb_types.specs.declared.record.Request.TheVariants as ask
+use Rattle.sdb_types.proofs.Public.{append_all as each_append, clash}
+use Rattle.sdb_record.specs.declared.coordinator.Decision.TheVariants as decision
+use Rattle.sdb_model.specs.declared.answer.Answer.TheVariants as answer
+use Rattle.sdb_model.specs.Calls.{is_read}
+use Rattle.sdb_model.specs.Transactions.{Executed, id_of, prepares}
+use Rattle.sdb_phases.specs.Checks.{checks}
+use Rattle.sdb_phases.specs.Work.{Work, forward_of, forwards, prepare_of}
+use Rattle.sdb_phases.specs.Work as work
+use Rattle.law_answers.specs.Paths.{Asks, Call, IsForRow, check_requests, requests_of, touched, undone}
+use Rattle.law_answers.specs.Ends.{IsAbortFailed}
+use Rattle.law_answers.proofs.Public.{prepared_is}
+use Rattle.law_runs.specs.CommitPaths.{CommitsArePaths, IsAtOnce, IsPath}
+use Rattle.law_runs.specs.Forged.{CommitText, InsertOn, abort_first, decide_first, delete_first, ends_unfinished, prepare_first, reads_for_rolls, rolls_unprepared}
+use Rattle.law_runs.proofs.RowWrites.{checks_read}
+use Rattle.law_runs.proofs.Unprepared.{checks_no, row_no}
+
+---- lists
+
+taken_all : {X : Type 0} (P : X → Type 0) (n : ℕ) (xs : List X) → AllByRecursion P xs → AllByRecursion P (take n xs)
+taken_all P zero xs h = tt
+taken_all P (suc n) [] h = tt
+taken_all P (suc n) (x ∷ xs) h = (h.0, taken_all P n xs h.1)
+
+right_all : {X : Type 0} (P : X → Type 0) (xs ys : List X) → AllByRecursion P (xs ++ ys) → AllByRecursion P ys
+right_all P [] ys h = h
+right_all P (x ∷ xs) ys h = right_all P xs ys h.1
+
+requests_all : (P : Request → Type 0) (cs : List Check) → AllByRecursion (λ (c : Check). P c.request) cs → AllByRecursion P (map (λ (c : Check). c.request) cs)
+requests_all P [] h = tt
+requests_all P (c ∷ cs) h = (h.0, requests_all P cs h.1)
+
+-- What is so of each prepare, each check and each request for the row is so of all that a COMMIT asks, which rolls nothing.
+asked_all : (P : Request → Type 0) (p : Work) (calls : List Call) (a : Asks p calls []) → AllByRecursion P (work.prepares p) → AllByRecursion (λ (c : Check). P c.request) (checks p) → ((q : Request) → IsForRow p q → P q) → AllByRecursion P (requests_of calls)
+asked_all P p calls a h k f =
+    subst (AllByRecursion P) (sym a.whole)
+    (each_append P (take a.prepared (work.prepares p) ++ take a.checked (check_requests p) ++ a.row) []
+    (each_append P (take a.prepared (work.prepares p) ++ take a.checked (check_requests p)) a.row
+    (each_append P (take a.prepared (work.prepares p)) (take a.checked (check_requests p)) (taken_all P a.prepared (work.prepares p) h) (taken_all P a.checked (check_requests p) (requests_all P (checks p) k)))
+    (rows a.row a.for_row))
+    tt)
+  where
+    rows : (qs : List Request) → AllByRecursion (IsForRow p) qs → AllByRecursion P qs
+    rows [] h = tt
+    rows (q ∷ qs) h = (f q h.0, rows qs h.1)
+
+---- a COMMIT that rolls back what it didn't prepare
+
+-- the statements before the COMMIT
+abbrev begun : InsertOn → Executed
+begun f = record { accepted = 1; text = f.on.begin; answer = Some answer.Done; reached = 1 }
+
+abbrev inserted : InsertOn → Executed
+inserted f = record { accepted = 2; text = f.on.text; answer = Some (answer.Count 1); reached = 3 }
+
+abbrev is_delete : Request → Bool
+is_delete (ask.DeleteIf key c) = true
+is_delete q = false
+
+abbrev KeepsAll : Request → Type 0
+KeepsAll q = is_delete q ≡ false
+
+prepares_keep : (p : Work) (ws : List Write) → AllByRecursion KeepsAll (map (prepare_of p.id p.now) ws)
+prepares_keep p [] = tt
+prepares_keep p (w ∷ ws) = (refl, prepares_keep p ws)
+
+reads_keep : (q : Request) → is_read q ≡ true → KeepsAll q
+reads_keep (ask.Get key) e = refl
+reads_keep (ask.Scan span) e = refl
+reads_keep (ask.PutIf r c) e = refl
+reads_keep (ask.DeleteIf key c) e = clash (sym e)
+
+checks_keep : (cs : List Check) → AllByRecursion (λ (c : Check). is_read c.request ≡ true) cs → AllByRecursion (λ (c : Check). KeepsAll c.request) cs
+checks_keep [] h = tt
+checks_keep (c ∷ cs) h = (reads_keep c.request h.0, checks_keep cs h.1)
+
+row_keeps : (p : Work) (q : Request) → IsForRow p q → KeepsAll q
+row_keeps p q (inl e) = ap is_delete e
+row_keeps p q (inr (inl e)) = ap is_delete e
+row_keeps p q (inr (inr e)) = ap is_delete e
+
+none_deleted : (p : Work) (calls : List Call) → Asks p calls [] → AllByRecursion KeepsAll (requests_of calls)
+none_deleted p calls a = asked_all KeepsAll p calls a (prepares_keep p p.writes) (checks_keep (checks p) (checks_read p)) (row_keeps p)
+
+pub unprepared_roll_refused : (f : InsertOn) (t : CommitText) (r : Record) → CommitsArePaths (rolls_unprepared f t r) → ⊥
+unprepared_roll_refused f t r law = by (law 1 s (answer.Conflict t.write.key (Some r)) (Contains-push (begun f ∷ inserted f ∷ []) s) t.commits refl)
+  where
+    s : Executed
+    s = record { accepted = 4; text = t.text; answer = Some (answer.Conflict t.write.key (Some r)); reached = 7 }
+
+    calls : List Call
+    calls = record { request = prepare_first t; reply = reply.NotMet (Some r) } ∷ record { request = abort_first t; reply = reply.Applied } ∷ record { request = delete_first t; reply = reply.Applied } ∷ []
+
+    deletes : (p : Work) → Asks p calls [] → ⊥
+    deletes p a = let h : AllByRecursion KeepsAll (requests_of calls) = none_deleted p calls a in clash h.1.1.0
+
+    none_touched : (ws : List Write) → touched ws calls ≡ []
+    none_touched [] = refl
+    none_touched (w ∷ ws) = refl
+
+    rolled : (p : Work) → Asks p calls (undone p calls) ⊎ (IsAbortFailed p calls × Asks p calls []) → ⊥
+    rolled p (inl a) = deletes p (subst (Asks p calls) (ap (map (work.back_of p.id)) (none_touched p.writes)) a)
+    rolled p (inr a) = deletes p a.1
+
+    by : IsAtOnce (rolls_unprepared f t r) 1 s (answer.Conflict t.write.key (Some r)) ⊎ IsPath (rolls_unprepared f t r) 1 s (answer.Conflict t.write.key (Some r)) → ⊥
+    by (inl z) = let e = z.none in cc
+    by (inr z) = rolled z.work z.rolls
+
+---- one that doesn't roll forward what it prepared
+
+abbrev PreparesNone : Request → Type 0
+PreparesNone q = prepares (id_of 1 1) q ≡ false
+
+row_prepares_none : (p : Work) (q : Request) → IsForRow p q → PreparesNone q
+row_prepares_none p q (inl e) = ap (prepares (id_of 1 1)) e ∙ row_no (id_of 1 1) p.id decision.Committed p.now condition.Absent
+row_prepares_none p q (inr (inl e)) = ap (prepares (id_of 1 1)) e
+row_prepares_none p q (inr (inr e)) = ap (prepares (id_of 1 1)) e ∙ row_no (id_of 1 1) p.id decision.Aborted p.now condition.Absent
+
+-- it puts a record in place of one
+abbrev is_over_put : Request → Bool
+is_over_put (ask.PutIf r (condition.Version id state)) = true
+is_over_put q = false
+
+abbrev PutsNoneOver : Request → Type 0
+PutsNoneOver q = is_over_put q ≡ false
+
+-- A COMMIT that has prepared a record, and put none in place of another, isn't answered Committed.
+module _ (t : CommitText) (more : List Call) (puts : AllByRecursion PutsNoneOver (requests_of more)) where
+  abbrev calls : List Call
+  calls = record { request = prepare_first t; reply = reply.Applied } ∷ more
+
+  nothing_written : (p : Work) → p.writes ≡ [] → Asks p calls [] → ⊥
+  nothing_written p e a =
+      let h : AllByRecursion PreparesNone (requests_of calls) = asked_all PreparesNone p calls a (subst (λ ws. AllByRecursion PreparesNone (map (prepare_of p.id p.now) ws)) (sym e) tt) (checks_no (id_of 1 1) p) (row_prepares_none p) in
+      clash (sym (prepared_is (id_of 1 1) t.now t.write) ∙ h.0)
+
+  rolls_one : (p : Work) (w : Write) (qs : List Request) → Asks p calls (forward_of p.id p.now w ∷ qs) → ⊥
+  rolls_one p w qs a =
+      let h : AllByRecursion PutsNoneOver (take a.prepared (work.prepares p) ++ take a.checked (check_requests p) ++ a.row ++ forward_of p.id p.now w ∷ qs) = subst (AllByRecursion PutsNoneOver) a.whole (refl, puts) in
+      let z : AllByRecursion PutsNoneOver (forward_of p.id p.now w ∷ qs) = right_all PutsNoneOver (take a.prepared (work.prepares p) ++ take a.checked (check_requests p) ++ a.row) (forward_of p.id p.now w ∷ qs) h in
+      clash z.0
+
+  none_forward : (p : Work) → Asks p calls (forwards p) → ⊥
+  none_forward p = by p.writes refl
+    where
+      by : (ws : List Write) → p.writes ≡ ws → Asks p calls (map (forward_of p.id p.now) ws) → ⊥
+      by [] e a = nothing_written p e a
+      by (w ∷ ws) e a = rolls_one p w (map (forward_of p.id p.now) ws) a
+
+pub unfinished_refused : (f : InsertOn) (t : CommitText) → CommitsArePaths (ends_unfinished f t) → ⊥
+unfinished_refused f t law = by (law 1 s answer.Committed (Contains-push (begun f ∷ inserted f ∷ []) s) t.commits refl)
+  where
+    s : Executed
+    s = record { accepted = 4; text = t.text; answer = Some answer.Committed; reached = 6 }
+
+    by : IsAtOnce (ends_unfinished f t) 1 s answer.Committed ⊎ IsPath (ends_unfinished f t) 1 s answer.Committed → ⊥
+    by (inl z) = let e = z.none in cc
+    by (inr z) = none_forward t (record { request = decide_first t; reply = reply.Applied } ∷ []) (refl, tt) z.work z.rolls
+
+pub read_roll_refused : (f : InsertOn) (t : CommitText) (r : Record) → CommitsArePaths (reads_for_rolls f t r) → ⊥
+read_roll_refused f t r law = by (law 1 s answer.Committed (Contains-push (begun f ∷ inserted f ∷ []) s) t.commits refl)
+  where
+    s : Executed
+    s = record { accepted = 4; text = t.text; answer = Some answer.Committed; reached = 7 }
+
+    by : IsAtOnce (reads_for_rolls f t r) 1 s answer.Committed ⊎ IsPath (reads_for_rolls f t r) 1 s answer.Committed → ⊥
+    by (inl z) = let e = z.none in cc
+    by (inr z) = none_forward t (record { request = decide_first t; reply = reply.Applied } ∷ record { request = ask.Get t.write.key; reply = reply.Found (Some r) } ∷ []) (refl, (refl, tt)) z.work z.rolls
