@@ -1,7 +1,7 @@
 -- Each COMMIT of an execution makes the calls of a COMMIT of its transaction over their replies.
-use Rattle.std.proofs.Common.{◌≡◌, ◌⊎◌, inl, inr, ◌+◌, ℕ, ℤ, true, false, List, [], ◌∷◌, ◌++◌, length, map, Option, Some, None, IfSome, refl, sym, ap, subst, ◌∙◌, arith}
+use Rattle.std.proofs.Common.{◌≡◌, ◌⊎◌, inl, inr, ◌+◌, ℕ, ℤ, true, List, [], ◌∷◌, ◌++◌, length, map, Option, Some, None, IfSome, refl, sym, ap, subst, ◌∙◌, arith}
 use Rattle.std.specs.Prelude.{Contains, is_some}
-use Rattle.law_runs.specs.Types.{Answer, Doing, Event, How, Outcome, Progress, Reply, Request, Script, Table}
+use Rattle.law_runs.specs.Types.{Answer, Doing, Event, How, Outcome, Reply, Request, Script, Table}
 use Rattle.sdb_types.specs.Contents.{CanAnswer}
 use Rattle.sdb_types.proofs.Public.{clash, length_more, map_last, none_some, some_is}
 use Rattle.sdb_model.specs.declared.answer.Answer.TheVariants as answer
@@ -25,13 +25,13 @@ use Rattle.sdb_vacuum.specs.Vacuum.{VacuumAt}
 use Rattle.sdb_client.specs.declared.next.Next.TheVariants as next
 use Rattle.sdb_client.specs.Client.{ClientAt, IsIdle, Taking, after, answer_in, next_id, next_of}
 use Rattle.sdb_client.specs.Step.{Step, Takes}
-use Rattle.sdb_client.specs.Execution.{CallStep, IsExecution, IsPlayable, State, TakeStep}
+use Rattle.sdb_client.specs.Execution.{IsExecution, IsPlayable}
 use Rattle.law_clients.specs.History.{executed_of_take, executed_with_answer, waiting_of}
 use Rattle.law_answers.specs.Invariant.{ClientByHistory, DoingByHistory, IsAnswered, IsDoing, IsWaiting, Knows}
 use Rattle.law_answers.specs.Paths.{Call, EndsIn}
 use Rattle.law_answers.proofs.Public.{call_said, clock_more, clock_same, commit_is, made_at, none_yet}
-use Rattle.law_runs.specs.CommitPaths.{CommitsArePaths, IsAtOnce, IsPath, IsPathSoFar, OpenCommitsArePaths, RollsAs, TakesWork, as_call, path_calls}
-use Rattle.law_runs.specs.World.{WorldAt, state_of, states_of}
+use Rattle.law_runs.specs.CommitPaths.{CommitsArePaths, IsAtOnce, IsCommitPath, IsOpenCommitPath, OpenCommitsArePaths, RollsAs, as_call, path_calls}
+use Rattle.law_runs.specs.World.{states_of}
 use Rattle.law_runs.proofs.CommitSteps.{MakesAs, makes_end, makes_first, makes_on, rolls_as}
 use Rattle.law_runs.proofs.OngoingReads.{reads_again}
 use Rattle.law_runs.proofs.OwnPrepares.{calls_again, commit_waits, ends_commit, goes_further, work_doing, work_in, work_txn}
@@ -44,7 +44,7 @@ use Rattle.law_runs.proofs.Takes.{TakenAs, commit_taken, taken_as}
 
 -- of one that is answered
 abbrev pub AnsweredPath : List Table → List Event → ℕ → Executed → Type 0
-AnsweredPath catalog events c s = (a : Answer) → reads_commit s.text ≡ true → s.answer ≡ Some a → IsAtOnce events c s a ⊎ IsPath events c s a
+AnsweredPath catalog events c s = (a : Answer) → reads_commit s.text ≡ true → s.answer ≡ Some a → IsAtOnce events c s a ⊎ IsCommitPath events c s a
 
 -- of one that waits, by what the client does
 abbrev pub DoingMakes : Doing → List Event → ℕ → Executed → Type 0
@@ -63,7 +63,7 @@ WaitMakes catalog events c s h = TxnMakes h.txn events c s
 past_path : (catalog : List Table) (events : List Event) (e : Event) (c : ℕ) (s : Executed) → IsPast events e c s → AnsweredPath catalog events c s → AnsweredPath catalog (events ++ e ∷ []) c s
 past_path catalog events e c s past so a reads is = by (so a reads is)
   where
-    by : IsAtOnce events c s a ⊎ IsPath events c s a → IsAtOnce (events ++ e ∷ []) c s a ⊎ IsPath (events ++ e ∷ []) c s a
+    by : IsAtOnce events c s a ⊎ IsCommitPath events c s a → IsAtOnce (events ++ e ∷ []) c s a ⊎ IsCommitPath (events ++ e ∷ []) c s a
     by (inl z) = inl (record { none = past.calls ∙ z.none; once = z.once; answers = z.answers })
     by (inr z) = inr (record {
       work = z.work;
@@ -189,7 +189,7 @@ module _ (catalog : List Table) (events : List Event) (c : ℕ) (h d : ClientAt)
             subst (λ w. (w.now ≡ clock_at (E None) x.accepted) × MakesAs w (path_calls (E None) c x) y.stage) (sym n.0)
             (same_clock None, subst (λ cs. MakesAs p cs y.stage) (sym (calls_with None)) (makes_on p (path_calls events c x) z.k.stage q r z.pends can made_here.1 y.stage n.1 none))
 
-    commit_ends : (b : Answer) → a ≡ Some b → IsPath (E (Some b)) c (executed_with_answer events x b) b
+    commit_ends : (b : Answer) → a ≡ Some b → IsCommitPath (E (Some b)) c (executed_with_answer events x b) b
     commit_ends b e =
         let end = makes_end p (path_calls events c x) z.k.stage q r z.pends can made_here.1 b (sym e ∙ z.answer ∙ ap (λ n. answer_in (next_of n)) z.answered.answer) in
         let answered : statements_by c events ≡ k.entries ++ x ∷ [] = k.same ∙ ap (λ (o : Option Executed). k.entries ++ waiting_of o) waiting in
@@ -208,7 +208,7 @@ module _ (catalog : List Table) (events : List Event) (c : ℕ) (h d : ClientAt)
 
   commit_path : (a : Option Answer) → CommitCall events c k.entries x h q r a d → So a
   commit_path None z = commit_goes None z refl
-  commit_path (Some b) z = λ a reads is. inr (subst (IsPath (E (Some b)) c (executed_with_answer events x b)) (some_is b a is) (commit_ends (Some b) z b refl))
+  commit_path (Some b) z = λ a reads is. inr (subst (IsCommitPath (E (Some b)) c (executed_with_answer events x b)) (some_is b a is) (commit_ends (Some b) z b refl))
 
   call_path : (a : Option Answer) → CallOf catalog events c k.entries x h q r now a d → So a
   call_path a (inl z) = sweep_path a z
@@ -251,7 +251,7 @@ module _ (script : Script) (events : List Event) (playable : IsPlayable script) 
       unanswered (inl y) = none_some y.given (sym none ∙ y.is)
       unanswered (inr e) = e
 
-  by_doing : (t : TxnAt) (p : Option Planned) (d : Doing) → (work_doing d ≡ work_in h.vacuum h.txn) → IsDoing events c t p (Some s) d → DoingMakes d events c s → IsPathSoFar events c s
+  by_doing : (t : TxnAt) (p : Option Planned) (d : Doing) → (work_doing d ≡ work_in h.vacuum h.txn) → IsDoing events c t p (Some s) d → DoingMakes d events c s → IsOpenCommitPath events c s
   by_doing t p doing.Idle e i m = none_some s (sym i)
   by_doing t None (doing.Read a z) e i m = absurd i
   by_doing t (Some p) (doing.Read a z) e i m = clash (sym reads ∙ i.inner.commit)
@@ -264,15 +264,15 @@ module _ (script : Script) (events : List Event) (playable : IsPlayable script) 
   }
   by_doing t p doing.Over e i m = absurd i
 
-  by_txn : (o : Option TxnAt) → work_txn o ≡ work_in h.vacuum h.txn → DoingByHistory events c h.begun k.entries (Some s) h.plan o → TxnMakes o events c s → IsPathSoFar events c s
+  by_txn : (o : Option TxnAt) → work_txn o ≡ work_in h.vacuum h.txn → DoingByHistory events c h.begun k.entries (Some s) h.plan o → TxnMakes o events c s → IsOpenCommitPath events c s
   by_txn None e z m = none_some s (sym z.0)
   by_txn (Some t) e z m = by_doing t h.plan t.doing e z.2 m
 
   -- The COMMIT that waits has made the first calls of one.
-  open_path : IsPathSoFar events c s
+  open_path : IsOpenCommitPath events c s
   open_path = by h.vacuum refl (subst (λ (o : Option Executed). ClientByHistory events c h.begun k.entries o h.plan h.txn h.vacuum) waiting k.agrees)
     where
-      by : (v : Option VacuumAt) → h.vacuum ≡ v → ClientByHistory events c h.begun k.entries (Some s) h.plan h.txn v → IsPathSoFar events c s
+      by : (v : Option VacuumAt) → h.vacuum ≡ v → ClientByHistory events c h.begun k.entries (Some s) h.plan h.txn v → IsOpenCommitPath events c s
       by None e z = by_txn h.txn (ap (λ (v : Option VacuumAt). work_in v h.txn) (sym e)) z makes_so
       by (Some v) e z = not_both_read s.text ((waits_of script.catalog events c h k s waiting).vacuum ∙ ap is_some e) reads
 

@@ -1,8 +1,8 @@
 -- COMMITs that roll otherwise than they prepared are refused.
-use Rattle.std.proofs.Common.{◌≡◌, ◌⊎◌, inl, inr, ℕ, zero, suc, Bool, true, false, List, [], ◌∷◌, ◌++◌, map, take, Option, Some, None, refl, sym, ap, subst, ◌∙◌}
+use Rattle.std.proofs.Common.{◌≡◌, ◌⊎◌, inl, inr, ℕ, zero, suc, Bool, true, false, List, [], ◌∷◌, ◌++◌, map, take, Some, refl, sym, ap, subst, ◌∙◌}
 use Rattle.std.specs.List.{AllByRecursion}
 use Rattle.std.proofs.lemmas.List.Elements.{Contains-push}
-use Rattle.law_runs.specs.Types.{Answer, Check, Key, Record, Reply, Request, Write}
+use Rattle.law_runs.specs.Types.{Check, Record, Request, Write}
 use Rattle.sdb_types.specs.declared.record.Condition.TheVariants as condition
 use Rattle.sdb_types.specs.declared.record.Reply.TheVariants as reply
 use Rattle.sdb_types.specs.declared.record.Request.TheVariants as ask
@@ -17,7 +17,7 @@ use Rattle.sdb_phases.specs.Work as work
 use Rattle.law_answers.specs.Paths.{Asks, Call, IsForRow, check_requests, requests_of, touched, undone}
 use Rattle.law_answers.specs.Ends.{IsAbortFailed}
 use Rattle.law_answers.proofs.Public.{prepared_is}
-use Rattle.law_runs.specs.CommitPaths.{CommitsArePaths, IsAtOnce, IsPath}
+use Rattle.law_runs.specs.CommitPaths.{CommitsArePaths, IsAtOnce, IsCommitPath}
 use Rattle.law_runs.specs.Forged.{CommitText, InsertOn, abort_first, decide_first, delete_first, ends_unfinished, prepare_first, reads_for_rolls, rolls_unprepared}
 use Rattle.law_runs.proofs.RowWrites.{checks_read}
 use Rattle.law_runs.proofs.Unprepared.{checks_no, row_no}
@@ -109,7 +109,7 @@ unprepared_roll_refused f t r law = by (law 1 s (answer.Conflict t.write.key (So
     rolled p (inl a) = deletes p (subst (Asks p calls) (ap (map (work.back_of p.id)) (none_touched p.writes)) a)
     rolled p (inr a) = deletes p a.1
 
-    by : IsAtOnce (rolls_unprepared f t r) 1 s (answer.Conflict t.write.key (Some r)) ⊎ IsPath (rolls_unprepared f t r) 1 s (answer.Conflict t.write.key (Some r)) → ⊥
+    by : IsAtOnce (rolls_unprepared f t r) 1 s (answer.Conflict t.write.key (Some r)) ⊎ IsCommitPath (rolls_unprepared f t r) 1 s (answer.Conflict t.write.key (Some r)) → ⊥
     by (inl z) = let e = z.none in cc
     by (inr z) = rolled z.work z.rolls
 
@@ -160,7 +160,7 @@ unfinished_refused f t law = by (law 1 s answer.Committed (Contains-push (begun 
     s : Executed
     s = record { accepted = 4; text = t.text; answer = Some answer.Committed; reached = 6 }
 
-    by : IsAtOnce (ends_unfinished f t) 1 s answer.Committed ⊎ IsPath (ends_unfinished f t) 1 s answer.Committed → ⊥
+    by : IsAtOnce (ends_unfinished f t) 1 s answer.Committed ⊎ IsCommitPath (ends_unfinished f t) 1 s answer.Committed → ⊥
     by (inl z) = let e = z.none in cc
     by (inr z) = none_forward t (record { request = decide_first t; reply = reply.Applied } ∷ []) (refl, tt) z.work z.rolls
 
@@ -170,6 +170,6 @@ read_roll_refused f t r law = by (law 1 s answer.Committed (Contains-push (begun
     s : Executed
     s = record { accepted = 4; text = t.text; answer = Some answer.Committed; reached = 7 }
 
-    by : IsAtOnce (reads_for_rolls f t r) 1 s answer.Committed ⊎ IsPath (reads_for_rolls f t r) 1 s answer.Committed → ⊥
+    by : IsAtOnce (reads_for_rolls f t r) 1 s answer.Committed ⊎ IsCommitPath (reads_for_rolls f t r) 1 s answer.Committed → ⊥
     by (inl z) = let e = z.none in cc
     by (inr z) = none_forward t (record { request = decide_first t; reply = reply.Applied } ∷ record { request = ask.Get t.write.key; reply = reply.Found (Some r) } ∷ []) (refl, (refl, tt)) z.work z.rolls

@@ -1,5 +1,5 @@
 -- The calls of a COMMIT of an execution are those of a COMMIT of its transaction over their replies.
-use Rattle.std.specs.Prelude.{◌≡◌, ◌⊎◌, ℕ, true, false, List, [], map, Option, Some, None, Contains}
+use Rattle.std.specs.Prelude.{◌≡◌, ◌⊎◌, ℕ, true, false, List, [], map, Some, None, Contains}
 use Rattle.law_runs.specs.Types.{Answer, Event, Outcome}
 use Rattle.sdb_model.specs.declared.answer.Answer.TheVariants as answer
 use Rattle.sdb_model.specs.Calls.{StoreCall, calls_of, clock_at}
@@ -47,7 +47,7 @@ pub record TakesWork (events : List Event) (client : ℕ) (s : Executed) (p : Wo
   pub moment : p.now ≡ clock_at events s.accepted
 
 -- Its calls are those of a COMMIT of that work, which ends with that answer, and rolls as it says.
-pub record IsPath (events : List Event) (client : ℕ) (s : Executed) (a : Answer) : Type 0 where
+pub record IsCommitPath (events : List Event) (client : ℕ) (s : Executed) (a : Answer) : Type 0 where
   pub work : Work
   pub takes : TakesWork events client s work
   pub outcome : Outcome
@@ -62,7 +62,7 @@ pub record IsAtOnce (events : List Event) (client : ℕ) (s : Executed) (a : Ans
   pub answers : (a ≡ answer.NoMemory) ⊎ (a ≡ refused 5)
 
 -- Its calls so far are those of a COMMIT of that work, which hasn't ended.
-pub record IsPathSoFar (events : List Event) (client : ℕ) (s : Executed) : Type 0 where
+pub record IsOpenCommitPath (events : List Event) (client : ℕ) (s : Executed) : Type 0 where
   pub work : Work
   pub takes : TakesWork events client s work
   pub stage : Stage
@@ -72,8 +72,8 @@ pub record IsPathSoFar (events : List Event) (client : ℕ) (s : Executed) : Typ
 -- Each COMMIT that is answered is answered at once, or after the calls of such a COMMIT.
 abbrev pub CommitsArePaths : List Event → Type 0
 CommitsArePaths events =
-    (client : ℕ) (s : Executed) (a : Answer) → Contains (statements_by client events) s → reads_commit s.text ≡ true → s.answer ≡ Some a → IsAtOnce events client s a ⊎ IsPath events client s a
+    (client : ℕ) (s : Executed) (a : Answer) → Contains (statements_by client events) s → reads_commit s.text ≡ true → s.answer ≡ Some a → IsAtOnce events client s a ⊎ IsCommitPath events client s a
 
 -- Each that isn't has made the first calls of one.
 abbrev pub OpenCommitsArePaths : List Event → Type 0
-OpenCommitsArePaths events = (client : ℕ) (s : Executed) → Contains (statements_by client events) s → reads_commit s.text ≡ true → s.answer ≡ None → IsPathSoFar events client s
+OpenCommitsArePaths events = (client : ℕ) (s : Executed) → Contains (statements_by client events) s → reads_commit s.text ≡ true → s.answer ≡ None → IsOpenCommitPath events client s
